@@ -1,0 +1,10 @@
+pub mod LibText
+pub mod LibData
+pub mod LibTime
+pub mod Policies
+pub mod Events
+pub mod Queues
+pub mod HttpText
+pub mod HttpUrl
+pub mod HttpRequest
+pub mod HttpBody

@@ -1,0 +1,11 @@
+pub mod Data
+pub mod Code
+pub mod Plain
+pub mod Falls
+pub mod Maps
+pub mod Json
+pub mod JsonFaults
+pub mod Pairs
+pub mod Errors
+pub mod Numbers
+pub mod Decode
