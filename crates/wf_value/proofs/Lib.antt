@@ -2,7 +2,8 @@ pub mod Order
 pub mod Laws
 pub mod Depths
 pub mod Seeks
-pub mod Pairs
+pub mod PairTrees
 pub mod Unplain
 pub mod Writing
 pub mod Reading
+pub mod JsonCases

@@ -2,7 +2,6 @@
 use Rattle.std.specs.Prelude.{ℕ, ◌+◌, min, ◌&&◌, List, [], ◌∷◌, ◌++◌, pos, if◌then◌else◌, nat_le, Some, None, Ok, Err, codes, decimal, Option, Result}
 use Rattle.wf_value.specs.Data.{Data, integer, text, list, map, depth, size}
 use Rattle.wf_value.specs.Pairs.{Text, map_of, text_items}
-
 pub use Rattle.wf_value.specs.declared.errors.Tag.{Tag}
 pub use Rattle.wf_value.specs.declared.errors.Tag.TheVariants.{ConnectionError, HttpError, IndexError, KeyError, ParallelNestingError, RecursionError, ResourceLimitError, ResponseTypeError, TimeoutError, TypeError, UnhandledBranchError, ValueError, ZeroDivisionError}
 

@@ -9,3 +9,5 @@ pub mod Pairs
 pub mod Errors
 pub mod Numbers
 pub mod Decode
+pub mod Paths
+pub mod JsonLaws

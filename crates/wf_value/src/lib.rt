@@ -14,18 +14,24 @@ ghost use Rattle.wf_value.specs.Plain.{plain, plain_items, plain_pairs};
 ghost use Rattle.wf_value.specs.Data.{size, items_size, pairs_size, depth, items_depth, pairs_depth, items_of, pairs_of};
 
 mod errors;
+mod json_laws;
 mod json_text;
 mod numbers;
+mod pairs;
+mod path;
 mod policies;
 mod severity;
 #[cfg(test)]
 mod tests;
 
-pub use errors::{Raise, Tag};
+pub use errors::{Raise, Tag, error_map};
+pub use json_laws::{reading_is_a_function, reading_is_decided};
+pub use json_text::{JsonFault, from_json, to_json};
 pub use numbers::{NumFault, add, div, mul, neg, rem, sub, trunc_div};
+pub use pairs::Pairs;
+pub use path::{Path, PathPart};
 pub use policies::{Backoff, DefaultKind};
 pub use severity::Severity;
-pub use json_text::{JsonFault, from_json, to_json};
 use std::alloc::Global;
 use std::cmp::Ordering;
 use std::marker::Model;
@@ -147,7 +153,7 @@ impl Text {
         self.text.as_str()
     }
 
-    fn copy(&self) -> Result<Text, OutOfMemory>
+    pub fn copy(&self) -> Result<Text, OutOfMemory>
         ensures { IfOk result (λ t. t ≡ self.now) }
     {
         match self.text.clone() {
@@ -176,7 +182,7 @@ impl Bytes {
         self.bytes.as_slice()
     }
 
-    fn copy(&self) -> Result<Bytes, OutOfMemory>
+    pub fn copy(&self) -> Result<Bytes, OutOfMemory>
         ensures { IfOk result (λ t. t ≡ self.now) }
     {
         match self.bytes.clone() {
