@@ -1,0 +1,50 @@
+// Byte strings.
+ghost use Rattle.std.specs.Prelude.{◌≡◌, IfOk};
+
+use crate::OutOfMemory;
+use std::alloc::Global;
+use std::marker::Model;
+use std::rc::Rc;
+
+/// Any bytes. Copies share them.
+#[derive(Drop)]
+pub struct Bytes {
+    bytes: Rc<Vec<u8>>,
+}
+
+impl Model for Bytes {
+    ghost use Rattle.std.specs.Prelude.{List, ℕ};
+
+    ghost Value = { List ℕ };
+
+    ghost view = { λ a. a.bytes.value.items };
+}
+
+impl Bytes {
+    pub fn new(alloc: Global, b: &[u8]) -> Result<Bytes, OutOfMemory>
+        ensures { IfOk result (λ t. t ≡ b.now) }
+    {
+        let Ok(owned) = Vec::from_slice(alloc, b) else {
+            return Err(OutOfMemory);
+        };
+        match Rc::new(alloc, owned) {
+            Ok(bytes) => Ok(Bytes { bytes }),
+            Err(_) => Err(OutOfMemory),
+        }
+    }
+
+    pub fn as_slice(&self) -> &[u8]
+        ensures { result.now ≡ self.now }
+    {
+        self.bytes.as_slice()
+    }
+
+    pub fn copy(&self) -> Result<Bytes, OutOfMemory>
+        ensures { IfOk result (λ t. t ≡ self.now) }
+    {
+        match self.bytes.clone() {
+            Ok(bytes) => Ok(Bytes { bytes }),
+            Err(_) => Err(OutOfMemory),
+        }
+    }
+}

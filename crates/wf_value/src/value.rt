@@ -1,0 +1,222 @@
+// Values: their types, and how lists and maps are built and read.
+ghost use Rattle.std.specs.Prelude.{◌≡◌, [], ◌∷◌, ◌++◌, IfOk, is_ok, option_map, if◌then◌else◌};
+ghost use Rattle.std.specs.List.{slice_get};
+ghost use Rattle.wf_value.specs.Maps.{IsInOrder, value_at, with_value, without};
+ghost use Rattle.wf_value.specs.Plain.{plain, plain_items, plain_pairs};
+
+use crate::entries::{find, insert_pair, remove_pair};
+use crate::sharing::own_items;
+use crate::{Bytes, OutOfMemory, Text};
+use std::alloc::Global;
+use std::marker::Model;
+use std::rc::Rc;
+
+/// A value of the language. Contracts speak of the plain tree that it is.
+#[cycle(value)]
+#[derive(Drop)]
+pub enum Value {
+    /// No value.
+    Null,
+    /// True or false.
+    Bool(bool),
+    /// A whole number of 64 bits.
+    Int(i64),
+    /// A text.
+    Text(Text),
+    /// Bytes that are no text.
+    Bytes(Bytes),
+    /// Values in order.
+    List(List),
+    /// Values by key.
+    Map(Map),
+}
+
+/// Values in order, which contracts see as the list of their trees. Copies share the items until
+/// one of them is changed.
+#[cycle(value)]
+#[derive(Drop)]
+pub struct List {
+    items: Rc<Vec<Value>>,
+}
+
+/// Values by key, which contracts see as the list of the pairs in the order of the keys' bytes.
+/// Each key stands once. Copies share the pairs until one of them is changed.
+#[cycle(value)]
+#[derive(Drop)]
+pub struct Map {
+    pairs: Rc<Vec<(Text, Value)>>,
+}
+
+impl Model for List {
+    ghost use Rattle.std.specs.Prelude.{List as Seq};
+    ghost use Rattle.wf_value.specs.Data.{Data, items_depth, items_of};
+    ghost use Rattle.wf_value.specs.Code.{coded_items};
+
+    ghost Value = { Seq Data };
+
+    ghost coded = { coded_items };
+
+    ghost use Rattle.wf_value.specs.Plain.{plain_items};
+
+    ghost view = { λ a. plain_items a.items.value.items };
+
+    ghost size = { λ ds. items_depth (items_of ds) };
+
+    ghost use Rattle.wf_value.specs.Falls.{most_items};
+
+    ghost size_decreases = { λ a h. most_items a.items.value.items };
+}
+
+impl Model for Map {
+    ghost use Rattle.std.specs.Prelude.{List as Seq, ℕ};
+    ghost use Rattle.wf_value.specs.Maps.{IsInOrder};
+    ghost use Rattle.wf_value.specs.Data.{Data, pairs_depth, pairs_of};
+    ghost use Rattle.wf_value.specs.Code.{coded_pairs};
+
+    ghost Value = { Seq (Seq ℕ × Data) };
+
+    ghost coded = { coded_pairs };
+
+    ghost use Rattle.wf_value.specs.Plain.{plain_pairs};
+
+    ghost view = { λ a. plain_pairs a.pairs.value.items };
+
+    ghost invariant = { λ a. IsInOrder a.pairs.value.items };
+
+    ghost size = { λ ps. pairs_depth (pairs_of ps) };
+
+    ghost use Rattle.wf_value.specs.Falls.{most_pairs};
+
+    ghost size_decreases = { λ a h. most_pairs a.pairs.value.items };
+}
+
+impl List {
+    pub fn new(alloc: Global) -> Result<List, OutOfMemory>
+        ensures { IfOk result (λ l. l ≡ []) }
+    {
+        match Rc::new(alloc, Vec::new(alloc)) {
+            Ok(items) => Ok(List { items }),
+            Err(_) => Err(OutOfMemory),
+        }
+    }
+
+    pub fn push(&mut self, item: Value) -> Result<(), OutOfMemory>
+        ensures { self.new ≡ (if is_ok result then self.old ++ plain item ∷ [] else self.old) }
+    {
+        own_items(&mut self.items)?;
+        match Rc::get_mut(&mut self.items) {
+            Some(items) => match items.push(item) {
+                Ok(()) => Ok(()),
+                Err(_) => Err(OutOfMemory),
+            },
+            None => Err(OutOfMemory),
+        }
+    }
+
+    pub fn items(&self) -> &[Value]
+        ensures { plain_items result.now ≡ self.now }
+    {
+        self.items.as_slice()
+    }
+
+    fn copy(&self) -> Result<List, OutOfMemory>
+        ensures { IfOk result (λ l. l ≡ self.now) }
+    {
+        match self.items.clone() {
+            Ok(items) => Ok(List { items }),
+            Err(_) => Err(OutOfMemory),
+        }
+    }
+}
+
+impl Map {
+    #[tactic(auto, using(crate::proofs::Order::in_order_empty))]
+    pub fn new(alloc: Global) -> Result<Map, OutOfMemory>
+        ensures { IfOk result (λ m. m ≡ []) }
+    {
+        match Rc::new(alloc, Vec::new(alloc)) {
+            Ok(pairs) => Ok(Map { pairs }),
+            Err(_) => Err(OutOfMemory),
+        }
+    }
+
+    pub(crate) fn of_pairs(alloc: Global, pairs: Vec<(Text, Value)>) -> Result<Map, OutOfMemory>
+        requires { IsInOrder pairs.items }
+        ensures { IfOk result (λ m. m ≡ plain_pairs pairs.items) }
+    {
+        match Rc::new(alloc, pairs) {
+            Ok(pairs) => Ok(Map { pairs }),
+            Err(_) => Err(OutOfMemory),
+        }
+    }
+
+    pub fn get(&self, key: &str) -> Option<&Value>
+        ensures value { option_map (λ v. plain v.now) result ≡ value_at key.now self.now }
+        ensures order { IsInOrder self.now }
+    {
+        find(self.pairs.as_slice(), key)
+    }
+
+    pub fn entry(&self, i: usize) -> Option<(&str, &Value)>
+        ensures { option_map (λ p. (p.0.now, plain p.1.now)) result ≡ slice_get self.now i }
+    {
+        let pairs = self.pairs.as_slice();
+        if i < pairs.len() {
+            Some((pairs[i].0.as_str(), &pairs[i].1))
+        } else {
+            None
+        }
+    }
+
+    pub fn insert(&mut self, key: Text, value: Value) -> Result<Option<Value>, OutOfMemory>
+        ensures after { self.new ≡ (if is_ok result then with_value key (plain value) self.old else self.old) }
+        ensures old { IfOk result (λ v. option_map plain v ≡ value_at key self.old) }
+    {
+        insert_pair(&mut self.pairs, key, value)
+    }
+
+    pub fn remove(&mut self, key: &str) -> Result<Option<Value>, OutOfMemory>
+        ensures after { self.new ≡ (if is_ok result then without key.now self.old else self.old) }
+        ensures old { IfOk result (λ v. option_map plain v ≡ value_at key.now self.old) }
+    {
+        remove_pair(&mut self.pairs, key)
+    }
+
+    pub(crate) fn pairs(&self) -> &[(Text, Value)]
+        ensures pairs { plain_pairs result.now ≡ self.now }
+        ensures order { IsInOrder result.now }
+    {
+        self.pairs.as_slice()
+    }
+
+    fn copy(&self) -> Result<Map, OutOfMemory>
+        ensures { IfOk result (λ m. m ≡ self.now) }
+    {
+        match self.pairs.clone() {
+            Ok(pairs) => Ok(Map { pairs }),
+            Err(_) => Err(OutOfMemory),
+        }
+    }
+}
+
+impl Value {
+    pub fn copy(&self, _alloc: Global) -> Result<Value, OutOfMemory>
+        ensures { IfOk result (λ v. v ≡ self.now) }
+    {
+        self.share()
+    }
+
+    pub(crate) fn share(&self) -> Result<Value, OutOfMemory>
+        ensures { IfOk result (λ v. v ≡ self.now) }
+    {
+        match self {
+            Value::Null => Ok(Value::Null),
+            Value::Bool(b) => Ok(Value::Bool(*b)),
+            Value::Int(n) => Ok(Value::Int(*n)),
+            Value::Text(text) => Ok(Value::Text(text.copy()?)),
+            Value::Bytes(bytes) => Ok(Value::Bytes(bytes.copy()?)),
+            Value::List(list) => Ok(Value::List(list.copy()?)),
+            Value::Map(map) => Ok(Value::Map(map.copy()?)),
+        }
+    }
+}
