@@ -21,6 +21,7 @@ impl Model for Bytes {
 }
 
 impl Bytes {
+    /// These bytes, copied.
     pub fn new(alloc: Global, b: &[u8]) -> Result<Bytes, OutOfMemory>
         ensures { IfOk result (λ t. t ≡ b.now) }
     {
@@ -33,12 +34,14 @@ impl Bytes {
         }
     }
 
+    /// The bytes.
     pub fn as_slice(&self) -> &[u8]
         ensures { result.now ≡ self.now }
     {
         self.bytes.as_slice()
     }
 
+    /// Equal bytes, which are shared.
     pub fn copy(&self) -> Result<Bytes, OutOfMemory>
         ensures { IfOk result (λ t. t ≡ self.now) }
     {

@@ -6,6 +6,8 @@ ghost use Rattle.wf_value.specs.Data.{depth, items_depth, pairs_depth, items_of,
 use crate::{Text, Value};
 
 impl Value {
+    /// How deep lists and maps nest: 0 for what is neither, 1 for one that is empty or holds only
+    /// such values. A depth past 4,294,967,295 counts as that.
     #[cycle(depth)]
     pub fn depth(&self) -> u32
         ensures { result ≡ min (depth (plain self.now)) 4294967295 }

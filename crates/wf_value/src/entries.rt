@@ -40,7 +40,10 @@ pub(crate) fn insert_pair(
 }
 
 // Takes the key and its value away.
-pub(crate) fn remove_pair(pairs: &mut Rc<Vec<(Text, Value)>>, key: &str) -> Result<Option<Value>, OutOfMemory>
+pub(crate) fn remove_pair(
+    pairs: &mut Rc<Vec<(Text, Value)>>,
+    key: &str,
+) -> Result<Option<Value>, OutOfMemory>
     requires { IsInOrder pairs.old.value.items }
     ensures after { pairs.new.value.items ≡ (if is_ok result then without key.now pairs.old.value.items else pairs.old.value.items) }
     ensures old { IfOk result (λ v. v ≡ value_at key.now pairs.old.value.items) }

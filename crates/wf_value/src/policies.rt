@@ -1,16 +1,22 @@
 // Retry policies: what a backoff and a predefined predicate are.
 
-/// The delays of a retry: `initial` and `max` in milliseconds, `multiplier` in thousandths.
+/// The delays of a retry, as the `backoff` of a retry policy has them (Google Cloud Workflows
+/// reference, "Retry steps").
 #[derive(Debug, Clone, Copy, PartialEq, Eq)]
 pub struct Backoff {
+    /// The first delay, in milliseconds.
     pub initial: u64,
+    /// The longest delay, in milliseconds.
     pub max: u64,
+    /// By how much a delay grows from one retry to the next, in thousandths.
     pub multiplier: u64,
 }
 
-/// Which of the two predefined predicates.
+/// The two predefined predicates of retry policies.
 #[derive(Debug, Clone, Copy, PartialEq, Eq)]
 pub enum DefaultKind {
+    /// For calls that may be made twice: `http.default_retry_predicate`.
     Idempotent,
+    /// For calls that may not: `http.default_retry_predicate_non_idempotent`.
     NonIdempotent,
 }

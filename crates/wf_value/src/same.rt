@@ -5,6 +5,7 @@ ghost use Rattle.std.specs.Bool.{Decides};
 use crate::{Text, Value};
 
 impl Value {
+    /// Whether the two are equal: of one kind, and equal in all that they hold.
     #[cycle(same)]
     pub fn same(&self, other: &Value) -> bool
         ensures { Decides result (self.now ≡ other.now) }

@@ -21,6 +21,7 @@ impl Model for Text {
 }
 
 impl Text {
+    /// The text of these characters, copied.
     pub fn new(alloc: Global, s: &str) -> Result<Text, OutOfMemory>
         ensures { IfOk result (λ t. t ≡ s.now) }
     {
@@ -33,12 +34,14 @@ impl Text {
         }
     }
 
+    /// The characters.
     pub fn as_str(&self) -> &str
         ensures { result.now ≡ self.now }
     {
         self.text.as_str()
     }
 
+    /// An equal text, which shares the bytes.
     pub fn copy(&self) -> Result<Text, OutOfMemory>
         ensures { IfOk result (λ t. t ≡ self.now) }
     {

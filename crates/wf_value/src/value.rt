@@ -91,6 +91,7 @@ impl Model for Map {
 }
 
 impl List {
+    /// The empty list.
     pub fn new(alloc: Global) -> Result<List, OutOfMemory>
         ensures { IfOk result (λ l. l ≡ []) }
     {
@@ -100,6 +101,7 @@ impl List {
         }
     }
 
+    /// Adds an item at the end. Without memory the list stays, and the item is dropped.
     pub fn push(&mut self, item: Value) -> Result<(), OutOfMemory>
         ensures { self.new ≡ (if is_ok result then self.old ++ plain item ∷ [] else self.old) }
     {
@@ -113,12 +115,14 @@ impl List {
         }
     }
 
+    /// The items, the first one first.
     pub fn items(&self) -> &[Value]
         ensures { plain_items result.now ≡ self.now }
     {
         self.items.as_slice()
     }
 
+    // An equal list, which shares the items.
     fn copy(&self) -> Result<List, OutOfMemory>
         ensures { IfOk result (λ l. l ≡ self.now) }
     {
@@ -130,6 +134,7 @@ impl List {
 }
 
 impl Map {
+    /// The empty map.
     #[tactic(auto, using(crate::proofs::Order::in_order_empty))]
     pub fn new(alloc: Global) -> Result<Map, OutOfMemory>
         ensures { IfOk result (λ m. m ≡ []) }
@@ -140,6 +145,7 @@ impl Map {
         }
     }
 
+    // The map of pairs that stand in order.
     pub(crate) fn of_pairs(alloc: Global, pairs: Vec<(Text, Value)>) -> Result<Map, OutOfMemory>
         requires { IsInOrder pairs.items }
         ensures { IfOk result (λ m. m ≡ plain_pairs pairs.items) }
@@ -150,6 +156,7 @@ impl Map {
         }
     }
 
+    /// The value at a key.
     pub fn get(&self, key: &str) -> Option<&Value>
         ensures value { option_map (λ v. plain v.now) result ≡ value_at key.now self.now }
         ensures order { IsInOrder self.now }
@@ -157,6 +164,7 @@ impl Map {
         find(self.pairs.as_slice(), key)
     }
 
+    /// The pair at an index, from 0 on in the order of the keys' bytes; none past the end.
     pub fn entry(&self, i: usize) -> Option<(&str, &Value)>
         ensures { option_map (λ p. (p.0.now, plain p.1.now)) result ≡ slice_get self.now i }
     {
@@ -168,6 +176,8 @@ impl Map {
         }
     }
 
+    /// Puts a value at a key, and gives the value that was there. Without memory the map stays,
+    /// and the key and the value are dropped.
     pub fn insert(&mut self, key: Text, value: Value) -> Result<Option<Value>, OutOfMemory>
         ensures after { self.new ≡ (if is_ok result then with_value key (plain value) self.old else self.old) }
         ensures old { IfOk result (λ v. option_map plain v ≡ value_at key self.old) }
@@ -175,6 +185,8 @@ impl Map {
         insert_pair(&mut self.pairs, key, value)
     }
 
+    /// Takes a key and its value away, and gives the value. Without memory the map stays; a key
+    /// that is absent needs none.
     pub fn remove(&mut self, key: &str) -> Result<Option<Value>, OutOfMemory>
         ensures after { self.new ≡ (if is_ok result then without key.now self.old else self.old) }
         ensures old { IfOk result (λ v. option_map plain v ≡ value_at key.now self.old) }
@@ -182,6 +194,7 @@ impl Map {
         remove_pair(&mut self.pairs, key)
     }
 
+    // The pairs in order.
     pub(crate) fn pairs(&self) -> &[(Text, Value)]
         ensures pairs { plain_pairs result.now ≡ self.now }
         ensures order { IsInOrder result.now }
@@ -189,6 +202,7 @@ impl Map {
         self.pairs.as_slice()
     }
 
+    // An equal map, which shares the pairs.
     fn copy(&self) -> Result<Map, OutOfMemory>
         ensures { IfOk result (λ m. m ≡ self.now) }
     {
@@ -200,12 +214,15 @@ impl Map {
 }
 
 impl Value {
+    /// An equal value. Lists, maps, texts and bytes are shared, so its cost does not grow with
+    /// what they hold, and it allocates nothing.
     pub fn copy(&self, _alloc: Global) -> Result<Value, OutOfMemory>
         ensures { IfOk result (λ v. v ≡ self.now) }
     {
         self.share()
     }
 
+    // An equal value, which shares what it holds.
     pub(crate) fn share(&self) -> Result<Value, OutOfMemory>
         ensures { IfOk result (λ v. v ≡ self.now) }
     {
