@@ -7,3 +7,4 @@ pub mod Unplain
 pub mod Writing
 pub mod Reading
 pub mod JsonCases
+pub mod Searches

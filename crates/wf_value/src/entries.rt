@@ -7,7 +7,6 @@ ghost use Rattle.wf_value.specs.Maps.{IsInOrder, key_cmp, value_at, with_value, 
 
 use crate::sharing::own_pairs;
 use crate::{OutOfMemory, Text, Value};
-use std::cmp::Ordering;
 use std::mem;
 use std::rc::Rc;
 
@@ -60,17 +59,11 @@ pub(crate) fn remove_pair(
 
 // Where the key stands, or where it belongs.
 fn seek(pairs: &[(Text, Value)], key: &str) -> Result<usize, usize>
+    requires { IsInOrder pairs.now }
     ensures place { result ≡ seek (key_cmp key.now) pairs.now }
     ensures within { IsSearchInRange result (length pairs.now) }
 {
-    for i in 0..pairs.len() {
-        match key.cmp(&pairs[i].0.as_str()) {
-            Ordering::Less => return Err(i),
-            Ordering::Equal => return Ok(i),
-            Ordering::Greater => {}
-        }
-    }
-    Err(pairs.len())
+    pairs.binary_search_by(|pair| pair.0.as_str().cmp(&key))
 }
 
 fn put(

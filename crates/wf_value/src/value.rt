@@ -185,8 +185,7 @@ impl Map {
         insert_pair(&mut self.pairs, key, value)
     }
 
-    /// Takes a key and its value away, and gives the value. Without memory the map stays; a key
-    /// that is absent needs none.
+    /// Takes a key and its value away, and gives the value. Without memory the map stays.
     pub fn remove(&mut self, key: &str) -> Result<Option<Value>, OutOfMemory>
         ensures after { self.new ≡ (if is_ok result then without key.now self.old else self.old) }
         ensures old { IfOk result (λ v. option_map plain v ≡ value_at key.now self.old) }
