@@ -5,7 +5,7 @@ use Rattle.wf_value.specs.Pairs.{Text, map_of, text_items}
 pub use Rattle.wf_value.specs.declared.errors.Tag.{Tag}
 pub use Rattle.wf_value.specs.declared.errors.Tag.TheVariants.{ConnectionError, HttpError, IndexError, KeyError, ParallelNestingError, RecursionError, ResourceLimitError, ResponseTypeError, TimeoutError, TypeError, UnhandledBranchError, ValueError, ZeroDivisionError}
 
-infixl 20 ◌>>=◌
+-- the name of a tag
 abbrev pub tag_name : Tag → Text
 tag_name ConnectionError = codes "ConnectionError"
 tag_name HttpError = codes "HttpError"
@@ -21,7 +21,7 @@ tag_name UnhandledBranchError = codes "UnhandledBranchError"
 tag_name ValueError = codes "ValueError"
 tag_name ZeroDivisionError = codes "ZeroDivisionError"
 
--- of an HttpError the code follows
+-- the message of an error; that of an HttpError is followed by the status code
 abbrev pub tag_message : Tag → Text
 tag_message ConnectionError = codes "connection failed"
 tag_message HttpError = codes "HTTP server responded with error code "
@@ -42,6 +42,7 @@ abbrev pub error_with : Tag → Text → List (Text × Data) → Data
 error_with t message more =
     map (map_of ((codes "message", text message) ∷ (codes "tags", list (text_items (tag_name t ∷ []))) ∷ more))
 
+-- the map of one tag and its message
 abbrev pub error_map : Tag → Data
 error_map t = error_with t (tag_message t) []
 
@@ -50,14 +51,17 @@ abbrev pub http_error : ℕ → Data → Data → Data
 http_error code headers body =
     error_with HttpError (tag_message HttpError ++ decimal code) ((codes "body", body) ∷ (codes "code", integer (pos code)) ∷ (codes "headers", headers) ∷ [])
 
--- ## Answers: a value, or the tag of the first error
+-- a value, or the tag of the first error
 abbrev pub Answer : Type 0 → Type 0
 Answer A = Result A Tag
 
+infixl 20 ◌>>=◌
+-- the next step of what has an answer; the first error ends it
 abbrev pub ◌>>=◌ : {A B : Type 0} → Answer A → (A → Answer B) → Answer B
 Ok a >>= f = f a
 Err t >>= f = Err t
 
+-- what is there, or an error with the tag
 abbrev pub or_error : {A : Type 0} → Tag → Option A → Answer A
 or_error t None = Err t
 or_error t (Some a) = Ok a
@@ -78,7 +82,6 @@ as_result v = if nat_le (size v) 4194304 && nat_le (depth v) 100 then Ok v else 
 abbrev pub nested_error : Data → Data
 nested_error e = if nat_le (depth e) 100 then e else error_map ResourceLimitError
 
--- ## Moments
 -- a sum of moments stops at the greatest u64
 abbrev pub later : ℕ → ℕ → ℕ
 later t n = min (t + n) 18446744073709551615
