@@ -3,7 +3,7 @@ ghost use Rattle.std.specs.Prelude.{◌≡◌, ◌+◌, min};
 ghost use Rattle.wf_value.specs.Plain.{plain, plain_items, plain_pairs};
 ghost use Rattle.wf_value.specs.Data.{size, items_size, pairs_size, items_of, pairs_of};
 
-use crate::{Text, Value};
+use crate::{Map, Text, Value};
 
 impl Value {
     /// What the value counts for against a limit: 1 for null and a truth value, 8 for a number, 2
@@ -21,6 +21,16 @@ impl Value {
             Value::List(list) => size_of_items(list.items()),
             Value::Map(map) => size_of_pairs(map.pairs()),
         }
+    }
+}
+
+impl Map {
+    /// What a map of these pairs counts for against the limits on size: 2, and for each pair 2, the
+    /// key's bytes and the value's size. The sum stops at the greatest `u64`.
+    pub fn size(&self) -> u64
+        ensures { result ≡ min (2 + pairs_size (pairs_of self.now)) 18446744073709551615 }
+    {
+        size_of_pairs(self.pairs())
     }
 }
 
