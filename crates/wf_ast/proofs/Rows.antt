@@ -1,6 +1,6 @@
 -- Worked rows of expressions: what each returns.
-use Rattle.wf_ast.specs.declared.tree.Func.TheVariants as func
-use Rattle.wf_ast.specs.declared.tree.Op.TheVariants as op
+use Rattle.wf_ast.specs.declared.expr.Func.TheVariants as func
+use Rattle.wf_ast.specs.declared.expr.Op.TheVariants as op
 use Rattle.std.specs.Prelude.{◌≡◌, ℕ, true, false, List, [], ◌∷◌, ℤ, pos, neg_ℤ, None, Ok, Err, codes, refl}
 use Rattle.wf_shared.proofs.OnLiterals.{on_literals}
 use Rattle.wf_ast.specs.Apply.{View}

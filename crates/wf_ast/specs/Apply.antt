@@ -1,6 +1,6 @@
 -- What the functions of expressions answer.
 -- what an evaluation sees: the visible names, the environment, the id, the callback base, and the reading of every `sys.now`
-use Rattle.wf_ast.specs.declared.tree.Func.TheVariants as func
+use Rattle.wf_ast.specs.declared.expr.Func.TheVariants as func
 use Rattle.std.specs.Prelude.{ℕ, ◌/◌, Bool, true, false, ◌&&◌, List, [], ◌∷◌, length, take, drop, ℤ, pos, neg_ℤ, if◌then◌else◌, nat_lt, Some, None, Ok, Err, codes, bytes_eq, chars, Option}
 use Rattle.std.specs.Fmt.{signed_decimal}
 use Rattle.std.specs.List.{list_all}

@@ -1,6 +1,6 @@
 -- The meaning of expressions and templates: a value, or the tag of an error. Operands are evaluated from left to right, and the
 -- first error is the outcome. Each value that is read or made keeps within the limits.
-use Rattle.wf_ast.specs.declared.tree.Op.TheVariants as op
+use Rattle.wf_ast.specs.declared.expr.Op.TheVariants as op
 use Rattle.std.specs.Prelude.{Bool, true, false, not, List, [], ◌∷◌, ◌++◌, ℤ, pos, negsuc, slice_get, int_lt, int_le, Ok, Err, Result}
 use Rattle.std.specs.List.{list_any}
 use Rattle.std.specs.Ordering.{nat_cmp, is_lt}

@@ -1,7 +1,7 @@
 -- The functions: their names, the names of their arguments in order, and which of these may be absent.
 --     Func        those that expressions may call, and call steps too
 --     Special     those of call steps alone
-use Rattle.wf_ast.specs.declared.tree.Func.TheVariants as func
+use Rattle.wf_ast.specs.declared.expr.Func.TheVariants as func
 use Rattle.std.specs.Prelude.{Bool, not, ◌&&◌, ◌||◌, List, [], ◌∷◌, ◌++◌, length, if◌then◌else◌, ◌==◌, Some, None, codes, bytes_eq, filter, Option, option_map}
 use Rattle.std.specs.List.{list_all}
 use Rattle.wf_value.specs.Data.{Data, Pairs}
@@ -10,7 +10,7 @@ use Rattle.wf_shared.specs.HttpRequest.{is_among}
 use Rattle.wf_shared.specs.HttpUrl.{first_of_two}
 use Rattle.wf_value.specs.Pairs.{Text, get}
 
-pub use Rattle.wf_ast.specs.declared.tree.Func.{Func}
+pub use Rattle.wf_ast.specs.declared.expr.Func.{Func}
 
 pub data Special : Type 0 where
   SysLog : Special

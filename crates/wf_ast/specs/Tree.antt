@@ -8,7 +8,7 @@ use Rattle.wf_value.specs.declared.DefaultKind.{DefaultKind}
 use Rattle.wf_value.specs.declared.Backoff.{Backoff}
 
 -- ## Expressions and templates
-pub use Rattle.wf_ast.specs.declared.tree.Op.{Op}
+pub use Rattle.wf_ast.specs.declared.expr.Op.{Op}
 
 mutual
   pub data Expr : Type 0 where
