@@ -152,6 +152,18 @@ abbrev pub fields : List (Text × Template) → Fields
 fields [] = no_fields
 fields (f ∷ fs) = field f.0 f.1 (fields fs)
 
+abbrev pub templates : List Template → Templates
+templates [] = no_templates
+templates (x ∷ xs) = template x (templates xs)
+
+abbrev pub arms : List (Template × Body × Option Text) → Arms
+arms [] = no_arms
+arms (a ∷ rest) = arm a.0 a.1 a.2 (arms rest)
+
+abbrev pub branches : List (Text × Steps) → Branches
+branches [] = no_branches
+branches (b ∷ bs) = branch b.0 b.1 (branches bs)
+
 abbrev pub exprs : List Expr → Exprs
 exprs [] = no_exprs
 exprs (e ∷ es) = expr e (exprs es)

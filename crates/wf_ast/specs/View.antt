@@ -89,7 +89,7 @@ abbrev mutual
   template_view (template.List' shape all) = t.Listed (template_row all)
   template_view (template.Map ns) = t.Mapped (fields_in ns)
 
-  fields_in : NamedTemplates → t.Fields
+  pub fields_in : NamedTemplates → t.Fields
   fields_in (NamedTemplates' shape all) = field_row all
 
   pub template_row : {m : _} → Row_of-Template m → t.Templates
@@ -204,6 +204,11 @@ abbrev mutual
   branch_row end_of-Branch = t.no_branches
   branch_row (more_of-Branch (Branch' name ss) rest) = t.branch name (steps_in ss) (branch_row rest)
 
+-- the steps that take an error, where there are any
+abbrev pub except_option_view : Option Except → t.Except
+except_option_view None = t.no_except
+except_option_view (Some x) = except_view x
+
 -- a step, the steps of a list, and what they are
 abbrev pub step_view : Step → t.Step
 step_view s = t.step s.name (body_view s.body) s.next
@@ -226,7 +231,7 @@ arms_view xs = map arm_view (arm_list xs)
 
 -- a branch stands in the tree as its parts
 abbrev pub branch_view : Branch → Text × t.Steps
-branch_view (Branch' name ss) = (name, t.steps (steps_view ss))
+branch_view (Branch' name ss) = (name, steps_in ss)
 
 abbrev pub branch_list : Branches → List Branch
 branch_list bs = (out-Branches bs).items.items
