@@ -6,7 +6,7 @@ use Rattle.std.specs.Fmt.{signed_decimal}
 use Rattle.std.specs.List.{list_all}
 use Rattle.std.specs.Char.{is_ascii_digit}
 use Rattle.std.specs.Str.Parse.{digits_value}
-use Rattle.wf_ast.specs.Func.{Func}
+use Rattle.wf_ast.specs.declared.expr.Func.{Func}
 use Rattle.wf_value.specs.Data.{Data, null, boolean, integer, text, bytes, list, map, items_of}
 use Rattle.wf_value.specs.Errors.{Answer, ◌>>=◌}
 use Rattle.wf_value.specs.declared.Tag.TheVariants.{KeyError, TypeError, ValueError}

@@ -1,12 +1,13 @@
 -- The meaning of expressions and templates: a value, or the tag of an error. Operands are evaluated from left to right, and the
 -- first error is the outcome. Each value that is read or made keeps within the limits.
 use Rattle.wf_ast.specs.declared.expr.Op.TheVariants as op
+use Rattle.wf_ast.specs.declared.expr.Op.{Op}
 use Rattle.std.specs.Prelude.{Bool, true, false, not, List, [], ◌∷◌, ◌++◌, ℤ, pos, negsuc, slice_get, int_lt, int_le, Ok, Err, Result}
 use Rattle.std.specs.List.{list_any}
 use Rattle.std.specs.Ordering.{nat_cmp, is_lt}
 use Rattle.std.specs.Cmp.Lexicographic.{slice_cmp}
 use Rattle.wf_ast.specs.Apply.{View, shown, apply}
-use Rattle.wf_ast.specs.Tree.{Op, Expr, Exprs, no_exprs, expr, Part, Said, Hole, Template, Scalar, Whole, Joined, Listed, Mapped, Templates, no_templates, template, Fields, no_fields, field}
+use Rattle.wf_ast.specs.Tree.{Expr, Exprs, no_exprs, expr, Part, Said, Hole, Template, Scalar, Whole, Joined, Listed, Mapped, Templates, no_templates, template, Fields, no_fields, field}
 use Rattle.wf_value.specs.Data.{Data, boolean, integer, text, list, map, Items, no_items, item, Pairs, no_pairs}
 use Rattle.wf_value.specs.Errors.{Answer, ◌>>=◌, or_error, kept}
 use Rattle.wf_value.specs.declared.Tag.TheVariants.{IndexError, KeyError, TypeError}

@@ -2,6 +2,7 @@
 --     Func        those that expressions may call, and call steps too
 --     Special     those of call steps alone
 use Rattle.wf_ast.specs.declared.expr.Func.TheVariants as func
+use Rattle.wf_ast.specs.declared.expr.Func.{Func}
 use Rattle.std.specs.Prelude.{Bool, not, ◌&&◌, ◌||◌, List, [], ◌∷◌, ◌++◌, length, if◌then◌else◌, ◌==◌, Some, None, codes, bytes_eq, filter, Option, option_map}
 use Rattle.std.specs.List.{list_all}
 use Rattle.wf_value.specs.Data.{Data, Pairs}
@@ -10,7 +11,6 @@ use Rattle.wf_shared.specs.HttpRequest.{is_among}
 use Rattle.wf_shared.specs.HttpUrl.{first_of_two}
 use Rattle.wf_value.specs.Pairs.{Text, get}
 
-pub use Rattle.wf_ast.specs.declared.expr.Func.{Func}
 
 pub data Special : Type 0 where
   SysLog : Special

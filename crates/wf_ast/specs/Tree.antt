@@ -1,14 +1,14 @@
 -- The syntax tree as plain data: workflows of steps, whose bodies hold templates of expressions.
 -- A list that may lead back to what holds it is a type of its own; each other list is a `List`.
 use Rattle.std.specs.Prelude.{ℕ, List, [], ◌∷◌, Option}
-use Rattle.wf_ast.specs.Func.{Func}
+use Rattle.wf_ast.specs.declared.expr.Func.{Func}
 use Rattle.wf_value.specs.Data.{Data}
 use Rattle.wf_value.specs.Pairs.{Text}
 use Rattle.wf_value.specs.declared.DefaultKind.{DefaultKind}
 use Rattle.wf_value.specs.declared.Backoff.{Backoff}
 
 -- ## Expressions and templates
-pub use Rattle.wf_ast.specs.declared.expr.Op.{Op}
+use Rattle.wf_ast.specs.declared.expr.Op.{Op}
 
 mutual
   pub data Expr : Type 0 where
