@@ -37,7 +37,7 @@ pub struct Step {
 #[cycle(body)]
 #[derive(Drop)]
 pub struct StepList {
-    items: Vec<Step>,
+    pub(crate) items: Vec<Step>,
 }
 
 impl StepList {
@@ -98,7 +98,7 @@ pub struct Arm {
 #[cycle(body)]
 #[derive(Drop)]
 pub struct Arms {
-    items: Vec<Arm>,
+    pub(crate) items: Vec<Arm>,
 }
 
 impl Arms {
@@ -169,7 +169,7 @@ pub struct Branch {
 #[cycle(body)]
 #[derive(Drop)]
 pub struct Branches {
-    items: Vec<Branch>,
+    pub(crate) items: Vec<Branch>,
 }
 
 impl Branches {
