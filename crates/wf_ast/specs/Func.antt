@@ -11,7 +11,6 @@ use Rattle.wf_shared.specs.HttpRequest.{is_among}
 use Rattle.wf_shared.specs.HttpUrl.{first_of_two}
 use Rattle.wf_value.specs.Pairs.{Text, get}
 
-
 pub data Special : Type 0 where
   SysLog : Special
   SysSleep : Special

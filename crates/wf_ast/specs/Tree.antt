@@ -6,7 +6,6 @@ use Rattle.wf_value.specs.Data.{Data}
 use Rattle.wf_value.specs.Pairs.{Text}
 use Rattle.wf_value.specs.declared.DefaultKind.{DefaultKind}
 use Rattle.wf_value.specs.declared.Backoff.{Backoff}
-
 -- ## Expressions and templates
 use Rattle.wf_ast.specs.declared.expr.Op.{Op}
 

@@ -5,5 +5,4 @@ ghost use Rattle.wf_ast.specs.Rows.{WorkedRows};
 #[tactic(auto, using(crate::proofs::RowsHold::rows_hold))]
 pub fn worked_rows()
     ensures { WorkedRows }
-{
-}
+{}
