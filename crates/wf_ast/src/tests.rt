@@ -1,192 +1,252 @@
 // What no clause says: that each list is made and takes its items where there is memory.
 use crate::{
-    Arm, Arms, Body, Branch, Branches, CallBody, Entries, Entry, Except, Expr, Exprs, Flow, Flows,
-    Func, LoopBody, NamedTemplate, NamedTemplates, Op, Over, ParallelBody, Param, Params, Part,
-    Parts, Policy, Predicate, Program, Step, StepList, Target, Template, Templates, Texts, TryBody,
-    Work, worked_rows,
+    Arm, Arms, Body, Branch, Branches, Entries, Entry, Except, Expr, Exprs, Flow, Flows, LoopBody,
+    NamedTemplate, NamedTemplates, Over, ParallelBody, Param, Params, Part, Parts, Program, Step,
+    StepList, Target, Template, Templates, Texts, TryBody, Work, worked_rows,
 };
 use std::alloc::Global;
 use std::test::Fail;
-use wf_value::{Backoff, DefaultKind, OutOfMemory, Text, Value};
+use wf_value::{OutOfMemory, Text, Value};
 
-fn name(alloc: Global, name: &str) -> Result<Expr, OutOfMemory> {
-    Ok(Expr::Name(Text::new(alloc, name)?))
-}
-
-fn step(alloc: Global, name: &str, body: Body) -> Result<Step, OutOfMemory> {
-    Ok(Step {
-        name: Text::new(alloc, name)?,
-        body,
-        next: None,
-    })
-}
-
-// A list of two steps without bodies.
-fn two_steps(alloc: Global, first: &str, second: &str) -> Result<StepList, OutOfMemory> {
-    let mut steps = StepList::new(alloc)?;
-    steps.push(step(alloc, first, Body::Nothing)?)?;
-    steps.push(step(alloc, second, Body::Nothing)?)?;
-    Ok(steps)
-}
-
-fn repeated(alloc: Global) -> Result<LoopBody, OutOfMemory> {
-    Ok(LoopBody {
-        value: Text::new(alloc, "item")?,
-        index: None,
-        over: Over::Range(Template::Lit(Value::Int(1)), Template::Lit(Value::Int(3))),
-        steps: two_steps(alloc, "e", "f")?,
-    })
+fn exprs(alloc: Global) -> Result<Exprs, OutOfMemory> {
+    let mut exprs = Exprs::new(alloc)?;
+    exprs.push(Expr::Name(Text::new(alloc, "a")?))?;
+    exprs.push(Expr::Lit(Value::Int(7)))?;
+    Ok(exprs)
 }
 
 #[test]
-fn lists_of_expressions(rt: HostRuntime) -> Result<(), Fail> {
-    let alloc = rt.alloc();
-    let mut exprs = Exprs::new(alloc)?;
-    assert_eq!(rt; exprs.items().len(), 0);
-    exprs.push(name(alloc, "a")?)?;
-    exprs.push(Expr::Neg(Box::new(alloc, name(alloc, "b")?)?))?;
-    assert_eq!(rt; exprs.items().len(), 2);
-    assert!(rt; matches!(&exprs.items()[0], Expr::Name(text) if text.as_str() == "a"));
-    assert!(rt; matches!(&exprs.items()[1], Expr::Neg(_)));
-    let call = Expr::Call(Func::TextSplit, exprs);
-    assert!(rt; matches!(&call, Expr::Call(Func::TextSplit, all) if all.items().len() == 2));
-    let two = Box::new(alloc, Expr::Lit(Value::Int(2)))?;
-    let sum = Expr::Bin(Op::Add, Box::new(alloc, call)?, two);
-    let mut parts = Parts::new(alloc)?;
-    parts.push(Part::Text(Text::new(alloc, "n")?))?;
-    parts.push(Part::Expr(sum))?;
-    assert!(rt;
-        matches!(
-            parts.items(),
-            [Part::Text(_), Part::Expr(Expr::Bin(Op::Add, _, _))]
-        )
-    );
+fn takes_expressions(rt: HostRuntime) -> Result<(), Fail> {
+    let exprs = exprs(rt.alloc())?;
+    assert!(rt; matches!(exprs.items(), [Expr::Name(_), Expr::Lit(Value::Int(7))]));
     Ok(())
 }
 
+fn parts(alloc: Global) -> Result<Parts, OutOfMemory> {
+    let mut parts = Parts::new(alloc)?;
+    parts.push(Part::Text(Text::new(alloc, "n")?))?;
+    parts.push(Part::Expr(Expr::Lit(Value::Int(1))))?;
+    Ok(parts)
+}
+
 #[test]
-fn lists_of_templates(rt: HostRuntime) -> Result<(), Fail> {
-    let alloc = rt.alloc();
+fn takes_parts(rt: HostRuntime) -> Result<(), Fail> {
+    let parts = parts(rt.alloc())?;
+    assert!(rt; matches!(parts.items(), [Part::Text(_), Part::Expr(_)]));
+    Ok(())
+}
+
+fn templates(alloc: Global) -> Result<Templates, OutOfMemory> {
     let mut templates = Templates::new(alloc)?;
     templates.push(Template::Lit(Value::Int(1)))?;
-    templates.push(Template::Expr(name(alloc, "a")?))?;
+    templates.push(Template::Expr(Expr::Lit(Value::Null)))?;
+    Ok(templates)
+}
+
+#[test]
+fn takes_templates(rt: HostRuntime) -> Result<(), Fail> {
+    let templates = templates(rt.alloc())?;
     assert!(rt; matches!(templates.items(), [Template::Lit(_), Template::Expr(_)]));
+    Ok(())
+}
+
+fn fields(alloc: Global) -> Result<NamedTemplates, OutOfMemory> {
     let mut fields = NamedTemplates::new(alloc)?;
-    fields.push(NamedTemplate {
-        name: Text::new(alloc, "k")?,
-        template: Template::List(templates),
-    })?;
-    assert_eq!(rt; fields.items().len(), 1);
-    assert_eq!(rt; fields.items()[0].name.as_str(), "k");
-    let whole = Template::Map(fields);
-    assert!(rt; matches!(&whole, Template::Map(all) if all.items().len() == 1));
-    let mut entries = Entries::new(alloc)?;
-    entries.push(Entry {
-        target: Target {
-            name: Text::new(alloc, "x")?,
-            places: Exprs::new(alloc)?,
-            text: Text::new(alloc, "x")?,
-        },
-        value: whole,
-    })?;
-    assert_eq!(rt; entries.items().len(), 1);
-    assert_eq!(rt; entries.items()[0].target.name.as_str(), "x");
+    let name = Text::new(alloc, "k")?;
+    let template = Template::Lit(Value::Null);
+    fields.push(NamedTemplate { name, template })?;
+    Ok(fields)
+}
+
+#[test]
+fn takes_fields(rt: HostRuntime) -> Result<(), Fail> {
+    let fields = fields(rt.alloc())?;
+    assert!(rt; matches!(fields.items(), [field] if field.name.as_str() == "k"));
+    Ok(())
+}
+
+fn texts(alloc: Global) -> Result<Texts, OutOfMemory> {
     let mut texts = Texts::new(alloc)?;
     texts.push(Text::new(alloc, "p")?)?;
     texts.push(Text::new(alloc, "q")?)?;
-    assert_eq!(rt; texts.items().len(), 2);
-    assert_eq!(rt; texts.items()[1].as_str(), "q");
+    Ok(texts)
+}
+
+#[test]
+fn takes_texts(rt: HostRuntime) -> Result<(), Fail> {
+    let texts = texts(rt.alloc())?;
+    assert!(rt; matches!(texts.items(), [_, last] if last.as_str() == "q"));
     Ok(())
 }
 
-// A switch with an arm of two steps.
+fn target(alloc: Global) -> Result<Target, OutOfMemory> {
+    let name = Text::new(alloc, "x")?;
+    let text = Text::new(alloc, "x")?;
+    let places = Exprs::new(alloc)?;
+    Ok(Target { name, places, text })
+}
+
+fn entries(alloc: Global) -> Result<Entries, OutOfMemory> {
+    let mut entries = Entries::new(alloc)?;
+    let target = target(alloc)?;
+    let value = Template::Lit(Value::Null);
+    entries.push(Entry { target, value })?;
+    Ok(entries)
+}
+
+#[test]
+fn takes_entries(rt: HostRuntime) -> Result<(), Fail> {
+    let entries = entries(rt.alloc())?;
+    assert!(rt; matches!(entries.items(), [entry] if entry.target.name.as_str() == "x"));
+    Ok(())
+}
+
+fn params(alloc: Global) -> Result<Params, OutOfMemory> {
+    let mut params = Params::new(alloc)?;
+    let name = Text::new(alloc, "args")?;
+    let default = Some(Value::Null);
+    params.push(Param { name, default })?;
+    Ok(params)
+}
+
+#[test]
+fn takes_parameters(rt: HostRuntime) -> Result<(), Fail> {
+    let params = params(rt.alloc())?;
+    assert!(rt; matches!(params.items(), [param] if param.name.as_str() == "args"));
+    Ok(())
+}
+
+fn step(alloc: Global, body: Body) -> Result<Step, OutOfMemory> {
+    let name = Text::new(alloc, "s")?;
+    let next = None;
+    Ok(Step { name, body, next })
+}
+
+fn add(alloc: Global, steps: &mut StepList, body: Body) -> Result<(), OutOfMemory> {
+    let step = step(alloc, body)?;
+    steps.push(step)
+}
+
+// Two steps without bodies.
+fn two_steps(alloc: Global) -> Result<StepList, OutOfMemory> {
+    let mut steps = StepList::new(alloc)?;
+    add(alloc, &mut steps, Body::Nothing)?;
+    add(alloc, &mut steps, Body::Nothing)?;
+    Ok(steps)
+}
+
 fn switch(alloc: Global) -> Result<Body, OutOfMemory> {
     let mut arms = Arms::new(alloc)?;
+    let condition = Template::Lit(Value::Bool(true));
+    let body = Body::Block(two_steps(alloc)?);
+    let next = None;
     arms.push(Arm {
-        condition: Template::Lit(Value::Bool(true)),
-        body: Body::Block(two_steps(alloc, "a", "b")?),
-        next: Some(Text::new(alloc, "end")?),
+        condition,
+        body,
+        next,
     })?;
     Ok(Body::Switch(arms))
 }
 
-// Two branches of two steps each.
-fn parallel(alloc: Global) -> Result<Body, OutOfMemory> {
+fn repeated(alloc: Global) -> Result<LoopBody, OutOfMemory> {
+    let value = Text::new(alloc, "item")?;
+    let index = None;
+    let over = Over::List(Template::Lit(Value::Null));
+    let steps = two_steps(alloc)?;
+    Ok(LoopBody {
+        value,
+        index,
+        over,
+        steps,
+    })
+}
+
+fn branch(alloc: Global, name: &str) -> Result<Branch, OutOfMemory> {
+    let name = Text::new(alloc, name)?;
+    let steps = two_steps(alloc)?;
+    Ok(Branch { name, steps })
+}
+
+fn branches(alloc: Global) -> Result<Branches, OutOfMemory> {
     let mut branches = Branches::new(alloc)?;
-    branches.push(Branch {
-        name: Text::new(alloc, "left")?,
-        steps: two_steps(alloc, "g", "h")?,
-    })?;
-    branches.push(Branch {
-        name: Text::new(alloc, "right")?,
-        steps: two_steps(alloc, "i", "j")?,
-    })?;
+    branches.push(branch(alloc, "left")?)?;
+    branches.push(branch(alloc, "right")?)?;
+    Ok(branches)
+}
+
+fn parallel(alloc: Global) -> Result<Body, OutOfMemory> {
+    let shared = Texts::new(alloc)?;
+    let limit = Some(2);
+    let work = Work::Branches(branches(alloc)?);
     Ok(Body::Parallel(ParallelBody {
-        shared: Texts::new(alloc)?,
-        limit: Some(2),
-        work: Work::Branches(branches),
+        shared,
+        limit,
+        work,
     }))
 }
 
-// A call that is tried again, with two steps that take its error.
+fn except(alloc: Global) -> Result<Except, OutOfMemory> {
+    let name = Text::new(alloc, "e")?;
+    let steps = two_steps(alloc)?;
+    Ok(Except { name, steps })
+}
+
 fn tried(alloc: Global) -> Result<Body, OutOfMemory> {
-    let call = Body::Call(CallBody {
-        name: Text::new(alloc, "sys.log")?,
-        args: NamedTemplates::new(alloc)?,
-        result: None,
-    });
-    let policy = Policy {
-        predicate: Predicate::Default(DefaultKind::Idempotent),
-        max_retries: 5,
-        backoff: Backoff {
-            initial: 1000,
-            max: 60000,
-            multiplier: 1250,
-        },
-    };
-    let Ok(body) = Box::new(alloc, call) else {
-        return Err(OutOfMemory);
-    };
-    Ok(Body::Try(TryBody {
-        body,
-        policy: Some(policy),
-        except: Some(Except {
-            name: Text::new(alloc, "e")?,
-            steps: two_steps(alloc, "c", "d")?,
-        }),
-    }))
+    let policy = None;
+    let except = Some(except(alloc)?);
+    match Box::new(alloc, Body::Block(two_steps(alloc)?)) {
+        Ok(body) => Ok(Body::Try(TryBody {
+            body,
+            policy,
+            except,
+        })),
+        Err(_) => Err(OutOfMemory),
+    }
+}
+
+// A step of each body that holds steps: 4, and 2 + 2 + 4 + 4 below them.
+fn steps(alloc: Global) -> Result<StepList, OutOfMemory> {
+    let mut steps = StepList::new(alloc)?;
+    add(alloc, &mut steps, switch(alloc)?)?;
+    add(alloc, &mut steps, Body::For(repeated(alloc)?))?;
+    add(alloc, &mut steps, parallel(alloc)?)?;
+    add(alloc, &mut steps, tried(alloc)?)?;
+    Ok(steps)
+}
+
+fn flow(alloc: Global, name: &str, steps: StepList) -> Result<Flow, OutOfMemory> {
+    let name = Text::new(alloc, name)?;
+    let params = Params::new(alloc)?;
+    Ok(Flow {
+        name,
+        params,
+        steps,
+    })
+}
+
+fn program(alloc: Global) -> Result<Program, OutOfMemory> {
+    let mut flows = Flows::new(alloc)?;
+    flows.push(flow(alloc, "main", steps(alloc)?)?)?;
+    flows.push(flow(alloc, "other", two_steps(alloc)?)?)?;
+    Ok(Program { flows })
 }
 
 #[test]
-fn counts_steps_of_all_levels(rt: HostRuntime) -> Result<(), Fail> {
-    let alloc = rt.alloc();
-    let mut steps = StepList::new(alloc)?;
-    steps.push(step(alloc, "s", switch(alloc)?)?)?;
-    steps.push(step(alloc, "t", tried(alloc)?)?)?;
-    steps.push(step(alloc, "u", Body::For(repeated(alloc)?))?)?;
-    steps.push(step(alloc, "v", parallel(alloc)?)?)?;
-    assert_eq!(rt; steps.items().len(), 4);
-    assert_eq!(rt; steps.items()[3].name.as_str(), "v");
-    let mut params = Params::new(alloc)?;
-    params.push(Param {
-        name: Text::new(alloc, "args")?,
-        default: Some(Value::Null),
-    })?;
-    assert_eq!(rt; params.items().len(), 1);
-    let mut flows = Flows::new(alloc)?;
-    flows.push(Flow {
-        name: Text::new(alloc, "main")?,
-        params,
-        steps,
-    })?;
-    flows.push(Flow {
-        name: Text::new(alloc, "other")?,
-        params: Params::new(alloc)?,
-        steps: two_steps(alloc, "a", "b")?,
-    })?;
-    assert_eq!(rt; flows.items().len(), 2);
-    let program = Program { flows };
-    assert_eq!(rt; program.step_count(), 4 + 2 + 2 + 2 + 4 + 2);
+fn takes_branches(rt: HostRuntime) -> Result<(), Fail> {
+    let branches = branches(rt.alloc())?;
+    assert!(rt; matches!(branches.items(), [_, last] if last.name.as_str() == "right"));
+    Ok(())
+}
+
+#[test]
+fn counts_the_steps_of_all_levels(rt: HostRuntime) -> Result<(), Fail> {
+    let program = program(rt.alloc())?;
+    assert_eq!(rt; program.step_count(), 4 + 2 + 2 + 4 + 4 + 2);
+    Ok(())
+}
+
+#[test]
+fn proves_the_rows(_rt: HostRuntime) -> Result<(), Fail> {
     worked_rows();
     Ok(())
 }
