@@ -71,10 +71,12 @@ abbrev pub exprs_view : Exprs → List t.Expr
 exprs_view es = map expr_view (expr_list es)
 
 -- ## Templates
+-- a part of a joined text
 abbrev pub part_view : Part → t.Part
 part_view (part.Text x) = t.Said x
 part_view (part.Expr e) = t.Hole (expr_view e)
 
+-- the parts of a list, and what they are
 abbrev pub part_list : Parts → List Part
 part_list ps = ps.items.items
 
@@ -100,6 +102,7 @@ abbrev mutual
   field_row end_of-NamedTemplate = t.no_fields
   field_row (more_of-NamedTemplate n x rest) = t.field n (template_view x) (field_row rest)
 
+-- the templates of a list, and what they are
 abbrev pub template_list : Templates → List Template
 template_list ts = ts.items.items
 
@@ -110,6 +113,7 @@ templates_view ts = map template_view (template_list ts)
 abbrev pub field_view : NamedTemplate → Text × t.Template
 field_view n = (n.name, template_view n.template)
 
+-- the named templates of a list, and what they are
 abbrev pub field_list : NamedTemplates → List NamedTemplate
 field_list ns = (out-NamedTemplates ns).items.items
 
@@ -117,37 +121,46 @@ abbrev pub fields_view : NamedTemplates → List (Text × t.Template)
 fields_view ns = map field_view (field_list ns)
 
 -- ## Parts of steps
+-- the texts of a list
 abbrev pub texts_view : Texts → List Text
 texts_view xs = xs.items.items
 
+-- a target
 abbrev pub target_view : Target → t.Target
 target_view x = record { name = x.name; places = t.exprs (exprs_view x.places); written = x.text }
 
+-- an entry
 abbrev pub entry_view : Entry → t.Entry
 entry_view e = record { target = target_view e.target; value = template_view e.value }
 
+-- the entries of a list, and what they are
 abbrev pub entry_list : Entries → List Entry
 entry_list es = es.items.items
 
 abbrev pub entries_view : Entries → List t.Entry
 entries_view es = map entry_view (entry_list es)
 
+-- a call
 abbrev pub call_view : CallBody → t.CallBody
 call_view f = record { name = f.name; args = t.fields (fields_view f.args); result = f.result }
 
+-- what a loop runs over
 abbrev pub over_view : Over → t.Over
 over_view (over.List x) = t.InList (template_view x)
 over_view (over.Range x y) = t.InRange (template_view x) (template_view y)
 
+-- which errors are tried again
 abbrev pub predicate_view : Predicate → t.Predicate
 predicate_view predicate.Always = t.Always
 predicate_view predicate.Never = t.Never
 predicate_view (predicate.Default d) = t.Predefined d
 predicate_view (predicate.Flow f) = t.FlowNamed f
 
+-- a policy
 abbrev pub policy_view : Policy → t.Policy
 policy_view p = record { predicate = predicate_view p.predicate; max_retries = p.max_retries; backoff = p.backoff }
 
+-- a policy that may be absent
 abbrev pub policy_option_view : Option Policy → Option t.Policy
 policy_option_view None = None
 policy_option_view (Some p) = Some (policy_view p)
@@ -213,6 +226,7 @@ except_option_view (Some x) = except_view x
 abbrev pub step_view : Step → t.Step
 step_view s = t.step s.name (body_view s.body) s.next
 
+-- the steps of a list, and what they are
 abbrev pub step_list : StepList → List Step
 step_list ss = (out-StepList ss).items.items
 
@@ -223,6 +237,7 @@ steps_view ss = map step_view (step_list ss)
 abbrev pub arm_view : Arm → t.Template × t.Body × Option Text
 arm_view a = (template_view a.condition, body_view a.body, a.next)
 
+-- the arms of a list, and what they are
 abbrev pub arm_list : Arms → List Arm
 arm_list xs = (out-Arms xs).items.items
 
@@ -233,6 +248,7 @@ arms_view xs = map arm_view (arm_list xs)
 abbrev pub branch_view : Branch → Text × t.Steps
 branch_view (Branch' name ss) = (name, steps_in ss)
 
+-- the branches of a list, and what they are
 abbrev pub branch_list : Branches → List Branch
 branch_list bs = (out-Branches bs).items.items
 
@@ -240,27 +256,33 @@ abbrev pub branches_view : Branches → List (Text × t.Steps)
 branches_view bs = map branch_view (branch_list bs)
 
 -- ## Programs
+-- a default that may be absent
 abbrev pub default_view : Option Value → Option Data
 default_view None = None
 default_view (Some x) = Some (plain x)
 
+-- a parameter
 abbrev pub param_view : Param → t.Param
 param_view p = record { name = p.name; default = default_view p.default }
 
+-- the parameters of a list, and what they are
 abbrev pub param_list : Params → List Param
 param_list ps = ps.items.items
 
 abbrev pub params_view : Params → List t.Param
 params_view ps = map param_view (param_list ps)
 
+-- a workflow
 abbrev pub flow_view : Flow → t.Flow
 flow_view f = record { name = f.name; params = params_view f.params; steps = t.steps (steps_view f.steps) }
 
+-- the workflows of a list, and what they are
 abbrev pub flow_list : Flows → List Flow
 flow_list fs = fs.items.items
 
 abbrev pub flows_view : Flows → List t.Flow
 flows_view fs = map flow_view (flow_list fs)
 
+-- a program
 abbrev pub program_view : Program → t.Program
 program_view p = record { flows = flows_view p.flows }
