@@ -9,13 +9,13 @@ use Rattle.wf_ast.specs.declared.expr.Expr.{Row_of-Expr, end_of-Expr, more_of-Ex
 use Rattle.wf_ast.specs.declared.expr.Expr.TheBlock.{hidden-the_row-Expr-0}
 use Rattle.wf_ast.specs.declared.expr.Exprs.{Exprs}
 use Rattle.wf_ast.specs.declared.expr.Expr.TheViews as e
-use Rattle.wf_ast.specs.declared.template.Template.{Template, Map, Row_of-Template, end_of-Template, more_of-Template, items-the_row-Template, items_hidden-the_row-Template-0}
+use Rattle.wf_ast.specs.declared.template.Template.{Map, Row_of-Template, end_of-Template, more_of-Template, items-the_row-Template, items_hidden-the_row-Template-0}
 use Rattle.wf_ast.specs.declared.template.Template.TheBlock.{hidden-the_row-Template-0, hidden-the_row-NamedTemplate-1}
 use Rattle.wf_ast.specs.declared.template.Template.TheViews.{roll-NamedTemplates, out-NamedTemplates, roll-out-NamedTemplates}
 use Rattle.wf_ast.specs.declared.body.Body.TheBlock.{hidden-the_row-Step-2}
 use Rattle.wf_ast.specs.declared.body.Body.TheViews.{roll-StepList, out-StepList, roll-out-StepList}
 use Rattle.wf_ast.specs.declared.template.Templates.{Templates}
-use Rattle.wf_ast.specs.declared.template.NamedTemplates.{NamedTemplates, NamedTemplates', Row_of-NamedTemplate, end_of-NamedTemplate, more_of-NamedTemplate, items-the_row-NamedTemplate, items_hidden-the_row-NamedTemplate-1}
+use Rattle.wf_ast.specs.declared.template.NamedTemplates.{NamedTemplates, Row_of-NamedTemplate, end_of-NamedTemplate, more_of-NamedTemplate, items-the_row-NamedTemplate, items_hidden-the_row-NamedTemplate-1}
 use Rattle.wf_ast.specs.declared.template.Template.TheViews as template
 use Rattle.wf_ast.specs.declared.body.StepList.{StepList, Row_of-Step, end_of-Step, more_of-Step, items-the_row-Step, items_hidden-the_row-Step-2}
 use Rattle.wf_ast.specs.declared.body.Arms.{Arms, Row_of-Arm, end_of-Arm, more_of-Arm, items-the_row-Arm, items_hidden-the_row-Arm-0}

@@ -1,5 +1,5 @@
 -- The plain data that a tree of the program stands for, by direct recursion over the tree; a list is seen as the list of its items.
-use Rattle.std.specs.Prelude.{List, [], ◌∷◌, map, Option, Some, None}
+use Rattle.std.specs.Prelude.{List, map, Option, Some, None}
 use Rattle.wf_value.specs.Data.{Data}
 use Rattle.wf_value.specs.Plain.{plain}
 use Rattle.wf_value.specs.Pairs.{Text}

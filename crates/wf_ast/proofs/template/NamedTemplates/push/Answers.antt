@@ -1,4 +1,4 @@
-use Rattle.std.proofs.Common.{rules, map, ◌≡◌, ◌∙◌, ap}
+use Rattle.std.proofs.Common.{rules, map, ◌∙◌, ap}
 use Rattle.std.proofs.lemmas.List.{map-append}
 use Rattle.wf_ast.specs.View.{field_view}
 use Rattle.wf_ast.specs.declared.template.Template.TheViews.{out-roll-NamedTemplates}
