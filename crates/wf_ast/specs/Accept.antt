@@ -14,6 +14,7 @@ use Rattle.wf_shared.specs.HttpRequest.{is_among}
 use Rattle.wf_shared.specs.HttpUrl.{first_of_two}
 use Rattle.wf_value.specs.Pairs.{Text}
 
+-- the rules by name, in the order of their numbers 1 to 12
 pub data Kind : Type 0 where
   EmptySteps : Kind
   DoubleStep : Kind
@@ -28,14 +29,17 @@ pub data Kind : Type 0 where
   BadArgument : Kind
   TooMany : Kind
 
+-- a rule that speaks, and where
 pub record Fault : Type 0 where
   pub kind : Kind
   pub place : Path
 
 -- ## 7 to 9: names
+-- a layer has the name
 abbrev pub has_name : Text → Names → Bool
 has_name x l = is_among x l.binds || is_among x l.assigns
 
+-- a visible layer has the name
 abbrev pub is_visible : Text → List Names → Bool
 is_visible x [] = false
 is_visible x (l ∷ ls) = has_name x l || is_visible x ls
@@ -50,18 +54,22 @@ abbrev pub may_write : Text → List Names → Bool
 may_write x [] = true
 may_write x (l ∷ ls) = if is_among x l.binds then true else (may_cross x l.shared ls && may_write x ls)
 
+-- the call that a body is
 abbrev pub call_of : Body → Option CallBody
 call_of (Body.Call f) = Some f
 call_of body = None
 
+-- the variable that takes the result
 abbrev pub result_of_call : Option CallBody → Option Text
 result_of_call None = None
 result_of_call (Some f) = f.result
 
+-- where a write that may not be stands
 abbrev pub write_fault : Around → Option Text → Path → Option Path
 write_fault a None path = None
 write_fault a (Some x) path = at_if (not (may_write x a.layers)) path
 
+-- where rule 7 speaks
 abbrev pub rule_write : Around → NodePart → Path → Option Path
 rule_write a (EntryPart e) path = write_fault a (Some e.target.name) path
 rule_write a part path = write_fault a (result_of_call (call_of (part_body part))) (below path (codes "result"))
@@ -71,32 +79,40 @@ abbrev pub unknown_shared : List Names → List Text → Path → ℕ → Option
 unknown_shared ls [] path i = None
 unknown_shared ls (x ∷ xs) path i = if is_visible x ls then unknown_shared ls xs path (suc i) else Some (nth path i)
 
+-- the shared names of a parallel step
 abbrev pub shared_in : Body → List Text
 shared_in (Body.Parallel (parallel shared limit w)) = shared
 shared_in body = []
 
+-- where rule 8 speaks
 abbrev pub rule_shared : Around → NodePart → Path → Option Path
 rule_shared a part path = unknown_shared a.layers (shared_in (part_body part)) (below (below path (codes "parallel")) (codes "shared")) 0
 
+-- the first read of a name that no visible layer has
 abbrev pub first_unseen : List Names → List (Path × Text) → Option Path
 first_unseen ls [] = None
 first_unseen ls (r ∷ rs) = if is_visible r.1 ls then first_unseen ls rs else Some r.0
 
+-- where rule 9 speaks
 abbrev pub rule_name : Around → NodePart → Path → Option Path
 rule_name a part path = first_unseen a.layers (part_reads part path)
 
 -- ## 10 and 11: calls
+-- the name is of no workflow and no function that may be called
 abbrev pub unknown_call : List Flow → Text → Bool
 unknown_call fs x = is_none (flow fs x) && is_none (call_signature x)
 
+-- the workflow that a retry asks
 abbrev pub predicate_of : Body → Option Text
 predicate_of (Body.Try (try body (Some p) x)) = elim p.predicate [ FlowNamed f ↦ Some f | q ↦ None ]
 predicate_of body = None
 
+-- the name is of no workflow that may be called
 abbrev pub no_flow : List Flow → Option Text → Bool
 no_flow fs None = false
 no_flow fs (Some x) = is_none (flow fs x)
 
+-- where rule 10 speaks
 abbrev pub rule_call : List Flow → NodePart → Path → Option Path
 rule_call fs part path = first (
     elim (call_of (part_body part)) [ None ↦ None | Some f ↦ at_if (unknown_call fs f.name) (below path (codes "call")) ]
@@ -107,30 +123,37 @@ abbrev pub required : List Param → List Text
 required [] = []
 required (x ∷ xs) = elim x.default [ None ↦ x.name ∷ required xs | Some v ↦ required xs ]
 
+-- the arguments of a workflow are its parameters
 abbrev pub flow_signature : List Param → Signature
 flow_signature xs = record { needs = required xs; may = param_names xs }
 
+-- the names of the arguments fit what is called; a workflow comes before a function of its name
 abbrev pub call_fits : List Flow → CallBody → Bool
 call_fits fs f = elim (flow fs f.name) [ Some w ↦ takes (flow_signature w.params) (field_names f.args) | None ↦ elim (call_signature f.name) [ Some g ↦ call_takes f.name g (field_names f.args) | None ↦ true ] ]
 
+-- there is one parameter
 abbrev pub has_one : List Param → Bool
 has_one (x ∷ []) = true
 has_one xs = false
 
+-- the workflow that a retry asks has one parameter
 abbrev pub predicate_fits : List Flow → Option Text → Bool
 predicate_fits fs None = true
 predicate_fits fs (Some x) = elim (flow fs x) [ Some w ↦ has_one w.params | None ↦ true ]
 
+-- where rule 11 speaks
 abbrev pub rule_argument : List Flow → NodePart → Path → Option Path
 rule_argument fs part path = first (
     elim (call_of (part_body part)) [ None ↦ None | Some f ↦ at_if (not (call_fits fs f)) (below path (codes "args")) ]
     ∷ at_if (not (predicate_fits fs (predicate_of (part_body part)))) (below (below path (codes "retry")) (codes "predicate")) ∷ [])
 
 -- ## 12: limits
+-- the number of arms
 abbrev pub arms_count : Arms → ℕ
 arms_count no_arms = 0
 arms_count (arm t body next rest) = suc (arms_count rest)
 
+-- the number of branches
 abbrev pub branches_count : Branches → ℕ
 branches_count no_branches = 0
 branches_count (branch x ss bs) = suc (branches_count bs)
@@ -139,21 +162,26 @@ branches_count (branch x ss bs) = suc (branches_count bs)
 abbrev pub long_name : Text → Path → Option Path
 long_name x path = at_if (nat_lt 256 (length x)) path
 
+-- a name that may be absent
 abbrev pub long_maybe : Option Text → Path → Option Path
 long_maybe None path = None
 long_maybe (Some x) path = long_name x path
 
+-- of a loop
 abbrev pub loop_many : LoopBody → Path → Option Path
 loop_many (loop x i o ss) path = first (long_maybe i (below path (codes "index")) ∷ long_name x (below path (codes "value")) ∷ [])
 
+-- of what runs in parallel
 abbrev pub work_many : Work → Path → Option Path
 work_many (OfBranches bs) path = at_if (nat_lt 10 (branches_count bs)) (below path (codes "branches"))
 work_many (OfLoop l) path = loop_many l (below path (codes "for"))
 
+-- of an `except`
 abbrev pub except_many : Except → Path → Option Path
 except_many no_except path = None
 except_many (except x ss) path = long_name x (below path (codes "as"))
 
+-- of a body
 abbrev pub body_many : Body → Path → Option Path
 body_many (Body.Assign es) path = at_if (nat_lt 50 (length es)) (below path (codes "assign"))
 body_many (Body.Call f) path = long_maybe f.result (below path (codes "result"))
@@ -163,6 +191,7 @@ body_many (Body.Parallel (parallel shared limit w)) path = work_many w (below pa
 body_many (Body.Try (try body policy x)) path = except_many x (below path (codes "except"))
 body_many body path = None
 
+-- of parameters, from number i on
 abbrev pub params_many : List Param → Path → ℕ → Option Path
 params_many [] path i = None
 params_many (x ∷ xs) path i = first_of_two (long_name x.name (nth path i)) (params_many xs path (suc i))
@@ -183,10 +212,12 @@ part_many (BodyPart body) path = body_many body path
 part_many (EntryPart e) path = long_name e.target.name path
 part_many (BranchPart before x ss) path = None
 
+-- where rule 12 speaks: a limit is passed, or this is the first node past 1,000,000
 abbrev pub rule_many : ℕ → NodePart → Path → Option Path
 rule_many number part path = first_of_two (part_many part path) (at_if (nat_le 1000000 number) path)
 
 -- ## The first fault
+-- the fault of a kind where it speaks
 abbrev pub as_fault : Kind → Option Path → Option Fault
 as_fault k None = None
 as_fault k (Some path) = Some (record { kind = k; place = path })
@@ -207,6 +238,7 @@ rules fs number earlier v =
     ∷ as_fault BadArgument (rule_argument fs v.part v.path)
     ∷ as_fault TooMany (rule_many number v.part v.path) ∷ []
 
+-- the rule of the lowest number that speaks at a node
 abbrev pub fault : List Flow → ℕ → List Text → Node → Option Fault
 fault fs number earlier v = first (rules fs number earlier v)
 
@@ -216,21 +248,26 @@ after_part (FlowPart f) earlier = []
 after_part (StepPart x body next) earlier = x ∷ earlier
 after_part part earlier = earlier
 
+-- the first fault of nodes, from a number on
 abbrev pub first_among : List Flow → ℕ → List Text → List Node → Option Fault
 first_among fs number earlier [] = None
 first_among fs number earlier (v ∷ vs) =
     first_of_two (fault fs number earlier v) (first_among fs (suc number) (after_part v.part earlier) vs)
 
+-- the first fault of a program
 abbrev pub first_fault : Program → Option Fault
 first_fault p = first_among p.flows 0 [] (nodes p.flows)
 
 -- no number of a backoff is over a year in milliseconds
+-- no number of the policy is over that
 abbrev pub is_small_backoff : Option Policy → Bool
 is_small_backoff None = true
 is_small_backoff (Some p) = list_all (λ n. nat_le n 31536000000) (p.backoff.initial ∷ p.backoff.max ∷ p.backoff.multiplier ∷ [])
 
+-- no number of the node's policy is over that
 abbrev pub small_backoff : Node → Bool
 small_backoff v = elim (part_body v.part) [ Body.Try (try body policy x) ↦ is_small_backoff policy | body ↦ true ]
 
+-- no rule speaks at any node, and no number of a backoff is over a year in milliseconds
 abbrev pub Accept : Program → Type 0
 Accept p = (first_fault p ≡ None) × IsTrue (list_all small_backoff (nodes p.flows))

@@ -1,7 +1,8 @@
 -- The functions: their names, the names of their arguments in order, and which of these may be absent.
 --     Func        those that expressions may call, and call steps too
 --     Special     those of call steps alone
-use Rattle.wf_ast.specs.declared.tree.Func.TheVariants as func
+use Rattle.wf_ast.specs.declared.expr.Func.TheVariants as func
+use Rattle.wf_ast.specs.declared.expr.Func.{Func}
 use Rattle.std.specs.Prelude.{Bool, not, ◌&&◌, ◌||◌, List, [], ◌∷◌, ◌++◌, length, if◌then◌else◌, ◌==◌, Some, None, codes, bytes_eq, filter, Option, option_map}
 use Rattle.std.specs.List.{list_all}
 use Rattle.wf_value.specs.Data.{Data, Pairs}
@@ -10,8 +11,7 @@ use Rattle.wf_shared.specs.HttpRequest.{is_among}
 use Rattle.wf_shared.specs.HttpUrl.{first_of_two}
 use Rattle.wf_value.specs.Pairs.{Text, get}
 
-pub use Rattle.wf_ast.specs.declared.tree.Func.{Func}
-
+-- the functions that only call steps may call
 pub data Special : Type 0 where
   SysLog : Special
   SysSleep : Special
@@ -21,27 +21,34 @@ pub data Special : Type 0 where
   CreateEndpoint : Special
   AwaitCallback : Special
 
+-- the names of a function's arguments: those that it needs, and those that may be absent
 pub record Signature : Type 0 where
   pub needs : List Text
   pub may : List Text
 
+-- one argument
 abbrev pub one_of : Text → Signature
 one_of a = record { needs = a ∷ []; may = [] }
 
+-- two arguments
 abbrev pub two_of : Text → Text → Signature
 two_of a b = record { needs = a ∷ b ∷ []; may = [] }
 
+-- three arguments
 abbrev pub three_of : Text → Text → Text → Signature
 three_of a b c = record { needs = a ∷ b ∷ c ∷ []; may = [] }
 
+-- a function that expressions may call
 pub record Listing : Type 0 where
   pub name : Text
   pub func : Func
   pub signature : Signature
 
+-- a line of the table
 abbrev pub listed_as : Text → Func → Signature → Listing
 listed_as x f g = record { name = x; func = f; signature = g }
 
+-- all functions that expressions may call, by name
 abbrev pub library : List Listing
 library =
     listed_as (codes "default") func.Default (two_of (codes "value") (codes "default"))
@@ -76,20 +83,25 @@ library =
     ∷ listed_as (codes "sys.now") func.SysNow (record { needs = []; may = [] })
     ∷ listed_as (codes "sys.get_env") func.SysGetEnv (record { needs = codes "name" ∷ []; may = codes "default" ∷ [] }) ∷ []
 
+-- a function that only call steps may call
 pub record SpecialListing : Type 0 where
   pub name : Text
   pub special : Special
   pub signature : Signature
 
+-- a line of the table
 abbrev pub special_as : Text → Special → List Text → List Text → SpecialListing
 special_as x s needs may = record { name = x; special = s; signature = record { needs = needs; may = may } }
 
+-- what every HTTP call may have
 abbrev pub http_may : List Text
 http_may = codes "headers" ∷ codes "query" ∷ codes "body" ∷ codes "auth" ∷ codes "timeout" ∷ []
 
+-- what an HTTP call needs
 abbrev pub url_only : List Text
 url_only = codes "url" ∷ []
 
+-- all functions that only call steps may call, by name
 abbrev pub specials : List SpecialListing
 specials =
     special_as (codes "sys.log") SysLog [] (codes "data" ∷ codes "text" ∷ codes "json" ∷ codes "severity" ∷ [])
@@ -104,17 +116,21 @@ specials =
     ∷ special_as (codes "events.create_callback_endpoint") CreateEndpoint [] (codes "http_callback_method" ∷ [])
     ∷ special_as (codes "events.await_callback") AwaitCallback (codes "callback" ∷ []) (codes "timeout" ∷ []) ∷ []
 
+-- the first of a name
 abbrev pub entry_in : List Listing → Text → Option Listing
 entry_in [] x = None
 entry_in (e ∷ es) x = if bytes_eq x e.name then Some e else entry_in es x
 
+-- the first of a name
 abbrev pub special_in : List SpecialListing → Text → Option SpecialListing
 special_in [] x = None
 special_in (e ∷ es) x = if bytes_eq x e.name then Some e else special_in es x
 
+-- the function of a name that expressions may call
 abbrev pub func_named : Text → Option Listing
 func_named x = entry_in library x
 
+-- the function of a name that only call steps may call
 abbrev pub special_named : Text → Option SpecialListing
 special_named x = special_in specials x
 
@@ -122,6 +138,7 @@ special_named x = special_in specials x
 abbrev pub call_signature : Text → Option Signature
 call_signature x = first_of_two (option_map (λ e. e.signature) (func_named x)) (option_map (λ e. e.signature) (special_named x))
 
+-- each of the first is one of the second
 abbrev pub all_among : List Text → List Text → Bool
 all_among xs ys = list_all (λ x. is_among x ys) xs
 
@@ -133,6 +150,7 @@ takes g names = all_among names (g.needs ++ g.may) && all_among g.needs names
 abbrev pub logs_one : List Text → Bool
 logs_one names = length (filter (λ x. is_among x (codes "data" ∷ codes "text" ∷ codes "json" ∷ [])) names) == 1
 
+-- the names that the arguments of a call step may have
 abbrev pub call_takes : Text → Signature → List Text → Bool
 call_takes x g names = takes g names && (not (bytes_eq x (codes "sys.log")) || logs_one names)
 

@@ -1,14 +1,13 @@
 -- The syntax tree as plain data: workflows of steps, whose bodies hold templates of expressions.
 -- A list that may lead back to what holds it is a type of its own; each other list is a `List`.
 use Rattle.std.specs.Prelude.{ℕ, List, [], ◌∷◌, Option}
-use Rattle.wf_ast.specs.Func.{Func}
+use Rattle.wf_ast.specs.declared.expr.Func.{Func}
 use Rattle.wf_value.specs.Data.{Data}
 use Rattle.wf_value.specs.Pairs.{Text}
 use Rattle.wf_value.specs.declared.DefaultKind.{DefaultKind}
 use Rattle.wf_value.specs.declared.Backoff.{Backoff}
-
 -- ## Expressions and templates
-pub use Rattle.wf_ast.specs.declared.tree.Op.{Op}
+use Rattle.wf_ast.specs.declared.expr.Op.{Op}
 
 mutual
   pub data Expr : Type 0 where
@@ -57,25 +56,30 @@ pub record Target : Type 0 where
   -- the key as it stands in the source
   pub written : Text
 
+-- one assignment
 pub record Entry : Type 0 where
   pub target : Target
   pub value : Template
 
+-- a call, with its arguments in the order of their names
 pub record CallBody : Type 0 where
   pub name : Text
   pub args : Fields
   pub result : Option Text
 
+-- what a loop runs over: the items of a list, or the whole numbers of a range with both ends
 pub data Over : Type 0 where
   InList : Template → Over
   InRange : Template → Template → Over
 
+-- which errors are tried again
 pub data Predicate : Type 0 where
   Always : Predicate
   Never : Predicate
   Predefined : DefaultKind → Predicate
   FlowNamed : Text → Predicate
 
+-- when and how often a failed body is tried again
 pub record Policy : Type 0 where
   pub predicate : Predicate
   pub max_retries : ℕ
@@ -130,10 +134,12 @@ mutual
     except : (name : Text) → Steps → Except
 
 -- ## Programs
+-- a parameter, with its default where it has one
 pub record Param : Type 0 where
   pub name : Text
   pub default : Option Data
 
+-- a workflow
 pub record Flow : Type 0 where
   pub name : Text
   pub params : List Param
@@ -144,14 +150,32 @@ pub record Program : Type 0 where
   pub flows : List Flow
 
 -- ## Reading them
+-- steps as the tree has them
 abbrev pub steps : List Step → Steps
 steps [] = no_steps
 steps (s ∷ ss) = more s (steps ss)
 
+-- named templates as the tree has them
 abbrev pub fields : List (Text × Template) → Fields
 fields [] = no_fields
 fields (f ∷ fs) = field f.0 f.1 (fields fs)
 
+-- templates as the tree has them
+abbrev pub templates : List Template → Templates
+templates [] = no_templates
+templates (x ∷ xs) = template x (templates xs)
+
+-- arms as the tree has them
+abbrev pub arms : List (Template × Body × Option Text) → Arms
+arms [] = no_arms
+arms (a ∷ rest) = arm a.0 a.1 a.2 (arms rest)
+
+-- branches as the tree has them
+abbrev pub branches : List (Text × Steps) → Branches
+branches [] = no_branches
+branches (b ∷ bs) = branch b.0 b.1 (branches bs)
+
+-- expressions as the tree has them
 abbrev pub exprs : List Expr → Exprs
 exprs [] = no_exprs
 exprs (e ∷ es) = expr e (exprs es)
@@ -160,6 +184,7 @@ exprs (e ∷ es) = expr e (exprs es)
 abbrev pub unnamed : Body → Option Text → Steps
 unnamed b next = more (step [] b next) no_steps
 
+-- the names of named templates
 abbrev pub field_names : Fields → List Text
 field_names no_fields = []
 field_names (field k t fs) = k ∷ field_names fs

@@ -1,9 +1,9 @@
 -- Worked rows of calls, callbacks and logs.
-use Rattle.wf_ast.specs.declared.tree.Func.TheVariants as func
+use Rattle.wf_ast.specs.declared.Func.TheVariants as func
 use Rattle.std.specs.Prelude.{◌≡◌, ℕ, Bool, true, false, List, [], ◌∷◌, ◌++◌, replicate, pos, Some, None, codes, Option, refl}
 use Rattle.wf_shared.proofs.OnLiterals.{on_literals}
 use Rattle.wf_ast.specs.Accept.{EmptySteps, UndeclaredWrite, UnknownName, BadArgument, first_fault}
-use Rattle.wf_ast.specs.declared.tree.Func.{Func}
+use Rattle.wf_ast.specs.declared.Func.{Func}
 use Rattle.wf_ast.specs.Nodes.{Key, At}
 use Rattle.wf_ast.specs.Tree.{Expr, no_exprs, Template, Scalar, Whole, Listed, Mapped, no_templates, InList, Predefined, Body, loop, parallel, OfLoop, try, except, Program, steps, fields, exprs}
 use Rattle.wf_model.proofs.Writing.{num, var, plus, sets, st, main_of, start, ending, moves_of, call_of, flow_of, get_call, parallel_of, settles, then_event}

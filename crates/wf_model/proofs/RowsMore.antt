@@ -1,5 +1,5 @@
 -- Worked rows of predicates, calls of workflows, parallel loops and limits on branches at once.
-use Rattle.wf_ast.specs.declared.tree.Op.TheVariants as op
+use Rattle.wf_ast.specs.declared.Op.TheVariants as op
 use Rattle.std.specs.Prelude.{◌≡◌, ℕ, Bool, true, false, [], ◌∷◌, length, pos, Some, None, codes, Option, refl}
 use Rattle.wf_shared.proofs.OnLiterals.{on_literals}
 use Rattle.wf_ast.specs.Accept.{first_fault}

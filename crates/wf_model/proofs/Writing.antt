@@ -1,5 +1,5 @@
 -- Writing programs and events down, for the worked examples.
-use Rattle.wf_ast.specs.declared.tree.Op.TheVariants as op
+use Rattle.wf_ast.specs.declared.Op.TheVariants as op
 use Rattle.std.specs.Prelude.{ℕ, zero, suc, List, [], ◌∷◌, replicate, pos, Some, None, codes, Option}
 use Rattle.wf_ast.specs.Tree.{Expr, no_exprs, Template, Scalar, Whole, Entry, Policy, Step, step, Body, parallel, OfBranches, Branches, no_branches, branch, try, Except, Param, Flow, Program, steps, fields}
 use Rattle.wf_model.specs.Choose.{choose}

@@ -6,7 +6,7 @@ use Rattle.wf_ast.specs.Accept.{UnknownCall, BadArgument}
 use Rattle.wf_ast.specs.Apply.{apply}
 use Rattle.wf_ast.specs.Eval.{fill_fields}
 use Rattle.wf_ast.specs.Flows.{flow}
-use Rattle.wf_ast.specs.declared.tree.Func.{Func}
+use Rattle.wf_ast.specs.declared.Func.{Func}
 use Rattle.wf_ast.specs.Func.{Special, SysLog, SysSleep, SysSleepUntil, HttpCall, CreateEndpoint, AwaitCallback, Listing, SpecialListing, func_named, special_named, call_signature, takes, call_takes, in_order}
 use Rattle.wf_ast.specs.Tree.{CallBody, Param, Flow, field_names}
 use Rattle.wf_model.specs.Config.{Item, Do, Back, Sleep, Calling, Await, call_limit, log_limit}
