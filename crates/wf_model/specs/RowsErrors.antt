@@ -1,5 +1,5 @@
 -- Worked errors: how a task leaves what it stands in, and which `except` sees the error.
-use Rattle.std.specs.Prelude.{◌≡◌, ℕ, List, [], ◌∷◌, pos, Some, None, codes}
+use Rattle.std.specs.Prelude.{◌≡◌, ℕ, false, List, [], ◌∷◌, Some, None, codes}
 use Rattle.wf_ast.specs.Tree.{Expr, Whole, InRange, Step, Body, loop, no_except, Except, except, Program, steps}
 use Rattle.wf_model.specs.Config.{Layer, Task, Raised, After, To}
 use Rattle.wf_model.specs.Run.{run}
