@@ -4,7 +4,8 @@ use Rattle.std.proofs.Common.{inl, inr, arith}
 use mathlib.Core.Path.{refl, sym, ◌∙◌}
 use Rattle.wf_ast.specs.Tree.{Program}
 use Rattle.wf_model.proofs.After.{Leads, led_to}
-use Rattle.wf_model.proofs.Counts.{leads_on, Same, merged_same, next_counts}
+use Rattle.wf_model.proofs.Counts.{Same, same_stays, next_counts}
+use Rattle.wf_model.proofs.Walk.{leads_on, merged_stays}
 use Rattle.wf_model.specs.Config.{Do, Outcome, Active, Returned, Raised, Cancelled, Config, After, To, Wrong, NotNow, move_limit}
 use Rattle.wf_model.specs.Local.{Moved, goes}
 use Rattle.wf_model.specs.RunLaws.{Counts, Bounds, RunsAreBounded}
@@ -54,7 +55,7 @@ at_start : (s : Start) (c : Config) → Same (empty s) c → Bounds s c
 at_start s c h = record { facts = h.0; readings = omega (arith, h.1); moves = omega (arith, h.2); active = λ a. omega (arith, h.2) }
 
 initial_bounded : (s : Start) (p : Program) → Leads (Bounds s) (initial p s)
-initial_bounded s p = leads_on (Same (empty s)) (Bounds s) (initial p s) (at_start s) (merged_same (empty s) 0 None (goes (Do (main_steps p.flows) (main_steps p.flows) ∷ []) (main_local p (unwrap_or (json_value s.argument) null))) (empty s) (refl, refl, refl))
+initial_bounded s p = leads_on (Same (empty s)) (Bounds s) (initial p s) (at_start s) (merged_stays (Same (empty s)) (same_stays (empty s)) 0 None (goes (Do (main_steps p.flows) (main_steps p.flows) ∷ []) (main_local p (unwrap_or (json_value s.argument) null))) (empty s) (refl, refl, refl))
 
 pub runs_are_bounded : RunsAreBounded
 runs_are_bounded p s es c h = led_to (Bounds s) _ c (run_bounded s p (initial p s) es (initial_bounded s p)) h

@@ -5,7 +5,7 @@ use Rattle.wf_ast.specs.Tree.{Program}
 use Rattle.wf_model.proofs.After.{wrong_is_no_config, nowhere_is_no_config, same_config}
 use Rattle.wf_model.specs.Config.{Config, After, To, Wrong, NotNow}
 use Rattle.wf_model.specs.Run.{run_on, run, Run}
-use Rattle.wf_model.specs.RunLaws.{RunsJoin, FrontIsARun, StepGoesOn, RunsAgree}
+use Rattle.wf_model.specs.RunLaws.{RunsJoin, FrontIsARun, StepGoesOn, RunsAgree, StepIsOne}
 use Rattle.wf_model.specs.Step.{next, Step}
 use Rattle.wf_shared.specs.Events.{Event, Start}
 
@@ -35,3 +35,6 @@ step_goes_on p s es e b c h k = runs_join p _ es (e ∷ []) ∙ ap (λ a. run_on
 
 pub runs_agree : RunsAgree
 runs_agree p s es b c h k = same_config b c (sym h ∙ k)
+
+pub step_is_one : StepIsOne
+step_is_one p a b c e h k = same_config b c (sym h ∙ k)

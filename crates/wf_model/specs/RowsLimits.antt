@@ -60,10 +60,12 @@ TwentyFirstCallRaises = ComesTo recursive (moves_of 21) (raises_tag RecursionErr
 
 -- f calls itself inside a `try` whose predicate is a workflow, and catches the error
 abbrev pub recursive_in_try : Program
-recursive_in_try = record { flows =
-    flow_of (codes "main") [] (st (codes "s") (call_of (codes "f") [] None) ∷ [])
-    ∷ flow_of (codes "ask") (param (codes "e") ∷ []) (st (codes "r") (Body.Return (num 1)) ∷ [])
-    ∷ flow_of (codes "f") [] (st (codes "t") (try_steps (st (codes "u") (call_of (codes "f") [] None) ∷ []) (Some (policy_of (FlowNamed (codes "ask")) 1)) returns_error) ∷ []) ∷ [] }
+recursive_in_try = record {
+  flows =
+      flow_of (codes "main") [] (st (codes "s") (call_of (codes "f") [] None) ∷ [])
+      ∷ flow_of (codes "ask") (param (codes "e") ∷ []) (st (codes "r") (Body.Return (num 1)) ∷ [])
+      ∷ flow_of (codes "f") [] (st (codes "t") (try_steps (st (codes "u") (call_of (codes "f") [] None) ∷ []) (Some (policy_of (FlowNamed (codes "ask")) 1)) returns_error) ∷ []) ∷ [];
+}
 
 abbrev pub is_try : Item → Bool
 is_try (Try body n d) = true

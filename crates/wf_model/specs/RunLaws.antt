@@ -1,10 +1,12 @@
 -- Laws of steps and runs, for every program.
-use Rattle.std.specs.Prelude.{◌≡◌, ℕ, suc, ◌<◌, ◌≤◌, ◌≢◌, ◌⊎◌, List, [], ◌∷◌, ◌++◌}
+use Rattle.std.specs.Prelude.{◌≡◌, ℕ, suc, ◌<◌, ◌≤◌, ◌≢◌, ◌⊎◌, List, [], ◌∷◌, ◌++◌, length, Some, None}
 use Rattle.wf_ast.specs.Tree.{Program}
-use Rattle.wf_model.specs.Config.{Active, Config, After, To, NotNow, move_limit}
+use Rattle.wf_model.specs.Config.{Call, Active, Config, After, To, NotNow, move_limit}
+use Rattle.wf_model.specs.Ready.{request_in, request_of}
 use Rattle.wf_model.specs.Run.{run_on, run, empty, Run}
 use Rattle.wf_model.specs.Step.{next, Step}
 use Rattle.wf_shared.specs.Events.{Event, Start}
+use Rattle.wf_shared.specs.HttpRequest.{Request}
 
 -- ## Runs in parts
 -- events lead where their front leads, and then their rest
@@ -24,6 +26,10 @@ abbrev pub RunsAgree : Type 0
 RunsAgree = (p : Program) (s : Start) (es : List Event) (b c : Config) → Run p s es b → Run p s es c → b ≡ c
 
 -- ## Steps
+-- an event leads to at most one configuration
+abbrev pub StepIsOne : Type 0
+StepIsOne = (p : Program) (a b c : Config) (e : Event) → Step p a e b → Step p a e c → b ≡ c
+
 -- no event comes once there is an outcome
 abbrev pub NothingFollowsAnOutcome : Type 0
 NothingFollowsAnOutcome = (p : Program) (c : Config) (e : Event) → c.outcome ≢ Active → next p c e ≡ NotNow
@@ -38,7 +44,21 @@ pub record Counts (b c : Config) : Type 0 where
 abbrev pub StepsCount : Type 0
 StepsCount = (p : Program) (b c : Config) (e : Event) → Step p b e c → Counts b c
 
+-- a call is as it was, or is closed, and new ones come behind
+abbrev pub OnlyClose : List Call → List Call → Type 0
+OnlyClose [] ys = Unit {0}
+OnlyClose (x ∷ xs) [] = ⊥
+OnlyClose (x ∷ xs) (y ∷ ys) = ((y ≡ x) ⊎ (request_in y ≡ None)) × OnlyClose xs ys
+
+abbrev pub StepsOnlyCloseCalls : Type 0
+StepsOnlyCloseCalls = (p : Program) (b c : Config) (e : Event) → Step p b e c → OnlyClose b.calls c.calls
+
 -- ## Runs
+-- a call that is open has the request with which it was issued: at each point of the run since then it had this one
+abbrev pub RequestsStay : Type 0
+RequestsStay = (p : Program) (s : Start) (es fs : List Event) (b c : Config) → Run p s es b → Run p s (es ++ fs) c
+    → (k : ℕ) (q : Request) → k ≤ length b.calls → request_of c k ≡ Some q → request_of b k ≡ Some q
+
 -- a run keeps the facts of its start, its readings don't fall, and its moves are at most 100,000, and fewer while there is no outcome
 pub record Bounds (s : Start) (c : Config) : Type 0 where
   pub facts : c.facts ≡ (empty s).facts

@@ -1,16 +1,25 @@
-//! Laws of the language's meaning. The function does nothing; each of its clauses is a law.
+//! Laws of the language's meaning, for every program. The functions do nothing; each of their clauses is a law.
 
-ghost use Rattle.wf_model.specs.RunLaws.{RunsJoin, FrontIsARun, StepGoesOn, RunsAgree, NothingFollowsAnOutcome, StepsCount, RunsAreBounded};
+ghost use Rattle.wf_model.specs.ChoiceLaws.{NothingIsChosenWhenQuiet, NothingIsChosenBehindAnOutcome};
+ghost use Rattle.wf_model.specs.RunLaws.{RunsJoin, FrontIsARun, StepGoesOn, RunsAgree, StepIsOne, NothingFollowsAnOutcome, StepsCount, StepsOnlyCloseCalls, RequestsStay, RunsAreBounded};
 
-/// What holds of every program's steps and runs: a run is put together from its parts, no event comes behind an outcome, readings don't
-/// fall, and there are at most 100,000 moves.
+/// What holds of steps and runs: a run is put together from its parts, an event leads to at most one configuration, no event comes
+/// behind an outcome, readings don't fall, there are at most 100,000 moves, and the request of an open call never changes.
 pub fn laws_of_runs()
     ensures runs_join { RunsJoin }
     ensures front_is_a_run { FrontIsARun }
     ensures step_goes_on { StepGoesOn }
     ensures runs_agree { RunsAgree }
+    ensures step_is_one { StepIsOne }
     ensures nothing_follows_an_outcome { NothingFollowsAnOutcome }
     ensures steps_count { StepsCount }
+    ensures steps_only_close_calls { StepsOnlyCloseCalls }
+    ensures requests_stay { RequestsStay }
     ensures runs_are_bounded { RunsAreBounded }
-{
-}
+{}
+
+/// What holds of the engine's choice: it is none exactly where nothing can go on at the reading, or where there is an outcome.
+pub fn laws_of_choice()
+    ensures nothing_is_chosen_when_quiet { NothingIsChosenWhenQuiet }
+    ensures nothing_is_chosen_behind_an_outcome { NothingIsChosenBehindAnOutcome }
+{}

@@ -32,8 +32,7 @@ pub fn worked_runs()
     ensures clock_is_not_read_by_a_move { ClockIsNotReadByAMove }
     ensures first_entry_takes_no_reading { FirstEntryTakesNoReading }
     ensures readings_do_not_fall { ReadingsDoNotFall }
-{
-}
+{}
 
 /// Errors that go outward to the nearest `except`, with the layers of what they leave.
 pub fn worked_errors()
@@ -46,8 +45,7 @@ pub fn worked_errors()
     ensures caught_error_leaves_the_calls_names { CaughtErrorLeavesTheCallsNames }
     ensures excepts_layer_ends { ExceptsLayerEnds }
     ensures return_leaves_a_try { ReturnLeavesATry }
-{
-}
+{}
 
 /// Bodies that are tried again, the delays between, and who decides.
 pub fn worked_retries()
@@ -60,8 +58,7 @@ pub fn worked_retries()
     ensures no_retries_do_not_ask { NoRetriesDoNotAsk }
     ensures other_answers_pass_the_try { OtherAnswersPassTheTry }
     ensures errors_of_the_predicate_pass_the_try { ErrorsOfThePredicatePassTheTry }
-{
-}
+{}
 
 /// Branches side by side: what they share, their joins, their limits, the engine's choice and cancelling.
 pub fn worked_branches()
@@ -86,8 +83,7 @@ pub fn worked_branches()
     ensures cancelling_keeps_tasks_and_calls { CancellingKeepsTasksAndCalls }
     ensures cancelling_is_no_move { CancellingIsNoMove }
     ensures nothing_follows_cancelling { NothingFollowsCancelling }
-{
-}
+{}
 
 /// Limits: on moves, on calls and on parallel steps in each other, and on variables.
 pub fn worked_limits()
@@ -106,8 +102,7 @@ pub fn worked_limits()
     ensures one_more_raises { OneMoreRaises }
     ensures later_rules_hold_more { LaterRulesHoldMore }
     ensures begin_past_the_limit_keeps_its_error { BeginPastTheLimitKeepsItsError }
-{
-}
+{}
 
 /// Calls of services: requests, answers, due moments, and the limit on the sum of bodies.
 pub fn worked_calls()
@@ -124,8 +119,7 @@ pub fn worked_calls()
     ensures call_stays_open_at_the_limit { CallStaysOpenAtTheLimit }
     ensures request_of_a_post { RequestOfAPost }
     ensures two_names_are_collected { TwoNamesAreCollected }
-{
-}
+{}
 
 /// Logs, sleeps and callbacks.
 pub fn worked_waits()
@@ -145,8 +139,7 @@ pub fn worked_waits()
     ensures hundred_callbacks_wait { HundredCallbacksWait }
     ensures one_more_has_no_room { OneMoreHasNoRoom }
     ensures await_times_out { AwaitTimesOut }
-{
-}
+{}
 
 /// What the checker says of these programs, and of some faulty ones.
 pub fn worked_checks()
@@ -160,5 +153,4 @@ pub fn worked_checks()
     ensures undeclared_write_is_a_fault { UndeclaredWriteIsAFault }
     ensures shared_write_is_accepted { SharedWriteIsAccepted }
     ensures new_name_is_accepted { NewNameIsAccepted }
-{
-}
+{}

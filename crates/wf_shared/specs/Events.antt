@@ -4,7 +4,6 @@
 --     severity_named               the severities of logged values
 use Rattle.std.specs.Prelude.{ℕ, Bool, List, [], ◌∷◌, if◌then◌else◌, Some, None, codes, bytes_eq, Option}
 use Rattle.wf_value.specs.Pairs.{Text}
-
 pub use Rattle.wf_value.specs.declared.Severity.{Severity}
 use Rattle.wf_value.specs.declared.Severity.TheVariants as severity
 

@@ -5,7 +5,6 @@ use Rattle.std.specs.Prelude.{ℕ, ◌*◌, ◌/◌, min, Bool, false, ◌||◌,
 use Rattle.std.specs.List.{list_any}
 use Rattle.wf_value.specs.Data.{Data, integer, text, list, map}
 use Rattle.wf_value.specs.Pairs.{Text, items, get}
-
 pub use Rattle.wf_value.specs.declared.DefaultKind.{DefaultKind}
 pub use Rattle.wf_value.specs.declared.DefaultKind.TheVariants.{Idempotent, NonIdempotent}
 pub use Rattle.wf_value.specs.declared.Backoff.{Backoff}

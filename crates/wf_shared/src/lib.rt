@@ -60,5 +60,4 @@ pub fn worked_texts()
     ensures first_delay_is_not_bounded { FirstDelayIsNotBounded }
     ensures policies_decide_by_code_and_tag { PoliciesDecideByCodeAndTag }
     ensures arrivals_may_be_refused { ArrivalsMayBeRefused }
-{
-}
+{}
