@@ -1,6 +1,7 @@
 //! Laws of the language's meaning, for every program. The functions do nothing; each of their clauses is a law.
 
 ghost use Rattle.wf_model.specs.ChoiceLaws.{NothingIsChosenWhenQuiet, NothingIsChosenBehindAnOutcome};
+ghost use Rattle.wf_model.specs.TurnLaws.{NextTurnGoesOn, LaterTurnDoesNotCount, AllTurnsAreTheRun};
 ghost use Rattle.wf_model.specs.RunLaws.{RunsJoin, FrontIsARun, StepGoesOn, RunsAgree, StepIsOne, NothingFollowsAnOutcome, StepsCount, StepsOnlyCloseCalls, RequestsStay, RunsAreBounded};
 
 /// What holds of steps and runs: a run is put together from its parts, an event leads to at most one configuration, no event comes
@@ -23,3 +24,12 @@ pub fn laws_of_choice()
     ensures nothing_is_chosen_when_quiet { NothingIsChosenWhenQuiet }
     ensures nothing_is_chosen_behind_an_outcome { NothingIsChosenBehindAnOutcome }
 {}
+
+/// What holds of the configuration after the turns of a journal up to a session and its waits: each turn before that point leads on, and
+/// none behind it counts.
+pub fn laws_of_turns()
+    ensures next_turn_goes_on { NextTurnGoesOn }
+    ensures later_turn_does_not_count { LaterTurnDoesNotCount }
+    ensures all_turns_are_the_run { AllTurnsAreTheRun }
+{
+}
