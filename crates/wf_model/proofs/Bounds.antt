@@ -1,17 +1,16 @@
 -- What a run keeps and counts, by its steps.
-use Rattle.std.specs.Prelude.{◌≡◌, ℕ, suc, ◌<◌, ◌≤◌, ◌≢◌, ◌⊎◌, List, [], ◌∷◌, Option, None, unwrap_or}
+use Rattle.std.specs.Prelude.{◌≡◌, suc, ◌<◌, ◌≤◌, ◌≢◌, ◌⊎◌, List, [], ◌∷◌, None, unwrap_or}
 use Rattle.std.proofs.Common.{inl, inr, arith}
-use mathlib.Core.Path.{refl, sym, ◌∙◌}
+use mathlib.Core.Path.{refl, ◌∙◌}
 use Rattle.wf_ast.specs.Tree.{Program}
 use Rattle.wf_model.proofs.After.{Leads, led_to}
 use Rattle.wf_model.proofs.Counts.{Same, same_stays, next_counts}
 use Rattle.wf_model.proofs.Walk.{leads_on, merged_stays}
 use Rattle.wf_model.specs.Config.{Do, Outcome, Active, Returned, Raised, Cancelled, Config, After, To, Wrong, NotNow, move_limit}
-use Rattle.wf_model.specs.Local.{Moved, goes}
+use Rattle.wf_model.specs.Local.{goes}
 use Rattle.wf_model.specs.RunLaws.{Counts, Bounds, RunsAreBounded}
 use Rattle.wf_model.specs.Run.{empty, initial, run_on, main_steps, main_local}
 use Rattle.wf_model.specs.Step.{next, step_from}
-use Rattle.wf_model.specs.Taken.{merged}
 use Rattle.wf_value.specs.Data.{null}
 use Rattle.wf_value.specs.Decode.{json_value}
 use Rattle.wf_shared.specs.Events.{Event, Start}

@@ -1,20 +1,20 @@
 -- No event changes the request of an open call, or opens a call again.
-use Rattle.std.specs.Prelude.{◌≡◌, ℕ, zero, suc, ◌≤◌, ◌⊎◌, Bool, true, List, [], ◌∷◌, ◌++◌, length, nat_le, slice_get, slice_set, Some, None, Option}
+use Rattle.std.specs.Prelude.{◌≡◌, ℕ, zero, suc, ◌≤◌, ◌⊎◌, List, [], ◌∷◌, ◌++◌, length, nat_le, slice_get, slice_set, Some, None}
 use Rattle.std.proofs.Common.{inl, inr, arith}
-use mathlib.Core.Path.{refl, sym, ap, subst, ◌∙◌}
+use mathlib.Core.Path.{refl, sym, ap, ◌∙◌}
 use Rattle.wf_ast.specs.Tree.{Program}
-use Rattle.wf_model.proofs.After.{Leads, led_to, same_config}
+use Rattle.wf_model.proofs.After.{Leads, led_to}
 use Rattle.wf_model.proofs.Runs.{runs_join}
 use Rattle.wf_model.proofs.Walk.{bool_case, leads_on, when_leads, for_task_leads, Stays, by_itself_stays, begins_stays, timed_out_stays, replied_to_stays, visited_stays}
-use Rattle.wf_model.specs.Config.{Call, Open, Answered, Outcome, Active, Returned, Raised, Cancelled, Config, After, To, Wrong, NotNow, move_limit}
+use Rattle.wf_model.specs.Config.{Call, Open, Answered, Outcome, Active, Returned, Raised, Cancelled, Config, After, To, Wrong, NotNow}
 use Rattle.wf_model.specs.Kinds.{Plainly, ByClock, ByCall}
 use Rattle.wf_model.specs.Move.{move, issue, due}
 use Rattle.wf_model.specs.Ready.{call, is_due, may_begin, request_in, request_of}
 use Rattle.wf_model.specs.Run.{run_on, run}
 use Rattle.wf_model.specs.RunLaws.{OnlyClose, StepsOnlyCloseCalls, RequestsStay}
-use Rattle.wf_model.specs.Step.{stopped, one_more, counted, read_at, close, timed_out, begins_by, when, wants, bodies_left, by_event, step_from, next}
+use Rattle.wf_model.specs.Step.{stopped, one_more, counted, read_at, close, timed_out, begins_by, wants, bodies_left, by_event, step_from, next}
 use Rattle.wf_model.specs.Taken.{by_itself}
-use Rattle.wf_shared.specs.Events.{Event, Start}
+use Rattle.wf_shared.specs.Events.{Event}
 use Rattle.wf_shared.specs.HttpRequest.{Request}
 use Rattle.wf_shared.specs.Queues.{arrive_fault}
 

@@ -1,12 +1,12 @@
 -- When nothing is chosen.
-use Rattle.std.specs.Prelude.{◌≡◌, ℕ, ◌%◌, max, Bool, true, false, not, ◌&&◌, ◌||◌, ◌≢◌, ◌↔◌, List, [], ◌∷◌, if◌then◌else◌, nat_le, Some, None, Option, option_map, IsTrue}
+use Rattle.std.specs.Prelude.{◌≡◌, ℕ, ◌%◌, max, Bool, true, false, not, ◌&&◌, ◌||◌, ◌≢◌, List, [], ◌∷◌, if◌then◌else◌, nat_le, Some, None, Option, option_map}
 use Rattle.std.proofs.Math.Dec.{leb-zero}
-use mathlib.Core.Path.{refl, sym, subst, ap, ◌∙◌}
+use mathlib.Core.Path.{refl, sym, ◌∙◌}
 use Rattle.wf_ast.specs.Tree.{Program}
 use Rattle.wf_model.specs.ChoiceLaws.{NothingIsChosenWhenQuiet, NothingIsChosenBehindAnOutcome}
 use Rattle.wf_model.specs.Choose.{first_due, first_begin, first_ready, next_ready, ready_event, chosen_event, choose}
 use Rattle.wf_model.specs.Config.{Outcome, Active, Returned, Raised, Cancelled, Task, Config}
-use Rattle.wf_model.specs.Ready.{is_ready, may_begin, is_due, can_go_on, none_goes_on, quiet}
+use Rattle.wf_model.specs.Ready.{is_ready, may_begin, is_due, none_goes_on, quiet}
 use Rattle.wf_shared.specs.Events.{Event}
 use Rattle.wf_shared.specs.HttpUrl.{first_of_two}
 

@@ -1,13 +1,13 @@
 -- Runs in parts.
-use Rattle.std.specs.Prelude.{◌≡◌, List, [], ◌∷◌, ◌++◌}
-use mathlib.Core.Path.{refl, sym, subst, ap, ◌∙◌}
+use Rattle.std.specs.Prelude.{◌≡◌, List, [], ◌∷◌}
+use mathlib.Core.Path.{refl, sym, ap, ◌∙◌}
 use Rattle.wf_ast.specs.Tree.{Program}
 use Rattle.wf_model.proofs.After.{wrong_is_no_config, nowhere_is_no_config, same_config}
 use Rattle.wf_model.specs.Config.{Config, After, To, Wrong, NotNow}
-use Rattle.wf_model.specs.Run.{run_on, run, Run}
+use Rattle.wf_model.specs.Run.{run_on, run}
 use Rattle.wf_model.specs.RunLaws.{RunsJoin, FrontIsARun, StepGoesOn, RunsAgree, StepIsOne}
-use Rattle.wf_model.specs.Step.{next, Step}
-use Rattle.wf_shared.specs.Events.{Event, Start}
+use Rattle.wf_model.specs.Step.{next}
+use Rattle.wf_shared.specs.Events.{Event}
 
 -- nothing comes behind what isn't a configuration
 from_nowhere : (p : Program) (es : List Event) → run_on p NotNow es ≡ NotNow

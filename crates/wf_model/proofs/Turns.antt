@@ -1,13 +1,12 @@
 -- The events of a journal's turns up to a point.
-use Rattle.std.specs.Prelude.{◌≡◌, ℕ, Bool, true, false, ◌&&◌, List, [], ◌∷◌, ◌++◌, if◌then◌else◌, IsTrue}
+use Rattle.std.specs.Prelude.{◌≡◌, ℕ, Bool, true, false, ◌&&◌, List, [], ◌∷◌, ◌++◌, if◌then◌else◌}
 use Rattle.std.specs.List.{list_all, flat_map}
 use Rattle.std.proofs.Common.{append_assoc}
 use mathlib.Core.Path.{refl, sym, ap, ◌∙◌}
-use Rattle.wf_ast.specs.Tree.{Program}
 use Rattle.wf_model.proofs.Runs.{runs_join}
-use Rattle.wf_model.specs.Run.{run_on, run, initial, is_before, events_to, config_at}
+use Rattle.wf_model.specs.Run.{run, initial, is_before, events_to}
 use Rattle.wf_model.specs.TurnLaws.{NextTurnGoesOn, LaterTurnDoesNotCount, AllTurnsAreTheRun}
-use Rattle.wf_shared.specs.Events.{Event, Turn, Start}
+use Rattle.wf_shared.specs.Events.{Event, Turn}
 
 append_none : (es : List Event) → es ++ [] ≡ es
 append_none [] = refl

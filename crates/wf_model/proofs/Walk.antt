@@ -1,5 +1,5 @@
 -- A walk over all that one event does, for a fact of configurations that stays in each part of it.
-use Rattle.std.specs.Prelude.{◌≡◌, ℕ, zero, suc, ◌+◌, length, Bool, true, false, List, [], ◌∷◌, ◌++◌, if◌then◌else◌, nat_le, Some, None, Ok, Err, Option}
+use Rattle.std.specs.Prelude.{◌≡◌, ℕ, suc, ◌+◌, length, Bool, true, false, List, [], ◌∷◌, ◌++◌, if◌then◌else◌, nat_le, Some, None, Ok, Err, Option}
 use mathlib.Core.Path.{refl}
 use Rattle.wf_ast.specs.Tree.{Steps, LoopBody, ParallelBody, parallel, OfBranches, OfLoop, branch, no_branches, Program}
 use Rattle.wf_model.proofs.After.{Leads}
@@ -15,7 +15,7 @@ use Rattle.wf_value.specs.declared.Tag.TheVariants.{ResourceLimitError}
 use Rattle.wf_shared.specs.Events.{Visitor, Reply}
 use Rattle.wf_shared.specs.HttpRequest.{Request}
 use Rattle.wf_shared.specs.HttpText.{reply_result, visit_result, reply_length}
-use Rattle.wf_shared.specs.Queues.{Endpoint, ArriveFault, arrived, with_queue, queue_of}
+use Rattle.wf_shared.specs.Queues.{Endpoint, ArriveFault}
 
 -- ## Cases
 pub option_case : {A B : Type 0} (P : B → Type 0) (o : Option A) (x : B) (f : A → B) → P x → ((t : A) → P (f t)) → P (elim o [ None ↦ x | Some t ↦ f t ])

@@ -1,15 +1,15 @@
 -- Worked calls of services: the request of a call, its answer, and what may stand in its place.
 use Rattle.wf_ast.specs.declared.tree.Func.TheVariants as func
 use Rattle.std.specs.Prelude.{◌≡◌, ℕ, List, [], ◌∷◌, ◌++◌, Some, None, codes, Option}
-use Rattle.wf_ast.specs.Tree.{Expr, Template, Whole, Listed, Mapped, no_templates, InList, Body, loop, parallel, OfLoop, try, except, Program, steps, fields, exprs}
+use Rattle.wf_ast.specs.Tree.{Expr, Whole, Listed, Mapped, no_templates, InList, Body, loop, parallel, OfLoop, try, except, Program, steps, fields, exprs}
 use Rattle.wf_model.specs.Config.{After, To}
 use Rattle.wf_model.specs.Ready.{call, call_due, request_of}
 use Rattle.wf_model.specs.RowsRetries.{default_policy}
 use Rattle.wf_model.specs.Run.{run_on, run}
 use Rattle.wf_model.specs.Writing.{said, var, plus, sets, st, call_of, flow_of, get_call, param, main_of, start, gives_number, raises_tag, ending, ComesTo, MayNotCome, settles, then_event}
 use Rattle.wf_value.specs.Data.{text}
-use Rattle.wf_value.specs.declared.Tag.TheVariants.{ConnectionError, ResourceLimitError, TimeoutError, ValueError}
-use Rattle.wf_shared.specs.Events.{Headers, Reply, Response, Broken, TooLong, Event, Start}
+use Rattle.wf_value.specs.declared.Tag.TheVariants.{ConnectionError, ResourceLimitError, TimeoutError}
+use Rattle.wf_shared.specs.Events.{Reply, Response, Broken, TooLong, Event, Start}
 use Rattle.wf_shared.specs.HttpRequest.{Request}
 use Rattle.wf_shared.specs.HttpText.{line}
 use Rattle.wf_value.specs.Pairs.{Text}

@@ -1,8 +1,8 @@
 -- What the checker says of the worked programs, and of some faulty ones.
-use Rattle.std.specs.Prelude.{◌≡◌, List, [], ◌∷◌, Some, None, codes}
+use Rattle.std.specs.Prelude.{◌≡◌, [], ◌∷◌, Some, None, codes}
 use Rattle.wf_ast.specs.Accept.{EmptySteps, UndeclaredWrite, UnknownName, BadArgument, first_fault}
 use Rattle.wf_ast.specs.Nodes.{Key, At}
-use Rattle.wf_ast.specs.Tree.{Body, Program}
+use Rattle.wf_ast.specs.Tree.{Body}
 use Rattle.wf_model.specs.RowsBranches.{branch_write, each_adds}
 use Rattle.wf_model.specs.RowsCalls.{fetching, collecting}
 use Rattle.wf_model.specs.RowsRetries.{asking, says_again}

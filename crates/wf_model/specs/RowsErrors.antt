@@ -1,6 +1,6 @@
 -- Worked errors: how a task leaves what it stands in, and which `except` sees the error.
 use Rattle.std.specs.Prelude.{◌≡◌, ℕ, false, List, [], ◌∷◌, Some, None, codes}
-use Rattle.wf_ast.specs.Tree.{Expr, Whole, InRange, Step, Body, loop, no_except, Except, except, Program, steps}
+use Rattle.wf_ast.specs.Tree.{InRange, Step, Body, loop, no_except, Except, except, Program, steps}
 use Rattle.wf_model.specs.Config.{Layer, Task, Raised, After, To}
 use Rattle.wf_model.specs.Run.{run}
 use Rattle.wf_model.specs.Writing.{num, said, var, assigns, st, call_of, flow_of, main_of, main_and, param, try_steps, returns_error, start, moves_of, gives_number, gives_text, raises_tag, ComesTo}

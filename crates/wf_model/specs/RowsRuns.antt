@@ -1,11 +1,11 @@
 -- Worked runs: literal programs, the events of a run, and what it comes to.
 use Rattle.wf_ast.specs.declared.tree.Func.TheVariants as func
-use Rattle.std.specs.Prelude.{◌≡◌, List, [], ◌∷◌, pos, Some, None, codes}
+use Rattle.std.specs.Prelude.{◌≡◌, [], ◌∷◌, pos, Some, None, codes}
 use Rattle.wf_ast.specs.Accept.{JumpOutOfScope, UnknownStep, BreakOutsideLoop}
 use Rattle.wf_ast.specs.Tree.{Expr, no_exprs, Whole, Listed, Mapped, no_templates, template, InList, InRange, step, Body, loop, Program, steps, fields, exprs}
 use Rattle.wf_model.specs.Config.{Wrong, NotNow}
 use Rattle.wf_model.specs.Run.{run}
-use Rattle.wf_model.specs.Writing.{num, said, var, plus, one, sets, assigns, st, jump, call_of, flow_of, main_of, main_and, param, start, step_0, moves_of, gives_number, gives_text, raises_tag, ending, ComesTo, MayNotCome}
+use Rattle.wf_model.specs.Writing.{num, var, plus, one, sets, assigns, st, jump, call_of, flow_of, main_of, main_and, param, start, moves_of, gives_number, raises_tag, ending, ComesTo, MayNotCome}
 use Rattle.wf_value.specs.Data.{integer, text}
 use Rattle.wf_value.specs.declared.Tag.TheVariants.{KeyError, TypeError, ValueError}
 use Rattle.wf_shared.specs.Events.{Event}

@@ -3,7 +3,7 @@ use Rattle.std.specs.Prelude.{◌≡◌, ℕ, suc, ◌<◌, ◌≤◌, ◌≢◌
 use Rattle.wf_ast.specs.Tree.{Program}
 use Rattle.wf_model.specs.Config.{Call, Active, Config, After, To, NotNow, move_limit}
 use Rattle.wf_model.specs.Ready.{request_in, request_of}
-use Rattle.wf_model.specs.Run.{run_on, run, empty, Run}
+use Rattle.wf_model.specs.Run.{run_on, empty, Run}
 use Rattle.wf_model.specs.Step.{next, Step}
 use Rattle.wf_shared.specs.Events.{Event, Start}
 use Rattle.wf_shared.specs.HttpRequest.{Request}

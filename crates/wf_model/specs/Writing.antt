@@ -5,12 +5,12 @@
 --     settles, answered_in         running by the engine's choice
 use Rattle.wf_ast.specs.declared.tree.Op.TheVariants as op
 use Rattle.std.specs.Prelude.{◌≡◌, ℕ, zero, suc, List, [], ◌∷◌, replicate, pos, Some, None, codes, Option}
-use Rattle.wf_ast.specs.Tree.{Expr, no_exprs, Template, Scalar, Whole, Entry, Policy, Step, step, Body, parallel, OfBranches, Branches, no_branches, branch, try, no_except, Except, except, CallBody, Param, Flow, Program, steps, fields}
+use Rattle.wf_ast.specs.Tree.{Expr, no_exprs, Template, Scalar, Whole, Entry, Policy, Step, step, Body, parallel, OfBranches, Branches, no_branches, branch, try, Except, except, CallBody, Param, Flow, Program, steps, fields}
 use Rattle.wf_model.specs.Choose.{choose}
 use Rattle.wf_model.specs.Config.{Outcome, Returned, Raised, After, To, Wrong, NotNow}
 use Rattle.wf_model.specs.Run.{run}
 use Rattle.wf_model.specs.Step.{next}
-use Rattle.wf_value.specs.Data.{Data, integer, text}
+use Rattle.wf_value.specs.Data.{integer, text}
 use Rattle.wf_value.specs.Errors.{error_map}
 use Rattle.wf_value.specs.declared.Tag.{Tag}
 use Rattle.wf_shared.specs.Events.{Reply, Response, Event, Start}

@@ -31,5 +31,4 @@ pub fn laws_of_turns()
     ensures next_turn_goes_on { NextTurnGoesOn }
     ensures later_turn_does_not_count { LaterTurnDoesNotCount }
     ensures all_turns_are_the_run { AllTurnsAreTheRun }
-{
-}
+{}

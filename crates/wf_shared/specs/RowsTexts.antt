@@ -1,7 +1,7 @@
 -- Worked examples of the plain data: the library, requests, answers, bodies, retry policies and queues.
-use Rattle.std.specs.Prelude.{◌≡◌, ℕ, Bool, true, false, List, [], ◌∷◌, ◌++◌, length, replicate, pos, negsuc, Some, None, Ok, Err, codes, is_err}
+use Rattle.std.specs.Prelude.{◌≡◌, ℕ, Bool, true, false, List, [], ◌∷◌, ◌++◌, length, replicate, pos, Some, None, Ok, Err, codes, is_err}
 use Rattle.std.specs.List.{list_all}
-use Rattle.wf_value.specs.Data.{Data, null, integer, text, bytes, list, map, no_items, item, Pairs, no_pairs, pair, items_of}
+use Rattle.wf_value.specs.Data.{Data, null, integer, text, bytes, list, map, no_items, item, no_pairs, pair}
 use Rattle.wf_value.specs.Errors.{Answer, error_map}
 use Rattle.wf_value.specs.declared.Tag.TheVariants.{ConnectionError, IndexError, KeyError, ResponseTypeError, TimeoutError, TypeError, ValueError}
 use Rattle.wf_shared.specs.Events.{Get, Post, Headers, Visitor, Response, Routes}
