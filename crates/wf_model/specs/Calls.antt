@@ -1,7 +1,7 @@
 -- The calls of workflows and of functions.
 --     calls            what a call step does, by its name: a workflow, a function of expressions, or one of call steps alone
 --     issues_call      the same for a call of HTTP, which comes by an event of its own
-use Rattle.std.specs.Prelude.{ℕ, zero, suc, ◌+◌, ◌*◌, Bool, true, false, ◌&&◌, ◌||◌, List, [], ◌∷◌, length, ℤ, pos, if◌then◌else◌, nat_lt, nat_le, Some, None, Ok, Err, codes, bytes_eq, Option, unwrap_or}
+use Rattle.std.specs.Prelude.{ℕ, zero, suc, ◌+◌, ◌*◌, Bool, true, false, ◌&&◌, ◌||◌, List, [], ◌∷◌, length, ℤ, pos, if◌then◌else◌, nat_lt, nat_le, Some, None, Ok, Err, codes, bytes_eq, Option, unwrap_or, option_map}
 use Rattle.wf_ast.specs.Accept.{UnknownCall, BadArgument}
 use Rattle.wf_ast.specs.Apply.{apply}
 use Rattle.wf_ast.specs.Eval.{fill_fields}
@@ -26,10 +26,14 @@ use Rattle.wf_shared.specs.LibTime.{parsed_time}
 use Rattle.wf_value.specs.Pairs.{Text, get, keys}
 
 -- ## Workflows
--- the parameters' values, by the arguments and the defaults
+-- what an argument gives, and else the default
+abbrev pub value_for : Param → Pairs → Option Data
+value_for x args = first_of_two (get x.name args) x.default
+
+-- the parameters with their values; none where one has no value
 abbrev pub given : List Param → Pairs → Option (List (Text × Data))
 given [] args = Some []
-given (x ∷ xs) args = elim (given xs args) [ None ↦ None | Some rest ↦ elim (get x.name args) [ Some v ↦ Some ((x.name, v) ∷ rest) | None ↦ elim x.default [ Some v ↦ Some ((x.name, v) ∷ rest) | None ↦ None ] ] ]
+given (x ∷ xs) args = elim (value_for x args) [ None ↦ None | Some v ↦ option_map (λ rest. (x.name, v) ∷ rest) (given xs args) ]
 
 -- each argument has the name of a parameter
 abbrev pub is_param : Text → List Param → Bool
@@ -78,9 +82,13 @@ pub record Logged : Type 0 where
   pub severity : Severity
   pub value : Data
 
--- `text` must be a text; `data` and `json` may be any value
+-- `data` or `json`, which may be any value
+abbrev pub logged_any : Pairs → Data
+logged_any args = unwrap_or (first_of_two (get (codes "data") args) (get (codes "json") args)) null
+
+-- `text`, which must be a text, or one of these
 abbrev pub logged_value : Pairs → Answer Data
-logged_value args = elim (get (codes "text") args) [ Some v ↦ as_text (Some v) >>= λ t. Ok (text t) | None ↦ Ok (unwrap_or (first_of_two (get (codes "data") args) (get (codes "json") args)) null) ]
+logged_value args = elim (get (codes "text") args) [ None ↦ Ok (logged_any args) | Some v ↦ as_text (Some v) >>= λ t. Ok (text t) ]
 
 abbrev pub severity_text : Option Data → Answer Text
 severity_text None = Ok (codes "DEFAULT")

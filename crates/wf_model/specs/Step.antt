@@ -45,7 +45,9 @@ close (suc n) x c = record c { calls = slice_set c.calls n x }
 -- the answer is kept, and the task goes on, unless the sum of bodies would pass its limit
 abbrev pub replied : Program → ℕ → Reply → ℕ → Wait → Config → After
 replied p n a b (Calling m r) c =
-    if nat_le (c.bodies + reply_length a) body_limit then by_itself p b 0 (λ s l. resumed s r (reply_result a) l) (close n Answered (record c { bodies = c.bodies + reply_length a })) else To (stopped c)
+    if nat_le (c.bodies + reply_length a) body_limit
+    then by_itself p b 0 (λ s l. resumed s r (reply_result a) l) (close n Answered (record c { bodies = c.bodies + reply_length a }))
+    else To (stopped c)
 replied p n a b w c = NotNow
 
 -- an open call is answered

@@ -113,6 +113,11 @@ abbrev pub severity_in : List Severity → Text → Option Severity
 severity_in [] x = None
 severity_in (s ∷ ss) x = if bytes_eq x (severity_name s) then Some s else severity_in ss x
 
+abbrev pub severities : List Severity
+severities =
+    severity.Default ∷ severity.Debug ∷ severity.Info ∷ severity.Notice ∷ severity.Warning ∷ severity.Error ∷ severity.Critical
+    ∷ severity.Alert ∷ severity.Emergency ∷ []
+
 -- the severity of this name, in upper case
 abbrev pub severity_named : Text → Option Severity
-severity_named x = severity_in (severity.Default ∷ severity.Debug ∷ severity.Info ∷ severity.Notice ∷ severity.Warning ∷ severity.Error ∷ severity.Critical ∷ severity.Alert ∷ severity.Emergency ∷ []) x
+severity_named x = severity_in severities x

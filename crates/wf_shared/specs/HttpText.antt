@@ -76,10 +76,15 @@ json_body false b None = Err ResponseTypeError
 abbrev pub typed_body : Bool → Text → List ℕ → Answer Data
 typed_body lenient t b = elim (bytes_eq t json_type) [ true ↦ json_body lenient b (json_value b) | false ↦ if starts_with (codes "text/") t then Ok (text_or_bytes b) else Ok (bytes b) ]
 
+-- the media type that a message tells
+abbrev pub content_type : Headers → Text
+content_type fs = media_type (get (codes "Content-Type") (header_map fs))
+
 -- an empty body is null, and one with a Content-Encoding is bytes
 abbrev pub body_value : Bool → Headers → List ℕ → Answer Data
 body_value lenient fs [] = Ok null
-body_value lenient fs (b ∷ bs) = elim (values_of (codes "content-encoding") fs) [ [] ↦ typed_body lenient (media_type (get (codes "Content-Type") (header_map fs))) (b ∷ bs) | v ∷ vs ↦ Ok (bytes (b ∷ bs)) ]
+body_value lenient fs (b ∷ bs) =
+    elim (values_of (codes "content-encoding") fs) [ [] ↦ typed_body lenient (content_type fs) (b ∷ bs) | v ∷ vs ↦ Ok (bytes (b ∷ bs)) ]
 
 -- ## What a call and a callback give
 abbrev pub result_map : ℕ → Data → Data → Data
@@ -97,8 +102,12 @@ reply_result Broken = Err (error_map ConnectionError)
 reply_result TooLong = Err (error_map ResourceLimitError)
 reply_result (Response code fs b) = response_result code (map (header_map fs)) (body_value (nat_le 400 code) fs b)
 
+abbrev pub visit_pairs : Visitor → Data → List (Text × Data)
+visit_pairs v body = (codes "body", body) ∷ (codes "headers", map (header_map v.headers)) ∷ (codes "method", text (method_name v.method)) ∷ []
+
+-- a map of `http_request` alone
 abbrev pub visit_map : Visitor → Data → Data
-visit_map v body = map (map_of ((codes "http_request", map (map_of ((codes "body", body) ∷ (codes "headers", map (header_map v.headers)) ∷ (codes "method", text (method_name v.method)) ∷ []))) ∷ []))
+visit_map v body = map (map_of ((codes "http_request", map (map_of (visit_pairs v body))) ∷ []))
 
 abbrev pub visit_kept : Visitor → Answer Data → Result Data Data
 visit_kept v (Err t) = Err (error_map t)
