@@ -1,7 +1,7 @@
 -- Laws of steps and runs, for every program.
 use Rattle.std.specs.Prelude.{◌≡◌, ℕ, suc, ◌<◌, ◌≤◌, ◌≢◌, ◌⊎◌, List, [], ◌∷◌, ◌++◌, length, Some, None}
 use Rattle.wf_ast.specs.Tree.{Program}
-use Rattle.wf_model.specs.Config.{Call, Active, Config, After, To, NotNow, move_limit}
+use Rattle.wf_model.specs.Config.{Task, Call, Active, Config, After, To, NotNow, move_limit}
 use Rattle.wf_model.specs.Ready.{request_in, request_of}
 use Rattle.wf_model.specs.Run.{run_on, empty, Run}
 use Rattle.wf_model.specs.Step.{next, Step}
@@ -68,3 +68,16 @@ pub record Bounds (s : Start) (c : Config) : Type 0 where
 
 abbrev pub RunsAreBounded : Type 0
 RunsAreBounded = (p : Program) (s : Start) (es : List Event) (c : Config) → Run p s es c → Bounds s c
+
+-- the numbers of these tasks rise from one on, and are below another
+abbrev pub RisesFrom : ℕ → ℕ → List (ℕ × Task) → Type 0
+RisesFrom low made [] = Unit {0}
+RisesFrom low made (t ∷ ts) = (low ≤ t.0) × (t.0 < made) × RisesFrom (suc t.0) made ts
+
+-- the live tasks stand by rising number below the count of tasks made, which is at most the moves plus one
+pub record Numbered (c : Config) : Type 0 where
+  pub made : c.made ≤ suc c.moves
+  pub rises : RisesFrom 0 c.made c.tasks
+
+abbrev pub TasksAreNumbered : Type 0
+TasksAreNumbered = (p : Program) (s : Start) (es : List Event) (c : Config) → Run p s es c → Numbered c

@@ -2,10 +2,11 @@
 
 ghost use Rattle.wf_model.specs.ChoiceLaws.{NothingIsChosenWhenQuiet, NothingIsChosenBehindAnOutcome};
 ghost use Rattle.wf_model.specs.TurnLaws.{NextTurnGoesOn, LaterTurnDoesNotCount, AllTurnsAreTheRun};
-ghost use Rattle.wf_model.specs.RunLaws.{RunsJoin, FrontIsARun, StepGoesOn, RunsAgree, StepIsOne, NothingFollowsAnOutcome, StepsCount, StepsOnlyCloseCalls, RequestsStay, RunsAreBounded};
+ghost use Rattle.wf_model.specs.RunLaws.{RunsJoin, FrontIsARun, StepGoesOn, RunsAgree, StepIsOne, NothingFollowsAnOutcome, StepsCount, StepsOnlyCloseCalls, RequestsStay, RunsAreBounded, TasksAreNumbered};
 
 /// What holds of steps and runs: a run is put together from its parts, an event leads to at most one configuration, no event comes
-/// behind an outcome, readings don't fall, there are at most 100,000 moves, and the request of an open call never changes.
+/// behind an outcome, readings don't fall, there are at most 100,000 moves, the request of an open call never
+/// changes, and live tasks stand by rising number below the count of tasks made.
 pub fn laws_of_runs()
     ensures runs_join { RunsJoin }
     ensures front_is_a_run { FrontIsARun }
@@ -17,6 +18,7 @@ pub fn laws_of_runs()
     ensures steps_only_close_calls { StepsOnlyCloseCalls }
     ensures requests_stay { RequestsStay }
     ensures runs_are_bounded { RunsAreBounded }
+    ensures tasks_are_numbered { TasksAreNumbered }
 {}
 
 /// What holds of the engine's choice: it is none exactly where nothing can go on at the reading, or where there is an outcome.

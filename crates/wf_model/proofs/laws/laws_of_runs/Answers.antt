@@ -2,6 +2,7 @@
 use Rattle.wf_model.proofs.Bounds as bounds
 use Rattle.wf_model.proofs.Calls as calls
 use Rattle.wf_model.proofs.Counts as counts
+use Rattle.wf_model.proofs.Numbers as numbers
 use Rattle.wf_model.proofs.Runs as runs
 use Rattle.wf_model.proofs.laws.laws_of_runs.Goals as goal
 
@@ -34,3 +35,6 @@ returns-clause-requests_stay c = calls.requests_stay
 
 pub returns-clause-runs_are_bounded : goal.returns-clause-runs_are_bounded
 returns-clause-runs_are_bounded c = bounds.runs_are_bounded
+
+pub returns-clause-tasks_are_numbered : goal.returns-clause-tasks_are_numbered
+returns-clause-tasks_are_numbered c = numbers.tasks_are_numbered
