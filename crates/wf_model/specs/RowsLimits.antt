@@ -1,7 +1,7 @@
 -- Worked limits: where an execution meets one, and what it comes to then.
 use Rattle.std.specs.Prelude.{◌≡◌, ℕ, Bool, true, false, List, [], ◌∷◌, length, filter, replicate, Some, None, codes, Option}
 use Rattle.wf_ast.specs.Tree.{FlowNamed, Listed, no_templates, template, InList, Step, Body, loop, parallel, OfLoop, except, Program, steps}
-use Rattle.wf_model.specs.Config.{Item, Try, Outcome, Active, Raised, After, To, NotNow, task}
+use Rattle.wf_model.specs.Config.{Item, Try, Outcome, Active, Raised, After, To, NotNow, limits, task}
 use Rattle.wf_model.specs.Unwind.{calls_in}
 use Rattle.wf_model.specs.Run.{run_on, run}
 use Rattle.wf_model.specs.RowsRetries.{policy_of}
@@ -123,6 +123,10 @@ abbrev pub ThirdParallelStepRaises : Type 0
 ThirdParallelStepRaises = nested_outcome start inner_parallel ≡ Some (Raised (in_branch (codes "x") (in_branch (codes "y") (error_map ParallelNestingError))))
 
 -- ## Variables
+-- the first rules, and the later ones
+abbrev pub RulesNameTheLimits : Type 0
+RulesNameTheLimits = (limits 1 ≡ record { variables = 65536; nesting = 1 }) × (limits 2 ≡ record { variables = 524288; nesting = 2 })
+
 -- x is a text of so many letters; return 1. The total of variables is five more: two and the name's length, and two for a text
 abbrev pub holding : ℕ → Program
 holding n = main_of (st (codes "a") (assigns (codes "x") (said (replicate n 97))) ∷ st (codes "r") (Body.Return (num 1)) ∷ [])
