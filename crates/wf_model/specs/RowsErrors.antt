@@ -1,11 +1,12 @@
 -- Worked errors: how a task leaves what it stands in, and which `except` sees the error.
-use Rattle.std.specs.Prelude.{◌≡◌, ℕ, false, List, [], ◌∷◌, Some, None, codes}
-use Rattle.wf_ast.specs.Tree.{InRange, Step, Body, loop, no_except, Except, except, Program, steps}
+use Rattle.wf_ast.specs.declared.tree.Op.TheVariants as op
+use Rattle.std.specs.Prelude.{◌≡◌, ℕ, zero, suc, true, false, List, [], ◌∷◌, pos, Some, None, codes}
+use Rattle.wf_ast.specs.Tree.{Expr, Scalar, Whole, Listed, no_templates, InRange, Step, Body, loop, no_except, Except, except, Program, steps, exprs}
 use Rattle.wf_model.specs.Config.{Layer, Task, Raised, After, To}
 use Rattle.wf_model.specs.Run.{run}
-use Rattle.wf_model.specs.Writing.{num, said, var, assigns, st, call_of, flow_of, main_of, main_and, param, try_steps, returns_error, start, moves_of, gives_number, gives_text, raises_tag, ComesTo}
-use Rattle.wf_value.specs.Data.{Data, text, no_pairs, pair}
-use Rattle.wf_value.specs.declared.Tag.TheVariants.{KeyError}
+use Rattle.wf_model.specs.Writing.{num, said, var, one, assigns, st, call_of, flow_of, main_of, main_and, param, try_steps, returns_error, start, moves_of, gives_number, gives_text, raises_tag, ComesTo}
+use Rattle.wf_value.specs.Data.{Data, null, boolean, integer, text, list, no_items, item, no_pairs, pair}
+use Rattle.wf_value.specs.declared.Tag.TheVariants.{KeyError, ResourceLimitError, TypeError, ZeroDivisionError}
 use Rattle.wf_value.specs.Pairs.{Text}
 
 -- ## To the nearest try
@@ -83,3 +84,48 @@ returning_in_try = main_and (st (codes "c") (call_of (codes "f") [] (Some (codes
 
 abbrev pub ReturnLeavesATry : Type 0
 ReturnLeavesATry = ComesTo returning_in_try (moves_of 4) (gives_number 3) 4
+
+-- ## Which error comes first
+abbrev pub by_zero : Expr
+by_zero = Expr.Bin op.Rem one (Expr.Lit (integer (pos 0)))
+
+abbrev pub text_a : Expr
+text_a = Expr.Lit (text (codes "a"))
+
+-- both ends of a range are evaluated before their kinds are looked at
+abbrev pub RangeIsEvaluatedFirst : Type 0
+RangeIsEvaluatedFirst =
+    ComesTo (main_of (st (codes "l") (Body.For (loop (codes "v") None (InRange (Whole text_a) (Whole by_zero)) (steps (raises_boom ∷ [])))) ∷ [])) (moves_of 1) (raises_tag ZeroDivisionError) 1
+
+-- y[place]: value, where no y was assigned
+abbrev pub assigning_at : Expr → Expr → Program
+assigning_at place value = main_of (
+    st (codes "a") (Body.Assign (
+    record { target = record { name = codes "y"; places = exprs (place ∷ []); written = codes "y[..]" }; value = Whole value } ∷ [])) ∷ [])
+
+-- the right side comes before the places
+abbrev pub RightSideComesFirst : Type 0
+RightSideComesFirst = ComesTo (assigning_at by_zero (Expr.Bin op.Add one text_a)) (moves_of 1) (raises_tag TypeError) 1
+
+-- the places come before the variable, and the variable before the kind of a place
+abbrev pub PlacesComeBeforeTheVariable : Type 0
+PlacesComeBeforeTheVariable = ComesTo (assigning_at by_zero one) (moves_of 1) (raises_tag ZeroDivisionError) 1
+
+abbrev pub MissingVariableIsAKeyError : Type 0
+MissingVariableIsAKeyError = ComesTo (assigning_at (Expr.Lit (boolean true)) one) (moves_of 1) (raises_tag KeyError) 1
+
+-- the arguments of a call come before the call itself
+abbrev pub ArgumentsComeFirst : Type 0
+ArgumentsComeFirst = ComesTo (main_of (st (codes "c") (call_of (codes "list.concat") ((codes "objs", num 1) ∷ (codes "val", Whole by_zero) ∷ []) None) ∷ [])) (moves_of 1) (raises_tag ZeroDivisionError) 1
+
+-- a result keeps the limit on nesting also where no variable takes it
+abbrev pub nested_lists : ℕ → Data
+nested_lists zero = null
+nested_lists (suc n) = list (item (nested_lists n) no_items)
+
+abbrev pub concatenating : ℕ → Program
+concatenating n = main_of (st (codes "c") (call_of (codes "list.concat") ((codes "objs", Listed no_templates) ∷ (codes "val", Scalar (nested_lists n)) ∷ []) None) ∷ st (codes "r") (Body.Return (num 1)) ∷ [])
+
+abbrev pub NestingOfAResultIsLimited : Type 0
+NestingOfAResultIsLimited =
+    ComesTo (concatenating 99) (moves_of 2) (gives_number 1) 2 × ComesTo (concatenating 100) (moves_of 1) (raises_tag ResourceLimitError) 1

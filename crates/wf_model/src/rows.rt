@@ -2,7 +2,7 @@
 //! an example, and the check carries it out.
 
 ghost use Rattle.wf_model.specs.RowsRuns.{ReturnGivesItsValue, NothingFollowsAReturn, SumOutOfRangeRaises, RaisedNumberIsATypeError, ArgumentIsBound, LoopSumsToTenInTwelveMoves, BreakLeavesTheLoop, ContinueGoesToTheNextIteration, JumpOutOfALoopIsWrong, JumpToNoStepIsWrong, BreakOutsideALoopIsWrong, NextBesideABodyIsAMove, NextAloneIsOneMove, PlaceIsAssigned, ParametersTakeArgumentsAndDefaults, CallHidesTheCallersNames, EntryDecidesTheEvent, ClockIsNotReadByAMove, FirstEntryTakesNoReading, ReadingsDoNotFall};
-ghost use Rattle.wf_model.specs.RowsErrors.{ErrorLeavesNestedSteps, ErrorPassesATryWithoutExcept, ExceptDoesNotCatchItself, UncaughtErrorIsTheOutcome, ErrorLeavesALoopAndACall, ErrorTakesLayersAlong, CaughtErrorLeavesTheCallsNames, ExceptsLayerEnds, ReturnLeavesATry};
+ghost use Rattle.wf_model.specs.RowsErrors.{ErrorLeavesNestedSteps, ErrorPassesATryWithoutExcept, ExceptDoesNotCatchItself, UncaughtErrorIsTheOutcome, ErrorLeavesALoopAndACall, ErrorTakesLayersAlong, CaughtErrorLeavesTheCallsNames, ExceptsLayerEnds, ReturnLeavesATry, RangeIsEvaluatedFirst, RightSideComesFirst, PlacesComeBeforeTheVariable, MissingVariableIsAKeyError, ArgumentsComeFirst, NestingOfAResultIsLimited};
 ghost use Rattle.wf_model.specs.RowsRetries.{FiveDelaysUnderTheDefaultPolicy, NoDelayEndsEarly, DelayCountsFromTheAnswer, OtherCodesAreNotRetried, PredicateSaysYes, PredicateSaysNo, NoRetriesDoNotAsk, OtherAnswersPassTheTry, ErrorsOfThePredicatePassTheTry};
 ghost use Rattle.wf_model.specs.RowsBranches.{BothReadAndThenBothWrite, OneBranchAfterTheOther, EngineChoosesInTurn, SharedWriteIsSeenOutside, NewNameStaysInTheBranch, UndeclaredWriteIsWrong, HundredInTheOrderOfCalls, HundredOneBranchFirst, JoinTellsTheErrorOfABranch, JoinWaitsForEachBranch, ErrorsStandInBranchOrder, ContinueEndsAnIteration, BothCallsAreMade, LimitKeepsTheSecondBack, EndedBranchMakesRoom, TwentyRunAtOnce, QuietUntilTheLeastDueMoment, ChoiceTakesTheGreaterReading, CancellingKeepsTasksAndCalls, CancellingIsNoMove, NothingFollowsCancelling};
 ghost use Rattle.wf_model.specs.RowsLimits.{TenThousandMoves, MoveBeforeTheLimit, MoveAtTheLimit, LimitPassesEachTry, NothingFollowsTheLimit, TwentyCallsInEachOther, TwentyFirstCallRaises, PredicateCountsTheCallsOutside, SecondParallelStepRuns, SecondRaisesUnderTheFirstRules, ThirdParallelStepRaises, RulesNameTheLimits, FirstRulesHold65536, OneMoreRaises, LaterRulesHoldMore, BeginPastTheLimitKeepsItsError};
@@ -45,6 +45,12 @@ pub fn worked_errors()
     ensures caught_error_leaves_the_calls_names { CaughtErrorLeavesTheCallsNames }
     ensures excepts_layer_ends { ExceptsLayerEnds }
     ensures return_leaves_a_try { ReturnLeavesATry }
+    ensures range_is_evaluated_first { RangeIsEvaluatedFirst }
+    ensures right_side_comes_first { RightSideComesFirst }
+    ensures places_come_before_the_variable { PlacesComeBeforeTheVariable }
+    ensures missing_variable_is_a_key_error { MissingVariableIsAKeyError }
+    ensures arguments_come_first { ArgumentsComeFirst }
+    ensures nesting_of_a_result_is_limited { NestingOfAResultIsLimited }
 {}
 
 /// Bodies that are tried again, the delays between, and who decides.
