@@ -1,11 +1,13 @@
 -- When nothing is chosen.
-use Rattle.std.specs.Prelude.{◌≡◌, ℕ, ◌%◌, max, Bool, true, false, not, ◌&&◌, ◌||◌, ◌≢◌, List, [], ◌∷◌, if◌then◌else◌, nat_le, Some, None, Option, option_map}
+use Rattle.std.specs.Prelude.{◌≡◌, ℕ, ◌%◌, max, Bool, true, false, not, ◌&&◌, ◌||◌, ◌≢◌, ◌⊎◌, List, [], ◌∷◌, if◌then◌else◌, nat_le, Some, None, Option, option_map}
 use Rattle.std.proofs.Math.Dec.{leb-zero}
-use mathlib.Core.Path.{refl, sym, ◌∙◌}
+use Rattle.std.proofs.Common.{inl, inr}
+use mathlib.Core.Path.{refl, sym, subst, ◌∙◌}
 use Rattle.wf_ast.specs.Tree.{Program}
-use Rattle.wf_model.specs.ChoiceLaws.{NothingIsChosenWhenQuiet, NothingIsChosenBehindAnOutcome}
-use Rattle.wf_model.specs.Choose.{first_due, first_begin, first_ready, next_ready, ready_event, chosen_event, choose}
+use Rattle.wf_model.specs.ChoiceLaws.{NothingIsChosenWhenQuiet, NothingIsChosenBehindAnOutcome, reading_of, ChoiceTakesTheReading}
+use Rattle.wf_model.specs.Choose.{wanted, first_due, first_begin, first_ready, next_ready, ready_event, chosen_event, choose}
 use Rattle.wf_model.specs.Config.{Outcome, Active, Returned, Raised, Cancelled, Task, Config}
+use Rattle.wf_model.specs.Kinds.{NextKind, Plainly, ByClock, ByCall, next_kind}
 use Rattle.wf_model.specs.Ready.{is_ready, may_begin, is_due, none_goes_on, quiet}
 use Rattle.wf_shared.specs.Events.{Event}
 use Rattle.wf_shared.specs.HttpUrl.{first_of_two}
@@ -110,3 +112,46 @@ nothing_is_chosen_when_quiet p c r a =
 
 pub nothing_is_chosen_behind_an_outcome : NothingIsChosenBehindAnOutcome
 nothing_is_chosen_behind_an_outcome p c r h = ended_chooses c.outcome (chosen_event p c r (max r c.last)) h
+
+-- ## The reading of the choice
+-- a fact of the event, if there is one
+abbrev Chosen : (Event → Type 0) → Option Event → Type 0
+Chosen P None = Unit {0}
+Chosen P (Some e) = P e
+
+chosen_so : (P : Event → Type 0) (o : Option Event) (e : Event) → Chosen P o → o ≡ Some e → P e
+chosen_so P o e h i = subst (Chosen P) i h
+
+first_so : (P : Event → Type 0) (x y : Option Event) → Chosen P x → Chosen P y → Chosen P (first_of_two x y)
+first_so P None y h k = k
+first_so P (Some e) y h k = h
+
+mapped_so : {A : Type 0} (P : Event → Type 0) (f : A → Event) (x : Option A) → ((a : A) → P (f a)) → Chosen P (option_map f x)
+mapped_so P f None h = tt
+mapped_so P f (Some a) h = h a
+
+abbrev ReadAt : ℕ → Event → Type 0
+ReadAt now e = (reading_of e ≡ None) ⊎ (reading_of e ≡ Some now)
+
+wanted_reads : (k : NextKind) (b now : ℕ) → ReadAt now (wanted k b now)
+wanted_reads Plainly b now = inl refl
+wanted_reads ByClock b now = inr refl
+wanted_reads ByCall b now = inr refl
+
+event_reads : (p : Program) (c : Config) (r now : ℕ) → Chosen (ReadAt now) (chosen_event p c r now)
+event_reads p c r now =
+    first_so (ReadAt now) (option_map (λ b. Event.Due b now) (first_due c r c.tasks)) (first_of_two (option_map Event.Begin (first_begin c.tasks)) (option_map (ready_event p now) (next_ready c)))
+    (mapped_so (ReadAt now) (λ b. Event.Due b now) (first_due c r c.tasks) (λ b. inr refl))
+    (first_so (ReadAt now) (option_map Event.Begin (first_begin c.tasks)) (option_map (ready_event p now) (next_ready c))
+    (mapped_so (ReadAt now) Event.Begin (first_begin c.tasks) (λ b. inl refl))
+    (mapped_so (ReadAt now) (ready_event p now) (next_ready c) (λ t. wanted_reads (next_kind p t.1.control) t.0 now)))
+
+active_reads : (P : Event → Type 0) (o : Outcome) (x : Option Event) → Chosen P x → Chosen P (if_active o x)
+active_reads P Active x h = h
+active_reads P (Returned v) x h = tt
+active_reads P (Raised v) x h = tt
+active_reads P Cancelled x h = tt
+
+pub choice_takes_the_reading : ChoiceTakesTheReading
+choice_takes_the_reading p c r e h =
+    chosen_so (ReadAt (max r c.last)) (choose p c r) e (active_reads (ReadAt (max r c.last)) c.outcome (chosen_event p c r (max r c.last)) (event_reads p c r (max r c.last))) h

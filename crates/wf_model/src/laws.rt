@@ -1,6 +1,6 @@
 //! Laws of the language's meaning, for every program. The functions do nothing; each of their clauses is a law.
 
-ghost use Rattle.wf_model.specs.ChoiceLaws.{NothingIsChosenWhenQuiet, NothingIsChosenBehindAnOutcome};
+ghost use Rattle.wf_model.specs.ChoiceLaws.{NothingIsChosenWhenQuiet, NothingIsChosenBehindAnOutcome, ChoiceTakesTheReading};
 ghost use Rattle.wf_model.specs.TurnLaws.{NextTurnGoesOn, LaterTurnDoesNotCount, AllTurnsAreTheRun};
 ghost use Rattle.wf_model.specs.RunLaws.{RunsJoin, FrontIsARun, StepGoesOn, RunsAgree, StepIsOne, NothingFollowsAnOutcome, StepsCount, StepsOnlyCloseCalls, RequestsStay, RunsAreBounded, TasksAreNumbered};
 
@@ -21,10 +21,12 @@ pub fn laws_of_runs()
     ensures tasks_are_numbered { TasksAreNumbered }
 {}
 
-/// What holds of the engine's choice: it is none exactly where nothing can go on at the reading, or where there is an outcome.
+/// What holds of the engine's choice: it is none exactly where nothing can go on at the reading, or where there is an outcome, and
+/// its reading is the given one or the last one, whichever is greater.
 pub fn laws_of_choice()
     ensures nothing_is_chosen_when_quiet { NothingIsChosenWhenQuiet }
     ensures nothing_is_chosen_behind_an_outcome { NothingIsChosenBehindAnOutcome }
+    ensures choice_takes_the_reading { ChoiceTakesTheReading }
 {}
 
 /// What holds of the configuration after the turns of a journal up to a session and its waits: each turn before that point leads on, and

@@ -7,3 +7,6 @@ returns-clause-nothing_is_chosen_when_quiet c = choice.nothing_is_chosen_when_qu
 
 pub returns-clause-nothing_is_chosen_behind_an_outcome : goal.returns-clause-nothing_is_chosen_behind_an_outcome
 returns-clause-nothing_is_chosen_behind_an_outcome c = choice.nothing_is_chosen_behind_an_outcome
+
+pub returns-clause-choice_takes_the_reading : goal.returns-clause-choice_takes_the_reading
+returns-clause-choice_takes_the_reading c = choice.choice_takes_the_reading
