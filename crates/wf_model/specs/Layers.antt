@@ -1,4 +1,7 @@
 -- Layers: which variables a task sees, and what an assignment changes.
+--     held, view        what a task sees
+--     opened, enter     a new layer with its names
+--     assign            what an assignment leads to
 use Rattle.std.specs.Prelude.{ℕ, zero, suc, ◌+◌, Bool, true, false, ◌&&◌, List, [], ◌∷◌, pos, negsuc, if◌then◌else◌, nat_le, slice_get, slice_set, Some, None, Ok, Err, Option}
 use Rattle.wf_ast.specs.Apply.{View}
 use Rattle.wf_model.specs.Config.{Layer, limits}
@@ -11,12 +14,13 @@ use Rattle.wf_shared.specs.HttpRequest.{is_among}
 use Rattle.wf_value.specs.Pairs.{Text, items, get, put}
 
 -- ## What a task sees
--- where a variable stands: in an own layer, in one outside, or nowhere
+-- where a variable stands: in an own layer, in one outside, or nowhere. `above` counts the layers inside that one
 pub data Held : Type 0 where
   Own : (above : ℕ) → Data → Held
   Outside : (above : ℕ) → (shared : List (List Text)) → Data → Held
   Nowhere : Held
 
+-- in the innermost layer outside that has the name
 abbrev pub held_outside : Text → ℕ → List Outer → Held
 held_outside x n [] = Nowhere
 held_outside x n (o ∷ os) = elim (get x o.layer.vars) [ Some v ↦ Outside n o.shared v | None ↦ held_outside x (suc n) os ]
@@ -27,6 +31,7 @@ held_in x n [] outside = outside
 held_in x n (l ∷ ls) outside =
     elim (get x l.vars) [ Some v ↦ Own n v | None ↦ if l.by_call then Nowhere else held_in x (suc n) ls outside ]
 
+-- where a task sees a variable
 abbrev pub held : Text → Local → Held
 held x l = held_in x 0 l.layers (held_outside x 0 l.outer)
 
@@ -50,11 +55,13 @@ bound limit rest (x ∷ xs) ps =
 abbrev pub opened : Scene → Local → List (Text × Data) → Answer Pairs
 opened s l xs = bound (limits s.facts.rules).variables (total s l) xs no_pairs
 
+-- the task inside a new layer, and whether a call opened it
 abbrev pub enter : Bool → Pairs → Local → Local
 enter by_call ps l = record l { layers = record { vars = ps; by_call = by_call } ∷ l.layers }
 
 -- ## Assignments
--- the value with this one put at the places below it
+-- The value with a new one put at the places below it. A missing last key of a map is added; another missing key, an index outside its
+-- list and any other access are errors.
 abbrev pub written : List Data → Data → Data → Answer Data
 written [] v new = Ok new
 written (text k ∷ []) (map ps) new = Ok (map (put k new ps))
@@ -64,11 +71,12 @@ written (integer (pos i) ∷ ks) (list vs) new =
 written (integer (negsuc i) ∷ ks) (list vs) new = Err IndexError
 written ks v new = Err TypeError
 
--- a variable that is made_new has no places
+-- a variable that isn't there has no places
 abbrev pub made_new : List Data → Data → Answer Data
 made_new [] v = Ok v
 made_new (k ∷ ks) v = Err KeyError
 
+-- with the variable in the layer that stands so many further out
 abbrev pub put_layer : ℕ → Text → Data → List Layer → List Layer
 put_layer n x v [] = []
 put_layer zero x v (l ∷ ls) = record l { vars = put x v l.vars } ∷ ls
@@ -90,24 +98,27 @@ pub data Assigned : Type 0 where
   Refused : Tag → Assigned
   Undeclared : Assigned
 
--- within the limits, or not
+-- the task with this value assigned, if the total of variables and the value's nesting are within their limits
 abbrev pub within_limits : Scene → Data → Local → Assigned
 within_limits s v l = if nat_le (total s l) (limits s.facts.rules).variables && nat_le (depth v) 100 then Done l else Refused ResourceLimitError
 
+-- in an own layer
 abbrev pub put_own : Scene → Text → ℕ → Answer Data → Local → Assigned
 put_own s x n (Err t) l = Refused t
 put_own s x n (Ok v) l = within_limits s v (record l { layers = put_layer n x v l.layers })
 
+-- in a layer outside, where the name must be shared
 abbrev pub put_outside : Scene → Text → ℕ → Bool → Answer Data → Local → Assigned
 put_outside s x n shared (Err t) l = Refused t
 put_outside s x n false (Ok v) l = Undeclared
 put_outside s x n true (Ok v) l = within_limits s v (record l { outer = put_outer n x v l.outer })
 
--- a name that a visible layer has is changed there, and else made_new in the innermost layer
+-- a name that a visible layer has is changed there, and else it is made in the innermost layer
 abbrev pub assign_at : Scene → Text → List Data → Data → Held → Local → Assigned
 assign_at s x ks v (Own n w) l = put_own s x n (written ks w v) l
 assign_at s x ks v (Outside n shared w) l = put_outside s x n (all_share x shared) (written ks w v) l
 assign_at s x ks v Nowhere l = put_own s x 0 (made_new ks v) l
 
+-- the value goes to the name, or to the places below it
 abbrev pub assign : Scene → Text → List Data → Data → Local → Assigned
 assign s x ks v l = assign_at s x ks v (held x l) l

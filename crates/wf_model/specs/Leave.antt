@@ -1,4 +1,7 @@
 -- How a task goes on: with a value, an error, a return or a jump.
+--     raises, on        an error goes outward; an answer's value is used, or its error raised
+--     gives, handed     a value goes into the variable that a step names
+--     returns, jumps    to the caller, or to another step
 use Rattle.std.specs.Prelude.{Bool, List, [], ◌∷◌, if◌then◌else◌, Some, None, Ok, Err, codes, bytes_eq, Option, Result}
 use Rattle.std.specs.List.{list_any}
 use Rattle.wf_ast.specs.Accept.{Kind, UnknownStep, JumpOutOfScope, BreakOutsideLoop, ReturnInBranch, UndeclaredWrite}
@@ -23,6 +26,7 @@ abbrev pub on : {A : Type 0} → Scene → List Item → Local → Answer A → 
 on s k l (Err t) f = raises s k l (error_map t)
 on s k l (Ok a) f = f a
 
+-- goes on behind an assignment, or raises its error
 abbrev pub on_assigned : Scene → List Item → Local → Assigned → Moved
 on_assigned s k l (Done m) = goes k m
 on_assigned s k l (Refused t) = raises s k l (error_map t)
@@ -44,20 +48,24 @@ abbrev pub given_to : Scene → Option Text → Data → List Item → Local →
 given_to s r v (Judge t n d e ∷ k) l = answered s v t n d e k l
 given_to s r v k l = gives s r v k l
 
+-- without a call the execution has returned, and no branch returns
 abbrev pub returns_in : Root → Data → Local → Moved
 returns_in Main v l = Ends (Gives v) l
 returns_in Branch v l = Breaks ReturnInBranch
 returns_in Iteration v l = Breaks ReturnInBranch
 
+-- by where the innermost call stands, whose layer ends
 abbrev pub returned : Scene → Data → Local → Found → Moved
 returned s v l (Stands (Back r ∷ k) m) = given_to s r v k (leave m)
 returned s v l (Stands k m) = Not
 returned s v l AtEnd = returns_in s.root v l
 returned s v l NotFound = Not
 
+-- a return with this value from inside these items
 abbrev pub returns : Scene → Data → List Item → Local → Moved
 returns s v k l = returned s v l (to_back k l)
 
+-- a step of any of these workflows has the name
 abbrev pub names_step : List Flow → Text → Bool
 names_step fs x = list_any (λ f. is_among x (step_names f.steps)) fs
 
@@ -65,6 +73,7 @@ names_step fs x = list_any (λ f. is_among x (step_names f.steps)) fs
 abbrev pub no_step : Program → Text → Kind
 no_step p x = if names_step p.flows x then JumpOutOfScope else UnknownStep
 
+-- to the loop, or to the end of a parallel loop's iteration
 abbrev pub continues : Scene → Local → Found → Moved
 continues s l (Stands k m) = goes k m
 continues s l AtEnd = elim s.root [ Iteration ↦ goes [] l | _ ↦ Breaks BreakOutsideLoop ]
@@ -75,6 +84,7 @@ abbrev pub breaks : Found → Moved
 breaks (Stands (i ∷ k) m) = goes k m
 breaks f = Breaks BreakOutsideLoop
 
+-- to the step that was found
 abbrev pub jumps_to : Scene → Text → Found → Moved
 jumps_to s x (Stands k m) = goes k m
 jumps_to s x f = Breaks (no_step s.program x)

@@ -20,6 +20,7 @@ pub record Outer : Type 0 where
   pub layer : Layer
   pub shared : List (List Text)
 
+-- a task without its parent, and what it sees outside
 pub record Local : Type 0 where
   pub control : List Item
   -- the task's own, innermost first
@@ -34,6 +35,7 @@ pub data Root : Type 0 where
   Branch : Root
   Iteration : Root
 
+-- what stays the same during a move
 pub record Scene : Type 0 where
   pub program : Program
   pub facts : Facts
@@ -48,9 +50,11 @@ pub record Scene : Type 0 where
   pub nesting : ℕ
   -- the total of the variables in all layers that the task doesn't see
   pub others : ℕ
+  -- the last reading, and that of every `sys.now`
   pub last : ℕ
   pub now : ℕ
 
+-- how a task ends
 pub data End : Type 0 where
   Gives : Data → End
   Fails : Data → End
@@ -62,6 +66,7 @@ pub data Effect : Type 0 where
   Takes : (endpoint : ℕ) → Effect
   Logs : Severity → Data → Effect
 
+-- what a move leads to
 pub data Moved : Type 0 where
   -- the task goes on, or waits
   Goes : Local → Moved
@@ -69,7 +74,9 @@ pub data Moved : Type 0 where
   Ends : End → Local → Moved
   -- something is done beside the task, and then it moves so
   Does : Effect → Moved → Moved
+  -- what no accepted program does
   Breaks : Kind → Moved
+  -- the task can't move so
   Not : Moved
 
 -- ## Layers
@@ -81,6 +88,7 @@ abbrev pub outers_total : List Outer → ℕ
 outers_total [] = 0
 outers_total (o ∷ os) = pairs_size o.layer.vars + outers_total os
 
+-- the total of the variables in all live layers
 abbrev pub total : Scene → Local → ℕ
 total s l = layers_total l.layers + outers_total l.outer + s.others
 
@@ -102,6 +110,7 @@ abbrev pub ended : List Item → Local → Moved
 ended [] l = Ends (Gives null) l
 ended (i ∷ k) l = Goes l
 
+-- the task goes on, or has ended
 abbrev pub settled : Local → Moved
 settled l = ended l.control l
 
@@ -109,5 +118,6 @@ settled l = ended l.control l
 abbrev pub goes : List Item → Local → Moved
 goes k l = settled (settle k l)
 
+-- the task waits at this control, which isn't settled until the wait has ended
 abbrev pub waits : Wait → List Item → Local → Moved
 waits w k l = Goes (record l { control = k; wait = w })

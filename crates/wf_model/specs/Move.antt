@@ -18,11 +18,12 @@ use Rattle.wf_value.specs.declared.Tag.TheVariants.{ParallelNestingError, Timeou
 use Rattle.wf_value.specs.Pairs.{Text, items}
 
 -- ## Steps
+-- a `next` stands outside the body that it is beside
 abbrev pub then_item : Option Text → List Item → List Item
 then_item None k = k
 then_item (Some x) k = Then x ∷ k
 
--- one step without a name, to which no jump leads
+-- an arm's body, or a call inside a `try`: one step without a name, to which no jump leads
 abbrev pub lone : Body → Option Text → Item
 lone body next = Do no_steps (unnamed body next)
 
@@ -46,6 +47,7 @@ abbrev pub arm_items : Body → Option Text → List Item → List Item
 arm_items Body.Nothing None k = k
 arm_items body next k = lone body next ∷ k
 
+-- no arm was chosen, or this one
 abbrev pub in_arm : Option (Body × Option Text) → List Item → List Item
 in_arm None k = k
 in_arm (Some a) k = arm_items a.0 a.1 k
@@ -55,15 +57,18 @@ abbrev pub list_left : Data → Answer Left
 list_left (list vs) = Ok (OfList (items vs))
 list_left v = Err TypeError
 
+-- both ends of a range are evaluated before their kinds are looked at
 abbrev pub over : View → Over → Answer Left
 over s (InList t) = fill t s >>= list_left
 over s (InRange t u) = fill t s >>= λ v. fill u s >>= λ w. whole v >>= λ m. whole w >>= λ n. Ok (range_left m n)
 
--- ### Parallel steps
+-- ## Parallel steps
+-- the branches, or the values of a loop
 abbrev pub work : View → ParallelBody → Answer WorkLeft
 work v (parallel names limit (OfBranches bs)) = Ok (BranchesLeft bs)
 work v (parallel names limit (OfLoop (loop x i o ss))) = over v o >>= λ left. Ok (ValuesLeft (counted_left left))
 
+-- in a task that is as deep as the limit nothing is evaluated
 abbrev pub forks : Scene → ParallelBody → List Item → Local → Moved
 forks s body k l =
     if nat_le (limits s.facts.rules).nesting s.nesting then raises s k l (error_map ParallelNestingError) else
@@ -79,38 +84,45 @@ abbrev pub name_of : ParallelBody → ℕ → Text
 name_of (parallel names limit (OfBranches bs)) n = branch_name bs n
 name_of (parallel names limit (OfLoop l)) n = decimal n
 
+-- a map from its name to its error for each branch that kept one
 abbrev pub error_list : ParallelBody → List (ℕ × Data) → List Data
 error_list body [] = []
 error_list body (e ∷ es) = map (pair (name_of body e.0) e.1 no_pairs) ∷ error_list body es
 
+-- the error of a parallel step; one that nests too deep is a ResourceLimitError
 abbrev pub join_error : ParallelBody → List (ℕ × Data) → Data
 join_error body es = nested_error (error_with UnhandledBranchError (tag_message UnhandledBranchError) ((codes "branches", list (items_of (error_list body es))) ∷ []))
 
+-- a parallel step whose branches have all ended: its end, or its error
 abbrev pub joins : Scene → ParallelBody → List (ℕ × Data) → List Item → Local → Moved
 joins s body [] k l = goes k l
 joins s body (e ∷ es) k l = raises s k l (join_error body (e ∷ es))
 
--- ### Raise
+-- ## Raises
+-- a text or a map
 abbrev pub raised : Data → Answer Data
 raised (text t) = Ok (text t)
 raised (map ps) = Ok (map ps)
 raised v = Err TypeError
 
--- ### A loop's next iteration, or its end
+-- ## Loops
+-- the names that an iteration binds, the value before the index
 abbrev pub loop_names : LoopBody → Data → ℕ → List (Text × Data)
 loop_names (loop x None o ss) v i = (x, v) ∷ []
 loop_names (loop x (Some y) o ss) v i = (x, v) ∷ (y, integer (pos i)) ∷ []
 
+-- the steps of an iteration
 abbrev pub loop_steps : LoopBody → Steps
 loop_steps (loop x y o ss) = ss
 
+-- a loop's next iteration, or its end
 abbrev pub turns : Scene → LoopBody → Option (Data × Left) → ℕ → List Item → Local → Moved
 turns s b None i k l = goes k l
 turns s b (Some n) i k l =
     on s k l (opened s l (loop_names b n.0 i)) λ ps. goes (Do (loop_steps b) (loop_steps b) ∷ Mark ∷ Loop b n.1 (suc i) ∷ k) (enter false ps l)
 
 -- ## Moves
--- a body is carried out; k is what stands outside it, its `next` among that
+-- a body is carried out; k is what stands outside it, its `next` among that. An assign carries out its first entry in the same move
 abbrev pub performs : Scene → Body → List Item → Local → Moved
 performs s Body.Nothing k l = goes k l
 performs s (Body.Assign []) k l = goes k l
@@ -139,18 +151,21 @@ moves s (Back r ∷ k) l = returns s null (Back r ∷ k) l
 moves s (Join body left n [] es ∷ k) l = if is_empty left then joins s body es k l else Not
 moves s k l = Not
 
+-- the move of a task
 abbrev pub move : Scene → Local → Moved
 move s l = moves s l.control l
 
--- the move of a task that stands before a call of HTTP
+-- by the control of a task that stands before a call of HTTP
 abbrev pub issues : Scene → List Item → Local → Moved
 issues s (Do block (more (step x (Body.Call f) next) left) ∷ k) l = issues_call s f (http_method (special_named f.name)) (then_item next (Do block left ∷ k)) l
 issues s k l = Not
 
+-- the move of a task that makes a request
 abbrev pub issue : Scene → Local → Moved
 issue s l = issues s l.control l
 
 -- ## What a task waited for
+-- without a wait
 abbrev pub awake : Local → Local
 awake l = record l { wait = Awake }
 
@@ -163,6 +178,7 @@ abbrev pub retries : List Item → Local → Moved
 retries (Try (try body policy x) n d ∷ k) l = goes (entered body ∷ Try (try body policy x) n d ∷ k) l
 retries k l = Not
 
+-- what a call or an await raises that is due
 abbrev pub timeout_error : Result Data Data
 timeout_error = Err (error_map TimeoutError)
 
@@ -174,5 +190,6 @@ due_by s (Delay t) l = retries l.control (awake l)
 due_by s (Calling n r) l = resumed s r timeout_error l
 due_by s (Await n t r) l = resumed s r timeout_error l
 
+-- how a task goes on at its due moment
 abbrev pub due : Scene → Local → Moved
 due s l = due_by s l.wait l

@@ -1,4 +1,7 @@
 -- Runs: the first configuration, and what a list of events leads to.
+--     initial, run, Run      from an execution's start
+--     run_on                 from anywhere
+--     config_at              after the turns of a journal up to a session and its waits
 use Rattle.std.specs.Prelude.{◌≡◌, ℕ, Bool, false, ◌&&◌, ◌||◌, List, [], ◌∷◌, ◌++◌, if◌then◌else◌, nat_eq, nat_lt, nat_le, None, unwrap_or}
 use Rattle.wf_ast.specs.Tree.{Steps, no_steps, Param, Flow, Program}
 use Rattle.wf_model.specs.Config.{Do, Awake, Task, Active, Config, After, To, Wrong, NotNow}
@@ -9,6 +12,7 @@ use Rattle.wf_value.specs.Data.{Data, null, Pairs, no_pairs, pair}
 use Rattle.wf_value.specs.Decode.{json_value}
 use Rattle.wf_shared.specs.Events.{Event, Turn, Start}
 
+-- the steps of `main`, which is the first workflow
 abbrev pub main_steps : List Flow → Steps
 main_steps [] = no_steps
 main_steps (f ∷ fs) = f.steps
@@ -18,6 +22,7 @@ abbrev pub argument_in : List Param → Data → Pairs
 argument_in [] v = no_pairs
 argument_in (x ∷ xs) v = pair x.name v no_pairs
 
+-- the variables of `main`'s layer
 abbrev pub main_vars : List Flow → Data → Pairs
 main_vars [] v = no_pairs
 main_vars (f ∷ fs) v = argument_in f.params v
@@ -26,6 +31,7 @@ main_vars (f ∷ fs) v = argument_in f.params v
 abbrev pub main_task : Task
 main_task = record { parent = None; control = []; layers = []; wait = Awake }
 
+-- with the one layer of `main`, which no call opened
 abbrev pub main_local : Program → Data → Local
 main_local p argument = record {
   control = [];
@@ -34,6 +40,7 @@ main_local p argument = record {
   wait = Awake;
 }
 
+-- what the start tells, before task 0 stands anywhere
 abbrev pub empty : Start → Config
 empty s = record {
   facts = record { id = s.id; routes = s.routes; env = s.env; base = s.base; rules = s.rules };
@@ -59,6 +66,7 @@ run_on p (To c) (e ∷ es) = run_on p (next p c e) es
 run_on p (Wrong k) (e ∷ es) = NotNow
 run_on p NotNow (e ∷ es) = NotNow
 
+-- the same from the start of an execution
 abbrev pub run : Program → Start → List Event → After
 run p s es = run_on p (initial p s) es
 
@@ -67,13 +75,16 @@ abbrev pub Run : Program → Start → List Event → Config → Type 0
 Run p s es c = run p s es ≡ To c
 
 -- ## The configuration after the turns of a journal up to a session and its waits
+-- a turn of an earlier session, or of this one with at most so many waits
 abbrev pub is_before : ℕ → ℕ → Turn → Bool
 is_before session waits t = nat_lt t.session session || (nat_eq t.session session && nat_le t.waits waits)
 
+-- the events of these turns, in order
 abbrev pub events_to : ℕ → ℕ → List Turn → List Event
 events_to session waits [] = []
 events_to session waits (t ∷ ts) =
     if is_before session waits t then t.events ++ events_to session waits ts else events_to session waits ts
 
+-- where they lead
 abbrev pub config_at : Program → Start → List Turn → ℕ → ℕ → After
 config_at p s ts session waits = run p s (events_to session waits ts)

@@ -40,6 +40,7 @@ judged (Some p) n e = if nat_lt n p.max_retries then judgement p.predicate e els
 -- ## Errors
 -- What happens at a try; `outward` is where an error goes past it.
 -- the task waits, with one more retry used
+-- (without a policy nothing is tried again, and no error comes here)
 abbrev pub retried : Scene → TryBody → ℕ → Option ℕ → List Item → Local → Moved
 retried s (try body None x) n d k l = goes k l
 retried s (try body (Some p) x) n d k l =
@@ -50,6 +51,7 @@ abbrev pub excepted : Answer Pairs → Steps → List Item → Local → (Data �
 excepted (Err t) ss k l outward = outward (error_map t)
 excepted (Ok ps) ss k l outward = goes (Do ss ss ∷ Mark ∷ k) (enter false ps l)
 
+-- without `except` the error goes outward
 abbrev pub handled : Scene → Data → TryBody → List Item → Local → (Data → Moved) → Moved
 handled s e (try body p no_except) k l outward = outward e
 handled s e (try body p (except x ss)) k l outward = excepted (opened s l ((x, e) ∷ [])) ss k l outward
@@ -59,15 +61,18 @@ abbrev pub called : Answer Pairs → Steps → List Item → Local → (Data →
 called (Err t) ss k l outward = outward (error_map t)
 called (Ok ps) ss k l outward = goes (Do ss ss ∷ k) (enter true ps l)
 
+-- a workflow that decides has one parameter, and its call counts the calls outside the `try`
 abbrev pub asked_one : Scene → Data → List Param → Steps → List Item → Local → (Data → Moved) → Moved
 asked_one s e (x ∷ []) ss k l outward =
     if nat_le call_limit (calls_in k) then outward (error_map RecursionError) else called (opened s l ((x.name, e) ∷ [])) ss (Back None ∷ k) l outward
 asked_one s e xs ss k l outward = Breaks BadArgument
 
+-- the workflow of this name, which the program has
 abbrev pub asks : Scene → Data → Option Flow → List Item → Local → (Data → Moved) → Moved
 asks s e None k l outward = Breaks UnknownCall
 asks s e (Some f) k l outward = asked_one s e f.params f.steps k l outward
 
+-- by the predicate's answer, or its call, which stands inside a Judge
 abbrev pub decided : Scene → Data → Judgement → TryBody → ℕ → Option ℕ → List Item → Local → (Data → Moved) → Moved
 decided s e (Says true) t n d k l outward = retried s t n d k l
 decided s e (Says false) t n d k l outward = handled s e t k l outward
@@ -91,6 +96,7 @@ answered s (boolean false) t n d e k l = handled s e t k l (unwind s k l)
 answered s v t n d e k l = unwind s k l (error_map TypeError)
 
 -- ## Jumps
+-- the steps of a block from this one on
 abbrev pub from_step : Text → Steps → Steps
 from_step x no_steps = no_steps
 from_step x (more (step y b n) ss) = if bytes_eq x y then more (step y b n) ss else from_step x ss
@@ -101,6 +107,7 @@ pub data Found : Type 0 where
   AtEnd : Found
   NotFound : Found
 
+-- in this block, if it has the step, and else further out
 abbrev pub cut_at : Steps → Steps → List Item → Local → Found → Found
 cut_at block no_steps k l outward = outward
 cut_at block (more s ss) k l outward = Stands (Do block (more s ss) ∷ k) l

@@ -1,2 +1,1 @@
 pub mod OnLiterals
-mod Rows

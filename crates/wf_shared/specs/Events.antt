@@ -1,10 +1,14 @@
 -- Events, turns and the start of an execution, as plain data.
+--     Event, Turn, Start           of a journal
+--     Method, Visitor, Reply       what events hold
+--     severity_named               the severities of logged values
 use Rattle.std.specs.Prelude.{ℕ, Bool, List, [], ◌∷◌, if◌then◌else◌, Some, None, codes, bytes_eq, Option}
 use Rattle.wf_value.specs.Pairs.{Text}
-
 pub use Rattle.wf_value.specs.declared.Severity.{Severity}
 use Rattle.wf_value.specs.declared.Severity.TheVariants as severity
 
+-- ## Methods
+-- of calls and of callback endpoints
 pub data Method : Type 0 where
   Get : Method
   Post : Method
@@ -24,6 +28,7 @@ method_name Options = codes "OPTIONS"
 abbrev pub methods : List Method
 methods = Get ∷ Post ∷ Put ∷ Patch ∷ Delete ∷ Options ∷ []
 
+-- upper case alone
 abbrev pub is_named : Text → Method → Bool
 is_named x m = bytes_eq x (method_name m)
 
@@ -31,9 +36,11 @@ abbrev pub method_in : List Method → Text → Option Method
 method_in [] x = None
 method_in (m ∷ ms) x = if is_named x m then Some m else method_in ms x
 
+-- the method of this name
 abbrev pub method_named : Text → Option Method
 method_named x = method_in methods x
 
+-- ## What is heard
 -- the fields of a head: names and values, in order
 abbrev pub Headers : Type 0
 Headers = List (List ℕ × List ℕ)
@@ -50,6 +57,8 @@ pub data Reply : Type 0 where
   Broken : Reply
   TooLong : Reply
 
+-- ## Events and turns
+-- the atomic steps of an execution
 pub data Event : Type 0 where
   Move : (task : ℕ) → Event
   MoveAt : (task reading : ℕ) → Event
@@ -60,16 +69,19 @@ pub data Event : Type 0 where
   Arrive : (endpoint reading : ℕ) → Visitor → Event
   Cancel : (reading : ℕ) → Event
 
+-- the events that were added at once: by which session, and how often that session had waited
 pub record Turn : Type 0 where
   pub session : ℕ
   pub waits : ℕ
   pub events : List Event
 
+-- ## Starts
 -- where calls are sent
 pub record Address : Type 0 where
   pub name : Text
   pub port : ℕ
 
+-- addresses by the names of hosts
 abbrev pub Routes : Type 0
 Routes = List (Text × Address)
 
@@ -84,7 +96,8 @@ pub record Start : Type 0 where
   pub base : Text
   pub reading : ℕ
 
--- how grave a logged value is, and its number
+-- ## Severities
+-- how grave a logged value is
 abbrev pub severity_name : Severity → Text
 severity_name severity.Default = codes "DEFAULT"
 severity_name severity.Debug = codes "DEBUG"
@@ -100,5 +113,11 @@ abbrev pub severity_in : List Severity → Text → Option Severity
 severity_in [] x = None
 severity_in (s ∷ ss) x = if bytes_eq x (severity_name s) then Some s else severity_in ss x
 
+abbrev pub severities : List Severity
+severities =
+    severity.Default ∷ severity.Debug ∷ severity.Info ∷ severity.Notice ∷ severity.Warning ∷ severity.Error ∷ severity.Critical
+    ∷ severity.Alert ∷ severity.Emergency ∷ []
+
+-- the severity of this name, in upper case
 abbrev pub severity_named : Text → Option Severity
-severity_named x = severity_in (severity.Default ∷ severity.Debug ∷ severity.Info ∷ severity.Notice ∷ severity.Warning ∷ severity.Error ∷ severity.Critical ∷ severity.Alert ∷ severity.Emergency ∷ []) x
+severity_named x = severity_in severities x

@@ -1,4 +1,7 @@
 -- What a call asks for, and the bytes of its request (RFC 9112).
+--     asked             a call's arguments, or the first error of their kinds, the method and the timeout
+--     request_bytes     the bytes, or why the fields or the body can't be sent
+--     request           the address and the bytes of a call
 use Rattle.std.specs.Prelude.{ℕ, Bool, true, false, not, ◌&&◌, ◌||◌, List, [], ◌∷◌, ◌++◌, length, ℤ, pos, negsuc, if◌then◌else◌, nat_le, ◌==◌, Some, None, Ok, Err, codes, bytes_eq, decimal, Option, Result}
 use Rattle.std.specs.Prelude as seq  -- by hand
 use Rattle.std.specs.Fmt.{signed_decimal}
@@ -16,8 +19,7 @@ use Rattle.wf_shared.specs.LibText.{joined_by, url_encoded}
 use Rattle.wf_value.specs.Pairs.{Text, get}
 use Rattle.wf_shared.specs.Queues.{same_method}
 
---     asked             a call's arguments, or the first error of their kinds, the method and the timeout
---     request_bytes     the bytes, or why the fields or the body can't be sent
+-- what a call asks for; the timeout is in seconds
 pub record Asked : Type 0 where
   pub method : Method
   pub url : Text
@@ -38,6 +40,7 @@ query_part (boolean true) = Ok (codes "true")
 query_part (boolean false) = Ok (codes "false")
 query_part v = field_text v
 
+-- the values of a map as texts
 abbrev pub texts_by : (Data → Answer Text) → Pairs → Answer (List (Text × Text))
 texts_by f no_pairs = Ok []
 texts_by f (pair k v ps) = f v >>= λ t. texts_by f ps >>= λ ts. Ok ((k, t) ∷ ts)
@@ -67,6 +70,7 @@ abbrev pub method_text : Option Method → Pairs → Answer Text
 method_text (Some m) args = Ok (method_name m)
 method_text None args = as_text (get (codes "method") args)
 
+-- a body that is null is none
 abbrev pub sent_body : Option Data → Option Data
 sent_body (Some null) = None
 sent_body v = v
@@ -81,6 +85,7 @@ asked m args =
     Ok (record { method = method; url = u; fields = fields; query = query; body = sent_body (get (codes "body") args); timeout = timeout })
 
 -- ## Fields
+-- those that a request has by itself
 abbrev pub own_fields : List Text
 own_fields = codes "host" ∷ codes "connection" ∷ codes "content-length" ∷ codes "transfer-encoding" ∷ codes "x-workflow-call" ∷ []
 
@@ -90,12 +95,14 @@ is_among x xs = list_any (bytes_eq x) xs
 abbrev pub is_field_byte : ℕ → Bool
 is_field_byte b = nat_le 32 b && nat_le b 126
 
+-- each name is a token, none is the request's own or stands twice, and values are of visible ASCII and blanks
 abbrev pub good_fields : List Text → List (Text × Text) → Bool
 good_fields earlier [] = true
 good_fields earlier (f ∷ fs) =
     is_token f.0 && not (is_among (lowercase f.0) (own_fields ++ earlier)) && list_all is_field_byte f.1 && good_fields (lowercase f.0 ∷ earlier) fs
 
 -- ## Bodies
+-- the bytes of a body, and the media type where the caller gives none
 pub record Payload : Type 0 where
   pub type : Text
   pub bytes : List ℕ
@@ -126,6 +133,7 @@ query_pair p = url_encoded p.0 ++ codes "=" ++ url_encoded p.1
 abbrev pub has_query : Text → Bool
 has_query target = list_any (λ b. b == question_mark) target
 
+-- the pairs of a query behind the target's own
 abbrev pub with_query : Text → List (Text × Text) → Text
 with_query target [] = target
 with_query target (p ∷ ps) =
@@ -138,6 +146,7 @@ abbrev pub type_line : List Text → Option Payload → Text
 type_line [] (Some p) = line (codes "Content-Type: " ++ p.type)
 type_line ts p = []
 
+-- also without a body, under these methods
 abbrev pub length_line : Method → Option Payload → Text
 length_line m (Some p) = line (codes "Content-Length: " ++ decimal (length p.bytes))
 length_line m None = if list_any (same_method m) (Post ∷ Put ∷ Patch ∷ []) then line (codes "Content-Length: 0") else []
@@ -146,6 +155,7 @@ abbrev pub payload_bytes : Option Payload → List ℕ
 payload_bytes None = []
 payload_bytes (Some p) = p.bytes
 
+-- the lines and the body
 abbrev pub request_text : Goal → Asked → Text → ℕ → List ℕ
 request_text g a id k =
     line (method_name a.method ++ codes " " ++ with_query g.target a.query ++ codes " HTTP/1.1")
@@ -176,5 +186,6 @@ abbrev pub request_to : Result Goal OutFault → Asked → Text → ℕ → Answ
 request_to (Err e) a id k = Err (out_tag e)
 request_to (Ok g) a id k = bytes_to g (request_bytes g a id k)
 
+-- the request of call k, or the error of its URL, its fields or its body, in this order
 abbrev pub request : Routes → Asked → Text → ℕ → Answer Request
 request routes a id k = request_to (goal a.url routes) a id k

@@ -1,4 +1,6 @@
 -- HTTP texts: names of fields, media types, and the values that messages give.
+--     reply_result, visit_result      the value of an answer and of a callback
+--     reply_bytes, callback_url       what a visit is told, and where it comes
 use Rattle.std.specs.Prelude.{ℕ, Bool, true, false, ◌&&◌, List, [], ◌∷◌, ◌++◌, length, pos, if◌then◌else◌, nat_lt, nat_le, ◌==◌, Some, None, Ok, Err, codes, bytes_eq, decimal, fold, filter, Option, Result}
 use Rattle.std.specs.Prelude as seq  -- by hand
 use Rattle.std.specs.Str.{is_utf8}
@@ -13,7 +15,7 @@ use Rattle.wf_shared.specs.Events.{method_name, Headers, Visitor, Reply, Respons
 use Rattle.wf_shared.specs.LibText.{starts_with}
 use Rattle.wf_value.specs.Pairs.{Text, get, put, map_of}
 
--- `; `: a media type ends here
+-- `;`, at which a media type ends
 abbrev pub semicolon_byte : ℕ
 semicolon_byte = 59
 
@@ -38,6 +40,7 @@ with_value_at x v ps = put x (joined_value (get x ps) v) ps
 abbrev pub with_field : Pairs → Text × Text → Pairs
 with_field ps f = if is_utf8 f.0 && is_utf8 f.1 then with_value_at (proper_name true f.0) f.1 ps else ps
 
+-- the fields as a map
 abbrev pub header_map : Headers → Pairs
 header_map fs = fold with_field no_pairs fs
 
@@ -69,19 +72,26 @@ json_body lenient b (Some v) = Ok v
 json_body true b None = Ok (text_or_bytes b)
 json_body false b None = Err ResponseTypeError
 
+-- by the media type: JSON, a text where it is UTF-8, or bytes
 abbrev pub typed_body : Bool → Text → List ℕ → Answer Data
 typed_body lenient t b = elim (bytes_eq t json_type) [ true ↦ json_body lenient b (json_value b) | false ↦ if starts_with (codes "text/") t then Ok (text_or_bytes b) else Ok (bytes b) ]
+
+-- the media type that a message tells
+abbrev pub content_type : Headers → Text
+content_type fs = media_type (get (codes "Content-Type") (header_map fs))
 
 -- an empty body is null, and one with a Content-Encoding is bytes
 abbrev pub body_value : Bool → Headers → List ℕ → Answer Data
 body_value lenient fs [] = Ok null
-body_value lenient fs (b ∷ bs) = elim (values_of (codes "content-encoding") fs) [ [] ↦ typed_body lenient (media_type (get (codes "Content-Type") (header_map fs))) (b ∷ bs) | v ∷ vs ↦ Ok (bytes (b ∷ bs)) ]
+body_value lenient fs (b ∷ bs) =
+    elim (values_of (codes "content-encoding") fs) [ [] ↦ typed_body lenient (content_type fs) (b ∷ bs) | v ∷ vs ↦ Ok (bytes (b ∷ bs)) ]
 
 -- ## What a call and a callback give
 abbrev pub result_map : ℕ → Data → Data → Data
 result_map code headers body =
     map (map_of ((codes "body", body) ∷ (codes "code", integer (pos code)) ∷ (codes "headers", headers) ∷ []))
 
+-- a code of 400 or more is raised
 abbrev pub response_result : ℕ → Data → Answer Data → Result Data Data
 response_result code headers (Err t) = Err (error_map t)
 response_result code headers (Ok body) = if nat_lt code 400 then as_result (result_map code headers body) else Err (nested_error (http_error code headers body))
@@ -92,8 +102,12 @@ reply_result Broken = Err (error_map ConnectionError)
 reply_result TooLong = Err (error_map ResourceLimitError)
 reply_result (Response code fs b) = response_result code (map (header_map fs)) (body_value (nat_le 400 code) fs b)
 
+abbrev pub visit_pairs : Visitor → Data → List (Text × Data)
+visit_pairs v body = (codes "body", body) ∷ (codes "headers", map (header_map v.headers)) ∷ (codes "method", text (method_name v.method)) ∷ []
+
+-- a map of `http_request` alone
 abbrev pub visit_map : Visitor → Data → Data
-visit_map v body = map (map_of ((codes "http_request", map (map_of ((codes "body", body) ∷ (codes "headers", map (header_map v.headers)) ∷ (codes "method", text (method_name v.method)) ∷ []))) ∷ []))
+visit_map v body = map (map_of ((codes "http_request", map (map_of (visit_pairs v body))) ∷ []))
 
 abbrev pub visit_kept : Visitor → Answer Data → Result Data Data
 visit_kept v (Err t) = Err (error_map t)
@@ -110,6 +124,7 @@ reply_length Broken = 0
 reply_length TooLong = 0
 
 -- ## Lines and replies
+-- a line with its end
 abbrev pub line : Text → Text
 line s = s ++ 13 ∷ 10 ∷ []
 
@@ -129,10 +144,12 @@ status_text MethodNotAllowed = codes "405 Method Not Allowed"
 status_text ContentTooLarge = codes "413 Content Too Large"
 status_text TooManyRequests = codes "429 Too Many Requests"
 
+-- a reply to a visit
 abbrev pub reply_bytes : ReplyCode → Text
 reply_bytes r = line (codes "HTTP/1.1 " ++ status_text r) ++ line (codes "Content-Length: 0") ++ line (codes "Connection: close") ++ line []
 
 -- ## Callback addresses
+-- the path of endpoint n, and its whole address
 abbrev pub callback_path : Text → ℕ → Text
 callback_path id n = codes "/callbacks/" ++ id ++ codes "/" ++ decimal n
 

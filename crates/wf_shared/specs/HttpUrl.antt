@@ -1,4 +1,6 @@
 -- Reading a URL by the words of `http_uri`: the parts of its absolute form, and where a call is sent.
+--     url, UrlIsOfHttpUri      the parts of a URL, and what that reading stands for
+--     goal                     the address of a call, and the texts of its request
 use Rattle.std.specs.Prelude.{◌≡◌, ℕ, ◌+◌, ◌≤◌, Bool, true, not, ◌&&◌, ◌||◌, ◌↔◌, [], ◌∷◌, ◌++◌, length, take, drop, if◌then◌else◌, nat_lt, nat_le, ◌==◌, Some, None, Ok, Err, codes, bytes_eq, Option, Result, unwrap_or, IsTrue}
 use Rattle.std.specs.List.{list_all}
 use Rattle.std.specs.Char.{is_ascii_digit}
@@ -91,15 +93,18 @@ pub record IsUrl (s : Text) (u : Url) : Type 0 where
   pub no_user : count_of at_sign u.authority ≡ 0
   pub host : IsTrue (has_host u.authority)
 
+-- (it isn't proved yet)
 abbrev pub UrlIsOfHttpUri : Type 0
 UrlIsOfHttpUri = (s : Text) (u : Url) → (url s ≡ Some u) ↔ IsUrl s u
 
 -- ## Where a call is sent
+-- the address, and what the request writes of the URL
 pub record Goal : Type 0 where
   pub address : Address
   pub authority : Text
   pub target : Text
 
+-- why a call can't be sent
 pub data OutFault : Type 0 where
   BadUrl : OutFault
   BadHeader : OutFault

@@ -8,3 +8,4 @@ pub mod HttpText
 pub mod HttpUrl
 pub mod HttpRequest
 pub mod HttpBody
+pub mod RowsTexts

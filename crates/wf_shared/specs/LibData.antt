@@ -27,6 +27,7 @@ texts_in no_items = Some []
 texts_in (item (text t) ds) = option_map (λ ts. t ∷ ts) (texts_in ds)
 texts_in (item v ds) = None
 
+-- one key after another
 abbrev pub follow_all : Data → Option (List Text) → Answer Data
 follow_all v None = Err TypeError
 follow_all v (Some ks) = sized (fold follow v ks)

@@ -1,4 +1,4 @@
--- The functions of texts. Positions count characters.
+-- The functions of texts. Positions count characters. Kinds of arguments come before their values.
 use Rattle.std.specs.Prelude.{ℕ, zero, suc, ◌+◌, ◌-◌, Bool, true, false, ◌&&◌, ◌||◌, List, [], ◌∷◌, ◌++◌, length, take, ℤ, pos, if◌then◌else◌, ◌==◌, slice_range, int_le, unsigned_abs, Err, codes, bytes_eq, encode_utf8_all, chars}
 use Rattle.std.specs.Prelude as seq  -- by hand
 use Rattle.std.specs.Str.{is_utf8}
@@ -22,6 +22,7 @@ pieces_from part zero front (b ∷ s) = elim (starts_with part (b ∷ s)) [ true
 abbrev pub pieces : Text → Text → List Text
 pieces part s = pieces_from part 0 [] s
 
+-- the texts with this one between them
 abbrev pub joined_by : Text → List Text → Text
 joined_by between [] = []
 joined_by between (p ∷ ps) = p ++ flat_map (λ q. between ++ q) ps
@@ -32,6 +33,7 @@ starts_of from n [] = []
 starts_of from n (p ∷ []) = []
 starts_of from n (p ∷ q ∷ ps) = integer (pos (from + length (chars p))) ∷ starts_of (from + length (chars p) + n) n (q ∷ ps)
 
+-- an empty separator or part is a ValueError
 abbrev pub unless_empty : Text → Answer Data → Answer Data
 unless_empty [] a = Err ValueError
 unless_empty (b ∷ s) a = a

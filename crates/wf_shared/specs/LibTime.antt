@@ -1,4 +1,6 @@
 -- The functions of time: seconds since 1970-01-01T00:00:00Z, and their texts. The calendar is that of `jiff`.
+--     time_format, time_text       `YYYY-MM-DDTHH:MM:SSZ` of some seconds
+--     time_parse, parsed_time      the seconds that a text tells
 use Rattle.std.specs.Prelude.{ℕ, zero, suc, ◌+◌, ◌-◌, ◌*◌, ◌/◌, ◌%◌, Bool, true, false, ◌&&◌, [], ◌∷◌, ◌++◌, take, drop, ℤ, pos, negsuc, ◌+ℤ◌, ◌-ℤ◌, ◌*ℤ◌, neg_ℤ, if◌then◌else◌, nat_lt, nat_le, ◌==◌, slice_range, Some, None, Ok, Err, codes, bytes_eq, Option, option_and_then}
 use Rattle.std.specs.List.{prefix_len}
 use Rattle.std.specs.Char.{is_ascii_digit}
@@ -10,7 +12,6 @@ use Rattle.wf_value.specs.declared.Tag.TheVariants.{TypeError, ValueError}
 use Rattle.wf_value.specs.Pairs.{Text}
 
 -- 9998-12-31T23:59:59Z
-
 abbrev pub last_second : ℕ
 last_second = 253370764799
 
@@ -25,6 +26,7 @@ abbrev pub month_of : ℕ → ℕ → ℕ → ℕ → ℕ × ℕ
 month_of zero y m d = (m, suc d)
 month_of (suc n) y m d = elim (nat_lt d (days_in_month (pos y) m)) [ true ↦ (m, suc d) | false ↦ month_of n y (suc m) (d - days_in_month (pos y) m) ]
 
+-- the last decimal digit
 abbrev pub digit : ℕ → ℕ
 digit n = 48 + n % 10
 
@@ -57,6 +59,7 @@ has_form (f ∷ fs) (b ∷ s) = (if f == 100 then is_ascii_digit b else f == b) 
 has_form [] (b ∷ s) = false
 has_form (f ∷ fs) [] = false
 
+-- the number whose digits stand there
 abbrev pub number_at : ℕ → ℕ → Text → ℕ
 number_at from to s = digits_value 10 (slice_range s from to)
 
@@ -86,11 +89,13 @@ offset_of s =
     (if has_form (codes "+dd:dd") s && is_real_offset s then Some (pos (minutes_ahead s * 60)) else
     (if has_form (codes "-dd:dd") s && is_real_offset s then Some (neg_ℤ (pos (minutes_ahead s * 60))) else None))
 
+-- a real date and a time of day
 abbrev pub is_civil : Text → Bool
 is_civil s =
     has_form (codes "dddd-dd-ddTdd:dd:dd") s && is_real_date (number_at 0 4 s) (number_at 5 7 s) (number_at 8 10 s)
     && is_real_time (number_at 11 13 s) (number_at 14 16 s) (number_at 17 19 s)
 
+-- the seconds from 1970 to it
 abbrev pub civil_seconds : Text → ℤ
 civil_seconds s =
     days_from_civil (pos (number_at 0 4 s)) (number_at 5 7 s) (number_at 8 10 s) *ℤ pos 86400

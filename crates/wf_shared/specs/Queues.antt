@@ -1,11 +1,15 @@
 -- Callback endpoints, each with a method and a queue of requests that nobody has taken.
+--     arrive_fault      why a request can't join a queue
+--     arrived           with the request at the queue's end
 use Rattle.std.specs.Prelude.{ℕ, zero, suc, Bool, not, ◌||◌, List, [], ◌∷◌, ◌++◌, length, if◌then◌else◌, nat_lt, nat_le, slice_get, Some, None, bytes_eq, Option}
 use Rattle.wf_shared.specs.Events.{Method, method_name, Visitor}
 
+-- an endpoint, its oldest request first
 pub record Endpoint : Type 0 where
   pub method : Method
   pub queue : List Visitor
 
+-- requests in one queue
 abbrev pub queue_limit : ℕ
 queue_limit = 100
 
@@ -14,12 +18,14 @@ abbrev pub endpoint_at : List Endpoint → ℕ → Option Endpoint
 endpoint_at es zero = None
 endpoint_at es (suc i) = slice_get es i
 
+-- endpoint n has this queue
 abbrev pub with_queue : ℕ → List Visitor → List Endpoint → List Endpoint
 with_queue n vs [] = []
 with_queue zero vs (e ∷ es) = e ∷ es
 with_queue (suc zero) vs (e ∷ es) = record e { queue = vs } ∷ es
 with_queue (suc (suc n)) vs (e ∷ es) = e ∷ with_queue (suc n) vs es
 
+-- in the order in which they are looked for
 pub data ArriveFault : Type 0 where
   UnknownEndpoint : ArriveFault
   WrongMethod : ArriveFault
@@ -42,5 +48,6 @@ arrive_fault es n v left = fault_at (endpoint_at es n) v left
 abbrev pub arrived : List Endpoint → ℕ → Visitor → List Endpoint
 arrived es n v = elim (endpoint_at es n) [ None ↦ es | Some e ↦ with_queue n (e.queue ++ v ∷ []) es ]
 
+-- the requests that wait for endpoint n
 abbrev pub queue_of : List Endpoint → ℕ → List Visitor
 queue_of es n = elim (endpoint_at es n) [ None ↦ [] | Some e ↦ e.queue ]

@@ -1,0 +1,134 @@
+-- A walk over all that one event does, for a fact of configurations that stays in each part of it.
+use Rattle.std.specs.Prelude.{◌≡◌, ℕ, suc, ◌+◌, length, Bool, true, false, List, [], ◌∷◌, ◌++◌, if◌then◌else◌, nat_le, Some, None, Ok, Err, Option}
+use mathlib.Core.Path.{refl}
+use Rattle.wf_ast.specs.Tree.{Steps, LoopBody, ParallelBody, parallel, OfBranches, OfLoop, branch, no_branches, Program}
+use Rattle.wf_model.proofs.After.{Leads}
+use Rattle.wf_model.specs.Config.{Left, WorkLeft, BranchesLeft, ValuesLeft, Item, Do, Wait, Calling, Task, Call, Open, Answered, TimedOut, LogEntry, Outcome, Raised, Config, After, To, Wrong, NotNow, body_limit, task, with_task, put_in, drop_in, next_of}
+use Rattle.wf_model.specs.Local.{Outer, Local, Scene, End, Effect, Sends, Creates, Takes, Logs, Moved, Goes, Ends, Does, Breaks, Not, goes}
+use Rattle.wf_model.specs.Move.{loop_steps, resumed}
+use Rattle.wf_model.specs.Ready.{request_in}
+use Rattle.wf_model.specs.Step.{stopped, close, replied, replied_to, timed_out, begun, new_task, fresh, starts, starts_turn, starts_work, begins_by, when, for_task, waiting_in, result_of, taken_by, visited}
+use Rattle.wf_model.specs.Taken.{scene, local, put_outer, put_back, layer_at, joined, put_error, without_task, finish, outcome_of, done, merged, by_itself}
+use Rattle.wf_value.specs.Data.{Data, Pairs, no_pairs}
+use Rattle.wf_value.specs.Errors.{error_map, Answer}
+use Rattle.wf_value.specs.declared.Tag.TheVariants.{ResourceLimitError}
+use Rattle.wf_shared.specs.Events.{Visitor, Reply}
+use Rattle.wf_shared.specs.HttpRequest.{Request}
+use Rattle.wf_shared.specs.HttpText.{reply_result, visit_result, reply_length}
+use Rattle.wf_shared.specs.Queues.{Endpoint, ArriveFault}
+
+-- ## Cases
+pub option_case : {A B : Type 0} (P : B → Type 0) (o : Option A) (x : B) (f : A → B) → P x → ((t : A) → P (f t)) → P (elim o [ None ↦ x | Some t ↦ f t ])
+option_case P None x f h k = h
+option_case P (Some t) x f h k = k t
+
+pub bool_case : {B : Type 0} (P : B → Type 0) (t : Bool) (x y : B) → (t ≡ true → P x) → (t ≡ false → P y) → P (if t then x else y)
+bool_case P true x y h k = h refl
+bool_case P false x y h k = k refl
+
+pub leads_on : (P Q : Config → Type 0) (a : After) → ((c : Config) → P c → Q c) → Leads P a → Leads Q a
+leads_on P Q (To c) f h = f c h
+leads_on P Q (Wrong k) f h = tt
+leads_on P Q NotNow f h = tt
+
+pub when_leads : (P : Config → Type 0) (t : Bool) (a : After) → (t ≡ true → Leads P a) → Leads P (when t a)
+when_leads P true a h = h refl
+when_leads P false a h = tt
+
+pub for_task_leads : (P : Config → Type 0) (c : Config) (n : ℕ) (test : Task → Bool) (f : Task → After) → ((t : Task) → Leads P (f t)) → Leads P (for_task c n test f)
+for_task_leads P c n test f h = option_case (Leads P) (task c n) NotNow (λ t. when (test t) (f t)) tt (λ t. when_leads P (test t) (f t) (λ e. h t))
+
+-- ## The parts of an event
+pub record Stays (P : Config → Type 0) : Type 0 where
+  pub tasks : (c : Config) (ts : List (ℕ × Task)) → P c → P (record c { tasks = ts })
+  pub made : (c : Config) → P c → P (record c { made = suc c.made })
+  pub sent : (c : Config) (n : ℕ) (q : Request) (d : ℕ) → P c → P (record c { calls = c.calls ++ Open n q d ∷ [] })
+  pub closed : (c : Config) (n : ℕ) (x : Call) → request_in x ≡ None → P c → P (close n x c)
+  pub endpoints : (c : Config) (es : List Endpoint) → P c → P (record c { endpoints = es })
+  pub logged : (c : Config) (e : LogEntry) → P c → P (record c { log = c.log ++ e ∷ [] })
+  pub bodies : (c : Config) (n : ℕ) → P c → P (record c { bodies = n })
+  pub outcome : (c : Config) (o : Outcome) → P c → P (record c { outcome = o })
+
+module _ (P : Config → Type 0) (s : Stays P) where
+  put_outer_stays : (os : List Outer) (c : Config) → P c → P (put_outer os c)
+  put_outer_stays [] c h = h
+  put_outer_stays (o ∷ os) c h =
+      option_case P (task c o.task) (put_outer os c) (λ t. put_outer os (with_task o.task (record t { layers = layer_at o.above o.layer t.layers }) c))
+      (put_outer_stays os c h) (λ t. put_outer_stays os (with_task o.task (record t { layers = layer_at o.above o.layer t.layers }) c) (s.tasks c _ h))
+
+  put_back_stays : (n : ℕ) (l : Local) (c : Config) → P c → P (put_back n l c)
+  put_back_stays n l c h =
+      option_case P (task c n) c (λ t. put_outer l.outer (with_task n (record t { control = l.control; layers = l.layers; wait = l.wait }) c))
+      h (λ t. put_outer_stays l.outer (with_task n (record t { control = l.control; layers = l.layers; wait = l.wait }) c) (s.tasks c _ h))
+
+  finish_stays : (n : ℕ) (parent : Option (ℕ × ℕ)) (e : End) (c : Config) → P c → P (finish n parent e c)
+  finish_stays n None e c h = s.outcome (without_task n c) (outcome_of e) (s.tasks c (drop_in n c.tasks) h)
+  finish_stays n (Some p) e c h =
+      option_case P (task c p.0) (without_task n c) (λ t. with_task p.0 (record t { control = joined n p.1 e t.control }) (without_task n c))
+      (s.tasks c (drop_in n c.tasks) h) (λ t. s.tasks (without_task n c) (put_in p.0 (record t { control = joined n p.1 e t.control }) (drop_in n c.tasks)) (s.tasks c (drop_in n c.tasks) h))
+
+  done_stays : (n : ℕ) (x : Effect) (c : Config) → P c → P (done n x c)
+  done_stays n (Sends q d) c h = s.sent c n q d h
+  done_stays n (Creates m) c h = s.endpoints c _ h
+  done_stays n (Takes i) c h = s.endpoints c _ h
+  done_stays n (Logs severity v) c h = s.logged c _ h
+
+  pub merged_stays : (n : ℕ) (parent : Option (ℕ × ℕ)) (m : Moved) (c : Config) → P c → Leads P (merged n parent m c)
+  merged_stays n parent (Goes l) c h = put_back_stays n l c h
+  merged_stays n parent (Ends e l) c h = finish_stays n parent e (put_outer l.outer c) (put_outer_stays l.outer c h)
+  merged_stays n parent (Does x m) c h = merged_stays n parent m (done n x c) (done_stays n x c h)
+  merged_stays n parent (Breaks k) c h = tt
+  merged_stays n parent Not c h = tt
+
+  pub by_itself_stays : (p : Program) (n now : ℕ) (f : Scene → Local → Moved) (c : Config) → P c → Leads P (by_itself p n now f c)
+  by_itself_stays p n now f c h =
+      option_case (Leads P) (task c n) NotNow (λ t. merged n t.parent (f (scene p c n t now) (local c n t)) c)
+      tt (λ t. merged_stays n t.parent (f (scene p c n t now) (local c n t)) c h)
+
+  -- branches and iterations that begin
+  begun_stays : (a : ℕ) (t : Task) (body : ParallelBody) (left : WorkLeft) (n : ℕ) (running : List ℕ) (es : List (ℕ × Data)) (k : List Item) (c : Config) → P c → P (begun a t body left n running es k c)
+  begun_stays a t body left n running es k c h = s.tasks (record c { made = suc c.made }) _ (s.made c h)
+
+  starts_stays : (a : ℕ) (t : Task) (body : ParallelBody) (left : WorkLeft) (n : ℕ) (running : List ℕ) (es : List (ℕ × Data)) (k : List Item) (ss : Steps) (ps : Answer Pairs) (c : Config) → P c → Leads P (starts a t body left n running es k ss ps c)
+  starts_stays a t body left n running es k ss (Ok ps) c h =
+      merged_stays c.made (Some (a, n)) (goes (Do ss ss ∷ []) (fresh ps)) (with_task c.made (new_task a n) (begun a t body left n (running ++ c.made ∷ []) es k c))
+      (s.tasks (begun a t body left n (running ++ c.made ∷ []) es k c) _ (begun_stays a t body left n (running ++ c.made ∷ []) es k c h))
+  starts_stays a t body left n running es k ss (Err e) c h = begun_stays a t body left n running (put_error n (error_map e) es) k c h
+
+  starts_turn_stays : (a : ℕ) (t : Task) (body : ParallelBody) (l : LoopBody) (v : Option (Data × Left)) (n : ℕ) (running : List ℕ) (es : List (ℕ × Data)) (k : List Item) (c : Config) → P c → Leads P (starts_turn a t body l v n running es k c)
+  starts_turn_stays a t body l None n running es k c h = tt
+  starts_turn_stays a t body l (Some v) n running es k c h = starts_stays a t body (ValuesLeft v.1) n running es k (loop_steps l) _ c h
+
+  starts_work_stays : (a : ℕ) (t : Task) (body : ParallelBody) (left : WorkLeft) (n : ℕ) (running : List ℕ) (es : List (ℕ × Data)) (k : List Item) (c : Config) → P c → Leads P (starts_work a t body left n running es k c)
+  starts_work_stays a t body (BranchesLeft (branch x ss bs)) n running es k c h = starts_stays a t body (BranchesLeft bs) n running es k ss (Ok no_pairs) c h
+  starts_work_stays a t body (BranchesLeft no_branches) n running es k c h = tt
+  starts_work_stays a t (parallel names limit (OfLoop l)) (ValuesLeft left) n running es k c h = starts_turn_stays a t (parallel names limit (OfLoop l)) l (next_of left) n running es k c h
+  starts_work_stays a t (parallel names limit (OfBranches bs)) (ValuesLeft left) n running es k c h = tt
+
+  pub begins_stays : (a : ℕ) (t : Task) (k : List Item) (c : Config) → P c → Leads P (begins_by a t k c)
+  begins_stays a t (Item.Join body left n running es ∷ k) c h = starts_work_stays a t body left n running es k c h
+  begins_stays a t k c h = tt
+
+  -- answers, due moments, and requests that come
+  pub timed_out_stays : (w : Wait) (c : Config) → P c → P (timed_out w c)
+  timed_out_stays (Calling n r) c h = s.closed c n TimedOut refl h
+  timed_out_stays w c h = h
+
+  replied_stays : (p : Program) (n : ℕ) (a : Reply) (i : ℕ) (w : Wait) (c : Config) → P c → Leads P (replied p n a i w c)
+  replied_stays p n a i (Calling m r) c h =
+      bool_case (Leads P) (nat_le (c.bodies + reply_length a) body_limit) (by_itself p i 0 (λ s l. resumed s r (reply_result a) l) (close n Answered (record c { bodies = c.bodies + reply_length a }))) (To (stopped c))
+      (λ e. by_itself_stays p i 0 (λ s l. resumed s r (reply_result a) l) (close n Answered (record c { bodies = c.bodies + reply_length a })) (s.closed (record c { bodies = c.bodies + reply_length a }) n Answered refl (s.bodies c _ h)))
+      (λ e. s.outcome c (Raised (error_map ResourceLimitError)) h)
+  replied_stays p n a i w c h = tt
+
+  pub replied_to_stays : (p : Program) (n : ℕ) (a : Reply) (x : Call) (c : Config) → P c → Leads P (replied_to p n a x c)
+  replied_to_stays p n a (Open i q d) c h = option_case (Leads P) (task c i) NotNow (λ t. replied p n a i t.wait c) tt (λ t. replied_stays p n a i t.wait c h)
+  replied_to_stays p n a x c h = tt
+
+  taken_by_stays : (p : Program) (n : ℕ) (v : Visitor) (o : Option ℕ) (c : Config) → P c → Leads P (taken_by p n v o c)
+  taken_by_stays p n v None c h = s.endpoints c _ h
+  taken_by_stays p n v (Some i) c h = by_itself_stays p i 0 (λ s l. resumed s (result_of l.wait) (visit_result v) l) c h
+
+  pub visited_stays : (p : Program) (n : ℕ) (v : Visitor) (o : Option ArriveFault) (c : Config) → P c → Leads P (visited p n v o c)
+  visited_stays p n v (Some f) c h = tt
+  visited_stays p n v None c h = taken_by_stays p n v (waiting_in n c.tasks) (record c { bodies = c.bodies + length v.body }) (s.bodies c _ h)

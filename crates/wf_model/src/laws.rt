@@ -1,0 +1,38 @@
+//! Laws of the language's meaning, for every program. The functions do nothing; each of their clauses is a law.
+
+ghost use Rattle.wf_model.specs.ChoiceLaws.{NothingIsChosenWhenQuiet, NothingIsChosenBehindAnOutcome, ChoiceTakesTheReading};
+ghost use Rattle.wf_model.specs.TurnLaws.{NextTurnGoesOn, LaterTurnDoesNotCount, AllTurnsAreTheRun};
+ghost use Rattle.wf_model.specs.RunLaws.{RunsJoin, FrontIsARun, StepGoesOn, RunsAgree, StepIsOne, NothingFollowsAnOutcome, StepsCount, StepsOnlyCloseCalls, RequestsStay, RunsAreBounded, TasksAreNumbered};
+
+/// What holds of steps and runs: a run is put together from its parts, an event leads to at most one configuration, no event comes
+/// behind an outcome, readings don't fall, there are at most 100,000 moves, the request of an open call never
+/// changes, and live tasks stand by rising number below the count of tasks made.
+pub fn laws_of_runs()
+    ensures runs_join { RunsJoin }
+    ensures front_is_a_run { FrontIsARun }
+    ensures step_goes_on { StepGoesOn }
+    ensures runs_agree { RunsAgree }
+    ensures step_is_one { StepIsOne }
+    ensures nothing_follows_an_outcome { NothingFollowsAnOutcome }
+    ensures steps_count { StepsCount }
+    ensures steps_only_close_calls { StepsOnlyCloseCalls }
+    ensures requests_stay { RequestsStay }
+    ensures runs_are_bounded { RunsAreBounded }
+    ensures tasks_are_numbered { TasksAreNumbered }
+{}
+
+/// What holds of the engine's choice: it is none exactly where nothing can go on at the reading, or where there is an outcome, and
+/// its reading is the given one or the last one, whichever is greater.
+pub fn laws_of_choice()
+    ensures nothing_is_chosen_when_quiet { NothingIsChosenWhenQuiet }
+    ensures nothing_is_chosen_behind_an_outcome { NothingIsChosenBehindAnOutcome }
+    ensures choice_takes_the_reading { ChoiceTakesTheReading }
+{}
+
+/// What holds of the configuration after the turns of a journal up to a session and its waits: each turn before that point leads on, and
+/// none behind it counts.
+pub fn laws_of_turns()
+    ensures next_turn_goes_on { NextTurnGoesOn }
+    ensures later_turn_does_not_count { LaterTurnDoesNotCount }
+    ensures all_turns_are_the_run { AllTurnsAreTheRun }
+{}
