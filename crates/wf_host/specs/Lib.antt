@@ -1,0 +1,5 @@
+pub mod World
+pub mod Moments
+pub mod Source
+pub mod MemSource
+pub mod FileSource

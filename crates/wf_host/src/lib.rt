@@ -1,0 +1,15 @@
+//! The outside of the engine: what is read, and one object that holds a journal file, a clock and an output.
+#![tactic(auto)]
+
+mod data;
+mod file_source;
+mod mem_source;
+mod moves;
+mod reading;
+mod source;
+
+pub use data::{Address, Deed, Failed, Heard, PollError, Routes, What};
+pub use file_source::FileSource;
+pub use mem_source::MemSource;
+pub use reading::{ReadFault, read_up_to};
+pub use source::Source;
