@@ -3,3 +3,4 @@ pub mod Moments
 pub mod Source
 pub mod MemSource
 pub mod FileSource
+pub mod Stage

@@ -25,9 +25,13 @@ longest = 2 ^ 63 - 1
 abbrev pub Told : World → Type 0 → Type 0
 Told w P = IsTrue w.tells → P
 
+-- a file with these bytes at this offset
+abbrev pub written : List ℕ → ℕ → List ℕ → List ℕ
+written file at bytes = take at file ++ bytes ++ drop (at + length bytes) file
+
 -- new is old with these bytes at this offset
 abbrev pub Holds : List ℕ → ℕ → List ℕ → List ℕ → Type 0
-Holds old at bytes new = new ≡ take at old ++ bytes ++ drop (at + length bytes) old
+Holds old at bytes new = new ≡ written old at bytes
 
 -- after a write of n bytes that a crash cuts short: any bytes in the range and past the old end, the same elsewhere
 pub record Torn (at n : ℕ) (old new : List ℕ) : Type 0 where

@@ -3,13 +3,18 @@
 
 mod data;
 mod file_source;
+mod host;
 mod mem_source;
 mod moves;
+mod plan;
+mod progress;
 mod reading;
 mod source;
 
 pub use data::{Address, Deed, Failed, Heard, PollError, Routes, What};
 pub use file_source::FileSource;
+pub use host::Host;
 pub use mem_source::MemSource;
+pub use plan::{Close, Plan, Reply, Service, Visitation};
 pub use reading::{ReadFault, read_up_to};
 pub use source::Source;
