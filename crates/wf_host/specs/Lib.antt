@@ -4,3 +4,7 @@ pub mod Source
 pub mod MemSource
 pub mod FileSource
 pub mod Stage
+pub mod Memory
+pub mod Replay
+pub mod CallRecord
+pub mod Printed

@@ -5,6 +5,7 @@ mod data;
 mod file_source;
 mod host;
 mod mem_source;
+mod memory;
 mod moves;
 mod plan;
 mod progress;

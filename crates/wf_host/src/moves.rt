@@ -2,7 +2,7 @@
 ghost use Rattle.std.specs.Prelude.{◌≡◌, ◌-◌, ◌++◌, min, length, take, drop, OnOk, OnErr};
 ghost use Rattle.wf_host.specs.World.{written};
 
-use wf_value::OutOfMemory;
+use std::alloc::AllocError;
 
 /// Fills the room with what stands at an offset, as far as it reaches, and says how much that is.
 pub(crate) fn copy_from(file: &[u8], at: u64, into: &mut [u8]) -> usize
@@ -20,19 +20,14 @@ pub(crate) fn copy_from(file: &[u8], at: u64, into: &mut [u8]) -> usize
 
 /// Writes the bytes over what stands at an offset, or at the end where that is earlier, and makes the file longer
 /// where they reach past its end. Without memory for that the file stays as it is.
-pub(crate) fn put_in(file: &mut Vec<u8>, at: usize, bytes: &[u8]) -> Result<(), OutOfMemory>
+pub(crate) fn put_in(file: &mut Vec<u8>, at: usize, bytes: &[u8]) -> Result<(), AllocError>
     ensures written { OnOk result (file.new.items ≡ written file.old.items at bytes.now) }
     ensures stays { OnErr result (file.new.items ≡ file.old.items) }
 {
     let at = at.min(file.len());
     let over = bytes.len().min(file.len() - at);
     let (inside, beyond) = bytes.split_at(over);
-    if file.reserve(beyond.len()).is_err() {
-        return Err(OutOfMemory);
-    }
+    file.reserve(beyond.len())?;
     file[at..at + over].copy_from_slice(inside);
-    match file.extend_from_slice(beyond) {
-        Ok(()) => Ok(()),
-        Err(_) => Err(OutOfMemory),
-    }
+    file.extend_from_slice(beyond)
 }
