@@ -8,3 +8,5 @@ pub mod Memory
 pub mod Replay
 pub mod CallRecord
 pub mod Printed
+pub mod MemHost
+pub mod MemLaws

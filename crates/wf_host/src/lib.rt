@@ -4,6 +4,7 @@
 mod data;
 mod file_source;
 mod host;
+mod mem_host;
 mod mem_source;
 mod memory;
 mod moves;
@@ -15,6 +16,7 @@ mod source;
 pub use data::{Address, Deed, Failed, Heard, PollError, Routes, What};
 pub use file_source::FileSource;
 pub use host::Host;
+pub use mem_host::MemHost;
 pub use mem_source::MemSource;
 pub use plan::{Close, Plan, Reply, Service, Visitation};
 pub use reading::{ReadFault, read_up_to};

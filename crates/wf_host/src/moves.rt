@@ -1,8 +1,13 @@
 // What is copied within memory.
-ghost use Rattle.std.specs.Prelude.{◌≡◌, ◌-◌, ◌++◌, min, length, take, drop, OnOk, OnErr};
-ghost use Rattle.wf_host.specs.World.{written};
+ghost use Rattle.std.specs.Prelude.{◌≡◌, ◌-◌, ◌++◌, [], ◌∷◌, min, length, take, drop, OnOk, OnErr, MatchResult};
+ghost use Rattle.wf_host.specs.World.{written, Same, Elapses};
+ghost use Rattle.wf_host.specs.CallRecord.{record_world, record_stable};
+ghost use Rattle.wf_host.specs.declared.data.Deed.TheVariants.{Print};
 
-use std::alloc::AllocError;
+use crate::Deed;
+use crate::memory::CallRecord;
+use std::alloc::{AllocError, Global};
+use wf_value::Bytes;
 
 /// Fills the room with what stands at an offset, as far as it reaches, and says how much that is.
 pub(crate) fn copy_from(file: &[u8], at: u64, into: &mut [u8]) -> usize
@@ -30,4 +35,27 @@ pub(crate) fn put_in(file: &mut Vec<u8>, at: usize, bytes: &[u8]) -> Result<(), 
     file.reserve(beyond.len())?;
     file[at..at + over].copy_from_slice(inside);
     file.extend_from_slice(beyond)
+}
+
+/// Prints the bytes and notes it, or leaves what was printed and the deeds as they are.
+pub(crate) fn take_down(
+    alloc: Global,
+    log: &mut CallRecord,
+    printed: &mut Vec<u8>,
+    bytes: &[u8],
+) -> Result<(), AllocError>
+    ensures seen { (record_world log.new).seen ≡ (record_world log.old).seen }
+    ensures stable { record_stable log.new ≡ record_stable log.old }
+    ensures printed { OnOk result (printed.new.items ≡ printed.old.items ++ bytes.now) }
+    ensures unprinted { OnErr result (printed.new.items ≡ printed.old.items) }
+    ensures time { MatchResult result
+        (λ _. Elapses Same (Print bytes.now ∷ []) (record_world log.old) (record_world log.new))
+        (λ _. Elapses Same [] (record_world log.old) (record_world log.new)) }
+{
+    let Ok(copy) = Bytes::new(alloc, bytes) else {
+        return Err(AllocError);
+    };
+    printed.reserve(bytes.len())?;
+    log.act(Deed::Print(copy))?;
+    printed.extend_from_slice(bytes)
 }
