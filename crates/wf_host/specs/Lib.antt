@@ -10,3 +10,5 @@ pub mod CallRecord
 pub mod Printed
 pub mod MemHost
 pub mod MemLaws
+pub mod Untold
+pub mod FileHost

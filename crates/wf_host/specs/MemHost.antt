@@ -30,10 +30,6 @@ mem_short h = h.short
 abbrev pub first_stage : Plan → Stage
 first_stage p = record { fail = p.fail.items; stop = p.stop; clock = p.clock.items; print_room = p.print_room; calls = 0; changes = 0; ticks = 0 }
 
--- nothing has failed
-abbrev pub no_faults : Faults
-no_faults = record { disk = 0; poll = 0; print = 0 }
-
 -- a disk call failed
 abbrev pub disk_failed : Faults → Faults
 disk_failed f = record { disk = next_count f.disk; poll = f.poll; print = f.print }

@@ -17,6 +17,10 @@ pub record Faults : Type 0 where
   pub poll : ℕ
   pub print : ℕ
 
+-- nothing has failed
+abbrev pub no_faults : Faults
+no_faults = record { disk = 0; poll = 0; print = 0 }
+
 -- no file is longer
 abbrev pub longest : ℕ
 longest = 2 ^ 63 - 1

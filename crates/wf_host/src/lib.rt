@@ -2,6 +2,8 @@
 #![tactic(auto)]
 
 mod data;
+mod disk;
+mod file_host;
 mod file_source;
 mod host;
 mod mem_host;
@@ -14,6 +16,7 @@ mod reading;
 mod source;
 
 pub use data::{Address, Deed, Failed, Heard, PollError, Routes, What};
+pub use file_host::FileHost;
 pub use file_source::FileSource;
 pub use host::Host;
 pub use mem_host::MemHost;

@@ -28,8 +28,8 @@ pub struct MemHost {
 
 impl MemHost {
     ghost use Rattle.std.specs.Prelude.{◌≡◌, [], IfOk, true, false};
-    ghost use Rattle.wf_host.specs.World.{Only, NoneFell};
-    ghost use Rattle.wf_host.specs.MemHost.{mem_world, mem_stable, mem_stage, mem_faults, mem_short, first_stage, no_faults, disk_failed, print_failed};
+    ghost use Rattle.wf_host.specs.World.{Only, NoneFell, no_faults};
+    ghost use Rattle.wf_host.specs.MemHost.{mem_world, mem_stable, mem_stage, mem_faults, mem_short, first_stage, disk_failed, print_failed};
 
     /// A host with the plan's file, all of it on the disk.
     pub fn new(alloc: Global, plan: Plan) -> Result<MemHost, OutOfMemory>

@@ -1,4 +1,4 @@
-use Rattle.std.proofs.Common.{◌≡◌, ◌≤◌, length, take, List, ℕ}
+use Rattle.std.proofs.Common.{◌≡◌, ◌≤◌, take, List, ℕ}
 use Rattle.wf_host.specs.Memory.{content, stable}
 use Rattle.wf_host.proofs.memory.last_sync.Given as goal
 

@@ -1,4 +1,4 @@
-use Rattle.std.proofs.Common.{◌≡◌, List, ℕ, IfOk, refl, sym, subst, rules}
+use Rattle.std.proofs.Common.{◌≡◌, IfOk, refl, sym, subst, rules}
 use Rattle.std.proofs.lemmas.Result.{IfOk-weaker}
 use Rattle.wf_host.specs.Memory.{left_by}
 use Rattle.wf_host.specs.CallRecord.{record_stable}

@@ -1,0 +1,7 @@
+-- What the real host stands for: its counts of faults alone.
+use Rattle.wf_host.specs.declared.file_host.FileHost.{FileHost}
+use Rattle.wf_host.specs.World.{Faults}
+
+-- how often each part failed
+abbrev pub file_host_faults : {R S : Type 0} → FileHost R S → Faults
+file_host_faults h = record { disk = h.disk_faults; poll = h.poll_faults; print = h.print_faults }
