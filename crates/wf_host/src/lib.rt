@@ -14,6 +14,8 @@ mod plan;
 mod progress;
 mod reading;
 mod source;
+#[cfg(test)]
+mod tests;
 
 pub use data::{Address, Deed, Failed, Heard, PollError, Routes, What};
 pub use file_host::FileHost;

@@ -311,7 +311,12 @@ impl Host for MemHost {
             return Err(self.print_fault());
         }
         let count = self.progress.fitting(self.printed.len(), bytes.len());
-        match take_down(self.alloc, &mut self.log, &mut self.printed, &bytes[..count]) {
+        match take_down(
+            self.alloc,
+            &mut self.log,
+            &mut self.printed,
+            &bytes[..count],
+        ) {
             Ok(()) => Ok(count),
             Err(AllocError) => {
                 self.short = self.short.saturating_add(1);

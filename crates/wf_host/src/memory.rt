@@ -3,8 +3,8 @@ ghost use Rattle.std.specs.Prelude.{◌≡◌, ◌≤◌, ◌+◌, length, take,
 ghost use Rattle.wf_host.specs.Memory.{content, marks, stable};
 ghost use Rattle.wf_host.specs.World.{longest, written};
 
-use crate::moves::put_in;
 use crate::Deed;
+use crate::moves::put_in;
 use std::alloc::{AllocError, Global};
 use wf_value::Bytes;
 
