@@ -5,9 +5,8 @@ pub mod MemSource
 pub mod FileSource
 pub mod Stage
 pub mod Memory
-pub mod Replay
+pub mod Recorded
 pub mod CallRecord
-pub mod Printed
 pub mod MemHost
 pub mod MemLaws
 pub mod Untold

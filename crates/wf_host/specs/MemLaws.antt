@@ -6,7 +6,7 @@ use Rattle.wf_host.specs.declared.mem_host.MemHost.{MemHost}
 use Rattle.wf_host.specs.World.{longest}
 use Rattle.wf_host.specs.Memory.{left_by}
 use Rattle.wf_host.specs.MemHost.{mem_world}
-use Rattle.wf_host.specs.Replay.{now_since, at_last, reads_back}
+use Rattle.wf_host.specs.Recorded.{now_since, at_last, reads_back}
 
 pub mem_counts_now : (h : MemHost) (t : ℕ) (c : List ℕ) → t ≤ (mem_world h).moment → (mem_world h).may_leave c → (mem_world h).left_since t c (mem_world h).deeds
 mem_counts_now h t c le left = now_since h.log.first.items h.log.past.items h.log.deeds.items h.log.counts t c le left

@@ -2,7 +2,7 @@
 ghost use Rattle.std.specs.Prelude.{◌≡◌, ◌≤◌, OnErr};
 ghost use Rattle.wf_host.specs.World.{Rose, NoneFell, no_faults};
 ghost use Rattle.wf_host.specs.Untold.{untold};
-ghost use Rattle.wf_host.specs.FileHost.{file_host_faults};
+ghost use Rattle.wf_host.specs.FileHost.{file_host_faults, last_reading};
 
 use crate::disk::Disk;
 use crate::{Failed, Host};
@@ -62,7 +62,20 @@ impl<R: Files<File = File> + Clock + Print + Drop> FileHost<R> {
         }
     }
 
+    // The greatest reading so far, which a clock that can't be read repeats.
+    fn latest(&mut self) -> u64
+        ensures not_back { last_reading self.old ≤ result }
+        ensures kept { last_reading self.new ≡ result }
+        ensures faults { file_host_faults self.new ≡ file_host_faults self.old }
+    {
+        if let Ok(reading) = millis(&self.rt) {
+            self.last = self.last.max(reading);
+        }
+        self.last
+    }
+
     fn count_disk_fault(&mut self)
+        ensures last { last_reading self.new ≡ last_reading self.old }
         ensures counts { NoneFell (file_host_faults self.old) (file_host_faults self.new) }
         ensures rose { Rose (file_host_faults self.old).disk (file_host_faults self.new).disk }
     {
@@ -119,10 +132,7 @@ impl<R: Files<File = File> + Clock + Print + Drop> Host for FileHost<R> {
 
     /// The greatest reading so far. A clock that can't be read repeats its last reading, or gives 0 before the first.
     fn now(&mut self) -> Result<u64, OutOfMemory> {
-        if let Ok(reading) = millis(&self.rt) {
-            self.last = self.last.max(reading);
-        }
-        Ok(self.last)
+        Ok(self.latest())
     }
 
     fn print(&mut self, bytes: &[u8]) -> Result<usize, Failed> {

@@ -146,6 +146,7 @@ impl Host for MemHost {
 
     ghost fits = { λ h told. mem_fits h };
 
+    /// Fails exactly where the plan says.
     fn size(&mut self) -> Result<u64, Failed>
         ensures value { Told (mem_world self.old) (IfOk result (λ n. n ≡ length (mem_world self.old).seen)) }
         ensures bound { IfOk result (λ n. n ≤ longest) }
@@ -167,6 +168,7 @@ impl Host for MemHost {
         Ok(self.log.image().len() as u64)
     }
 
+    /// Fails exactly where the plan says.
     fn read_at(&mut self, at: u64, into: &mut [u8]) -> Result<usize, Failed>
         requires { at ≤ longest }
         ensures count { Told (mem_world self.old) (IfOk result (λ n. n ≡ min (length into.old) (length (mem_world self.old).seen - at))) }
@@ -190,6 +192,7 @@ impl Host for MemHost {
         Ok(copy_from(self.log.image(), at, into))
     }
 
+    /// Fails exactly where the plan says, or without memory, or past the longest file. Then the file stays.
     fn write_at(&mut self, at: u64, bytes: &[u8]) -> Result<(), Failed>
         requires most { at ≤ longest }
         requires inside { Told (mem_world self.old) (at ≤ length (mem_world self.old).seen) }
@@ -229,6 +232,7 @@ impl Host for MemHost {
         }
     }
 
+    /// Fails exactly where the plan says, or without memory.
     fn sync(&mut self) -> Result<(), Failed>
         ensures durable { Told (mem_world self.old) (OnOk result (Only (mem_world self.old).seen (mem_world self.new).may_leave)) }
         ensures seen { Told (mem_world self.old) ((mem_world self.new).seen ≡ (mem_world self.old).seen) }
@@ -262,6 +266,7 @@ impl Host for MemHost {
         }
     }
 
+    /// The clock's next reading. It fails only without memory, and then takes no reading.
     fn now(&mut self) -> Result<u64, OutOfMemory>
         ensures seen { Told (mem_world self.old) ((mem_world self.new).seen ≡ (mem_world self.old).seen) }
         ensures time { Told (mem_world self.old) (MatchResult result
@@ -288,6 +293,7 @@ impl Host for MemHost {
         }
     }
 
+    /// Takes as many bytes as the plan has room for. It fails exactly where the plan says, or without memory.
     fn print(&mut self, bytes: &[u8]) -> Result<usize, Failed>
         ensures bound { IfOk result (λ n. n ≤ length bytes.now) }
         ensures seen { Told (mem_world self.old) ((mem_world self.new).seen ≡ (mem_world self.old).seen) }

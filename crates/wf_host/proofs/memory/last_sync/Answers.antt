@@ -3,7 +3,7 @@ use Rattle.std.proofs.lemmas.List.{take_more}
 use Rattle.wf_host.specs.declared.memory.Done.{Done}
 use Rattle.wf_host.specs.declared.memory.Done.TheVariants.{Synced}
 use Rattle.wf_host.specs.Memory.{content, stable}
-use Rattle.wf_host.specs.Replay.{content_synced, stable_wrote, stable_did, stable_synced}
+use Rattle.wf_host.proofs.Replay.{content_synced, stable_wrote, stable_did, stable_synced}
 use Rattle.wf_host.proofs.memory.last_sync.Goals.{in-Synced, in-Wrote, in-Did}
 use Rattle.wf_host.proofs.memory.last_sync.Goals as goal
 

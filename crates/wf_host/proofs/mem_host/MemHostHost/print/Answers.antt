@@ -1,7 +1,7 @@
 use Rattle.std.proofs.lemmas.List.{append-nil}
 use Rattle.wf_host.specs.World.{Same}
 use Rattle.wf_host.specs.CallRecord.{record_world}
-use Rattle.wf_host.specs.Printed.{prints_go_on}
+use Rattle.wf_host.proofs.Printed.{prints_go_on}
 use Rattle.wf_host.proofs.mem_host.MemHostHost.print.Goals as goal
 
 pub invariant_of-self-in-Ok : goal.invariant_of-self-in-Ok

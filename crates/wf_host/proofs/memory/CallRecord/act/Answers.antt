@@ -3,7 +3,7 @@ use Rattle.wf_host.specs.declared.data.Deed.{Deed}
 use Rattle.wf_host.specs.declared.memory.Done.{Done}
 use Rattle.wf_host.specs.Memory.{stable, content, marks}
 use Rattle.wf_host.specs.World.{Same}
-use Rattle.wf_host.specs.Replay.{stable_did, content_did, marks_did, elapses_did, elapses_to, if_true}
+use Rattle.wf_host.proofs.Replay.{stable_did, content_did, marks_did, elapses_did, elapses_to, if_true}
 use Rattle.wf_host.proofs.memory.CallRecord.act.Goals as goal
 
 pub invariant_of-self-2 : goal.invariant_of-self-2

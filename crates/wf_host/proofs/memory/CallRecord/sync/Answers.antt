@@ -2,7 +2,7 @@ use Rattle.std.proofs.Common.{◌≡◌, length, [], List, is_ok, refl, sym, ◌
 use Rattle.wf_host.specs.declared.memory.Done.{Done}
 use Rattle.wf_host.specs.Memory.{stable, content, marks, left_by}
 use Rattle.wf_host.specs.World.{Same}
-use Rattle.wf_host.specs.Replay.{stable_synced, content_synced, marks_synced, elapses_sync, elapses_to, if_either, images_synced}
+use Rattle.wf_host.proofs.Replay.{stable_synced, content_synced, marks_synced, elapses_sync, elapses_to, if_either, images_synced}
 use Rattle.wf_host.proofs.memory.CallRecord.sync.Goals as goal
 
 pub invariant_of-self : goal.invariant_of-self

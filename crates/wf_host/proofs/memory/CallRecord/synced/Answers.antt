@@ -2,7 +2,7 @@ use Rattle.std.proofs.Common.{◌≡◌, IfOk, refl, sym, subst, rules}
 use Rattle.std.proofs.lemmas.Result.{IfOk-weaker}
 use Rattle.wf_host.specs.Memory.{left_by}
 use Rattle.wf_host.specs.CallRecord.{record_stable}
-use Rattle.wf_host.specs.Replay.{stable_left}
+use Rattle.wf_host.proofs.Replay.{stable_left}
 use Rattle.wf_host.proofs.memory.CallRecord.synced.Goals as goal
 
 pub returns-clause-left : goal.returns-clause-left

@@ -3,7 +3,7 @@ use Rattle.wf_host.specs.declared.memory.Done.{Done}
 use Rattle.wf_host.specs.declared.memory.Done.TheVariants.{Wrote}
 use Rattle.wf_host.specs.Memory.{content, marks, stable}
 use Rattle.wf_host.specs.World.{Torn, written}
-use Rattle.wf_host.specs.Replay.{content_wrote, marks_wrote, stable_wrote, elapses_write, elapses_to, long_fits, if_true}
+use Rattle.wf_host.proofs.Replay.{content_wrote, marks_wrote, stable_wrote, elapses_write, elapses_to, long_fits, if_true}
 use Rattle.wf_host.proofs.memory.CallRecord.write.Goals as goal
 
 -- the write at the end of the calls, in which its own bytes stand

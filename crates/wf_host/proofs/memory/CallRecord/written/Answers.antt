@@ -1,6 +1,6 @@
 use Rattle.std.proofs.Common.{◌≡◌, refl, sym, subst}
 use Rattle.wf_host.specs.Memory.{left_by}
-use Rattle.wf_host.specs.Replay.{reads_back}
+use Rattle.wf_host.specs.Recorded.{reads_back}
 use Rattle.wf_host.proofs.memory.CallRecord.written.Goals as goal
 
 pub returns-clause-left : goal.returns-clause-left

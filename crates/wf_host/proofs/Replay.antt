@@ -7,6 +7,7 @@ use Rattle.wf_host.specs.declared.memory.Done.{Done}
 use Rattle.wf_host.specs.declared.memory.Done.TheVariants.{Wrote, Synced, Did}
 use Rattle.wf_host.specs.World.{Torn, Same, After, Elapses, longest, written}
 use Rattle.wf_host.specs.Memory.{content, images, marks, left_by, Since, world_by, stable}
+use Rattle.wf_host.specs.Recorded.{reads_back, at_last}
 
 pub torn_none : (at n : ℕ) (o : List ℕ) → Torn at n o o
 torn_none at n o = record { before = refl; after = refl; no_shorter = omega arith; no_longer = omega arith }
@@ -23,13 +24,6 @@ torn_whole file bytes at le =
       no_shorter = omega (arith, long, length-drop (at + length bytes) file);
       no_longer = omega (arith, long, length-drop (at + length bytes) file);
     }
-
--- the file reads as one of its images, whatever was done
-pub reads_back : (file : List ℕ) (left : List ℕ → Type 0) (past : List Done) → left file → images file left past (content file past)
-reads_back file left [] is = is
-reads_back file left (Wrote at bytes ∷ rest) is = reads_back (written file at bytes) (λ c. After (Torn at (length bytes)) left c ⊎ (c ≡ written file at bytes)) rest (inr refl)
-reads_back file left (Synced ∷ rest) is = reads_back file (λ c. c ≡ file) rest refl
-reads_back file left (Did ∷ rest) is = reads_back file left rest is
 
 -- one more write
 pub content_wrote : (file : List ℕ) (past : List Done) (at : ℕ) (bytes : List ℕ) → content file (past ++ Wrote at bytes ∷ []) ≡ written (content file past) at bytes
@@ -79,17 +73,6 @@ marks-take : (k : ℕ) (past : List Done) → marks (take k past) ≤ marks past
 marks-take k past = omega (arith, ap marks (take-append-drop k past), marks-append (take k past) (drop k past))
 
 module _ (first : List ℕ) (past : List Done) (deeds : List Deed) (counts : marks past ≡ length deeds) where
-  -- since this moment there is what there is now
-  pub at_last : (c : List ℕ) (d : List Deed) → Since first past deeds (length past) c d → left_by first past c × (d ≡ deeds)
-  at_last c d (k, low, high, left, is) =
-      let same : take k past ≡ past = take_all k past low in
-      (subst (λ (p : List Done). left_by first p c) same left, is ∙ ap (λ (p : List Done). take (marks p) deeds) same ∙ take_all (marks past) deeds (omega (arith, counts)))
-
-  pub now_since : (t : ℕ) (c : List ℕ) → t ≤ length past → left_by first past c → Since first past deeds t c deeds
-  now_since t c le left =
-      let same : past ≡ take (length past) past = sym (take_all (length past) past (omega arith)) in
-      (length past, le, omega arith, subst (λ (p : List Done). left_by first p c) same left, sym (ap (λ (p : List Done). take (marks p) deeds) (sym same) ∙ take_all (marks past) deeds (omega (arith, counts))))
-
   -- a call that isn't recorded
   pub elapses_none : (image image2 : List ℕ) (step : List ℕ → List ℕ → Type 0) → ((o : List ℕ) → step o o) → Elapses step [] (world_by first image past deeds) (world_by first image2 past deeds)
   elapses_none image image2 step stays = record {
@@ -97,7 +80,7 @@ module _ (first : List ℕ) (past : List Done) (deeds : List Deed) (counts : mar
     deeds = sym (append-nil deeds);
     joins = λ t c d le left. inl left;
     keeps = λ t c d le left. left;
-    during = λ c d left. let now = at_last c d left in ((c, now.0, stays c), inl now.1);
+    during = λ c d left. let now = at_last first past deeds counts c d left in ((c, now.0, stays c), inl now.1);
   }
 
   -- a call without a deed
@@ -132,7 +115,7 @@ module _ (first : List ℕ) (past : List Done) (deeds : List Deed) (counts : mar
               reaches c (subst (λ (p : List Done). left_by first p c) all left),
               inl (is ∙ ap (λ (p : List Done). take (marks p) deeds) all ∙ take_all (marks (past ++ x ∷ [])) deeds (omega (arith, counts, none, marks-append past (x ∷ [])))),
             )
-        | inr under ↦ let now = at_last c d (k, low, under, subst (λ (p : List Done). left_by first p c) (front k under) left, is ∙ ap (λ (p : List Done). take (marks p) deeds) (front k under)) in ((c, now.0, stays c), inl now.1)
+        | inr under ↦ let now = at_last first past deeds counts c d (k, low, under, subst (λ (p : List Done). left_by first p c) (front k under) left, is ∙ ap (λ (p : List Done). take (marks p) deeds) (front k under)) in ((c, now.0, stays c), inl now.1)
       ]
 
   -- a deed
@@ -168,7 +151,7 @@ module _ (first : List ℕ) (past : List Done) (deeds : List Deed) (counts : mar
               (c, images_did first (λ i. i ≡ first) past c (subst (λ (p : List Done). left_by first p c) all left), refl),
               inr (is ∙ ap (λ (p : List Done). take (marks p) (deeds ++ e ∷ [])) all ∙ take_all (marks (past ++ Did ∷ [])) (deeds ++ e ∷ []) (omega (arith, counts, marks-append past (Did ∷ []), length-append deeds (e ∷ [])))),
             )
-        | inr under ↦ let now = at_last c d (k, low, under, subst (λ (p : List Done). left_by first p c) (front k under) left, is ∙ begun k under) in ((c, now.0, refl), inl now.1)
+        | inr under ↦ let now = at_last first past deeds counts c d (k, low, under, subst (λ (p : List Done). left_by first p c) (front k under) left, is ∙ begun k under) in ((c, now.0, refl), inl now.1)
       ]
 
 -- the same, by other names
