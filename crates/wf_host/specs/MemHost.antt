@@ -2,7 +2,7 @@
 use Rattle.std.specs.Prelude.{ℕ, List}
 use Rattle.wf_host.specs.declared.mem_host.MemHost.{MemHost}
 use Rattle.wf_host.specs.declared.plan.Plan.{Plan}
-use Rattle.wf_host.specs.World.{World, Faults, next_count}
+use Rattle.wf_host.specs.World.{World, Faults}
 use Rattle.wf_host.specs.Stage.{Stage}
 use Rattle.wf_host.specs.CallRecord.{record_world, record_stable}
 
@@ -29,11 +29,3 @@ mem_short h = h.short
 -- a plan before the first call
 abbrev pub first_stage : Plan → Stage
 first_stage p = record { fail = p.fail.items; stop = p.stop; clock = p.clock.items; print_room = p.print_room; calls = 0; changes = 0; ticks = 0 }
-
--- a disk call failed
-abbrev pub disk_failed : Faults → Faults
-disk_failed f = record { disk = next_count f.disk; poll = f.poll; print = f.print }
-
--- a print failed
-abbrev pub print_failed : Faults → Faults
-print_failed f = record { disk = f.disk; poll = f.poll; print = next_count f.print }

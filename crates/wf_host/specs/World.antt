@@ -73,6 +73,14 @@ next_count n = min (n + 1) (2 ^ 64 - 1)
 abbrev pub Rose : ℕ → ℕ → Type 0
 Rose before now = next_count before ≤ now
 
+-- a disk call failed
+abbrev pub disk_failed : Faults → Faults
+disk_failed f = record { disk = next_count f.disk; poll = f.poll; print = f.print }
+
+-- a print failed
+abbrev pub print_failed : Faults → Faults
+print_failed f = record { disk = f.disk; poll = f.poll; print = next_count f.print }
+
 -- no count falls
 pub record NoneFell (old new : Faults) : Type 0 where
   pub disk : old.disk ≤ new.disk

@@ -1,6 +1,6 @@
 // The real host. It tells nothing but its counts of faults.
-ghost use Rattle.std.specs.Prelude.{◌≡◌, ◌≤◌, OnErr};
-ghost use Rattle.wf_host.specs.World.{Rose, NoneFell, no_faults};
+ghost use Rattle.std.specs.Prelude.{◌≡◌, ◌≤◌, ◌+◌, length, IfOk, IsOk, OnOk, OnErr};
+ghost use Rattle.wf_host.specs.World.{longest, Rose, NoneFell, no_faults, disk_failed, print_failed};
 ghost use Rattle.wf_host.specs.Untold.{untold};
 ghost use Rattle.wf_host.specs.FileHost.{file_host_faults, last_reading};
 
@@ -75,9 +75,10 @@ impl<R: Files<File = File> + Clock + Print + Drop> FileHost<R> {
     }
 
     fn count_disk_fault(&mut self)
-        ensures last { last_reading self.new ≡ last_reading self.old }
+        ensures faults { file_host_faults self.new ≡ disk_failed (file_host_faults self.old) }
         ensures counts { NoneFell (file_host_faults self.old) (file_host_faults self.new) }
         ensures rose { Rose (file_host_faults self.old).disk (file_host_faults self.new).disk }
+        ensures clock { last_reading self.new ≡ last_reading self.old }
     {
         self.disk_faults = self.disk_faults.saturating_add(1);
     }
@@ -98,7 +99,14 @@ impl<R: Files<File = File> + Clock + Print + Drop> Host for FileHost<R> {
 
     ghost fits = { λ h told. untold_fits told };
 
-    fn size(&mut self) -> Result<u64, Failed> {
+    fn size(&mut self) -> Result<u64, Failed>
+        ensures bound { IfOk result (λ n. n ≤ longest) }
+        ensures counts { NoneFell (file_host_faults self.old) (file_host_faults self.new) }
+        ensures cause { OnErr result (Rose (file_host_faults self.old).disk (file_host_faults self.new).disk) }
+        ensures faults_on_ok { OnOk result (file_host_faults self.new ≡ file_host_faults self.old) }
+        ensures faults_on_err { OnErr result (file_host_faults self.new ≡ disk_failed (file_host_faults self.old)) }
+        ensures clock { last_reading self.new ≡ last_reading self.old }
+    {
         let answer = self.disk.size();
         if answer.is_err() {
             self.count_disk_fault();
@@ -106,7 +114,14 @@ impl<R: Files<File = File> + Clock + Print + Drop> Host for FileHost<R> {
         answer
     }
 
-    fn read_at(&mut self, at: u64, into: &mut [u8]) -> Result<usize, Failed> {
+    fn read_at(&mut self, at: u64, into: &mut [u8]) -> Result<usize, Failed>
+        ensures bound { IfOk result (λ n. n ≤ length into.old) }
+        ensures counts { NoneFell (file_host_faults self.old) (file_host_faults self.new) }
+        ensures cause { OnErr result (Rose (file_host_faults self.old).disk (file_host_faults self.new).disk) }
+        ensures faults_on_ok { OnOk result (file_host_faults self.new ≡ file_host_faults self.old) }
+        ensures faults_on_err { OnErr result (file_host_faults self.new ≡ disk_failed (file_host_faults self.old)) }
+        ensures clock { last_reading self.new ≡ last_reading self.old }
+    {
         let answer = self.disk.read_at(at, into);
         if answer.is_err() {
             self.count_disk_fault();
@@ -114,7 +129,15 @@ impl<R: Files<File = File> + Clock + Print + Drop> Host for FileHost<R> {
         answer
     }
 
-    fn write_at(&mut self, at: u64, bytes: &[u8]) -> Result<(), Failed> {
+    fn write_at(&mut self, at: u64, bytes: &[u8]) -> Result<(), Failed>
+        requires { at ≤ longest }
+        ensures room { OnOk result (at + length bytes.now ≤ longest) }
+        ensures counts { NoneFell (file_host_faults self.old) (file_host_faults self.new) }
+        ensures cause { OnErr result (Rose (file_host_faults self.old).disk (file_host_faults self.new).disk) }
+        ensures faults_on_ok { OnOk result (file_host_faults self.new ≡ file_host_faults self.old) }
+        ensures faults_on_err { OnErr result (file_host_faults self.new ≡ disk_failed (file_host_faults self.old)) }
+        ensures clock { last_reading self.new ≡ last_reading self.old }
+    {
         let answer = self.disk.write_at(at, bytes);
         if answer.is_err() {
             self.count_disk_fault();
@@ -122,7 +145,13 @@ impl<R: Files<File = File> + Clock + Print + Drop> Host for FileHost<R> {
         answer
     }
 
-    fn sync(&mut self) -> Result<(), Failed> {
+    fn sync(&mut self) -> Result<(), Failed>
+        ensures counts { NoneFell (file_host_faults self.old) (file_host_faults self.new) }
+        ensures cause { OnErr result (Rose (file_host_faults self.old).disk (file_host_faults self.new).disk) }
+        ensures faults_on_ok { OnOk result (file_host_faults self.new ≡ file_host_faults self.old) }
+        ensures faults_on_err { OnErr result (file_host_faults self.new ≡ disk_failed (file_host_faults self.old)) }
+        ensures clock { last_reading self.new ≡ last_reading self.old }
+    {
         let answer = self.disk.sync();
         if answer.is_err() {
             self.count_disk_fault();
@@ -131,11 +160,23 @@ impl<R: Files<File = File> + Clock + Print + Drop> Host for FileHost<R> {
     }
 
     /// The greatest reading so far. A clock that can't be read repeats its last reading, or gives 0 before the first.
-    fn now(&mut self) -> Result<u64, OutOfMemory> {
+    fn now(&mut self) -> Result<u64, OutOfMemory>
+        ensures succeeds { IsOk result }
+        ensures not_back { IfOk result (λ t. last_reading self.old ≤ t) }
+        ensures kept { IfOk result (λ t. last_reading self.new ≡ t) }
+        ensures faults { file_host_faults self.new ≡ file_host_faults self.old }
+    {
         Ok(self.latest())
     }
 
-    fn print(&mut self, bytes: &[u8]) -> Result<usize, Failed> {
+    fn print(&mut self, bytes: &[u8]) -> Result<usize, Failed>
+        ensures bound { IfOk result (λ n. n ≤ length bytes.now) }
+        ensures counts { NoneFell (file_host_faults self.old) (file_host_faults self.new) }
+        ensures cause { OnErr result (Rose (file_host_faults self.old).print (file_host_faults self.new).print) }
+        ensures faults_on_ok { OnOk result (file_host_faults self.new ≡ file_host_faults self.old) }
+        ensures faults_on_err { OnErr result (file_host_faults self.new ≡ print_failed (file_host_faults self.old)) }
+        ensures clock { last_reading self.new ≡ last_reading self.old }
+    {
         for _ in 0..u64::MAX {
             match self.rt.write_some(bytes) {
                 Ok(count) => return Ok(count),

@@ -1,5 +1,6 @@
 // A source that std reads.
-ghost use Rattle.std.specs.Prelude.{◌≡◌, None};
+ghost use Rattle.std.specs.Prelude.{◌≡◌, ◌≤◌, length, None, IfOk, OnOk, OnErr};
+ghost use Rattle.wf_host.specs.World.{Rose, next_count};
 ghost use Rattle.wf_host.specs.FileSource.{file_source_faults};
 
 use crate::{Failed, Source};
@@ -29,7 +30,13 @@ impl<R: Read> Source for FileSource<R> {
     ghost faults = { file_source_faults };
 
     /// Reads from the reader, and again where a signal cut the read off.
-    fn read(&mut self, into: &mut [u8]) -> Result<usize, Failed> {
+    fn read(&mut self, into: &mut [u8]) -> Result<usize, Failed>
+        ensures bound { IfOk result (λ n. n ≤ length into.old) }
+        ensures counts { file_source_faults self.old ≤ file_source_faults self.new }
+        ensures cause { OnErr result (Rose (file_source_faults self.old) (file_source_faults self.new)) }
+        ensures rests { OnOk result (file_source_faults self.new ≡ file_source_faults self.old) }
+        ensures rises { OnErr result (file_source_faults self.new ≡ next_count (file_source_faults self.old)) }
+    {
         if let Some(inner) = &mut self.inner {
             for _ in 0..u64::MAX {
                 match inner.read(into) {

@@ -28,8 +28,8 @@ pub struct MemHost {
 
 impl MemHost {
     ghost use Rattle.std.specs.Prelude.{◌≡◌, [], IfOk, true, false};
-    ghost use Rattle.wf_host.specs.World.{Only, NoneFell, no_faults};
-    ghost use Rattle.wf_host.specs.MemHost.{mem_world, mem_stable, mem_stage, mem_faults, mem_short, first_stage, disk_failed, print_failed};
+    ghost use Rattle.wf_host.specs.World.{Only, NoneFell, no_faults, disk_failed, print_failed};
+    ghost use Rattle.wf_host.specs.MemHost.{mem_world, mem_stable, mem_stage, mem_faults, mem_short, first_stage};
 
     /// A host with the plan's file, all of it on the disk.
     pub fn new(alloc: Global, plan: Plan) -> Result<MemHost, OutOfMemory>
@@ -128,9 +128,9 @@ impl MemHost {
 
 impl Host for MemHost {
     ghost use Rattle.std.specs.Prelude.{◌≡◌, ◌≤◌, ◌+◌, ◌-◌, ◌++◌, ◌∷◌, [], ◌⊎◌, ◌↔◌, min, length, take, drop, IsTrue, IfOk, OnOk, OnErr, IsErr, MatchResult};
-    ghost use Rattle.wf_host.specs.World.{longest, Told, Holds, Torn, Same, Only, Elapses, Rose, NoneFell, next_count};
+    ghost use Rattle.wf_host.specs.World.{longest, Told, Holds, Torn, Same, Only, Elapses, Rose, NoneFell, disk_failed, print_failed};
     ghost use Rattle.wf_host.specs.Stage.{call_fails, after_call, after_change, after_reading, reading, fitting};
-    ghost use Rattle.wf_host.specs.MemHost.{mem_world, mem_stable, mem_stage, mem_faults, mem_short, disk_failed, print_failed};
+    ghost use Rattle.wf_host.specs.MemHost.{mem_world, mem_stable, mem_stage, mem_faults, mem_short};
     ghost use Rattle.wf_host.specs.MemLaws.{mem_counts_now, mem_only_now, mem_reads_back, mem_fits};
     ghost use Rattle.wf_host.specs.declared.data.Deed.TheVariants.{Now, Print};
 
