@@ -1,0 +1,13 @@
+pub mod World
+pub mod Moments
+pub mod Source
+pub mod MemSource
+pub mod FileSource
+pub mod Stage
+pub mod Memory
+pub mod Recorded
+pub mod CallRecord
+pub mod MemHost
+pub mod MemLaws
+pub mod Untold
+pub mod FileHost

@@ -1,0 +1,190 @@
+// The real host. It tells nothing but its counts of faults.
+ghost use Rattle.std.specs.Prelude.{◌≡◌, ◌≤◌, ◌+◌, length, IfOk, IsOk, OnOk, OnErr};
+ghost use Rattle.wf_host.specs.World.{longest, Rose, NoneFell, no_faults, disk_failed, print_failed};
+ghost use Rattle.wf_host.specs.Untold.{untold};
+ghost use Rattle.wf_host.specs.FileHost.{file_host_faults, last_reading};
+
+use crate::disk::Disk;
+use crate::{Failed, Host};
+use std::alloc::Global;
+use std::fs::{File, Files};
+use std::io;
+use std::io::Print;
+use std::time::{Clock, SystemTime};
+use wf_value::OutOfMemory;
+
+/// A journal file, the system's clock and standard output. It tells nothing of what they hold, but counts its faults.
+#[derive(Drop)]
+pub struct FileHost<R: Files<File = File> + Clock + Print + Drop> {
+    rt: R,
+    disk: Disk,
+    last: u64,
+    disk_faults: u64,
+    poll_faults: u64,
+    print_faults: u64,
+}
+
+// The system's clock, in milliseconds since 1970; 0 before.
+fn millis<C: Clock>(clock: &C) -> io::Result<u64> {
+    match SystemTime::now(clock)?.duration_since(SystemTime::UNIX_EPOCH) {
+        Ok(past) => Ok(past.as_millis().min(u64::MAX as u128) as u64),
+        Err(_) => Ok(0),
+    }
+}
+
+impl<R: Files<File = File> + Clock + Print + Drop> FileHost<R> {
+    /// A host without a journal: its disk is memory, and ends with the program.
+    pub fn in_memory(alloc: Global, rt: R) -> FileHost<R>
+        ensures { file_host_faults result ≡ no_faults }
+    {
+        FileHost::on(rt, Disk::Memory(Vec::new(alloc)))
+    }
+
+    /// A host with the journal at this path. Where there is none it is made; one that can't be opened fails at each
+    /// disk call.
+    pub fn with_journal(rt: R, path: &str) -> FileHost<R>
+        ensures { file_host_faults result ≡ no_faults }
+    {
+        let disk = Disk::open(&rt, path);
+        FileHost::on(rt, disk)
+    }
+
+    fn on(rt: R, disk: Disk) -> FileHost<R>
+        ensures { file_host_faults result ≡ no_faults }
+    {
+        FileHost {
+            rt,
+            disk,
+            last: 0,
+            disk_faults: 0,
+            poll_faults: 0,
+            print_faults: 0,
+        }
+    }
+
+    // The greatest reading so far, which a clock that can't be read repeats.
+    fn latest(&mut self) -> u64
+        ensures not_back { last_reading self.old ≤ result }
+        ensures kept { last_reading self.new ≡ result }
+        ensures faults { file_host_faults self.new ≡ file_host_faults self.old }
+    {
+        if let Ok(reading) = millis(&self.rt) {
+            self.last = self.last.max(reading);
+        }
+        self.last
+    }
+
+    fn count_disk_fault(&mut self)
+        ensures faults { file_host_faults self.new ≡ disk_failed (file_host_faults self.old) }
+        ensures counts { NoneFell (file_host_faults self.old) (file_host_faults self.new) }
+        ensures rose { Rose (file_host_faults self.old).disk (file_host_faults self.new).disk }
+        ensures clock { last_reading self.new ≡ last_reading self.old }
+    {
+        self.disk_faults = self.disk_faults.saturating_add(1);
+    }
+}
+
+impl<R: Files<File = File> + Clock + Print + Drop> Host for FileHost<R> {
+    ghost use Rattle.wf_host.specs.Untold.{untold_counts, untold_only, untold_back, untold_fits};
+
+    ghost world = { λ h. untold };
+
+    ghost faults = { file_host_faults };
+
+    ghost counts_now = { λ h t c told le left. untold_counts told t c };
+
+    ghost only_now = { λ h c d told left. untold_only told c d };
+
+    ghost reads_back = { λ h told. untold_back told };
+
+    ghost fits = { λ h told. untold_fits told };
+
+    fn size(&mut self) -> Result<u64, Failed>
+        ensures bound { IfOk result (λ n. n ≤ longest) }
+        ensures counts { NoneFell (file_host_faults self.old) (file_host_faults self.new) }
+        ensures cause { OnErr result (Rose (file_host_faults self.old).disk (file_host_faults self.new).disk) }
+        ensures faults_on_ok { OnOk result (file_host_faults self.new ≡ file_host_faults self.old) }
+        ensures faults_on_err { OnErr result (file_host_faults self.new ≡ disk_failed (file_host_faults self.old)) }
+        ensures clock { last_reading self.new ≡ last_reading self.old }
+    {
+        let answer = self.disk.size();
+        if answer.is_err() {
+            self.count_disk_fault();
+        }
+        answer
+    }
+
+    fn read_at(&mut self, at: u64, into: &mut [u8]) -> Result<usize, Failed>
+        ensures bound { IfOk result (λ n. n ≤ length into.old) }
+        ensures counts { NoneFell (file_host_faults self.old) (file_host_faults self.new) }
+        ensures cause { OnErr result (Rose (file_host_faults self.old).disk (file_host_faults self.new).disk) }
+        ensures faults_on_ok { OnOk result (file_host_faults self.new ≡ file_host_faults self.old) }
+        ensures faults_on_err { OnErr result (file_host_faults self.new ≡ disk_failed (file_host_faults self.old)) }
+        ensures clock { last_reading self.new ≡ last_reading self.old }
+    {
+        let answer = self.disk.read_at(at, into);
+        if answer.is_err() {
+            self.count_disk_fault();
+        }
+        answer
+    }
+
+    fn write_at(&mut self, at: u64, bytes: &[u8]) -> Result<(), Failed>
+        requires { at ≤ longest }
+        ensures room { OnOk result (at + length bytes.now ≤ longest) }
+        ensures counts { NoneFell (file_host_faults self.old) (file_host_faults self.new) }
+        ensures cause { OnErr result (Rose (file_host_faults self.old).disk (file_host_faults self.new).disk) }
+        ensures faults_on_ok { OnOk result (file_host_faults self.new ≡ file_host_faults self.old) }
+        ensures faults_on_err { OnErr result (file_host_faults self.new ≡ disk_failed (file_host_faults self.old)) }
+        ensures clock { last_reading self.new ≡ last_reading self.old }
+    {
+        let answer = self.disk.write_at(at, bytes);
+        if answer.is_err() {
+            self.count_disk_fault();
+        }
+        answer
+    }
+
+    fn sync(&mut self) -> Result<(), Failed>
+        ensures counts { NoneFell (file_host_faults self.old) (file_host_faults self.new) }
+        ensures cause { OnErr result (Rose (file_host_faults self.old).disk (file_host_faults self.new).disk) }
+        ensures faults_on_ok { OnOk result (file_host_faults self.new ≡ file_host_faults self.old) }
+        ensures faults_on_err { OnErr result (file_host_faults self.new ≡ disk_failed (file_host_faults self.old)) }
+        ensures clock { last_reading self.new ≡ last_reading self.old }
+    {
+        let answer = self.disk.sync();
+        if answer.is_err() {
+            self.count_disk_fault();
+        }
+        answer
+    }
+
+    /// The greatest reading so far. A clock that can't be read repeats its last reading, or gives 0 before the first.
+    fn now(&mut self) -> Result<u64, OutOfMemory>
+        ensures succeeds { IsOk result }
+        ensures not_back { IfOk result (λ t. last_reading self.old ≤ t) }
+        ensures kept { IfOk result (λ t. last_reading self.new ≡ t) }
+        ensures faults { file_host_faults self.new ≡ file_host_faults self.old }
+    {
+        Ok(self.latest())
+    }
+
+    fn print(&mut self, bytes: &[u8]) -> Result<usize, Failed>
+        ensures bound { IfOk result (λ n. n ≤ length bytes.now) }
+        ensures counts { NoneFell (file_host_faults self.old) (file_host_faults self.new) }
+        ensures cause { OnErr result (Rose (file_host_faults self.old).print (file_host_faults self.new).print) }
+        ensures faults_on_ok { OnOk result (file_host_faults self.new ≡ file_host_faults self.old) }
+        ensures faults_on_err { OnErr result (file_host_faults self.new ≡ print_failed (file_host_faults self.old)) }
+        ensures clock { last_reading self.new ≡ last_reading self.old }
+    {
+        for _ in 0..u64::MAX {
+            match self.rt.write_some(bytes) {
+                Ok(count) => return Ok(count),
+                Err(e) if e.kind() == io::ErrorKind::Interrupted => {}
+                Err(_) => break,
+            }
+        }
+        self.print_faults = self.print_faults.saturating_add(1);
+        Err(Failed)
+    }
+}

@@ -1,0 +1,52 @@
+// A source that std reads.
+ghost use Rattle.std.specs.Prelude.{◌≡◌, ◌≤◌, length, None, IfOk, OnOk, OnErr};
+ghost use Rattle.wf_host.specs.World.{Rose, next_count};
+ghost use Rattle.wf_host.specs.FileSource.{file_source_faults};
+
+use crate::{Failed, Source};
+use std::io;
+use std::io::Read;
+
+/// A file or standard input, or a file that couldn't be opened, which fails at each read. It tells nothing of what
+/// it has left, but counts its faults.
+#[derive(Drop)]
+pub struct FileSource<R: Read> {
+    inner: Option<R>,
+    faults: u64,
+}
+
+impl<R: Read> FileSource<R> {
+    /// A source that reads from this reader, or fails at each read where there is none.
+    pub fn new(inner: Option<R>) -> FileSource<R>
+        ensures { file_source_faults result ≡ 0 }
+    {
+        FileSource { inner, faults: 0 }
+    }
+}
+
+impl<R: Read> Source for FileSource<R> {
+    ghost left = { λ s. None };
+
+    ghost faults = { file_source_faults };
+
+    /// Reads from the reader, and again where a signal cut the read off.
+    fn read(&mut self, into: &mut [u8]) -> Result<usize, Failed>
+        ensures bound { IfOk result (λ n. n ≤ length into.old) }
+        ensures counts { file_source_faults self.old ≤ file_source_faults self.new }
+        ensures cause { OnErr result (Rose (file_source_faults self.old) (file_source_faults self.new)) }
+        ensures rests { OnOk result (file_source_faults self.new ≡ file_source_faults self.old) }
+        ensures rises { OnErr result (file_source_faults self.new ≡ next_count (file_source_faults self.old)) }
+    {
+        if let Some(inner) = &mut self.inner {
+            for _ in 0..u64::MAX {
+                match inner.read(into) {
+                    Ok(count) => return Ok(count),
+                    Err(e) if e.kind() == io::ErrorKind::Interrupted => {}
+                    Err(_) => break,
+                }
+            }
+        }
+        self.faults = self.faults.saturating_add(1);
+        Err(Failed)
+    }
+}

@@ -1,0 +1,28 @@
+//! The outside of the engine: what is read, and one object that holds a journal file, a clock and an output.
+#![tactic(auto)]
+
+mod data;
+mod disk;
+mod file_host;
+mod file_source;
+mod host;
+mod mem_host;
+mod mem_source;
+mod memory;
+mod moves;
+mod plan;
+mod progress;
+mod reading;
+mod source;
+#[cfg(test)]
+mod tests;
+
+pub use data::{Address, Deed, Failed, Heard, PollError, Routes, What};
+pub use file_host::FileHost;
+pub use file_source::FileSource;
+pub use host::Host;
+pub use mem_host::MemHost;
+pub use mem_source::MemSource;
+pub use plan::{Close, Plan, Reply, Service, Visitation};
+pub use reading::{ReadFault, read_up_to};
+pub use source::Source;
