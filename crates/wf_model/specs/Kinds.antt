@@ -2,10 +2,10 @@
 -- step's move carries out: one that names `sys.now` anywhere in it wants a reading, whether or not the evaluation comes there.
 --     next_kind      by a task's control
 --     body_kind      by a step's body
-use Rattle.wf_ast.specs.declared.tree.Func.TheVariants as func
+use Rattle.wf_ast.specs.declared.Func.TheVariants as func
 use Rattle.std.specs.Prelude.{Bool, true, false, ◌||◌, List, [], ◌∷◌, Some, None, Option}
 use Rattle.wf_ast.specs.Flows.{flow}
-use Rattle.wf_ast.specs.declared.tree.Func.{Func}
+use Rattle.wf_ast.specs.declared.Func.{Func}
 use Rattle.wf_ast.specs.Func.{Special, SysLog, SysSleep, SysSleepUntil, HttpCall, CreateEndpoint, AwaitCallback, Listing, SpecialListing, func_named, special_named}
 use Rattle.wf_ast.specs.Tree.{Expr, Exprs, no_exprs, expr, Part, Said, Hole, Template, Scalar, Whole, Joined, Listed, Mapped, Templates, no_templates, template, Fields, no_fields, field, Entry, Over, InList, InRange, step, more, Body, Arms, no_arms, arm, loop, parallel, OfBranches, OfLoop, Flow, Program}
 use Rattle.wf_model.specs.Config.{Item, Do, Entries}

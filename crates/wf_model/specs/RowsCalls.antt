@@ -1,5 +1,5 @@
 -- Worked calls of services: the request of a call, its answer, and what may stand in its place.
-use Rattle.wf_ast.specs.declared.tree.Func.TheVariants as func
+use Rattle.wf_ast.specs.declared.Func.TheVariants as func
 use Rattle.std.specs.Prelude.{◌≡◌, ℕ, List, [], ◌∷◌, ◌++◌, Some, None, codes, Option}
 use Rattle.wf_ast.specs.Tree.{Expr, Whole, Listed, Mapped, no_templates, InList, Body, loop, parallel, OfLoop, try, except, Program, steps, fields, exprs}
 use Rattle.wf_model.specs.Config.{After, To}

@@ -1,5 +1,5 @@
 -- Worked errors: how a task leaves what it stands in, and which `except` sees the error.
-use Rattle.wf_ast.specs.declared.tree.Op.TheVariants as op
+use Rattle.wf_ast.specs.declared.Op.TheVariants as op
 use Rattle.std.specs.Prelude.{◌≡◌, ℕ, zero, suc, true, false, List, [], ◌∷◌, pos, Some, None, codes}
 use Rattle.wf_ast.specs.Tree.{Expr, Scalar, Whole, Listed, no_templates, InRange, Step, Body, loop, no_except, Except, except, Program, steps, exprs}
 use Rattle.wf_model.specs.Config.{Layer, Task, Raised, After, To}

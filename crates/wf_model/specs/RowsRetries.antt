@@ -1,5 +1,5 @@
 -- Worked retries: how often a body is tried again, when, and who decides.
-use Rattle.wf_ast.specs.declared.tree.Op.TheVariants as op
+use Rattle.wf_ast.specs.declared.Op.TheVariants as op
 use Rattle.std.specs.Prelude.{ℕ, List, [], ◌∷◌, ◌++◌, Some, codes}
 use Rattle.wf_ast.specs.Tree.{Expr, Whole, Predicate, Predefined, FlowNamed, Policy, Body, try, no_except, Program}
 use Rattle.wf_model.specs.Writing.{num, said, st, get_call, flow_of, main_of, main_and, param, try_steps, returns_error, step_0, moves_of, plain_answer, gives_number, gives_text, raises_tag, ComesTo, MayNotCome}

@@ -1,5 +1,5 @@
 -- Worked runs: literal programs, the events of a run, and what it comes to.
-use Rattle.wf_ast.specs.declared.tree.Func.TheVariants as func
+use Rattle.wf_ast.specs.declared.Func.TheVariants as func
 use Rattle.std.specs.Prelude.{◌≡◌, [], ◌∷◌, pos, Some, None, codes}
 use Rattle.wf_ast.specs.Accept.{JumpOutOfScope, UnknownStep, BreakOutsideLoop}
 use Rattle.wf_ast.specs.Tree.{Expr, no_exprs, Whole, Listed, Mapped, no_templates, template, InList, InRange, step, Body, loop, Program, steps, fields, exprs}

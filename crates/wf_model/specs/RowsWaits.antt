@@ -1,5 +1,5 @@
 -- Worked logs, sleeps and callbacks.
-use Rattle.wf_ast.specs.declared.tree.Func.TheVariants as func
+use Rattle.wf_ast.specs.declared.Func.TheVariants as func
 use Rattle.std.specs.Prelude.{◌≡◌, Bool, true, false, List, [], ◌∷◌, replicate, Some, None, codes}
 use Rattle.wf_ast.specs.Tree.{Expr, no_exprs, Template, Whole, Body, Program}
 use Rattle.wf_model.specs.Config.{LogEntry, After, To, NotNow}

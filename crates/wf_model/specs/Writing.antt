@@ -3,7 +3,7 @@
 --     start, step_0, moves_of      an execution's start, and moves of task 0
 --     ComesTo, MayNotCome          what the events of an execution come to
 --     settles, answered_in         running by the engine's choice
-use Rattle.wf_ast.specs.declared.tree.Op.TheVariants as op
+use Rattle.wf_ast.specs.declared.Op.TheVariants as op
 use Rattle.std.specs.Prelude.{◌≡◌, ℕ, zero, suc, List, [], ◌∷◌, replicate, pos, Some, None, codes, Option}
 use Rattle.wf_ast.specs.Tree.{Expr, no_exprs, Template, Scalar, Whole, Entry, Policy, Step, step, Body, parallel, OfBranches, Branches, no_branches, branch, try, Except, except, CallBody, Param, Flow, Program, steps, fields}
 use Rattle.wf_model.specs.Choose.{choose}
