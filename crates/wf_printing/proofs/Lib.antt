@@ -1,1 +1,2 @@
+-- The lemmas of printing.
 pub mod Printings

@@ -1,1 +1,2 @@
+-- The definitions of printing.
 pub mod Printing

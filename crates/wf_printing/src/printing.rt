@@ -6,7 +6,8 @@ ghost use Rattle.wf_printing.specs.Printing.{PrintsFront, PrintsWhole, LeavesSom
 use wf_host::Host;
 
 /// Prints the bytes, a piece at a time, until all are taken, a print fails or one takes nothing; true where all were taken.
-/// Each deed is a print. It stops early only where a print failed, or took nothing of a piece that isn't empty.
+/// Each deed is a print. It stops early only where a print failed, or took nothing of a piece that isn't empty: then it answers false,
+/// a front of the text stands printed, and at least one byte doesn't. It allocates nothing itself, and never touches the journal file.
 pub fn print_all<H: Host>(host: &mut H, text: &[u8]) -> bool
     // what was printed is the front of the text, and nothing else was done
     ensures printed { Told (H.world host.old)

@@ -1,0 +1,4 @@
+pub mod Source
+pub mod Ends
+pub mod Said
+pub mod Top

@@ -1,0 +1,6 @@
+pub mod Texts
+pub mod Pairs
+pub mod Lists
+pub mod Entries
+pub mod Steps
+pub mod Sources

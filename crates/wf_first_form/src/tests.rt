@@ -1,0 +1,188 @@
+// What no clause says: that a source is read where there is memory, and that the form is the one that was meant.
+use crate::first_form;
+use std::alloc::Global;
+use std::test::Fail;
+use wf_ast::{Body, Entry, Expr, Program, Step, Template};
+use wf_value::{Value, to_json};
+
+// A value as a source has it.
+fn write_value(alloc: Global, out: &mut Vec<u8>, value: &Template) -> Result<(), Fail> {
+    match value {
+        Template::Lit(Value::Null) => out.extend_from_slice(b"null")?,
+        Template::Lit(Value::Bool(true)) => out.extend_from_slice(b"true")?,
+        Template::Lit(Value::Bool(false)) => out.extend_from_slice(b"false")?,
+        Template::Lit(Value::Int(number)) => {
+            let text = to_json(alloc, &Value::Int(*number))?;
+            out.extend_from_slice(text.as_slice())?;
+        }
+        Template::Expr(Expr::Name(name)) => {
+            out.extend_from_slice(b"$")?;
+            out.extend_from_slice(name.as_str().as_bytes())?;
+        }
+        _ => out.extend_from_slice(b"?")?,
+    }
+    Ok(())
+}
+
+fn write_entry(alloc: Global, out: &mut Vec<u8>, entry: &Entry) -> Result<(), Fail> {
+    out.extend_from_slice(b" ")?;
+    out.extend_from_slice(entry.target.name.as_str().as_bytes())?;
+    for _ in entry.target.places.items() {
+        out.extend_from_slice(b"?")?;
+    }
+    out.extend_from_slice(b"=")?;
+    write_value(alloc, out, &entry.value)
+}
+
+fn write_step(alloc: Global, out: &mut Vec<u8>, step: &Step) -> Result<(), Fail> {
+    out.extend_from_slice(step.name.as_str().as_bytes())?;
+    out.extend_from_slice(b":")?;
+    match &step.body {
+        Body::Assign(entries) => for entry in entries.items() {
+            write_entry(alloc, out, entry)?;
+        },
+        Body::Return(value) => {
+            out.extend_from_slice(b" return ")?;
+            write_value(alloc, out, value)?;
+        }
+        _ => out.extend_from_slice(b"?")?,
+    }
+    if step.next.is_some() {
+        out.extend_from_slice(b"?")?;
+    }
+    out.extend_from_slice(b"; ")?;
+    Ok(())
+}
+
+// A line of text for a program.
+fn shown(alloc: Global, program: &Program) -> Result<Vec<u8>, Fail> {
+    let mut out = Vec::new(alloc);
+    for flow in program.flows.items() {
+        out.extend_from_slice(flow.name.as_str().as_bytes())?;
+        for _ in flow.params.items() {
+            out.extend_from_slice(b"?")?;
+        }
+        out.extend_from_slice(b"; ")?;
+        for step in flow.steps.items() {
+            write_step(alloc, &mut out, step)?;
+        }
+    }
+    Ok(out)
+}
+
+#[test]
+fn reads_programs(rt: HostRuntime) -> Result<(), Fail> {
+    let alloc = rt.alloc();
+    let rows = [
+        ("[{\"a\":{\"return\":7}}]", "main; a: return 7; "),
+        (
+            " [ {\"one\": {\"assign\": [{\"x\": 1}, {\"y\": \"${x}\"}]}},\n {\"two\": {\"return\": \"${y}\"}} ]",
+            "main; one: x=1 y=$x; two: return $y; ",
+        ),
+        (
+            "[{\"a\":{\"assign\":[{\"x\":null},{\"x\":true},{\"_9\":\"${x}\"}]}},{\"b\":{\"assign\":[{\"ANd\":false}]}}]",
+            "main; a: x=null x=true _9=$x; b: ANd=false; ",
+        ),
+        (
+            "[{\"and\":{\"return\":-9223372036854775808}},{\"End of it\":{\"return\":0}}]",
+            "main; and: return -9223372036854775808; End of it: return 0; ",
+        ),
+    ];
+    for (source, want) in rows {
+        let Some(program) = first_form(alloc, source.as_bytes())? else {
+            assert!(rt; false, "none at {source}");
+            continue;
+        };
+        let text = shown(alloc, &program)?;
+        assert_eq!(rt; text.as_slice(), want.as_bytes(), "at {source}");
+    }
+    Ok(())
+}
+
+#[test]
+fn refuses_other_sources(rt: HostRuntime) -> Result<(), Fail> {
+    let alloc = rt.alloc();
+    let rows = [
+        "",
+        "[]",
+        "{}",
+        "7",
+        "[7]",
+        "[{}]",
+        "[[{\"a\":{\"return\":7}}]]",
+        "{\"main\":{\"steps\":[{\"a\":{\"return\":7}}]}}",
+        "[{\"a\":{\"return\":7}},]",
+        "[{\"a\":{\"return\":7},\"b\":{\"return\":7}}]",
+        "[{\"a\":{\"return\":7,\"next\":\"end\"}}]",
+        "[{\"a\":{\"call\":\"b\"}}]",
+        "[{\"end\":{\"return\":7}}]",
+        "[{\"\":{\"return\":7}}]",
+        "[{\"a\":{\"return\":1}},{\"b\":{\"return\":2}},{\"a\":{\"return\":3}}]",
+        "[{\"a\":{\"assign\":{\"x\":1}}}]",
+        "[{\"a\":{\"assign\":[]}}]",
+        "[{\"a\":{\"assign\":[{\"x\":1,\"y\":2}]}}]",
+        "[{\"a\":{\"assign\":[{\"and\":1}]}}]",
+        "[{\"a\":{\"assign\":[{\"9a\":1}]}}]",
+        "[{\"a\":{\"assign\":[{\"x.y\":1}]}}]",
+        "[{\"a\":{\"assign\":[{\"x\":\"${x}\"}]}}]",
+        "[{\"a\":{\"return\":\"${x}\"}}]",
+        "[{\"a\":{\"return\":\"${x}\"}},{\"b\":{\"assign\":[{\"x\":1}]}}]",
+        "[{\"a\":{\"assign\":[{\"x\":1}]}},{\"b\":{\"return\":\"x\"}}]",
+        "[{\"a\":{\"assign\":[{\"x\":1}]}},{\"b\":{\"return\":\"${ x }\"}}]",
+        "[{\"a\":{\"assign\":[{\"x\":1}]}},{\"b\":{\"return\":\"${x}.\"}}]",
+        "[{\"a\":{\"return\":1.5}}]",
+        "[{\"a\":{\"return\":9223372036854775808}}]",
+        "[{\"a\":{\"return\":[1]}}]",
+        "[{\"a\":{\"return\":{\"k\":1}}}]",
+    ];
+    for source in rows {
+        assert!(rt;
+            first_form(alloc, source.as_bytes())?.is_none(),
+            "at {source}"
+        );
+    }
+    Ok(())
+}
+
+// A source of one assign with this many entries.
+fn assigning(alloc: Global, entries: usize) -> Result<Vec<u8>, Fail> {
+    let mut source = Vec::new(alloc);
+    source.extend_from_slice(b"[{\"a\":{\"assign\":[{\"x\":0}")?;
+    for _ in 1..entries {
+        source.extend_from_slice(b",{\"x\":0}")?;
+    }
+    source.extend_from_slice(b"]}}]")?;
+    Ok(source)
+}
+
+// A source of this many bytes, of which the last are blanks.
+fn padded(alloc: Global, len: usize) -> Result<Vec<u8>, Fail> {
+    let mut source = Vec::new(alloc);
+    source.extend_from_slice(b"[{\"a\":{\"return\":7}}]")?;
+    for _ in source.len()..len {
+        source.push(b' ')?;
+    }
+    Ok(source)
+}
+
+#[test]
+fn keeps_to_the_limits(rt: HostRuntime) -> Result<(), Fail> {
+    let alloc = rt.alloc();
+    for (entries, reads) in [(1, true), (50, true), (51, false)] {
+        let source = assigning(alloc, entries)?;
+        assert_eq!(rt;
+            first_form(alloc, source.as_slice())?.is_some(),
+            reads,
+            "of {entries} entries"
+        );
+    }
+    for (len, reads) in [(1_024, true), (1_025, false)] {
+        let source = padded(alloc, len)?;
+        assert_eq!(rt;
+            first_form(alloc, source.as_slice())?.is_some(),
+            reads,
+            "of {len} bytes"
+        );
+    }
+    Ok(())
+}

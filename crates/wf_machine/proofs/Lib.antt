@@ -1,0 +1,8 @@
+-- The lemmas of the machine.
+pub mod Straight
+pub mod Only
+pub mod Places
+pub mod Values
+pub mod Advance
+pub mod Stands
+pub mod Ends

@@ -1,0 +1,29 @@
+//! The machine: an execution of a workflow, event by event.
+//!
+//! An execution is a program, what it was started with, and what stands between two events: where `main` is, its variables, the count
+//! of events, the last reading of the clock, and the outcome. [`Machine::choose`] tells the event that comes next, [`Machine::apply`]
+//! carries it out, and [`Machine::outcome`] tells how the execution has ended. Nothing is read from a clock or a network: readings
+//! come in from outside, in milliseconds since 1970.
+//!
+//! The programs are those that run straight through: `main` alone, without parameters, whose steps assign plain names or return, and
+//! whose values are literals and names. Each entry of an assign, each empty assign and each return is one event. The limits are those
+//! of the first rules:
+//! - counted events: 100,000 in an execution, of which the last isn't carried out: it raises a `ResourceLimitError`;
+//! - variables: 65,536 in all, each counting 2, the bytes of its name and the size of its value;
+//! - one value: a size of 4,194,304, and a nesting of 100.
+//!
+//! An error of the program (`KeyError`, `ResourceLimitError`) is an outcome. An error of a call is an [`ApplyFault`] or want of memory.
+#![tactic(auto)]
+
+mod evaluate;
+mod event;
+mod laws;
+mod machine;
+mod moves;
+mod store;
+#[cfg(test)]
+mod tests;
+
+pub use event::{Event, Start};
+pub use laws::one_outcome;
+pub use machine::{ApplyFault, Machine, Outcome};

@@ -1,0 +1,225 @@
+// What no clause says: that the calls succeed where there is memory. And whole executions, whose answers were worked out by hand.
+ghost use Rattle.std.specs.Prelude.{◌≡◌, ◌∷◌, [], true, None, IfOk};
+ghost use Rattle.std.specs.List.{list_all};
+ghost use Rattle.wf_ast.specs.Tree as t;
+ghost use Rattle.wf_ast.specs.View.{body_view, entries_view, entry_view, program_view, step_view, steps_view, template_view};
+ghost use Rattle.wf_machine.specs.Straight.{are_straight, is_plain, is_plain_entry, is_straight, is_straight_step};
+
+use crate::{ApplyFault, Event, Machine, Outcome, Start, one_outcome};
+use std::alloc::Global;
+use std::test::Fail;
+use wf_ast::{
+    Body, Entries, Entry, Expr, Exprs, Flow, Flows, Params, Program, Step, StepList, Target,
+    Template,
+};
+use wf_value::{Bytes, Map, OutOfMemory, Tag, Text, Value, error_map};
+
+// The template `${name}`.
+fn read(alloc: Global, name: &str) -> Result<Template, OutOfMemory>
+    ensures { IfOk result (λ v. is_plain (template_view v) ≡ true) }
+{
+    Ok(Template::Expr(Expr::Name(Text::new(alloc, name)?)))
+}
+
+fn entry(alloc: Global, name: &str, value: Template) -> Result<Entry, OutOfMemory>
+    requires { is_plain (template_view value) ≡ true }
+    ensures { IfOk result (λ e. is_plain_entry (entry_view e) ≡ true) }
+{
+    let target = Target {
+        name: Text::new(alloc, name)?,
+        places: Exprs::new(alloc)?,
+        text: Text::new(alloc, name)?,
+    };
+    Ok(Entry { target, value })
+}
+
+fn assign(alloc: Global, entries: Entries) -> Result<Step, OutOfMemory>
+    requires { list_all is_plain_entry (entries_view entries) ≡ true }
+    ensures { IfOk result (λ s. is_straight_step (step_view s) ≡ true) }
+{
+    Ok(Step {
+        name: Text::new(alloc, "a")?,
+        body: Body::Assign(entries),
+        next: None,
+    })
+}
+
+// Assigns one name.
+fn assign_one(alloc: Global, name: &str, value: Template) -> Result<Step, OutOfMemory>
+    requires { is_plain (template_view value) ≡ true }
+    ensures { IfOk result (λ s. is_straight_step (step_view s) ≡ true) }
+{
+    let mut entries = Entries::new(alloc)?;
+    entries.push(entry(alloc, name, value)?)?;
+    assign(alloc, entries)
+}
+
+fn give_back(alloc: Global, value: Template) -> Result<Step, OutOfMemory>
+    requires { is_plain (template_view value) ≡ true }
+    ensures { IfOk result (λ s. is_straight_step (step_view s) ≡ true) }
+{
+    Ok(Step {
+        name: Text::new(alloc, "r")?,
+        body: Body::Return(value),
+        next: None,
+    })
+}
+
+// The program whose `main` has these steps.
+fn program(alloc: Global, steps: StepList) -> Result<Program, OutOfMemory>
+    requires { are_straight (t.steps (steps_view steps)) ≡ true }
+    ensures { IfOk result (λ p. is_straight (program_view p) ≡ true) }
+{
+    let mut flows = Flows::new(alloc)?;
+    flows.push(Flow {
+        name: Text::new(alloc, "main")?,
+        params: Params::new(alloc)?,
+        steps,
+    })?;
+    Ok(Program { flows })
+}
+
+// The program of one step.
+fn program_of(alloc: Global, step: Step) -> Result<Program, OutOfMemory>
+    requires { is_straight_step (step_view step) ≡ true }
+    ensures { IfOk result (λ p. is_straight (program_view p) ≡ true) }
+{
+    let mut steps = StepList::new(alloc)?;
+    steps.push(step)?;
+    program(alloc, steps)
+}
+
+// Assigns `x = 4` and `y = x` in one step, and returns `y`.
+fn four(alloc: Global) -> Result<Program, OutOfMemory>
+    ensures { IfOk result (λ p. is_straight (program_view p) ≡ true) }
+{
+    let mut entries = Entries::new(alloc)?;
+    entries.push(entry(alloc, "x", Template::Lit(Value::Int(4)))?)?;
+    entries.push(entry(alloc, "y", read(alloc, "x")?)?)?;
+    let mut steps = StepList::new(alloc)?;
+    steps.push(assign(alloc, entries)?)?;
+    steps.push(give_back(alloc, read(alloc, "y")?)?)?;
+    program(alloc, steps)
+}
+
+fn start(alloc: Global) -> Result<Start, OutOfMemory> {
+    Ok(Start {
+        id: Text::new(alloc, "order-7")?,
+        source: Bytes::new(alloc, b"main: {}")?,
+        argument: Bytes::new(alloc, b"{}")?,
+        reading: 1_700_000_000_000,
+    })
+}
+
+// Applies what is chosen, until nothing is.
+fn run(machine: &mut Machine) -> Result<(), ApplyFault> {
+    for _ in 0..10 {
+        if let Some(event) = machine.choose(1_700_000_000_005) {
+            machine.apply(&event)?;
+        }
+    }
+    Ok(())
+}
+
+// The machine of this program, after all its moves.
+fn ended(alloc: Global, program: Program) -> Result<Machine, ApplyFault>
+    requires { is_straight (program_view program) ≡ true }
+{
+    let start = match start(alloc) {
+        Ok(start) => start,
+        Err(_) => return Err(ApplyFault::OutOfMemory),
+    };
+    match Machine::new(alloc, &start, program) {
+        Ok(mut machine) => {
+            run(&mut machine)?;
+            Ok(machine)
+        }
+        Err(_) => Err(ApplyFault::OutOfMemory),
+    }
+}
+
+fn returns(machine: &Machine, value: &Value) -> bool {
+    match machine.outcome() {
+        Outcome::Returned(returned) => returned.same(value),
+        _ => false,
+    }
+}
+
+fn raises(machine: &Machine, error: &Value) -> bool {
+    match machine.outcome() {
+        Outcome::Raised(raised) => raised.same(error),
+        _ => false,
+    }
+}
+
+fn refuses(machine: &mut Machine, task: u32) -> bool {
+    machine.apply(&Event::Move(task)) == Err(ApplyFault::NotEnabled)
+}
+
+#[test]
+fn begins(rt: HostRuntime) -> Result<(), Fail> {
+    let alloc = rt.alloc();
+    let start = start(alloc)?;
+    let mut machine = Machine::new(alloc, &start, four(alloc)?)?;
+    assert!(rt; machine.choose(5) == Some(Event::Move(0)));
+    assert!(rt; refuses(&mut machine, 1));
+    assert!(rt; !machine.is_quiet(5));
+    assert_eq!(rt; machine.moves(), 0);
+    Ok(())
+}
+
+#[test]
+fn ends(rt: HostRuntime) -> Result<(), Fail> {
+    let alloc = rt.alloc();
+    let mut machine = ended(alloc, four(alloc)?)?;
+    assert!(rt; refuses(&mut machine, 0));
+    assert!(rt; machine.choose(5).is_none());
+    assert!(rt; machine.is_quiet(5));
+    assert!(rt; machine.least_due().is_none());
+    assert_eq!(rt; machine.moves(), 3);
+    assert_eq!(rt; machine.calls(), 0);
+    assert_eq!(rt; machine.last_reading(), 1_700_000_000_000);
+    Ok(())
+}
+
+#[test]
+fn returns_four(rt: HostRuntime) -> Result<(), Fail> {
+    let alloc = rt.alloc();
+    let machine = ended(alloc, four(alloc)?)?;
+    assert!(rt; returns(&machine, &Value::Int(4)));
+    Ok(())
+}
+
+#[test]
+fn returns_null_behind_the_last_step(rt: HostRuntime) -> Result<(), Fail> {
+    let alloc = rt.alloc();
+    let step = assign_one(alloc, "x", Template::Lit(Value::Int(4)))?;
+    let machine = ended(alloc, program_of(alloc, step)?)?;
+    assert!(rt; returns(&machine, &Value::Null));
+    Ok(())
+}
+
+#[test]
+fn counts_an_empty_assign(rt: HostRuntime) -> Result<(), Fail> {
+    let alloc = rt.alloc();
+    let step = assign(alloc, Entries::new(alloc)?)?;
+    let machine = ended(alloc, program_of(alloc, step)?)?;
+    assert_eq!(rt; machine.moves(), 1);
+    Ok(())
+}
+
+#[test]
+fn raises_a_key_error(rt: HostRuntime) -> Result<(), Fail> {
+    let alloc = rt.alloc();
+    let step = give_back(alloc, read(alloc, "x")?)?;
+    let machine = ended(alloc, program_of(alloc, step)?)?;
+    let error = error_map(alloc, Tag::KeyError)?;
+    assert!(rt; raises(&machine, &error));
+    Ok(())
+}
+
+#[test]
+fn carries_a_law(_rt: HostRuntime) -> Result<(), Fail> {
+    one_outcome();
+    Ok(())
+}

@@ -1,0 +1,9 @@
+//! Tests that cross crates: what the top call prints, and with which status, over a source and a host in memory.
+#![tactic(auto)]
+
+#[cfg(test)]
+mod command;
+#[cfg(test)]
+mod faults;
+#[cfg(test)]
+mod first_form;
