@@ -1,6 +1,6 @@
 -- What the code reads of a source.
-use Rattle.std.proofs.Common.{◌≡◌, ℕ, Bool, true, false, List, [], ◌∷◌, ◌++◌, Option, None, Some, refl, sym, ◌∙◌, ap, subst}
-use Rattle.std.specs.Prelude.{slice_get, is_some, option_map, option_and_then}
+use Rattle.std.proofs.Common.{◌≡◌, true, false, List, [], ◌∷◌, Option, None, Some, refl, sym, ◌∙◌, ap}
+use Rattle.std.specs.Prelude.{slice_get, is_some, option_map}
 use Rattle.wf_first_form.specs.FirstForm.{pair_in}
 use Rattle.wf_value.specs.Data.{Data, map, pairs_of}
 use Rattle.wf_value.specs.Pairs.{Text}

@@ -1,11 +1,11 @@
 -- The first form of a source: a list of at least one step, each with a name of its own, that assigns or returns. Its values are null,
 -- truth values, whole numbers, and texts `${n}` that read a variable which stands assigned earlier in the source.
 --     first_form     the program that some bytes are, if they are of the form
-use Rattle.std.specs.Prelude.{ℕ, ◌+◌, Bool, true, false, not, ◌&&◌, ◌||◌, List, [], ◌∷◌, ◌++◌, length, if◌then◌else◌, nat_le, nat_lt, Option, Some, None, option_map, option_and_then, codes, bytes_eq, find}
+use Rattle.std.specs.Prelude.{ℕ, ◌+◌, Bool, false, not, ◌&&◌, ◌||◌, List, [], ◌∷◌, ◌++◌, length, if◌then◌else◌, nat_le, nat_lt, Option, Some, None, option_map, option_and_then, codes, bytes_eq, find}
 use Rattle.std.specs.List.{list_all}
 use Rattle.wf_ast.specs.Tree.{Expr, no_exprs, Template, Scalar, Whole, Entry, Step, step, Steps, no_steps, more, Body, Program}
 use Rattle.wf_shared.specs.HttpRequest.{is_among}
-use Rattle.wf_value.specs.Data.{Data, null, boolean, integer, text, bytes, list, map, Items, no_items, item, Pairs, no_pairs, pair}
+use Rattle.wf_value.specs.Data.{Data, null, boolean, integer, text, list, map, Items, no_items, item, no_pairs, pair}
 use Rattle.wf_value.specs.Decode.{json_value}
 use Rattle.wf_value.specs.Pairs.{Text}
 

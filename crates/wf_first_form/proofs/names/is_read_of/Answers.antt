@@ -1,4 +1,4 @@
-use Rattle.std.proofs.Common.{◌≡◌, ◌∷◌, [], ◌++◌, sym, ◌∙◌, ap}
+use Rattle.std.proofs.Common.{◌∷◌, [], ◌++◌, sym, ◌∙◌, ap}
 use Rattle.wf_first_form.proofs.Texts.{reads_is}
 use Rattle.wf_first_form.proofs.names.is_read_of.Goals as goal
 
