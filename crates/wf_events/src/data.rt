@@ -1,0 +1,136 @@
+// Records and what they hold.
+ghost use Rattle.std.specs.Prelude.{◌≡◌, [], ◌∷◌, ◌++◌, OnOk, OnErr, map};
+ghost use Rattle.wf_events.specs.View.{event_view, events_view, event_list};
+
+use std::alloc::Global;
+use std::marker::Model;
+use wf_host::Routes;
+use wf_value::{Bytes, OutOfMemory, Text};
+
+/// An atomic step of an execution: one change of its configuration. The reading of the clock that an event takes is in
+/// milliseconds since 1970.
+#[derive(Debug, PartialEq, Eq, Drop)]
+pub enum Event {
+    /// A move of the task with this number, which reads no clock. `main` is task 0.
+    Move(u32),
+    /// A move of the task with this number, at this reading of the clock.
+    MoveAt(u32, u64),
+}
+
+/// Events in the order in which they came.
+#[derive(Drop)]
+pub struct Events {
+    items: Vec<Event>,
+}
+
+impl Events {
+    /// No events.
+    pub fn new(alloc: Global) -> Events
+        ensures { events_view result ≡ [] }
+    {
+        Events {
+            items: Vec::new(alloc),
+        }
+    }
+
+    /// Adds an event at the end. Without memory for it the events stay as they are.
+    pub fn push(&mut self, event: Event) -> Result<(), OutOfMemory>
+        ensures ok { OnOk result (events_view self.new ≡ events_view self.old ++ event_view event ∷ []) }
+        ensures err { OnErr result (events_view self.new ≡ events_view self.old) }
+    {
+        match self.items.push(event) {
+            Ok(()) => Ok(()),
+            Err(_) => Err(OutOfMemory),
+        }
+    }
+
+    /// The events.
+    pub fn items(&self) -> &[Event]
+        ensures items { result.now ≡ event_list self.now }
+        ensures view { map event_view result.now ≡ events_view self.now }
+    {
+        &self.items
+    }
+}
+
+/// The events that were added to a journal at once, by one session.
+#[derive(Drop)]
+pub struct Turn {
+    /// The number of the session, from 1 on.
+    pub session: u64,
+    /// How often the session had waited for the outside by then.
+    pub waits: u64,
+    /// What happened, in order.
+    pub events: Events,
+}
+
+/// Pairs of a key and a value, in the order in which they were pushed.
+#[derive(Drop)]
+pub struct Pairs {
+    items: Vec<(Text, Text)>,
+}
+
+impl Model for Pairs {
+    ghost use Rattle.std.specs.Prelude.{List, ℕ};
+
+    ghost Value = { List (List ℕ × List ℕ) };
+
+    ghost view = { λ p. p.items.items };
+}
+
+impl Pairs {
+    /// No pairs.
+    pub fn new(alloc: Global) -> Pairs
+        ensures { result ≡ [] }
+    {
+        Pairs {
+            items: Vec::new(alloc),
+        }
+    }
+
+    /// Adds a pair at the end. Without memory for it the pairs stay as they are.
+    pub fn push(&mut self, key: Text, value: Text) -> Result<(), OutOfMemory>
+        ensures ok { OnOk result (self.new ≡ self.old ++ (key, value) ∷ []) }
+        ensures err { OnErr result (self.new ≡ self.old) }
+    {
+        match self.items.push((key, value)) {
+            Ok(()) => Ok(()),
+            Err(_) => Err(OutOfMemory),
+        }
+    }
+
+    /// The pairs.
+    pub fn items(&self) -> &[(Text, Text)]
+        ensures { result.now ≡ self.now }
+    {
+        &self.items
+    }
+}
+
+/// What an execution is started with, under the first rules.
+#[derive(Drop)]
+pub struct Start {
+    /// Its id: 1 to 64 letters, digits, `.`, `_` and `-`. Nothing checks it here.
+    pub id: Text,
+    /// The bytes of its source, as they were read.
+    pub source: Bytes,
+    /// Its argument, as compact JSON (RFC 8259).
+    pub argument: Bytes,
+    /// Where calls for some hosts are sent.
+    pub routes: Routes,
+    /// The environment: names and their values.
+    pub env: Pairs,
+    /// The address for callbacks, `NAME:PORT`, or no text where there is none.
+    pub base: Text,
+    /// The first reading of the clock, in milliseconds since 1970.
+    pub reading: u64,
+}
+
+/// A record of a journal.
+#[derive(Drop)]
+pub enum Record {
+    /// The first one: what the execution was started with.
+    Start(Start),
+    /// Each later one: what happened next.
+    Turn(Turn),
+}
