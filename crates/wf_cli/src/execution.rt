@@ -4,11 +4,11 @@ ghost use Rattle.wf_ast.specs.View.{program_view};
 ghost use Rattle.wf_cli.specs.Ends.{outcome_text};
 ghost use Rattle.wf_cli.specs.Said.{SaysOutcome, SaysTheOutcome};
 ghost use Rattle.wf_cli.specs.Source.{start_of};
-ghost use Rattle.wf_machine.specs.Events.{start_view};
+ghost use Rattle.wf_events.specs.View.{start_view};
 ghost use Rattle.wf_machine.specs.Lent.{outcome_view};
-ghost use Rattle.wf_machine.specs.Outcome.{IsResult, IsShallow, Leads};
+ghost use Rattle.wf_machine.specs.Outcome.{IsResult, IsShallow, LeadsTo};
 ghost use Rattle.wf_machine.specs.Seen.{state_of};
-ghost use Rattle.wf_machine.specs.Straight.{is_straight};
+ghost use Rattle.wf_machine.specs.Straight.{is_straight, reads_no_clock};
 ghost use Rattle.wf_status.specs.Statuses.{line_end};
 ghost use Rattle.wf_value.specs.Data.{depth};
 ghost use Rattle.wf_value.specs.Json.{json_text};
@@ -17,7 +17,9 @@ ghost use Rattle.wf_value.specs.Plain.{plain};
 use crate::end::Said;
 use std::alloc::Global;
 use wf_ast::Program;
-use wf_machine::{ApplyFault, Machine, Outcome, Start};
+use wf_events::{Pairs, Start};
+use wf_host::Routes;
+use wf_machine::{ApplyFault, Machine, Outcome};
 use wf_status::Status;
 use wf_value::{Bytes, OutOfMemory, Text, Value, to_json};
 
@@ -29,6 +31,9 @@ fn start_for(alloc: Global, source: &[u8]) -> Result<Start, OutOfMemory>
         id: Text::new(alloc, "w0")?,
         source: Bytes::new(alloc, source)?,
         argument: Bytes::new(alloc, b"null")?,
+        routes: Routes::new(alloc),
+        env: Pairs::new(alloc),
+        base: Text::new(alloc, "")?,
         reading: 0,
     })
 }
@@ -36,7 +41,8 @@ fn start_for(alloc: Global, source: &[u8]) -> Result<Start, OutOfMemory>
 /// Applies the chosen events until none is left.
 fn run_to_end(machine: &mut Machine) -> Result<(), OutOfMemory>
     requires { (state_of machine.old).broken ≡ false }
-    ensures { OnOk result (Leads (state_of machine.old).program (state_of machine.old).config (state_of machine.new).config) }
+    ensures leads { OnOk result (LeadsTo (state_of machine.old).program (state_of machine.old).config (state_of machine.new).config) }
+    ensures result { OnOk result (IsResult (state_of machine.new).config.outcome) }
 {
     while let Some(event) = machine.choose(machine.last_reading()) {
         match machine.apply(&event) {
@@ -81,7 +87,8 @@ fn said_of(alloc: Global, outcome: Outcome<'_>) -> Result<Said, OutOfMemory>
 
 /// Runs the program of the source, and tells its outcome.
 pub(crate) fn execute(alloc: Global, source: &[u8], program: Program) -> Result<Said, OutOfMemory>
-    requires { is_straight (program_view program) ≡ true }
+    requires straight { is_straight (program_view program) ≡ true }
+    requires untimed { reads_no_clock (program_view program) ≡ true }
     ensures { IfOk result (SaysTheOutcome (program_view program) (start_of source.now)) }
 {
     let start = start_for(alloc, source)?;

@@ -1,2 +1,6 @@
 pub mod Records
 pub mod View
+pub mod Spelling
+pub mod Reading
+pub mod Faults
+pub mod Laws

@@ -1,5 +1,5 @@
 -- What the program's records are, as plain data.
-use Rattle.std.specs.Prelude.{List, map}
+use Rattle.std.specs.Prelude.{ℕ, List, map}
 use Rattle.wf_host.specs.declared.data.Address.{Address}
 use Rattle.wf_shared.specs.Events as plain
 use Rattle.wf_events.specs.Records as records
@@ -24,6 +24,9 @@ events_view es = map event_view (event_list es)
 abbrev pub address_view : Address → plain.Address
 address_view a = record { name = a.name; port = a.port }
 
+abbrev pub route_view : List ℕ × Address → List ℕ × plain.Address
+route_view r = (r.0, address_view r.1)
+
 abbrev pub turn_view : Turn → plain.Turn
 turn_view t = record { session = t.session; waits = t.waits; events = events_view t.events }
 
@@ -34,7 +37,7 @@ start_view s = record {
   id = s.id;
   source = s.source;
   argument = s.argument;
-  routes = map (λ r. (r.0, address_view r.1)) s.routes;
+  routes = map route_view s.routes;
   env = s.env;
   base = s.base;
   reading = s.reading;

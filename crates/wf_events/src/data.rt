@@ -1,5 +1,5 @@
 // Records and what they hold.
-ghost use Rattle.std.specs.Prelude.{◌≡◌, [], ◌∷◌, ◌++◌, OnOk, OnErr, map};
+ghost use Rattle.std.specs.Prelude.{◌≡◌, [], ◌∷◌, ◌++◌, IfOk, OnOk, OnErr, map};
 ghost use Rattle.wf_events.specs.View.{event_view, events_view, event_list};
 
 use std::alloc::Global;
@@ -97,6 +97,17 @@ impl Pairs {
             Ok(()) => Ok(()),
             Err(_) => Err(OutOfMemory),
         }
+    }
+
+    /// A copy, with the same pairs.
+    pub fn copy(&self, alloc: Global) -> Result<Pairs, OutOfMemory>
+        ensures { IfOk result (λ copy. copy ≡ self.now) }
+    {
+        let mut copy = Pairs::new(alloc);
+        for pair in &self.items {
+            copy.push(pair.0.copy()?, pair.1.copy()?)?;
+        }
+        Ok(copy)
     }
 
     /// The pairs.

@@ -1,6 +1,20 @@
-//! What a journal records: the start of an execution and its turns.
+//! What a journal records: the start of an execution and its turns, and the one spelling of each record.
 #![tactic(auto)]
 
+mod argument;
 mod data;
+mod fault;
+mod laws;
+mod reading;
+mod routes;
+#[cfg(test)]
+mod tests;
+mod writing;
 
+pub use argument::is_argument;
 pub use data::{Event, Events, Pairs, Record, Start, Turn};
+pub use fault::RecordFault;
+pub use laws::one_spelling;
+pub use reading::decode;
+pub use routes::copy_routes;
+pub use writing::{encode, encode_start, encode_turn};

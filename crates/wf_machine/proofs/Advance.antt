@@ -1,7 +1,7 @@
 -- How the code's moves are those of the program.
 use Rattle.std.proofs.Common.{◌≡◌, ◌<◌, ℕ, zero, suc, ◌+◌, Bool, true, false, List, [], ◌∷◌, length, drop, map, Option, None, Some, Result, Ok, Err, refl, sym, ◌∙◌, ap, subst, arith, get_or, drop-cons}
 use Rattle.std.proofs.Math.Dec.{eqb-suc-zero}
-use Rattle.std.specs.Prelude.{if◌then◌else◌, nat_lt, IfOk, ◌==◌}
+use Rattle.std.specs.Prelude.{if◌then◌else◌, IfOk, ◌==◌}
 use Rattle.std.specs.List.{list_all}
 use Rattle.std.proofs.lemmas.List.{drop-map}
 use Rattle.wf_ast.specs.Tree as t
@@ -16,10 +16,9 @@ use Rattle.wf_machine.specs.Moves.{first_entries, IsPlace, before, LeadsOn, Entr
 use Rattle.wf_machine.specs.Straight.{is_plain, value_by, is_plain_entry, is_straight_step}
 use Rattle.wf_machine.specs.declared.moves.Next.TheVariants as next
 use Rattle.wf_machine.proofs.Straight.{and_left, and_right, end_by, move_return, move_entry, move_assign, move_no_entry}
-use Rattle.wf_model.specs.Config.{Facts, To, Raised, move_limit, limits}
-use Rattle.wf_model.specs.Step as model
-use Rattle.wf_model.specs.Taken.{outcome_of}
-use Rattle.wf_shared.specs.Events.{Event}
+use Rattle.wf_model.specs.Config.{Facts, To, Raised, limits}
+use Rattle.wf_model.specs.Move.{move}
+use Rattle.wf_model.specs.Taken.{by_itself, outcome_of}
 use Rattle.wf_value.specs.Data.{Data, Pairs}
 use Rattle.wf_value.specs.Errors.{error_map}
 use Rattle.wf_value.specs.Pairs.{Text, put}
@@ -29,27 +28,27 @@ use Rattle.wf_value.specs.declared.Tag.TheVariants.{ResourceLimitError}
 use Rattle.wf_value.specs.declared.Value.{Value}
 
 -- ## Entries
-pub entry_raised : (e : Entry) (old new : Pairs) (tag : Tag) → value_by e.value old ≡ Err tag → EntryLeads e old (Some tag) new
-entry_raised e old new tag is facts reading m block es left rules = ap (after_entry facts reading block e.target.name es left old m) is
+pub entry_raised : (e : Entry) (now : ℕ) (old new : Pairs) (tag : Tag) → value_by now e.value old ≡ Err tag → EntryLeads e now old (Some tag) new
+entry_raised e now old new tag is facts reading m block es left rules = ap (after_entry facts reading block e.target.name es left old m) is
 
 -- an entry whose value was stored goes on exactly where the variables are within the limits
-entry_stored : (e : Entry) (old new : Pairs) (v : Data) (b : Bool) → value_by e.value old ≡ Ok v → new ≡ put e.target.name v old → is_within 65536 new v ≡ b
+entry_stored : (e : Entry) (now : ℕ) (old new : Pairs) (v : Data) (b : Bool) → value_by now e.value old ≡ Ok v → new ≡ put e.target.name v old → is_within 65536 new v ≡ b
     → (facts : Facts) (reading m : ℕ) (block : Steps) (es : List Entry) (left : Steps) → facts.rules ≡ 1
-    → after_entry facts reading block e.target.name es left old m (value_by e.value old)
+    → after_entry facts reading block e.target.name es left old m (value_by now e.value old)
     ≡ (if b then at_or_end facts reading (control_at block es left) new m else config_by facts reading [] m (Raised (error_map ResourceLimitError)))
-entry_stored e old new v b is stored within facts reading m block es left rules =
+entry_stored e now old new v b is stored within facts reading m block es left rules =
     ap (after_entry facts reading block e.target.name es left old m) is
     ∙ ap (λ vars. if is_within (limits facts.rules).variables vars v then at_or_end facts reading (control_at block es left) vars m else config_by facts reading [] m (Raised (error_map ResourceLimitError))) (sym stored)
     ∙ ap (λ n. if is_within (limits n).variables new v then at_or_end facts reading (control_at block es left) new m else config_by facts reading [] m (Raised (error_map ResourceLimitError))) rules
     ∙ ap (λ c. if c then at_or_end facts reading (control_at block es left) new m else config_by facts reading [] m (Raised (error_map ResourceLimitError))) within
 
 -- an entry that is carried out
-pub entry_done : (e : Entry) (old new : Pairs) (v : Data) → value_by e.value old ≡ Ok v → new ≡ put e.target.name v old → is_within 65536 new v ≡ true → EntryLeads e old None new
-entry_done e old new v is stored within = entry_stored e old new v true is stored within
+pub entry_done : (e : Entry) (now : ℕ) (old new : Pairs) (v : Data) → value_by now e.value old ≡ Ok v → new ≡ put e.target.name v old → is_within 65536 new v ≡ true → EntryLeads e now old None new
+entry_done e now old new v is stored within = entry_stored e now old new v true is stored within
 
 -- an entry that goes past a limit
-pub entry_too_large : (e : Entry) (old new : Pairs) (v : Data) → value_by e.value old ≡ Ok v → new ≡ put e.target.name v old → is_within 65536 new v ≡ false → EntryLeads e old (Some ResourceLimitError) new
-entry_too_large e old new v is stored within = entry_stored e old new v false is stored within
+pub entry_too_large : (e : Entry) (now : ℕ) (old new : Pairs) (v : Data) → value_by now e.value old ≡ Ok v → new ≡ put e.target.name v old → is_within 65536 new v ≡ false → EntryLeads e now old (Some ResourceLimitError) new
+entry_too_large e now old new v is stored within = entry_stored e now old new v false is stored within
 
 -- ## Places
 pub at_index : {A B : Type 0} (f : A → B) (xs : List A) (i : ℕ) (d a : A) → i < length xs → a ≡ get_or xs i d → drop i (map f xs) ≡ f a ∷ drop (i + 1) (map f xs)
@@ -67,64 +66,64 @@ module _ (ss : List Step) (i : ℕ) where
   at_step facts reading m s vars is = ap (λ l. at_or_end facts reading (control_at (t.steps ss) [] (t.steps l)) vars m) is
 
   -- a return with a value
-  pub leads_returned : (x : Text) (r : Template) (j : ℕ) (vars : Pairs) (v : Value) → drop i ss ≡ return_step x r ∷ Rest → IsPlace ss i j → is_plain r ≡ true → value_by r vars ≡ Ok (plain v) → LeadsOn ss i j vars (next.Returned v) vars
-  leads_returned x r zero vars v is place flat value p facts reading m rules lt =
-      ap (λ c. model.next p c (Event.Move 0)) (at_step facts reading m (return_step x r) vars is)
-      ∙ move_return p facts reading (t.steps ss) x r (t.steps Rest) vars m flat lt
-      ∙ ap (λ a. To (config_by facts reading [] (suc m) (outcome_of (end_by a)))) value
-  leads_returned x r (suc j) vars v is place flat value p facts reading m rules lt =
+  pub leads_returned : (x : Text) (r : Template) (j now : ℕ) (vars : Pairs) (v : Value) → drop i ss ≡ return_step x r ∷ Rest → IsPlace ss i j → is_plain r ≡ true → value_by now r vars ≡ Ok (plain v) → LeadsOn ss i j now vars (next.Returned v) vars
+  leads_returned x r zero now vars v is place flat value p facts reading m rules =
+      ap (by_itself p 0 now move) (at_step facts reading m (return_step x r) vars is)
+      ∙ move_return p facts reading (t.steps ss) now x r (t.steps Rest) vars m flat
+      ∙ ap (λ a. To (config_by facts reading [] m (outcome_of (end_by a)))) value
+  leads_returned x r (suc j) now vars v is place flat value p facts reading m rules =
       let none : suc j < 0 = subst (λ l. suc j < length (first_entries l)) is place in absurd (omega (arith, none))
 
   -- a return whose value raises an error
-  pub leads_raised : (x : Text) (r : Template) (j : ℕ) (vars : Pairs) (tag : Tag) → drop i ss ≡ return_step x r ∷ Rest → IsPlace ss i j → is_plain r ≡ true → value_by r vars ≡ Err tag → LeadsOn ss i j vars (next.Raised tag) vars
-  leads_raised x r zero vars tag is place flat value p facts reading m rules lt =
-      ap (λ c. model.next p c (Event.Move 0)) (at_step facts reading m (return_step x r) vars is)
-      ∙ move_return p facts reading (t.steps ss) x r (t.steps Rest) vars m flat lt
-      ∙ ap (λ a. To (config_by facts reading [] (suc m) (outcome_of (end_by a)))) value
-  leads_raised x r (suc j) vars tag is place flat value p facts reading m rules lt =
+  pub leads_raised : (x : Text) (r : Template) (j now : ℕ) (vars : Pairs) (tag : Tag) → drop i ss ≡ return_step x r ∷ Rest → IsPlace ss i j → is_plain r ≡ true → value_by now r vars ≡ Err tag → LeadsOn ss i j now vars (next.Raised tag) vars
+  leads_raised x r zero now vars tag is place flat value p facts reading m rules =
+      ap (by_itself p 0 now move) (at_step facts reading m (return_step x r) vars is)
+      ∙ move_return p facts reading (t.steps ss) now x r (t.steps Rest) vars m flat
+      ∙ ap (λ a. To (config_by facts reading [] m (outcome_of (end_by a)))) value
+  leads_raised x r (suc j) now vars tag is place flat value p facts reading m rules =
       let none : suc j < 0 = subst (λ l. suc j < length (first_entries l)) is place in absurd (omega (arith, none))
 
   -- an assign without entries
-  pub leads_empty : (x : Text) (j : ℕ) (vars : Pairs) → drop i ss ≡ assign_step x [] ∷ Rest → IsPlace ss i j → LeadsOn ss i j vars (next.Before (i + 1) 0) vars
-  leads_empty x zero vars is place p facts reading m rules lt =
-      ap (λ c. model.next p c (Event.Move 0)) (at_step facts reading m (assign_step x []) vars is)
-      ∙ move_no_entry p facts reading (t.steps ss) x (t.steps Rest) vars m lt
-  leads_empty x (suc j) vars is place p facts reading m rules lt =
+  pub leads_empty : (x : Text) (j now : ℕ) (vars : Pairs) → drop i ss ≡ assign_step x [] ∷ Rest → IsPlace ss i j → LeadsOn ss i j now vars (next.Before (i + 1) 0) vars
+  leads_empty x zero now vars is place p facts reading m rules =
+      ap (by_itself p 0 now move) (at_step facts reading m (assign_step x []) vars is)
+      ∙ move_no_entry p facts reading (t.steps ss) now x (t.steps Rest) vars m
+  leads_empty x (suc j) now vars is place p facts reading m rules =
       let none : suc j < 0 = subst (λ l. suc j < length (first_entries l)) is place in absurd (omega (arith, none))
 
   -- an entry's move, however it ends
-  pub entry_moves : (x : Text) (es : List Entry) (j : ℕ) (e : Entry) (vars : Pairs) → drop i ss ≡ assign_step x es ∷ Rest → drop j es ≡ e ∷ drop (j + 1) es → is_plain_entry e ≡ true
-      → (p : Program) (facts : Facts) (reading m : ℕ) → nat_lt (suc m) move_limit ≡ true
-      → model.next p (before facts reading ss i j vars m) (Event.Move 0) ≡ To (after_entry facts reading (t.steps ss) e.target.name (drop (j + 1) es) (t.steps Rest) vars (suc m) (value_by e.value vars))
-  entry_moves x es zero e vars is at flat p facts reading m lt =
-      ap (λ c. model.next p c (Event.Move 0)) (at_step facts reading m (assign_step x es) vars is ∙ ap (λ l. at_or_end facts reading (control_at (t.steps ss) [] (more (assign_step x l) (t.steps Rest))) vars m) at)
-      ∙ move_assign p facts reading (t.steps ss) x e (drop 1 es) (t.steps Rest) vars m flat lt
-  entry_moves x es (suc j) e vars is at flat p facts reading m lt =
-      ap (λ c. model.next p c (Event.Move 0)) (ap (λ l. at_or_end facts reading (control_at (t.steps ss) (drop (suc j) (first_entries l)) (t.steps Rest)) vars m) is ∙ ap (λ l. at_or_end facts reading (control_at (t.steps ss) l (t.steps Rest)) vars m) at)
-      ∙ move_entry p facts reading (t.steps ss) e (drop (suc j + 1) es) (t.steps Rest) vars m flat lt
+  pub entry_moves : (x : Text) (es : List Entry) (j now : ℕ) (e : Entry) (vars : Pairs) → drop i ss ≡ assign_step x es ∷ Rest → drop j es ≡ e ∷ drop (j + 1) es → is_plain_entry e ≡ true
+      → (p : Program) (facts : Facts) (reading m : ℕ)
+      → by_itself p 0 now move (before facts reading ss i j vars m) ≡ To (after_entry facts reading (t.steps ss) e.target.name (drop (j + 1) es) (t.steps Rest) vars m (value_by now e.value vars))
+  entry_moves x es zero now e vars is at flat p facts reading m =
+      ap (by_itself p 0 now move) (at_step facts reading m (assign_step x es) vars is ∙ ap (λ l. at_or_end facts reading (control_at (t.steps ss) [] (more (assign_step x l) (t.steps Rest))) vars m) at)
+      ∙ move_assign p facts reading (t.steps ss) now x e (drop 1 es) (t.steps Rest) vars m flat
+  entry_moves x es (suc j) now e vars is at flat p facts reading m =
+      ap (by_itself p 0 now move) (ap (λ l. at_or_end facts reading (control_at (t.steps ss) (drop (suc j) (first_entries l)) (t.steps Rest)) vars m) is ∙ ap (λ l. at_or_end facts reading (control_at (t.steps ss) l (t.steps Rest)) vars m) at)
+      ∙ move_entry p facts reading (t.steps ss) now e (drop (suc j + 1) es) (t.steps Rest) vars m flat
 
   -- an entry that raises an error
-  pub leads_entry_raised : (x : Text) (es : List Entry) (j : ℕ) (e : Entry) (old new : Pairs) (tag : Tag) → drop i ss ≡ assign_step x es ∷ Rest → drop j es ≡ e ∷ drop (j + 1) es → is_plain_entry e ≡ true
-      → EntryLeads e old (Some tag) new → LeadsOn ss i j old (next.Raised tag) new
-  leads_entry_raised x es j e old new tag is at flat leads p facts reading m rules lt =
-      entry_moves x es j e old is at flat p facts reading m lt ∙ ap To (leads facts reading (suc m) (t.steps ss) (drop (j + 1) es) (t.steps Rest) rules)
+  pub leads_entry_raised : (x : Text) (es : List Entry) (j now : ℕ) (e : Entry) (old new : Pairs) (tag : Tag) → drop i ss ≡ assign_step x es ∷ Rest → drop j es ≡ e ∷ drop (j + 1) es → is_plain_entry e ≡ true
+      → EntryLeads e now old (Some tag) new → LeadsOn ss i j now old (next.Raised tag) new
+  leads_entry_raised x es j now e old new tag is at flat leads p facts reading m rules =
+      entry_moves x es j now e old is at flat p facts reading m ∙ ap To (leads facts reading m (t.steps ss) (drop (j + 1) es) (t.steps Rest) rules)
 
   -- the next entry
-  pub leads_entry : (x : Text) (es : List Entry) (j : ℕ) (e : Entry) (old new : Pairs) → drop i ss ≡ assign_step x es ∷ Rest → drop j es ≡ e ∷ drop (j + 1) es → is_plain_entry e ≡ true
-      → EntryLeads e old None new → LeadsOn ss i j old (next.Before i (j + 1)) new
-  leads_entry x es j e old new is at flat leads p facts reading m rules lt =
-      entry_moves x es j e old is at flat p facts reading m lt ∙ ap To (leads facts reading (suc m) (t.steps ss) (drop (j + 1) es) (t.steps Rest) rules)
-      ∙ ap To (ap (λ l. at_or_end facts reading (control_at (t.steps ss) (drop (j + 1) (first_entries l)) (t.steps Rest)) new (suc m)) (sym is) ∙ next_place facts reading m new)
+  pub leads_entry : (x : Text) (es : List Entry) (j now : ℕ) (e : Entry) (old new : Pairs) → drop i ss ≡ assign_step x es ∷ Rest → drop j es ≡ e ∷ drop (j + 1) es → is_plain_entry e ≡ true
+      → EntryLeads e now old None new → LeadsOn ss i j now old (next.Before i (j + 1)) new
+  leads_entry x es j now e old new is at flat leads p facts reading m rules =
+      entry_moves x es j now e old is at flat p facts reading m ∙ ap To (leads facts reading m (t.steps ss) (drop (j + 1) es) (t.steps Rest) rules)
+      ∙ ap To (ap (λ l. at_or_end facts reading (control_at (t.steps ss) (drop (j + 1) (first_entries l)) (t.steps Rest)) new m) (sym is) ∙ next_place facts reading m new)
     where
-      next_place : (facts : Facts) (reading m : ℕ) (new : Pairs) → at_or_end facts reading (control_at (t.steps ss) (drop (j + 1) (first_entries (drop i ss))) (t.steps Rest)) new (suc m) ≡ before facts reading ss i (j + 1) new (suc m)
-      next_place facts reading m new = let one : j + 1 ≡ suc j = omega arith in subst (λ n. at_or_end facts reading (control_at (t.steps ss) (drop n (first_entries (drop i ss))) (t.steps Rest)) new (suc m) ≡ before facts reading ss i n new (suc m)) (sym one) refl
+      next_place : (facts : Facts) (reading m : ℕ) (new : Pairs) → at_or_end facts reading (control_at (t.steps ss) (drop (j + 1) (first_entries (drop i ss))) (t.steps Rest)) new m ≡ before facts reading ss i (j + 1) new m
+      next_place facts reading m new = let one : j + 1 ≡ suc j = omega arith in subst (λ n. at_or_end facts reading (control_at (t.steps ss) (drop n (first_entries (drop i ss))) (t.steps Rest)) new m ≡ before facts reading ss i n new m) (sym one) refl
 
   -- the step behind the last entry
-  pub leads_last_entry : (x : Text) (es : List Entry) (j : ℕ) (e : Entry) (old new : Pairs) → drop i ss ≡ assign_step x es ∷ Rest → drop j es ≡ e ∷ drop (j + 1) es → is_plain_entry e ≡ true → drop (j + 1) es ≡ []
-      → EntryLeads e old None new → LeadsOn ss i j old (next.Before (i + 1) 0) new
-  leads_last_entry x es j e old new is at flat none leads p facts reading m rules lt =
-      entry_moves x es j e old is at flat p facts reading m lt ∙ ap To (leads facts reading (suc m) (t.steps ss) (drop (j + 1) es) (t.steps Rest) rules)
-      ∙ ap To (ap (λ l. at_or_end facts reading (control_at (t.steps ss) l (t.steps Rest)) new (suc m)) none)
+  pub leads_last_entry : (x : Text) (es : List Entry) (j now : ℕ) (e : Entry) (old new : Pairs) → drop i ss ≡ assign_step x es ∷ Rest → drop j es ≡ e ∷ drop (j + 1) es → is_plain_entry e ≡ true → drop (j + 1) es ≡ []
+      → EntryLeads e now old None new → LeadsOn ss i j now old (next.Before (i + 1) 0) new
+  leads_last_entry x es j now e old new is at flat none leads p facts reading m rules =
+      entry_moves x es j now e old is at flat p facts reading m ∙ ap To (leads facts reading m (t.steps ss) (drop (j + 1) es) (t.steps Rest) rules)
+      ∙ ap To (ap (λ l. at_or_end facts reading (control_at (t.steps ss) l (t.steps Rest)) new m) none)
 
 -- ## What the code looks at
 pub all_at : {A : Type 0} (p : A → Bool) (xs : List A) (i : ℕ) (x : A) (rest : List A) → list_all p xs ≡ true → drop i xs ≡ x ∷ rest → p x ≡ true

@@ -4,5 +4,7 @@ pub mod Only
 pub mod Places
 pub mod Values
 pub mod Advance
+pub mod Clocks
 pub mod Stands
 pub mod Ends
+pub mod Machines

@@ -1,16 +1,17 @@
 -- How a program that runs straight through moves.
-use Rattle.std.proofs.Common.{◌≡◌, ℕ, suc, Bool, true, false, ◌&&◌, ◌||◌, List, [], ◌∷◌, Option, None, Some, Ok, Err, refl, ◌∙◌, ap, arith}
-use Rattle.std.specs.Prelude.{if◌then◌else◌, nat_lt, nat_le, not}
+use Rattle.std.proofs.Common.{◌≡◌, ℕ, Bool, true, false, ◌&&◌, ◌||◌, List, [], ◌∷◌, Option, None, Some, Ok, Err, refl, ◌∙◌, ap, arith}
+use Rattle.std.proofs.Math.Bool.{or-false}
+use Rattle.std.specs.Prelude.{if◌then◌else◌, nat_le, not}
 use Rattle.wf_ast.specs.Eval.{fill}
 use Rattle.wf_ast.specs.Tree.{Expr, Exprs, no_exprs, expr, Template, Scalar, Whole, Joined, Listed, Mapped, Entry, step, Steps, no_steps, more, Body, Program}
-use Rattle.wf_model.specs.Config.{Item, Do, Entries, Awake, Facts, limits, Active, Raised, Config, To, move_limit}
-use Rattle.wf_model.specs.Kinds.{template_now, exprs_now, entry_now, by_clock, next_kind, Plainly}
+use Rattle.wf_model.specs.Config.{Item, Do, Entries, Awake, Facts, limits, Active, Raised, Config, To}
+use Rattle.wf_model.specs.Kinds.{NextKind, Plainly, ByClock, is_now, template_now, exprs_now, entry_now, next_kind}
 use Rattle.wf_model.specs.Layers.{view, value_of, Own, Nowhere, Done, Refused, within_limits, assign_at, assign}
 use Rattle.wf_model.specs.Leave.{on, on_assigned, returns}
 use Rattle.wf_model.specs.Local.{Local, Scene, Main, End, Gives, Fails, Moved, Ends, Goes, total, settle, ended, settled, goes}
 use Rattle.wf_model.specs.Move.{move, assigns}
 use Rattle.wf_model.specs.Ready.{stands_waiting}
-use Rattle.wf_model.specs.Step.{next, wants, counted, one_more, stopped, when, same_kind}
+use Rattle.wf_model.specs.Step.{next, wants, counted, read_at, when, same_kind}
 use Rattle.wf_model.specs.Taken.{by_itself, merged, scene, outcome_of}
 use Rattle.wf_shared.specs.Events.{Event}
 use Rattle.wf_value.specs.Data.{Data, null, Pairs, depth, pairs_size}
@@ -18,7 +19,20 @@ use Rattle.wf_value.specs.Errors.{error_map, Answer, or_error, kept, ◌>>=◌}
 use Rattle.wf_value.specs.Pairs.{Text, get, put}
 use Rattle.wf_value.specs.declared.Tag.TheVariants.{KeyError, ResourceLimitError}
 use Rattle.wf_machine.specs.Machine.{control_at, main_task, config_by, fits, at_or_end, after_entry}
-use Rattle.wf_machine.specs.Straight.{value_by, is_plain, is_no_place, is_plain_entry}
+use Rattle.wf_machine.specs.Straight.{value_by, is_plain, has_no_exprs, is_plain_entry}
+use Rattle.wf_ast.specs.declared.Func.{Func}
+use Rattle.wf_ast.specs.declared.Func.TheVariants as func
+
+-- ## Truth values
+-- both, so the first
+pub and_left : (a b : Bool) → a && b ≡ true → a ≡ true
+and_left true b is = refl
+and_left false b is = is
+
+-- both, so the second
+pub and_right : (a b : Bool) → a && b ≡ true → b ≡ true
+and_right true b is = is
+and_right false b is = absurd (cc is)
 
 -- ## One task
 -- a task with these variables in its one layer sees them
@@ -30,8 +44,48 @@ seen_var (Some v) = refl
 abbrev at_work : List Item → Pairs → Local
 at_work k vars = record { control = k; layers = record { vars = vars; by_call = false } ∷ []; outer = []; wait = Awake }
 
+-- the clock's function
+pub clock_is : (f : Func) → is_now f ≡ true → f ≡ func.SysNow
+clock_is func.Default is = absurd (cc is)
+clock_is func.Keys is = absurd (cc is)
+clock_is func.Len is = absurd (cc is)
+clock_is func.GetType is = absurd (cc is)
+clock_is func.Int is = absurd (cc is)
+clock_is func.String is = absurd (cc is)
+clock_is func.If is = absurd (cc is)
+clock_is func.TextSplit is = absurd (cc is)
+clock_is func.TextReplaceAll is = absurd (cc is)
+clock_is func.TextSubstring is = absurd (cc is)
+clock_is func.TextFindAll is = absurd (cc is)
+clock_is func.TextToUpper is = absurd (cc is)
+clock_is func.TextToLower is = absurd (cc is)
+clock_is func.TextUrlEncode is = absurd (cc is)
+clock_is func.TextUrlDecode is = absurd (cc is)
+clock_is func.TextEncode is = absurd (cc is)
+clock_is func.TextDecode is = absurd (cc is)
+clock_is func.ListConcat is = absurd (cc is)
+clock_is func.ListPrepend is = absurd (cc is)
+clock_is func.MapGet is = absurd (cc is)
+clock_is func.MapDelete is = absurd (cc is)
+clock_is func.MapMerge is = absurd (cc is)
+clock_is func.JsonEncode is = absurd (cc is)
+clock_is func.JsonEncodeToString is = absurd (cc is)
+clock_is func.JsonDecode is = absurd (cc is)
+clock_is func.Base64Encode is = absurd (cc is)
+clock_is func.Base64Decode is = absurd (cc is)
+clock_is func.TimeFormat is = absurd (cc is)
+clock_is func.TimeParse is = absurd (cc is)
+clock_is func.SysNow is = refl
+clock_is func.SysGetEnv is = absurd (cc is)
+
+-- and so a plain call is the clock
+fill_call : (s : Scene) (k : List Item) (vars : Pairs) (f : Func) (es : Exprs) → f ≡ func.SysNow → has_no_exprs es ≡ true
+    → fill (Whole (Expr.Call f es)) (view s (at_work k vars)) ≡ value_by s.now (Whole (Expr.Call f es)) vars
+fill_call s k vars f no_exprs is none = rw is refl
+fill_call s k vars f (expr e es) is none = absurd (cc none)
+
 -- the value of a plain template
-pub fill_plain : (s : Scene) (k : List Item) (vars : Pairs) (t : Template) → is_plain t ≡ true → fill t (view s (at_work k vars)) ≡ value_by t vars
+pub fill_plain : (s : Scene) (k : List Item) (vars : Pairs) (t : Template) → is_plain t ≡ true → fill t (view s (at_work k vars)) ≡ value_by s.now t vars
 fill_plain s k vars (Scalar v) is = refl
 fill_plain s k vars (Whole (Expr.Name x)) is = ap (λ o. or_error KeyError o >>= kept) (seen_var (get x vars))
 fill_plain s k vars (Whole (Expr.Lit v)) is = absurd (cc is)
@@ -42,27 +96,10 @@ fill_plain s k vars (Whole (Expr.Or a b)) is = absurd (cc is)
 fill_plain s k vars (Whole (Expr.Bin o a b)) is = absurd (cc is)
 fill_plain s k vars (Whole (Expr.Key a x)) is = absurd (cc is)
 fill_plain s k vars (Whole (Expr.Index a b)) is = absurd (cc is)
-fill_plain s k vars (Whole (Expr.Call f es)) is = absurd (cc is)
+fill_plain s k vars (Whole (Expr.Call f es)) is = fill_call s k vars f es (clock_is f (and_left _ _ is)) (and_right _ _ is)
 fill_plain s k vars (Joined ps) is = absurd (cc is)
 fill_plain s k vars (Listed ts) is = absurd (cc is)
 fill_plain s k vars (Mapped fs) is = absurd (cc is)
-
--- a plain template reads no clock
-pub plain_now : (t : Template) → is_plain t ≡ true → template_now t ≡ false
-plain_now (Scalar v) is = refl
-plain_now (Whole (Expr.Name x)) is = refl
-plain_now (Whole (Expr.Lit v)) is = absurd (cc is)
-plain_now (Whole (Expr.Neg a)) is = absurd (cc is)
-plain_now (Whole (Expr.Not a)) is = absurd (cc is)
-plain_now (Whole (Expr.And a b)) is = absurd (cc is)
-plain_now (Whole (Expr.Or a b)) is = absurd (cc is)
-plain_now (Whole (Expr.Bin o a b)) is = absurd (cc is)
-plain_now (Whole (Expr.Key a x)) is = absurd (cc is)
-plain_now (Whole (Expr.Index a b)) is = absurd (cc is)
-plain_now (Whole (Expr.Call f es)) is = absurd (cc is)
-plain_now (Joined ps) is = absurd (cc is)
-plain_now (Listed ts) is = absurd (cc is)
-plain_now (Mapped fs) is = absurd (cc is)
 
 -- a return ends the task with its value or its error
 abbrev pub end_by : Answer Data → End
@@ -133,33 +170,23 @@ assigned_by s block es left x k vars (Ok v) none =
     ap (on_assigned s (Entries es ∷ Do block left ∷ []) (at_work k vars)) (assign_is s k vars x v none)
     ∙ assigned_either s block es left k vars (put x v vars) (fits s.facts (put x v vars) v)
 
--- both, so the first
-pub and_left : (a b : Bool) → a && b ≡ true → a ≡ true
-and_left true b is = refl
-and_left false b is = is
-
--- both, so the second
-pub and_right : (a b : Bool) → a && b ≡ true → b ≡ true
-and_right true b is = is
-and_right false b is = absurd (cc is)
-
 -- an entry without places
 assigns_plain : (s : Scene) (block : Steps) (x : Text) (places : Exprs) (written : Text) (t : Template) (es : List Entry) (left : Steps) (k : List Item) (vars : Pairs)
-    → s.others ≡ 0 → is_no_place places && is_plain t ≡ true
+    → s.others ≡ 0 → has_no_exprs places && is_plain t ≡ true
     → assigns s (record { target = record { name = x; places = places; written = written }; value = t }) (Entries es ∷ Do block left ∷ []) (at_work k vars)
-    ≡ moved_by s.facts block es left x k vars (value_by t vars)
+    ≡ moved_by s.facts block es left x k vars (value_by s.now t vars)
 assigns_plain s block x no_exprs written t es left k vars none is =
     ap (λ r. on s (Entries es ∷ Do block left ∷ []) (at_work k vars) r (λ v. on_assigned s (Entries es ∷ Do block left ∷ []) (at_work k vars) (assign s x [] v (at_work k vars)))) (fill_plain s k vars t is)
-    ∙ assigned_by s block es left x k vars (value_by t vars) none
+    ∙ assigned_by s block es left x k vars (value_by s.now t vars) none
 assigns_plain s block x (expr e more_places) written t es left k vars none is = absurd (cc is)
 
--- a plain entry reads no clock
-pub entry_plain_now : (e : Entry) → is_plain_entry e ≡ true → entry_now e ≡ false
-entry_plain_now e is = no_now e.value e.target.places (and_left _ _ is) (and_right _ _ is)
+-- a plain entry reads the clock where its value does
+pub entry_plain_now : (e : Entry) → is_plain_entry e ≡ true → entry_now e ≡ template_now e.value
+entry_plain_now e is = by_value (template_now e.value) e.target.places (and_left _ _ is)
   where
-    no_now : (t : Template) (es : Exprs) → is_no_place es ≡ true → is_plain t ≡ true → template_now t || exprs_now es ≡ false
-    no_now t no_exprs none plain = ap (λ b. b || false) (plain_now t plain)
-    no_now t (expr a rest) none plain = absurd (cc none)
+    by_value : (b : Bool) (es : Exprs) → has_no_exprs es ≡ true → b || exprs_now es ≡ b
+    by_value b no_exprs none = or-false b
+    by_value b (expr a rest) none = absurd (cc none)
 
 -- ## Steps
 module _ (p : Program) (facts : Facts) (reading : ℕ) (block : Steps) where
@@ -168,37 +195,28 @@ module _ (p : Program) (facts : Facts) (reading : ℕ) (block : Steps) where
   At k vars m = config_by facts reading ((0, main_task k vars) ∷ []) m Active
 
   -- what the task wants
-  wants_it : (k : List Item) (vars : Pairs) → stands_waiting k ≡ false → next_kind p k ≡ Plainly → wants p Plainly (main_task k vars) ≡ true
-  wants_it k vars stands kind = ap (λ b. not b && same_kind Plainly (next_kind p k)) stands ∙ ap (same_kind Plainly) kind
+  wants_it : (kind : NextKind) (k : List Item) (vars : Pairs) → same_kind kind kind ≡ true → stands_waiting k ≡ false → next_kind p k ≡ kind → wants p kind (main_task k vars) ≡ true
+  wants_it kind k vars self stands is = ap (λ b. not b && same_kind kind (next_kind p k)) stands ∙ ap (same_kind kind) is ∙ self
 
   -- a move of `main`'s task that no reading is in
-  pub moved : (k : List Item) (vars : Pairs) (m : ℕ) → stands_waiting k ≡ false → next_kind p k ≡ Plainly → nat_lt (suc m) move_limit ≡ true
-      → next p (At k vars m) (Event.Move 0) ≡ by_itself p 0 0 move (At k vars (suc m))
-  moved k vars m stands kind lt =
-      ap (λ b. when b (counted (At k vars m) (by_itself p 0 0 move))) (wants_it k vars stands kind)
-      ∙ ap (λ b. if b then by_itself p 0 0 move (At k vars (suc m)) else To (stopped (one_more (At k vars m)))) lt
+  pub plain_next : (k : List Item) (vars : Pairs) (m : ℕ) → stands_waiting k ≡ false → next_kind p k ≡ Plainly → next p (At k vars m) (Event.Move 0) ≡ counted (At k vars m) (by_itself p 0 0 move)
+  plain_next k vars m stands kind = ap (λ b. when b (counted (At k vars m) (by_itself p 0 0 move))) (wants_it Plainly k vars refl stands kind)
 
-  -- the move that would be one too many
-  pub at_limit : (k : List Item) (vars : Pairs) (m : ℕ) → stands_waiting k ≡ false → next_kind p k ≡ Plainly → nat_lt (suc m) move_limit ≡ false
-      → next p (At k vars m) (Event.Move 0) ≡ To (config_by facts reading ((0, main_task k vars) ∷ []) (suc m) (Raised (error_map ResourceLimitError)))
-  at_limit k vars m stands kind lt =
-      ap (λ b. when b (counted (At k vars m) (by_itself p 0 0 move))) (wants_it k vars stands kind)
-      ∙ ap (λ b. if b then by_itself p 0 0 move (At k vars (suc m)) else To (stopped (one_more (At k vars m)))) lt
+  -- and one with a reading, which isn't below the last one
+  pub clock_next : (k : List Item) (vars : Pairs) (m now : ℕ) → stands_waiting k ≡ false → next_kind p k ≡ ByClock → nat_le reading now ≡ true
+      → next p (At k vars m) (Event.MoveAt 0 now) ≡ counted (read_at now (At k vars m)) (by_itself p 0 now move)
+  clock_next k vars m now stands kind le =
+      ap (λ b. when b (when (wants p ByClock (main_task k vars)) (counted (read_at now (At k vars m)) (by_itself p 0 now move)))) le
+      ∙ ap (λ b. when b (counted (read_at now (At k vars m)) (by_itself p 0 now move))) (wants_it ByClock k vars refl stands kind)
 
   -- ### A return
-  pub move_return : (x : Text) (t : Template) (ss : Steps) (vars : Pairs) (m : ℕ) → is_plain t ≡ true → nat_lt (suc m) move_limit ≡ true
-      → next p (At (Do block (more (step x (Body.Return t) None) ss) ∷ []) vars m) (Event.Move 0) ≡ To (config_by facts reading [] (suc m) (outcome_of (end_by (value_by t vars))))
-  move_return x t ss vars m is lt =
-      moved (Do block (more (step x (Body.Return t) None) ss) ∷ []) vars m refl (ap by_clock (plain_now t is)) lt
-      ∙ ap (λ a. merged 0 None a (At (Do block (more (step x (Body.Return t) None) ss) ∷ []) vars (suc m)))
-      (ap (λ r. on (scene_of (suc m)) (Do block ss ∷ []) (local_of (suc m)) r (λ v. returns (scene_of (suc m)) v (Do block ss ∷ []) (local_of (suc m)))) (fill_plain (scene_of (suc m)) (Do block (more (step x (Body.Return t) None) ss) ∷ []) vars t is)
-      ∙ returns_by (scene_of (suc m)) block ss (local_of (suc m)) (value_by t vars) refl)
-    where
-      scene_of : ℕ → Scene
-      scene_of n = scene p (At (Do block (more (step x (Body.Return t) None) ss) ∷ []) vars n) 0 (main_task (Do block (more (step x (Body.Return t) None) ss) ∷ []) vars) 0
-
-      local_of : ℕ → Local
-      local_of n = at_work (Do block (more (step x (Body.Return t) None) ss) ∷ []) vars
+  pub move_return : (now : ℕ) (x : Text) (t : Template) (ss : Steps) (vars : Pairs) (m : ℕ) → is_plain t ≡ true
+      → by_itself p 0 now move (At (Do block (more (step x (Body.Return t) None) ss) ∷ []) vars m) ≡ To (config_by facts reading [] m (outcome_of (end_by (value_by now t vars))))
+  move_return now x t ss vars m is =
+      let k : List Item = Do block (more (step x (Body.Return t) None) ss) ∷ [] in
+      let s : Scene = scene p (At k vars m) 0 (main_task k vars) now in
+      ap (λ a. merged 0 None a (At k vars m))
+      (ap (λ r. on s (Do block ss ∷ []) (at_work k vars) r (λ v. returns s v (Do block ss ∷ []) (at_work k vars))) (fill_plain s k vars t is) ∙ returns_by s block ss (at_work k vars) (value_by now t vars) refl)
 
   -- ### An assignment
   merged_at : (k : List Item) (old : List Item) (vars was : Pairs) (m : ℕ) → merged 0 None (goes_to k vars) (At old was m) ≡ To (at_or_end facts reading k vars m)
@@ -219,34 +237,31 @@ module _ (p : Program) (facts : Facts) (reading : ℕ) (block : Steps) where
   merged_by x es left k vars m (Ok v) = merged_either (fits facts (put x v vars) v) (control_at block es left) k (put x v vars) vars m
 
   -- no other task has variables
-  no_others : (k : List Item) (vars : Pairs) (m : ℕ) → (scene p (At k vars m) 0 (main_task k vars) 0).others ≡ 0
-  no_others k vars m = omega arith
+  no_others : (now : ℕ) (k : List Item) (vars : Pairs) (m : ℕ) → (scene p (At k vars m) 0 (main_task k vars) now).others ≡ 0
+  no_others now k vars m = omega arith
 
   -- an entry of an assign that was begun
-  pub move_entry : (e : Entry) (es : List Entry) (left : Steps) (vars : Pairs) (m : ℕ) → is_plain_entry e ≡ true → nat_lt (suc m) move_limit ≡ true
-      → next p (At (Entries (e ∷ es) ∷ Do block left ∷ []) vars m) (Event.Move 0) ≡ To (after_entry facts reading block e.target.name es left vars (suc m) (value_by e.value vars))
-  move_entry e es left vars m is lt =
+  pub move_entry : (now : ℕ) (e : Entry) (es : List Entry) (left : Steps) (vars : Pairs) (m : ℕ) → is_plain_entry e ≡ true
+      → by_itself p 0 now move (At (Entries (e ∷ es) ∷ Do block left ∷ []) vars m) ≡ To (after_entry facts reading block e.target.name es left vars m (value_by now e.value vars))
+  move_entry now e es left vars m is =
       let k : List Item = Entries (e ∷ es) ∷ Do block left ∷ [] in
-      moved k vars m refl (ap by_clock (entry_plain_now e is)) lt
-      ∙ ap (λ a. merged 0 None a (At k vars (suc m)))
-      (assigns_plain (scene p (At k vars (suc m)) 0 (main_task k vars) 0) block e.target.name e.target.places e.target.written e.value es left k vars (no_others k vars (suc m)) is)
-      ∙ merged_by e.target.name es left k vars (suc m) (value_by e.value vars)
+      ap (λ a. merged 0 None a (At k vars m))
+      (assigns_plain (scene p (At k vars m) 0 (main_task k vars) now) block e.target.name e.target.places e.target.written e.value es left k vars (no_others now k vars m) is)
+      ∙ merged_by e.target.name es left k vars m (value_by now e.value vars)
 
   -- the first entry of an assign
-  pub move_assign : (x : Text) (e : Entry) (es : List Entry) (left : Steps) (vars : Pairs) (m : ℕ) → is_plain_entry e ≡ true → nat_lt (suc m) move_limit ≡ true
-      → next p (At (Do block (more (step x (Body.Assign (e ∷ es)) None) left) ∷ []) vars m) (Event.Move 0) ≡ To (after_entry facts reading block e.target.name es left vars (suc m) (value_by e.value vars))
-  move_assign x e es left vars m is lt =
+  pub move_assign : (now : ℕ) (x : Text) (e : Entry) (es : List Entry) (left : Steps) (vars : Pairs) (m : ℕ) → is_plain_entry e ≡ true
+      → by_itself p 0 now move (At (Do block (more (step x (Body.Assign (e ∷ es)) None) left) ∷ []) vars m) ≡ To (after_entry facts reading block e.target.name es left vars m (value_by now e.value vars))
+  move_assign now x e es left vars m is =
       let k : List Item = Do block (more (step x (Body.Assign (e ∷ es)) None) left) ∷ [] in
-      moved k vars m refl (ap by_clock (entry_plain_now e is)) lt
-      ∙ ap (λ a. merged 0 None a (At k vars (suc m)))
-      (assigns_plain (scene p (At k vars (suc m)) 0 (main_task k vars) 0) block e.target.name e.target.places e.target.written e.value es left k vars (no_others k vars (suc m)) is)
-      ∙ merged_by e.target.name es left k vars (suc m) (value_by e.value vars)
+      ap (λ a. merged 0 None a (At k vars m))
+      (assigns_plain (scene p (At k vars m) 0 (main_task k vars) now) block e.target.name e.target.places e.target.written e.value es left k vars (no_others now k vars m) is)
+      ∙ merged_by e.target.name es left k vars m (value_by now e.value vars)
 
   -- an assign without entries
-  pub move_no_entry : (x : Text) (left : Steps) (vars : Pairs) (m : ℕ) → nat_lt (suc m) move_limit ≡ true
-      → next p (At (Do block (more (step x (Body.Assign []) None) left) ∷ []) vars m) (Event.Move 0) ≡ To (at_or_end facts reading (control_at block [] left) vars (suc m))
-  move_no_entry x left vars m lt =
+  pub move_no_entry : (now : ℕ) (x : Text) (left : Steps) (vars : Pairs) (m : ℕ)
+      → by_itself p 0 now move (At (Do block (more (step x (Body.Assign []) None) left) ∷ []) vars m) ≡ To (at_or_end facts reading (control_at block [] left) vars m)
+  move_no_entry now x left vars m =
       let k : List Item = Do block (more (step x (Body.Assign []) None) left) ∷ [] in
-      moved k vars m refl refl lt
-      ∙ ap (λ a. merged 0 None a (At k vars (suc m))) (goes_on block [] left k vars)
-      ∙ merged_at (control_at block [] left) k vars vars (suc m)
+      ap (λ a. merged 0 None a (At k vars m)) (goes_on block [] left k vars)
+      ∙ merged_at (control_at block [] left) k vars vars m

@@ -4,7 +4,7 @@ pub mod Machine
 pub mod Outcome
 pub mod Answers
 pub mod Moves
-pub mod Events
+pub mod Facts
 pub mod State
 pub mod Lent
 pub mod Seen

@@ -1,8 +1,8 @@
 -- What a run comes to.
-use Rattle.std.specs.Prelude.{◌≡◌, ◌⊎◌, ◌≤◌, List}
+use Rattle.std.specs.Prelude.{◌≡◌, ◌⊎◌, ◌≤◌, ℕ, List}
 use Rattle.wf_ast.specs.Tree.{Program}
 use Rattle.wf_model.specs.Config.{Outcome, Active, Returned, Raised, Cancelled, Config, To}
-use Rattle.wf_model.specs.Run.{Run}
+use Rattle.wf_model.specs.Run.{Run, run_on}
 use Rattle.wf_model.specs.Step.{next}
 use Rattle.wf_shared.specs.Events.{Event, Start}
 use Rattle.wf_value.specs.Data.{depth}
@@ -25,11 +25,16 @@ IsShallow (Raised e) = depth e ≤ 100
 IsShallow Active = Unit {0}
 IsShallow Cancelled = Unit {0}
 
--- no event can come but the move of `main`, and a cancelling
-abbrev pub OnlyMoves : Program → Config → Type 0
-OnlyMoves p c = (e : Event) (d : Config) → next p c e ≡ To d → (e ≡ Event.Move 0) ⊎ (d.outcome ≡ Cancelled)
+-- some events lead from one configuration to another
+abbrev pub LeadsTo : Program → Config → Config → Type 0
+LeadsTo p c d = (es : List Event) × (run_on p (To c) es ≡ To d)
 
--- `main` moves by itself, move after move, to this last configuration
-pub data Leads (p : Program) : Config → Config → Type 0 where
-  ended : (c : Config) → IsResult c.outcome → Leads p c c
-  moves : (c d last : Config) → c.outcome ≡ Active → OnlyMoves p c → next p c (Event.Move 0) ≡ To d → Leads p d last → Leads p c last
+-- the same move of a task, at whatever reading where it has one
+abbrev pub IsSameMove : Event → Event → Type 0
+IsSameMove (Event.Move b) e = e ≡ Event.Move b
+IsSameMove (Event.MoveAt b now) e = (other : ℕ) × (e ≡ Event.MoveAt b other)
+IsSameMove f e = ⊥
+
+-- no event can come in place of this one but the same move at another reading, and a cancelling
+abbrev pub IsAlone : Program → Config → Event → Type 0
+IsAlone p c e = (other : Event) (d : Config) → next p c other ≡ To d → IsSameMove e other ⊎ (d.outcome ≡ Cancelled)

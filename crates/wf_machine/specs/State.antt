@@ -10,7 +10,6 @@ use Rattle.wf_machine.specs.declared.machine.Ending.{Ending}
 use Rattle.wf_machine.specs.declared.machine.Ending.TheVariants as ending
 use Rattle.wf_model.specs.Config.{Facts, Task, Outcome, Active, Returned, Raised, Cancelled, Config}
 use Rattle.wf_value.specs.Data.{Pairs, depth}
-use Rattle.wf_value.specs.Pairs.{Text}
 use Rattle.wf_value.specs.Plain.{plain}
 
 -- a program, where it stands, and whether memory ran out on the way
@@ -18,10 +17,6 @@ pub record State : Type 0 where
   pub program : t.Program
   pub config : Config
   pub broken : Bool
-
--- an execution of this id under the first rules, without routes, an environment and an address for callbacks
-abbrev pub facts_by : Text → Facts
-facts_by id = record { id = id; routes = []; env = []; base = []; rules = 1 }
 
 -- the steps of the first workflow
 abbrev pub first_steps : List Flow → List t.Step

@@ -6,8 +6,8 @@
 //! come in from outside, in milliseconds since 1970.
 //!
 //! The programs are those that run straight through: `main` alone, without parameters, whose steps assign plain names or return, and
-//! whose values are literals and names. Each entry of an assign, each empty assign and each return is one event. The limits are those
-//! of the first rules:
+//! whose values are literals, names and `sys.now()`. Each entry of an assign, each empty assign and each return is one event: a
+//! `MoveAt` with a reading where its value is `sys.now()`, and else a `Move`. The limits are those of the first rules:
 //! - counted events: 100,000 in an execution, of which the last isn't carried out: it raises a `ResourceLimitError`;
 //! - variables: 65,536 in all, each counting 2, the bytes of its name and the size of its value;
 //! - one value: a size of 4,194,304, and a nesting of 100.
@@ -16,7 +16,7 @@
 #![tactic(auto)]
 
 mod evaluate;
-mod event;
+mod facts;
 mod laws;
 mod machine;
 mod moves;
@@ -24,6 +24,5 @@ mod store;
 #[cfg(test)]
 mod tests;
 
-pub use event::{Event, Start};
 pub use laws::one_outcome;
 pub use machine::{ApplyFault, Machine, Outcome};

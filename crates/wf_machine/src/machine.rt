@@ -1,18 +1,19 @@
 // The machine: an execution of a program, event by event.
-ghost use Rattle.std.specs.Prelude.{◌≡◌, ◌≤◌, ◌<◌, ◌↔◌, ◌+◌, ℕ, List, true, false, length, map, IfOk, OnOk, IsErrOf, IfSome, IsSome, IsNone, IsTrue, option_map};
+ghost use Rattle.std.specs.Prelude.{◌≡◌, ◌≤◌, ◌<◌, ◌↔◌, ◌+◌, ℕ, List, true, false, length, map, IfOk, OnOk, IsErrOf, IfSome, IsSome, IsNone, IsTrue, max, option_map};
 ghost use Rattle.wf_ast.specs.View.{program_view, step_view};
-ghost use Rattle.wf_machine.specs.Moves.{IsFine, IsPlace, config_after};
+ghost use Rattle.wf_machine.specs.Moves.{IsFine, IsPlace, clock_at, config_after, main_event};
 ghost use Rattle.wf_machine.specs.State.{RunsOn, IsWithinStep, config_at, is_running, main_steps_view, outcome_by, outcome_depth};
 ghost use Rattle.wf_machine.specs.Straight.{is_straight};
 ghost use Rattle.wf_machine.specs.declared.machine.Ending.TheVariants.{Running};
-ghost use Rattle.wf_model.specs.Config.{Facts};
+ghost use Rattle.wf_model.specs.Config.{Facts as PlainFacts};
 ghost use Rattle.wf_value.specs.Data.{Pairs};
 
-use crate::event::{Event, Start};
-use crate::moves::{Next, advance};
+use crate::facts::Facts;
+use crate::moves::{Next, advance, reads_clock};
 use std::alloc::Global;
 use wf_ast::{Program, Step};
-use wf_value::{Map, OutOfMemory, Tag, Text, Value, error_map};
+use wf_events::{Event, Start};
+use wf_value::{Map, OutOfMemory, Tag, Value, error_map};
 
 /// The counted event with this number isn't carried out: it ends the execution with a `ResourceLimitError`.
 const MOVE_LIMIT: u64 = 100_000;
@@ -20,7 +21,8 @@ const MOVE_LIMIT: u64 = 100_000;
 /// An event that wasn't applied.
 #[derive(Debug, Clone, Copy, PartialEq, Eq)]
 pub enum ApplyFault {
-    /// The event can't come now: it is no move of `main`, or the execution has ended. The machine stays as it was.
+    /// The event can't come now: it isn't `main`'s next move, its reading is below the last one, or the execution has ended. The machine
+    /// stays as it was.
     NotEnabled,
     /// There was no memory. The machine is broken from then on: each later `apply` answers this too, and what it shows is of no use.
     OutOfMemory,
@@ -45,6 +47,14 @@ pub(crate) enum Ending {
     Raised(Value),
 }
 
+/// The reading of the clock that a move sees, and the last reading behind it, both in milliseconds since 1970. A move without a reading
+/// sees 0, which it doesn't look at.
+#[derive(Clone, Copy)]
+struct Readings {
+    now: u64,
+    last: u64,
+}
+
 /// `main`'s steps, none where the program has no workflow.
 fn main_steps(program: &Program) -> &[Step]
     ensures { map step_view result.now ≡ main_steps_view program.now }
@@ -57,14 +67,14 @@ fn main_steps(program: &Program) -> &[Step]
 
 /// An execution of a program that runs straight through, as it stands between two events.
 ///
-/// It holds the program, where `main` is in it, its variables, the count of events, the reading that it began with, and its outcome.
+/// It holds the program, what it was started with, where `main` is, its variables, the count of events, the last reading, and its outcome.
 /// It never counts more than 100,000 events, and its outcome nests at most 100 deep.
 #[derive(Drop)]
 pub struct Machine {
     alloc: Global,
     program: Program,
-    id: Text,
-    reading: u64,
+    facts: Facts,
+    last: u64,
     /// `main` stands before this entry of this step, or, at entry 0, before the step itself.
     step: usize,
     entry: usize,
@@ -82,15 +92,16 @@ pub struct Machine {
 
 impl Machine {
     ghost use Rattle.wf_machine.specs.Seen.{state_of};
-    ghost use Rattle.wf_machine.specs.Events.{event_view, start_view};
-    ghost use Rattle.wf_machine.specs.Outcome.{IsResult, IsShallow, OnlyMoves};
+    ghost use Rattle.wf_events.specs.View.{event_view, start_view};
+    ghost use Rattle.wf_machine.specs.Outcome.{IsAlone, IsResult, IsShallow};
     ghost use Rattle.wf_machine.specs.Lent.{outcome_view};
     ghost use Rattle.wf_model.specs.Choose.{choose};
     ghost use Rattle.wf_model.specs.Config.{Config, Active, To};
+    ghost use Rattle.wf_model.specs.Move.{move as task_move};
     ghost use Rattle.wf_model.specs.Ready.{quiet, least_due};
     ghost use Rattle.wf_model.specs.Run.{initial};
-    ghost use Rattle.wf_model.specs.Step.{next};
-    ghost use Rattle.wf_shared.specs.Events.{Event as PlainEvent};
+    ghost use Rattle.wf_model.specs.Step.{counted as as_counted, next, read_at};
+    ghost use Rattle.wf_model.specs.Taken.{by_itself};
 
     /// Begins an execution: it stands before the first step of `main`, or has returned null where `main` has no steps. Nothing is
     /// counted yet. The program must run straight through. Without memory there is no machine.
@@ -100,7 +111,7 @@ impl Machine {
         ensures initial { IfOk result (λ m. initial (program_view program) (start_view start.now) ≡ To (state_of m).config) }
         ensures whole { IfOk result (λ m. (state_of m).broken ≡ false) }
     {
-        let id = start.id.copy()?;
+        let facts = Facts::of(alloc, start)?;
         let variables = Map::new(alloc)?;
         let live = !main_steps(&program).is_empty();
         let ending = if live {
@@ -111,8 +122,8 @@ impl Machine {
         Ok(Machine {
             alloc,
             program,
-            id,
-            reading: start.reading,
+            facts,
+            last: start.reading,
             step: 0,
             entry: 0,
             variables,
@@ -143,11 +154,10 @@ impl Machine {
         if self.broken {
             return Err(ApplyFault::OutOfMemory);
         }
-        let Event::Move(task) = *event;
-        if task != 0 || !self.is_running() {
+        let Some(readings) = self.readings_for(event) else {
             return Err(ApplyFault::NotEnabled);
-        }
-        match self.make_move() {
+        };
+        match self.make_move(readings) {
             Ok(()) => Ok(()),
             Err(_) => {
                 self.broken = true;
@@ -156,18 +166,26 @@ impl Machine {
         }
     }
 
-    /// The event that comes next at a reading of the clock, in milliseconds since 1970. There is one until the execution has ended,
-    /// and then none. It can be applied, and no other event could come in its place but a cancelling.
+    /// The event that comes next at a reading of the clock, in milliseconds since 1970: `main`'s move, at this reading or at the last
+    /// one, whichever is greater, where it reads the clock. There is one until the execution has ended, and then none. It can be applied,
+    /// and no event could come in its place but the same move at another reading, and a cancelling.
     pub fn choose(&self, reading: u64) -> Option<Event>
         ensures choice { option_map event_view result ≡ choose (state_of self.now).program (state_of self.now).config reading }
         ensures enabled { IfSome result (λ e. (d : Config) × (next (state_of self.now).program (state_of self.now).config (event_view e) ≡ To d)) }
-        ensures alone { IsSome result → OnlyMoves (state_of self.now).program (state_of self.now).config }
+        ensures alone { IfSome result (λ e. IsAlone (state_of self.now).program (state_of self.now).config (event_view e)) }
         ensures active { IsNone result ↔ IsResult (state_of self.now).config.outcome }
     {
         match self.ending {
-            Ending::Running => Some(Event::Move(0)),
+            Ending::Running => Some(self.next_move(reading)),
             _ => None,
         }
+    }
+
+    /// The program that is executed.
+    pub fn program(&self) -> &Program
+        ensures { program_view result.now ≡ (state_of self.now).program }
+    {
+        &self.program
     }
 
     /// Whether no task can move at the reading, in milliseconds since 1970.
@@ -186,11 +204,11 @@ impl Machine {
         None
     }
 
-    /// The last reading of the clock, in milliseconds since 1970: that of the start, since no move takes another.
+    /// The last reading of the clock, in milliseconds since 1970: that of the start, until a move takes another.
     pub fn last_reading(&self) -> u64
         ensures { result ≡ (state_of self.now).config.last }
     {
-        self.reading
+        self.last
     }
 
     /// How the execution has ended, if it has. Its value or error nests at most 100 deep.
@@ -229,10 +247,56 @@ impl Machine {
         matches!(&self.ending, Ending::Running)
     }
 
+    /// `main`'s next move, at a reading where it reads the clock.
+    fn next_move(&self, reading: u64) -> Event
+        requires active { (state_of self.now).config.outcome ≡ Active }
+        ensures { event_view result ≡ main_event (clock_at (main_steps_view self.now.program) self.now.step self.now.entry) (max reading self.now.last) }
+    {
+        let steps = main_steps(&self.program);
+        if reads_clock(steps, self.step, self.entry) {
+            Event::MoveAt(0, reading.max(self.last))
+        } else {
+            Event::Move(0)
+        }
+    }
+
+    /// What the event's move sees of the clock, or none where the event can't come.
+    fn readings_for(&self, event: &Event) -> Option<Readings>
+        ensures active { IsSome result → (state_of self.now).config.outcome ≡ Active }
+        ensures comes { IfSome result (λ r. next (state_of self.now).program (state_of self.now).config (event_view event.now)
+            ≡ as_counted (read_at r.last (state_of self.now).config) (by_itself (state_of self.now).program 0 r.now task_move)) }
+        ensures never { IsNone result → (d : Config) → next (state_of self.now).program (state_of self.now).config (event_view event.now) ≡ To d → ⊥ }
+    {
+        if !self.is_running() {
+            return None;
+        }
+        let reads = reads_clock(main_steps(&self.program), self.step, self.entry);
+        match *event {
+            Event::Move(task) => {
+                if task != 0 || reads {
+                    return None;
+                }
+                Some(Readings {
+                    now: 0,
+                    last: self.last,
+                })
+            }
+            Event::MoveAt(task, reading) => {
+                if task != 0 || !reads || reading < self.last {
+                    return None;
+                }
+                Some(Readings {
+                    now: reading,
+                    last: reading,
+                })
+            }
+        }
+    }
+
     /// One move of `main`, or the end at the limit on counted events. Without memory the machine isn't to be used further.
-    fn make_move(&mut self) -> Result<(), OutOfMemory>
+    fn make_move(&mut self, readings: Readings) -> Result<(), OutOfMemory>
         requires active { (state_of self.old).config.outcome ≡ Active }
-        ensures moved { OnOk result (next (state_of self.old).program (state_of self.old).config (PlainEvent.Move 0) ≡ To (state_of self.new).config) }
+        ensures moved { OnOk result (as_counted (read_at readings.last (state_of self.old).config) (by_itself (state_of self.old).program 0 readings.now task_move) ≡ To (state_of self.new).config) }
         ensures program { (state_of self.new).program ≡ (state_of self.old).program }
         ensures broken { (state_of self.new).broken ≡ (state_of self.old).broken }
         ensures counted { OnOk result ((state_of self.new).config.moves ≡ (state_of self.old).config.moves + 1) }
@@ -241,6 +305,7 @@ impl Machine {
         if moves >= MOVE_LIMIT {
             let error = error_map(self.alloc, Tag::ResourceLimitError)?;
             self.moves = moves;
+            self.last = readings.last;
             self.ending = Ending::Raised(error);
             return Ok(());
         }
@@ -250,10 +315,12 @@ impl Machine {
             steps,
             self.step,
             self.entry,
+            readings.now,
             &mut self.variables,
         )?;
         let stand = stand_after(self.alloc, next, steps, self.step, self.entry)?;
         self.moves = moves;
+        self.last = readings.last;
         self.step = stand.step;
         self.entry = stand.entry;
         self.live = stand.ending.is_running();
@@ -282,7 +349,7 @@ fn stand_after(
     requires place { IsPlace (map step_view steps.now) step entry }
     ensures place { IfOk result (λ s. IsPlace (map step_view steps.now) s.step s.entry) }
     ensures runs { IfOk result (λ s. (m : ℕ) → m < 100000 → RunsOn s.ending (is_running s.ending) (map step_view steps.now) s.step m) }
-    ensures config { IfOk result (λ s. (facts : Facts) (reading : ℕ) (vars : Pairs) (m : ℕ) → config_after facts reading (map step_view steps.now) next vars m
+    ensures config { IfOk result (λ s. (facts : PlainFacts) (reading : ℕ) (vars : Pairs) (m : ℕ) → config_after facts reading (map step_view steps.now) next vars m
         ≡ config_at facts reading (is_running s.ending) (map step_view steps.now) s.step s.entry vars m (outcome_by s.ending)) }
 {
     match next {

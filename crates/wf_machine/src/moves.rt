@@ -3,12 +3,12 @@ ghost use Rattle.std.specs.Prelude.{◌≡◌, ◌+◌, ◌<◌, ◌^◌, ◌∷
 ghost use Rattle.std.specs.List.{list_all};
 ghost use Rattle.wf_ast.specs.Tree as t;
 ghost use Rattle.wf_ast.specs.View.{entry_view, step_view, template_view};
-ghost use Rattle.wf_machine.specs.Moves.{EntryLeads, IsFine, IsPlace, LeadsOn, assign_step, return_step};
+ghost use Rattle.wf_machine.specs.Moves.{EntryLeads, IsFine, IsPlace, LeadsOn, assign_step, clock_at, return_step};
 ghost use Rattle.wf_machine.specs.Answers.{IsPlainTag};
 ghost use Rattle.wf_machine.specs.Straight.{is_plain, is_plain_entry, is_straight_step};
 ghost use Rattle.wf_value.specs.Data.{pairs_of};
 
-use crate::evaluate::evaluate;
+use crate::evaluate::{evaluate, is_clock};
 use crate::store::store;
 use std::alloc::Global;
 use wf_ast::{Body, Entry, Step, Template};
@@ -26,12 +26,17 @@ pub(crate) enum Next {
 }
 
 /// Carries out an entry of an assign, or tells the error that it raises.
-fn assign(alloc: Global, entry: &Entry, variables: &mut Map) -> Result<Option<Tag>, OutOfMemory>
+fn assign(
+    alloc: Global,
+    entry: &Entry,
+    now: u64,
+    variables: &mut Map,
+) -> Result<Option<Tag>, OutOfMemory>
     requires { is_plain_entry (entry_view entry.now) ≡ true }
     ensures raised { IfOk result (λ raised. IfSome raised IsPlainTag) }
-    ensures leads { IfOk result (λ raised. EntryLeads (entry_view entry.now) (pairs_of variables.old) raised (pairs_of variables.new)) }
+    ensures leads { IfOk result (λ raised. EntryLeads (entry_view entry.now) now (pairs_of variables.old) raised (pairs_of variables.new)) }
 {
-    match evaluate(alloc, &entry.value, variables) {
+    match evaluate(alloc, &entry.value, now, variables) {
         Ok(value) => {
             if store(variables, entry.target.name.copy()?, value)? {
                 Ok(None)
@@ -50,6 +55,7 @@ fn assign_at(
     entries: &[Entry],
     step: usize,
     entry: usize,
+    now: u64,
     variables: &mut Map,
 ) -> Result<Next, OutOfMemory>
     requires inside { entry < length entries.now }
@@ -58,9 +64,9 @@ fn assign_at(
     ensures fine { IfOk result (λ n. (ss : List t.Step) (x : List ℕ) → drop step ss ≡ assign_step x (map entry_view entries.now) ∷ drop (step + 1) ss
         → step < length ss → IsFine ss n) }
     ensures leads { IfOk result (λ n. (ss : List t.Step) (x : List ℕ) → drop step ss ≡ assign_step x (map entry_view entries.now) ∷ drop (step + 1) ss
-        → IsPlace ss step entry → LeadsOn ss step entry (pairs_of variables.old) n (pairs_of variables.new)) }
+        → IsPlace ss step entry → LeadsOn ss step entry now (pairs_of variables.old) n (pairs_of variables.new)) }
 {
-    if let Some(tag) = assign(alloc, &entries[entry], variables)? {
+    if let Some(tag) = assign(alloc, &entries[entry], now, variables)? {
         return Ok(Next::Raised(tag));
     }
     if entry + 1 < entries.len() {
@@ -71,41 +77,64 @@ fn assign_at(
 }
 
 /// Returns from `main` with a template's value.
-fn return_from(alloc: Global, template: &Template, variables: &Map) -> Result<Next, OutOfMemory>
+fn return_from(
+    alloc: Global,
+    template: &Template,
+    now: u64,
+    variables: &Map,
+) -> Result<Next, OutOfMemory>
     requires { is_plain (template_view template.now) ≡ true }
     ensures fine { IfOk result (λ n. (ss : List t.Step) → IsFine ss n) }
     ensures leads { IfOk result (λ n. (ss : List t.Step) (x : List ℕ) (i j : ℕ) → drop i ss ≡ return_step x (template_view template.now) ∷ drop (i + 1) ss
-        → IsPlace ss i j → LeadsOn ss i j (pairs_of variables.now) n (pairs_of variables.now)) }
+        → IsPlace ss i j → LeadsOn ss i j now (pairs_of variables.now) n (pairs_of variables.now)) }
 {
-    match evaluate(alloc, template, variables) {
+    match evaluate(alloc, template, now, variables) {
         Ok(value) => Ok(Next::Returned(value)),
         Err(Raise::Error(tag)) => Ok(Next::Raised(tag)),
         Err(Raise::OutOfMemory) => Err(OutOfMemory),
     }
 }
 
-/// Carries out a step, or an entry of it.
+/// Carries out a step, or an entry of it, where the clock reads `now` milliseconds.
 pub(crate) fn advance(
     alloc: Global,
     steps: &[Step],
     step: usize,
     entry: usize,
+    now: u64,
     variables: &mut Map,
 ) -> Result<Next, OutOfMemory>
     requires inside { step < length steps.now }
     requires straight { list_all is_straight_step (map step_view steps.now) ≡ true }
     requires place { IsPlace (map step_view steps.now) step entry }
     ensures fine { IfOk result (IsFine (map step_view steps.now)) }
-    ensures leads { IfOk result (λ n. LeadsOn (map step_view steps.now) step entry (pairs_of variables.old) n (pairs_of variables.new)) }
+    ensures leads { IfOk result (λ n. LeadsOn (map step_view steps.now) step entry now (pairs_of variables.old) n (pairs_of variables.new)) }
 {
     match &steps[step].body {
-        Body::Return(template) => return_from(alloc, template, variables),
+        Body::Return(template) => return_from(alloc, template, now, variables),
         Body::Assign(entries) => {
             let entries = entries.items();
             if entries.is_empty() {
                 return Ok(Next::Before(step + 1, 0));
             }
-            assign_at(alloc, entries, step, entry, variables)
+            assign_at(alloc, entries, step, entry, now, variables)
+        }
+        _ => unreachable!(),
+    }
+}
+
+/// Whether the move from before this entry of this step reads the clock.
+pub(crate) fn reads_clock(steps: &[Step], step: usize, entry: usize) -> bool
+    requires inside { step < length steps.now }
+    requires straight { list_all is_straight_step (map step_view steps.now) ≡ true }
+    requires place { IsPlace (map step_view steps.now) step entry }
+    ensures { result ≡ clock_at (map step_view steps.now) step entry }
+{
+    match &steps[step].body {
+        Body::Return(template) => is_clock(template),
+        Body::Assign(entries) => {
+            let entries = entries.items();
+            entry < entries.len() && is_clock(&entries[entry].value)
         }
         _ => unreachable!(),
     }

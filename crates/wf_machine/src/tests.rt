@@ -5,13 +5,15 @@ ghost use Rattle.wf_ast.specs.Tree as t;
 ghost use Rattle.wf_ast.specs.View.{body_view, entries_view, entry_view, program_view, step_view, steps_view, template_view};
 ghost use Rattle.wf_machine.specs.Straight.{are_straight, is_plain, is_plain_entry, is_straight, is_straight_step};
 
-use crate::{ApplyFault, Event, Machine, Outcome, Start, one_outcome};
+use crate::{ApplyFault, Machine, Outcome, one_outcome};
 use std::alloc::Global;
 use std::test::Fail;
 use wf_ast::{
-    Body, Entries, Entry, Expr, Exprs, Flow, Flows, Params, Program, Step, StepList, Target,
+    Body, Entries, Entry, Expr, Exprs, Flow, Flows, Func, Params, Program, Step, StepList, Target,
     Template,
 };
+use wf_events::{Event, Pairs, Start};
+use wf_host::{Address, Routes};
 use wf_value::{Bytes, Map, OutOfMemory, Tag, Text, Value, error_map};
 
 // The template `${name}`.
@@ -19,6 +21,13 @@ fn read(alloc: Global, name: &str) -> Result<Template, OutOfMemory>
     ensures { IfOk result (λ v. is_plain (template_view v) ≡ true) }
 {
     Ok(Template::Expr(Expr::Name(Text::new(alloc, name)?)))
+}
+
+// The template `${sys.now()}`.
+fn clock(alloc: Global) -> Result<Template, OutOfMemory>
+    ensures { IfOk result (λ v. is_plain (template_view v) ≡ true) }
+{
+    Ok(Template::Expr(Expr::Call(Func::SysNow, Exprs::new(alloc)?)))
 }
 
 fn entry(alloc: Global, name: &str, value: Template) -> Result<Entry, OutOfMemory>
@@ -102,19 +111,48 @@ fn four(alloc: Global) -> Result<Program, OutOfMemory>
     program(alloc, steps)
 }
 
+// Assigns `t = sys.now()`, and returns `t`.
+fn timed(alloc: Global) -> Result<Program, OutOfMemory>
+    ensures { IfOk result (λ p. is_straight (program_view p) ≡ true) }
+{
+    let mut steps = StepList::new(alloc)?;
+    steps.push(assign_one(alloc, "t", clock(alloc)?)?)?;
+    steps.push(give_back(alloc, read(alloc, "t")?)?)?;
+    program(alloc, steps)
+}
+
 fn start(alloc: Global) -> Result<Start, OutOfMemory> {
+    let mut routes = Routes::new(alloc);
+    let to = Address {
+        name: Text::new(alloc, "localhost")?,
+        port: 8080,
+    };
+    routes.push(Text::new(alloc, "api.example")?, to)?;
+    let mut env = Pairs::new(alloc);
+    env.push(Text::new(alloc, "ZONE")?, Text::new(alloc, "eu")?)?;
     Ok(Start {
         id: Text::new(alloc, "order-7")?,
         source: Bytes::new(alloc, b"main: {}")?,
         argument: Bytes::new(alloc, b"{}")?,
-        reading: 1_700_000_000_000,
+        routes,
+        env,
+        base: Text::new(alloc, "localhost:80")?,
+        reading: 5000,
     })
+}
+
+// The machine of this program, before its first move.
+fn begun(alloc: Global, program: Program) -> Result<Machine, OutOfMemory>
+    requires { is_straight (program_view program) ≡ true }
+{
+    let start = start(alloc)?;
+    Machine::new(alloc, &start, program)
 }
 
 // Applies what is chosen, until nothing is.
 fn run(machine: &mut Machine) -> Result<(), ApplyFault> {
     for _ in 0..10 {
-        if let Some(event) = machine.choose(1_700_000_000_005) {
+        if let Some(event) = machine.choose(5005) {
             machine.apply(&event)?;
         }
     }
@@ -125,11 +163,7 @@ fn run(machine: &mut Machine) -> Result<(), ApplyFault> {
 fn ended(alloc: Global, program: Program) -> Result<Machine, ApplyFault>
     requires { is_straight (program_view program) ≡ true }
 {
-    let start = match start(alloc) {
-        Ok(start) => start,
-        Err(_) => return Err(ApplyFault::OutOfMemory),
-    };
-    match Machine::new(alloc, &start, program) {
+    match begun(alloc, program) {
         Ok(mut machine) => {
             run(&mut machine)?;
             Ok(machine)
@@ -152,17 +186,45 @@ fn raises(machine: &Machine, error: &Value) -> bool {
     }
 }
 
-fn refuses(machine: &mut Machine, task: u32) -> bool {
-    machine.apply(&Event::Move(task)) == Err(ApplyFault::NotEnabled)
+fn refuses(machine: &mut Machine, event: &Event) -> bool {
+    machine.apply(event) == Err(ApplyFault::NotEnabled)
+}
+
+// `timed`, whose first move comes at this reading.
+fn timed_at(alloc: Global, reading: u64) -> Result<Machine, ApplyFault> {
+    let machine = match timed(alloc) {
+        Ok(program) => begun(alloc, program),
+        Err(fault) => Err(fault),
+    };
+    match machine {
+        Ok(mut machine) => {
+            machine.apply(&Event::MoveAt(0, reading))?;
+            Ok(machine)
+        }
+        Err(_) => Err(ApplyFault::OutOfMemory),
+    }
+}
+
+// The same behind its return.
+fn timed_to_end(alloc: Global, reading: u64) -> Result<Machine, ApplyFault> {
+    let mut machine = timed_at(alloc, reading)?;
+    machine.apply(&Event::Move(0))?;
+    Ok(machine)
 }
 
 #[test]
 fn begins(rt: HostRuntime) -> Result<(), Fail> {
     let alloc = rt.alloc();
-    let start = start(alloc)?;
-    let mut machine = Machine::new(alloc, &start, four(alloc)?)?;
+    let mut machine = begun(alloc, four(alloc)?)?;
     assert!(rt; machine.choose(5) == Some(Event::Move(0)));
-    assert!(rt; refuses(&mut machine, 1));
+    for event in &[
+        Event::Move(1),
+        Event::MoveAt(0, 5000),
+        Event::MoveAt(1, 5000),
+    ] {
+        assert!(rt; refuses(&mut machine, event));
+    }
+    assert_eq!(rt; machine.program().step_count(), 2);
     assert!(rt; !machine.is_quiet(5));
     assert_eq!(rt; machine.moves(), 0);
     Ok(())
@@ -172,13 +234,13 @@ fn begins(rt: HostRuntime) -> Result<(), Fail> {
 fn ends(rt: HostRuntime) -> Result<(), Fail> {
     let alloc = rt.alloc();
     let mut machine = ended(alloc, four(alloc)?)?;
-    assert!(rt; refuses(&mut machine, 0));
+    assert!(rt; refuses(&mut machine, &Event::Move(0)));
     assert!(rt; machine.choose(5).is_none());
     assert!(rt; machine.is_quiet(5));
     assert!(rt; machine.least_due().is_none());
     assert_eq!(rt; machine.moves(), 3);
     assert_eq!(rt; machine.calls(), 0);
-    assert_eq!(rt; machine.last_reading(), 1_700_000_000_000);
+    assert_eq!(rt; machine.last_reading(), 5000);
     Ok(())
 }
 
@@ -219,7 +281,60 @@ fn raises_a_key_error(rt: HostRuntime) -> Result<(), Fail> {
 }
 
 #[test]
-fn carries_a_law(_rt: HostRuntime) -> Result<(), Fail> {
+fn sees_whole_seconds(rt: HostRuntime) -> Result<(), Fail> {
+    let alloc = rt.alloc();
+    for (reading, seconds) in [
+        (5000, 5),
+        (6999, 6),
+        (7000, 7),
+        (u64::MAX, 18_446_744_073_709_551),
+    ] {
+        let machine = timed_to_end(alloc, reading)?;
+        assert!(rt; returns(&machine, &Value::Int(seconds)), "at {reading}");
+        assert_eq!(rt; machine.last_reading(), reading);
+    }
+    Ok(())
+}
+
+#[test]
+fn wants_a_reading_where_the_clock_is_read(rt: HostRuntime) -> Result<(), Fail> {
+    let alloc = rt.alloc();
+    let mut machine = begun(alloc, timed(alloc)?)?;
+    for event in &[
+        Event::Move(0),
+        Event::Move(1),
+        Event::MoveAt(1, 7000),
+        Event::MoveAt(0, 4999),
+    ] {
+        assert!(rt; refuses(&mut machine, event));
+    }
+    assert!(rt; machine.choose(7000) == Some(Event::MoveAt(0, 7000)));
+    assert!(rt; machine.choose(4999) == Some(Event::MoveAt(0, 5000)));
+    Ok(())
+}
+
+#[test]
+fn wants_none_behind_it(rt: HostRuntime) -> Result<(), Fail> {
+    let alloc = rt.alloc();
+    let mut machine = timed_at(alloc, 7000)?;
+    assert!(rt; refuses(&mut machine, &Event::MoveAt(0, 8000)));
+    assert!(rt; machine.choose(8000) == Some(Event::Move(0)));
+    assert_eq!(rt; machine.last_reading(), 7000);
+    Ok(())
+}
+
+#[test]
+fn returns_the_clock(rt: HostRuntime) -> Result<(), Fail> {
+    let alloc = rt.alloc();
+    let step = give_back(alloc, clock(alloc)?)?;
+    let machine = ended(alloc, program_of(alloc, step)?)?;
+    assert!(rt; returns(&machine, &Value::Int(5)));
+    assert_eq!(rt; machine.last_reading(), 5005);
+    Ok(())
+}
+
+#[test]
+fn carries_laws(_rt: HostRuntime) -> Result<(), Fail> {
     one_outcome();
     Ok(())
 }

@@ -14,7 +14,7 @@ pub returns-then-is_empty-clause-leads : goal.returns-then-is_empty-clause-leads
 returns-then-is_empty-clause-leads c =
     let at = (assign_here c.args.steps.now c.args.step c.index-steps-step.result c.requires.inside c.requires.straight c.in-Assign.entries c.in-Assign.is).0 in
     let none : entries_view c.in-Assign.entries ≡ [] = sym c.items-entries.ensures.view ∙ ap (map entry_view) (none_when c.items-entries.result.now c.is_empty.result c.is_empty.ensures c.if-is_empty.true) in
-    leads_empty (map step_view c.args.steps.now) c.args.step _ c.args.entry (pairs_of c.args.variables.now) (at ∙ ap (λ es. assign_step (slice_index_or c.args.steps.now c.args.step c.index-steps-step.result).name es ∷ drop (c.args.step + 1) (map step_view c.args.steps.now)) none) c.requires.place
+    leads_empty (map step_view c.args.steps.now) c.args.step _ c.args.entry c.args.now (pairs_of c.args.variables.now) (at ∙ ap (λ es. assign_step (slice_index_or c.args.steps.now c.args.step c.index-steps-step.result).name es ∷ drop (c.args.step + 1) (map step_view c.args.steps.now)) none) c.requires.place
 
 pub assign_at-requires-clause-inside : goal.assign_at-requires-clause-inside
 assign_at-requires-clause-inside c =

@@ -1,0 +1,5 @@
+mod Adding
+mod BadRecords
+mod Beginnings
+mod Open
+mod Places

@@ -1,0 +1,124 @@
+// The reads of the journal.
+ghost use Rattle.std.specs.Prelude.{◌≡◌, ◌≤◌, ◌<◌, ◌+◌, [], true, false, length, take, drop, IfOk, OnOk, OnErr, IsErrOf};
+ghost use Rattle.wf_host.specs.World.{longest, Told, Same, Only, Elapses, LeavesOnly, NoneFell, Rose};
+ghost use Rattle.wf_journal.specs.Journal.{Stays};
+ghost use Rattle.wf_journal.specs.Reading.{IsBlock, BlockFits, IsHead, SaysHead, FitsIn};
+
+use crate::JournalFault;
+use std::alloc::AllocError;
+use wf_host::{Failed, Host};
+
+/// What stands at a gate.
+#[derive(Clone, Copy)]
+pub(crate) enum Head {
+    /// Open, with the length of its payload.
+    Open(u32),
+    /// Not open, and whether its byte is 1.
+    Shut(bool),
+}
+
+// What the bytes from a gate on say, of which there are at least five where the gate is open.
+fn head_of(bytes: &[u8; 5], gate: u64, size: u64) -> Head
+    requires { gate < longest }
+    ensures says { SaysHead bytes.now gate size result }
+    ensures fits { FitsIn size gate result }
+{
+    let [byte, a, b, c, d] = *bytes;
+    let len = u32::from_be_bytes([a, b, c, d]);
+    if byte == 1 && gate + 5 + u64::from(len) < size {
+        Head::Open(len)
+    } else {
+        Head::Shut(byte == 1)
+    }
+}
+
+/// Reads a gate and what stands behind it.
+pub(crate) fn read_head<H: Host>(host: &mut H, gate: u64, size: u64) -> Result<Head, Failed>
+    requires most { gate < longest }
+    requires inside { Told (H.world host.old) (gate < length (H.world host.old).seen) }
+    requires size { Told (H.world host.old) (size ≡ length (H.world host.old).seen) }
+    ensures head { Told (H.world host.old) (IfOk result (λ h. IsHead (H.world host.old).seen gate h)) }
+    ensures fits { IfOk result (λ h. FitsIn size gate h) }
+    ensures seen { Told (H.world host.old) ((H.world host.new).seen ≡ (H.world host.old).seen) }
+    ensures time { Told (H.world host.old) (Elapses Same [] (H.world host.old) (H.world host.new)) }
+    ensures tells { (H.world host.new).tells ≡ (H.world host.old).tells }
+    ensures counts { NoneFell (H.faults host.old) (H.faults host.new) }
+    ensures cause { OnErr result (Rose (H.faults host.old).disk (H.faults host.new).disk) }
+{
+    let mut bytes = [0; 5];
+    let _ = host.read_at(gate, &mut bytes)?;
+    Ok(head_of(&bytes, gate, size))
+}
+
+/// Reads a payload. False is told only by a host that doesn't tell its meanings.
+pub(crate) fn read_payload<H: Host>(
+    host: &mut H,
+    at: u64,
+    len: u32,
+    room: &mut Vec<u8>,
+) -> Result<bool, JournalFault>
+    requires most { at ≤ longest }
+    requires inside { Told (H.world host.old) (at + len < length (H.world host.old).seen) }
+    requires settled { Told (H.world host.old) (Only (H.world host.old).seen (H.world host.old).may_leave) }
+    ensures payload { Told (H.world host.old) (IfOk result (λ b. (b ≡ true) × (room.new.items ≡ take len (drop at (H.world host.old).seen)))) }
+    ensures seen { Told (H.world host.old) ((H.world host.new).seen ≡ (H.world host.old).seen) }
+    ensures settled { Told (H.world host.old) (Only (H.world host.old).seen (H.world host.new).may_leave) }
+    ensures any_moment { Told (H.world host.old) (LeavesOnly (H.world host.old) (H.world host.new) (Stays (H.world host.old))) }
+    ensures deeds { Told (H.world host.old) ((H.world host.new).deeds ≡ (H.world host.old).deeds) }
+    ensures tells { (H.world host.new).tells ≡ (H.world host.old).tells }
+    ensures counts { NoneFell (H.faults host.old) (H.faults host.new) }
+    ensures disk_fault { IsErrOf result JournalFault.DiskFault → Rose (H.faults host.old).disk (H.faults host.new).disk }
+    ensures not_asked { ¬ IsErrOf result JournalFault.NotAJournal }
+    ensures too_long { ¬ IsErrOf result JournalFault.TooLong }
+    ensures closed { ¬ IsErrOf result JournalFault.Closed }
+{
+    room.clear();
+    room.resize(len as usize, 0)?;
+    let count = host.read_at(at, room.as_mut_slice())?;
+    Ok(count == len as usize)
+}
+
+/// What is read of a block.
+#[derive(Clone, Copy)]
+pub(crate) enum Block {
+    /// Its payload, with the length.
+    Payload(u32),
+    /// The gate isn't open; whether its byte is 1.
+    End(bool),
+}
+
+/// Reads the block at a gate, if it is open.
+pub(crate) fn read_block<H: Host>(
+    host: &mut H,
+    gate: u64,
+    size: u64,
+    room: &mut Vec<u8>,
+) -> Result<Block, JournalFault>
+    requires most { gate < longest }
+    requires most_size { size ≤ longest }
+    requires inside { Told (H.world host.old) (gate < length (H.world host.old).seen) }
+    requires size { Told (H.world host.old) (size ≡ length (H.world host.old).seen) }
+    requires settled { Told (H.world host.old) (Only (H.world host.old).seen (H.world host.old).may_leave) }
+    ensures block { Told (H.world host.old) (IfOk result (λ b. IsBlock (H.world host.old).seen gate room.new.items b)) }
+    ensures fits { IfOk result (λ b. BlockFits size gate b) }
+    ensures seen { Told (H.world host.old) ((H.world host.new).seen ≡ (H.world host.old).seen) }
+    ensures settled { Told (H.world host.old) (Only (H.world host.old).seen (H.world host.new).may_leave) }
+    ensures any_moment { Told (H.world host.old) (LeavesOnly (H.world host.old) (H.world host.new) (Stays (H.world host.old))) }
+    ensures deeds { Told (H.world host.old) ((H.world host.new).deeds ≡ (H.world host.old).deeds) }
+    ensures tells { (H.world host.new).tells ≡ (H.world host.old).tells }
+    ensures counts { NoneFell (H.faults host.old) (H.faults host.new) }
+    ensures disk_fault { IsErrOf result JournalFault.DiskFault → Rose (H.faults host.old).disk (H.faults host.new).disk }
+    ensures not_asked { ¬ IsErrOf result JournalFault.NotAJournal }
+    ensures too_long { ¬ IsErrOf result JournalFault.TooLong }
+    ensures closed { ¬ IsErrOf result JournalFault.Closed }
+{
+    match read_head(host, gate, size) {
+        Ok(Head::Open(len)) => match read_payload(host, gate + 5, len, room) {
+            Ok(true) => Ok(Block::Payload(len)),
+            Ok(false) => Ok(Block::End(true)),
+            Err(fault) => Err(fault),
+        },
+        Ok(Head::Shut(stale)) => Ok(Block::End(stale)),
+        Err(Failed) => Err(JournalFault::DiskFault),
+    }
+}

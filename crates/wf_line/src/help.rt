@@ -1,0 +1,25 @@
+// What the program prints of itself.
+ghost use Rattle.std.specs.Prelude.{◌≡◌, codes};
+ghost use Rattle.wf_line.specs.Help.{IsHelp};
+
+/// The help: the commands with their options, in at most 15 lines of at most 80 characters.
+pub fn help_text() -> &'static str
+    ensures { IsHelp result.now }
+{
+    "workflow COMMAND [--OPTION WORD ..]\n\
+     run        starts an execution: --source PATH, --journal PATH, --id ID\n\
+     resume     goes on with an execution: --journal PATH\n\
+     --help     prints this text\n\
+     --version  prints the program's name and version\n\
+     Options follow their command in any order, each once.\n\
+     Without --source the source is read from standard input.\n\
+     Without --journal the journal is kept in memory.\n\
+     An ID is 1 to 64 letters, digits, dots, underscores and hyphens.\n"
+}
+
+/// The program's name and version, and a line end.
+pub fn version_text() -> &'static str
+    ensures { result.now ≡ codes "workflow 0.1.0\n" }
+{
+    "workflow 0.1.0\n"
+}
