@@ -1,5 +1,5 @@
 -- A part that is read is the part that was written, and what was written is read again.
-use Rattle.std.proofs.Common.{◌≡◌, ◌⊎◌, ℕ, zero, suc, ◌+◌, ◌^◌, ◌<◌, ◌≤◌, Bool, true, false, ltb, if◌then◌else◌, List, [], ◌∷◌, ◌++◌, length, get_or, take, drop, Result, Ok, Err, refl, sym, ap, subst, ◌∙◌, append_assoc, arith, inl, inr}
+use Rattle.std.proofs.Common.{◌≡◌, ◌⊎◌, ℕ, zero, suc, ◌+◌, ◌^◌, ◌<◌, ◌≤◌, Bool, true, false, ltb, if◌then◌else◌, List, [], ◌∷◌, ◌++◌, length, take, drop, Result, Ok, Err, refl, sym, ap, subst, ◌∙◌, append_assoc, arith, inl, inr}
 use Rattle.std.specs.Int.{Width, w16, w32, w64, byte_len, from_be_bytes, to_be_bytes}
 use Rattle.std.specs.List.{AllByRecursion, flat_map}
 use Rattle.std.proofs.lemmas.Bool.{cases_lt, ltb-false, le-ltb}
@@ -7,8 +7,8 @@ use Rattle.std.proofs.lemmas.List.{take_at, drop_at, take-append-drop, length-ap
 use Rattle.std.proofs.lemmas.List.Concat.{flat_map-cons}
 use Rattle.std.proofs.lemmas.Nat.{be_bytes_2, be_bytes_4, be_bytes_8, from_be_bytes-to_be_bytes_2, from_be_bytes-to_be_bytes_4, from_be_bytes-to_be_bytes_8}
 use Rattle.wf_events.specs.Laws.{AreBytes}
-use Rattle.wf_events.specs.Reading.{Read, ◌>>=◌, byte_at, number_at, string_at, items_at, list_at}
-use Rattle.wf_events.specs.Spelling.{Bytes, string, listed, Fits32, Each, IsString}
+use Rattle.wf_events.specs.Reading.{Read, ◌>>=◌, number_at, string_at, items_at, list_at}
+use Rattle.wf_events.specs.Spelling.{Bytes, string, listed, Each, IsString}
 
 -- this reader takes again what fits and is spelled so
 abbrev pub TakesAgain : {A : Type 0} → (Bytes → Read A) → (A → Bytes) → (A → Type 0) → Type 0

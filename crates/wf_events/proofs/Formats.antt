@@ -1,5 +1,5 @@
 -- No two records of any format have one spelling: there is a reader of all of them that takes each again.
-use Rattle.std.proofs.Common.{◌≡◌, ◌⊎◌, ℕ, zero, suc, ◌+◌, ◌<◌, ◌≤◌, ◌^◌, Bool, true, false, nat_eq, if◌then◌else◌, List, [], ◌∷◌, ◌++◌, length, replicate, Result, Ok, Err, refl, sym, ap, subst, ◌∙◌, append_assoc, arith, inl, inr}
+use Rattle.std.proofs.Common.{◌≡◌, ℕ, zero, suc, ◌<◌, ◌^◌, Bool, true, false, nat_eq, if◌then◌else◌, List, [], ◌∷◌, ◌++◌, replicate, Ok, Err, refl, sym, ap, ◌∙◌, append_assoc}
 use Rattle.std.specs.Int.{w16, w32, w64}
 use Rattle.std.specs.List.{AllByRecursion, flat_map}
 use Rattle.std.proofs.lemmas.Bool.{eqb-true}
@@ -9,9 +9,9 @@ use Rattle.wf_events.proofs.Fields.{TakesAgain, first_again, ok_is, reads_16, re
 use Rattle.wf_events.proofs.Parts.{next_again}
 use Rattle.wf_events.proofs.Meanings.{IsFirstStart, start_again}
 use Rattle.wf_events.specs.Reading.{Read, ◌>>=◌, byte_at, number_at, string_at, list_at, start_at}
-use Rattle.wf_events.specs.Records.{Record, Snapshot, Started, Turned, Kept, Upgrade, Packed, StartedTwo}
-use Rattle.wf_events.specs.Spelling.{Bytes, two, four, eight, string, listed, pair, headers, method, reply, visitor, event, Group, Moves, Single, with_move, with_event, groups, group, turn, start, record_bytes, Fits32, Fits64, Each, IsString, IsHeaders, IsReply, IsEvent, IsOld, IsGroup, IsStart, IsTurn, HasSpelling, Spells}
-use Rattle.wf_shared.specs.Events.{Headers, Method, Get, Post, Put, Patch, Delete, Options, Reply, Response, Broken, TooLong, Visitor, Event, Move, MoveAt, Begin, Issue, Answer, Due, Arrive, Cancel, Start, Turn}
+use Rattle.wf_events.specs.Records.{Record, Started, Turned, Kept, Upgrade, Packed, StartedTwo}
+use Rattle.wf_events.specs.Spelling.{Bytes, two, four, eight, string, listed, pair, headers, method, reply, visitor, event, Group, Moves, Single, with_event, groups, group, record_bytes, Fits32, Fits64, Each, IsString, IsHeaders, IsReply, IsEvent, IsOld, IsGroup, IsStart, HasSpelling, Spells}
+use Rattle.wf_shared.specs.Events.{Headers, Method, Get, Post, Put, Patch, Delete, Options, Reply, Response, Broken, TooLong, Visitor, Event, Move, MoveAt, Begin, Issue, Answer, Due, Arrive, Cancel, Start}
 
 three : (a b c r : Bytes) → (a ++ b ++ c) ++ r ≡ a ++ (b ++ (c ++ r))
 three a b c r = append_assoc (a ++ b) c r ∙ append_assoc a b (c ++ r)

@@ -5,3 +5,4 @@ pub mod Fields
 pub mod Parts
 pub mod Meanings
 pub mod Formats
+pub mod OnLiterals

@@ -1,17 +1,17 @@
 -- Records that are read by now: what is read was spelled so, and what is spelled so is read.
-use Rattle.std.proofs.Common.{◌≡◌, ◌↔◌, ℕ, zero, suc, ◌-◌, ◌<◌, ◌≤◌, ◌^◌, min, Bool, true, false, nat_eq, if◌then◌else◌, List, [], ◌∷◌, ◌++◌, length, Option, Some, None, Result, Ok, Err, refl, sym, ap, subst, ◌∙◌, append_assoc, arith, inl, inr}
+use Rattle.std.proofs.Common.{◌≡◌, ◌↔◌, ℕ, ◌-◌, ◌<◌, min, nat_eq, if◌then◌else◌, List, [], ◌∷◌, ◌++◌, length, Some, Result, Ok, Err, refl, sym, ap, subst, ◌∙◌, append_assoc, arith, inl, inr}
 use Rattle.std.specs.Int.{w64}
 use Rattle.std.specs.List.{AllByRecursion}
 use Rattle.std.specs.Result.{OkIff, result_unwrap_or}
 use Rattle.std.proofs.lemmas.Bool.{eqb-true, cases_lt}
 use Rattle.std.proofs.lemmas.List.{append-nil, nil_from_length}
-use Rattle.wf_events.proofs.Fields.{Reads, TakesAgain, Took, bind_ok, ok_is, chosen, guard_yes, first_of_two, first_again, reads_64, reads_string, reads_list}
+use Rattle.wf_events.proofs.Fields.{Reads, bind_ok, ok_is, chosen, guard_yes, first_of_two, first_again, reads_64, reads_string, reads_list}
 use Rattle.wf_events.proofs.Parts.{joined, bytes-rest, reads_text, reads_argument, reads_pair, reads_route, reads_turn, IsRead, IsReadTurn}
 use Rattle.wf_events.specs.Laws.{AreBytes}
 use Rattle.wf_events.specs.Reading.{Read, ◌>>=◌, number_at, string_at, text_at, argument_at, list_at, pair_at, route_at, start_at, turn_at, taken_as, record_at, whole_at, by_offset, record_of, known, meaning}
 use Rattle.wf_events.specs.Records.{Record, Started, Turned, Kept, Upgrade, Packed, StartedTwo}
-use Rattle.wf_events.specs.Spelling.{Bytes, eight, string, listed, pair, route, event, turn, start, record_bytes, Fits64, Each, IsString, IsText, IsPair, IsRoute, IsArgument, IsOld, IsMove, IsStart, IsTurn, HasSpelling, Spells, IsBuilt}
-use Rattle.wf_shared.specs.Events.{Event, Routes, Start, Turn}
+use Rattle.wf_events.specs.Spelling.{Bytes, eight, string, listed, pair, route, event, turn, start, record_bytes, Fits64, Each, IsString, IsText, IsPair, IsRoute, IsArgument, IsOld, IsMove, IsStart, HasSpelling, Spells, IsBuilt}
+use Rattle.wf_shared.specs.Events.{Event, Routes, Start}
 
 -- ## Starts
 abbrev Pairs : Type 0
@@ -201,3 +201,9 @@ cut_off (Err e) offset n h is =
       | inl lt ↦ absurd (h lt)
       | inr le ↦ omega (arith, le, is)
     ]
+
+-- bytes that are no whole record spell none that is built
+pub unspelled : (bytes : Bytes) (left : ℕ) (r : Record) → whole_at bytes ≡ Err left → IsBuilt r → Spells bytes r → ⊥
+unspelled bytes left r stops built spells =
+    let bad : ◌≡◌ {A = Result Record ℕ} (Err left) (Ok r) = sym stops ∙ ap whole_at spells.1 ∙ whole_again r spells.0 built in
+    cc bad

@@ -1,15 +1,15 @@
 -- Texts, arguments, pairs, routes, moves and their turns: what is read was spelled so, and what is spelled so is read.
-use Rattle.std.proofs.Common.{◌≡◌, ◌↔◌, IsTrue, ℕ, zero, suc, ◌<◌, ◌≤◌, ◌^◌, Bool, true, false, ◌&&◌, nat_eq, nat_le, if◌then◌else◌, List, [], ◌∷◌, ◌++◌, length, Option, Some, None, Result, Ok, Err, refl, sym, ap, subst, ◌∙◌, append_assoc, arith, inl, inr}
+use Rattle.std.proofs.Common.{◌≡◌, ◌↔◌, IsTrue, ℕ, suc, ◌<◌, ◌≤◌, ◌^◌, Bool, true, false, nat_eq, nat_le, if◌then◌else◌, List, [], ◌∷◌, ◌++◌, length, Option, Some, None, Result, Ok, Err, refl, sym, ap, subst, ◌∙◌, append_assoc, arith, inl, inr}
 use Rattle.std.specs.Int.{w16, w32, w64}
-use Rattle.std.specs.List.{AllByRecursion, flat_map}
+use Rattle.std.specs.List.{flat_map}
 use Rattle.std.specs.Str.{is_utf8, IsUtf8, bytes_eq}
 use Rattle.std.proofs.lemmas.Bool.{eqb-true, and_parts, and_from, false≢true}
 use Rattle.std.proofs.lemmas.Bool.Decides.{nat_tests}
 use Rattle.std.proofs.lemmas.Slice.Eq.{bytes_eq-Decides}
 use Rattle.std.proofs.lemmas.Str.{IsUtf8-from_is_utf8, is_utf8-from_IsUtf8}
-use Rattle.wf_events.proofs.Fields.{Reads, TakesAgain, Took, ok_is, chosen, guard_yes, first_of_two, first_again, reads_16, reads_32, reads_64, reads_string, reads_list, items_take, items_again}
+use Rattle.wf_events.proofs.Fields.{Reads, TakesAgain, ok_is, chosen, guard_yes, first_of_two, first_again, reads_16, reads_32, reads_64, reads_string, items_take, items_again}
 use Rattle.wf_events.specs.Laws.{AreBytes}
-use Rattle.wf_events.specs.Reading.{Read, ◌>>=◌, number_at, string_at, text_at, is_written, is_argument, argument_at, items_at, list_at, pair_at, route_at, move_at, move_at_at, event_at, events_at, turn_at}
+use Rattle.wf_events.specs.Reading.{Read, ◌>>=◌, number_at, string_at, text_at, is_written, is_argument, argument_at, items_at, pair_at, route_at, move_at, timed_move_at, event_at, events_at, turn_at}
 use Rattle.wf_events.specs.Spelling.{Bytes, two, four, eight, string, listed, pair, route, event, turn, Fits32, Fits64, Each, IsString, IsText, IsPair, IsRoute, IsArgument, IsOld, IsMove, IsTurn}
 use Rattle.wf_shared.specs.Events.{Address, Event, Move, MoveAt, Begin, Issue, Answer, Due, Arrive, Cancel, Turn}
 use Rattle.wf_value.specs.Data.{Data, size}
@@ -142,9 +142,9 @@ move_takes bytes e rest are h =
     let a = first_of_two (number_at w32) four Fits32 reads_32 bytes (λ b r. Ok (Move b, r)) (e, rest) are h in
     subst (λ (q : Event × Bytes). Parts 1 bytes q.0 q.1) (ok_is (Move a.what, a.rest) (e, rest) a.goes_on) (ap (λ (l : Bytes). 1 ∷ l) a.parts, a.are_bytes, (a.fits, tt))
 
-move_at_takes : (bytes : Bytes) (e : Event) (rest : Bytes) → AreBytes bytes → move_at_at bytes ≡ Ok (e, rest) → Parts 2 bytes e rest
-unfolding move_at_at
-move_at_takes bytes e rest are h =
+timed_move_takes : (bytes : Bytes) (e : Event) (rest : Bytes) → AreBytes bytes → timed_move_at bytes ≡ Ok (e, rest) → Parts 2 bytes e rest
+unfolding timed_move_at
+timed_move_takes bytes e rest are h =
     let a = first_of_two (number_at w32) four Fits32 reads_32 bytes (λ b r. number_at w64 r >>= λ t. Ok (MoveAt b t.0, t.1)) (e, rest) are h in
     let b = first_of_two (number_at w64) eight Fits64 reads_64 a.rest (λ t r. Ok (MoveAt a.what t, r)) (e, rest) a.are_bytes a.goes_on in
     subst (λ (q : Event × Bytes). Parts 2 bytes q.0 q.1) (ok_is (MoveAt a.what b.what, b.rest) (e, rest) b.goes_on)
@@ -157,17 +157,17 @@ event_takes : (bytes : Bytes) (e : Event) (rest : Bytes) → AreBytes bytes → 
 unfolding event_at
 event_takes [] e rest are h = absurd cc
 event_takes (kind ∷ bytes) e rest are h =
-    let others : Read Event = if nat_eq kind 2 then move_at_at bytes else Err (length (kind ∷ bytes)) in
+    let others : Read Event = if nat_eq kind 2 then timed_move_at bytes else Err (length (kind ∷ bytes)) in
     elim (chosen (nat_eq kind 1) (move_at bytes) others (Ok (e, rest)) h) [
       | inl w ↦ subst (λ (k : ℕ). Parts k bytes e rest) (sym (eqb-true kind 1 w.0)) (move_takes bytes e rest (bytes-rest kind bytes are) w.1)
-      | inr v ↦ elim (chosen (nat_eq kind 2) (move_at_at bytes) (Err (length (kind ∷ bytes))) (Ok (e, rest)) v.1) [
-        | inl w ↦ subst (λ (k : ℕ). Parts k bytes e rest) (sym (eqb-true kind 2 w.0)) (move_at_takes bytes e rest (bytes-rest kind bytes are) w.1)
+      | inr v ↦ elim (chosen (nat_eq kind 2) (timed_move_at bytes) (Err (length (kind ∷ bytes))) (Ok (e, rest)) v.1) [
+        | inl w ↦ subst (λ (k : ℕ). Parts k bytes e rest) (sym (eqb-true kind 2 w.0)) (timed_move_takes bytes e rest (bytes-rest kind bytes are) w.1)
         | inr w ↦ absurd (let bad : ◌≡◌ {A = Read Event} (Err (length (kind ∷ bytes))) (Ok (e, rest)) = w.1 in cc)
       ]
     ]
 
 event_again : (e : Event) (rest : Bytes) → IsRead e → event_at (event e ++ rest) ≡ Ok (e, rest)
-unfolding event_at move_at move_at_at
+unfolding event_at move_at timed_move_at
 event_again (Move b) rest fits = first_again (number_at w32) four Fits32 reads_32.again b rest (λ b r. Ok (Move b, r)) fits.0
 event_again (MoveAt b t) rest fits =
     next_again (number_at w32) four Fits32 reads_32.again b (eight t) rest (λ b r. number_at w64 r >>= λ t. Ok (MoveAt b t.0, t.1)) fits.0.0

@@ -1,7 +1,7 @@
 -- What the readers of the program answer, against the reading of the definitions.
 use Rattle.std.specs.Prelude.{◌≡◌, ℕ, min, ◌-◌, ◌^◌, Result, Ok, Err}
 use Rattle.wf_events.specs.Reading.{Read, record_of}
-use Rattle.wf_events.specs.Spelling.{Bytes}
+use Rattle.wf_events.specs.Spelling.{Bytes, Spells, IsBuilt}
 use Rattle.wf_events.specs.Records as plain
 use Rattle.wf_events.specs.View.{record_view}
 use Rattle.wf_events.specs.declared.data.Record.{Record}
@@ -29,3 +29,8 @@ GivesWhole (Err e) read = Fails e read
 abbrev pub IsFaultOf : Bytes → RecordFault → Type 0
 IsFaultOf bytes fault.OutOfMemory = Unit {0}
 IsFaultOf bytes (fault.BadRecord at) = (offset : ℕ) × (record_of bytes ≡ Err offset) × (at ≡ min offset (2 ^ 32 - 1))
+
+-- no record that is built is spelled so
+abbrev pub IsUnspelled : Bytes → RecordFault → Type 0
+IsUnspelled bytes fault.OutOfMemory = Unit {0}
+IsUnspelled bytes (fault.BadRecord at) = (r : plain.Record) → IsBuilt r → Spells bytes r → ⊥

@@ -4,3 +4,4 @@ pub mod Spelling
 pub mod Reading
 pub mod Faults
 pub mod Laws
+pub mod Rows

@@ -2,7 +2,7 @@
 -- of moves.
 --     record_of     the record, or the offset of the first part that no such record goes on with
 --     meaning       the record, if there is one
-use Rattle.std.specs.Prelude.{ℕ, zero, suc, ◌-◌, Bool, true, false, ◌&&◌, nat_eq, nat_le, nat_lt, if◌then◌else◌, List, [], ◌∷◌, length, take, drop, bytes_eq, Option, Some, None, Result, Ok, Err}
+use Rattle.std.specs.Prelude.{ℕ, zero, suc, ◌-◌, Bool, false, ◌&&◌, nat_eq, nat_le, nat_lt, if◌then◌else◌, List, [], ◌∷◌, length, take, drop, bytes_eq, Option, Some, None, Result, Ok, Err}
 use Rattle.std.specs.Int.{Width, w16, w32, w64, byte_len, from_be_bytes}
 use Rattle.std.specs.Str.{is_utf8}
 use Rattle.wf_events.specs.Records.{Record, Started, Turned}
@@ -83,8 +83,8 @@ move_at bytes = do
   b ← number_at w32 bytes
   Ok (Move b.0, b.1)
 
-unfoldable pub move_at_at : Bytes → Read Event
-move_at_at bytes = do
+unfoldable pub timed_move_at : Bytes → Read Event
+timed_move_at bytes = do
   b ← number_at w32 bytes
   t ← number_at w64 b.1
   Ok (MoveAt b.0 t.0, t.1)
@@ -93,7 +93,7 @@ move_at_at bytes = do
 unfoldable pub event_at : Bytes → Read Event
 event_at bytes = do
   kind ← byte_at bytes
-  if nat_eq kind.0 1 then move_at kind.1 else if nat_eq kind.0 2 then move_at_at kind.1 else Err (length bytes)
+  if nat_eq kind.0 1 then move_at kind.1 else if nat_eq kind.0 2 then timed_move_at kind.1 else Err (length bytes)
 
 -- at least one
 unfoldable pub events_at : Bytes → Read (List Event)

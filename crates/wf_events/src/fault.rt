@@ -1,14 +1,16 @@
 // Why bytes are no record.
-use std::alloc::{AllocError, AllocFailed};
+use thiserror::Error;
 use wf_value::OutOfMemory;
 
 /// Why bytes were not read as a record.
-#[derive(Clone, Copy, Debug, PartialEq, Eq, Drop)]
+#[derive(Clone, Copy, Debug, PartialEq, Eq, Drop, Error)]
 pub enum RecordFault {
     /// The bytes spell no record that is read by now. The number is the offset, in bytes from the record's first on, of
     /// the first part that no such record goes on with; past 4,294,967,295 it stays there.
+    #[error("bad record at byte {0}")]
     BadRecord(u32),
     /// There is no memory.
+    #[error("out of memory")]
     OutOfMemory,
 }
 

@@ -7,6 +7,7 @@ mod fault;
 mod laws;
 mod reading;
 mod routes;
+mod rows;
 #[cfg(test)]
 mod tests;
 mod writing;
@@ -17,4 +18,5 @@ pub use fault::RecordFault;
 pub use laws::one_spelling;
 pub use reading::decode;
 pub use routes::copy_routes;
+pub use rows::worked_spellings;
 pub use writing::{encode, encode_start, encode_turn};

@@ -1,7 +1,7 @@
 // From bytes to records.
 ghost use Rattle.std.specs.Prelude.{◌≡◌, IfOk, IfErr, Some, map};
 ghost use Rattle.std.specs.Int.{w16, w32, w64};
-ghost use Rattle.wf_events.specs.Faults.{Gives, GivesWhole, IsFaultOf};
+ghost use Rattle.wf_events.specs.Faults.{Gives, GivesWhole, IsFaultOf, IsUnspelled};
 ghost use Rattle.wf_events.specs.Reading.{byte_at, number_at, string_at, text_at, argument_at, list_at, route_at, pair_at, start_at, event_at, events_at, turn_at, record_at, whole_at, meaning};
 ghost use Rattle.wf_events.specs.Spelling.{Spells};
 ghost use Rattle.wf_events.specs.View.{route_view, start_view, event_view, events_view, turn_view, record_view};
@@ -157,7 +157,7 @@ impl<'a> Reader<'a> {
         })
     }
 
-    #[tactic(auto, unfolding(crate::specs::Reading::event_at, crate::specs::Reading::move_at, crate::specs::Reading::move_at_at))]
+    #[tactic(auto, unfolding(crate::specs::Reading::event_at, crate::specs::Reading::move_at, crate::specs::Reading::timed_move_at))]
     fn event(&mut self) -> Result<Event, ReadFault>
         ensures { Gives event_view result self.new.rest.now (event_at self.old.rest.now) }
     {
@@ -232,6 +232,7 @@ pub fn decode(alloc: Global, bytes: &[u8]) -> Result<Record, RecordFault>
     ensures found { IfOk result (λ r. Spells bytes.now (record_view r)) }
     ensures record { IfOk result (λ r. meaning bytes.now ≡ Some (record_view r)) }
     ensures bad_record { IfErr result (IsFaultOf bytes.now) }
+    ensures no_record { IfErr result (IsUnspelled bytes.now) }
 {
     match whole(alloc, bytes) {
         Ok(record) => Ok(record),

@@ -3,8 +3,8 @@
 ghost use Rattle.std.specs.Prelude.{◌<◌};
 
 use crate::{
-    Event, Events, Record, RecordFault, Start, Turn, decode, encode, encode_start, encode_turn,
-    is_argument,
+    Event, Events, Record, RecordFault, Start, Turn, copy_routes, decode, encode, encode_start,
+    encode_turn, is_argument,
 };
 use std::alloc::Global;
 use std::test::Fail;
@@ -340,5 +340,28 @@ fn writes_a_turn(rt: HostRuntime) -> Result<(), Fail> {
     };
     let bytes = encode_turn(alloc, &turn)?;
     assert_eq!(rt; bytes.len(), 26);
+    Ok(())
+}
+
+#[test]
+fn prints_faults(rt: HostRuntime) -> Result<(), Fail> {
+    let alloc = rt.alloc();
+    let bad = format!(in alloc; "{}", RecordFault::BadRecord(26))?;
+    assert_eq!(rt; bad.as_str(), "bad record at byte 26");
+    let short = format!(in alloc; "{}", RecordFault::OutOfMemory)?;
+    assert_eq!(rt; short.as_str(), "out of memory");
+    Ok(())
+}
+
+#[test]
+fn copies_pairs(rt: HostRuntime) -> Result<(), Fail> {
+    let alloc = rt.alloc();
+    let bytes = bytes_of(alloc, RECORDS[4].0)?;
+    let mut record = decode(alloc, bytes.as_slice())?;
+    if let Record::Start(start) = &mut record {
+        start.routes = copy_routes(alloc, &start.routes)?;
+        start.env = start.env.copy(alloc)?;
+    }
+    assert_eq!(rt; shown(alloc, &record)?.as_str(), RECORDS[4].1);
     Ok(())
 }

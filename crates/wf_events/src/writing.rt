@@ -135,7 +135,8 @@ impl Writer {
     }
 }
 
-/// The one spelling of a start, as a record of its own.
+/// The one spelling of the record that is this start, which must have one: each text, each byte string and each count of
+/// items is below 4,294,967,296, and the argument is one (`is_argument`). The only error is `OutOfMemory`.
 #[tactic(auto, unfolding(crate::specs::Spelling::record_bytes))]
 pub fn encode_start(alloc: Global, start: &Start) -> Result<Vec<u8>, OutOfMemory>
     requires { HasSpelling (plain.Record.Started (start_view start.now)) }
@@ -153,7 +154,8 @@ pub fn encode_start(alloc: Global, start: &Start) -> Result<Vec<u8>, OutOfMemory
     }
 }
 
-/// The one spelling of a turn, as a record of its own.
+/// The one spelling of the record that is this turn, which must have one: its events are at least 1 and fewer than
+/// 4,294,967,296. The only error is `OutOfMemory`.
 #[tactic(auto, unfolding(crate::specs::Spelling::record_bytes))]
 pub fn encode_turn(alloc: Global, turn: &Turn) -> Result<Vec<u8>, OutOfMemory>
     requires { HasSpelling (plain.Record.Turned (turn_view turn.now)) }
@@ -171,7 +173,8 @@ pub fn encode_turn(alloc: Global, turn: &Turn) -> Result<Vec<u8>, OutOfMemory>
     }
 }
 
-/// The one spelling of a record.
+/// The one spelling of a record, which must have one: see `encode_start` and `encode_turn`. The only error is
+/// `OutOfMemory`.
 pub fn encode(alloc: Global, record: &Record) -> Result<Vec<u8>, OutOfMemory>
     requires { HasSpelling (record_view «record».now) }
     ensures { IfOk result (λ v. v.items ≡ record_bytes (record_view «record».now)) }

@@ -1,4 +1,4 @@
-use Rattle.std.proofs.Common.{◌≡◌, ◌↔◌, Bool, IsTrue, Some, IfOk, false, subst}
+use Rattle.std.proofs.Common.{◌≡◌, ◌↔◌, IsTrue, Some, IfOk, false, subst}
 use Rattle.std.proofs.lemmas.Result.{IfOk-weaker}
 use Rattle.wf_events.proofs.Parts.{decides_argument}
 use Rattle.wf_events.proofs.Texts.{not_json, decimal, too_deep, said}

@@ -1,5 +1,5 @@
 use Rattle.std.proofs.Common.{◌≡◌, ◌-◌, length, Err, arith, subst}
-use Rattle.wf_events.proofs.Meanings.{whole_takes, is_meaning, fault_at, cut_off}
+use Rattle.wf_events.proofs.Meanings.{whole_takes, is_meaning, fault_at, cut_off, unspelled}
 use Rattle.wf_events.specs.Faults.{Fails}
 use Rattle.wf_events.specs.Reading.{whole_at}
 use Rattle.wf_events.specs.View.{record_view}
@@ -17,3 +17,8 @@ returns-in-Err-NoPart-clause-bad_record c =
     let stops : whole_at c.args.bytes.now ≡ Err left = subst (λ e. Fails e (whole_at c.args.bytes.now)) c.in-Err-NoPart.field-0-is c.in-Err-NoPart.ensures in
     let offset = length c.args.bytes.now - left in
     (offset, fault_at c.args.bytes.now left stops, cut_off c.try_from.result offset c.unwrap_or.result (rw (← c.saturating_sub-offset.ensures) c.try_from.ensures) c.unwrap_or.ensures)
+
+pub returns-in-Err-NoPart-clause-no_record : goal.returns-in-Err-NoPart-clause-no_record
+returns-in-Err-NoPart-clause-no_record c =
+    let stops : whole_at c.args.bytes.now ≡ Err c.in-Err-NoPart.left = subst (λ e. Fails e (whole_at c.args.bytes.now)) c.in-Err-NoPart.field-0-is c.in-Err-NoPart.ensures in
+    λ r built spells. unspelled c.args.bytes.now c.in-Err-NoPart.left r stops built spells

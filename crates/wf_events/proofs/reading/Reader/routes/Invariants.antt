@@ -1,7 +1,7 @@
 use Rattle.std.proofs.Common.{◌≡◌, ◌-◌, map}
 use Rattle.wf_events.proofs.Loop.{with_front}
-use Rattle.wf_events.specs.Reading.{items_at, list_at, events_at, route_at}
-use Rattle.wf_events.specs.View.{route_view, events_view}
+use Rattle.wf_events.specs.Reading.{items_at, list_at, route_at}
+use Rattle.wf_events.specs.View.{route_view}
 use Rattle.wf_events.proofs.reading.Reader.routes.Given as goal
 
 abbrev pub invariant-loop : goal.invariant-loop

@@ -1,4 +1,4 @@
-use Rattle.std.proofs.Common.{subst, sym, map}
+use Rattle.std.proofs.Common.{map}
 use Rattle.std.specs.List.{AllByRecursion}
 use Rattle.wf_events.proofs.Written.{are_routes}
 use Rattle.wf_events.specs.Spelling.{IsRoute}
