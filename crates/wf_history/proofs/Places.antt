@@ -1,6 +1,6 @@
 -- How a history's place goes with the payloads that it has passed.
 use Rattle.std.specs.Prelude.{◌≡◌, ◌≤◌, ◌+◌, ◌-◌, ◌^◌, min, ℕ, Bool, true, false, zero, suc, List, [], ◌∷◌, ◌++◌, length, if◌then◌else◌, take, drop}
-use Rattle.std.proofs.Common.{refl, sym, ◌∙◌, ap, arith, append_assoc, length-append, length-drop}
+use Rattle.std.proofs.Common.{sym, ◌∙◌, ap, arith, append_assoc, length-append, length-drop}
 use Rattle.wf_host.specs.World.{World, longest}
 use Rattle.wf_history.specs.Stands.{Stands, ahead}
 use Rattle.wf_history.specs.declared.history.History.{History}

@@ -126,10 +126,9 @@ impl History {
     fn fault_of(&self, fault: RecordFault) -> HistoryFault
         ensures { IsFaultAt result fault (place self.now) }
     {
+        let number = u32::try_from(self.place).unwrap_or(u32::MAX);
         match fault {
-            RecordFault::BadRecord(_) => HistoryFault::BadRecord(u32::try_from(
-                self.place,
-            ).unwrap_or(u32::MAX)),
+            RecordFault::BadRecord(_) => HistoryFault::BadRecord(number),
             RecordFault::OutOfMemory => HistoryFault::OutOfMemory,
         }
     }

@@ -1,4 +1,4 @@
-use Rattle.std.proofs.Common.{◌≡◌, refl, sym, ◌∙◌, ap, subst, Some}
+use Rattle.std.proofs.Common.{Some}
 use Rattle.wf_events.specs.Records.{Turned}
 use Rattle.wf_events.specs.Spelling.{record_bytes}
 use Rattle.wf_events.specs.View.{turn_view}

@@ -6,10 +6,9 @@ use Rattle.wf_history.proofs.Beginnings.{NoneYet, at_once, behind_begin, then_ad
 use Rattle.wf_history.proofs.Open.{still_open, no_error}
 use Rattle.wf_history.proofs.history.History.begin.Goals as goal
 use Rattle.wf_history.proofs.history.History.begin.Goals.{then-is_new+in_ok-begin, else-is_new}
-use Rattle.wf_history.specs.Stands.{is_closed, HasNoneOrThis}
+use Rattle.wf_history.specs.Stands.{is_closed}
 use Rattle.wf_host.specs.World.{LeavesOnly}
 use Rattle.wf_journal.specs.Journal.{IsBeforeOrAfter}
-use Rattle.wf_journal.specs.Records.{records}
 use Rattle.wf_journal.specs.Stands as journal
 use Rattle.wf_journal.specs.declared.fault.JournalFault.TheVariants as fault
 

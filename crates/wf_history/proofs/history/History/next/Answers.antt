@@ -1,11 +1,11 @@
-use Rattle.std.proofs.Common.{◌≡◌, refl, sym, ◌∙◌, ap, subst, List, ℕ, [], ◌∷◌, Bor}
+use Rattle.std.proofs.Common.{◌≡◌, sym, ◌∙◌, ap, subst, [], ◌∷◌}
 use Rattle.std.specs.Prelude.{MatchOption}
 use Rattle.wf_history.proofs.BadRecords.{bad_at}
 use Rattle.wf_history.proofs.Open.{was_open, still_open}
 use Rattle.wf_history.proofs.Places.{goes_past, stays}
 use Rattle.wf_history.proofs.history.History.next.Goals as goal
 use Rattle.wf_history.proofs.history.History.next.Goals.{in-Turn, in_default-record}
-use Rattle.wf_history.specs.Stands.{is_closed, place, Stands}
+use Rattle.wf_history.specs.Stands.{is_closed}
 use Rattle.wf_history.specs.declared.history.History.{History}
 use Rattle.wf_journal.specs.Standing.{stands_where}
 use Rattle.wf_journal.specs.Stands as journal
