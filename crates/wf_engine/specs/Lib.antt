@@ -1,0 +1,9 @@
+pub mod Outside
+pub mod Deeds
+pub mod Kept
+pub mod Turns
+pub mod Starts
+pub mod Printed
+pub mod Safe
+pub mod Lives
+pub mod Laws

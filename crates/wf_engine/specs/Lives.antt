@@ -1,0 +1,64 @@
+-- Lives: lists of commands, each on what the one before left.
+--     Life           from a file that is fit
+--     LawOfLives     what holds over all commands of a life
+use Rattle.std.specs.Prelude.{◌≡◌, ◌≤◌, ℕ, List, [], ◌∷◌, ◌++◌, length, Contains, Option, Some, None, Ok}
+use Rattle.wf_engine.specs.Kept.{IsOpen}
+use Rattle.wf_engine.specs.Outside.{Outside}
+use Rattle.wf_engine.specs.Printed.{Scene, Reports, HasOutcome, outcome_text}
+use Rattle.wf_engine.specs.Safe.{Safe, IsFit}
+use Rattle.wf_host.specs.Source.{Rest}
+use Rattle.wf_host.specs.declared.data.Address.{Address}
+use Rattle.wf_host.specs.declared.data.Deed.{Deed}
+use Rattle.wf_host.specs.declared.data.Deed.TheVariants.{Start}
+use Rattle.wf_journal.specs.Records.{records}
+use Rattle.wf_model.specs.Config.{Outcome}
+use Rattle.wf_replay.specs.History.{Standing, history}
+use Rattle.wf_replay.specs.Language.{Language}
+use Rattle.wf_status.specs.declared.Status.{Status}
+
+-- a command, the file that it opened, what it did, how it ended if it did, and the file that was left then
+pub record Stay : Type 0 where
+  pub opened : List ℕ
+  pub words : List (List ℕ)
+  pub source : Rest
+  pub deeds : List Deed
+  pub end : Option Status
+  pub left : List ℕ
+
+abbrev pub stay_scene : Stay → Scene
+stay_scene x = record { words = x.words; source = x.source; found = x.opened }
+
+-- what it left is a pair of a moment of its command, on a disk that reads and crashes to what it opened
+abbrev pub IsStay : Language → Outside → Reports → Stay → Type 0
+IsStay L O R x = Safe L O R (stay_scene x) x.end (λ i. i ≡ x.opened) x.left x.deeds
+
+-- each opens what the one before left
+abbrev pub IsLifeFrom : Language → Outside → Reports → List ℕ → List Stay → Type 0
+IsLifeFrom L O R image [] = Unit {0}
+IsLifeFrom L O R image (x ∷ xs) = (x.opened ≡ image) × IsStay L O R x × IsLifeFrom L O R x.left xs
+
+pub record Life (L : Language) (O : Outside) (R : Reports) (first : List ℕ) (xs : List Stay) : Type 0 where
+  pub fit : IsFit L first
+  pub chain : IsLifeFrom L O R first xs
+
+-- call k was issued, and is answered or timed out by the records of an image
+abbrev pub IsClosed : Language → List ℕ → ℕ → Type 0
+IsClosed L image k = (st : Standing) × (history L (records image) ≡ Ok st) × (1 ≤ k) × (k ≤ length st.config.calls) × ¬ IsOpen st.config k
+
+abbrev pub IsOutcomeText : Language → Reports → Stay → List ℕ → Type 0
+IsOutcomeText L R x text = (o : Outcome) × HasOutcome L R (stay_scene x) x.left o × (text ≡ outcome_text o)
+
+pub record LawOfLives (L : Language) (O : Outside) (R : Reports) : Type 0 where
+  -- all starts of one number have one address and one request
+  pub one_request : (first : List ℕ) (xs : List Stay) (x y : Stay) (k : ℕ) (a b : Address) (p q : List ℕ) → Life L O R first xs → Contains xs x → Contains xs y
+      → Contains x.deeds (Start k a p) → Contains y.deeds (Start k b q) → (a ≡ b) × (p ≡ q)
+  -- a call that is answered or timed out when a command opens isn't started by it
+  pub closed : (first : List ℕ) (xs : List Stay) (x : Stay) (k : ℕ) (a : Address) (p : List ℕ) → Life L O R first xs → Contains xs x → IsClosed L x.opened k → ¬ Contains x.deeds (Start k a p)
+  -- records are kept
+  pub records_stay : (first : List ℕ) (xs before : List Stay) (x : Stay) (behind : List Stay) → Life L O R first xs → xs ≡ before ++ x ∷ behind
+      → (added : List (List ℕ)) × (records x.left ≡ records x.opened ++ added)
+  -- what is printed of an outcome is one line
+  pub one_line : (first : List ℕ) (xs : List Stay) (x y : Stay) (s t : List ℕ) → Life L O R first xs → Contains xs x → Contains xs y → IsOutcomeText L R x s → IsOutcomeText L R y t → s ≡ t
+
+abbrev pub HoldsOfLives : Type 0
+HoldsOfLives = (L : Language) (O : Outside) (R : Reports) → LawOfLives L O R

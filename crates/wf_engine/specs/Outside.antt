@@ -1,0 +1,28 @@
+-- What bytes that were heard come to. The rules on calls and visits are told over any such meaning.
+use Rattle.std.specs.Prelude.{ℕ, Bool, List, Option}
+use Rattle.wf_model.specs.Config.{Config}
+use Rattle.wf_shared.specs.Events.{Reply, Visitor}
+use Rattle.wf_shared.specs.HttpText.{ReplyCode, Accepted}
+
+-- how a connection stands
+pub data Close : Type 0 where
+  Going : Close
+  Ended : Close
+  Failed : Close
+
+-- what a visit gets: it arrives at an endpoint, or is told why not
+pub data Verdict : Type 0 where
+  Arrives : (endpoint : ℕ) → Visitor → Verdict
+  Refuses : ReplyCode → Verdict
+
+abbrev pub code_of : Verdict → ReplyCode
+code_of (Arrives n v) = Accepted
+code_of (Refuses code) = code
+
+pub record Outside : Type 0 where
+  -- the answer to a call, none while more may have to come
+  pub answer_of : List ℕ → Close → Option Reply
+  -- whether it is known what a visit asks
+  pub is_asked : List ℕ → Close → Bool
+  -- the verdict on a visit, which may have come to a crowd
+  pub verdict : Config → (crowded : Bool) → List ℕ → Close → Verdict

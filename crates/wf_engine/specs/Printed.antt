@@ -1,0 +1,111 @@
+-- The statuses that print a text, each with its cause.
+--     Scene     what a command meets
+--     Gives     a status whose cause holds, with its text, for the image and the deeds of a moment
+use Rattle.std.specs.Prelude.{◌≡◌, ◌≢◌, ◌≤◌, ℕ, Bool, true, false, List, [], ◌++◌, length, take, Option, Some, None, Ok, Err, codes, decimal}
+use Rattle.wf_host.specs.Source.{Rest, IsFirst}
+use Rattle.wf_journal.specs.Records.{magic, records}
+use Rattle.wf_line.specs.Lines.{PlainLine, line_of}
+use Rattle.wf_line.specs.declared.command.Command.{Command}
+use Rattle.wf_line.specs.declared.command.Command.TheVariants.{Run, Resume, Help, Version}
+use Rattle.wf_model.specs.Config.{Outcome, Active, Returned, Raised, Cancelled}
+use Rattle.wf_replay.specs.History.{Standing, history}
+use Rattle.wf_replay.specs.Language.{Language}
+use Rattle.wf_status.specs.Refusals.{refusal_text}
+use Rattle.wf_status.specs.Statuses.{line_end}
+use Rattle.wf_status.specs.declared.Refusal.{Refusal}
+use Rattle.wf_status.specs.declared.Status.{Status}
+use Rattle.wf_status.specs.declared.Status.TheVariants as status
+use Rattle.wf_value.specs.Json.{json_text}
+
+-- what a command meets: its words, what its source has left, and the file that it finds
+pub record Scene : Type 0 where
+  pub words : List (List ℕ)
+  pub source : Rest
+  pub found : List ℕ
+
+-- what is told of sources and of the program by other parts
+pub record Reports : Type 0 where
+  -- the first refusal of a source that isn't accepted
+  pub refusal : List ℕ → Option Refusal
+  pub help : List ℕ
+  pub version : List ℕ
+
+-- ## What a command uses
+abbrev pub uses_source : Command → Bool
+uses_source Run = true
+uses_source c = false
+
+abbrev pub uses_journal : Command → Bool
+uses_journal Run = true
+uses_journal Resume = true
+uses_journal c = false
+
+-- it goes on to an outcome
+abbrev pub executes : Command → Bool
+executes Run = true
+executes Resume = true
+executes c = false
+
+-- ## Outcomes
+-- the status of an outcome, and the line that is printed of it
+abbrev pub status_of : Outcome → Option Status
+status_of Active = None
+status_of (Returned v) = Some status.Done
+status_of (Raised e) = Some status.Raised
+status_of Cancelled = None
+
+abbrev pub outcome_text : Outcome → List ℕ
+outcome_text Active = []
+outcome_text (Returned v) = line_end (json_text v)
+outcome_text (Raised e) = line_end (json_text e)
+outcome_text Cancelled = []
+
+module _ (L : Language) (R : Reports) (s : Scene) where
+  -- ## Causes
+  abbrev pub IsLine : PlainLine → Type 0
+  IsLine l = line_of s.words ≡ Ok l
+
+  abbrev pub IsBadLine : ℕ → Type 0
+  IsBadLine n = line_of s.words ≡ Err n
+
+  -- the source, read to its end or to 131,073 bytes
+  abbrev pub Reads : PlainLine → List ℕ → Type 0
+  Reads l bytes = IsLine l × (uses_source l.command ≡ true) × IsFirst 131073 s.source bytes
+
+  abbrev pub IsRefused : Refusal → Type 0
+  IsRefused r = (l : PlainLine) × (bytes : List ℕ) × Reads l bytes × (R.refusal bytes ≡ Some r)
+
+  -- a line that goes on with a journal, or begins one
+  abbrev pub IsLineOf : (Command → Type 0) → Type 0
+  IsLineOf P = (l : PlainLine) × IsLine l × P l.command
+
+  abbrev pub HasOtherMagic : Type 0
+  HasOtherMagic = IsLineOf (λ c. uses_journal c ≡ true) × (5 ≤ length s.found) × (take 4 s.found ≢ magic)
+
+  abbrev pub IsStarted : Type 0
+  IsStarted = IsLineOf (λ c. c ≡ Run) × (records s.found ≢ [])
+
+  abbrev pub IsNotStarted : Type 0
+  IsNotStarted = IsLineOf (λ c. c ≡ Resume) × (records s.found ≡ [])
+
+  abbrev pub IsNoHistory : ℕ → Type 0
+  IsNoHistory n = IsLineOf (λ c. c ≡ Resume) × (history L (records s.found) ≡ Err n)
+
+  -- the records of an image give this outcome
+  abbrev pub HasOutcome : List ℕ → Outcome → Type 0
+  HasOutcome image o = IsLineOf (λ c. executes c ≡ true) × ((c : Standing) × (history L (records image) ≡ Ok c) × (c.config.outcome ≡ o))
+
+  -- what a command that executes nothing prints
+  pub data Reported : List ℕ → Type 0 where
+    helped : IsLineOf (λ c. c ≡ Help) → Reported R.help
+    versioned : IsLineOf (λ c. c ≡ Version) → Reported R.version
+
+  pub data Gives (image : List ℕ) : Status → List ℕ → Type 0 where
+    bad_line : (n : ℕ) → IsBadLine n → Gives image (status.BadLine n) (line_end (codes "bad line at word " ++ decimal n))
+    refused : (r : Refusal) → IsRefused r → Gives image (status.Refused r) (line_end (refusal_text r))
+    not_a_journal : HasOtherMagic → Gives image status.NotAJournal (line_end (codes "not a journal"))
+    already_started : IsStarted → Gives image status.AlreadyStarted (line_end (codes "already started"))
+    not_started : IsNotStarted → Gives image status.NotStarted (line_end (codes "not started"))
+    not_a_history : (n : ℕ) → IsNoHistory n → Gives image (status.NotAHistory n) (line_end (codes "not a history at record " ++ decimal n))
+    ended : (o : Outcome) (st : Status) → HasOutcome image o → status_of o ≡ Some st → Gives image st (outcome_text o)
+    done : (text : List ℕ) → Reported text → Gives image status.Done text

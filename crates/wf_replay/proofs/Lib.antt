@@ -1,0 +1,7 @@
+mod Events
+mod Faults
+mod Histories
+mod Moments
+mod Replays
+mod Runs
+mod Steps

@@ -1,0 +1,17 @@
+use Rattle.wf_replay.proofs.Histories as histories
+use Rattle.wf_replay.proofs.laws.laws_of_histories.Goals as goal
+
+pub returns-clause-computed : goal.returns-clause-computed
+returns-clause-computed c = histories.computed c.laws_of_runs.ensures.runs_join
+
+pub returns-clause-complete : goal.returns-clause-complete
+returns-clause-complete c = histories.complete c.laws_of_runs.ensures.runs_join
+
+pub returns-clause-least : goal.returns-clause-least
+returns-clause-least c = histories.least
+
+pub returns-clause-goes_on : goal.returns-clause-goes_on
+returns-clause-goes_on c = histories.record_goes_on
+
+pub returns-clause-front : goal.returns-clause-front
+returns-clause-front c = histories.front

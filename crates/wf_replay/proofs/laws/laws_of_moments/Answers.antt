@@ -1,0 +1,23 @@
+use Rattle.wf_replay.proofs.Moments as moments
+use Rattle.wf_replay.proofs.laws.laws_of_moments.Goals as goal
+
+pub returns-clause-turn_is_added : goal.returns-clause-turn_is_added
+returns-clause-turn_is_added c = moments.turn_is_added
+
+pub returns-clause-session_before_stays : goal.returns-clause-session_before_stays
+returns-clause-session_before_stays c = moments.session_before_stays
+
+pub returns-clause-moment_before_stays : goal.returns-clause-moment_before_stays
+returns-clause-moment_before_stays c = moments.moment_before_stays c.laws_of_turns.ensures.later_turn_does_not_count
+
+pub returns-clause-turn_is_of_its_session : goal.returns-clause-turn_is_of_its_session
+returns-clause-turn_is_of_its_session c = moments.turn_is_of_its_session
+
+pub returns-clause-next_behind_turn : goal.returns-clause-next_behind_turn
+returns-clause-next_behind_turn c = moments.next_behind_turn
+
+pub returns-clause-history_stands_there : goal.returns-clause-history_stands_there
+returns-clause-history_stands_there c = moments.history_stands_there c.laws_of_histories.ensures.computed c.laws_of_turns.ensures.all_turns_are_the_run
+
+pub returns-clause-next_behind_history : goal.returns-clause-next_behind_history
+returns-clause-next_behind_history c = moments.next_behind_history c.laws_of_histories.ensures.computed

@@ -1,0 +1,14 @@
+use Rattle.std.proofs.Common.{refl, sym, ◌∙◌}
+use Rattle.wf_history.specs.Stands.{is_closed}
+use Rattle.wf_replay.proofs.Replays.{SoFar, starts, none_fell}
+use Rattle.wf_replay.proofs.replaying.replay.Goals as goal
+
+pub loop-machine-init : goal.loop-machine-init
+loop-machine-init g c = record {
+  so_far = λ told. starts (g.H.Host.world c.args.host.now) c.args.history.now c.args.machine (λ i d left. g.met.H.Host.only_now c.args.host.now i d told left) (λ open_now. c.requires.kept open_now told);
+  closed = refl;
+  new = refl;
+  whole = c.requires.whole;
+  tells = refl;
+  counts = none_fell (g.H.Host.faults c.args.host.now);
+}

@@ -1,0 +1,21 @@
+use Rattle.std.proofs.Common.{◌≡◌, ℕ, List, [], ◌∷◌, Some, subst, subst₂}
+use Rattle.std.specs.Prelude.{MatchOption}
+use Rattle.wf_events.specs.Reading.{meaning}
+use Rattle.wf_events.specs.View.{record_view}
+use Rattle.wf_history.specs.Stands.{ahead, last, place}
+use Rattle.wf_replay.proofs.Faults.{IsToldAt, at_no_record, at_record}
+use Rattle.wf_replay.proofs.replaying.replay_next.Goals as goal
+
+-- src/replaying.rt:77:24
+pub returns-in_err-record-clause-bad_event : goal.returns-in_err-record-clause-bad_event
+returns-in_err-record-clause-bad_event g c = λ told.
+    at_no_record (place c.args.history.now) (last c.args.history.now) c.args.machine.now (ahead c.args.history.now (g.H.Host.world c.args.host.now).seen) c.from_residual.result c.in_err-record.field-0.0 c.from_residual.ensures (c.in_err-record.ensures.bad_record told)
+
+-- src/replaying.rt:80:5
+pub returns-in_err-replay_record-clause-bad_event : goal.returns-in_err-replay_record-clause-bad_event
+returns-in_err-replay_record-clause-bad_event g c = λ told.
+    let w = g.H.Host.world c.args.host.now in
+    let found = subst (λ o. MatchOption o (ahead c.args.history.now w.seen ≡ []) (λ r. (payload : List ℕ) × (ahead c.args.history.now w.seen ≡ payload ∷ ahead c.next.new.self w.seen) × (meaning payload ≡ Some (record_view r)))) c.in-Some.is (c.in_ok-record.ensures.record told) in
+    at_record (place c.args.history.now) (last c.args.history.now) c.args.machine.now found.0 (ahead c.next.new.self w.seen) (ahead c.args.history.now w.seen) (record_view c.in-Some.record) c.from_residual-in_err-replay_record.result c.in_err-replay_record.field-0.0
+    c.from_residual-in_err-replay_record.ensures found.1 found.2
+    (subst₂ (λ p l. IsToldAt c.in_err-replay_record.field-0.0 (record_view c.in-Some.record) c.args.machine.now p l) c.place-number.ensures c.last-last.ensures c.in_err-replay_record.ensures.bad_event)

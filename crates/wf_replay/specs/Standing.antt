@@ -1,0 +1,29 @@
+-- Where a history that was read and its machine stand.
+use Rattle.std.specs.Prelude.{ℕ, Option, Some, None}
+use Rattle.wf_history.specs.Stands.{place, last}
+use Rattle.wf_history.specs.declared.history.History as history
+use Rattle.wf_machine.specs.Seen.{state_of}
+use Rattle.wf_machine.specs.declared.machine.Machine as machine
+use Rattle.wf_replay.specs.History.{Standing}
+
+abbrev pub session_of : Option (ℕ × ℕ) → ℕ
+session_of None = 0
+session_of (Some p) = p.0
+
+abbrev pub waits_of : Option (ℕ × ℕ) → ℕ
+waits_of None = 0
+waits_of (Some p) = p.1
+
+-- the machine's program and configuration behind so many records, with the session and the waits of the last turn
+unfoldable pub stands_at : ℕ → Option (ℕ × ℕ) → machine.Machine → Standing
+stands_at number last m = record {
+  program = (state_of m).program;
+  config = (state_of m).config;
+  number = number;
+  session = session_of last;
+  waits = waits_of last;
+}
+
+-- the same behind the records that a history has read
+abbrev pub standing : history.History → machine.Machine → Standing
+standing h m = stands_at (place h) (last h) m

@@ -1,0 +1,32 @@
+// Laws of histories.
+ghost use Rattle.wf_replay.specs.Laws.{ComputedIsHistory, HistoryIsComputed, NumberIsLeast, RecordGoesOn, FrontIsAHistory};
+ghost use Rattle.wf_replay.specs.Moments.{TurnIsAdded, SessionBeforeStays, MomentBeforeStays, TurnIsOfItsSession, NextBehindTurn, HistoryStandsThere, NextBehindHistory};
+
+use wf_model::{laws_of_runs, laws_of_turns};
+
+/// Carries laws: the history that is computed record by record is the one that is told by its facts, its number is the least, a record
+/// that goes on makes a longer history, and the front of a history is one.
+pub fn laws_of_histories()
+    ensures computed { ComputedIsHistory }
+    ensures complete { HistoryIsComputed }
+    ensures least { NumberIsLeast }
+    ensures goes_on { RecordGoesOn }
+    ensures front { FrontIsAHistory }
+{
+    laws_of_runs();
+}
+
+/// Carries laws of a journal with one turn more: it stands behind the others and changes nothing before its own moment. And of a history:
+/// from its last turn on the configuration is the one to which it leads.
+pub fn laws_of_moments()
+    ensures turn_is_added { TurnIsAdded }
+    ensures session_before_stays { SessionBeforeStays }
+    ensures moment_before_stays { MomentBeforeStays }
+    ensures turn_is_of_its_session { TurnIsOfItsSession }
+    ensures next_behind_turn { NextBehindTurn }
+    ensures history_stands_there { HistoryStandsThere }
+    ensures next_behind_history { NextBehindHistory }
+{
+    laws_of_turns();
+    laws_of_histories();
+}

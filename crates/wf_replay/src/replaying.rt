@@ -1,0 +1,140 @@
+// Replaying a history.
+ghost use Rattle.std.specs.Prelude.{◌≡◌, ◌⊎◌, ◌↔◌, ◌&&◌, ◌<◌, [], true, false, ℕ, suc, Some, None, Ok, Err, IfOk, IfErr, OnOk, IsErrOf};
+ghost use Rattle.wf_events.specs.View.{events_view, record_view, turn_view};
+ghost use Rattle.wf_history.specs.Stands.{ahead, at_end, is_closed, is_new, last_after, unread, Stands};
+ghost use Rattle.wf_host.specs.World.{Told, LeavesOnly, NoneFell, Rose};
+ghost use Rattle.wf_journal.specs.Journal.{Stays};
+ghost use Rattle.wf_machine.specs.Seen.{state_of};
+ghost use Rattle.wf_model.specs.Config.{Config, To};
+ghost use Rattle.wf_model.specs.Run.{run_on};
+ghost use Rattle.wf_replay.specs.History.{goes_on, goes_on_at, goes_to, is_numbered, told};
+ghost use Rattle.wf_replay.specs.Standing.{session_of, standing, stands_at, waits_of};
+
+use crate::ReplayFault;
+use std::alloc::Global;
+use wf_events::{Record, Turn};
+use wf_history::History;
+use wf_host::Host;
+use wf_machine::{ApplyFault, Machine};
+
+/// Applies the turns that a history has left to the machine, which stands where the records that were read so far lead.
+pub fn replay<H: Host>(
+    alloc: Global,
+    history: &mut History,
+    host: &mut H,
+    machine: Machine,
+) -> Result<Machine, ReplayFault>
+    requires whole { (state_of machine).broken ≡ false }
+    requires kept { is_closed history.old ≡ false → Told (H.world host.old) (Stands history.old (H.world host.old)) }
+    ensures stands { is_closed history.new ≡ false → Told (H.world host.old) (Stands history.new (H.world host.new)) }
+    ensures replayed { Told (H.world host.old) (IfOk result (λ m. goes_to (standing history.old machine) (ahead history.old (H.world host.old).seen) ≡ Ok (standing history.new m))) }
+    ensures whole { IfOk result (λ m. (state_of m).broken ≡ false) }
+    ensures ended { OnOk result (at_end history.new ≡ true) }
+    ensures bad_event { Told (H.world host.old) (IfErr result (λ e. (n : ℕ) → e ≡ ReplayFault.BadEvent n → goes_to (standing history.old machine) (ahead history.old (H.world host.old).seen) ≡ Err n)) }
+    ensures new { is_new history.new ≡ is_new history.old }
+    ensures seen { Told (H.world host.old) ((H.world host.new).seen ≡ (H.world host.old).seen) }
+    ensures any_moment { is_closed history.old ≡ false → Told (H.world host.old) (LeavesOnly (H.world host.old) (H.world host.new) (Stays (H.world host.old))) }
+    ensures disk_fault { IsErrOf result ReplayFault.DiskFault → Rose (H.faults host.old).disk (H.faults host.new).disk }
+    ensures closed { IsErrOf result ReplayFault.Closed ↔ (is_closed history.old ≡ true) }
+    ensures closes { (is_closed history.new ≡ true) ↔ ((is_closed history.old ≡ true) ⊎ IsErrOf result ReplayFault.DiskFault) }
+    ensures deeds { Told (H.world host.old) ((H.world host.new).deeds ≡ (H.world host.old).deeds) }
+    ensures tells { (H.world host.new).tells ≡ (H.world host.old).tells }
+    ensures counts { NoneFell (H.faults host.old) (H.faults host.new) }
+{
+    let mut machine = machine;
+    while replay_next(alloc, history, host, &mut machine)? {}
+    Ok(machine)
+}
+
+/// Applies the next turn, if there is one.
+fn replay_next<H: Host>(
+    alloc: Global,
+    history: &mut History,
+    host: &mut H,
+    machine: &mut Machine,
+) -> Result<bool, ReplayFault>
+    requires whole { (state_of machine.old).broken ≡ false }
+    requires kept { is_closed history.old ≡ false → Told (H.world host.old) (Stands history.old (H.world host.old)) }
+    ensures stands { is_closed history.new ≡ false → Told (H.world host.old) (Stands history.new (H.world host.new)) }
+    ensures leads { Told (H.world host.old) (OnOk result (goes_to (standing history.old machine.old) (ahead history.old (H.world host.old).seen) ≡ goes_to (standing history.new machine.new) (ahead history.new (H.world host.old).seen))) }
+    ensures last { Told (H.world host.old) (IfOk result (λ more. more ≡ false → ahead history.new (H.world host.old).seen ≡ [])) }
+    ensures whole { OnOk result ((state_of machine.new).broken ≡ false) }
+    ensures ended { IfOk result (λ more. more ≡ false → at_end history.new ≡ true) }
+    ensures shorter { IfOk result (λ more. more ≡ true → unread history.new < unread history.old) }
+    ensures bad_event { Told (H.world host.old) (IfErr result (λ e. (n : ℕ) → e ≡ ReplayFault.BadEvent n → goes_to (standing history.old machine.old) (ahead history.old (H.world host.old).seen) ≡ Err n)) }
+    ensures new { is_new history.new ≡ is_new history.old }
+    ensures seen { Told (H.world host.old) ((H.world host.new).seen ≡ (H.world host.old).seen) }
+    ensures any_moment { is_closed history.old ≡ false → Told (H.world host.old) (LeavesOnly (H.world host.old) (H.world host.new) (Stays (H.world host.old))) }
+    ensures disk_fault { IsErrOf result ReplayFault.DiskFault → Rose (H.faults host.old).disk (H.faults host.new).disk }
+    ensures closed { IsErrOf result ReplayFault.Closed ↔ (is_closed history.old ≡ true) }
+    ensures closes { (is_closed history.new ≡ true) ↔ ((is_closed history.old ≡ true) ⊎ IsErrOf result ReplayFault.DiskFault) }
+    ensures deeds { Told (H.world host.old) ((H.world host.new).deeds ≡ (H.world host.old).deeds) }
+    ensures tells { (H.world host.new).tells ≡ (H.world host.old).tells }
+    ensures counts { NoneFell (H.faults host.old) (H.faults host.new) }
+{
+    let number = history.place();
+    let last = history.last();
+    let Some(record) = history.next(alloc, host)? else {
+        return Ok(false);
+    };
+    replay_record(number, last, &record, machine)?;
+    Ok(true)
+}
+
+/// Applies the record with this number, if it is a turn that goes on behind the last one.
+#[tactic(auto, unfolding(crate::specs::Standing::stands_at))]
+fn replay_record(
+    number: u64,
+    last: Option<(u64, u64)>,
+    next: &Record,
+    machine: &mut Machine,
+) -> Result<(), ReplayFault>
+    requires whole { (state_of machine.old).broken ≡ false }
+    ensures goes_on { OnOk result (goes_on (stands_at number last machine.old) (Some (record_view next.now)) ≡ Some (stands_at (suc number) (last_after last (record_view next.now)) machine.new)) }
+    ensures whole { OnOk result ((state_of machine.new).broken ≡ false) }
+    ensures bad_event { IfErr result (λ e. (n : ℕ) → e ≡ ReplayFault.BadEvent n → (goes_on (stands_at number last machine.old) (Some (record_view next.now)) ≡ None) × (n ≡ told number)) }
+    ensures only { IfErr result (λ e. (e ≡ ReplayFault.OutOfMemory) ⊎ (e ≡ ReplayFault.BadEvent (told number))) }
+{
+    let Record::Turn(turn) = next else {
+        return Err(bad_event(number));
+    };
+    if !is_in_place(number, last, turn) {
+        return Err(bad_event(number));
+    }
+    match apply_turn(machine, turn) {
+        Ok(()) => Ok(()),
+        Err(ApplyFault::NotEnabled) => Err(bad_event(number)),
+        Err(ApplyFault::OutOfMemory) => Err(ReplayFault::OutOfMemory),
+    }
+}
+
+/// Whether a turn with this number is numbered, and doesn't fall behind the last one.
+fn is_in_place(number: u64, last: Option<(u64, u64)>, turn: &Turn) -> bool
+    ensures { result ≡ (is_numbered number (turn_view turn.now) && goes_on_at (session_of last) (waits_of last) (turn_view turn.now)) }
+{
+    let (session, waits) = last.unwrap_or((0, 0));
+    let goes_on = session < turn.session || session == turn.session && waits <= turn.waits;
+    1 <= turn.session && turn.session <= number && goes_on
+}
+
+/// Applies the events of a turn. It answers `NotEnabled` where one of them can't come: then they lead nowhere.
+fn apply_turn(machine: &mut Machine, turn: &Turn) -> Result<(), ApplyFault>
+    requires whole { (state_of machine.old).broken ≡ false }
+    ensures applied { OnOk result (run_on (state_of machine.old).program (To (state_of machine.old).config) (events_view turn.now.events) ≡ To (state_of machine.new).config) }
+    ensures whole { OnOk result ((state_of machine.new).broken ≡ false) }
+    ensures program { OnOk result ((state_of machine.new).program ≡ (state_of machine.old).program) }
+    ensures not_enabled { IsErrOf result ApplyFault.NotEnabled → (c : Config) → run_on (state_of machine.old).program (To (state_of machine.old).config) (events_view turn.now.events) ≡ To c → ⊥ }
+{
+    let events = turn.events.items();
+    for event in events {
+        machine.apply(event)?;
+    }
+    Ok(())
+}
+
+/// The fault of the record with this number.
+fn bad_event(number: u64) -> ReplayFault
+    ensures { result ≡ ReplayFault.BadEvent (told number) }
+{
+    ReplayFault::BadEvent(u32::try_from(number).unwrap_or(u32::MAX))
+}
