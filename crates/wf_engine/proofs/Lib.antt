@@ -1,2 +1,4 @@
 mod Moves
 mod Quiet
+mod Readings
+mod Splits
