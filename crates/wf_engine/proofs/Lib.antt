@@ -1,3 +1,4 @@
+mod Chosen
 mod Moves
 mod Quiet
 mod Readings

@@ -1,6 +1,8 @@
-//! The rules that a durable engine keeps, over every crash and every resumption; definitions and laws so far.
+//! The rules that a durable engine keeps, over every crash and every resumption: definitions, laws, and the events of one turn.
 #![tactic(auto)]
 
 mod laws;
+mod turns;
 
 pub use laws::laws_of_rules;
+pub use turns::choose_turn;

@@ -1,0 +1,106 @@
+-- The events of a turn, one after another.
+use Rattle.std.specs.Prelude.{◌≡◌, ◌≤◌, ◌<◌, ◌-◌, ◌+◌, ℕ, zero, suc, Bool, true, false, List, [], ◌∷◌, ◌++◌, length, Option, Some, None, Result, Ok, IsErrOf}
+use Rattle.std.proofs.Common.{refl, sym, ◌∙◌, ap, subst, arith, append_assoc, length-append}
+use Rattle.std.proofs.lemmas.List.{append-nil}
+use Rattle.wf_ast.specs.Tree.{Program}
+use Rattle.wf_engine.specs.Turns.{chosen}
+use Rattle.wf_machine.specs.State.{State}
+use Rattle.wf_model.specs.Choose.{choose}
+use Rattle.wf_model.specs.Config.{Config, After, To, Wrong, NotNow}
+use Rattle.wf_model.specs.Run.{run_on}
+use Rattle.wf_model.specs.Step.{next}
+use Rattle.wf_shared.specs.Events.{Event}
+
+-- ## Runs
+-- from nowhere nothing leads on
+stuck : (p : Program) (a : After) (e : Event) → (a ≡ NotNow) → run_on p a (e ∷ []) ≡ NotNow
+stuck p (To c) e is = absurd cc
+stuck p (Wrong k) e is = refl
+stuck p NotNow e is = refl
+
+-- an event more
+pub run_more : (p : Program) (a : After) (es : List Event) (e : Event) → run_on p a (es ++ e ∷ []) ≡ run_on p (run_on p a es) (e ∷ [])
+run_more p a [] e = refl
+run_more p (To c) (d ∷ es) e = run_more p (next p c d) es e
+run_more p (Wrong k) (d ∷ es) e = refl
+run_more p NotNow (d ∷ es) e = refl
+
+pub leads_on : (p : Program) (b c d : Config) (es : List Event) (e : Event) → run_on p (To b) es ≡ To c → next p c e ≡ To d → run_on p (To b) (es ++ e ∷ []) ≡ To d
+leads_on p b c d es e leads step = run_more p (To b) es e ∙ ap (λ a. run_on p a (e ∷ [])) leads ∙ step
+
+-- ## Turns
+-- what comes after these events makes the turn whole
+pub record SoFar (p : Program) (b : Config) (r : ℕ) (c : Config) (es : List Event) : Type 0 where
+  pub turn : es ++ chosen (4096 - length es) p (To c) r ≡ chosen 4096 p (To b) r
+  pub leads : run_on p (To b) es ≡ To c
+  pub short : length es ≤ 4096
+
+pub none_yet : (p : Program) (b : Config) (r : ℕ) → SoFar p b r b []
+none_yet p b r = record { turn = refl; leads = refl; short = omega arith }
+
+chosen_next : (n : ℕ) (p : Program) (c d : Config) (r : ℕ) (e : Event) → choose p c r ≡ Some e → next p c e ≡ To d → chosen (suc n) p (To c) r ≡ e ∷ chosen n p (To d) r
+chosen_next n p c d r e is step =
+    ap (λ (o : Option Event). elim o [ None ↦ [] | Some e ↦ e ∷ chosen n p (next p c e) r ]) is ∙ ap (λ a. e ∷ chosen n p a r) step
+
+chosen_none : (n : ℕ) (p : Program) (c : Config) (r : ℕ) → choose p c r ≡ None → chosen n p (To c) r ≡ []
+chosen_none zero p c r is = refl
+chosen_none (suc n) p c r is = ap (λ (o : Option Event). elim o [ None ↦ [] | Some e ↦ e ∷ chosen n p (next p c e) r ]) is
+
+fuel : (n k : ℕ) → k < n → n - k ≡ suc (n - (k + 1))
+fuel n k less = omega (arith, less)
+
+pub one_more : (p : Program) (b c d : Config) (r : ℕ) (es : List Event) (e : Event) → SoFar p b r c es → length es < 4096 → choose p c r ≡ Some e → next p c e ≡ To d → SoFar p b r d (es ++ e ∷ [])
+one_more p b c d r es e s less is step = record {
+  turn = append_assoc es (e ∷ []) (chosen (4096 - length (es ++ e ∷ [])) p (To d) r)
+      ∙ ap (λ n. es ++ e ∷ chosen (4096 - n) p (To d) r) (length-append es (e ∷ []))
+      ∙ ap (λ l. es ++ l) (sym (chosen_next (4096 - (length es + 1)) p c d r e is step))
+      ∙ ap (λ n. es ++ chosen n p (To c) r) (sym (fuel 4096 (length es) less))
+      ∙ s.turn;
+  leads = leads_on p b c d es e s.leads step;
+  short = omega (arith, less, length-append es (e ∷ []));
+}
+
+-- nothing more is chosen
+pub ends : (p : Program) (b c : Config) (r : ℕ) (es : List Event) → SoFar p b r c es → choose p c r ≡ None → es ≡ chosen 4096 p (To b) r
+ends p b c r es s is = sym (append-nil es) ∙ ap (λ l. es ++ l) (sym (chosen_none (4096 - length es) p c r is)) ∙ s.turn
+
+-- there are as many as there may be
+pub full : (p : Program) (b c : Config) (r : ℕ) (es : List Event) → SoFar p b r c es → 4096 ≤ length es → es ≡ chosen 4096 p (To b) r
+full p b c r es s most =
+    sym (append-nil es) ∙ ap (λ n. es ++ chosen n p (To c) r) (sym (zero_left (length es) most)) ∙ s.turn
+  where
+    zero_left : (k : ℕ) → 4096 ≤ k → 4096 - k ≡ 0
+    zero_left k le = omega (arith, le)
+
+-- ## Of a machine
+pub record Turning (first now : State) (r : ℕ) (es : List Event) : Type 0 where
+  pub whole : now.broken ≡ false
+  pub program : now.program ≡ first.program
+  pub so_far : SoFar first.program first.config r now.config es
+
+pub turns_at_first : (first : State) (r : ℕ) (es : List Event) → first.broken ≡ false → es ≡ [] → Turning first first r es
+turns_at_first first r es whole none = record {
+  whole = whole;
+  program = refl;
+  so_far = subst (λ l. SoFar first.program first.config r first.config l) (sym none) (none_yet first.program first.config r);
+}
+
+pub turns_on : (first mid new : State) (r : ℕ) (es fs : List Event) (e : Event) → Turning first mid r es → length es < 4096 → choose mid.program mid.config r ≡ Some e → next mid.program mid.config e ≡ To new.config
+    → new.broken ≡ false → new.program ≡ mid.program → fs ≡ es ++ e ∷ [] → Turning first new r fs
+turns_on first mid new r es fs e t less is step whole same more = record {
+  whole = whole;
+  program = same ∙ t.program;
+  so_far = subst (λ l. SoFar first.program first.config r new.config l) (sym more)
+      (one_more first.program first.config mid.config new.config r es e t.so_far less (ap (λ p. choose p mid.config r) (sym t.program) ∙ is) (ap (λ p. next p mid.config e) (sym t.program) ∙ step));
+}
+
+pub turn_ends : (first now : State) (r : ℕ) (es : List Event) → Turning first now r es → choose now.program now.config r ≡ None → es ≡ chosen 4096 first.program (To first.config) r
+turn_ends first now r es t is = ends first.program first.config now.config r es t.so_far (ap (λ p. choose p now.config r) (sym t.program) ∙ is)
+
+pub turn_is_full : (first now : State) (r : ℕ) (es : List Event) → Turning first now r es → 4096 ≤ length es → es ≡ chosen 4096 first.program (To first.config) r
+turn_is_full first now r es t most = full first.program first.config now.config r es t.so_far most
+
+-- a call that answered Ok leaves the machine whole
+pub whole_after : {A E : Type 0} (b : Bool) (r : Result A E) (a : A) (e : E) → r ≡ Ok a → (b ≡ true → IsErrOf r e) → b ≡ false
+whole_after false r a e is broke = refl
+whole_after true r a e is broke = let err : IsErrOf (Ok a) e = subst (λ x. IsErrOf x e) is (broke refl) in absurd (cc err)
