@@ -1,4 +1,6 @@
 mod Chosen
+mod LivesKept
+mod LivesRuns
 mod Moves
 mod Quiet
 mod Readings

@@ -1,7 +1,7 @@
 -- Lives: lists of commands, each on what the one before left.
 --     Life           from a file that is fit
---     LawOfLives     what holds over all commands of a life
-use Rattle.std.specs.Prelude.{◌≡◌, ◌≤◌, ℕ, List, [], ◌∷◌, ◌++◌, length, Contains, Option, Some, None, Ok}
+--     OneRequest, ClosedIsNotStarted, RecordsStay, OneLine     what holds over all commands of a life
+use Rattle.std.specs.Prelude.{◌≡◌, ◌≢◌, ◌≤◌, ℕ, List, [], ◌∷◌, ◌++◌, length, Contains, Option, Ok}
 use Rattle.wf_engine.specs.Kept.{IsOpen}
 use Rattle.wf_engine.specs.Outside.{Outside}
 use Rattle.wf_engine.specs.Printed.{Scene, Reports, HasOutcome, outcome_text}
@@ -11,7 +11,7 @@ use Rattle.wf_host.specs.declared.data.Address.{Address}
 use Rattle.wf_host.specs.declared.data.Deed.{Deed}
 use Rattle.wf_host.specs.declared.data.Deed.TheVariants.{Start}
 use Rattle.wf_journal.specs.Records.{records}
-use Rattle.wf_model.specs.Config.{Outcome}
+use Rattle.wf_model.specs.Config.{Outcome, Active}
 use Rattle.wf_replay.specs.History.{Standing, history}
 use Rattle.wf_replay.specs.Language.{Language}
 use Rattle.wf_status.specs.declared.Status.{Status}
@@ -45,20 +45,26 @@ pub record Life (L : Language) (O : Outside) (R : Reports) (first : List ℕ) (x
 abbrev pub IsClosed : Language → List ℕ → ℕ → Type 0
 IsClosed L image k = (st : Standing) × (history L (records image) ≡ Ok st) × (1 ≤ k) × (k ≤ length st.config.calls) × ¬ IsOpen st.config k
 
+-- the line of an outcome that the records of what it left give
 abbrev pub IsOutcomeText : Language → Reports → Stay → List ℕ → Type 0
-IsOutcomeText L R x text = (o : Outcome) × HasOutcome L R (stay_scene x) x.left o × (text ≡ outcome_text o)
+IsOutcomeText L R x text = (o : Outcome) × HasOutcome L R (stay_scene x) x.left o × (o ≢ Active) × (text ≡ outcome_text o)
 
-pub record LawOfLives (L : Language) (O : Outside) (R : Reports) : Type 0 where
-  -- all starts of one number have one address and one request
-  pub one_request : (first : List ℕ) (xs : List Stay) (x y : Stay) (k : ℕ) (a b : Address) (p q : List ℕ) → Life L O R first xs → Contains xs x → Contains xs y
-      → Contains x.deeds (Start k a p) → Contains y.deeds (Start k b q) → (a ≡ b) × (p ≡ q)
-  -- a call that is answered or timed out when a command opens isn't started by it
-  pub closed : (first : List ℕ) (xs : List Stay) (x : Stay) (k : ℕ) (a : Address) (p : List ℕ) → Life L O R first xs → Contains xs x → IsClosed L x.opened k → ¬ Contains x.deeds (Start k a p)
-  -- records are kept
-  pub records_stay : (first : List ℕ) (xs before : List Stay) (x : Stay) (behind : List Stay) → Life L O R first xs → xs ≡ before ++ x ∷ behind
-      → (added : List (List ℕ)) × (records x.left ≡ records x.opened ++ added)
-  -- what is printed of an outcome is one line
-  pub one_line : (first : List ℕ) (xs : List Stay) (x y : Stay) (s t : List ℕ) → Life L O R first xs → Contains xs x → Contains xs y → IsOutcomeText L R x s → IsOutcomeText L R y t → s ≡ t
+-- ## What holds over all commands of a life
+-- all starts of one number have one address and one request
+abbrev pub OneRequest : Type 0
+OneRequest = (L : Language) (O : Outside) (R : Reports) (first : List ℕ) (xs : List Stay) (x y : Stay) (k : ℕ) (a b : Address) (p q : List ℕ) → Life L O R first xs → Contains xs x → Contains xs y
+    → Contains x.deeds (Start k a p) → Contains y.deeds (Start k b q) → (a ≡ b) × (p ≡ q)
 
-abbrev pub HoldsOfLives : Type 0
-HoldsOfLives = (L : Language) (O : Outside) (R : Reports) → LawOfLives L O R
+-- a call that is answered or timed out when a command opens isn't started by it
+abbrev pub ClosedIsNotStarted : Type 0
+ClosedIsNotStarted = (L : Language) (O : Outside) (R : Reports) (first : List ℕ) (xs : List Stay) (x : Stay) (k : ℕ) (a : Address) (p : List ℕ) → Life L O R first xs → Contains xs x
+    → IsClosed L x.opened k → ¬ Contains x.deeds (Start k a p)
+
+-- records are kept
+abbrev pub RecordsStay : Type 0
+RecordsStay = (L : Language) (O : Outside) (R : Reports) (first : List ℕ) (xs : List Stay) (x : Stay) → Life L O R first xs → Contains xs x → (added : List (List ℕ)) × (records x.left ≡ records x.opened ++ added)
+
+-- what is printed of an outcome is one line
+abbrev pub OneLine : Type 0
+OneLine = (L : Language) (O : Outside) (R : Reports) (first : List ℕ) (xs : List Stay) (x y : Stay) (s t : List ℕ) → Life L O R first xs → Contains xs x → Contains xs y
+    → IsOutcomeText L R x s → IsOutcomeText L R y t → s ≡ t

@@ -2,7 +2,11 @@
 #![tactic(auto)]
 
 mod laws;
+mod lives;
+#[cfg(test)]
+mod tests;
 mod turns;
 
 pub use laws::laws_of_rules;
+pub use lives::law_of_lives;
 pub use turns::choose_turn;

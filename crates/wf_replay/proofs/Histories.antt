@@ -1,9 +1,9 @@
 -- The computed history, and the facts that tell one.
-use Rattle.std.specs.Prelude.{◌≡◌, ◌<◌, ◌≤◌, ◌+◌, ℕ, zero, suc, IsTrue, List, [], ◌∷◌, ◌++◌, map, length, take, Option, Some, None, Result, Ok, Err, option_and_then}
+use Rattle.std.specs.Prelude.{◌≡◌, ◌<◌, ◌≤◌, ◌+◌, ℕ, zero, suc, IsTrue, List, [], ◌∷◌, ◌++◌, map, length, take, Some, None, Result, Ok, Err, option_and_then}
 use Rattle.std.proofs.Common.{inl, inr, refl, sym, ◌∙◌, ap, ap₂, subst, arith}
 use Rattle.std.proofs.lemmas.Bool.{and_from}
 use Rattle.wf_events.specs.Reading.{meaning}
-use Rattle.wf_events.specs.Records.{Record, Started, Turned}
+use Rattle.wf_events.specs.Records.{Started, Turned}
 use Rattle.wf_model.specs.Config.{Config, To}
 use Rattle.wf_model.specs.Run.{initial, run_on}
 use Rattle.wf_model.specs.RunLaws.{RunsJoin}
@@ -11,7 +11,7 @@ use Rattle.wf_replay.proofs.Runs.{Begins, GoesOn, begins_by, both, from_config, 
 use Rattle.wf_replay.proofs.Steps.{off, on}
 use Rattle.wf_replay.specs.History.{History, Standing, are_numbered, events, first_standing, goes_on, goes_on_at, goes_to, history, history_from, in_order, is_numbered, started, told}
 use Rattle.wf_replay.specs.Language.{Language}
-use Rattle.wf_replay.specs.Laws.{ComputedIsHistory, HistoryIsComputed, NumberIsLeast, RecordGoesOn, FrontIsAHistory, IsHistory}
+use Rattle.wf_replay.specs.Laws.{ComputedIsHistory, HistoryIsComputed, NumberIsLeast, RecordGoesOn, RecordsGoOn, StartIsAHistory, FrontIsAHistory, IsHistory}
 use Rattle.wf_shared.specs.Events.{Turn}
 
 -- ## From the computed one to its facts
@@ -196,10 +196,18 @@ no_records : (L : Language) (s : Standing) → history L [] ≡ Ok s → ⊥
 unfolding history
 no_records L s is = absurd cc
 
+pub records_go_on : RecordsGoOn
+records_go_on L [] bs s is = absurd (no_records L s is)
+records_go_on L (b ∷ cs) bs s is = history-append L b cs bs ∙ ap (λ r. and_on r (λ u. goes_to u bs)) is
+
 pub record_goes_on : RecordGoesOn
-record_goes_on L [] payload s t is next = absurd (no_records L s is)
-record_goes_on L (b ∷ bs) payload s t is next =
-    history-append L b bs (payload ∷ []) ∙ ap (λ r. and_on r (λ u. goes_to u (payload ∷ []))) is ∙ on s t payload [] next
+record_goes_on L J payload s t is next = records_go_on L J (payload ∷ []) s is ∙ on s t payload [] next
+
+pub start_is_a_history : StartIsAHistory
+unfolding history
+start_is_a_history L payload s p c meant source leads =
+    ap (λ m. history_from (first_standing L m) []) meant ∙ ap (λ o. history_from (option_and_then (λ p. started p (initial p s)) o) []) source
+    ∙ ap (λ a. history_from (started p a) []) leads
 
 pub front : FrontIsAHistory
 front L b bs cs t is = of_front (history L (b ∷ bs)) (sym (history-append L b bs cs) ∙ is)

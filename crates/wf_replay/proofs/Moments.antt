@@ -1,22 +1,22 @@
 -- The configuration at a moment, with a turn more and of a history.
 use Rattle.std.specs.Prelude.{◌≡◌, ◌⊎◌, ◌<◌, ◌≤◌, ◌&&◌, ◌||◌, ℕ, suc, Bool, true, false, IsTrue, nat_eq, nat_le, nat_lt, List, [], ◌∷◌, ◌++◌, map, if◌then◌else◌, Option, Some, None, Ok, option_map, Err}
 use Rattle.std.specs.List.{list_all}
-use Rattle.std.proofs.Common.{inl, inr, ⊎_elim, refl, sym, ◌∙◌, ap, subst, arith, append_assoc, append-nil}
+use Rattle.std.proofs.Common.{inl, inr, refl, sym, ◌∙◌, ap, subst, arith, append_assoc, append-nil}
 use Rattle.std.proofs.lemmas.Bool.{and_from, eq-eqb, eqb-true, le-leb, le-ltb, leb-true, lt-ltb, ltb-true, or_left, or_right}
 use Rattle.wf_events.specs.Reading.{meaning}
 use Rattle.wf_events.specs.Records.{Record, Started, Turned}
-use Rattle.wf_model.specs.Config.{Config, To}
+use Rattle.wf_model.specs.Config.{Config}
 use Rattle.wf_model.specs.Run as model
 use Rattle.wf_model.specs.Run.{is_before}
 use Rattle.wf_model.specs.TurnLaws.{AllTurnsAreTheRun, LaterTurnDoesNotCount}
 use Rattle.wf_replay.proofs.Histories.{first_is, rest_is}
 use Rattle.wf_replay.proofs.Runs.{GoesOn, both, goes_on_by, begins_by}
-use Rattle.wf_replay.specs.At.{Journal, begins, config_at, config_before, events_before, journal, last_session, next_session, of_session, reached, session_turns, turns_in, with_turn}
-use Rattle.wf_replay.specs.History.{History, Standing, first_standing, goes_on, goes_on_at, goes_to, history, history_from, told}
+use Rattle.wf_replay.specs.At.{Journal, begins, config_at, events_before, journal, last_session, next_session, of_session, reached, turns_in, with_turn}
+use Rattle.wf_replay.specs.History.{History, Standing, first_standing, goes_on, goes_to, history, history_from, told}
 use Rattle.wf_replay.specs.Language.{Language}
 use Rattle.wf_replay.specs.Laws.{ComputedIsHistory}
 use Rattle.wf_replay.specs.Moments.{HistoryStandsThere, MomentBeforeStays, NextBehindHistory, NextBehindTurn, SessionBeforeStays, TurnIsAdded, TurnIsOfItsSession, is_by, with_turn_more}
-use Rattle.wf_shared.specs.Events.{Event, Start, Turn}
+use Rattle.wf_shared.specs.Events.{Event, Turn}
 
 -- ## A turn more
 with_turn-append : (r : Option Record) (ts us : List Turn) → with_turn r (ts ++ us) ≡ with_turn r ts ++ us

@@ -1,6 +1,6 @@
 -- How records are passed, one by one.
-use Rattle.std.specs.Prelude.{◌≡◌, ℕ, List, ◌∷◌, Option, Some, None, Result, Ok, Err}
-use Rattle.std.proofs.Common.{sym, ◌∙◌, ap, subst}
+use Rattle.std.specs.Prelude.{◌≡◌, ℕ, List, ◌∷◌, Option, Some, None, Err}
+use Rattle.std.proofs.Common.{sym, ◌∙◌, ap}
 use Rattle.wf_events.specs.Reading.{meaning}
 use Rattle.wf_events.specs.Records.{Record}
 use Rattle.wf_history.specs.Stands.{IsBadAt}

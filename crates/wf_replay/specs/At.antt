@@ -2,7 +2,7 @@
 --     Journal        the start, the program and the turns of some records
 --     config_at      after the turns of earlier sessions, and those of a session up to a count of waits
 --     config_before  after the turns of earlier sessions alone
-use Rattle.std.specs.Prelude.{ℕ, zero, suc, Bool, nat_eq, nat_lt, if◌then◌else◌, List, [], ◌∷◌, ◌++◌, Option, Some, None, option_map, option_and_then}
+use Rattle.std.specs.Prelude.{ℕ, suc, nat_eq, nat_lt, if◌then◌else◌, List, [], ◌∷◌, ◌++◌, Option, Some, None, option_map}
 use Rattle.wf_ast.specs.Tree.{Program}
 use Rattle.wf_events.specs.Reading.{meaning}
 use Rattle.wf_events.specs.Records.{Record, Started, Turned}

@@ -1,9 +1,13 @@
 -- Laws of histories, as they stand in the contract of `laws_of_histories`.
-use Rattle.std.specs.Prelude.{◌≡◌, ◌⊎◌, ◌<◌, ℕ, suc, List, [], ◌∷◌, ◌++◌, length, take, Some, None, Ok, Err, Result}
+use Rattle.std.specs.Prelude.{◌≡◌, ◌⊎◌, ◌<◌, ℕ, suc, List, [], ◌∷◌, ◌++◌, length, take, Some, Ok, Err}
+use Rattle.wf_ast.specs.Tree.{Program}
 use Rattle.wf_events.specs.Reading.{meaning}
-use Rattle.wf_model.specs.Config.{Config}
+use Rattle.wf_events.specs.Records.{Started}
+use Rattle.wf_model.specs.Config.{Config, To}
+use Rattle.wf_model.specs.Run.{initial}
 use Rattle.wf_replay.specs.History.{History, Standing, history, goes_on, goes_to, told}
 use Rattle.wf_replay.specs.Language.{Language}
+use Rattle.wf_shared.specs.Events.{Start}
 
 -- the records lead to a configuration
 abbrev pub IsHistory : Language → List (List ℕ) → Type 0
@@ -25,6 +29,15 @@ NumberIsLeast = (L : Language) (J : List (List ℕ)) (n : ℕ) → history L J �
 -- a history with a record more that goes on is a history
 abbrev pub RecordGoesOn : Type 0
 RecordGoesOn = (L : Language) (J : List (List ℕ)) (payload : List ℕ) (s t : Standing) → history L J ≡ Ok s → goes_on s (meaning payload) ≡ Some t → history L (J ++ payload ∷ []) ≡ Ok t
+
+-- and more records lead on from where a history leads
+abbrev pub RecordsGoOn : Type 0
+RecordsGoOn = (L : Language) (J bs : List (List ℕ)) (s : Standing) → history L J ≡ Ok s → history L (J ++ bs) ≡ goes_to s bs
+
+-- a start whose source is accepted is a history alone
+abbrev pub StartIsAHistory : Type 0
+StartIsAHistory = (L : Language) (payload : List ℕ) (s : Start) (p : Program) (c : Config) → meaning payload ≡ Some (Started s) → L.source s.source ≡ Some p → initial p s ≡ To c
+    → history L (payload ∷ []) ≡ Ok (record { program = p; config = c; number = 1; session = 0; waits = 0 })
 
 -- what stands in front of a history's records is a history
 abbrev pub FrontIsAHistory : Type 0

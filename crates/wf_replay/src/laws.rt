@@ -1,16 +1,18 @@
 // Laws of histories.
-ghost use Rattle.wf_replay.specs.Laws.{ComputedIsHistory, HistoryIsComputed, NumberIsLeast, RecordGoesOn, FrontIsAHistory};
+ghost use Rattle.wf_replay.specs.Laws.{ComputedIsHistory, HistoryIsComputed, NumberIsLeast, StartIsAHistory, RecordGoesOn, RecordsGoOn, FrontIsAHistory};
 ghost use Rattle.wf_replay.specs.Moments.{TurnIsAdded, SessionBeforeStays, MomentBeforeStays, TurnIsOfItsSession, NextBehindTurn, HistoryStandsThere, NextBehindHistory};
 
 use wf_model::{laws_of_runs, laws_of_turns};
 
-/// Carries laws: the history that is computed record by record is the one that is told by its facts, its number is the least, a record
-/// that goes on makes a longer history, and the front of a history is one.
+/// Carries laws: the history that is computed record by record is the one that is told by its facts, its number is the least, an accepted
+/// start is a history, records that go on make it longer, and its front is one.
 pub fn laws_of_histories()
     ensures computed { ComputedIsHistory }
     ensures complete { HistoryIsComputed }
     ensures least { NumberIsLeast }
-    ensures goes_on { RecordGoesOn }
+    ensures start { StartIsAHistory }
+    ensures record_goes_on { RecordGoesOn }
+    ensures records_go_on { RecordsGoOn }
     ensures front { FrontIsAHistory }
 {
     laws_of_runs();

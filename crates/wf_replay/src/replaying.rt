@@ -17,7 +17,13 @@ use wf_history::History;
 use wf_host::Host;
 use wf_machine::{ApplyFault, Machine};
 
-/// Applies the turns that a history has left to the machine, which stands where the records that were read so far lead.
+/// Applies the turns that a history has left to the machine, which stands where the records that were read so far lead. Then the
+/// history is at its end, and the machine stands where all of its records lead.
+///
+/// `BadEvent` tells the number of the first record that doesn't go on: one that is no turn, a session that is 0 or over the record's
+/// number, a session or waits below those of the turn before, or an event that can't come. `DiskFault` comes only where the count of
+/// disk faults rose, and closes the history; `Closed` where it was closed before. On each fault the machine is gone. The file isn't
+/// written, and nothing is done outside.
 pub fn replay<H: Host>(
     alloc: Global,
     history: &mut History,

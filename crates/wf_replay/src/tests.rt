@@ -1,17 +1,20 @@
 // What no clause says: that the calls succeed where there is memory. And whole journals, whose answers were worked out by hand.
-ghost use Rattle.std.specs.Prelude.{◌≡◌, true, IfOk};
+ghost use Rattle.std.specs.Prelude.{◌≡◌, ◌≤◌, true, length, IfOk};
 ghost use Rattle.std.specs.List.{list_all};
 ghost use Rattle.wf_ast.specs.View.{entries_view, entry_view, program_view, step_view};
+ghost use Rattle.wf_events.specs.Records.{Started, Turned};
+ghost use Rattle.wf_events.specs.Spelling.{HasSpelling, record_bytes};
+ghost use Rattle.wf_events.specs.View.{start_view, turn_view};
 ghost use Rattle.wf_machine.specs.Straight.{is_plain_entry, is_straight, is_straight_step};
 
-use crate::{ReplayFault, laws_of_histories, replay};
+use crate::{ReplayFault, laws_of_histories, laws_of_moments, replay};
 use std::alloc::Global;
 use std::test::Fail;
 use wf_ast::{
     Body, Entries, Entry, Exprs, Flow, Flows, Params, Program, Step, StepList, Target, Template,
 };
-use wf_events::Record;
-use wf_history::{History, HistoryFault};
+use wf_events::{Record, RecordFault, Start, Turn, decode};
+use wf_history::History;
 use wf_host::{MemHost, Plan};
 use wf_machine::{Machine, Outcome};
 use wf_value::{OutOfMemory, Text, Value};
@@ -170,6 +173,56 @@ fn replayed(alloc: Global, host: &mut MemHost) -> Result<Machine, ReplayFault> {
     }
 }
 
+// What replaying answers, and what it answers again on the same history.
+fn replayed_twice(alloc: Global, host: &mut MemHost) -> Result<[Option<ReplayFault>; 2], Fail> {
+    let mut history = History::open(host)?;
+    let Some(Record::Start(start)) = history.next(alloc, host)? else {
+        return Ok([None, None]);
+    };
+    let machine = Machine::new(alloc, &start, four(alloc)?)?;
+    let first = replay(alloc, &mut history, host, machine).err();
+    let machine = Machine::new(alloc, &start, four(alloc)?)?;
+    Ok([first, replay(alloc, &mut history, host, machine).err()])
+}
+
+fn start_of(alloc: Global, payload: &[u8]) -> Result<Start, RecordFault>
+    ensures spelled { IfOk result (λ s. HasSpelling (Started (start_view s))) }
+    ensures short { IfOk result (λ s. length (record_bytes (Started (start_view s))) ≤ 16777215) }
+{
+    match decode(alloc, payload)? {
+        Record::Start(start) if payload.len() <= 16_777_215 => Ok(start),
+        _ => Err(RecordFault::BadRecord(0)),
+    }
+}
+
+fn turn_of(alloc: Global, payload: &[u8]) -> Result<Turn, RecordFault>
+    ensures spelled { IfOk result (λ t. HasSpelling (Turned (turn_view t))) }
+    ensures short { IfOk result (λ t. length (record_bytes (Turned (turn_view t))) ≤ 16777215) }
+{
+    match decode(alloc, payload)? {
+        Record::Turn(turn) if payload.len() <= 16_777_215 => Ok(turn),
+        _ => Err(RecordFault::BadRecord(0)),
+    }
+}
+
+// Begins the history of a new file with a start, and adds two turns of two moves each.
+fn write_history(alloc: Global, host: &mut MemHost) -> Result<(), Fail> {
+    let start = start_of(alloc, START)?;
+    let mut payload = Vec::new(alloc);
+    add_turn(&mut payload, 1, 0, b"mm")?;
+    let first = turn_of(alloc, &payload)?;
+    payload.clear();
+    add_turn(&mut payload, 2, 3, b"mm")?;
+    let second = turn_of(alloc, &payload)?;
+    let mut history = History::open(host)?;
+    if history.at_end() {
+        history.begin(alloc, host, &start)?;
+        history.add(alloc, host, &first)?;
+        history.add(alloc, host, &second)?;
+    }
+    Ok(())
+}
+
 // How many moves were made, and whether the execution has returned 4.
 fn seen(machine: &Machine) -> (u64, bool) {
     let returned = match machine.outcome() {
@@ -185,7 +238,11 @@ fn replays_histories(rt: HostRuntime) -> Result<(), Fail> {
     let rows: [(&[Short], u64, bool); 6] = [
         (&[], 0, false),
         (&[Short::Turn(1, 0, b"m")], 1, false),
-        (&[Short::Turn(1, 5, b"mm"), Short::Turn(1, 5, b"m")], 3, false),
+        (
+            &[Short::Turn(1, 5, b"mm"), Short::Turn(1, 5, b"m")],
+            3,
+            false,
+        ),
         (&[Short::Turn(1, 0, b"mmmm")], 4, true),
         (
             &[
@@ -215,6 +272,44 @@ fn replays_histories(rt: HostRuntime) -> Result<(), Fail> {
 }
 
 #[test]
+fn replays_what_a_history_wrote(rt: HostRuntime) -> Result<(), Fail> {
+    let alloc = rt.alloc();
+    let mut host = host(alloc, Vec::new(alloc), &[])?;
+    write_history(alloc, &mut host)?;
+    let records = [Short::Turn(1, 0, b"mm"), Short::Turn(2, 3, b"mm")];
+    assert_eq!(rt; host.image(), image_of(alloc, &records)?.as_slice());
+    let machine = replayed(alloc, &mut host)?;
+    assert!(rt; seen(&machine) == (4, true));
+    Ok(())
+}
+
+#[test]
+fn a_fault_of_the_disk_closes(rt: HostRuntime) -> Result<(), Fail> {
+    let alloc = rt.alloc();
+    let records = [Short::Turn(1, 0, b"mm"), Short::Turn(2, 3, b"mm")];
+    // a sync, the size and a read to open, and two reads for the start
+    for fail in 1..=5 {
+        let mut host = host(alloc, image_of(alloc, &records)?, &[fail])?;
+        assert!(rt;
+            replayed(alloc, &mut host).err() == Some(ReplayFault::DiskFault),
+            "call {fail}"
+        );
+    }
+    // and two reads for each turn, and one at the end
+    for fail in 6..=10 {
+        let mut host = host(alloc, image_of(alloc, &records)?, &[fail])?;
+        let faults = replayed_twice(alloc, &mut host)?;
+        assert!(rt;
+            faults == [Some(ReplayFault::DiskFault), Some(ReplayFault::Closed)],
+            "call {fail}"
+        );
+    }
+    let mut host = host(alloc, image_of(alloc, &records)?, &[11])?;
+    assert!(rt; replayed_twice(alloc, &mut host)? == [None, None]);
+    Ok(())
+}
+
+#[test]
 fn tells_the_first_record_against_it(rt: HostRuntime) -> Result<(), Fail> {
     let alloc = rt.alloc();
     let first = Short::Turn(1, 2, b"m");
@@ -234,12 +329,18 @@ fn tells_the_first_record_against_it(rt: HostRuntime) -> Result<(), Fail> {
         (&[Short::Turn(1, 0, b"mmmmm")], 1),
         (&[Short::Turn(1, 0, b"mmmm"), Short::Turn(2, 0, b"m")], 2),
         (&[first, first, first, first, Short::Turn(4, 0, b"c")], 5),
-        (&[first, first, first, Short::Turn(0, 9, b"m"), Short::Nine], 4),
+        (
+            &[first, first, first, Short::Turn(0, 9, b"m"), Short::Nine],
+            4,
+        ),
     ];
     for (records, number) in rows {
         let mut host = host(alloc, image_of(alloc, records)?, &[])?;
         let fault = replayed(alloc, &mut host).err();
-        assert!(rt; fault == Some(ReplayFault::BadEvent(number)), "record {number}");
+        assert!(rt;
+            fault == Some(ReplayFault::BadEvent(number)),
+            "record {number}"
+        );
     }
     Ok(())
 }
@@ -265,5 +366,6 @@ fn tells_faults(rt: HostRuntime) -> Result<(), Fail> {
         assert_eq!(rt; told.as_str(), text);
     }
     laws_of_histories();
+    laws_of_moments();
     Ok(())
 }

@@ -1,4 +1,4 @@
-use Rattle.std.proofs.Common.{refl, sym, ◌∙◌, arith}
+use Rattle.std.proofs.Common.{◌∙◌, arith}
 use Rattle.wf_events.specs.View.{events_view}
 use Rattle.wf_machine.specs.declared.machine.ApplyFault.TheVariants as fault
 use Rattle.wf_replay.proofs.Events.{ends, never, never_past, passed_on, past_in, still_whole}

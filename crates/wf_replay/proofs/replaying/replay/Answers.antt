@@ -1,6 +1,5 @@
-use Rattle.std.proofs.Common.{refl, sym, ◌∙◌}
-use Rattle.wf_history.specs.Stands.{is_closed}
-use Rattle.wf_replay.proofs.Replays.{SoFar, starts, none_fell}
+use Rattle.std.proofs.Common.{refl}
+use Rattle.wf_replay.proofs.Replays.{starts, none_fell}
 use Rattle.wf_replay.proofs.replaying.replay.Goals as goal
 
 pub loop-machine-init : goal.loop-machine-init

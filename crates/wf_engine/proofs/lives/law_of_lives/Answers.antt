@@ -1,0 +1,14 @@
+use Rattle.wf_engine.proofs.LivesKept as lives
+use Rattle.wf_engine.proofs.lives.law_of_lives.Goals as goal
+
+pub returns-clause-records_stay : goal.returns-clause-records_stay
+returns-clause-records_stay c = lives.records_stay
+
+pub returns-clause-one_line : goal.returns-clause-one_line
+returns-clause-one_line c = lives.one_line c.laws_of_runs.ensures.front_is_a_run c.laws_of_runs.ensures.runs_agree c.laws_of_runs.ensures.nothing_follows_an_outcome c.laws_of_histories.ensures.computed
+
+pub returns-clause-one_request : goal.returns-clause-one_request
+returns-clause-one_request c = lives.one_request c.laws_of_runs.ensures.requests_stay c.laws_of_histories.ensures.computed
+
+pub returns-clause-closed : goal.returns-clause-closed
+returns-clause-closed c = lives.closed c.laws_of_runs.ensures.requests_stay c.laws_of_histories.ensures.computed
