@@ -39,12 +39,18 @@ pub none_yet : (p : Program) (b : Config) (r : ℕ) → SoFar p b r b []
 none_yet p b r = record { turn = refl; leads = refl; short = omega arith }
 
 chosen_next : (n : ℕ) (p : Program) (c d : Config) (r : ℕ) (e : Event) → choose p c r ≡ Some e → next p c e ≡ To d → chosen (suc n) p (To c) r ≡ e ∷ chosen n p (To d) r
+unfolding chosen
 chosen_next n p c d r e is step =
     ap (λ (o : Option Event). elim o [ None ↦ [] | Some e ↦ e ∷ chosen n p (next p c e) r ]) is ∙ ap (λ a. e ∷ chosen n p a r) step
 
 chosen_none : (n : ℕ) (p : Program) (c : Config) (r : ℕ) → choose p c r ≡ None → chosen n p (To c) r ≡ []
+unfolding chosen
 chosen_none zero p c r is = refl
 chosen_none (suc n) p c r is = ap (λ (o : Option Event). elim o [ None ↦ [] | Some e ↦ e ∷ chosen n p (next p c e) r ]) is
+
+chosen_zero : (p : Program) (a : After) (r : ℕ) → chosen 0 p a r ≡ []
+unfolding chosen
+chosen_zero p a r = refl
 
 fuel : (n k : ℕ) → k < n → n - k ≡ suc (n - (k + 1))
 fuel n k less = omega (arith, less)
@@ -67,7 +73,7 @@ ends p b c r es s is = sym (append-nil es) ∙ ap (λ l. es ++ l) (sym (chosen_n
 -- there are as many as there may be
 pub full : (p : Program) (b c : Config) (r : ℕ) (es : List Event) → SoFar p b r c es → 4096 ≤ length es → es ≡ chosen 4096 p (To b) r
 full p b c r es s most =
-    sym (append-nil es) ∙ ap (λ n. es ++ chosen n p (To c) r) (sym (zero_left (length es) most)) ∙ s.turn
+    sym (append-nil es) ∙ ap (λ l. es ++ l) (sym (chosen_zero p (To c) r)) ∙ ap (λ n. es ++ chosen n p (To c) r) (sym (zero_left (length es) most)) ∙ s.turn
   where
     zero_left : (k : ℕ) → 4096 ≤ k → 4096 - k ≡ 0
     zero_left k le = omega (arith, le)

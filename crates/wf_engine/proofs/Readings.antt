@@ -30,13 +30,13 @@ turn_keeps_readings added before_stays of_its L O x payload j t rule is_j means 
     let y = with_record x payload in
     let stands = added L x.payloads payload j t is_j means in
     let own_is : own L O y ≡ own L O x ++ t ∷ [] =
-        ap (λ o. session_turns o x.number) stands
-        ∙ ap (λ n. session_turns (Some (with_turn_more j t)) n) (sym session)
-        ∙ of_its j t
-        ∙ ap (λ n. session_turns (Some j) n ++ t ∷ []) session
-        ∙ ap (λ o. session_turns o x.number ++ t ∷ []) (sym is_j) in
+    ap (λ o. session_turns o x.number) stands
+    ∙ ap (λ n. session_turns (Some (with_turn_more j t)) n) (sym session)
+    ∙ of_its j t
+    ∙ ap (λ n. session_turns (Some j) n ++ t ∷ []) session
+    ∙ ap (λ o. session_turns o x.number ++ t ∷ []) (sym is_j) in
     let before_is : config_before (journal L y.payloads) x.number ≡ config_before (journal L x.payloads) x.number =
-        ap (λ o. config_before o x.number) stands ∙ before_stays j t x.number (omega (arith, session)) ∙ ap (λ o. config_before o x.number) (sym is_j) in
+    ap (λ o. config_before o x.number) stands ∙ before_stays j t x.number (omega (arith, session)) ∙ ap (λ o. config_before o x.number) (sym is_j) in
     let reading_is : (w : ℕ) → reading L O y w ≡ reading L O x w = λ w. ap (λ c. reading_by (last_of c) x.deeds w) before_is in
     record {
       waits = subst (λ ts. All (λ (u : Turn). u.waits ≤ polls x.deeds) ts) (sym own_is) (All-append (λ (u : Turn). u.waits ≤ polls x.deeds) (own L O x) (t ∷ []) rule.waits (all_of_one (λ (u : Turn). u.waits ≤ polls x.deeds) t waits));

@@ -8,7 +8,7 @@ use Rattle.wf_shared.specs.Events.{Event}
 
 -- the events that are chosen at a reading, each of them where the one before led, and at most n; none comes with an outcome, nor once the
 -- configuration is quiet at the reading
-abbrev pub chosen : ℕ → Program → After → ℕ → List Event
+unfoldable pub chosen : ℕ → Program → After → ℕ → List Event
 chosen zero p a r = []
 chosen (suc n) p (To c) r = elim (choose p c r) [ None ↦ [] | Some e ↦ e ∷ chosen n p (next p c e) r ]
 chosen (suc n) p a r = []

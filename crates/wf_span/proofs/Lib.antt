@@ -1,0 +1,10 @@
+pub mod Ends
+pub mod Parts
+pub mod Places
+pub mod Whole
+pub mod Classes
+pub mod Texts
+pub mod Longest
+pub mod Boundaries
+pub mod Sequence
+pub mod Unique

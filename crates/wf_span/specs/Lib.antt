@@ -1,0 +1,7 @@
+pub mod Lines
+pub mod Places
+pub mod Lefts
+pub mod Tokens
+pub mod Scans
+pub mod Lexed
+pub mod Laws

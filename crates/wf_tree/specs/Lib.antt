@@ -1,0 +1,9 @@
+pub mod Trees
+pub mod Code
+pub mod Plain
+pub mod Falls
+pub mod Json
+pub mod Faults
+pub mod Decode
+pub mod Decimals
+pub mod JsonLaws
