@@ -1,13 +1,13 @@
 -- The turns of a journal hold moves alone, as long as no other events are read.
-use Rattle.std.specs.Prelude.{◌≡◌, ℕ, zero, suc, Bool, true, false, if◌then◌else◌, List, [], ◌∷◌, ◌++◌, length, nat_eq, Option, Some, None, Result, Ok, Err, option_map}
+use Rattle.std.specs.Prelude.{◌≡◌, ℕ, zero, suc, Bool, true, false, if◌then◌else◌, List, [], ◌∷◌, length, nat_eq, Option, Some, None, Result, Ok, Err, option_map}
 use Rattle.std.specs.Int.{w32, w64}
 use Rattle.std.specs.List.{AllByRecursion}
-use Rattle.std.proofs.Common.{refl, sym, ◌∙◌, ap, subst}
+use Rattle.std.proofs.Common.{refl, ap, subst}
 use Rattle.wf_ast.specs.Tree.{Program}
-use Rattle.wf_events.specs.Reading.{Read, ◌>>=◌, byte_at, number_at, move_at, timed_move_at, event_at, items_at, events_at, turn_at, start_at, taken_as, record_at, whole_at, by_offset, record_of, meaning, known}
+use Rattle.wf_events.specs.Reading.{◌>>=◌, byte_at, number_at, move_at, timed_move_at, event_at, items_at, events_at, turn_at, start_at, taken_as, record_at, whole_at, by_offset, record_of, meaning, known}
 use Rattle.wf_events.specs.Records.{Record, Started, Turned, Kept, Upgrade, Packed, StartedTwo}
 use Rattle.wf_events.specs.Spelling.{Bytes, IsMove}
-use Rattle.wf_replay.specs.At.{Journal, journal, begins, turns_in, with_turn, of_session, session_turns}
+use Rattle.wf_replay.specs.At.{journal, begins, turns_in, with_turn, of_session, session_turns}
 use Rattle.wf_replay.specs.Language.{Language}
 use Rattle.wf_shared.specs.Events.{Event, Start, Turn}
 

@@ -1,5 +1,5 @@
 -- Sessions in which nothing was sent or awaited.
-use Rattle.std.specs.Prelude.{◌≡◌, ◌≢◌, ℕ, List, [], ◌∷◌, ◌++◌, Some}
+use Rattle.std.specs.Prelude.{◌≡◌, ◌≢◌, List, [], ◌∷◌, ◌++◌, Some}
 use Rattle.std.specs.List.{AllByRecursion}
 use Rattle.std.proofs.Common.{subst}
 use Rattle.wf_engine.proofs.Moves.{HasMoves, own_moves}

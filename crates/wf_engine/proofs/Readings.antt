@@ -1,17 +1,12 @@
 -- The rule on readings, with a turn more.
-use Rattle.std.specs.Prelude.{◌≡◌, ◌≢◌, ◌⊎◌, ◌≤◌, ℕ, suc, List, [], ◌∷◌, ◌++◌, length, All, IsTrue, Some, Option, Ok}
-use Rattle.std.proofs.Common.{inl, inr, refl, sym, ◌∙◌, ap, subst, arith}
+use Rattle.std.specs.Prelude.{◌≡◌, ◌⊎◌, ◌≤◌, ℕ, List, [], ◌∷◌, ◌++◌, All, Some}
+use Rattle.std.proofs.Common.{inl, inr, sym, ◌∙◌, ap, subst, arith}
 use Rattle.std.proofs.lemmas.List.Elements.{All-append, All-cons, All-nil}
-use Rattle.wf_engine.proofs.Splits.{Earlier, Last, split_of_more}
-use Rattle.wf_engine.specs.Deeds.{polls, nows, reading_by}
-use Rattle.wf_engine.specs.Kept.{Session, Place, ReadingsAreOfTheClock, own, reading, reading_of, last_of}
-use Rattle.wf_engine.specs.Laws.{with_record, TakesReadings, TurnKeepsReadings}
-use Rattle.wf_engine.specs.Outside.{Outside}
-use Rattle.wf_events.specs.Reading.{meaning}
-use Rattle.wf_events.specs.Records.{Turned}
-use Rattle.wf_model.specs.Config.{Config}
-use Rattle.wf_replay.specs.At.{Journal, journal, config_before, session_turns}
-use Rattle.wf_replay.specs.Language.{Language}
+use Rattle.wf_engine.proofs.Splits.{split_of_more}
+use Rattle.wf_engine.specs.Deeds.{polls, reading_by}
+use Rattle.wf_engine.specs.Kept.{Place, own, reading, last_of}
+use Rattle.wf_engine.specs.Laws.{with_record, TurnKeepsReadings}
+use Rattle.wf_replay.specs.At.{journal, config_before, session_turns}
 use Rattle.wf_replay.specs.Moments.{with_turn_more, TurnIsAdded, SessionBeforeStays, TurnIsOfItsSession}
 use Rattle.wf_shared.specs.Events.{Event, Turn}
 

@@ -1,7 +1,7 @@
 -- The rules that the deeds of one command keep, for the records that stand on the disk at a moment.
 --     Session     the records, the number of the session, the deeds begun by then, the command, and its end if it has ended
 --     Kept        the rules: on calls, waits, answers, readings and visits
-use Rattle.std.specs.Prelude.{◌≡◌, ◌≢◌, ◌⊎◌, ◌≤◌, ℕ, suc, Bool, true, false, ◌||◌, IsTrue, List, [], ◌∷◌, ◌++◌, length, All, Contains, Option, Some, None, bytes_eq, nat_eq}
+use Rattle.std.specs.Prelude.{◌≡◌, ◌≢◌, ◌⊎◌, ◌≤◌, ℕ, suc, true, false, IsTrue, List, [], ◌∷◌, ◌++◌, length, All, Option, Some, None}
 use Rattle.wf_engine.specs.Deeds.{polls, nows, reading_by, was_started, was_dropped, was_replied, starts_or_polls, before_poll, Split, poll_at, answer_told, call_of, Decision, decision, visits_after}
 use Rattle.wf_engine.specs.Outside.{Outside, Verdict, Arrives, code_of}
 use Rattle.wf_events.specs.View.{address_view}
@@ -10,7 +10,7 @@ use Rattle.wf_host.specs.declared.data.Deed.{Deed}
 use Rattle.wf_host.specs.declared.data.Deed.TheVariants.{Start, Poll, Reply, Drop}
 use Rattle.wf_host.specs.declared.data.Heard.{Heard}
 use Rattle.wf_host.specs.declared.data.What.{What}
-use Rattle.wf_model.specs.Config.{Call, TimedOut, Config, Active}
+use Rattle.wf_model.specs.Config.{TimedOut, Config, Active}
 use Rattle.wf_model.specs.Ready.{call, least_due, quiet, request_of}
 use Rattle.wf_replay.specs.At.{Journal, journal, config_at, config_before, session_turns}
 use Rattle.wf_replay.specs.Language.{Language}

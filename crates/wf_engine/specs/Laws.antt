@@ -1,5 +1,5 @@
 -- Laws of the rules on deeds, as they stand in the contract of `laws_of_rules`.
-use Rattle.std.specs.Prelude.{◌≡◌, ◌≢◌, ◌≤◌, ℕ, List, [], ◌∷◌, ◌++◌, length, Some, Option}
+use Rattle.std.specs.Prelude.{◌≡◌, ◌≢◌, ◌≤◌, ℕ, List, [], ◌∷◌, ◌++◌, length, Some}
 use Rattle.std.specs.List.{AllByRecursion}
 use Rattle.wf_engine.specs.Deeds.{polls, nows}
 use Rattle.wf_engine.specs.Kept.{Session, Kept, ReadingsAreOfTheClock, reading, reading_of}

@@ -1,7 +1,7 @@
 -- What a crash at a moment of a command may leave, and what was done by then.
 --     Safe      five facts of a pair of an image and the deeds of the command
 --     SafeAt    the same over a host
-use Rattle.std.specs.Prelude.{◌≡◌, ◌⊎◌, ◌≤◌, ℕ, List, [], ◌∷◌, ◌++◌, length, take, Contains, Option, Some, option_map, Result, Ok, Err}
+use Rattle.std.specs.Prelude.{◌≡◌, ◌⊎◌, ◌≤◌, ℕ, List, [], ◌∷◌, ◌++◌, length, take, Contains, Option, option_map, Result, Ok, Err}
 use Rattle.std.specs.List.{AllByRecursion}
 use Rattle.wf_engine.specs.Deeds.{printed, nows}
 use Rattle.wf_engine.specs.Kept as kept

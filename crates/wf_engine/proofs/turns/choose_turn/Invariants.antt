@@ -1,7 +1,7 @@
-use Rattle.std.proofs.Common.{ℕ, ◌-◌, length}
+use Rattle.std.proofs.Common.{◌-◌, length}
 use Rattle.wf_engine.proofs.Chosen.{Turning}
 use Rattle.wf_engine.proofs.turns.choose_turn.Given as goal
-use Rattle.wf_events.specs.View.{events_view, event_list}
+use Rattle.wf_events.specs.View.{events_view}
 use Rattle.wf_machine.specs.Seen.{state_of}
 
 abbrev pub invariant-loop-machine : goal.invariant-loop-machine
