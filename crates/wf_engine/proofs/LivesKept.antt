@@ -4,7 +4,7 @@ use Rattle.std.specs.List.{AllByRecursion}
 use Rattle.std.proofs.Common.{inl, inr, ⊎_elim, sym, ◌∙◌, ap, ap₂, subst, arith, append_assoc, append-nil, drop_of_length-le}
 use Rattle.wf_engine.proofs.LivesRuns.{WasOpen, facts, longer, open_before, same_end, same_request, still_was_open, was_open, with_more}
 use Rattle.wf_engine.specs.Deeds.{polls}
-use Rattle.wf_engine.specs.Lives.{ClosedIsNotStarted, Stay, IsStay, IsLifeFrom, IsOutcomeText, OneLine, OneRequest, RecordsStay}
+use Rattle.wf_engine.specs.Lives.{ClosedIsNotStarted, FilesStayFit, Stay, IsStay, IsLifeFrom, IsOutcomeText, OneLine, OneRequest, RecordsStay}
 use Rattle.wf_engine.specs.Outside.{Outside}
 use Rattle.wf_engine.specs.Printed.{Reports, outcome_text}
 use Rattle.wf_engine.specs.Safe.{IsFit, IsSmall}
@@ -44,6 +44,20 @@ module _ (L : Language) (O : Outside) (R : Reports) where
       let (more, same) = keeps z chain.1 in
       let (rest, later) = grows z.left zs x k chain.2 (omega (arith, lt)) is in
       (more ++ rest, later ∙ ap (λ bs. bs ++ rest) (same ∙ ap (λ i. records i ++ more) chain.0) ∙ append_assoc (records image) more rest)
+
+module _ (L : Language) (O : Outside) (R : Reports) where
+  -- what a stay leaves is fit, where it opened such a file
+  fit_left : (x : Stay) → IsFit L x.opened → IsStay L O R x → IsFit L x.left
+  fit_left x fit (inl early) = subst (λ i. IsFit L i) (sym early.at_entry) fit
+  fit_left x fit (inr late) = late.history
+
+  fit_at : (image : List ℕ) (xs : List Stay) (x : Stay) (k : ℕ) → IsFit L image → IsLifeFrom L O R image xs → k < length xs → get_or xs k x ≡ x → IsFit L x.left
+  fit_at image [] x k fit chain lt is = absurd (omega (arith, lt))
+  fit_at image (z ∷ zs) x zero fit chain lt is = subst (λ (s : Stay). IsFit L s.left) is (fit_left z (subst (λ i. IsFit L i) (sym chain.0) fit) chain.1)
+  fit_at image (z ∷ zs) x (suc k) fit chain lt is = fit_at z.left zs x k (fit_left z (subst (λ i. IsFit L i) (sym chain.0) fit) chain.1) chain.2 (omega (arith, lt)) is
+
+pub files_stay_fit : FilesStayFit
+files_stay_fit L O R first xs x life (k, lt, is) = fit_at L O R first xs x k life.fit life.chain lt is
 
 -- the records of one begin those of the other
 abbrev GoesOnTo : Stay → Stay → Type 0

@@ -60,6 +60,10 @@ abbrev pub ClosedIsNotStarted : Type 0
 ClosedIsNotStarted = (L : Language) (O : Outside) (R : Reports) (first : List ℕ) (xs : List Stay) (x : Stay) (k : ℕ) (a : Address) (p : List ℕ) → Life L O R first xs → Contains xs x
     → IsClosed L x.opened k → ¬ Contains x.deeds (Start k a p)
 
+-- each file that is left is new, has the magic and no record, or is a history, as a command asks of the file that it opens
+abbrev pub FilesStayFit : Type 0
+FilesStayFit = (L : Language) (O : Outside) (R : Reports) (first : List ℕ) (xs : List Stay) (x : Stay) → Life L O R first xs → Contains xs x → IsFit L x.left
+
 -- records are kept
 abbrev pub RecordsStay : Type 0
 RecordsStay = (L : Language) (O : Outside) (R : Reports) (first : List ℕ) (xs : List Stay) (x : Stay) → Life L O R first xs → Contains xs x → (added : List (List ℕ)) × (records x.left ≡ records x.opened ++ added)

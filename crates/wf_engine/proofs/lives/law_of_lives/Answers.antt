@@ -1,6 +1,9 @@
 use Rattle.wf_engine.proofs.LivesKept as lives
 use Rattle.wf_engine.proofs.lives.law_of_lives.Goals as goal
 
+pub returns-clause-files_stay_fit : goal.returns-clause-files_stay_fit
+returns-clause-files_stay_fit c = lives.files_stay_fit
+
 pub returns-clause-records_stay : goal.returns-clause-records_stay
 returns-clause-records_stay c = lives.records_stay
 
