@@ -27,7 +27,9 @@ impl History {
     ghost use Rattle.wf_journal.specs.Journal.{IsBeforeOrAfter, IsJournal, Stays};
     ghost use Rattle.wf_journal.specs.Records.{magic, records};
 
-    /// Opens the file of a host, once what it reads is stable. It takes no memory.
+    /// Opens the file of a host, once what it reads is stable. It takes no memory and writes nothing.
+    ///
+    /// The error is `DiskFault` where a disk call failed, and `NotAJournal` exactly where the file has at least 5 bytes and another magic.
     pub fn open<H: Host>(host: &mut H) -> Result<History, HistoryFault>
         ensures stands { Told (H.world host.old) (IfOk result (λ h. Stands h (H.world host.new))) }
         ensures open { IfOk result (λ h. is_closed h ≡ false) }
@@ -74,7 +76,11 @@ impl History {
         self.journal.at_end()
     }
 
-    /// The next record, or nothing behind the last. Where the payload is no record, or there is no memory, the history stays as it was.
+    /// The next record, or nothing behind the last.
+    ///
+    /// The error is `BadRecord` with the payload's number where it is no record, or `OutOfMemory`, and then the history stays as it was and
+    /// the same payload still comes next; `DiskFault` where a disk call failed, and then the history is closed; or `Closed` exactly where it
+    /// was closed before.
     pub fn next<H: Host>(
         &mut self,
         alloc: Global,
@@ -134,6 +140,9 @@ impl History {
     }
 
     /// Begins the history of an execution with its start. From its Ok on each crash leaves a file that has it.
+    ///
+    /// The error is `DiskFault` where a disk call failed, and then the history is closed, and a crash leaves no record or the start alone;
+    /// `Closed` exactly where it was closed before; or `OutOfMemory`, and then nothing has changed.
     pub fn begin<H: Host>(
         &mut self,
         alloc: Global,
@@ -175,6 +184,9 @@ impl History {
     }
 
     /// Adds a turn. From its Ok on each crash leaves a file that has it.
+    ///
+    /// The error is `DiskFault` where a disk call failed, and then the history is closed, and a crash leaves the records before or these and
+    /// the turn; `Closed` exactly where it was closed before; or `OutOfMemory`, and then nothing has changed.
     pub fn add<H: Host>(
         &mut self,
         alloc: Global,

@@ -1,11 +1,12 @@
 -- Histories: what the records of a journal have to be, so that they stand for one run of one program.
 --     History       the facts, a sentence each
 --     history       the same, computed record by record: where the records lead, or the number of the first that doesn't go on
-use Rattle.std.specs.Prelude.{◌≡◌, ℕ, suc, ◌-◌, ◌^◌, min, Bool, true, ◌&&◌, ◌||◌, IsTrue, nat_eq, nat_lt, nat_le, if◌then◌else◌, List, [], ◌∷◌, map, Option, Some, None, option_and_then, Result, Ok, Err}
+use Rattle.std.specs.Prelude.{◌≡◌, ℕ, suc, Bool, true, ◌&&◌, ◌||◌, IsTrue, nat_eq, nat_lt, nat_le, if◌then◌else◌, List, [], ◌∷◌, map, Option, Some, None, option_and_then, Result, Ok, Err}
 use Rattle.std.specs.List.{flat_map}
 use Rattle.wf_ast.specs.Tree.{Program}
 use Rattle.wf_events.specs.Reading.{meaning}
 use Rattle.wf_events.specs.Records.{Record, Started, Turned}
+pub use Rattle.wf_history.specs.Faults.{told}
 use Rattle.wf_model.specs.Config.{Config, After, To}
 use Rattle.wf_model.specs.Run.{initial, run_on, Run}
 use Rattle.wf_replay.specs.Language.{Language}
@@ -80,10 +81,6 @@ turned s t = if is_numbered s.number t && goes_on_at s.session s.waits t then le
 abbrev pub goes_on : Standing → Option Record → Option Standing
 goes_on s (Some (Turned t)) = turned s t
 goes_on s r = None
-
--- a record's number as it is told
-abbrev pub told : ℕ → ℕ
-told n = min n (2 ^ 32 - 1)
 
 -- where more records lead, or the number of the first that doesn't go on
 abbrev pub goes_to : Standing → List (List ℕ) → Result Standing ℕ
