@@ -1,4 +1,13 @@
-pub mod Forms
-pub mod Rows
-pub mod Going
-pub mod Commands
+mod Begins
+mod Causes
+mod Deeds
+mod Finish
+mod Goes
+mod Moments
+mod Opens
+mod Promises
+mod Rows
+mod Safe
+mod Spelled
+mod Together
+mod Works

@@ -1,102 +1,277 @@
--- Each cause has its status.
-use Rattle.std.proofs.Common.{◌≡◌, ◌<◌, inl, inr, ℕ, List, Option, None, Some, Result, Ok, Err, refl, sym, ◌∙◌, ap, subst, arith}
-use Rattle.wf_cli.specs.Ends.{Scene, IsBadLine, IsLine, IsRefused, ComesTo, status_of, Gives, bad_line, refused, ended}
-use Rattle.wf_cli.specs.Source.{read_source, start_of}
-use Rattle.wf_cli.specs.Top.{Call, Ends, said, cut, unread, no_memory, IsOrYields, BadLineRow, RefusedRow, OutcomeRow}
-use Rattle.wf_host.specs.Source.{Rest, IsFirst, WhereTold}
-use Rattle.wf_machine.specs.Outcome.{HasOutcome, IsResult}
+-- The rows of the statuses, each from how the call ended.
+use Rattle.std.proofs.Common.{◌≡◌, ◌<◌, ◌⊎◌, inl, inr, ⊎_elim, IsTrue, ℕ, Bool, true, false, List, ◌++◌, None, Some, refl, sym, ◌∙◌, ap, subst, arith}
+use Rattle.std.specs.Prelude.{codes, decimal}
+use Rattle.wf_cli.proofs.Causes.{same_ok, same_some, no_bad_line, executing, reported_line, Cause, says_cause, says_text, says_early, not_said}
+use Rattle.wf_cli.proofs.Together.{IsOrBefore, where_bad_line, where_told, when_told, where_refused, FileCause, other_magic, started, not_started, no_history, file_cause_rank, where_of_file}
+use Rattle.wf_cli.specs.Top.{Call, IsLineOf, IsRefused, HasOutcome, Reported, Gives, IsAccepted, IsOfFile, Says, bad_line, refused, reported, of_file, Ends, said, cut, unread, failed, no_memory, Prints, IsOrYields, Exactly, BadLineRow, ReadFaultRow, RefusedRow, DiskFaultRow, NotAJournalRow, AlreadyStartedRow, NotStartedRow, NotAHistoryRow, OutcomeRow, DoneRow, PrintFaultRow, OnlyThese}
+use Rattle.wf_engine.specs.Printed as end
+use Rattle.wf_engine.specs.Printed.{Scene, executes, status_of, outcome_text}
+use Rattle.wf_engine.specs.TheLanguage.{the_language}
+use Rattle.wf_host.specs.World.{World}
+use Rattle.wf_journal.specs.Records.{records}
+use Rattle.wf_line.specs.declared.command.Command.TheVariants.{Run}
 use Rattle.wf_model.specs.Config.{Outcome, Active, Returned, Raised, Cancelled}
-use Rattle.wf_status.specs.Lines.{line_of}
-use Rattle.wf_status.specs.Statuses.{rank}
+use Rattle.wf_replay.specs.History.{Standing, history}
+use Rattle.wf_status.specs.Refusals.{refusal_text}
+use Rattle.wf_status.specs.Statuses.{line_end, rank, status_text}
 use Rattle.wf_status.specs.declared.Refusal.{Refusal}
 use Rattle.wf_status.specs.declared.Status.{Status}
 use Rattle.wf_status.specs.declared.Status.TheVariants as status
 
--- ## Results
-abbrev IsOk : {A B : Type 0} → Result A B → Type 0
-IsOk (Ok a) = Unit {0}
-IsOk (Err b) = ⊥
-
-not_both : {A B : Type 0} (r : Result A B) (a : A) (b : B) → r ≡ Ok a → r ≡ Err b → ⊥
-not_both r a b is_ok is_err = subst IsOk (sym is_ok ∙ is_err) tt
-
-same_err : {A B : Type 0} (r : Result A B) (b c : B) → r ≡ Err b → r ≡ Err c → b ≡ c
-same_err r b c is js = ap (err_value b) (sym is ∙ js)
-  where
-    err_value : {A B : Type 0} → B → Result A B → B
-    err_value d (Ok a) = d
-    err_value d (Err e) = e
-
-pub same_ok : {A B : Type 0} (r : Result A B) (a b : A) → r ≡ Ok a → r ≡ Ok b → a ≡ b
-same_ok r a b is js = ap (ok_value a) (sym is ∙ js)
-  where
-    ok_value : {A B : Type 0} → A → Result A B → A
-    ok_value d (Ok c) = c
-    ok_value d (Err e) = d
-
-same_some : {A : Type 0} (o : Option A) (a b : A) → o ≡ Some a → o ≡ Some b → a ≡ b
-same_some o a b is js = ap (some_value a) (sym is ∙ js)
-  where
-    some_value : {A : Type 0} → A → Option A → A
-    some_value d None = d
-    some_value d (Some c) = c
-
 -- ## What a status has
--- a status that every cause has which gives one
-yields : (x : Call) (st : Status) → Ends x → ((other : Status) (text : List ℕ) → Gives x.scene other text → other ≡ st) → (IsLine x.scene → 2 < rank st) → IsOrYields x st
-yields x st (said text gives whole) one late = inl (one x.status text gives)
-yields x st (cut other text is gives why some) one late = inr (inr (inl is))
-yields x st (unread is line rose same) one late = inr (inl (subst (λ s. rank s < rank st) (sym is) (late line)))
-yields x st (no_memory is same) one late = inr (inr (inr is))
+-- a status that comes with each end, unless an earlier cause came
+yields : (x : Call) (st : Status) → Ends x → ((other : Status) (text : List ℕ) → Says x.scene x.old x.new other text → IsOrBefore st other) → (IsLineOf x.scene (λ c. c ≡ Run) → 2 < rank st)
+    → (IsLineOf x.scene (λ c. executes c ≡ true) → IsAccepted x.scene → 4 < rank st) → IsOrYields x st
+yields x st (said text says prints) one reads disk = ⊎_elim (λ is. inl is) (λ low. inr (inl low)) (one x.status text says)
+yields x st (cut other text is says why some) one reads disk = inr (inr (inl is))
+yields x st (unread is line rose prints) one reads disk = inr (inl (subst (λ s. rank s < rank st) (sym is) (reads line)))
+yields x st (failed is line accepted rose prints) one reads disk = inr (inl (subst (λ s. rank s < rank st) (sym is) (disk line accepted)))
+yields x st (no_memory is prints) one reads disk = inr (inr (inr is))
 
-one_bad_line : (s : Scene) (n : ℕ) → IsBadLine s n → (other : Status) (text : List ℕ) → Gives s other text → other ≡ status.BadLine n
-one_bad_line s n bad _ _ (bad_line m is) = ap status.BadLine (same_err (line_of s.words) m n is bad)
-one_bad_line s n bad _ _ (refused r (bytes, (line, read), why)) = absurd (not_both (line_of s.words) line.0 n line.1 bad)
-one_bad_line s n bad _ _ (ended o st (bytes, p, (line, read), why, outcome) which) = absurd (not_both (line_of s.words) line.0 n line.1 bad)
+-- a status that prints a line of its own
+abbrev IsTexted : Status → List ℕ → Type 0
+IsTexted st line = status_text st ≡ Some line
 
+no_text : (st other : Status) (line : List ℕ) → IsTexted st line → st ≡ other → status_text other ≡ None → ⊥
+no_text st other line texted is none = let no : Some line ≡ None = sym texted ∙ ap status_text is ∙ none in cc no
+
+-- comes with its cause where the host tells
+cause_told : (x : Call) (line : List ℕ) → IsTrue x.old.tells → Ends x → IsTexted x.status line → Cause x.scene x.status
+cause_told x line told (said text says prints) texted = says_cause x.scene x.old x.new x.status text told says
+cause_told x line told (cut other text is says why some) texted = absurd (no_text x.status status.PrintFault line texted is refl)
+cause_told x line told (unread is rline rose prints) texted = absurd (no_text x.status status.ReadFault line texted is refl)
+cause_told x line told (failed is rline accepted rose prints) texted = absurd (no_text x.status status.DiskFault line texted is refl)
+cause_told x line told (no_memory is prints) texted = absurd (no_text x.status status.OutOfMemory line texted is refl)
+
+-- and one of the words or of the source in any case
+cause_early : (x : Call) (line : List ℕ) → rank x.status < 5 → Ends x → IsTexted x.status line → Cause x.scene x.status
+cause_early x line low (said text says prints) texted = says_early x.scene x.old x.new x.status text low says
+cause_early x line low (cut other text is says why some) texted = absurd (no_text x.status status.PrintFault line texted is refl)
+cause_early x line low (unread is rline rose prints) texted = absurd (no_text x.status status.ReadFault line texted is refl)
+cause_early x line low (failed is rline accepted rose prints) texted = absurd (no_text x.status status.DiskFault line texted is refl)
+cause_early x line low (no_memory is prints) texted = absurd (no_text x.status status.OutOfMemory line texted is refl)
+
+-- and then just its line is printed
+line_printed : (x : Call) (line : List ℕ) → Ends x → IsTexted x.status line → Prints x line
+line_printed x line (said text says prints) texted = λ told. subst (λ t. Prints x t) (says_text x.scene x.old x.new x.status text line told says texted) prints told
+line_printed x line (cut other text is says why some) texted = absurd (no_text x.status status.PrintFault line texted is refl)
+line_printed x line (unread is rline rose prints) texted = absurd (no_text x.status status.ReadFault line texted is refl)
+line_printed x line (failed is rline accepted rose prints) texted = absurd (no_text x.status status.DiskFault line texted is refl)
+line_printed x line (no_memory is prints) texted = absurd (no_text x.status status.OutOfMemory line texted is refl)
+
+-- of a status that prints this line
+texted_as : (x : Call) (st : Status) (line : List ℕ) → status_text st ≡ Some line → x.status ≡ st → IsTexted x.status line
+texted_as x st line is same = ap status_text same ∙ is
+
+-- ## The rows
 pub bad_line_row : (x : Call) → Ends x → BadLineRow x
-bad_line_row x ends n bad = yields x (status.BadLine n) ends (one_bad_line x.scene n bad) (λ line. absurd (not_both (line_of x.scene.words) line.0 n line.1 bad))
-
--- of a source that tells, the bytes that were read are these
-same_bytes : (source : Rest) (left a b : List ℕ) → source ≡ Some left → IsFirst 131073 source a → IsFirst 131073 source b → a ≡ b
-same_bytes source left a b told is js = subst (λ r. IsFirst 131073 r a) told is ∙ sym (subst (λ r. IsFirst 131073 r b) told js)
-
-where_told : (source : Rest) {P : Type 0} → ((left : List ℕ) → source ≡ Some left → P) → WhereTold source P
-where_told None f = tt
-where_told (Some left) f = f left refl
-
-one_refusal : (s : Scene) (left : List ℕ) (r : Refusal) → s.source ≡ Some left → IsRefused s r → (other : Status) (text : List ℕ) → Gives s other text → other ≡ status.Refused r
-one_refusal s left r told (bytes, (line, read), why) _ _ (bad_line m is) = absurd (not_both (line_of s.words) line.0 m line.1 is)
-one_refusal s left r told (bytes, (line, read), why) _ _ (refused q (bytes2, (line2, read2), why2)) =
-    ap status.Refused (same_err (read_source bytes) q r (ap read_source (same_bytes s.source left bytes bytes2 told read read2) ∙ why2) why)
-one_refusal s left r told (bytes, (line, read), why) _ _ (ended o st (bytes2, p, (line2, read2), why2, outcome) which) =
-    absurd (not_both (read_source bytes) p r (ap read_source (same_bytes s.source left bytes bytes2 told read read2) ∙ why2) why)
+bad_line_row x ends n =
+    let line = line_end (codes "bad line at word " ++ decimal n) in
+    record {
+      comes = λ is. subst (Cause x.scene) is (cause_early x line (subst (λ s. rank s < 5) (sym is) (omega arith)) ends (texted_as x (status.BadLine n) line refl is));
+      only = λ bad. yields x (status.BadLine n) ends (λ other text says. where_bad_line x.scene x.old x.new n other text bad says) (λ run. absurd (no_bad_line x.scene (λ c. c ≡ Run) n run bad))
+          (λ runs accepted. absurd (no_bad_line x.scene (λ c. executes c ≡ true) n runs bad));
+      prints = λ is. line_printed x line ends (texted_as x (status.BadLine n) line refl is);
+    }
 
 pub refused_row : (x : Call) → Ends x → RefusedRow x
-refused_row x ends = where_told x.scene.source (λ left told r is. yields x (status.Refused r) ends (one_refusal x.scene left r told is) (λ line. omega arith))
+refused_row x ends =
+    where_told x.scene.source _ (λ left told r.
+    let line = line_end (refusal_text r) in
+    record {
+      comes = λ is. subst (Cause x.scene) is (cause_early x line (subst (λ s. rank s < 5) (sym is) (omega arith)) ends (texted_as x (status.Refused r) line refl is));
+      only = λ why. yields x (status.Refused r) ends (λ other text says. where_refused x.scene x.old x.new left r other text told why says) (λ run. omega arith)
+          (λ runs accepted. absurd (when_told x.scene.source left ((q : Refusal) → ¬ IsRefused x.scene q) told accepted r why));
+      prints = λ is. line_printed x line ends (texted_as x (status.Refused r) line refl is);
+    })
 
-result_of : (o : Outcome) (st : Status) → status_of o ≡ Some st → IsResult o
-result_of Active st is = cc is
-result_of (Returned v) st is = tt
-result_of (Raised e) st is = tt
-result_of Cancelled st is = cc is
+-- a row of the file
+file_row : (x : Call) (st : Status) (line : List ℕ) → IsTrue x.old.tells → Ends x → status_text st ≡ Some line → (Cause x.scene st → FileCause x.scene st) → Exactly x st (Cause x.scene st) line
+file_row x st line told ends texted cause = record {
+  comes = λ is. subst (Cause x.scene) is (cause_told x line told ends (texted_as x st line texted is));
+  only = λ why.
+      let c = cause why in
+      let low = file_cause_rank x.scene st c in
+      yields x st ends (λ other text says. where_of_file x.scene x.old x.new st other text told c says) (λ run. omega (arith, low)) (λ runs accepted. low);
+  prints = λ is. line_printed x line ends (texted_as x st line texted is);
+}
 
-one_outcome : (s : Scene) (left : List ℕ) (o : Outcome) (st : Status) → s.source ≡ Some left → status_of o ≡ Some st → ComesTo s o → (other : Status) (text : List ℕ) → Gives s other text → other ≡ st
-one_outcome s left o st told which (bytes, p, (line, read), why, has) _ _ (bad_line m is) = absurd (not_both (line_of s.words) line.0 m line.1 is)
-one_outcome s left o st told which (bytes, p, (line, read), why, has) _ _ (refused q (bytes2, (line2, read2), why2)) =
-    absurd (not_both (read_source bytes) p q why (ap read_source (same_bytes s.source left bytes bytes2 told read read2) ∙ why2))
-one_outcome s left o st told which (bytes, p, (line, read), why, has) _ _ (ended o2 st2 (bytes2, p2, (line2, read2), why2, outcome) which2) =
-    let bytes_are = same_bytes s.source left bytes bytes2 told read read2 in
-    let program_is : p ≡ p2 = same_ok (read_source bytes) p p2 why (ap read_source bytes_are ∙ why2) in
-    let has2 : HasOutcome p2 (start_of bytes2) o = subst (λ b. HasOutcome p2 (start_of b) o) bytes_are (subst (λ q. HasOutcome q (start_of bytes) o) program_is has) in
-    let same : o ≡ o2 = outcome.only o has2 (result_of o st which) in
-    same_some (status_of o2) st2 st which2 (ap status_of (sym same) ∙ which)
+pub not_a_journal_row : (x : Call) → IsTrue x.old.tells → Ends x → NotAJournalRow x
+not_a_journal_row x told ends = file_row x status.NotAJournal _ told ends refl (λ why. other_magic why)
 
-later : (o : Outcome) (st : Status) → status_of o ≡ Some st → 2 < rank st
-later Active st is = absurd (cc is)
-later (Returned v) st is = let same : status.Done ≡ st = same_some (Some status.Done) status.Done st refl is in subst (λ s. 2 < rank s) same (omega arith)
-later (Raised e) st is = let same : status.Raised ≡ st = same_some (Some status.Raised) status.Raised st refl is in subst (λ s. 2 < rank s) same (omega arith)
-later Cancelled st is = absurd (cc is)
+pub already_started_row : (x : Call) → IsTrue x.old.tells → Ends x → AlreadyStartedRow x
+already_started_row x told ends = file_row x status.AlreadyStarted _ told ends refl (λ why. started why)
 
-pub outcome_row : (x : Call) → Ends x → OutcomeRow x
-outcome_row x ends = where_told x.scene.source (λ left told o st which is. yields x st ends (one_outcome x.scene left o st told which is) (λ line. later o st which))
+pub not_started_row : (x : Call) → IsTrue x.old.tells → Ends x → NotStartedRow x
+not_started_row x told ends = file_row x status.NotStarted _ told ends refl (λ why. not_started why)
+
+pub not_a_history_row : (x : Call) → IsTrue x.old.tells → Ends x → NotAHistoryRow x
+not_a_history_row x told ends n = file_row x (status.NotAHistory n) _ told ends refl (λ why. no_history n why)
+
+-- ## Faults
+pub read_fault_row : (x : Call) → Ends x → ReadFaultRow x
+read_fault_row x (said text says prints) = λ is. absurd (not_said x.scene x.old x.new x.status status.ReadFault text says is refl)
+read_fault_row x (cut other text is says why some) = λ it. let no : status.PrintFault ≡ status.ReadFault = sym is ∙ it in absurd (cc no)
+read_fault_row x (unread is line rose prints) = λ it. rose
+read_fault_row x (failed is line accepted rose prints) = λ it. let no : status.DiskFault ≡ status.ReadFault = sym is ∙ it in absurd (cc no)
+read_fault_row x (no_memory is prints) = λ it. let no : status.OutOfMemory ≡ status.ReadFault = sym is ∙ it in absurd (cc no)
+
+pub disk_fault_row : (x : Call) → Ends x → DiskFaultRow x
+disk_fault_row x (said text says prints) = λ is. absurd (not_said x.scene x.old x.new x.status status.DiskFault text says is refl)
+disk_fault_row x (cut other text is says why some) = λ it. let no : status.PrintFault ≡ status.DiskFault = sym is ∙ it in absurd (cc no)
+disk_fault_row x (unread is line rose prints) = λ it. let no : status.ReadFault ≡ status.DiskFault = sym is ∙ it in absurd (cc no)
+disk_fault_row x (failed is line accepted rose prints) = λ it. rose
+disk_fault_row x (no_memory is prints) = λ it. let no : status.OutOfMemory ≡ status.DiskFault = sym is ∙ it in absurd (cc no)
+
+pub print_fault_row : (x : Call) → Ends x → PrintFaultRow x
+print_fault_row x (said text says prints) = λ is. absurd (not_said x.scene x.old x.new x.status status.PrintFault text says is refl)
+print_fault_row x (cut other text is says why some) = λ it. why
+print_fault_row x (unread is line rose prints) = λ it. let no : status.ReadFault ≡ status.PrintFault = sym is ∙ it in absurd (cc no)
+print_fault_row x (failed is line accepted rose prints) = λ it. let no : status.DiskFault ≡ status.PrintFault = sym is ∙ it in absurd (cc no)
+print_fault_row x (no_memory is prints) = λ it. let no : status.OutOfMemory ≡ status.PrintFault = sym is ∙ it in absurd (cc no)
+
+-- a status of this part
+abbrev pub is_own : Status → Bool
+is_own status.BadArgument = false
+is_own status.PollFault = false
+is_own status.Suspended = false
+is_own st = true
+
+own_of_said : (s : Scene) (old new : World) (st : Status) (text : List ℕ) → Says s old new st text → is_own st ≡ true
+own_of_said s old new _ _ (bad_line n bad) = refl
+own_of_said s old new _ _ (refused r why) = refl
+own_of_said s old new _ _ (reported text report) = refl
+own_of_said s old new _ _ (of_file st text (inl is) line accepted gives) = ap is_own is
+own_of_said s old new _ _ (of_file st text (inr (inl is)) line accepted gives) = ap is_own is
+own_of_said s old new _ _ (of_file st text (inr (inr (inl is))) line accepted gives) = ap is_own is
+own_of_said s old new _ _ (of_file st text (inr (inr (inr (inl (n, is))))) line accepted gives) = ap is_own is
+own_of_said s old new _ _ (of_file st text (inr (inr (inr (inr (inl is))))) line accepted gives) = ap is_own is
+own_of_said s old new _ _ (of_file st text (inr (inr (inr (inr (inr is))))) line accepted gives) = ap is_own is
+
+pub own_status : (x : Call) → Ends x → is_own x.status ≡ true
+own_status x (said text says prints) = own_of_said x.scene x.old x.new x.status text says
+own_status x (cut other text is says why some) = ap is_own is
+own_status x (unread is line rose prints) = ap is_own is
+own_status x (failed is line accepted rose prints) = ap is_own is
+own_status x (no_memory is prints) = ap is_own is
+
+pub only_these : (x : Call) → Ends x → OnlyThese x
+only_these x ends = (λ is. none status.BadArgument is refl, λ is. none status.PollFault is refl, λ is. none status.Suspended is refl)
+  where
+    none : (st : Status) → x.status ≡ st → is_own st ≡ false → ⊥
+    none st is isnt = let no : true ≡ false = sym (own_status x ends) ∙ ap is_own is ∙ isnt in cc no
+
+-- ## Outcomes and reports
+-- a status that is said of an outcome
+abbrev pub is_outcome : Status → Bool
+is_outcome status.Done = true
+is_outcome status.Raised = true
+is_outcome st = false
+
+outcome_status : (o : Outcome) (st : Status) → status_of o ≡ Some st → is_outcome st ≡ true
+outcome_status Active st is = let no : None ≡ Some st = is in absurd (cc no)
+outcome_status (Returned v) st is = ap is_outcome (sym (same_some (Some status.Done) status.Done st refl is))
+outcome_status (Raised e) st is = ap is_outcome (sym (same_some (Some status.Raised) status.Raised st refl is))
+outcome_status Cancelled st is = let no : None ≡ Some st = is in absurd (cc no)
+
+outcome_rank : (st : Status) → is_outcome st ≡ true → rank st ≡ 11
+outcome_rank status.Done is = refl
+outcome_rank status.Raised is = refl
+outcome_rank (status.BadLine n) is = let no : false ≡ true = is in absurd (cc no)
+outcome_rank (status.Refused r) is = let no : false ≡ true = is in absurd (cc no)
+outcome_rank status.BadArgument is = let no : false ≡ true = is in absurd (cc no)
+outcome_rank status.AlreadyStarted is = let no : false ≡ true = is in absurd (cc no)
+outcome_rank status.NotStarted is = let no : false ≡ true = is in absurd (cc no)
+outcome_rank status.ReadFault is = let no : false ≡ true = is in absurd (cc no)
+outcome_rank status.PrintFault is = let no : false ≡ true = is in absurd (cc no)
+outcome_rank status.DiskFault is = let no : false ≡ true = is in absurd (cc no)
+outcome_rank status.PollFault is = let no : false ≡ true = is in absurd (cc no)
+outcome_rank status.NotAJournal is = let no : false ≡ true = is in absurd (cc no)
+outcome_rank (status.NotAHistory n) is = let no : false ≡ true = is in absurd (cc no)
+outcome_rank status.Suspended is = let no : false ≡ true = is in absurd (cc no)
+outcome_rank status.OutOfMemory is = let no : false ≡ true = is in absurd (cc no)
+
+-- Done and Raised are told of an outcome, where a command executes
+outcome_of_gives : (s : Scene) (image : List ℕ) (st : Status) (text : List ℕ) → IsLineOf s (λ c. executes c ≡ true) → Gives s image st text → is_outcome st ≡ true
+    → (o : Outcome) × HasOutcome s image o × (status_of o ≡ Some st) × (text ≡ outcome_text o)
+outcome_of_gives s image _ _ line (end.bad_line n bad) is = let no : false ≡ true = is in absurd (cc no)
+outcome_of_gives s image _ _ line (end.refused r why) is = let no : false ≡ true = is in absurd (cc no)
+outcome_of_gives s image _ _ line (end.not_a_journal why) is = let no : false ≡ true = is in absurd (cc no)
+outcome_of_gives s image _ _ line (end.already_started why) is = let no : false ≡ true = is in absurd (cc no)
+outcome_of_gives s image _ _ line (end.not_started why) is = let no : false ≡ true = is in absurd (cc no)
+outcome_of_gives s image _ _ line (end.not_a_history n why) is = let no : false ≡ true = is in absurd (cc no)
+outcome_of_gives s image _ _ line (end.ended o st has which) is = (o, has, which, refl)
+outcome_of_gives s image _ _ line (end.done text report) is = absurd (executing s line (reported_line s text report))
+
+outcome_of_says : (s : Scene) (old new : World) (st : Status) (text : List ℕ) → IsTrue old.tells → IsLineOf s (λ c. executes c ≡ true) → Says s old new st text → is_outcome st ≡ true
+    → (o : Outcome) × HasOutcome s new.seen o × (status_of o ≡ Some st) × (text ≡ outcome_text o)
+outcome_of_says s old new _ _ told line (bad_line n bad) is = let no : false ≡ true = is in absurd (cc no)
+outcome_of_says s old new _ _ told line (refused r why) is = let no : false ≡ true = is in absurd (cc no)
+outcome_of_says s old new _ _ told line (reported text report) is = absurd (executing s line (reported_line s text report))
+outcome_of_says s old new _ _ told line (of_file st text isf line2 accepted gives) is = outcome_of_gives s new.seen st text line (gives told).0 is
+
+outcome_comes : (x : Call) → IsTrue x.old.tells → Ends x → IsLineOf x.scene (λ c. executes c ≡ true) → is_outcome x.status ≡ true
+    → (o : Outcome) × HasOutcome x.scene x.new.seen o × (status_of o ≡ Some x.status) × Prints x (outcome_text o)
+outcome_comes x told (said text says prints) line is =
+    let it = outcome_of_says x.scene x.old x.new x.status text told line says is in
+    (it.0, it.1, it.2, subst (λ t. Prints x t) it.3 prints)
+outcome_comes x told (cut other text it says why some) line is = let no : false ≡ true = sym (ap is_outcome it) ∙ is in absurd (cc no)
+outcome_comes x told (unread it rline rose prints) line is = let no : false ≡ true = sym (ap is_outcome it) ∙ is in absurd (cc no)
+outcome_comes x told (failed it rline accepted rose prints) line is = let no : false ≡ true = sym (ap is_outcome it) ∙ is in absurd (cc no)
+outcome_comes x told (no_memory it prints) line is = let no : false ≡ true = sym (ap is_outcome it) ∙ is in absurd (cc no)
+
+-- one outcome of the records, and one status of it
+one_status : (s : Scene) (image : List ℕ) (o p : Outcome) (st other : Status) → HasOutcome s image o → HasOutcome s image p → status_of o ≡ Some st → status_of p ≡ Some other → other ≡ st
+one_status s image o p st other (line, (c, is, has)) (line2, (d, is2, has2)) which which2 =
+    let same : p ≡ o = sym has2 ∙ ap (λ (k : Standing). k.config.outcome) (same_ok (history the_language (records image)) d c is2 is) ∙ has in
+    same_some (status_of p) other st which2 (ap status_of same ∙ which)
+
+low_or_outcome : (other st : Status) → IsOfFile other → rank st ≡ 11 → (rank other < rank st) ⊎ (is_outcome other ≡ true)
+low_or_outcome other st (inl is) equal = inl (let r = ap rank is in omega (arith, r, equal))
+low_or_outcome other st (inr (inl is)) equal = inl (let r = ap rank is in omega (arith, r, equal))
+low_or_outcome other st (inr (inr (inl is))) equal = inl (let r = ap rank is in omega (arith, r, equal))
+low_or_outcome other st (inr (inr (inr (inl (n, is))))) equal = inl (let r = ap rank is in omega (arith, r, equal))
+low_or_outcome other st (inr (inr (inr (inr (inl is))))) equal = inr (ap is_outcome is)
+low_or_outcome other st (inr (inr (inr (inr (inr is))))) equal = inr (ap is_outcome is)
+
+where_outcome : (s : Scene) (old new : World) (o : Outcome) (st other : Status) (text : List ℕ) → IsTrue old.tells → status_of o ≡ Some st → HasOutcome s new.seen o → Says s old new other text → IsOrBefore st other
+where_outcome s old new o st _ _ told which has (bad_line n bad) = inr (let r = outcome_rank st (outcome_status o st which) in omega (arith, r))
+where_outcome s old new o st _ _ told which has (refused q why) = inr (let r = outcome_rank st (outcome_status o st which) in omega (arith, r))
+where_outcome s old new o st _ _ told which has (reported text report) = absurd (executing s has.0 (reported_line s text report))
+where_outcome s old new o st _ _ told which has (of_file other text is line accepted gives) =
+    ⊎_elim (λ low. inr low)
+    (λ ends. let it = outcome_of_gives s new.seen other text line (gives told).0 ends in inl (one_status s new.seen o it.0 st other has it.1 which it.2))
+    (low_or_outcome other st is (outcome_rank st (outcome_status o st which)))
+
+pub outcome_row : (x : Call) → IsTrue x.old.tells → Ends x → OutcomeRow x
+outcome_row x told ends = record {
+  comes = λ line is. outcome_comes x told ends line (⊎_elim (λ done. ap is_outcome done) (λ raised. ap is_outcome raised) is);
+  only = λ o st which has.
+      let r = outcome_rank st (outcome_status o st which) in
+      yields x st ends (λ other text says. where_outcome x.scene x.old x.new o st other text told which has says) (λ run. omega (arith, r)) (λ runs accepted. omega (arith, r));
+}
+
+report_of_says : (s : Scene) (old new : World) (st : Status) (text : List ℕ) → Says s old new st text → IsLineOf s (λ c. executes c ≡ false) → st ≡ status.Done → Reported s text
+report_of_says s old new _ _ (bad_line n bad) line is = absurd (cc is)
+report_of_says s old new _ _ (refused r why) line is = absurd (cc is)
+report_of_says s old new _ _ (reported text report) line is = report
+report_of_says s old new _ _ (of_file st text isf line2 accepted gives) line is = absurd (executing s line2 line)
+
+done_comes : (x : Call) → Ends x → IsLineOf x.scene (λ c. executes c ≡ false) → x.status ≡ status.Done → (text : List ℕ) × Reported x.scene text × Prints x text
+done_comes x (said text says prints) line is = (text, report_of_says x.scene x.old x.new x.status text says line is, prints)
+done_comes x (cut other text it says why some) line is = let no : status.PrintFault ≡ status.Done = sym it ∙ is in absurd (cc no)
+done_comes x (unread it rline rose prints) line is = let no : status.ReadFault ≡ status.Done = sym it ∙ is in absurd (cc no)
+done_comes x (failed it rline accepted rose prints) line is = let no : status.DiskFault ≡ status.Done = sym it ∙ is in absurd (cc no)
+done_comes x (no_memory it prints) line is = let no : status.OutOfMemory ≡ status.Done = sym it ∙ is in absurd (cc no)
+
+where_reported : (s : Scene) (old new : World) (shown : List ℕ) (other : Status) (text : List ℕ) → Reported s shown → Says s old new other text → IsOrBefore status.Done other
+where_reported s old new shown _ _ report (bad_line n bad) = inr (omega arith)
+where_reported s old new shown _ _ report (refused q why) = inr (omega arith)
+where_reported s old new shown _ _ report (reported text report2) = inl refl
+where_reported s old new shown _ _ report (of_file st text is line accepted gives) = absurd (executing s line (reported_line s shown report))
+
+pub done_row : (x : Call) → Ends x → DoneRow x
+done_row x ends = record {
+  comes = λ line is. done_comes x ends line is;
+  only = λ shown report. yields x status.Done ends (λ other text says. where_reported x.scene x.old x.new shown other text report says) (λ run. omega arith) (λ runs accepted. omega arith);
+}

@@ -1,4 +1,5 @@
 pub mod Source
-pub mod Ends
-pub mod Said
+pub mod Reports
 pub mod Top
+pub mod Calls
+pub mod Said

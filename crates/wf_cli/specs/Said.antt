@@ -1,21 +1,45 @@
 -- What the code of a command has found out before it prints.
-use Rattle.std.specs.Prelude.{◌≡◌, ◌⊎◌, ℕ, List, Some, Result, Ok, Err}
+use Rattle.std.specs.Prelude.{◌≡◌, ◌≢◌, ◌⊎◌, ℕ, true, false, List, [], ◌∷◌, ◌++◌, Contains, Some, None, Result, Ok, Err, IfOk, IfErr}
+use Rattle.std.specs.List.{AllByRecursion}
 use Rattle.wf_ast.specs.View.{program_view}
 use Rattle.wf_ast.specs.declared.Program as code
-use Rattle.wf_cli.specs.Ends.{Scene, IsLine, TheOutcome, status_of, outcome_text, Gives}
-use Rattle.wf_cli.specs.Source.{read_source, refused, start_of}
+use Rattle.wf_cli.specs.Reports.{the_reports}
+use Rattle.wf_cli.specs.Source.{read_source, refused}
+use Rattle.wf_cli.specs.Top.{IsAccepted, IsLineOf, HasOtherMagic, IsStarted, IsNotStarted, IsNoHistory, IsPassed, Gives, Says}
 use Rattle.wf_cli.specs.declared.end.Said.{Said}
 use Rattle.wf_cli.specs.declared.end.Silence.{Silence}
 use Rattle.wf_cli.specs.declared.end.Silence.TheVariants as silence
-use Rattle.wf_host.specs.World.{Rose}
+use Rattle.wf_engine.specs.Deeds.{printed, nows}
+use Rattle.wf_engine.specs.Engine.{Memory, memory, StandsFor, KeptAt}
+use Rattle.wf_engine.specs.Kept as kept
+use Rattle.wf_engine.specs.Outside.{Outside}
+use Rattle.wf_engine.specs.Printed as end
+use Rattle.wf_engine.specs.Printed.{Scene, executes, status_of, outcome_text}
+use Rattle.wf_engine.specs.Safe.{IsFit, IsSmall, SafeAt, command_by}
+use Rattle.wf_engine.specs.Starts.{start_of}
+use Rattle.wf_engine.specs.TheLanguage.{the_language}
+use Rattle.wf_engine.specs.declared.engine.Engine.{Engine}
+use Rattle.wf_engine.specs.declared.fault.EngineFault.{EngineFault}
+use Rattle.wf_engine.specs.declared.fault.EngineFault.TheVariants as engine
+use Rattle.wf_events.specs.Records.{Started}
+use Rattle.wf_events.specs.Spelling.{record_bytes}
+use Rattle.wf_host.specs.World.{World, Faults, Told, Only, LeavesOnly, Rose}
 use Rattle.wf_host.specs.declared.ReadFault.{ReadFault}
 use Rattle.wf_host.specs.declared.ReadFault.TheVariants as fault
-use Rattle.wf_model.specs.Config.{Outcome}
-use Rattle.wf_ast.specs.Tree as t
-use Rattle.wf_shared.specs.Events.{Start}
-use Rattle.wf_status.specs.declared.RefusalKind.{RefusalKind}
+use Rattle.wf_host.specs.declared.data.Deed.{Deed}
+use Rattle.wf_journal.specs.Records.{records}
+use Rattle.wf_journal.specs.Steps.{Moment}
+use Rattle.wf_line.specs.Lines.{PlainLine, line_of}
+use Rattle.wf_line.specs.declared.command.Command.TheVariants.{Run, Resume}
+use Rattle.wf_line.specs.declared.read.LineFault.{LineFault}
+use Rattle.wf_line.specs.declared.read.LineFault.TheVariants as words
+use Rattle.wf_machine.specs.Outcome.{IsResult}
+use Rattle.wf_model.specs.Config.{Outcome, Active}
+use Rattle.wf_printing.specs.Printing.{PrintsFront, PrintsWhole, LeavesSome, TookNothing, PrintedSoFar}
+use Rattle.wf_replay.specs.At.{journal, next_session}
+use Rattle.wf_replay.specs.History.{Standing, history}
 use Rattle.wf_status.specs.Statuses.{status_text}
-use Rattle.wf_status.specs.declared.Refusal.{Refusal}
+use Rattle.wf_status.specs.declared.RefusalKind.{RefusalKind}
 use Rattle.wf_status.specs.declared.Status.{Status}
 use Rattle.wf_status.specs.declared.Status.TheVariants as status
 
@@ -29,27 +53,160 @@ pub record SaysOutcome (said : Said) (o : Outcome) : Type 0 where
   pub status : status_of o ≡ Some said.status
   pub text : said.text.items ≡ outcome_text o
 
--- a run's one outcome is said
-abbrev pub SaysTheOutcome : t.Program → Start → Said → Type 0
-SaysTheOutcome p s said = (o : Outcome) × SaysOutcome said o × TheOutcome p s o
-
 -- a status, and the line that it prints
 pub record SaysStatus (st : Status) (said : Said) : Type 0 where
   pub status : said.status ≡ st
   pub text : (line : List ℕ) → status_text st ≡ Some line → said.text.items ≡ line
-
--- what these bytes come to as a source is said
-abbrev pub SaysOfBytes : List ℕ → Said → Type 0
-SaysOfBytes bytes said = ((r : Refusal) × (read_source bytes ≡ Err r) × SaysStatus (status.Refused r) said)
-    ⊎ ((p : t.Program) × (read_source bytes ≡ Ok p) × SaysTheOutcome p (start_of bytes) said)
 
 -- a failed read as a cause of silence
 abbrev pub silence_of : ReadFault → Silence
 silence_of fault.Failed = silence.Unread
 silence_of fault.OutOfMemory = silence.OutOfMemory
 
--- a text to print with its cause, or why there is none
-abbrev pub IsEndOf : Scene → ℕ → ℕ → Result Said Silence → Type 0
-IsEndOf s reads reads2 (Ok said) = Gives s said.status said.text.items
-IsEndOf s reads reads2 (Err silence.Unread) = IsLine s × Rose reads reads2
-IsEndOf s reads reads2 (Err silence.OutOfMemory) = Unit {0}
+-- the status of a fault, or want of memory
+abbrev pub SaysOrLacks : Status → Result Said Silence → Type 0
+SaysOrLacks st (Ok said) = SaysStatus st said
+SaysOrLacks st (Err s) = s ≡ silence.OutOfMemory
+
+-- a text of the program, or want of memory
+abbrev pub SaysReport : List ℕ → Result Said Silence → Type 0
+SaysReport text (Ok said) = (said.status ≡ status.Done) × (said.text.items ≡ text)
+SaysReport text (Err s) = s ≡ silence.OutOfMemory
+
+-- what is said of words that are no line
+abbrev pub SaysBadLine : LineFault → Result Said Silence → Type 0
+SaysBadLine (words.BadLine n) r = SaysOrLacks (status.BadLine n) r
+SaysBadLine words.OutOfMemory r = r ≡ Err silence.OutOfMemory
+
+-- what is said of a fault of the engine
+abbrev pub SaysFault : EngineFault → Result Said Silence → Type 0
+SaysFault engine.DiskFault r = r ≡ Err silence.DiskFault
+SaysFault engine.NotAJournal r = SaysOrLacks status.NotAJournal r
+SaysFault (engine.NotAHistory n) r = SaysOrLacks (status.NotAHistory n) r
+SaysFault engine.AlreadyStarted r = SaysOrLacks status.AlreadyStarted r
+SaysFault engine.NotStarted r = SaysOrLacks status.NotStarted r
+SaysFault engine.Closed r = r ≡ Err silence.OutOfMemory
+SaysFault engine.OutOfMemory r = r ≡ Err silence.OutOfMemory
+
+-- ## An execution that is opened
+-- nothing was written: a crash leaves what one at entry may, and the file reads as it did
+abbrev pub Unwritten : World → World → Type 0
+Unwritten old new = LeavesOnly old new (λ c d. old.may_leave c) × (new.seen ≡ old.seen)
+
+-- its deeds are small, and it has printed nothing
+pub record DidLittle (old new : World) : Type 0 where
+  pub done : List Deed
+  pub deeds : new.deeds ≡ old.deeds ++ done
+  pub small : AllByRecursion IsSmall done
+  pub silent : printed done ≡ []
+
+-- what a crash at any moment by now may leave is safe
+abbrev pub SafeSince : Scene → World → World → Type 0
+SafeSince s old new = IsFit the_language s.found → (O : Outside) → LeavesOnly old new (SafeAt the_language O the_reports s None old)
+
+-- where none was found, the records are the start of the line, of the source that was read and of the clock
+abbrev pub HasStartOfLine : Scene → List Deed → List (List ℕ) → Type 0
+HasStartOfLine s done J = records s.found ≡ [] → (l : PlainLine) × (bytes : List ℕ) × end.Reads the_language the_reports s l bytes
+    × ((t : ℕ) × Contains (nows done) t × (J ≡ record_bytes (Started (start_of l bytes t)) ∷ []))
+
+-- no cause of the file holds
+pub record HasNoCause (s : Scene) : Type 0 where
+  pub magic : ¬ HasOtherMagic s
+  pub started : ¬ IsStarted s
+  pub not_started : ¬ IsNotStarted s
+  pub history : (n : ℕ) → ¬ IsNoHistory s n
+
+-- an engine that stands for what was found, and for the start of the line where it was begun
+pub record IsOpened (command : kept.Command) (s : Scene) (done : List Deed) (new : World) (e : Engine) : Type 0 where
+  pub stands : StandsFor command (memory e) (records new.seen) done
+  pub number : (memory e).session ≡ next_session (journal the_language (records s.found))
+  pub added : List (List ℕ)
+  pub keeps : records new.seen ≡ records s.found ++ added
+  pub start : HasStartOfLine s done (records new.seen)
+  pub is_of : command_by (line_of s.words) ≡ command
+  pub causes : HasNoCause s
+
+-- why a file isn't opened
+abbrev pub FaultHolds : Scene → EngineFault → Type 0
+FaultHolds s engine.DiskFault = Unit {0}
+FaultHolds s engine.NotAJournal = HasOtherMagic s × IsPassed s status.NotAJournal
+FaultHolds s (engine.NotAHistory n) = IsNoHistory s n × IsPassed s (status.NotAHistory n)
+FaultHolds s engine.AlreadyStarted = IsStarted s × IsPassed s status.AlreadyStarted
+FaultHolds s engine.NotStarted = IsNotStarted s × IsPassed s status.NotStarted
+FaultHolds s engine.Closed = Unit {0}
+FaultHolds s engine.OutOfMemory = Unit {0}
+
+-- the opening of a file, where the host tells
+pub record Opening (command : kept.Command) (s : Scene) (old new : World) (r : Result Engine EngineFault) : Type 0 where
+  pub little : DidLittle old new
+  pub safe : SafeSince s old new
+  pub opened : IfOk r (IsOpened command s little.done new)
+  pub fault : IfErr r (FaultHolds s)
+  -- what is refused or only gone on with isn't written by this
+  pub refused : HasOtherMagic s ⊎ IsStarted s ⊎ IsNotStarted s ⊎ ((n : ℕ) × IsNoHistory s n) → Unwritten old new
+  pub resumed : command ≡ kept.Resume → Unwritten old new
+  pub finished : (st : Standing) → IsLineOf s (λ c. c ≡ Resume) → history the_language (records s.found) ≡ Ok st → st.config.outcome ≢ Active → new.deeds ≡ old.deeds
+
+-- ## Going on to the outcome
+-- an outcome is said, or the disk failed, or there was no memory
+abbrev pub SaysResult : Faults → Faults → Result Said Silence → Type 0
+SaysResult faults faults2 (Ok said) = (o : Outcome) × IsResult o × SaysOutcome said o
+SaysResult faults faults2 (Err silence.Unread) = ⊥
+SaysResult faults faults2 (Err silence.DiskFault) = Rose faults.disk faults2.disk
+SaysResult faults faults2 (Err silence.OutOfMemory) = Unit {0}
+
+-- what is said is the outcome of the history of the file, and a crash leaves just this
+pub record SaysHistory (new : World) (said : Said) : Type 0 where
+  pub standing : Standing
+  pub history : history the_language (records new.seen) ≡ Ok standing
+  pub says : SaysOutcome said standing.config.outcome
+  pub settled : Only new.seen new.may_leave
+
+-- an execution that goes on to its outcome, where the host tells
+pub record Going (command : kept.Command) (m : Memory) (D : List Deed) (old new : World) (r : Result Said Silence) : Type 0 where
+  pub moments : LeavesOnly old new (Moment old (KeptAt command m (records old.seen) D))
+  pub deeds : new.deeds ≡ old.deeds
+  pub said : IfOk r (SaysHistory new)
+  pub finished : m.config.outcome ≢ Active → Unwritten old new
+
+-- ## What a command has done before it prints
+-- a text with its cause, or why there is none
+abbrev pub IsEnd : Scene → World → World → ℕ → ℕ → Faults → Faults → Result Said Silence → Type 0
+IsEnd s old new reads reads2 faults faults2 (Ok said) = Says s old new said.status said.text.items
+IsEnd s old new reads reads2 faults faults2 (Err silence.Unread) = IsLineOf s (λ c. c ≡ Run) × Rose reads reads2
+IsEnd s old new reads reads2 faults faults2 (Err silence.DiskFault) = IsLineOf s (λ c. executes c ≡ true) × IsAccepted s × Rose faults.disk faults2.disk
+IsEnd s old new reads reads2 faults faults2 (Err silence.OutOfMemory) = Unit {0}
+
+-- The work of a command, where the host tells: what a crash by then may leave is safe, the text is given for each file that one may leave now,
+-- and where nothing is to be written nothing was.
+pub record Worked (s : Scene) (old new : World) (r : Result Said Silence) : Type 0 where
+  pub little : DidLittle old new
+  pub safe : SafeSince s old new
+  pub gives : IfOk r (λ said. (image : List ℕ) → new.may_leave image → Gives s image said.status said.text.items)
+  pub finished : (st : Standing) → IsLineOf s (λ c. c ≡ Resume) → history the_language (records s.found) ≡ Ok st → st.config.outcome ≢ Active → Unwritten old new × (new.deeds ≡ old.deeds)
+  pub refused : HasOtherMagic s ⊎ IsStarted s ⊎ IsNotStarted s ⊎ ((n : ℕ) × IsNoHistory s n) → Unwritten old new
+  pub reports : IsLineOf s (λ c. executes c ≡ false) → Unwritten old new
+
+-- ## Printing
+-- what is printed of it
+abbrev pub text_of : Result Said Silence → List ℕ
+text_of (Ok said) = said.text.items
+text_of (Err s) = []
+
+-- the status of a silence
+abbrev pub silent_status : Silence → Status
+silent_status silence.Unread = status.ReadFault
+silent_status silence.DiskFault = status.DiskFault
+silent_status silence.OutOfMemory = status.OutOfMemory
+
+-- the text was printed whole, or some of it is left, or nothing was done
+abbrev pub Tells : Result Said Silence → World → World → Faults → Faults → Status → Type 0
+Tells (Ok said) old new faults faults2 st = ((st ≡ said.status) × Told old (PrintsWhole old new said.text.items))
+    ⊎ ((st ≡ status.PrintFault) × (Rose faults.print faults2.print ⊎ Told old (TookNothing old new)) × Told old (LeavesSome old new said.text.items))
+Tells (Err s) old new faults faults2 st = (st ≡ silent_status s) × Told old (new.deeds ≡ old.deeds)
+
+-- a front of the text was printed and nothing else done, at each moment and at the end
+pub record Printing (text : List ℕ) (old new : World) : Type 0 where
+  pub printed : PrintsFront old new text
+  pub moments : LeavesOnly old new (PrintedSoFar old text)
+  pub seen : new.seen ≡ old.seen

@@ -1,8 +1,7 @@
 -- What `run` makes of the bytes of a source.
-use Rattle.std.specs.Prelude.{ℕ, List, [], Result, Ok, Err, Option, Some, None, if◌then◌else◌, nat_le, length, codes}
+use Rattle.std.specs.Prelude.{ℕ, List, Result, Ok, Err, Option, Some, None, if◌then◌else◌, nat_le, length}
 use Rattle.wf_ast.specs.Tree.{Program}
 use Rattle.wf_first_form.specs.FirstForm.{first_form}
-use Rattle.wf_shared.specs.Events.{Start}
 use Rattle.wf_status.specs.declared.Place.TheVariants.{Source}
 use Rattle.wf_status.specs.declared.Refusal.{Refusal}
 use Rattle.wf_status.specs.declared.RefusalKind.{RefusalKind}
@@ -17,9 +16,5 @@ program_or_refusal None = Err (refused NotYet)
 program_or_refusal (Some p) = Ok p
 
 -- the program of these bytes, or the refusal: they are too long at 131,073, or not of the form
-abbrev pub read_source : List ℕ → Result Program Refusal
+unfoldable pub read_source : List ℕ → Result Program Refusal
 read_source bytes = if nat_le 131073 (length bytes) then Err (refused SourceTooLong) else program_or_refusal (first_form bytes)
-
--- what the run of a source starts with: no argument, and a clock that isn't read yet
-abbrev pub start_of : List ℕ → Start
-start_of bytes = record { rules = 1; id = codes "w0"; source = bytes; argument = codes "null"; routes = []; env = []; base = []; reading = 0 }

@@ -1,11 +1,27 @@
--- What the top call promises: a row for each status, in the order in which causes are looked at.
-use Rattle.std.specs.Prelude.{◌≡◌, ◌⊎◌, ◌<◌, ℕ, List, Some}
-use Rattle.wf_cli.specs.Ends.{Scene, IsBadLine, IsLine, IsRefused, ComesTo, status_of, Gives}
-use Rattle.wf_host.specs.Source.{Rest, WhereTold}
-use Rattle.wf_host.specs.World.{World, Faults, Told, Rose}
-use Rattle.wf_model.specs.Config.{Outcome}
-use Rattle.wf_printing.specs.Printing.{PrintsWhole, LeavesSome, TookNothing}
-use Rattle.wf_status.specs.Statuses.{rank}
+-- What the top call promises: how a command may end, and a row for each status, in the order in which causes are looked at.
+--     Ends          how the call ends, and what it printed
+--     Exactly       a status with its cause and its line
+use Rattle.std.specs.Prelude.{◌≡◌, ◌≢◌, ◌⊎◌, ◌<◌, ℕ, true, false, List, [], ◌∷◌, ◌++◌, Contains, Some, None, Ok, codes, decimal}
+use Rattle.std.specs.List.{AllByRecursion}
+use Rattle.wf_cli.specs.Reports.{the_reports}
+use Rattle.wf_engine.specs.Deeds.{printed}
+use Rattle.wf_engine.specs.Outside.{Outside}
+use Rattle.wf_engine.specs.Printed as end
+use Rattle.wf_engine.specs.Printed.{Scene, uses_journal, executes, status_of, outcome_text}
+use Rattle.wf_engine.specs.Safe.{IsFit, SafeAt}
+use Rattle.wf_engine.specs.TheLanguage.{the_language}
+use Rattle.wf_host.specs.Source.{WhereTold}
+use Rattle.wf_host.specs.World.{World, Faults, Told, LeavesOnly, Rose}
+use Rattle.wf_host.specs.declared.data.Deed.{Deed}
+use Rattle.wf_host.specs.declared.data.Deed.TheVariants.{Print}
+use Rattle.wf_journal.specs.Records.{records}
+use Rattle.wf_line.specs.Lines.{PlainLine}
+use Rattle.wf_line.specs.declared.command.Command.{Command}
+use Rattle.wf_line.specs.declared.command.Command.TheVariants.{Run, Resume}
+use Rattle.wf_model.specs.Config.{Outcome, Active}
+use Rattle.wf_replay.specs.History.{Standing, history}
+use Rattle.wf_status.specs.Refusals.{refusal_text}
+use Rattle.wf_status.specs.Statuses.{line_end, rank}
 use Rattle.wf_status.specs.declared.Refusal.{Refusal}
 use Rattle.wf_status.specs.declared.Status.{Status}
 use Rattle.wf_status.specs.declared.Status.TheVariants as status
@@ -21,44 +37,171 @@ pub record Call : Type 1 where
   pub faults_new : Faults
   pub status : Status
 
-abbrev pub scene : List (List ℕ) → Rest → Scene
-scene words source = record { words = words; source = source }
+-- ## Causes, in this language
+abbrev pub IsLine : Scene → PlainLine → Type 0
+IsLine s l = end.IsLine the_language the_reports s l
 
-abbrev pub called : List (List ℕ) → Rest → World → World → ℕ → ℕ → Faults → Faults → Status → Call
-called words source old new reads reads2 faults faults2 st = record {
-  scene = scene words source;
-  old = old;
-  new = new;
-  reads_old = reads;
-  reads_new = reads2;
-  faults_old = faults;
-  faults_new = faults2;
-  status = st;
-}
+abbrev pub IsBadLine : Scene → ℕ → Type 0
+IsBadLine s n = end.IsBadLine the_language the_reports s n
 
--- nothing was done
-abbrev pub IsSilent : Call → Type 0
-IsSilent x = Told x.old (x.new.deeds ≡ x.old.deeds)
+abbrev pub IsLineOf : Scene → (Command → Type 0) → Type 0
+IsLineOf s P = end.IsLineOf the_language the_reports s P
 
--- The call ends in one of four ways: with a status and its text printed whole; with a text of which some is left, since a print failed
--- or took nothing; without a source, since a read failed; or without memory. Nothing else is printed.
-pub data Ends (x : Call) : Type 0 where
-  said : (text : List ℕ) → Gives x.scene x.status text → Told x.old (PrintsWhole x.old x.new text) → Ends x
-  cut : (st : Status) (text : List ℕ) → x.status ≡ status.PrintFault → Gives x.scene st text
-      → Rose x.faults_old.print x.faults_new.print ⊎ Told x.old (TookNothing x.old x.new) → Told x.old (LeavesSome x.old x.new text) → Ends x
-  unread : x.status ≡ status.ReadFault → IsLine x.scene → Rose x.reads_old x.reads_new → IsSilent x → Ends x
-  no_memory : x.status ≡ status.OutOfMemory → IsSilent x → Ends x
+abbrev pub IsRefused : Scene → Refusal → Type 0
+IsRefused s r = end.IsRefused the_language the_reports s r
 
--- it is this status, or an earlier cause came, or the text wasn't printed whole, or memory ran out
-abbrev pub IsOrYields : Call → Status → Type 0
-IsOrYields x st = (x.status ≡ st) ⊎ (rank x.status < rank st) ⊎ (x.status ≡ status.PrintFault) ⊎ (x.status ≡ status.OutOfMemory)
+abbrev pub HasOtherMagic : Scene → Type 0
+HasOtherMagic s = end.HasOtherMagic the_language the_reports s
 
--- ## Each cause has its status
-abbrev pub BadLineRow : Call → Type 0
-BadLineRow x = (n : ℕ) → IsBadLine x.scene n → IsOrYields x (status.BadLine n)
+abbrev pub IsStarted : Scene → Type 0
+IsStarted s = end.IsStarted the_language the_reports s
 
-abbrev pub RefusedRow : Call → Type 0
-RefusedRow x = WhereTold x.scene.source ((r : Refusal) → IsRefused x.scene r → IsOrYields x (status.Refused r))
+abbrev pub IsNotStarted : Scene → Type 0
+IsNotStarted s = end.IsNotStarted the_language the_reports s
 
-abbrev pub OutcomeRow : Call → Type 0
-OutcomeRow x = WhereTold x.scene.source ((o : Outcome) (st : Status) → status_of o ≡ Some st → ComesTo x.scene o → IsOrYields x st)
+abbrev pub IsNoHistory : Scene → ℕ → Type 0
+IsNoHistory s n = end.IsNoHistory the_language the_reports s n
+
+abbrev pub HasOutcome : Scene → List ℕ → Outcome → Type 0
+HasOutcome s image o = end.HasOutcome the_language the_reports s image o
+
+abbrev pub Reported : Scene → List ℕ → Type 0
+Reported s text = end.Reported the_language the_reports s text
+
+abbrev pub Gives : Scene → List ℕ → Status → List ℕ → Type 0
+Gives s image st text = end.Gives the_language the_reports s image st text
+
+-- a deed that prints
+abbrev pub IsPrint : Deed → Type 0
+IsPrint (Print b) = Unit {0}
+IsPrint d = ⊥
+
+-- where the source tells, it isn't refused
+abbrev pub IsAccepted : Scene → Type 0
+IsAccepted s = WhereTold s.source ((r : Refusal) → ¬ IsRefused s r)
+
+-- ## What a command has to say
+-- a status that the file decides
+abbrev pub IsOfFile : Status → Type 0
+IsOfFile st = (st ≡ status.NotAJournal) ⊎ (st ≡ status.AlreadyStarted) ⊎ (st ≡ status.NotStarted) ⊎ ((n : ℕ) × (st ≡ status.NotAHistory n)) ⊎ (st ≡ status.Done) ⊎ (st ≡ status.Raised)
+
+-- the causes of the file that are looked at before this status didn't come
+pub record IsPassed (s : Scene) (st : Status) : Type 0 where
+  pub magic : rank status.NotAJournal < rank st → ¬ HasOtherMagic s
+  pub started : rank status.AlreadyStarted < rank st → ¬ IsStarted s
+  pub not_started : rank status.NotStarted < rank st → ¬ IsNotStarted s
+  pub history : (n : ℕ) → rank (status.NotAHistory n) < rank st → ¬ IsNoHistory s n
+
+-- a status and its text, for the file that the call leaves
+pub data Says (s : Scene) (old new : World) : Status → List ℕ → Type 0 where
+  bad_line : (n : ℕ) → IsBadLine s n → Says s old new (status.BadLine n) (line_end (codes "bad line at word " ++ decimal n))
+  refused : (r : Refusal) → IsRefused s r → Says s old new (status.Refused r) (line_end (refusal_text r))
+  reported : (text : List ℕ) → Reported s text → Says s old new status.Done text
+  of_file : (st : Status) (text : List ℕ) → IsOfFile st → IsLineOf s (λ c. executes c ≡ true) → IsAccepted s → Told old (Gives s new.seen st text × IsPassed s st) → Says s old new st text
+
+-- ## How the call ends
+module _ (x : Call) where
+  -- the deeds of this call
+  abbrev pub Deeds : (List Deed → Type 0) → Type 0
+  Deeds P = (D : List Deed) × (x.new.deeds ≡ x.old.deeds ++ D) × P D
+
+  -- just this was printed
+  abbrev pub Prints : List ℕ → Type 0
+  Prints text = Told x.old (Deeds (λ D. printed D ≡ text))
+
+  -- a front of the text was printed, and at least one byte of it wasn't
+  abbrev pub PrintsSome : List ℕ → Type 0
+  PrintsSome text = Told x.old (Deeds (λ D. (b : ℕ) × (rest : List ℕ) × (text ≡ printed D ++ b ∷ rest)))
+
+  -- a print took no byte
+  abbrev pub TookNothing : Type 0
+  TookNothing = Told x.old (Deeds (λ D. Contains D (Print [])))
+
+  -- The call ends in one of five ways: with a status and its text printed whole; with a text of which some is left, since a print failed or
+  -- took nothing; without a source, since a read failed; without the file, since the disk failed; or without memory.
+  pub data Ends : Type 0 where
+    said : (text : List ℕ) → Says x.scene x.old x.new x.status text → Prints text → Ends
+    cut : (st : Status) (text : List ℕ) → x.status ≡ status.PrintFault → Says x.scene x.old x.new st text → Rose x.faults_old.print x.faults_new.print ⊎ TookNothing → PrintsSome text → Ends
+    unread : x.status ≡ status.ReadFault → IsLineOf x.scene (λ c. c ≡ Run) → Rose x.reads_old x.reads_new → Prints [] → Ends
+    failed : x.status ≡ status.DiskFault → IsLineOf x.scene (λ c. executes c ≡ true) → IsAccepted x.scene → Rose x.faults_old.disk x.faults_new.disk → Prints [] → Ends
+    no_memory : x.status ≡ status.OutOfMemory → Prints [] → Ends
+
+  -- it is this status, or an earlier cause came, or the text wasn't printed whole, or memory ran out
+  abbrev pub IsOrYields : Status → Type 0
+  IsOrYields st = (x.status ≡ st) ⊎ (rank x.status < rank st) ⊎ (x.status ≡ status.PrintFault) ⊎ (x.status ≡ status.OutOfMemory)
+
+  -- the status comes exactly where the cause holds, and then this line was printed whole
+  pub record Exactly (st : Status) (cause : Type 0) (text : List ℕ) : Type 0 where
+    pub comes : x.status ≡ st → cause
+    pub only : cause → IsOrYields st
+    pub prints : x.status ≡ st → Prints text
+
+  -- ## The rows, in the order of `rank`
+  abbrev pub BadLineRow : Type 0
+  BadLineRow = (n : ℕ) → Exactly (status.BadLine n) (IsBadLine x.scene n) (line_end (codes "bad line at word " ++ decimal n))
+
+  abbrev pub ReadFaultRow : Type 0
+  ReadFaultRow = x.status ≡ status.ReadFault → Rose x.reads_old x.reads_new
+
+  abbrev pub RefusedRow : Type 0
+  RefusedRow = WhereTold x.scene.source ((r : Refusal) → Exactly (status.Refused r) (IsRefused x.scene r) (line_end (refusal_text r)))
+
+  abbrev pub DiskFaultRow : Type 0
+  DiskFaultRow = x.status ≡ status.DiskFault → Rose x.faults_old.disk x.faults_new.disk
+
+  abbrev pub NotAJournalRow : Type 0
+  NotAJournalRow = Exactly status.NotAJournal (HasOtherMagic x.scene) (line_end (codes "not a journal"))
+
+  abbrev pub AlreadyStartedRow : Type 0
+  AlreadyStartedRow = Exactly status.AlreadyStarted (IsStarted x.scene) (line_end (codes "already started"))
+
+  abbrev pub NotStartedRow : Type 0
+  NotStartedRow = Exactly status.NotStarted (IsNotStarted x.scene) (line_end (codes "not started"))
+
+  abbrev pub NotAHistoryRow : Type 0
+  NotAHistoryRow = (n : ℕ) → Exactly (status.NotAHistory n) (IsNoHistory x.scene n) (line_end (codes "not a history at record " ++ decimal n))
+
+  -- of a command that executes: the outcome that the journal has at the end
+  pub record OutcomeRow : Type 0 where
+    pub comes : IsLineOf x.scene (λ c. executes c ≡ true) → (x.status ≡ status.Done) ⊎ (x.status ≡ status.Raised)
+        → (o : Outcome) × HasOutcome x.scene x.new.seen o × (status_of o ≡ Some x.status) × Prints (outcome_text o)
+    pub only : (o : Outcome) (st : Status) → status_of o ≡ Some st → HasOutcome x.scene x.new.seen o → IsOrYields st
+
+  -- of another command: its report
+  pub record DoneRow : Type 0 where
+    pub comes : IsLineOf x.scene (λ c. executes c ≡ false) → x.status ≡ status.Done → (text : List ℕ) × Reported x.scene text × Prints text
+    pub only : (text : List ℕ) → Reported x.scene text → IsOrYields status.Done
+
+  abbrev pub PrintFaultRow : Type 0
+  PrintFaultRow = x.status ≡ status.PrintFault → Rose x.faults_old.print x.faults_new.print ⊎ TookNothing
+
+  -- a status of another part never comes
+  abbrev pub OnlyThese : Type 0
+  OnlyThese = (x.status ≢ status.BadArgument) × (x.status ≢ status.PollFault) × (x.status ≢ status.Suspended)
+
+  -- ## What isn't written
+  -- a crash leaves what one at entry may, and the file reads as it did
+  abbrev pub WritesNothing : Type 0
+  WritesNothing = LeavesOnly x.old x.new (λ c d. x.old.may_leave c) × (x.new.seen ≡ x.old.seen)
+
+  -- a finished journal isn't written, and nothing but prints is done
+  abbrev pub FinishedStays : Type 0
+  FinishedStays = (s : Standing) → IsLineOf x.scene (λ c. c ≡ Resume) → history the_language (records x.scene.found) ≡ Ok s → s.config.outcome ≢ Active
+      → WritesNothing × Deeds (λ D. AllByRecursion IsPrint D)
+
+  -- a journal that is refused isn't written
+  abbrev pub RefusedStays : Type 0
+  RefusedStays = (HasOtherMagic x.scene ⊎ IsStarted x.scene ⊎ IsNotStarted x.scene ⊎ ((n : ℕ) × IsNoHistory x.scene n)) → WritesNothing
+
+  -- a command that executes nothing doesn't write
+  abbrev pub ReportsStay : Type 0
+  ReportsStay = IsLineOf x.scene (λ c. executes c ≡ false) → WritesNothing
+
+  -- ## Crashes
+  -- a crash at any moment leaves a file that is safe with what was done by then, whatever heard bytes come to
+  abbrev pub SafeThroughout : Type 0
+  SafeThroughout = IsFit the_language x.scene.found → (O : Outside) → LeavesOnly x.old x.new (SafeAt the_language O the_reports x.scene None x.old)
+
+  -- and so does one behind its end
+  abbrev pub SafeAtEnd : Type 0
+  SafeAtEnd = IsFit the_language x.scene.found → (O : Outside) (image : List ℕ) → x.new.may_leave image → SafeAt the_language O the_reports x.scene (Some x.status) x.old image x.new.deeds

@@ -1,98 +1,190 @@
-// The execution of a program, from its start to its outcome.
-ghost use Rattle.std.specs.Prelude.{◌≡◌, ◌≤◌, true, false, IfOk, OnOk};
+// Executions, from their start or from what stands in a journal, to their outcome.
+ghost use Rattle.std.specs.Prelude.{◌≡◌, ◌≤◌, ◌∷◌, false, ℕ, List, Ok, IfOk, IsErrOf, IsUtf8, codes, decimal, length, unwrap_or};
 ghost use Rattle.wf_ast.specs.View.{program_view};
-ghost use Rattle.wf_cli.specs.Ends.{outcome_text};
-ghost use Rattle.wf_cli.specs.Said.{SaysOutcome, SaysTheOutcome};
-ghost use Rattle.wf_cli.specs.Source.{start_of};
+ghost use Rattle.wf_cli.specs.Said.{Going, IsEnd, Opening, SaysResult, Worked};
+ghost use Rattle.wf_cli.specs.Source.{read_source};
+ghost use Rattle.wf_cli.specs.Top.{IsLineOf};
+ghost use Rattle.wf_engine.specs.Engine.{memory, is_closed, Holds, StandsFor};
+ghost use Rattle.wf_engine.specs.Kept as kept;
+ghost use Rattle.wf_engine.specs.Safe.{scene};
+ghost use Rattle.wf_engine.specs.Starts.{start_of};
+ghost use Rattle.wf_events.specs.Records.{Started};
+ghost use Rattle.wf_events.specs.Spelling.{record_bytes, HasSpelling};
 ghost use Rattle.wf_events.specs.View.{start_view};
-ghost use Rattle.wf_machine.specs.Lent.{outcome_view};
-ghost use Rattle.wf_machine.specs.Outcome.{IsResult, IsShallow, LeadsTo};
-ghost use Rattle.wf_machine.specs.Seen.{state_of};
-ghost use Rattle.wf_machine.specs.Straight.{is_straight, reads_no_clock};
-ghost use Rattle.wf_status.specs.Statuses.{line_end};
-ghost use Rattle.wf_value.specs.Data.{depth};
-ghost use Rattle.wf_value.specs.Json.{json_text};
-ghost use Rattle.wf_value.specs.Plain.{plain};
+ghost use Rattle.wf_host.specs.Source.{Rest, IsFirst};
+ghost use Rattle.wf_host.specs.World.{NoneFell, Rose, Told};
+ghost use Rattle.wf_host.specs.declared.data.Deed.{Deed};
+ghost use Rattle.wf_journal.specs.Records.{records};
+ghost use Rattle.wf_line.specs.Lines.{line_of, word_of};
+ghost use Rattle.wf_line.specs.Plain.{plain_line};
+ghost use Rattle.wf_line.specs.declared.command.Command.TheVariants.{Run, Resume};
+ghost use Rattle.wf_line.specs.declared.option.OptionName.TheVariants.{Id};
 
-use crate::end::Said;
+use crate::end::{Said, Silence};
+use crate::sources::{SOURCE_LIMIT, read_program};
 use std::alloc::Global;
 use wf_ast::Program;
-use wf_events::{Pairs, Start};
-use wf_host::Routes;
-use wf_machine::{ApplyFault, Machine, Outcome};
-use wf_status::Status;
-use wf_value::{Bytes, OutOfMemory, Text, Value, to_json};
+use wf_engine::{Engine, EngineFault, laws_of_rules};
+use wf_events::{Pairs, Start, one_spelling};
+use wf_host::{Host, Routes, Source, read_up_to};
+use wf_line::Line;
+use wf_replay::laws_of_histories;
+use wf_status::{Place, Refusal, Status};
+use wf_value::{Bytes, OutOfMemory, Text};
+
+/// A text of these characters, which are told to be UTF-8.
+fn utf8_text(alloc: Global, text: &str) -> Result<Text, OutOfMemory>
+    ensures same { IfOk result (λ t. t ≡ text.now) }
+    ensures utf8 { IfOk result (λ t. IsUtf8 t) }
+{
+    let _bytes = text.as_bytes();
+    Text::new(alloc, text)
+}
+
+/// The id of an execution: the line's, or else `w` and the first reading of the clock in decimal.
+fn id_for(alloc: Global, line: &Line<'_>, reading: u64) -> Result<Text, OutOfMemory>
+    ensures id { IfOk result (λ t. t ≡ unwrap_or (word_of Id (plain_line line.now)) (119 ∷ decimal reading)) }
+    ensures text { IfOk result (λ t. IsUtf8 t) }
+    ensures short { IfOk result (λ t. length t ≤ 64) }
+{
+    if let Some(id) = line.id() {
+        return utf8_text(alloc, id);
+    }
+    match format!(in alloc; "w{reading}") {
+        Ok(id) => utf8_text(alloc, id.as_str()),
+        Err(_) => Err(OutOfMemory),
+    }
+}
 
 /// What an execution of the source is started with.
-fn start_for(alloc: Global, source: &[u8]) -> Result<Start, OutOfMemory>
-    ensures { IfOk result (λ s. start_view s ≡ start_of source.now) }
+fn start_for(
+    alloc: Global,
+    line: &Line<'_>,
+    source: &[u8],
+    reading: u64,
+) -> Result<Start, OutOfMemory>
+    requires short { length source.now ≤ 131072 }
+    ensures start { IfOk result (λ s. start_view s ≡ start_of (plain_line line.now) source.now reading) }
+    ensures spelled { IfOk result (λ s. HasSpelling (Started (start_view s))) }
+    ensures fits { IfOk result (λ s. length (record_bytes (Started (start_view s))) ≤ 16777215) }
 {
     Ok(Start {
-        id: Text::new(alloc, "w0")?,
+        id: id_for(alloc, line, reading)?,
         source: Bytes::new(alloc, source)?,
         argument: Bytes::new(alloc, b"null")?,
         routes: Routes::new(alloc),
         env: Pairs::new(alloc),
         base: Text::new(alloc, "")?,
-        reading: 0,
+        reading,
     })
 }
 
-/// Applies the chosen events until none is left.
-fn run_to_end(machine: &mut Machine) -> Result<(), OutOfMemory>
-    requires { (state_of machine.old).broken ≡ false }
-    ensures leads { OnOk result (LeadsTo (state_of machine.old).program (state_of machine.old).config (state_of machine.new).config) }
-    ensures result { OnOk result (IsResult (state_of machine.new).config.outcome) }
+/// Reads the clock, and begins an execution of the source, which has this program.
+fn begin<H: Host>(
+    alloc: Global,
+    line: &Line<'_>,
+    source: &[u8],
+    program: Program,
+    host: &mut H,
+) -> Result<Engine, EngineFault>
+    requires command { (plain_line line.now).command ≡ Run }
+    requires program { read_source source.now ≡ Ok (program_view program) }
+    ensures opening { Told (H.world host.old) ((words : List (List ℕ)) (rest : Rest) → line_of words ≡ Ok (plain_line line.now) → IsFirst 131073 rest source.now
+        → Opening kept.Run (scene words rest (H.world host.old)) (H.world host.old) (H.world host.new) result) }
+    ensures holds { Told (H.world host.old) (IfOk result (λ e. Holds e (H.world host.new))) }
+    ensures open { IfOk result (λ e. is_closed e ≡ false) }
+    ensures disk_fault { IsErrOf result EngineFault.DiskFault → Rose (H.faults host.old).disk (H.faults host.new).disk }
+    ensures tells { (H.world host.new).tells ≡ (H.world host.old).tells }
+    ensures counts { NoneFell (H.faults host.old) (H.faults host.new) }
 {
-    while let Some(event) = machine.choose(machine.last_reading()) {
-        match machine.apply(&event) {
-            Ok(()) => {}
-            Err(ApplyFault::OutOfMemory) => return Err(OutOfMemory),
-            Err(ApplyFault::NotEnabled) => unreachable!(),
-        }
-    }
-    Ok(())
+    laws_of_histories();
+    laws_of_rules();
+    one_spelling();
+    let reading = host.now()?;
+    let start = start_for(alloc, line, source, reading)?;
+    Engine::begin(alloc, host, &start, program)
 }
 
-/// A value as a line of JSON.
-fn json_line(alloc: Global, value: &Value) -> Result<Vec<u8>, OutOfMemory>
-    requires { depth (plain value.now) ≤ 100 }
-    ensures { IfOk result (λ text. text.items ≡ line_end (json_text (plain value.now))) }
+/// Goes on to the outcome, and tells it.
+fn to_outcome<H: Host>(alloc: Global, engine: Engine, host: &mut H) -> Result<Said, Silence>
+    requires open { is_closed engine ≡ false }
+    requires holds { Told (H.world host.old) (Holds engine (H.world host.old)) }
+    ensures says { SaysResult (H.faults host.old) (H.faults host.new) result }
+    ensures going { Told (H.world host.old) ((command : kept.Command) (D : List Deed) → StandsFor command (memory engine) (records (H.world host.old).seen) D
+        → Going command (memory engine) D (H.world host.old) (H.world host.new) result) }
+    ensures tells { (H.world host.new).tells ≡ (H.world host.old).tells }
+    ensures counts { NoneFell (H.faults host.old) (H.faults host.new) }
 {
-    let mut text = to_json(alloc, value)?;
-    match text.push(b'\n') {
-        Ok(()) => Ok(text),
-        Err(_) => Err(OutOfMemory),
-    }
-}
-
-/// The status and the line of an outcome.
-fn said_of(alloc: Global, outcome: Outcome<'_>) -> Result<Said, OutOfMemory>
-    requires result { IsResult (outcome_view outcome) }
-    requires shallow { IsShallow (outcome_view outcome) }
-    ensures { IfOk result (λ said. SaysOutcome said (outcome_view outcome.entry)) }
-{
-    match outcome {
-        Outcome::Returned(value) => Ok(Said {
-            status: Status::Done,
-            text: json_line(alloc, value)?,
-        }),
-        Outcome::Raised(error) => Ok(Said {
-            status: Status::Raised,
-            text: json_line(alloc, error)?,
-        }),
-        Outcome::Active => unreachable!(),
+    let mut engine = engine;
+    match engine.session(host) {
+        Ok(()) => Ok(Said::outcome(alloc, engine.machine().outcome())?),
+        Err(fault) => Said::of_fault(alloc, fault),
     }
 }
 
-/// Runs the program of the source, and tells its outcome.
-pub(crate) fn execute(alloc: Global, source: &[u8], program: Program) -> Result<Said, OutOfMemory>
-    requires straight { is_straight (program_view program) ≡ true }
-    requires untimed { reads_no_clock (program_view program) ≡ true }
-    ensures { IfOk result (SaysTheOutcome (program_view program) (start_of source.now)) }
+/// Starts an execution of a source, which has this program, and goes on to its outcome.
+fn run_program<H: Host>(
+    alloc: Global,
+    line: &Line<'_>,
+    source: &[u8],
+    program: Program,
+    host: &mut H,
+) -> Result<Said, Silence>
+    requires command { (plain_line line.now).command ≡ Run }
+    requires program { read_source source.now ≡ Ok (program_view program) }
+    ensures end { (words : List (List ℕ)) (rest : Rest) (reads reads2 : ℕ) → line_of words ≡ Ok (plain_line line.now) → IsFirst 131073 rest source.now
+        → IsEnd (scene words rest (H.world host.old)) (H.world host.old) (H.world host.new) reads reads2 (H.faults host.old) (H.faults host.new) result }
+    ensures worked { Told (H.world host.old) ((words : List (List ℕ)) (rest : Rest) → line_of words ≡ Ok (plain_line line.now) → IsFirst 131073 rest source.now
+        → Worked (scene words rest (H.world host.old)) (H.world host.old) (H.world host.new) result) }
+    ensures tells { (H.world host.new).tells ≡ (H.world host.old).tells }
+    ensures counts { NoneFell (H.faults host.old) (H.faults host.new) }
 {
-    let start = start_for(alloc, source)?;
-    let mut machine = Machine::new(alloc, &start, program)?;
-    run_to_end(&mut machine)?;
-    said_of(alloc, machine.outcome())
+    match begin(alloc, line, source, program, host) {
+        Ok(engine) => to_outcome(alloc, engine, host),
+        Err(fault) => Said::of_fault(alloc, fault),
+    }
+}
+
+/// Reads the source, starts an execution of it and goes on to its outcome.
+pub(crate) fn run<S: Source, H: Host>(
+    alloc: Global,
+    line: &Line<'_>,
+    source: &mut S,
+    host: &mut H,
+) -> Result<Said, Silence>
+    requires command { (plain_line line.now).command ≡ Run }
+    ensures end { (words : List (List ℕ)) → line_of words ≡ Ok (plain_line line.now)
+        → IsEnd (scene words (S.left source.old) (H.world host.old)) (H.world host.old) (H.world host.new) (S.faults source.old) (S.faults source.new) (H.faults host.old) (H.faults host.new) result }
+    ensures worked { Told (H.world host.old) ((words : List (List ℕ)) → line_of words ≡ Ok (plain_line line.now)
+        → Worked (scene words (S.left source.old) (H.world host.old)) (H.world host.old) (H.world host.new) result) }
+    ensures tells { (H.world host.new).tells ≡ (H.world host.old).tells }
+    ensures reads { S.faults source.old ≤ S.faults source.new }
+    ensures counts { NoneFell (H.faults host.old) (H.faults host.new) }
+{
+    let bytes = read_up_to(alloc, source, SOURCE_LIMIT + 1)?;
+    match read_program(alloc, bytes.as_slice())? {
+        Ok(program) => run_program(alloc, line, bytes.as_slice(), program, host),
+        Err(kind) => Ok(Said::line(
+            alloc,
+            Status::Refused(Refusal {
+                kind,
+                place: Place::Source,
+            }),
+        )?),
+    }
+}
+
+/// Goes on with the execution of the journal to its outcome.
+pub(crate) fn resume<H: Host>(alloc: Global, host: &mut H) -> Result<Said, Silence>
+    ensures end { (words : List (List ℕ)) (rest : Rest) (reads reads2 : ℕ) → IsLineOf (scene words rest (H.world host.old)) (λ c. c ≡ Resume)
+        → IsEnd (scene words rest (H.world host.old)) (H.world host.old) (H.world host.new) reads reads2 (H.faults host.old) (H.faults host.new) result }
+    ensures worked { Told (H.world host.old) ((words : List (List ℕ)) (rest : Rest) → IsLineOf (scene words rest (H.world host.old)) (λ c. c ≡ Resume)
+        → Worked (scene words rest (H.world host.old)) (H.world host.old) (H.world host.new) result) }
+    ensures tells { (H.world host.new).tells ≡ (H.world host.old).tells }
+    ensures counts { NoneFell (H.faults host.old) (H.faults host.new) }
+{
+    match Engine::open(alloc, host) {
+        Ok(engine) => to_outcome(alloc, engine, host),
+        Err(fault) => Said::of_fault(alloc, fault),
+    }
 }

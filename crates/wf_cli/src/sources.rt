@@ -12,6 +12,7 @@ use wf_value::OutOfMemory;
 pub(crate) const SOURCE_LIMIT: usize = 131_072;
 
 /// The program of a source, or why it is refused.
+#[tactic(auto, unfolding(crate::specs::Source::read_source))]
 pub(crate) fn read_program(
     alloc: Global,
     source: &[u8],

@@ -1,50 +1,30 @@
 // The top call.
-ghost use Rattle.std.specs.Prelude.{◌≡◌, ◌≤◌};
-ghost use Rattle.wf_cli.specs.Top.{BadLineRow, Ends, OutcomeRow, RefusedRow, called};
-ghost use Rattle.wf_host.specs.World.{LeavesOnly, NoneFell, Told};
-ghost use Rattle.wf_status.specs.Lines.{words_view};
+ghost use Rattle.std.specs.Prelude.{◌≡◌, ◌≤◌, ℕ, List, Ok};
+ghost use Rattle.wf_cli.specs.Calls.{called};
+ghost use Rattle.wf_cli.specs.Said.{IsEnd, Printing, SaysBadLine, SaysReport, Tells, Worked, text_of};
+ghost use Rattle.wf_cli.specs.Top.{Ends, BadLineRow, ReadFaultRow, RefusedRow, DiskFaultRow, NotAJournalRow, AlreadyStartedRow, NotStartedRow, NotAHistoryRow, OutcomeRow, DoneRow, PrintFaultRow, OnlyThese, FinishedStays, RefusedStays, ReportsStay, SafeThroughout, SafeAtEnd};
+ghost use Rattle.wf_engine.specs.Safe.{scene};
+ghost use Rattle.wf_host.specs.World.{NoneFell, Told};
+ghost use Rattle.wf_line.specs.Lines.{line_of, words_view};
+ghost use Rattle.wf_line.specs.Plain.{plain_line};
 
-use crate::command::command;
-use crate::end::Silence;
+use crate::end::{Said, Silence};
+use crate::execution::{resume, run};
 use std::alloc::Global;
+use wf_engine::laws_of_rules;
 use wf_host::{Host, Source};
+use wf_line::{Command, Line, LineFault, help_text, read_line, version_text};
 use wf_printing::print_all;
 use wf_status::Status;
 
-/// Does what the words of a command line say, prints what it comes to, and returns the status.
-/// `words` are those behind the program's name.
-///
-/// `run` reads the source to its end and runs its program to its outcome: a value prints as a line
-/// of JSON with [`Status::Done`], an error with [`Status::Raised`]. A line that is none prints where
-/// it goes wrong with [`Status::BadLine`]; a source that is longer than 131,072 bytes or not of the
-/// form that is run so far prints why with [`Status::Refused`]. Where the source can't be read the
-/// status is [`Status::ReadFault`], where a print fails or takes nothing [`Status::PrintFault`], and
-/// where memory runs out [`Status::OutOfMemory`].
-pub fn run_line<S: Source, H: Host>(
-    alloc: Global,
-    words: &[String],
-    source: &mut S,
-    host: &mut H,
-) -> Status
-    // it is the status of what the words and the source come to, and exactly that was printed
-    ensures ends { Ends (called (words_view words.now) (S.left source.old) (H.world host.old) (H.world host.new)
-        (S.faults source.old) (S.faults source.new) (H.faults host.old) (H.faults host.new) result) }
-    // each cause has its status, but where an earlier one is told, the text isn't printed whole or memory runs out
-    ensures bad_line { BadLineRow (called (words_view words.now) (S.left source.old) (H.world host.old) (H.world host.new)
-        (S.faults source.old) (S.faults source.new) (H.faults host.old) (H.faults host.new) result) }
-    ensures refused { RefusedRow (called (words_view words.now) (S.left source.old) (H.world host.old) (H.world host.new)
-        (S.faults source.old) (S.faults source.new) (H.faults host.old) (H.faults host.new) result) }
-    ensures outcome { OutcomeRow (called (words_view words.now) (S.left source.old) (H.world host.old) (H.world host.new)
-        (S.faults source.old) (S.faults source.new) (H.faults host.old) (H.faults host.new) result) }
-    // the file stays, and a crash at any moment leaves what one at entry may
-    ensures file { Told (H.world host.old) ((H.world host.new).seen ≡ (H.world host.old).seen) }
-    ensures any_moment { Told (H.world host.old) (LeavesOnly (H.world host.old) (H.world host.new)
-        (λ c d. (H.world host.old).may_leave c)) }
+/// Prints what a command has to say, and gives the status.
+fn tell<H: Host>(host: &mut H, said: Result<Said, Silence>) -> Status
+    ensures ends { Tells said (H.world host.old) (H.world host.new) (H.faults host.old) (H.faults host.new) result }
+    ensures printing { Told (H.world host.old) (Printing (text_of said) (H.world host.old) (H.world host.new)) }
     ensures tells { (H.world host.new).tells ≡ (H.world host.old).tells }
-    ensures reads { S.faults source.old ≤ S.faults source.new }
     ensures counts { NoneFell (H.faults host.old) (H.faults host.new) }
 {
-    match command(alloc, words, source) {
+    match said {
         Ok(said) => {
             if print_all(host, said.text.as_slice()) {
                 said.status
@@ -53,6 +33,177 @@ pub fn run_line<S: Source, H: Host>(
             }
         }
         Err(Silence::Unread) => Status::ReadFault,
+        Err(Silence::DiskFault) => Status::DiskFault,
         Err(Silence::OutOfMemory) => Status::OutOfMemory,
+    }
+}
+
+/// A text of the program, to be printed.
+fn report(alloc: Global, text: &str) -> Result<Said, Silence>
+    ensures { SaysReport text.now result }
+{
+    Ok(Said::report(alloc, text)?)
+}
+
+/// What is told of words that are no line.
+fn bad_line(alloc: Global, fault: LineFault) -> Result<Said, Silence>
+    ensures { SaysBadLine fault result }
+{
+    match fault {
+        LineFault::BadLine(word) => Ok(Said::line(alloc, Status::BadLine(word))?),
+        LineFault::OutOfMemory => Err(Silence::OutOfMemory),
+    }
+}
+
+/// Does what a line says, up to what is to be printed.
+fn execute<S: Source, H: Host>(
+    alloc: Global,
+    line: &Line<'_>,
+    source: &mut S,
+    host: &mut H,
+) -> Result<Said, Silence>
+    ensures end { (words : List (List ℕ)) → line_of words ≡ Ok (plain_line line.now)
+        → IsEnd (scene words (S.left source.old) (H.world host.old)) (H.world host.old) (H.world host.new) (S.faults source.old) (S.faults source.new) (H.faults host.old) (H.faults host.new) result }
+    ensures worked { Told (H.world host.old) ((words : List (List ℕ)) → line_of words ≡ Ok (plain_line line.now)
+        → Worked (scene words (S.left source.old) (H.world host.old)) (H.world host.old) (H.world host.new) result) }
+    ensures tells { (H.world host.new).tells ≡ (H.world host.old).tells }
+    ensures reads { S.faults source.old ≤ S.faults source.new }
+    ensures counts { NoneFell (H.faults host.old) (H.faults host.new) }
+{
+    match line.command() {
+        Command::Run => run(alloc, line, source, host),
+        Command::Resume => resume(alloc, host),
+        Command::Help => report(alloc, help_text()),
+        Command::Version => report(alloc, version_text()),
+    }
+}
+
+/// Does what a line says that was read, prints what it comes to, and returns the status, as [`run_line`] does.
+pub fn perform<S: Source, H: Host>(
+    alloc: Global,
+    line: &Line<'_>,
+    source: &mut S,
+    host: &mut H,
+) -> Status
+    // it ends in one of these ways, and exactly that was printed
+    ensures ends { (words : List (List ℕ)) → line_of words ≡ Ok (plain_line line.now) → Ends (called words (S.left source.old) (H.world host.old) (H.world host.new)
+        (S.faults source.old) (S.faults source.new) (H.faults host.old) (H.faults host.new) result) }
+    // each status comes exactly where its cause holds, and then its line was printed whole
+    ensures read_fault { (words : List (List ℕ)) → line_of words ≡ Ok (plain_line line.now) → ReadFaultRow (called words (S.left source.old) (H.world host.old) (H.world host.new)
+        (S.faults source.old) (S.faults source.new) (H.faults host.old) (H.faults host.new) result) }
+    ensures refused { (words : List (List ℕ)) → line_of words ≡ Ok (plain_line line.now) → RefusedRow (called words (S.left source.old) (H.world host.old) (H.world host.new)
+        (S.faults source.old) (S.faults source.new) (H.faults host.old) (H.faults host.new) result) }
+    ensures disk_fault { (words : List (List ℕ)) → line_of words ≡ Ok (plain_line line.now) → DiskFaultRow (called words (S.left source.old) (H.world host.old) (H.world host.new)
+        (S.faults source.old) (S.faults source.new) (H.faults host.old) (H.faults host.new) result) }
+    ensures not_a_journal { Told (H.world host.old) ((words : List (List ℕ)) → line_of words ≡ Ok (plain_line line.now) → NotAJournalRow (called words (S.left source.old) (H.world host.old) (H.world host.new)
+        (S.faults source.old) (S.faults source.new) (H.faults host.old) (H.faults host.new) result)) }
+    ensures already_started { Told (H.world host.old) ((words : List (List ℕ)) → line_of words ≡ Ok (plain_line line.now) → AlreadyStartedRow (called words (S.left source.old) (H.world host.old) (H.world host.new)
+        (S.faults source.old) (S.faults source.new) (H.faults host.old) (H.faults host.new) result)) }
+    ensures not_started { Told (H.world host.old) ((words : List (List ℕ)) → line_of words ≡ Ok (plain_line line.now) → NotStartedRow (called words (S.left source.old) (H.world host.old) (H.world host.new)
+        (S.faults source.old) (S.faults source.new) (H.faults host.old) (H.faults host.new) result)) }
+    ensures not_a_history { Told (H.world host.old) ((words : List (List ℕ)) → line_of words ≡ Ok (plain_line line.now) → NotAHistoryRow (called words (S.left source.old) (H.world host.old) (H.world host.new)
+        (S.faults source.old) (S.faults source.new) (H.faults host.old) (H.faults host.new) result)) }
+    ensures outcome { Told (H.world host.old) ((words : List (List ℕ)) → line_of words ≡ Ok (plain_line line.now) → OutcomeRow (called words (S.left source.old) (H.world host.old) (H.world host.new)
+        (S.faults source.old) (S.faults source.new) (H.faults host.old) (H.faults host.new) result)) }
+    ensures done { (words : List (List ℕ)) → line_of words ≡ Ok (plain_line line.now) → DoneRow (called words (S.left source.old) (H.world host.old) (H.world host.new)
+        (S.faults source.old) (S.faults source.new) (H.faults host.old) (H.faults host.new) result) }
+    ensures print_fault { (words : List (List ℕ)) → line_of words ≡ Ok (plain_line line.now) → PrintFaultRow (called words (S.left source.old) (H.world host.old) (H.world host.new)
+        (S.faults source.old) (S.faults source.new) (H.faults host.old) (H.faults host.new) result) }
+    ensures only { (words : List (List ℕ)) → line_of words ≡ Ok (plain_line line.now) → OnlyThese (called words (S.left source.old) (H.world host.old) (H.world host.new)
+        (S.faults source.old) (S.faults source.new) (H.faults host.old) (H.faults host.new) result) }
+    // what isn't written
+    ensures finished_stays { Told (H.world host.old) ((words : List (List ℕ)) → line_of words ≡ Ok (plain_line line.now) → FinishedStays (called words (S.left source.old) (H.world host.old) (H.world host.new)
+        (S.faults source.old) (S.faults source.new) (H.faults host.old) (H.faults host.new) result)) }
+    ensures refused_stays { Told (H.world host.old) ((words : List (List ℕ)) → line_of words ≡ Ok (plain_line line.now) → RefusedStays (called words (S.left source.old) (H.world host.old) (H.world host.new)
+        (S.faults source.old) (S.faults source.new) (H.faults host.old) (H.faults host.new) result)) }
+    ensures reports_stay { Told (H.world host.old) ((words : List (List ℕ)) → line_of words ≡ Ok (plain_line line.now) → ReportsStay (called words (S.left source.old) (H.world host.old) (H.world host.new)
+        (S.faults source.old) (S.faults source.new) (H.faults host.old) (H.faults host.new) result)) }
+    // killed at any moment: what a crash may leave is safe with what was done by then
+    ensures safe { Told (H.world host.old) ((words : List (List ℕ)) → line_of words ≡ Ok (plain_line line.now) → SafeThroughout (called words (S.left source.old) (H.world host.old) (H.world host.new)
+        (S.faults source.old) (S.faults source.new) (H.faults host.old) (H.faults host.new) result)) }
+    ensures safe_end { Told (H.world host.old) ((words : List (List ℕ)) → line_of words ≡ Ok (plain_line line.now) → SafeAtEnd (called words (S.left source.old) (H.world host.old) (H.world host.new)
+        (S.faults source.old) (S.faults source.new) (H.faults host.old) (H.faults host.new) result)) }
+    ensures tells { (H.world host.new).tells ≡ (H.world host.old).tells }
+    ensures reads { S.faults source.old ≤ S.faults source.new }
+    ensures counts { NoneFell (H.faults host.old) (H.faults host.new) }
+{
+    laws_of_rules();
+    let said = execute(alloc, line, source, host);
+    tell(host, said)
+}
+
+/// Does what the words of a command line say, prints what it comes to, and returns the status. `words` are those behind the program's
+/// name.
+///
+/// `run` reads the source to its end, begins its execution on the journal, and goes on to the outcome; `resume` goes on with the
+/// execution that stands in the journal. A value prints as a line of JSON with [`Status::Done`], an error with [`Status::Raised`]. The
+/// words `--help` and `--version` alone print a text, with [`Status::Done`]. The causes of the other statuses are looked at in this order:
+///
+/// - [`Status::BadLine`]: the words are no line.
+/// - [`Status::ReadFault`]: a read of the source failed.
+/// - [`Status::Refused`]: the source is longer than 131,072 bytes, or isn't of the form that is run so far.
+/// - [`Status::DiskFault`]: a call of the disk failed.
+/// - [`Status::NotAJournal`]: the file has at least 5 bytes and doesn't begin with `WFJ1`.
+/// - [`Status::AlreadyStarted`]: `run` finds a first record. [`Status::NotStarted`]: `resume` finds none.
+/// - [`Status::NotAHistory`]: `resume` finds records that are no history.
+/// - [`Status::PrintFault`]: a print failed or took nothing. [`Status::OutOfMemory`]: memory ran out.
+///
+/// It may be killed at any moment, also in the middle of a write: what stands in the file then is one run that the language's meaning
+/// allows for the clocks read, or no run yet, and `resume` or `run` can go on from there. What was printed is the front of what the
+/// execution of the file prints.
+pub fn run_line<S: Source, H: Host>(
+    alloc: Global,
+    words: &[String],
+    source: &mut S,
+    host: &mut H,
+) -> Status
+    // it ends in one of these ways, and exactly that was printed
+    ensures ends { Ends (called (words_view words.now) (S.left source.old) (H.world host.old) (H.world host.new)
+        (S.faults source.old) (S.faults source.new) (H.faults host.old) (H.faults host.new) result) }
+    // each status comes exactly where its cause holds, and then its line was printed whole
+    ensures bad_line { BadLineRow (called (words_view words.now) (S.left source.old) (H.world host.old) (H.world host.new)
+        (S.faults source.old) (S.faults source.new) (H.faults host.old) (H.faults host.new) result) }
+    ensures read_fault { ReadFaultRow (called (words_view words.now) (S.left source.old) (H.world host.old) (H.world host.new)
+        (S.faults source.old) (S.faults source.new) (H.faults host.old) (H.faults host.new) result) }
+    ensures refused { RefusedRow (called (words_view words.now) (S.left source.old) (H.world host.old) (H.world host.new)
+        (S.faults source.old) (S.faults source.new) (H.faults host.old) (H.faults host.new) result) }
+    ensures disk_fault { DiskFaultRow (called (words_view words.now) (S.left source.old) (H.world host.old) (H.world host.new)
+        (S.faults source.old) (S.faults source.new) (H.faults host.old) (H.faults host.new) result) }
+    ensures not_a_journal { Told (H.world host.old) (NotAJournalRow (called (words_view words.now) (S.left source.old) (H.world host.old) (H.world host.new)
+        (S.faults source.old) (S.faults source.new) (H.faults host.old) (H.faults host.new) result)) }
+    ensures already_started { Told (H.world host.old) (AlreadyStartedRow (called (words_view words.now) (S.left source.old) (H.world host.old) (H.world host.new)
+        (S.faults source.old) (S.faults source.new) (H.faults host.old) (H.faults host.new) result)) }
+    ensures not_started { Told (H.world host.old) (NotStartedRow (called (words_view words.now) (S.left source.old) (H.world host.old) (H.world host.new)
+        (S.faults source.old) (S.faults source.new) (H.faults host.old) (H.faults host.new) result)) }
+    ensures not_a_history { Told (H.world host.old) (NotAHistoryRow (called (words_view words.now) (S.left source.old) (H.world host.old) (H.world host.new)
+        (S.faults source.old) (S.faults source.new) (H.faults host.old) (H.faults host.new) result)) }
+    ensures outcome { Told (H.world host.old) (OutcomeRow (called (words_view words.now) (S.left source.old) (H.world host.old) (H.world host.new)
+        (S.faults source.old) (S.faults source.new) (H.faults host.old) (H.faults host.new) result)) }
+    ensures done { DoneRow (called (words_view words.now) (S.left source.old) (H.world host.old) (H.world host.new)
+        (S.faults source.old) (S.faults source.new) (H.faults host.old) (H.faults host.new) result) }
+    ensures print_fault { PrintFaultRow (called (words_view words.now) (S.left source.old) (H.world host.old) (H.world host.new)
+        (S.faults source.old) (S.faults source.new) (H.faults host.old) (H.faults host.new) result) }
+    ensures only { OnlyThese (called (words_view words.now) (S.left source.old) (H.world host.old) (H.world host.new)
+        (S.faults source.old) (S.faults source.new) (H.faults host.old) (H.faults host.new) result) }
+    // what isn't written
+    ensures finished_stays { Told (H.world host.old) (FinishedStays (called (words_view words.now) (S.left source.old) (H.world host.old) (H.world host.new)
+        (S.faults source.old) (S.faults source.new) (H.faults host.old) (H.faults host.new) result)) }
+    ensures refused_stays { Told (H.world host.old) (RefusedStays (called (words_view words.now) (S.left source.old) (H.world host.old) (H.world host.new)
+        (S.faults source.old) (S.faults source.new) (H.faults host.old) (H.faults host.new) result)) }
+    ensures reports_stay { Told (H.world host.old) (ReportsStay (called (words_view words.now) (S.left source.old) (H.world host.old) (H.world host.new)
+        (S.faults source.old) (S.faults source.new) (H.faults host.old) (H.faults host.new) result)) }
+    // killed at any moment: what a crash may leave is safe with what was done by then
+    ensures safe { Told (H.world host.old) (SafeThroughout (called (words_view words.now) (S.left source.old) (H.world host.old) (H.world host.new)
+        (S.faults source.old) (S.faults source.new) (H.faults host.old) (H.faults host.new) result)) }
+    ensures safe_end { Told (H.world host.old) (SafeAtEnd (called (words_view words.now) (S.left source.old) (H.world host.old) (H.world host.new)
+        (S.faults source.old) (S.faults source.new) (H.faults host.old) (H.faults host.new) result)) }
+    ensures tells { (H.world host.new).tells ≡ (H.world host.old).tells }
+    ensures reads { S.faults source.old ≤ S.faults source.new }
+    ensures counts { NoneFell (H.faults host.old) (H.faults host.new) }
+{
+    laws_of_rules();
+    match read_line(alloc, words) {
+        Ok(line) => perform(alloc, &line, source, host),
+        Err(fault) => tell(host, bad_line(alloc, fault)),
     }
 }

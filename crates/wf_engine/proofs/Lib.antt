@@ -1,7 +1,17 @@
+mod Added
+mod Beginning
 mod Chosen
+mod Clock
+mod FirstRecords
+pub mod Forms
 mod LivesKept
 mod LivesRuns
 mod Moves
+mod NewSessions
 mod Quiet
 mod Readings
+mod Reopened
+mod Sessions
 mod Splits
+mod StillOpen
+mod Turning

@@ -7,3 +7,8 @@ pub mod Printed
 pub mod Safe
 pub mod Lives
 pub mod Laws
+pub mod TheLanguage
+pub mod Ready
+pub mod Engine
+pub mod Faults
+pub mod Openings

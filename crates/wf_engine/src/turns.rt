@@ -1,21 +1,26 @@
 // The events of one turn.
-ghost use Rattle.std.specs.Prelude.{◌≡◌, ◌≤◌, ◌<◌, false, length, None, IfOk, OnOk};
-ghost use Rattle.wf_engine.specs.Turns.{turn_of};
-ghost use Rattle.wf_events.specs.View.{events_view};
+ghost use Rattle.std.specs.List.{AllByRecursion};
+ghost use Rattle.std.specs.Prelude.{◌≡◌, ◌≢◌, ◌≤◌, ◌<◌, ◌+◌, [], false, length, None, IfOk, OnOk};
+ghost use Rattle.wf_engine.specs.Turns.{turn_of, TakeReading};
+ghost use Rattle.wf_events.specs.Spelling.{IsOld};
+ghost use Rattle.wf_events.specs.View.{event_view, events_view};
+ghost use Rattle.wf_machine.specs.Outcome.{IsResult};
 ghost use Rattle.wf_machine.specs.Seen.{state_of};
-ghost use Rattle.wf_model.specs.Config.{To};
+ghost use Rattle.wf_model.specs.Config.{Active, To};
 ghost use Rattle.wf_model.specs.Run.{run_on};
 
 use std::alloc::Global;
-use wf_events::Events;
+use wf_events::{Event, Events};
 use wf_machine::{ApplyFault, Machine};
+use wf_model::laws_of_choice;
 use wf_value::OutOfMemory;
 
 /// A turn has no more events.
 const MOST_EVENTS: usize = 4096;
 
 /// Applies what the machine chooses at a reading of the clock, in milliseconds since 1970, until nothing can move, there is an outcome,
-/// or there are 4,096 events. Gives the events, in order. Without memory the machine isn't to be used further.
+/// or there are 4,096 events. Gives the events, in order: fewer only where there is an outcome. Each has a spelling, and takes the reading
+/// where that isn't below the machine's last one. Without memory the machine isn't to be used further.
 pub fn choose_turn(
     alloc: Global,
     machine: &mut Machine,
@@ -25,9 +30,17 @@ pub fn choose_turn(
     ensures turn { IfOk result (λ events. events_view events ≡ turn_of (state_of machine.old).program (state_of machine.old).config reading None) }
     ensures leads { IfOk result (λ events. run_on (state_of machine.old).program (To (state_of machine.old).config) (events_view events) ≡ To (state_of machine.new).config) }
     ensures short { IfOk result (λ events. length (events_view events) ≤ 4096) }
+    ensures ended { IfOk result (λ events. length (events_view events) < 4096 → IsResult (state_of machine.new).config.outcome) }
+    ensures active { IfOk result (λ events. (state_of machine.old).config.outcome ≢ Active → events_view events ≡ []) }
+    ensures counted { IfOk result (λ events. (state_of machine.new).config.moves ≡ (state_of machine.old).config.moves + length (events_view events)) }
+    ensures most { OnOk result ((state_of machine.new).config.moves ≤ 100000) }
+    ensures spelled { IfOk result (λ events. AllByRecursion IsOld (events_view events)) }
+    ensures readings { IfOk result (λ events. (state_of machine.old).config.last ≤ reading → TakeReading reading (events_view events)) }
+    ensures last { OnOk result ((state_of machine.old).config.last ≤ reading → (state_of machine.new).config.last ≤ reading) }
     ensures program { OnOk result ((state_of machine.new).program ≡ (state_of machine.old).program) }
     ensures whole { OnOk result ((state_of machine.new).broken ≡ false) }
 {
+    laws_of_choice();
     let mut events = Events::new(alloc);
     while events.items().len() < MOST_EVENTS {
         let Some(event) = machine.choose(reading) else {
@@ -38,7 +51,18 @@ pub fn choose_turn(
             Err(ApplyFault::OutOfMemory) => return Err(OutOfMemory),
             Err(ApplyFault::NotEnabled) => unreachable!(),
         }
-        events.push(event)?;
+        events.push(spelled(event))?;
     }
     Ok(events)
+}
+
+/// The same event, whose numbers fit its spelling.
+fn spelled(event: Event) -> Event
+    ensures same { event_view result ≡ event_view event }
+    ensures old { IsOld (event_view event) }
+{
+    match event {
+        Event::Move(task) => Event::Move(task),
+        Event::MoveAt(task, reading) => Event::MoveAt(task, reading),
+    }
 }

@@ -1,8 +1,9 @@
 -- The first form of a source: a list of at least one step, each with a name of its own, that assigns or returns. Its values are null,
--- truth values, whole numbers, and texts `${n}` that read a variable which stands assigned earlier in the source.
+-- truth values, whole numbers, the clock `${sys.now()}`, and texts `${n}` that read a variable which stands assigned earlier in the source.
 --     first_form     the program that some bytes are, if they are of the form
 use Rattle.std.specs.Prelude.{ℕ, ◌+◌, Bool, false, not, ◌&&◌, ◌||◌, List, [], ◌∷◌, ◌++◌, length, if◌then◌else◌, nat_le, nat_lt, Option, Some, None, option_map, option_and_then, codes, bytes_eq, find}
 use Rattle.std.specs.List.{list_all}
+use Rattle.wf_ast.specs.declared.Func.TheVariants as func
 use Rattle.wf_ast.specs.Tree.{Expr, no_exprs, Template, Scalar, Whole, Entry, Step, step, Steps, no_steps, more, Body, Program}
 use Rattle.wf_shared.specs.HttpRequest.{is_among}
 use Rattle.wf_value.specs.Data.{Data, null, boolean, integer, text, list, map, Items, no_items, item, no_pairs, pair}
@@ -37,12 +38,20 @@ is_step_name x = nat_lt 0 (length x) && nat_le (length x) 256 && not (is_among x
 abbrev pub reads : Text → Text
 reads x = codes "${" ++ x ++ codes "}"
 
+-- the clock's value, a call of `sys.now` with no arguments
+abbrev pub clock : Template
+clock = Whole (Expr.Call func.SysNow no_exprs)
+
+-- a text that is a value: `${sys.now()}`, or else the read of a variable that stands assigned
+abbrev pub text_in : List Text → Text → Option Template
+text_in names t = if bytes_eq t (codes "${sys.now()}") then Some clock else option_map (λ x. Whole (Expr.Name x)) (find (λ x. bytes_eq t (reads x)) names)
+
 -- a value, where these variables stand assigned
 abbrev pub value_in : List Text → Data → Option Template
 value_in names null = Some (Scalar null)
 value_in names (boolean b) = Some (Scalar (boolean b))
 value_in names (integer n) = Some (Scalar (integer n))
-value_in names (text t) = option_map (λ x. Whole (Expr.Name x)) (find (λ x. bytes_eq t (reads x)) names)
+value_in names (text t) = text_in names t
 value_in names v = None
 
 -- ## Assignments

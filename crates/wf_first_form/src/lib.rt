@@ -1,4 +1,4 @@
-//! The first form of source: JSON steps that assign and return literals and variables.
+//! The first form of source: JSON steps that assign and return literals, variables and the clock.
 #![tactic(auto)]
 
 mod names;

@@ -2,7 +2,7 @@
 ghost use Rattle.std.specs.Prelude.{◌≡◌, ◌++◌, ◌∷◌, [], ℕ, List, IfOk, OnOk, IfSome, find, bytes_eq, option_map};
 ghost use Rattle.wf_ast.specs.Tree as t;
 ghost use Rattle.wf_ast.specs.View.{body_view, entries_view, entry_view, program_view, step_view, steps_view, template_view};
-ghost use Rattle.wf_first_form.specs.FirstForm.{assign_in, assigned_by, body_in, entries_in, entry_in, first_form, main_of, pair_in, program_in, reads, step_in, steps_in, targets, unnamed, value_in};
+ghost use Rattle.wf_first_form.specs.FirstForm.{assign_in, assigned_by, body_in, clock, entries_in, entry_in, first_form, main_of, pair_in, program_in, reads, step_in, steps_in, targets, text_in, unnamed, value_in};
 ghost use Rattle.wf_shared.specs.HttpRequest.{is_among};
 ghost use Rattle.wf_value.specs.Data.{items_of};
 ghost use Rattle.wf_value.specs.Decode.{json_value};
@@ -11,7 +11,7 @@ ghost use Rattle.wf_value.specs.Plain.{plain, plain_items};
 use crate::names::{is_name, is_read_of, is_step_name};
 use std::alloc::Global;
 use wf_ast::{
-    Body, Entries, Entry, Expr, Exprs, Flow, Flows, Params, Program, Step, StepList, Target,
+    Body, Entries, Entry, Expr, Exprs, Flow, Flows, Func, Params, Program, Step, StepList, Target,
     Template,
 };
 use wf_value::{JsonFault, OutOfMemory, Text, Value, from_json};
@@ -47,15 +47,32 @@ fn read_in(text: &str, names: &[Text]) -> Result<Option<Template>, OutOfMemory>
     Ok(None)
 }
 
-/// A literal, or the read of a variable that stands assigned.
-fn value_of(value: &Value, names: &[Text]) -> Result<Option<Template>, OutOfMemory>
+/// The clock's value.
+fn clock(alloc: Global) -> Result<Template, OutOfMemory>
+    ensures { IfOk result (λ v. template_view v ≡ clock) }
+{
+    Ok(Template::Expr(Expr::Call(Func::SysNow, Exprs::new(alloc)?)))
+}
+
+/// The clock, or the read of a variable that stands assigned.
+fn text_in(alloc: Global, text: &str, names: &[Text]) -> Result<Option<Template>, OutOfMemory>
+    ensures { IfOk result (λ o. option_map template_view o ≡ text_in names.now text.now) }
+{
+    if text == "${sys.now()}" {
+        return Ok(Some(clock(alloc)?));
+    }
+    read_in(text, names)
+}
+
+/// A literal, the clock, or the read of a variable that stands assigned.
+fn value_of(alloc: Global, value: &Value, names: &[Text]) -> Result<Option<Template>, OutOfMemory>
     ensures { IfOk result (λ o. option_map template_view o ≡ value_in names.now (plain value.now)) }
 {
     match value {
         Value::Null => Ok(Some(Template::Lit(Value::Null))),
         Value::Bool(truth) => Ok(Some(Template::Lit(Value::Bool(*truth)))),
         Value::Int(number) => Ok(Some(Template::Lit(Value::Int(*number)))),
-        Value::Text(text) => read_in(text.as_str(), names),
+        Value::Text(text) => text_in(alloc, text.as_str(), names),
         Value::Bytes(_) => Ok(None),
         Value::List(_) => Ok(None),
         Value::Map(_) => Ok(None),
@@ -72,7 +89,7 @@ fn entry_of(alloc: Global, value: &Value, names: &[Text]) -> Result<Option<Entry
     if !is_name(name) {
         return Ok(None);
     }
-    let Some(value) = value_of(value, names)? else {
+    let Some(value) = value_of(alloc, value, names)? else {
         return Ok(None);
     };
     let target = Target {
@@ -148,7 +165,7 @@ fn body_of(
         return assign_of(alloc, value, names);
     }
     if form == "return" {
-        return match value_of(value, names.as_slice())? {
+        return match value_of(alloc, value, names.as_slice())? {
             Some(template) => Ok(Some(Body::Return(template))),
             None => Ok(None),
         };
@@ -253,8 +270,8 @@ fn value_said(alloc: Global, source: &[u8]) -> Result<Option<Value>, OutOfMemory
 
 /// The program of a source of the first form, and none where the source isn't of the form.
 ///
-/// The form is a part of the JSON syntax of workflows (Google Cloud Workflows reference, "Syntax overview", "Steps"
-/// and "Variables"):
+/// The form is a part of the JSON syntax of workflows (Google Cloud Workflows reference, "Syntax overview", "Steps" and
+/// "Variables"; "Standard library", "sys.now"):
 ///
 /// - The source is JSON (RFC 8259) of at most 1,024 bytes: a list of at least one step. These are the steps of `main`,
 ///   which takes no parameters.
@@ -264,8 +281,9 @@ fn value_said(alloc: Global, source: &[u8]) -> Result<Option<Value>, OutOfMemory
 /// - An assignment is a map of one pair, from a variable to a value. A variable is a letter or `_`, then letters, digits
 ///   and `_`, at most 256 bytes, and none of `and`, `or`, `not`, `in`, `null`, `true`, `True`, `TRUE`, `false`, `False`
 ///   and `FALSE`.
-/// - A value is null, a truth value, a whole number of 64 bits, or a text `${x}` with no blanks, where an assignment
-///   that stands earlier in the source assigns `x`.
+/// - A value is null, a truth value, a whole number of 64 bits, the text `${sys.now()}`, which is the clock in whole
+///   seconds, or a text `${x}`, where an assignment that stands earlier in the source assigns `x`. Neither text has
+///   blanks.
 ///
 /// A key that stands twice in a map of JSON keeps its last value. The only error is `OutOfMemory`.
 pub fn first_form(alloc: Global, source: &[u8]) -> Result<Option<Program>, OutOfMemory>

@@ -2,7 +2,7 @@
 use crate::first_form;
 use std::alloc::Global;
 use std::test::Fail;
-use wf_ast::{Body, Entry, Expr, Program, Step, Template};
+use wf_ast::{Body, Entry, Expr, Func, Program, Step, Template};
 use wf_value::{Value, to_json};
 
 // A value as a source has it.
@@ -18,6 +18,12 @@ fn write_value(alloc: Global, out: &mut Vec<u8>, value: &Template) -> Result<(),
         Template::Expr(Expr::Name(name)) => {
             out.extend_from_slice(b"$")?;
             out.extend_from_slice(name.as_str().as_bytes())?;
+        }
+        Template::Expr(Expr::Call(Func::SysNow, arguments)) => {
+            out.extend_from_slice(b"clock")?;
+            for _ in arguments.items() {
+                out.extend_from_slice(b"?")?;
+            }
         }
         _ => out.extend_from_slice(b"?")?,
     }
@@ -87,6 +93,14 @@ fn reads_programs(rt: HostRuntime) -> Result<(), Fail> {
             "[{\"and\":{\"return\":-9223372036854775808}},{\"End of it\":{\"return\":0}}]",
             "main; and: return -9223372036854775808; End of it: return 0; ",
         ),
+        (
+            "[{\"a\":{\"return\":\"${sys.now()}\"}}]",
+            "main; a: return clock; ",
+        ),
+        (
+            "[{\"a\":{\"assign\":[{\"t\":\"${sys.now()}\"},{\"sys\":\"${t}\"},{\"now\":\"\\u0024{sys.now()}\"}]}},{\"b\":{\"return\":\"${sys}\"}}]",
+            "main; a: t=clock sys=$t now=clock; b: return $sys; ",
+        ),
     ];
     for (source, want) in rows {
         let Some(program) = first_form(alloc, source.as_bytes())? else {
@@ -140,6 +154,65 @@ fn refuses_other_sources(rt: HostRuntime) -> Result<(), Fail> {
             first_form(alloc, source.as_bytes())?.is_none(),
             "at {source}"
         );
+    }
+    Ok(())
+}
+
+// A source with a text in place of a value, between these parts.
+fn with_text(alloc: Global, front: &str, text: &str, back: &str) -> Result<Vec<u8>, Fail> {
+    let mut source = Vec::new(alloc);
+    source.extend_from_slice(front.as_bytes())?;
+    source.extend_from_slice(text.as_bytes())?;
+    source.extend_from_slice(back.as_bytes())?;
+    Ok(source)
+}
+
+#[test]
+fn takes_one_text_for_the_clock(rt: HostRuntime) -> Result<(), Fail> {
+    let alloc = rt.alloc();
+    let places = [
+        ("[{\"a\":{\"return\":\"", "\"}}]"),
+        ("[{\"a\":{\"assign\":[{\"x\":\"", "\"}]}}]"),
+        (
+            "[{\"a\":{\"assign\":[{\"sys\":1},{\"now\":2},{\"x\":\"",
+            "\"}]}}]",
+        ),
+    ];
+    let rows = [
+        ("${sys.now()}", true),
+        ("${sys.now( )}", false),
+        ("${ sys.now()}", false),
+        ("${sys.now() }", false),
+        ("${sys.now ()}", false),
+        ("${sys. now()}", false),
+        (" ${sys.now()}", false),
+        ("${sys.now()} ", false),
+        ("$ {sys.now()}", false),
+        ("${sys.now}", false),
+        ("${sys.now(}", false),
+        ("${sys.now)}", false),
+        ("${sys.now()", false),
+        ("${sys.now()}}", false),
+        ("{sys.now()}", false),
+        ("sys.now()", false),
+        ("${sys.now(1)}", false),
+        ("${sys.now()()}", false),
+        ("${sys.now()+1}", false),
+        ("${sys.now()}${sys.now()}", false),
+        ("${SYS.now()}", false),
+        ("${sys.Now()}", false),
+        ("${now()}", false),
+        ("${sys.log()}", false),
+    ];
+    for (text, reads) in rows {
+        for (front, back) in places {
+            let source = with_text(alloc, front, text, back)?;
+            assert_eq!(rt;
+                first_form(alloc, source.as_slice())?.is_some(),
+                reads,
+                "of {text} behind {front}"
+            );
+        }
     }
     Ok(())
 }

@@ -1,5 +1,7 @@
--- What the help lists.
-use Rattle.std.specs.Prelude.{◌≤◌, ℕ, Bool, ◌&&◌, ◌||◌, nat_eq, nat_le, List, [], ◌∷◌, length, IsTrue}
+-- What the program prints of itself.
+--     help, version     the texts
+--     IsHelp            what the help lists
+use Rattle.std.specs.Prelude.{◌≤◌, ℕ, Bool, ◌&&◌, ◌||◌, nat_eq, nat_le, List, [], ◌∷◌, ◌++◌, length, IsTrue, codes}
 use Rattle.std.specs.List.{list_all, list_any, starts_with}
 use Rattle.std.specs.Str.Lines.{lines}
 use Rattle.wf_line.specs.declared.command.Command.{Command}
@@ -19,3 +21,22 @@ pub record IsHelp (text : List ℕ) : Type 0 where
   pub few : length (lines text) ≤ 15
   pub narrow : IsTrue (list_all (λ line. nat_le (length line) 80) (lines text))
   pub whole : IsTrue (list_all (λ c. list_any (is_of c) (lines text)) commands)
+
+-- a line with its end
+abbrev pub line : List ℕ → List ℕ
+line text = text ++ codes "\n"
+
+unfoldable pub help : List ℕ
+help =
+    line (codes "workflow COMMAND [--OPTION WORD ..]")
+    ++ line (codes "run        starts an execution: --source PATH, --journal PATH, --id ID")
+    ++ line (codes "resume     goes on with an execution: --journal PATH")
+    ++ line (codes "--help     prints this text")
+    ++ line (codes "--version  prints the program's name and version")
+    ++ line (codes "Options follow their command in any order, each once.")
+    ++ line (codes "Without --source the source is read from standard input.")
+    ++ line (codes "Without --journal the journal is kept in memory.")
+    ++ line (codes "An ID is 1 to 64 letters, digits, dots, underscores and hyphens.")
+
+unfoldable pub version : List ℕ
+version = codes "workflow 0.1.0\n"

@@ -1,10 +1,12 @@
 // What the program prints of itself.
-ghost use Rattle.std.specs.Prelude.{◌≡◌, codes};
-ghost use Rattle.wf_line.specs.Help.{IsHelp};
+ghost use Rattle.std.specs.Prelude.{◌≡◌};
+ghost use Rattle.wf_line.specs.Help.{IsHelp, help, version};
 
 /// The help: the commands with their options, in at most 15 lines of at most 80 characters.
+#[tactic(auto, unfolding(crate::specs::Help::help))]
 pub fn help_text() -> &'static str
-    ensures { IsHelp result.now }
+    ensures text { result.now ≡ help }
+    ensures lists { IsHelp result.now }
 {
     "workflow COMMAND [--OPTION WORD ..]\n\
      run        starts an execution: --source PATH, --journal PATH, --id ID\n\
@@ -18,8 +20,9 @@ pub fn help_text() -> &'static str
 }
 
 /// The program's name and version, and a line end.
+#[tactic(auto, unfolding(crate::specs::Help::version))]
 pub fn version_text() -> &'static str
-    ensures { result.now ≡ codes "workflow 0.1.0\n" }
+    ensures { result.now ≡ version }
 {
     "workflow 0.1.0\n"
 }

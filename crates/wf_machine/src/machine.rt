@@ -1,5 +1,5 @@
 // The machine: an execution of a program, event by event.
-ghost use Rattle.std.specs.Prelude.{◌≡◌, ◌≤◌, ◌<◌, ◌↔◌, ◌+◌, ℕ, List, true, false, length, map, IfOk, OnOk, IsErrOf, IfSome, IsSome, IsNone, IsTrue, max, option_map};
+ghost use Rattle.std.specs.Prelude.{◌≡◌, ◌≤◌, ◌<◌, ◌↔◌, ◌+◌, ℕ, List, true, false, length, map, IfOk, OnOk, IsErrOf, IfSome, IsSome, IsNone, IsTrue, max, option_map, unwrap_or};
 ghost use Rattle.wf_ast.specs.View.{program_view, step_view};
 ghost use Rattle.wf_machine.specs.Moves.{IsFine, IsPlace, clock_at, config_after, main_event};
 ghost use Rattle.wf_machine.specs.State.{RunsOn, IsWithinStep, config_at, is_running, main_steps_view, outcome_by, outcome_depth};
@@ -95,6 +95,7 @@ impl Machine {
     ghost use Rattle.wf_events.specs.View.{event_view, start_view};
     ghost use Rattle.wf_machine.specs.Outcome.{IsAlone, IsResult, IsShallow};
     ghost use Rattle.wf_machine.specs.Lent.{outcome_view};
+    ghost use Rattle.wf_model.specs.ChoiceLaws.{reading_of};
     ghost use Rattle.wf_model.specs.Choose.{choose};
     ghost use Rattle.wf_model.specs.Config.{Config, Active, To};
     ghost use Rattle.wf_model.specs.Move.{move as task_move};
@@ -146,6 +147,8 @@ impl Machine {
         ensures stays { IsErrOf result ApplyFault.NotEnabled → state_of self.new ≡ state_of self.old }
         ensures program { (state_of self.new).program ≡ (state_of self.old).program }
         ensures counted { OnOk result ((state_of self.new).config.moves ≡ (state_of self.old).config.moves + 1) }
+        // The event's reading, if it has one, becomes the last one.
+        ensures last { OnOk result ((state_of self.new).config.last ≡ unwrap_or (reading_of (event_view event.now)) (state_of self.old).config.last) }
         ensures most { (state_of self.new).config.moves ≤ 100000 }
         // After want of memory, and only then, the machine is broken.
         ensures broken { ((state_of self.new).broken ≡ true) ↔ IsErrOf result ApplyFault.OutOfMemory }
@@ -265,6 +268,7 @@ impl Machine {
         ensures active { IsSome result → (state_of self.now).config.outcome ≡ Active }
         ensures comes { IfSome result (λ r. next (state_of self.now).program (state_of self.now).config (event_view event.now)
             ≡ as_counted (read_at r.last (state_of self.now).config) (by_itself (state_of self.now).program 0 r.now task_move)) }
+        ensures last { IfSome result (λ r. r.last ≡ unwrap_or (reading_of (event_view event.now)) self.now.last) }
         ensures never { IsNone result → (d : Config) → next (state_of self.now).program (state_of self.now).config (event_view event.now) ≡ To d → ⊥ }
     {
         if !self.is_running() {
@@ -298,6 +302,7 @@ impl Machine {
         requires active { (state_of self.old).config.outcome ≡ Active }
         ensures moved { OnOk result (as_counted (read_at readings.last (state_of self.old).config) (by_itself (state_of self.old).program 0 readings.now task_move) ≡ To (state_of self.new).config) }
         ensures program { (state_of self.new).program ≡ (state_of self.old).program }
+        ensures last { OnOk result (self.new.last ≡ readings.last) }
         ensures broken { (state_of self.new).broken ≡ (state_of self.old).broken }
         ensures counted { OnOk result ((state_of self.new).config.moves ≡ (state_of self.old).config.moves + 1) }
     {

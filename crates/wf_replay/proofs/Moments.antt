@@ -1,8 +1,8 @@
 -- The configuration at a moment, with a turn more and of a history.
-use Rattle.std.specs.Prelude.{◌≡◌, ◌⊎◌, ◌<◌, ◌≤◌, ◌&&◌, ◌||◌, ℕ, suc, Bool, true, false, IsTrue, nat_eq, nat_le, nat_lt, List, [], ◌∷◌, ◌++◌, map, if◌then◌else◌, Option, Some, None, Ok, option_map, Err}
+use Rattle.std.specs.Prelude.{◌≡◌, ◌⊎◌, ◌<◌, ◌≤◌, ◌+◌, ◌&&◌, ◌||◌, ℕ, suc, Bool, true, false, IsTrue, nat_eq, nat_le, nat_lt, List, [], ◌∷◌, ◌++◌, length, map, if◌then◌else◌, Option, Some, None, Ok, option_map, Err}
 use Rattle.std.specs.List.{list_all}
 use Rattle.std.proofs.Common.{inl, inr, refl, sym, ◌∙◌, ap, subst, arith, append_assoc, append-nil}
-use Rattle.std.proofs.lemmas.Bool.{and_from, eq-eqb, eqb-true, le-leb, le-ltb, leb-true, lt-ltb, ltb-true, or_left, or_right}
+use Rattle.std.proofs.lemmas.Bool.{and_from, eq-eqb, eqb-true, le-leb, le-ltb, leb-true, lt-ltb, ltb-true, ne_eqb, or_left, or_right}
 use Rattle.wf_events.specs.Reading.{meaning}
 use Rattle.wf_events.specs.Records.{Record, Started, Turned}
 use Rattle.wf_model.specs.Config.{Config}
@@ -11,11 +11,11 @@ use Rattle.wf_model.specs.Run.{is_before}
 use Rattle.wf_model.specs.TurnLaws.{AllTurnsAreTheRun, LaterTurnDoesNotCount}
 use Rattle.wf_replay.proofs.Histories.{first_is, rest_is}
 use Rattle.wf_replay.proofs.Runs.{GoesOn, both, goes_on_by, begins_by}
-use Rattle.wf_replay.specs.At.{Journal, begins, config_at, events_before, journal, last_session, next_session, of_session, reached, turns_in, with_turn}
-use Rattle.wf_replay.specs.History.{History, Standing, first_standing, goes_on, goes_to, history, history_from, told}
+use Rattle.wf_replay.specs.At.{Journal, begins, config_at, config_before, events_before, journal, last_session, next_session, of_session, reached, session_turns, turns_in, with_turn}
+use Rattle.wf_replay.specs.History.{History, Standing, events, first_standing, goes_on, goes_on_at, goes_to, history, history_from, in_order, told}
 use Rattle.wf_replay.specs.Language.{Language}
 use Rattle.wf_replay.specs.Laws.{ComputedIsHistory}
-use Rattle.wf_replay.specs.Moments.{HistoryStandsThere, MomentBeforeStays, NextBehindHistory, NextBehindTurn, SessionBeforeStays, TurnIsAdded, TurnIsOfItsSession, is_by, with_turn_more}
+use Rattle.wf_replay.specs.Moments.{HistoryStandsBefore, HistoryStandsThere, MomentBeforeStays, NextBehindHistory, NextBehindTurn, NoTurnsBehind, NumberIsCount, SessionBeforeStays, SessionIsNumbered, TurnIsAdded, TurnIsOfItsSession, is_by, with_turn_more}
 use Rattle.wf_shared.specs.Events.{Event, Turn}
 
 -- ## A turn more
@@ -164,6 +164,7 @@ journal_of L b bs c h =
 record Behind (L : Language) (b : List ℕ) (bs : List (List ℕ)) (s : Standing) : Type 0 where
   pub first : Standing
   pub fresh : first.session ≡ 0
+  pub one : first.number ≡ 1
   pub leads : goes_to first bs ≡ Ok s
 
 behind : (L : Language) (b : List ℕ) (bs : List (List ℕ)) (s : Standing) → history L (b ∷ bs) ≡ Ok s → Behind L b bs s
@@ -171,7 +172,7 @@ unfolding history
 behind L b bs s is =
     (elim (first_standing L (meaning b)) as (λ o. first_standing L (meaning b) ≡ o → history_from o bs ≡ Ok s → Behind L b bs s) [
       | None ↦ λ e no. absurd (cc no)
-      | Some v ↦ λ e on. record { first = v; fresh = ap (λ w. w.session) (sym (begins_by L (meaning b) v e).is); leads = on }
+      | Some v ↦ λ e on. let same = sym (begins_by L (meaning b) v e).is in record { first = v; fresh = ap (λ w. w.session) same; one = ap (λ w. w.number) same; leads = on }
     ]) refl is
 
 no_records : (L : Language) (s : Standing) → history L [] ≡ Ok s → ⊥
@@ -187,11 +188,104 @@ history_stands_there computed all L (b ∷ bs) s session waits is by =
     ap (λ o. config_at o session waits) (journal_of L b bs s.config h)
     ∙ ap reached (all h.program h.start h.turns session waits (by_then session waits d.first bs h.turns s d.leads meant by).0 ∙ h.one_run)
 
+-- the last turn of a history is the one that it leads to
+last_of : (L : Language) (b : List ℕ) (bs : List (List ℕ)) (s : Standing) (h : History L (b ∷ bs) s.config) → history L (b ∷ bs) ≡ Ok s → last_from 0 h.turns ≡ s.session
+last_of L b bs s h is =
+    let d = behind L b bs s is in
+    let meant = rest_is (meaning b) (Some (Started h.start)) (map meaning bs) (map (λ t. Some (Turned t)) h.turns) h.meanings in
+    ap (λ ts. last_from 0 ts) (sym (turns_are bs h.turns meant)) ∙ ap (λ n. last_from n (turns_in bs)) (sym d.fresh) ∙ last_by d.first bs s d.leads
+
 pub next_behind_history : ComputedIsHistory → NextBehindHistory
 next_behind_history computed L [] s is = absurd (no_records L s is)
 next_behind_history computed L (b ∷ bs) s is =
     let h = computed L (b ∷ bs) s is in
+    ap next_session (journal_of L b bs s.config h) ∙ ap suc (last_is h.turns ∙ last_of L b bs s h is)
+
+-- ## A later session
+-- all of some turns are of earlier sessions
+abbrev all_earlier : ℕ → List Turn → Bool
+all_earlier session ts = list_all (λ t. nat_lt t.session session) ts
+
+not_over : (a b c d : ℕ) → (a < c) ⊎ ((a ≡ c) × (b ≤ d)) → a ≤ c
+not_over a b c d (inl lt) = omega (arith, lt)
+not_over a b c d (inr (same, le)) = omega (arith, same)
+
+-- turns in order are, where the last one is
+are_earlier : (session n w : ℕ) (ts : List Turn) → IsTrue (in_order n w ts) → last_from n ts < session → (n < session) × IsTrue (all_earlier session ts)
+are_earlier session n w [] order lt = (lt, refl)
+are_earlier session n w (t ∷ ts) order lt =
+    let ordered = both (goes_on_at n w t) (in_order t.session t.waits ts) order in
+    let rest = are_earlier session t.session t.waits ts ordered.1 lt in
+    let first : n ≤ t.session = not_over n w t.session t.waits (earlier n w t.session t.waits ordered.0) in
+    let there : t.session < session = rest.0 in (
+      omega (arith, first, there),
+      and_from (nat_lt t.session session) (all_earlier session ts) (lt-ltb t.session session there) rest.1,
+    )
+
+all_before : (session : ℕ) (ts : List Turn) → IsTrue (all_earlier session ts) → events_before session ts ≡ events ts
+all_before session [] all = refl
+all_before session (t ∷ ts) all =
+    let parts = both (nat_lt t.session session) (all_earlier session ts) all in
+    ap (λ b. if b then t.events ++ events_before session ts else events_before session ts) parts.0 ∙ ap (λ es. t.events ++ es) (all_before session ts parts.1)
+
+none_of : (session : ℕ) (ts : List Turn) → IsTrue (all_earlier session ts) → of_session session ts ≡ []
+none_of session [] all = refl
+none_of session (t ∷ ts) all =
+    let parts = both (nat_lt t.session session) (all_earlier session ts) all in
+    let lt : t.session < session = ltb-true t.session session parts.0 in
+    ap (λ b. if b then t ∷ of_session session ts else of_session session ts) (ne_eqb t.session session (λ same. omega (arith, lt, same))) ∙ none_of session ts parts.1
+
+-- all turns of a history are of earlier sessions than one behind its last
+history_is_earlier : (L : Language) (b : List ℕ) (bs : List (List ℕ)) (s : Standing) (h : History L (b ∷ bs) s.config) (session : ℕ) → history L (b ∷ bs) ≡ Ok s → s.session < session
+    → IsTrue (all_earlier session h.turns)
+history_is_earlier L b bs s h session is lt = (are_earlier session 0 0 h.turns h.order (subst (λ n. n < session) (sym (last_of L b bs s h is)) lt)).1
+
+pub history_stands_before : ComputedIsHistory → HistoryStandsBefore
+history_stands_before computed L [] s session is lt = absurd (no_records L s is)
+history_stands_before computed L (b ∷ bs) s session is lt =
+    let h = computed L (b ∷ bs) s is in
+    ap (λ o. config_before o session) (journal_of L b bs s.config h)
+    ∙ ap reached (ap (λ es. model.run h.program h.start es) (all_before session h.turns (history_is_earlier L b bs s h session is lt)) ∙ h.one_run)
+
+pub no_turns_behind : ComputedIsHistory → NoTurnsBehind
+no_turns_behind computed L [] s session is lt = absurd (no_records L s is)
+no_turns_behind computed L (b ∷ bs) s session is lt =
+    let h = computed L (b ∷ bs) s is in
+    ap (λ o. session_turns o session) (journal_of L b bs s.config h) ∙ none_of session h.turns (history_is_earlier L b bs s h session is lt)
+
+-- ## The count of records
+counted_by : (s : Standing) (bs : List (List ℕ)) (t : Standing) → goes_to s bs ≡ Ok t → t.number ≡ s.number + length bs
+counted_by s [] t is = let same : s ≡ t = cc is in let number : s.number ≡ t.number = ap (λ v. v.number) same in omega (arith, number)
+counted_by s (b ∷ bs) t is =
+    (elim (goes_on s (meaning b)) as (λ o. goes_on s (meaning b) ≡ o → (elim o [ None ↦ Err (told s.number) | Some v ↦ goes_to v bs ]) ≡ Ok t → t.number ≡ s.number + length (b ∷ bs)) [
+      | None ↦ λ e no. absurd (cc no)
+      | Some v ↦ λ e on.
+          let more : suc s.number ≡ v.number = ap (λ w. w.number) (goes_on_by s (meaning b) v e).is in
+          let rest = counted_by v bs t on in omega (arith, more, rest)
+    ]) refl is
+
+-- each turn's session is at most the number of its record
+numbered_by : (s : Standing) (bs : List (List ℕ)) (t : Standing) → goes_to s bs ≡ Ok t → s.session < s.number → t.session < t.number
+numbered_by s [] t is lt = let same : s ≡ t = cc is in subst (λ v. v.session < v.number) same lt
+numbered_by s (b ∷ bs) t is lt =
+    (elim (goes_on s (meaning b)) as (λ o. goes_on s (meaning b) ≡ o → (elim o [ None ↦ Err (told s.number) | Some v ↦ goes_to v bs ]) ≡ Ok t → t.session < t.number) [
+      | None ↦ λ e no. absurd (cc no)
+      | Some v ↦ λ e on.
+          let g = goes_on_by s (meaning b) v e in
+          let le : g.turn.session ≤ s.number = leb-true g.turn.session s.number (both (nat_le 1 g.turn.session) (nat_le g.turn.session s.number) g.numbered).1 in
+          numbered_by v bs t on (subst (λ w. w.session < w.number) g.is (omega (arith, le)))
+    ]) refl is
+
+pub number_is_count : NumberIsCount
+number_is_count L [] s is = absurd (no_records L s is)
+number_is_count L (b ∷ bs) s is =
     let d = behind L b bs s is in
-    let meant = rest_is (meaning b) (Some (Started h.start)) (map meaning bs) (map (λ t. Some (Turned t)) h.turns) h.meanings in
-    ap next_session (journal_of L b bs s.config h)
-    ∙ ap suc (last_is h.turns ∙ ap (λ ts. last_from 0 ts) (sym (turns_are bs h.turns meant)) ∙ ap (λ n. last_from n (turns_in bs)) (sym d.fresh) ∙ last_by d.first bs s d.leads)
+    let one = d.one in
+    let rest = counted_by d.first bs s d.leads in omega (arith, one, rest)
+
+pub session_is_numbered : SessionIsNumbered
+session_is_numbered L [] s is = absurd (no_records L s is)
+session_is_numbered L (b ∷ bs) s is =
+    let d = behind L b bs s is in
+    let fresh = d.fresh in
+    let one = d.one in numbered_by d.first bs s d.leads (omega (arith, fresh, one))

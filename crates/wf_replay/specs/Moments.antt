@@ -1,5 +1,5 @@
 -- Laws of the configuration at a moment, as they stand in the contract of `laws_of_moments`.
-use Rattle.std.specs.Prelude.{◌≡◌, ◌≤◌, ◌&&◌, ◌||◌, ℕ, suc, Bool, false, IsTrue, nat_eq, nat_le, nat_lt, List, [], ◌∷◌, ◌++◌, Some, Ok}
+use Rattle.std.specs.Prelude.{◌≡◌, ◌<◌, ◌≤◌, ◌&&◌, ◌||◌, ℕ, suc, Bool, false, IsTrue, nat_eq, nat_le, nat_lt, List, [], ◌∷◌, ◌++◌, length, Some, Ok}
 use Rattle.wf_events.specs.Reading.{meaning}
 use Rattle.wf_events.specs.Records.{Turned}
 use Rattle.wf_model.specs.Run.{is_before}
@@ -45,3 +45,19 @@ HistoryStandsThere = (L : Language) (J : List (List ℕ)) (s : Standing) (sessio
 -- and the next session is the one behind that of its last turn
 abbrev pub NextBehindHistory : Type 0
 NextBehindHistory = (L : Language) (J : List (List ℕ)) (s : Standing) → history L J ≡ Ok s → next_session (journal L J) ≡ suc s.session
+
+-- before a session behind that of its last turn a history stands where it leads
+abbrev pub HistoryStandsBefore : Type 0
+HistoryStandsBefore = (L : Language) (J : List (List ℕ)) (s : Standing) (session : ℕ) → history L J ≡ Ok s → s.session < session → config_before (journal L J) session ≡ Some s.config
+
+-- and has no turn of that session
+abbrev pub NoTurnsBehind : Type 0
+NoTurnsBehind = (L : Language) (J : List (List ℕ)) (s : Standing) (session : ℕ) → history L J ≡ Ok s → s.session < session → session_turns (journal L J) session ≡ []
+
+-- its number is the count of its records
+abbrev pub NumberIsCount : Type 0
+NumberIsCount = (L : Language) (J : List (List ℕ)) (s : Standing) → history L J ≡ Ok s → s.number ≡ length J
+
+-- and the session of its last turn is less than that
+abbrev pub SessionIsNumbered : Type 0
+SessionIsNumbered = (L : Language) (J : List (List ℕ)) (s : Standing) → history L J ≡ Ok s → s.session < s.number

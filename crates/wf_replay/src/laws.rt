@@ -1,6 +1,6 @@
 // Laws of histories.
 ghost use Rattle.wf_replay.specs.Laws.{ComputedIsHistory, HistoryIsComputed, NumberIsLeast, StartIsAHistory, RecordGoesOn, RecordsGoOn, FrontIsAHistory};
-ghost use Rattle.wf_replay.specs.Moments.{TurnIsAdded, SessionBeforeStays, MomentBeforeStays, TurnIsOfItsSession, NextBehindTurn, HistoryStandsThere, NextBehindHistory};
+ghost use Rattle.wf_replay.specs.Moments.{TurnIsAdded, SessionBeforeStays, MomentBeforeStays, TurnIsOfItsSession, NextBehindTurn, HistoryStandsThere, NextBehindHistory, HistoryStandsBefore, NoTurnsBehind, NumberIsCount, SessionIsNumbered};
 
 use wf_model::{laws_of_runs, laws_of_turns};
 
@@ -19,7 +19,8 @@ pub fn laws_of_histories()
 }
 
 /// Carries laws of a journal with one turn more: it stands behind the others and changes nothing before its own moment. And of a history:
-/// from its last turn on the configuration is the one to which it leads.
+/// from its last turn on the configuration is the one to which it leads, before each later session too, which has no turn yet; its number
+/// is the count of its records, and the session of its last turn is less than that.
 pub fn laws_of_moments()
     ensures turn_is_added { TurnIsAdded }
     ensures session_before_stays { SessionBeforeStays }
@@ -28,6 +29,10 @@ pub fn laws_of_moments()
     ensures next_behind_turn { NextBehindTurn }
     ensures history_stands_there { HistoryStandsThere }
     ensures next_behind_history { NextBehindHistory }
+    ensures stands_before { HistoryStandsBefore }
+    ensures no_turns_behind { NoTurnsBehind }
+    ensures number_is_count { NumberIsCount }
+    ensures session_is_numbered { SessionIsNumbered }
 {
     laws_of_turns();
     laws_of_histories();

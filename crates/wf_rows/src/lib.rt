@@ -7,3 +7,5 @@ mod command;
 mod faults;
 #[cfg(test)]
 mod first_form;
+#[cfg(test)]
+mod journals;

@@ -1,9 +1,7 @@
-//! How a command ends: statuses, refusals and the texts that they print, and command lines.
+//! How a command ends: statuses, refusals and the texts that they print.
 #![tactic(auto)]
 
 mod kind;
-mod line;
-mod options;
 mod place;
 mod refusal;
 mod status;
@@ -11,8 +9,6 @@ mod status;
 mod tests;
 
 pub use kind::RefusalKind;
-pub use line::{Command, Line, LineFault, bad_words_are_least, read_line};
-pub use options::{journal_of, listen_of, source_of};
 pub use place::Place;
 pub use refusal::Refusal;
 pub use status::Status;

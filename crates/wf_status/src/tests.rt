@@ -1,9 +1,6 @@
 // Texts, codes and lines whose answers were given from outside.
-use crate::{
-    Command, LineFault, Place, Refusal, RefusalKind, Status, journal_of, listen_of, read_line,
-    source_of,
-};
-use std::alloc::{AllocError, Global};
+use crate::{Place, Refusal, RefusalKind, Status};
+use std::alloc::Global;
 use std::test::Fail;
 use wf_value::{OutOfMemory, Path, PathPart, Text};
 
@@ -69,65 +66,6 @@ fn prints_statuses(rt: HostRuntime) -> Result<(), Fail> {
             Some(text) => assert_eq!(rt; text.as_str(), line),
             None => assert_eq!(rt; "", line),
         }
-    }
-    Ok(())
-}
-
-fn words_of(alloc: Global, line: &str) -> Result<Vec<String>, AllocError> {
-    let mut words = Vec::new(alloc);
-    for word in line.split_whitespace() {
-        words.push(String::from_str(alloc, word)?)?;
-    }
-    Ok(words)
-}
-
-#[test]
-fn reads_lines(rt: HostRuntime) -> Result<(), Fail> {
-    let alloc = rt.alloc();
-    let bad = [
-        ("", 0),
-        ("ran", 0),
-        ("RUN", 0),
-        ("go run", 0),
-        ("run run", 1),
-        ("run --args 1", 1),
-    ];
-    for (line, word) in bad {
-        let words = words_of(alloc, line)?;
-        let answer = read_line(alloc, words.as_slice());
-        assert!(rt; answer == Err(LineFault::BadLine(word)), "at {line}");
-    }
-    let words = words_of(alloc, "run")?;
-    let line = read_line(alloc, words.as_slice())?;
-    assert_eq!(rt; line.command, Command::Run);
-    Ok(())
-}
-
-#[test]
-fn finds_options(rt: HostRuntime) -> Result<(), Fail> {
-    let alloc = rt.alloc();
-    let rows = [
-        ("", None, None, None),
-        (
-            "run --journal a --source b --listen c:1",
-            Some("a"),
-            Some("b"),
-            Some("c:1"),
-        ),
-        ("run --listen c:1 --journal", None, None, Some("c:1")),
-        ("nothing --journal a --journal b", Some("a"), None, None),
-        ("--journal a --source b", None, None, None),
-        ("run --args --journal --journal j", Some("j"), None, None),
-        ("run --source --listen x", None, Some("--listen"), None),
-    ];
-    for (line, journal, source, listen) in rows {
-        let words = words_of(alloc, line)?;
-        assert!(rt;
-            journal_of(words.as_slice()) == journal,
-            "journal at {line}"
-        );
-        assert!(rt; source_of(words.as_slice()) == source, "source at {line}");
-        assert!(rt; listen_of(words.as_slice()) == listen, "listen at {line}");
     }
     Ok(())
 }

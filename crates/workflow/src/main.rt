@@ -1,4 +1,5 @@
-//! `workflow run < FILE` runs the workflow of a file to its outcome, and prints it.
+//! `workflow run --source FILE --journal JOURNAL` runs the workflow of a file to its outcome, and prints it; `workflow resume --journal
+//! JOURNAL` goes on with it, wherever it was stopped.
 #![tactic(auto)]
 
 use std::env;
@@ -9,7 +10,7 @@ use std::rt::Env;
 use std::time::Clock;
 use wf_cli::run_line;
 use wf_host::{FileHost, FileSource};
-use wf_status::{journal_of, source_of};
+use wf_line::{journal_of, source_of};
 
 fn main(rt: HostRuntime) -> ExitCode {
     ExitCode::from(run(rt))

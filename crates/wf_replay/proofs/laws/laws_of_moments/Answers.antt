@@ -21,3 +21,15 @@ returns-clause-history_stands_there c = moments.history_stands_there c.laws_of_h
 
 pub returns-clause-next_behind_history : goal.returns-clause-next_behind_history
 returns-clause-next_behind_history c = moments.next_behind_history c.laws_of_histories.ensures.computed
+
+pub returns-clause-stands_before : goal.returns-clause-stands_before
+returns-clause-stands_before c = moments.history_stands_before c.laws_of_histories.ensures.computed
+
+pub returns-clause-no_turns_behind : goal.returns-clause-no_turns_behind
+returns-clause-no_turns_behind c = moments.no_turns_behind c.laws_of_histories.ensures.computed
+
+pub returns-clause-number_is_count : goal.returns-clause-number_is_count
+returns-clause-number_is_count c = moments.number_is_count
+
+pub returns-clause-session_is_numbered : goal.returns-clause-session_is_numbered
+returns-clause-session_is_numbered c = moments.session_is_numbered

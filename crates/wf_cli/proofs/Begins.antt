@@ -1,0 +1,228 @@
+-- The beginning of an execution for a line.
+use Rattle.std.proofs.Common.{◌≡◌, ◌≤◌, ◌⊎◌, ◌≢◌, inl, inr, ⊎_elim, ℕ, Bool, true, false, List, [], ◌∷◌, ◌++◌, length, take, Option, None, Some, Result, Ok, Err, IfOk, IfErr, OnOk, IsErrOf, nat_le, if◌then◌else◌, refl, sym, ◌∙◌, ap, subst, arith}
+use Rattle.std.proofs.lemmas.Bool.{leb-false}
+use Rattle.wf_ast.specs.Tree.{Program}
+use Rattle.wf_cli.proofs.Moments.{early_nothing, early_now, StartOfLine, late_start}
+use Rattle.wf_cli.proofs.Opens.{MayBegin, no_magic, not_resumed_by_run, no_history_by_run, passed_magic, passed_started, run_uses, run_command, little_nothing, little_now}
+use Rattle.wf_cli.specs.Reports.{the_reports}
+use Rattle.wf_cli.specs.Said.{DidLittle, IsOpened, FaultHolds, Opening}
+use Rattle.wf_cli.specs.Top.{IsLineOf, HasOtherMagic, IsStarted, IsNotStarted, IsNoHistory}
+use Rattle.wf_cli.proofs.Causes.{same_ok, not_run_and_resume}
+use Rattle.wf_cli.specs.Source.{read_source, refused, program_or_refusal}
+use Rattle.wf_engine.specs.Engine.{memory, StandsFor, OpeningMoment}
+use Rattle.wf_engine.specs.Kept as kept
+use Rattle.wf_engine.specs.Laws.{OnlyReadings}
+use Rattle.wf_engine.specs.Outside.{Outside}
+use Rattle.wf_engine.proofs.Forms.{form_is_straight}
+use Rattle.wf_engine.specs.Printed.{Scene, uses_source}
+use Rattle.wf_engine.specs.Starts.{start_of}
+use Rattle.wf_events.specs.Laws.{MeaningOfSpelling}
+use Rattle.wf_events.specs.Records.{Started}
+use Rattle.wf_events.specs.Spelling.{record_bytes, HasSpelling}
+use Rattle.wf_first_form.specs.FirstForm.{first_form}
+use Rattle.wf_host.specs.Source.{IsFirst}
+use Rattle.wf_line.specs.Lines.{PlainLine, line_of}
+use Rattle.wf_machine.proofs.Places.{initial_is}
+use Rattle.wf_replay.specs.Laws.{StartIsAHistory}
+use Rattle.wf_status.specs.declared.RefusalKind.TheVariants.{SourceTooLong}
+use Rattle.wf_engine.specs.Safe.{SafeAt}
+use Rattle.wf_engine.specs.TheLanguage.{the_language}
+use Rattle.wf_engine.specs.declared.engine.Engine.{Engine}
+use Rattle.wf_engine.specs.declared.fault.EngineFault.{EngineFault}
+use Rattle.wf_engine.specs.declared.fault.EngineFault.TheVariants as engine
+use Rattle.wf_history.specs.Stands.{HasNoneOrThis}
+use Rattle.wf_host.specs.Moments.{CountsNow, started, goes_on, goes_on_same, same_deeds, joined, weaker}
+use Rattle.wf_host.specs.World.{World, LeavesOnly, Elapses, Same}
+use Rattle.wf_host.specs.declared.data.Deed.{Deed}
+use Rattle.wf_host.specs.declared.data.Deed.TheVariants.{Now}
+use Rattle.wf_journal.specs.Records.{magic, records}
+use Rattle.wf_line.specs.declared.command.Command.TheVariants.{Run}
+use Rattle.wf_replay.specs.At.{journal, next_session}
+
+-- ## The first reading of the clock
+-- since this moment there is no other pair
+abbrev pub OnlyNow : World → Type 0
+OnlyNow w = (c : List ℕ) (d : List Deed) → w.left_since w.moment c d → w.may_leave c × (d ≡ w.deeds)
+
+-- a call that writes nothing leaves no other file
+within : (old new : World) (deed : List Deed) → CountsNow new → Elapses Same deed old new → (c : List ℕ) → new.may_leave c → old.may_leave c
+within old new deed counts time c may =
+    let left = time.during c new.deeds (counts old.moment c time.later may) in subst old.may_leave (sym left.0.2) left.0.1
+
+before_now : (old : World) → OnlyNow old → LeavesOnly old old (OpeningMoment old)
+before_now old only = started old (OpeningMoment old) only (λ c may. (may, inl refl))
+
+now_moments : (old mid : World) (t : ℕ) → OnlyNow old → Elapses Same (Now t ∷ []) old mid → LeavesOnly old mid (OpeningMoment old)
+now_moments old mid t only time =
+    goes_on old old mid (OpeningMoment old) Same (Now t ∷ []) (before_now old only) time
+    (λ c d left deeds. (subst old.may_leave (sym left.2) left.1, ⊎_elim (λ is. inl is) (λ is. inr (t, is ∙ time.deeds)) deeds))
+
+-- ## An execution that isn't begun
+module _ (s : Scene) (old : World) (line : IsLineOf s (λ c. c ≡ Run)) where
+  -- the opening did nothing but read the clock, and memory ran out
+  pub lacking : (f : EngineFault) (new : World) → DidLittle old new → LeavesOnly old new (OpeningMoment old) → new.seen ≡ old.seen → f ≡ engine.OutOfMemory → Opening kept.Run s old new (Err f)
+  lacking f new little moments seen is = record {
+    little = little;
+    safe = λ fit O. weaker old new (OpeningMoment old) (SafeAt the_language O the_reports s None old) moments moment_safe;
+    opened = tt;
+    fault = subst (FaultHolds s) (sym is) tt;
+    refused = λ why. (weaker old new (OpeningMoment old) (λ c d. old.may_leave c) moments (λ c d now. now.0), seen);
+    resumed = λ no. absurd (cc no);
+    finished = λ st line2 h ended. absurd (not_run_and_resume s line line2);
+  }
+    where
+      moment_safe : {O : Outside} (c : List ℕ) (d : List Deed) → OpeningMoment old c d → SafeAt the_language O the_reports s None old c d
+      moment_safe {O} c d (may, inl is) = early_nothing O s old c d may is
+      moment_safe {O} c d (may, inr (t, is)) = early_now O s old c d t may is
+
+  pub no_clock : (f : EngineFault) (new : World) → OnlyNow old → CountsNow old → Elapses Same [] old new → new.seen ≡ old.seen → f ≡ engine.OutOfMemory → Opening kept.Run s old new (Err f)
+  no_clock f new only counts time seen is =
+      lacking f new (little_nothing old new (same_deeds old new Same time)) (goes_on_same old old new (OpeningMoment old) (before_now old only) counts time) seen is
+
+  pub no_start : (f : EngineFault) (new : World) (t : ℕ) → OnlyNow old → Elapses Same (Now t ∷ []) old new → new.seen ≡ old.seen → f ≡ engine.OutOfMemory → Opening kept.Run s old new (Err f)
+  no_start f new t only time seen is = lacking f new (little_now old new t time.deeds) (now_moments old new t only time) seen is
+
+-- ## Beginning
+-- what a beginning promises
+pub record Clauses (old new : World) (t : ℕ) (payload : List ℕ) (r : Result Engine EngineFault) : Type 0 where
+  pub stands : IfOk r (λ e. StandsFor kept.Run (memory e) (records new.seen) (Now t ∷ []))
+  pub session : IfOk r (λ e. (memory e).session ≡ 1)
+  pub started : OnOk r (records new.seen ≡ payload ∷ [])
+  pub any_moment : LeavesOnly old new (λ c d. (old.may_leave c × (d ≡ old.deeds)) ⊎ ((records old.seen ≡ []) × HasNoneOrThis old payload c d))
+  pub refused_stays : ((5 ≤ length old.seen) × (take 4 old.seen ≢ magic)) ⊎ (records old.seen ≢ []) → LeavesOnly old new (λ c d. old.may_leave c × (d ≡ old.deeds))
+  pub not_a_journal : IsErrOf r engine.NotAJournal → (5 ≤ length old.seen) × (take 4 old.seen ≢ magic)
+  pub a_journal : OnOk r (MayBegin old.seen)
+  pub already_started : IsErrOf r engine.AlreadyStarted → (records old.seen ≢ []) × MayBegin old.seen
+  pub fresh : OnOk r (records old.seen ≡ [])
+  pub only : IfErr r (λ e. (e ≡ engine.DiskFault) ⊎ (e ≡ engine.NotAJournal) ⊎ (e ≡ engine.AlreadyStarted) ⊎ (e ≡ engine.OutOfMemory))
+  pub deeds : new.deeds ≡ old.deeds
+
+module _ (s : Scene) (old mid new : World) (t : ℕ) (payload : List ℕ) (line : IsLineOf s (λ c. c ≡ Run)) (found : old.seen ≡ s.found) (only_now : OnlyNow old) (counts : CountsNow mid) (time : Elapses Same (Now t ∷ []) old mid) (same : mid.seen ≡ old.seen)
+    (start : StartOfLine s t payload) (law : OnlyReadings) where
+  found_is : mid.seen ≡ s.found
+  found_is = same ∙ found
+
+  safe_begin : (O : Outside) (c : List ℕ) (d : List Deed) → (mid.may_leave c × (d ≡ mid.deeds)) ⊎ ((records mid.seen ≡ []) × HasNoneOrThis mid payload c d) → SafeAt the_language O the_reports s None old c d
+  safe_begin O c d (inl (may, is)) = early_now O s old c d t (within old mid (Now t ∷ []) counts time c may) (is ∙ time.deeds)
+  safe_begin O c d (inr (none, (file, has, is))) = late_start O s old t payload c d law start (ap records (sym found_is) ∙ none) (is ∙ time.deeds) file has
+
+  safe_now : (O : Outside) (c : List ℕ) (d : List Deed) → OpeningMoment old c d → SafeAt the_language O the_reports s None old c d
+  safe_now O c d (may, inl is) = early_nothing O s old c d may is
+  safe_now O c d (may, inr (u, is)) = early_now O s old c d u may is
+
+  opened_of : (e : Engine) → Clauses mid new t payload (Ok e) → IsOpened kept.Run s (Now t ∷ []) new e
+  opened_of e k =
+      let none : records s.found ≡ [] = ap records (sym found_is) ∙ k.fresh in
+      record {
+        stands = k.stands;
+        number = k.session ∙ ap (λ J. next_session (journal the_language J)) (sym none);
+        added = payload ∷ [];
+        keeps = k.started ∙ ap (λ J. J ++ payload ∷ []) (sym none);
+        start = λ is. (start.line, start.bytes, start.reads, (t, (0, omega arith, refl), k.started ∙ ap (λ p. p ∷ []) start.is_start));
+        is_of = start.command;
+        causes = record {
+          magic = no_magic s (subst MayBegin found_is k.a_journal);
+          started = λ why. why.1 none;
+          not_started = not_resumed_by_run s line;
+          history = λ n why. no_history_by_run s n line why;
+        };
+      }
+
+  fault_of : (f : EngineFault) → Clauses mid new t payload (Err f) → FaultHolds s f
+  fault_of engine.DiskFault k = tt
+  fault_of engine.NotAJournal k =
+      let why = subst (λ f. (5 ≤ length f) × (take 4 f ≢ magic)) found_is (k.not_a_journal refl) in
+      ((run_uses s line, why.0, why.1), passed_magic s)
+  fault_of (engine.NotAHistory n) k = absurd (none k.only)
+    where
+      none : (engine.NotAHistory n ≡ engine.DiskFault) ⊎ (engine.NotAHistory n ≡ engine.NotAJournal) ⊎ (engine.NotAHistory n ≡ engine.AlreadyStarted) ⊎ (engine.NotAHistory n ≡ engine.OutOfMemory) → ⊥
+      none (inl is) = cc is
+      none (inr (inl is)) = cc is
+      none (inr (inr (inl is))) = cc is
+      none (inr (inr (inr is))) = cc is
+  fault_of engine.AlreadyStarted k =
+      let why = subst (λ f. (records f ≢ []) × MayBegin f) found_is (k.already_started refl) in
+      ((line, why.0), passed_started s (no_magic s why.1))
+  fault_of engine.NotStarted k = absurd (none k.only)
+    where
+      none : (engine.NotStarted ≡ engine.DiskFault) ⊎ (engine.NotStarted ≡ engine.NotAJournal) ⊎ (engine.NotStarted ≡ engine.AlreadyStarted) ⊎ (engine.NotStarted ≡ engine.OutOfMemory) → ⊥
+      none (inl is) = cc is
+      none (inr (inl is)) = cc is
+      none (inr (inr (inl is))) = cc is
+      none (inr (inr (inr is))) = cc is
+  fault_of engine.Closed k = tt
+  fault_of engine.OutOfMemory k = tt
+
+  opened_if : (r : Result Engine EngineFault) → Clauses mid new t payload r → IfOk r (IsOpened kept.Run s (Now t ∷ []) new)
+  opened_if (Ok e) k = opened_of e k
+  opened_if (Err f) k = tt
+
+  fault_if : (r : Result Engine EngineFault) → Clauses mid new t payload r → IfErr r (FaultHolds s)
+  fault_if (Ok e) k = tt
+  fault_if (Err f) k = fault_of f k
+
+  stays_where : HasOtherMagic s ⊎ IsStarted s ⊎ IsNotStarted s ⊎ ((n : ℕ) × IsNoHistory s n) → ((5 ≤ length s.found) × (take 4 s.found ≢ magic)) ⊎ (records s.found ≢ [])
+  stays_where (inl why) = inl (why.1, why.2)
+  stays_where (inr (inl why)) = inr why.1
+  stays_where (inr (inr (inl why))) = absurd (not_resumed_by_run s line why)
+  stays_where (inr (inr (inr (n, why)))) = absurd (no_history_by_run s n line why)
+
+  pub opening_by_run : (r : Result Engine EngineFault) → (refused_seen : ((5 ≤ length mid.seen) × (take 4 mid.seen ≢ magic)) ⊎ (records mid.seen ≢ []) → new.seen ≡ mid.seen) → Clauses mid new t payload r → Opening kept.Run s old new r
+  opening_by_run r seen k = record {
+    little = little_now old new t (k.deeds ∙ time.deeds);
+    safe = λ fit O.
+        joined old mid new (SafeAt the_language O the_reports s None old) _ (weaker old mid (OpeningMoment old) (SafeAt the_language O the_reports s None old) (now_moments old mid t only_now time) (λ c d now. safe_now O c d now)) k.any_moment
+        (λ c d now. safe_begin O c d now);
+    opened = opened_if r k;
+    fault = fault_if r k;
+    refused = λ why.
+        let stays = subst (λ f. ((5 ≤ length f) × (take 4 f ≢ magic)) ⊎ (records f ≢ [])) (sym found_is) (stays_where why) in (
+          joined old mid new (λ c d. old.may_leave c) (λ c d. mid.may_leave c × (d ≡ mid.deeds)) (weaker old mid (OpeningMoment old) (λ c d. old.may_leave c) (now_moments old mid t only_now time) (λ c d now. now.0)) (k.refused_stays stays)
+              (λ c d now. within old mid (Now t ∷ []) counts time c now.0),
+          seen stays ∙ same,
+        );
+    resumed = λ no. absurd (cc no);
+    finished = λ st line2 h ended. absurd (not_run_and_resume s line line2);
+  }
+
+-- ## The start of a line
+-- what an accepted source is
+pub accepted_of : (bytes : List ℕ) (p : Program) → read_source bytes ≡ Ok p → first_form bytes ≡ Some p
+unfolding read_source
+accepted_of bytes p is = by (nat_le 131073 (length bytes)) (first_form bytes) is
+  where
+    by : (b : Bool) (o : Option Program) → (if b then Err (refused SourceTooLong) else program_or_refusal o) ≡ Ok p → o ≡ Some p
+    by true o it = cc it
+    by false None it = cc it
+    by false (Some q) it = ap Some (same_ok (program_or_refusal (Some q)) q p refl it)
+
+pub short_of : (bytes : List ℕ) (p : Program) → read_source bytes ≡ Ok p → length bytes ≤ 131072
+unfolding read_source
+short_of bytes p is = by (nat_le 131073 (length bytes)) (first_form bytes) refl is
+  where
+    by : (b : Bool) (o : Option Program) → nat_le 131073 (length bytes) ≡ b → (if b then Err (refused SourceTooLong) else program_or_refusal o) ≡ Ok p → length bytes ≤ 131072
+    by true o long it = cc it
+    by false o long it = let low = leb-false 131073 (length bytes) long in omega (arith, low)
+
+pub language_of : (bytes : List ℕ) (p : Program) → read_source bytes ≡ Ok p → the_language.source bytes ≡ Some p
+unfolding the_language
+language_of bytes p is = accepted_of bytes p is
+
+pub start_of_line : (s : Scene) (l : PlainLine) (source : List ℕ) (p : Program) (t : ℕ) → line_of s.words ≡ Ok l → l.command ≡ Run → IsFirst 131073 s.source source → read_source source ≡ Ok p
+    → HasSpelling (Started (start_of l source t)) → MeaningOfSpelling → StartIsAHistory → StartOfLine s t (record_bytes (Started (start_of l source t)))
+start_of_line s l source p t is command first reads spelled meaning_of law =
+    let st = start_of l source t in
+    let means = meaning_of (Started st) spelled tt in
+    let accepted = language_of source p reads in
+    let begins = initial_is p st (form_is_straight source p (accepted_of source p reads)) in
+    record {
+      line = l;
+      bytes = source;
+      reads = (is, ap uses_source command, first);
+      is_start = refl;
+      means = means;
+      program = p;
+      accepted = accepted;
+      history = (_, law the_language (record_bytes (Started st)) st p _ means accepted begins);
+      command = run_command s (l, is, command);
+    }

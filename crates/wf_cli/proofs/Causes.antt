@@ -1,0 +1,192 @@
+-- The causes of statuses, and which of them come together.
+use Rattle.std.proofs.Common.{◌≡◌, ◌<◌, inl, inr, IsTrue, ℕ, Bool, true, false, List, Option, None, Some, Result, Ok, Err, refl, sym, ◌∙◌, ap, subst, arith}
+use Rattle.wf_cli.specs.Top.{IsLineOf, IsBadLine, IsRefused, HasOtherMagic, IsStarted, IsNotStarted, IsNoHistory, Reported, Gives, IsOfFile, Says, bad_line, refused, reported, of_file}
+use Rattle.wf_engine.specs.Printed as end
+use Rattle.wf_engine.specs.Printed.{Scene, uses_source, uses_journal, executes, status_of, outcome_text}
+use Rattle.wf_host.specs.World.{World}
+use Rattle.wf_line.specs.Lines.{PlainLine, line_of}
+use Rattle.wf_line.specs.declared.command.Command.{Command}
+use Rattle.wf_line.specs.declared.command.Command.TheVariants.{Run, Resume, Help, Version}
+use Rattle.wf_model.specs.Config.{Outcome, Active, Returned, Raised, Cancelled}
+use Rattle.wf_status.specs.Statuses.{rank, status_text}
+use Rattle.wf_status.specs.declared.Refusal.{Refusal}
+use Rattle.wf_status.specs.declared.Status.{Status}
+use Rattle.wf_status.specs.declared.Status.TheVariants as status
+
+-- ## Results
+abbrev is_ok_shape : {A B : Type 0} → Result A B → Bool
+is_ok_shape (Ok a) = true
+is_ok_shape (Err b) = false
+
+pub not_both : {A B : Type 0} (r : Result A B) (a : A) (b : B) → r ≡ Ok a → r ≡ Err b → ⊥
+not_both r a b is_ok is_err = let no : true ≡ false = ap is_ok_shape (sym is_ok ∙ is_err) in cc no
+
+pub same_err : {A B : Type 0} (r : Result A B) (b c : B) → r ≡ Err b → r ≡ Err c → b ≡ c
+same_err r b c is js = ap (err_value b) (sym is ∙ js)
+  where
+    err_value : {A B : Type 0} → B → Result A B → B
+    err_value d (Ok a) = d
+    err_value d (Err e) = e
+
+pub same_ok : {A B : Type 0} (r : Result A B) (a b : A) → r ≡ Ok a → r ≡ Ok b → a ≡ b
+same_ok r a b is js = ap (ok_value a) (sym is ∙ js)
+  where
+    ok_value : {A B : Type 0} → A → Result A B → A
+    ok_value d (Ok c) = c
+    ok_value d (Err e) = d
+
+pub same_some : {A : Type 0} (o : Option A) (a b : A) → o ≡ Some a → o ≡ Some b → a ≡ b
+same_some o a b is js = ap (some_value a) (sym is ∙ js)
+  where
+    some_value : {A : Type 0} → A → Option A → A
+    some_value d None = d
+    some_value d (Some c) = c
+
+-- ## Lines
+-- two facts of the line's command are of one command
+pub both : (s : Scene) (P Q : Command → Type 0) → IsLineOf s P → IsLineOf s Q → (c : Command) × P c × Q c
+both s P Q (l, is, p) (m, js, q) = (l.command, p, subst (λ (k : PlainLine). Q k.command) (same_ok (line_of s.words) m l js is) q)
+
+pub no_bad_line : (s : Scene) (P : Command → Type 0) (n : ℕ) → IsLineOf s P → IsBadLine s n → ⊥
+no_bad_line s P n (l, is, p) bad = not_both (line_of s.words) l n is bad
+
+pub journal_executes : (c : Command) → uses_journal c ≡ true → executes c ≡ true
+journal_executes Run is = refl
+journal_executes Resume is = refl
+journal_executes Help is = let no : false ≡ true = is in cc no
+journal_executes Version is = let no : false ≡ true = is in cc no
+
+source_executes : (c : Command) → uses_source c ≡ true → executes c ≡ true
+source_executes Run is = refl
+source_executes Resume is = let no : false ≡ true = is in cc no
+source_executes Help is = let no : false ≡ true = is in cc no
+source_executes Version is = let no : false ≡ true = is in cc no
+
+-- a line that executes, and one that doesn't
+pub executing : (s : Scene) → IsLineOf s (λ c. executes c ≡ true) → IsLineOf s (λ c. executes c ≡ false) → ⊥
+executing s a b =
+    let it = both s (λ c. executes c ≡ true) (λ c. executes c ≡ false) a b in
+    let no : true ≡ false = sym it.1 ∙ it.2 in cc no
+
+pub line_is : (s : Scene) (P Q : Command → Type 0) → ((c : Command) → P c → Q c) → IsLineOf s P → IsLineOf s Q
+line_is s P Q within (l, is, p) = (l, is, within l.command p)
+
+pub run_executes : (s : Scene) → IsLineOf s (λ c. c ≡ Run) → IsLineOf s (λ c. executes c ≡ true)
+run_executes s line = line_is s (λ c. c ≡ Run) (λ c. executes c ≡ true) (λ c is. ap executes is) line
+
+pub resume_executes : (s : Scene) → IsLineOf s (λ c. c ≡ Resume) → IsLineOf s (λ c. executes c ≡ true)
+resume_executes s line = line_is s (λ c. c ≡ Resume) (λ c. executes c ≡ true) (λ c is. ap executes is) line
+
+pub reported_line : (s : Scene) (text : List ℕ) → Reported s text → IsLineOf s (λ c. executes c ≡ false)
+reported_line s _ (end.helped line) = line_is s (λ c. c ≡ Help) (λ c. executes c ≡ false) (λ c is. ap executes is) line
+reported_line s _ (end.versioned line) = line_is s (λ c. c ≡ Version) (λ c. executes c ≡ false) (λ c is. ap executes is) line
+
+pub refused_line : (s : Scene) (r : Refusal) → IsRefused s r → IsLineOf s (λ c. executes c ≡ true)
+refused_line s r (l, bytes, (is, uses, first), why) = (l, is, source_executes l.command uses)
+
+-- no line is of two commands
+pub not_run_and_resume : (s : Scene) → IsLineOf s (λ c. c ≡ Run) → IsLineOf s (λ c. c ≡ Resume) → ⊥
+not_run_and_resume s a b =
+    let it = both s (λ c. c ≡ Run) (λ c. c ≡ Resume) a b in
+    let no : Run ≡ Resume = sym it.1 ∙ it.2 in cc no
+
+-- ## The cause of a status that prints a line
+abbrev pub Cause : Scene → Status → Type 0
+Cause s (status.BadLine n) = IsBadLine s n
+Cause s (status.Refused r) = IsRefused s r
+Cause s status.NotAJournal = HasOtherMagic s
+Cause s status.AlreadyStarted = IsStarted s
+Cause s status.NotStarted = IsNotStarted s
+Cause s (status.NotAHistory n) = IsNoHistory s n
+Cause s st = Unit {0}
+
+outcome_cause : (s : Scene) (o : Outcome) (st : Status) → status_of o ≡ Some st → Cause s st
+outcome_cause s Active st is = let no : None ≡ Some st = is in cc no
+outcome_cause s (Returned v) st is = subst (Cause s) (same_some (Some status.Done) status.Done st refl is) tt
+outcome_cause s (Raised e) st is = subst (Cause s) (same_some (Some status.Raised) status.Raised st refl is) tt
+outcome_cause s Cancelled st is = let no : None ≡ Some st = is in cc no
+
+pub gives_cause : (s : Scene) (image : List ℕ) (st : Status) (text : List ℕ) → Gives s image st text → Cause s st
+gives_cause s image _ _ (end.bad_line n bad) = bad
+gives_cause s image _ _ (end.refused r why) = why
+gives_cause s image _ _ (end.not_a_journal why) = why
+gives_cause s image _ _ (end.already_started why) = why
+gives_cause s image _ _ (end.not_started why) = why
+gives_cause s image _ _ (end.not_a_history n why) = why
+gives_cause s image _ _ (end.ended o st has is) = outcome_cause s o st is
+gives_cause s image _ _ (end.done text report) = tt
+
+pub says_cause : (s : Scene) (old new : World) (st : Status) (text : List ℕ) → IsTrue old.tells → Says s old new st text → Cause s st
+says_cause s old new _ _ told (bad_line n bad) = bad
+says_cause s old new _ _ told (refused r why) = why
+says_cause s old new _ _ told (reported text report) = tt
+says_cause s old new _ _ told (of_file st text is line accepted gives) = gives_cause s new.seen st text (gives told).0
+
+-- ## Lines that are printed
+-- of a result no line is printed by the status itself
+outcome_untexted : (o : Outcome) (st : Status) (line : List ℕ) → status_of o ≡ Some st → status_text st ≡ Some line → ⊥
+outcome_untexted Active st line is texted = let no : None ≡ Some st = is in cc no
+outcome_untexted (Returned v) st line is texted = let no : None ≡ Some line = subst (λ x. status_text x ≡ Some line) (sym (same_some (Some status.Done) status.Done st refl is)) texted in cc no
+outcome_untexted (Raised e) st line is texted = let no : None ≡ Some line = subst (λ x. status_text x ≡ Some line) (sym (same_some (Some status.Raised) status.Raised st refl is)) texted in cc no
+outcome_untexted Cancelled st line is texted = let no : None ≡ Some st = is in cc no
+
+gives_text : (s : Scene) (image : List ℕ) (st : Status) (text line : List ℕ) → Gives s image st text → status_text st ≡ Some line → text ≡ line
+gives_text s image _ _ line (end.bad_line n bad) is = same_some (status_text (status.BadLine n)) _ line refl is
+gives_text s image _ _ line (end.refused r why) is = same_some (status_text (status.Refused r)) _ line refl is
+gives_text s image _ _ line (end.not_a_journal why) is = same_some (status_text status.NotAJournal) _ line refl is
+gives_text s image _ _ line (end.already_started why) is = same_some (status_text status.AlreadyStarted) _ line refl is
+gives_text s image _ _ line (end.not_started why) is = same_some (status_text status.NotStarted) _ line refl is
+gives_text s image _ _ line (end.not_a_history n why) is = same_some (status_text (status.NotAHistory n)) _ line refl is
+gives_text s image _ _ line (end.ended o st has which) is = absurd (outcome_untexted o st line which is)
+gives_text s image _ _ line (end.done text report) is = let no : None ≡ Some line = is in cc no
+
+pub says_text : (s : Scene) (old new : World) (st : Status) (text line : List ℕ) → IsTrue old.tells → Says s old new st text → status_text st ≡ Some line → text ≡ line
+says_text s old new _ _ line told (bad_line n bad) is = same_some (status_text (status.BadLine n)) _ line refl is
+says_text s old new _ _ line told (refused r why) is = same_some (status_text (status.Refused r)) _ line refl is
+says_text s old new _ _ line told (reported text report) is = let no : None ≡ Some line = is in cc no
+says_text s old new _ _ line told (of_file st text isf rline accepted gives) is = gives_text s new.seen st text line (gives told).0 is
+
+-- ## Statuses that are said
+abbrev pub is_said : Status → Bool
+is_said status.BadArgument = false
+is_said status.ReadFault = false
+is_said status.PrintFault = false
+is_said status.DiskFault = false
+is_said status.PollFault = false
+is_said status.Suspended = false
+is_said status.OutOfMemory = false
+is_said st = true
+
+file_said : (st : Status) → IsOfFile st → is_said st ≡ true
+file_said st (inl is) = ap is_said is
+file_said st (inr (inl is)) = ap is_said is
+file_said st (inr (inr (inl is))) = ap is_said is
+file_said st (inr (inr (inr (inl (n, is))))) = ap is_said is
+file_said st (inr (inr (inr (inr (inl is))))) = ap is_said is
+file_said st (inr (inr (inr (inr (inr is))))) = ap is_said is
+
+pub says_said : (s : Scene) (old new : World) (st : Status) (text : List ℕ) → Says s old new st text → is_said st ≡ true
+says_said s old new _ _ (bad_line n bad) = refl
+says_said s old new _ _ (refused r why) = refl
+says_said s old new _ _ (reported text report) = refl
+says_said s old new _ _ (of_file st text is line accepted gives) = file_said st is
+
+-- a status that is said is none of the others
+pub not_said : (s : Scene) (old new : World) (st other : Status) (text : List ℕ) → Says s old new st text → st ≡ other → is_said other ≡ false → ⊥
+not_said s old new st other text says is isnt = let no : true ≡ false = sym (says_said s old new st text says) ∙ ap is_said is ∙ isnt in cc no
+
+-- ## Ranks
+pub file_rank : (st : Status) → IsOfFile st → (4 < rank st) × (rank st < 12)
+file_rank st (inl is) = subst (λ x. (4 < rank x) × (rank x < 12)) (sym is) (omega arith, omega arith)
+file_rank st (inr (inl is)) = subst (λ x. (4 < rank x) × (rank x < 12)) (sym is) (omega arith, omega arith)
+file_rank st (inr (inr (inl is))) = subst (λ x. (4 < rank x) × (rank x < 12)) (sym is) (omega arith, omega arith)
+file_rank st (inr (inr (inr (inl (n, is))))) = subst (λ x. (4 < rank x) × (rank x < 12)) (sym is) (omega arith, omega arith)
+file_rank st (inr (inr (inr (inr (inl is))))) = subst (λ x. (4 < rank x) × (rank x < 12)) (sym is) (omega arith, omega arith)
+file_rank st (inr (inr (inr (inr (inr is))))) = subst (λ x. (4 < rank x) × (rank x < 12)) (sym is) (omega arith, omega arith)
+
+-- what is said of words or of a source doesn't depend on the file
+pub says_early : (s : Scene) (old new : World) (st : Status) (text : List ℕ) → rank st < 5 → Says s old new st text → Cause s st
+says_early s old new _ _ low (bad_line n bad) = bad
+says_early s old new _ _ low (refused r why) = why
+says_early s old new _ _ low (reported text report) = tt
+says_early s old new _ _ low (of_file st text is line accepted gives) = absurd (let r = file_rank st is in let no : ⊥ = omega (arith, r.0, low) in no)

@@ -1,0 +1,129 @@
+-- Lists of deeds, one behind another.
+use Rattle.std.proofs.Common.{◌≡◌, suc, List, [], ◌∷◌, ◌++◌, refl, sym, ◌∙◌, ap, subst, append_assoc}
+use Rattle.std.specs.List.{AllByRecursion}
+use Rattle.std.proofs.lemmas.List.Elements.{All-head, All-tail}
+use Rattle.wf_cli.specs.Top.{IsPrint}
+use Rattle.wf_engine.specs.Deeds.{polls, nows, poll_readings, starts_or_polls, printed}
+use Rattle.wf_engine.specs.Safe.{IsSmall}
+use Rattle.wf_host.specs.declared.data.Deed.{Deed}
+use Rattle.wf_host.specs.declared.data.Deed.TheVariants.{Start, Poll, Now, Reply, Drop, Print}
+use Rattle.wf_printing.specs.Printing as printing
+
+-- ## Prints behind
+pub nows_behind : (D P : List Deed) → AllByRecursion IsPrint P → nows (D ++ P) ≡ nows D
+nows_behind [] [] prints = refl
+nows_behind [] (Start k a b ∷ P) prints = absurd prints.0
+nows_behind [] (Poll u h ∷ P) prints = absurd prints.0
+nows_behind [] (Now t ∷ P) prints = absurd prints.0
+nows_behind [] (Reply n b ∷ P) prints = absurd prints.0
+nows_behind [] (Drop k ∷ P) prints = absurd prints.0
+nows_behind [] (Print b ∷ P) prints = nows_behind [] P prints.1
+nows_behind (Start k a b ∷ D) P prints = nows_behind D P prints
+nows_behind (Poll u h ∷ D) P prints = nows_behind D P prints
+nows_behind (Now t ∷ D) P prints = ap (λ l. t ∷ l) (nows_behind D P prints)
+nows_behind (Reply n b ∷ D) P prints = nows_behind D P prints
+nows_behind (Drop k ∷ D) P prints = nows_behind D P prints
+nows_behind (Print b ∷ D) P prints = nows_behind D P prints
+
+pub polls_behind : (D P : List Deed) → AllByRecursion IsPrint P → polls (D ++ P) ≡ polls D
+polls_behind [] [] prints = refl
+polls_behind [] (Start k a b ∷ P) prints = absurd prints.0
+polls_behind [] (Poll u h ∷ P) prints = absurd prints.0
+polls_behind [] (Now t ∷ P) prints = absurd prints.0
+polls_behind [] (Reply n b ∷ P) prints = absurd prints.0
+polls_behind [] (Drop k ∷ P) prints = absurd prints.0
+polls_behind [] (Print b ∷ P) prints = polls_behind [] P prints.1
+polls_behind (Start k a b ∷ D) P prints = polls_behind D P prints
+polls_behind (Poll u h ∷ D) P prints = ap suc (polls_behind D P prints)
+polls_behind (Now t ∷ D) P prints = polls_behind D P prints
+polls_behind (Reply n b ∷ D) P prints = polls_behind D P prints
+polls_behind (Drop k ∷ D) P prints = polls_behind D P prints
+polls_behind (Print b ∷ D) P prints = polls_behind D P prints
+
+pub poll_readings_behind : (D P : List Deed) → AllByRecursion IsPrint P → poll_readings (D ++ P) ≡ poll_readings D
+poll_readings_behind [] [] prints = refl
+poll_readings_behind [] (Start k a b ∷ P) prints = absurd prints.0
+poll_readings_behind [] (Poll u h ∷ P) prints = absurd prints.0
+poll_readings_behind [] (Now t ∷ P) prints = absurd prints.0
+poll_readings_behind [] (Reply n b ∷ P) prints = absurd prints.0
+poll_readings_behind [] (Drop k ∷ P) prints = absurd prints.0
+poll_readings_behind [] (Print b ∷ P) prints = poll_readings_behind [] P prints.1
+poll_readings_behind (Start k a b ∷ D) P prints = poll_readings_behind D P prints
+poll_readings_behind (Poll u h ∷ D) P prints = ap (λ l. h.reading ∷ l) (poll_readings_behind D P prints)
+poll_readings_behind (Now t ∷ D) P prints = poll_readings_behind D P prints
+poll_readings_behind (Reply n b ∷ D) P prints = poll_readings_behind D P prints
+poll_readings_behind (Drop k ∷ D) P prints = poll_readings_behind D P prints
+poll_readings_behind (Print b ∷ D) P prints = poll_readings_behind D P prints
+
+pub starts_behind : (D P : List Deed) → AllByRecursion IsPrint P → starts_or_polls (D ++ P) ≡ starts_or_polls D
+starts_behind [] [] prints = refl
+starts_behind [] (Start k a b ∷ P) prints = absurd prints.0
+starts_behind [] (Poll u h ∷ P) prints = absurd prints.0
+starts_behind [] (Now t ∷ P) prints = absurd prints.0
+starts_behind [] (Reply n b ∷ P) prints = absurd prints.0
+starts_behind [] (Drop k ∷ P) prints = absurd prints.0
+starts_behind [] (Print b ∷ P) prints = starts_behind [] P prints.1
+starts_behind (Start k a b ∷ D) P prints = refl
+starts_behind (Poll u h ∷ D) P prints = refl
+starts_behind (Now t ∷ D) P prints = starts_behind D P prints
+starts_behind (Reply n b ∷ D) P prints = starts_behind D P prints
+starts_behind (Drop k ∷ D) P prints = starts_behind D P prints
+starts_behind (Print b ∷ D) P prints = starts_behind D P prints
+
+-- ## What was read and printed
+pub nows_both : (D E : List Deed) → nows (D ++ E) ≡ nows D ++ nows E
+nows_both [] E = refl
+nows_both (Start k a b ∷ D) E = nows_both D E
+nows_both (Poll u h ∷ D) E = nows_both D E
+nows_both (Now t ∷ D) E = ap (λ l. t ∷ l) (nows_both D E)
+nows_both (Reply n b ∷ D) E = nows_both D E
+nows_both (Drop k ∷ D) E = nows_both D E
+nows_both (Print b ∷ D) E = nows_both D E
+
+pub printed_both : (D E : List Deed) → printed (D ++ E) ≡ printed D ++ printed E
+printed_both [] E = refl
+printed_both (Start k a b ∷ D) E = printed_both D E
+printed_both (Poll u h ∷ D) E = printed_both D E
+printed_both (Now t ∷ D) E = printed_both D E
+printed_both (Reply n b ∷ D) E = printed_both D E
+printed_both (Drop k ∷ D) E = printed_both D E
+printed_both (Print b ∷ D) E = ap (λ l. b ++ l) (printed_both D E) ∙ sym (append_assoc b (printed D) (printed E))
+
+-- the bytes that were printed are those that printing tells of
+pub printed_same : (D : List Deed) → printing.printed D ≡ printed D
+printed_same [] = refl
+printed_same (Start k a b ∷ D) = printed_same D
+printed_same (Poll u h ∷ D) = printed_same D
+printed_same (Now t ∷ D) = printed_same D
+printed_same (Reply n b ∷ D) = printed_same D
+printed_same (Drop k ∷ D) = printed_same D
+printed_same (Print b ∷ D) = ap (λ l. b ++ l) (printed_same D)
+
+-- ## All of them
+pub all_both : {A : Type 0} (P : A → Type 0) (xs ys : List A) → AllByRecursion P xs → AllByRecursion P ys → AllByRecursion P (xs ++ ys)
+all_both P [] ys all more = more
+all_both P (x ∷ xs) ys all more = (all.0, all_both P xs ys all.1 more)
+
+print_is : (d : Deed) → printing.IsPrint d → IsPrint d
+print_is d (b, is) = subst IsPrint (sym is) tt
+
+pub all_prints : (D : List Deed) → printing.AllPrints D → AllByRecursion IsPrint D
+all_prints [] all = tt
+all_prints (d ∷ D) all = (print_is d (All-head printing.IsPrint d D all), all_prints D (All-tail printing.IsPrint d D all))
+
+print_small : (d : Deed) → IsPrint d → IsSmall d
+print_small (Start k a b) is = absurd is
+print_small (Poll u h) is = absurd is
+print_small (Now t) is = absurd is
+print_small (Reply n b) is = absurd is
+print_small (Drop k) is = absurd is
+print_small (Print b) is = tt
+
+pub prints_small : (D : List Deed) → AllByRecursion IsPrint D → AllByRecursion IsSmall D
+prints_small [] all = tt
+prints_small (d ∷ D) all = (print_small d all.0, prints_small D all.1)
+
+-- what holds of all holds of the one between
+pub all_at : {A : Type 0} (P : A → Type 0) (before : List A) (x : A) (behind : List A) → AllByRecursion P (before ++ x ∷ behind) → P x
+all_at P [] x behind all = all.0
+all_at P (y ∷ before) x behind all = all_at P before x behind all.1

@@ -1,0 +1,70 @@
+-- The start of a line has a spelling, and a short one.
+use Rattle.std.proofs.Common.{◌≡◌, ◌≤◌, ◌<◌, ◌+◌, ◌^◌, ℕ, List, [], ◌∷◌, ◌++◌, length, codes, IsUtf8, refl, sym, ◌∙◌, ap, subst, arith}
+use Rattle.std.specs.List.{AllByRecursion}
+use Rattle.std.proofs.lemmas.List.{length-append}
+use Rattle.std.proofs.lemmas.Str.{IsUtf8-from_ascii}
+use Rattle.wf_events.proofs.OnLiterals.{reading_on_literals}
+use Rattle.wf_events.specs.Records.{Started}
+use Rattle.wf_events.specs.Spelling.{record_bytes, HasSpelling, IsText, IsArgument, IsRoute, IsPair, string, eight, four, listed, route, pair}
+use Rattle.wf_shared.specs.Events.{Start}
+use Rattle.wf_value.specs.Data.{null}
+
+-- ## The argument
+pub null_is_argument : IsArgument (codes "null")
+unfolding reading_on_literals
+null_is_argument = record { value = null; said = refl; written = refl; small = omega arith }
+
+-- ## Lengths
+string_is : (s : List ℕ) → length (string s) ≡ 4 + length s
+string_is s = length-append (four (length s)) s
+
+eight_is : (n : ℕ) → length (eight n) ≡ 8
+eight_is n = refl
+
+seven : (a b c d e f g : List ℕ) → length (a ++ b ++ c ++ d ++ e ++ f ++ g) ≡ length a + length b + length c + length d + length e + length f + length g
+seven a b c d e f g =
+    omega (arith, length-append a b, length-append (a ++ b) c, length-append (a ++ b ++ c) d, length-append (a ++ b ++ c ++ d) e, length-append (a ++ b ++ c ++ d ++ e) f, length-append (a ++ b ++ c ++ d ++ e ++ f) g)
+
+-- the spelling of a start without routes and environment
+start_is : (s : Start) → s.routes ≡ [] → s.env ≡ [] → s.base ≡ [] → length (record_bytes (Started s)) ≡ 33 + length s.id + length s.source + length s.argument
+unfolding record_bytes
+start_is s routes env base =
+    ap (λ r. length (1 ∷ string s.id ++ string s.source ++ string s.argument ++ listed route r ++ listed pair s.env ++ string s.base ++ eight s.reading)) routes
+    ∙ ap (λ e. length (1 ∷ string s.id ++ string s.source ++ string s.argument ++ four 0 ++ listed pair e ++ string s.base ++ eight s.reading)) env
+    ∙ ap (λ b. length (1 ∷ string s.id ++ string s.source ++ string s.argument ++ four 0 ++ four 0 ++ string b ++ eight s.reading)) base
+    ∙ added s.id s.source s.argument s.reading
+  where
+    added : (a b c : List ℕ) (n : ℕ) → length (1 ∷ string a ++ string b ++ string c ++ four 0 ++ four 0 ++ four 0 ++ eight n) ≡ 33 + length a + length b + length c
+    added a b c n =
+        let whole = seven (string a) (string b) (string c) (four 0) (four 0) (four 0) (eight n) in omega (arith, whole, string_is a, string_is b, string_is c, eight_is n)
+
+-- what is known of a start of a line
+pub record IsPlainStart (s : Start) : Type 0 where
+  pub rules : s.rules ≡ 1
+  pub id : IsUtf8 s.id
+  pub short : length s.id ≤ 64
+  pub source : length s.source ≤ 131072
+  pub argument : s.argument ≡ codes "null"
+  pub routes : s.routes ≡ []
+  pub env : s.env ≡ []
+  pub base : s.base ≡ []
+  pub reading : s.reading < 2 ^ 64
+
+pub plain_fits : (s : Start) → IsPlainStart s → length (record_bytes (Started s)) ≤ 16777215
+plain_fits s p =
+    let four : length s.argument ≡ 4 = ap length p.argument in
+    let whole = start_is s p.routes p.env p.base in omega (arith, whole, four, p.short, p.source)
+
+pub plain_spelled : (s : Start) → IsPlainStart s → HasSpelling (Started s)
+plain_spelled s p = (
+  record {
+    id = (let short = p.short in omega (arith, short), p.id);
+    source = let short = p.source in omega (arith, short);
+    argument = subst (λ a. (length a < 2 ^ 32) × IsArgument a) (sym p.argument) (omega arith, null_is_argument);
+    routes = subst (λ r. (length r < 2 ^ 32) × AllByRecursion IsRoute r) (sym p.routes) (omega arith, tt);
+    env = subst (λ r. (length r < 2 ^ 32) × AllByRecursion IsPair r) (sym p.env) (omega arith, tt);
+    base = subst IsText (sym p.base) (omega arith, IsUtf8-from_ascii [] (λ i. omega arith));
+    reading = p.reading;
+  },
+  p.rules,
+)

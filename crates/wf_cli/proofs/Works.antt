@@ -1,0 +1,303 @@
+-- What a command has done, from the opening of its file and the way to the outcome.
+use Rattle.std.proofs.Common.{◌≡◌, ◌⊎◌, ◌≢◌, inl, inr, ⊎_elim, ℕ, true, false, List, [], ◌++◌, None, Some, Result, Ok, Err, IfOk, IsErr, IsErrAnd, refl, sym, ◌∙◌, ap, subst}
+use Rattle.std.specs.Prelude.{codes, decimal}
+use Rattle.std.proofs.lemmas.List.{append-nil}
+use Rattle.wf_ast.specs.Tree.{Program}
+use Rattle.wf_cli.proofs.Causes.{same_ok, same_err, same_some, both, executing}
+use Rattle.wf_cli.proofs.Together.{where_told, same_bytes}
+use Rattle.wf_cli.proofs.Moments.{early_nothing, late_going}
+use Rattle.wf_cli.proofs.Opens.{passed_all}
+use Rattle.wf_cli.specs.Reports.{the_reports, why_refused}
+use Rattle.wf_cli.specs.Source.{read_source}
+use Rattle.wf_cli.specs.Said.{SaysStatus, SaysFault, SaysReport, SaysBadLine, DidLittle, SafeSince, Unwritten, HasNoCause, FaultHolds, Opening, SaysResult, SaysHistory, Going, IsEnd, Worked}
+use Rattle.wf_cli.specs.Top.{IsLineOf, IsBadLine, IsRefused, HasOtherMagic, IsStarted, IsNotStarted, IsNoHistory, Reported, IsAccepted, IsOfFile, IsPassed, Gives, Says, bad_line, refused, reported, of_file}
+use Rattle.wf_cli.specs.declared.end.Said.{Said}
+use Rattle.wf_cli.specs.declared.end.Silence.{Silence}
+use Rattle.wf_cli.specs.declared.end.Silence.TheVariants as silence
+use Rattle.wf_engine.specs.Engine.{memory, KeptAt}
+use Rattle.wf_engine.specs.Kept as kept
+use Rattle.wf_engine.specs.Printed as end
+use Rattle.wf_engine.specs.Printed.{Scene, uses_source, executes, status_of, outcome_text}
+use Rattle.wf_engine.specs.Safe.{SafeAt}
+use Rattle.wf_engine.specs.TheLanguage.{the_language}
+use Rattle.wf_engine.specs.declared.engine.Engine.{Engine}
+use Rattle.wf_engine.specs.declared.fault.EngineFault.{EngineFault}
+use Rattle.wf_engine.specs.declared.fault.EngineFault.TheVariants as engine
+use Rattle.wf_host.specs.Moments.{CountsNow, started, joined}
+use Rattle.wf_host.specs.World.{World, Faults, Told, Rose}
+use Rattle.wf_host.specs.declared.data.Deed.{Deed}
+use Rattle.wf_journal.specs.Records.{records}
+use Rattle.wf_journal.specs.Steps.{Moment}
+use Rattle.wf_line.specs.Help.{help, version}
+use Rattle.wf_line.specs.Lines.{PlainLine, line_of}
+use Rattle.wf_line.specs.declared.command.Command.{Command}
+use Rattle.wf_line.specs.declared.command.Command.TheVariants.{Resume, Help, Version}
+use Rattle.wf_line.specs.declared.read.LineFault.{LineFault}
+use Rattle.wf_line.specs.declared.read.LineFault.TheVariants as words
+use Rattle.wf_model.specs.Config.{Outcome, Active, Returned, Raised, Cancelled}
+use Rattle.wf_replay.specs.History.{Standing, history}
+use Rattle.wf_status.specs.Refusals.{refusal_text}
+use Rattle.wf_status.specs.Statuses.{line_end, status_text}
+use Rattle.wf_status.specs.declared.Refusal.{Refusal}
+use Rattle.wf_status.specs.declared.Status.{Status}
+use Rattle.wf_status.specs.declared.Status.TheVariants as status
+
+-- ## A status that prints a line
+-- what is said with a line has its cause
+says_line : (s : Scene) (old new : World) (st : Status) (line : List ℕ) (it : Said) → Says s old new st line → status_text st ≡ Some line → SaysStatus st it → Says s old new it.status it.text.items
+says_line s old new st line it says is that = subst (λ t. Says s old new it.status t) (sym (that.text line is)) (subst (λ x. Says s old new x line) (sym that.status) says)
+
+gives_line : (s : Scene) (image : List ℕ) (st : Status) (line : List ℕ) (it : Said) → Gives s image st line → status_text st ≡ Some line → SaysStatus st it → Gives s image it.status it.text.items
+gives_line s image st line it gives is that = subst (λ t. Gives s image it.status t) (sym (that.text line is)) (subst (λ x. Gives s image x line) (sym that.status) gives)
+
+-- ## A command that touches no file
+-- it did nothing
+nothing_done : (s : Scene) (w : World) → ((c : List ℕ) (d : List Deed) → w.left_since w.moment c d → w.may_leave c × (d ≡ w.deeds)) → SafeSince s w w
+nothing_done s w only fit O = started w (SafeAt the_language O the_reports s None w) only (λ c may. early_nothing O s w c w.deeds may refl)
+
+pub still_unwritten : (w : World) → ((c : List ℕ) (d : List Deed) → w.left_since w.moment c d → w.may_leave c × (d ≡ w.deeds)) → Unwritten w w
+still_unwritten w only = (started w (λ c d. w.may_leave c) only (λ c may. may), refl)
+
+pub worked_nothing : (s : Scene) (w : World) (r : Result Said Silence) (little : DidLittle w w) → ((c : List ℕ) (d : List Deed) → w.left_since w.moment c d → w.may_leave c × (d ≡ w.deeds))
+    → IfOk r (λ it. (image : List ℕ) → Gives s image it.status it.text.items) → Worked s w w r
+worked_nothing s w r little only gives = record {
+  little = little;
+  safe = nothing_done s w only;
+  gives = every r gives;
+  finished = λ st line is ended. (still_unwritten w only, refl);
+  refused = λ why. still_unwritten w only;
+  reports = λ line. still_unwritten w only;
+}
+  where
+    every : (q : Result Said Silence) → IfOk q (λ it. (image : List ℕ) → Gives s image it.status it.text.items) → IfOk q (λ it. (image : List ℕ) → w.may_leave image → Gives s image it.status it.text.items)
+    every (Ok it) gives = λ image may. gives image
+    every (Err e) gives = tt
+
+-- words that are no line
+pub gives_bad_line : (s : Scene) (n : ℕ) (r : Result Said Silence) → IsBadLine s n → IfOk r (SaysStatus (status.BadLine n)) → IfOk r (λ it. (image : List ℕ) → Gives s image it.status it.text.items)
+gives_bad_line s n (Ok it) bad says = λ image. gives_line s image (status.BadLine n) (line_end (codes "bad line at word " ++ decimal n)) it (end.bad_line n bad) refl says
+gives_bad_line s n (Err e) bad says = tt
+
+pub end_bad_line : (s : Scene) (old new : World) (a b : ℕ) (f g : Faults) (n : ℕ) (it : Said) → IsBadLine s n → SaysStatus (status.BadLine n) it → IsEnd s old new a b f g (Ok it)
+end_bad_line s old new a b f g n it bad says = says_line s old new (status.BadLine n) (line_end (codes "bad line at word " ++ decimal n)) it (bad_line n bad) refl says
+
+-- a source that is refused
+pub gives_refused : (s : Scene) (why : Refusal) (it : Said) → IsRefused s why → SaysStatus (status.Refused why) it → (image : List ℕ) → Gives s image it.status it.text.items
+gives_refused s why it is says = λ image. gives_line s image (status.Refused why) (line_end (refusal_text why)) it (end.refused why is) refl says
+
+pub end_refused : (s : Scene) (old new : World) (a b : ℕ) (f g : Faults) (why : Refusal) (it : Said) → IsRefused s why → SaysStatus (status.Refused why) it → IsEnd s old new a b f g (Ok it)
+end_refused s old new a b f g why it is says = says_line s old new (status.Refused why) (line_end (refusal_text why)) it (refused why is) refl says
+
+-- a report
+pub gives_report : (s : Scene) (text : List ℕ) (it : Said) → Reported s text → (it.status ≡ status.Done) × (it.text.items ≡ text) → (image : List ℕ) → Gives s image it.status it.text.items
+gives_report s text it report says = λ image. subst (λ t. Gives s image it.status t) (sym says.1) (subst (λ x. Gives s image x text) (sym says.0) (end.done text report))
+
+pub end_report : (s : Scene) (old new : World) (a b : ℕ) (f g : Faults) (text : List ℕ) (it : Said) → Reported s text → (it.status ≡ status.Done) × (it.text.items ≡ text) → IsEnd s old new a b f g (Ok it)
+end_report s old new a b f g text it report says = subst (λ t. Says s old new it.status t) (sym says.1) (subst (λ x. Says s old new x text) (sym says.0) (reported text report))
+
+-- ## A file that isn't opened
+-- the status and the line of a fault
+fault_gives : (s : Scene) (f : EngineFault) (it : Said) → FaultHolds s f → SaysFault f (Ok it) → ((image : List ℕ) → Gives s image it.status it.text.items) × IsPassed s it.status × IsOfFile it.status
+fault_gives s engine.DiskFault it holds says = absurd (cc says)
+fault_gives s engine.NotAJournal it holds says =
+    (λ image. gives_line s image status.NotAJournal (line_end (codes "not a journal")) it (end.not_a_journal holds.0) refl says, subst (IsPassed s) (sym says.status) holds.1, inl says.status)
+fault_gives s (engine.NotAHistory n) it holds says =
+    (λ image. gives_line s image (status.NotAHistory n) (line_end (codes "not a history at record " ++ decimal n)) it (end.not_a_history n holds.0) refl says, subst (IsPassed s) (sym says.status) holds.1, inr (inr (inr (inl (n, says.status)))))
+fault_gives s engine.AlreadyStarted it holds says =
+    (λ image. gives_line s image status.AlreadyStarted (line_end (codes "already started")) it (end.already_started holds.0) refl says, subst (IsPassed s) (sym says.status) holds.1, inr (inl says.status))
+fault_gives s engine.NotStarted it holds says =
+    (λ image. gives_line s image status.NotStarted (line_end (codes "not started")) it (end.not_started holds.0) refl says, subst (IsPassed s) (sym says.status) holds.1, inr (inr (inl says.status)))
+fault_gives s engine.Closed it holds says = absurd (cc says)
+fault_gives s engine.OutOfMemory it holds says = absurd (cc says)
+
+-- a fault is of the file, whether or not the host tells
+fault_of_file : (f : EngineFault) (it : Said) → SaysFault f (Ok it) → IsOfFile it.status
+fault_of_file engine.DiskFault it says = absurd (cc says)
+fault_of_file engine.NotAJournal it says = inl says.status
+fault_of_file (engine.NotAHistory n) it says = inr (inr (inr (inl (n, says.status))))
+fault_of_file engine.AlreadyStarted it says = inr (inl says.status)
+fault_of_file engine.NotStarted it says = inr (inr (inl says.status))
+fault_of_file engine.Closed it says = absurd (cc says)
+fault_of_file engine.OutOfMemory it says = absurd (cc says)
+
+abbrev as_err : Silence → Result Said Silence
+as_err e = Err e
+
+err_is : (e g : Silence) → as_err e ≡ as_err g → e ≡ g
+err_is e g is = same_err (as_err e) e g refl is
+
+-- a silence of a fault is the disk's or memory's
+pub fault_silence : (f : EngineFault) (e : Silence) → SaysFault f (Err e) → ((f ≡ engine.DiskFault) × (e ≡ silence.DiskFault)) ⊎ (e ≡ silence.OutOfMemory)
+fault_silence engine.DiskFault e says = inl (refl, err_is e silence.DiskFault says)
+fault_silence engine.NotAJournal e says = inr says
+fault_silence (engine.NotAHistory n) e says = inr says
+fault_silence engine.AlreadyStarted e says = inr says
+fault_silence engine.NotStarted e says = inr says
+fault_silence engine.Closed e says = inr (err_is e silence.OutOfMemory says)
+fault_silence engine.OutOfMemory e says = inr (err_is e silence.OutOfMemory says)
+
+pub end_fault : (s : Scene) (old new : World) (a b : ℕ) (f g : Faults) (why : EngineFault) (r : Result Said Silence) → SaysFault why r → IsLineOf s (λ c. executes c ≡ true) → IsAccepted s → Told old (FaultHolds s why)
+    → (why ≡ engine.DiskFault → Rose f.disk g.disk) → IsEnd s old new a b f g r
+end_fault s old new a b f g why (Ok it) says line accepted holds rose =
+    of_file it.status it.text.items (fault_of_file why it says) line accepted (λ told. let x = fault_gives s why it (holds told) says in (x.0 new.seen, x.1))
+end_fault s old new a b f g why (Err e) says line accepted holds rose =
+    ⊎_elim (λ disk. subst (λ x. IsEnd s old new a b f g (Err x)) (sym disk.1) (line, accepted, rose disk.0)) (λ lack. subst (λ x. IsEnd s old new a b f g (Err x)) (sym lack) tt) (fault_silence why e says)
+
+pub worked_fault : (s : Scene) (command : kept.Command) (old new : World) (why : EngineFault) (r : Result Said Silence) → Opening command s old new (Err why) → SaysFault why r → IsLineOf s (λ c. executes c ≡ true)
+    → (IsLineOf s (λ c. c ≡ Resume) → command ≡ kept.Resume) → Worked s old new r
+worked_fault s command old new why r o says line which = record {
+  little = o.little;
+  safe = o.safe;
+  gives = given r says;
+  finished = λ st line2 is ended. (o.resumed (which line2), o.finished st line2 is ended);
+  refused = o.refused;
+  reports = λ other. absurd (executing s line other);
+}
+  where
+    given : (q : Result Said Silence) → SaysFault why q → IfOk q (λ it. (image : List ℕ) → new.may_leave image → Gives s image it.status it.text.items)
+    given (Ok it) says = λ image may. (fault_gives s why it o.fault says).0 image
+    given (Err e) says = tt
+
+-- ## The outcome
+-- a status that is said of an outcome is of the file
+outcome_of_file : (o : Outcome) (st : Status) → status_of o ≡ Some st → IsOfFile st
+outcome_of_file Active st is = let no : None ≡ Some st = is in absurd (cc no)
+outcome_of_file (Returned v) st is = inr (inr (inr (inr (inl (sym (same_some (Some status.Done) status.Done st refl is))))))
+outcome_of_file (Raised e) st is = inr (inr (inr (inr (inr (sym (same_some (Some status.Raised) status.Raised st refl is))))))
+outcome_of_file Cancelled st is = let no : None ≡ Some st = is in absurd (cc no)
+
+-- the outcome of what stands there
+history_gives : (s : Scene) (new : World) (it : Said) → IsLineOf s (λ c. executes c ≡ true) → SaysHistory new it → (image : List ℕ) → new.may_leave image → Gives s image it.status it.text.items
+history_gives s new it line says image may =
+    subst (λ t. Gives s image it.status t) (sym says.says.text)
+    (end.ended says.standing.config.outcome it.status (line, (says.standing, subst (λ f. history the_language (records f) ≡ Ok says.standing) (sym (says.settled image may)) says.history, refl)) says.says.status)
+
+module _ (s : Scene) (command : kept.Command) (old mid new : World) (e : Engine) (r : Result Said Silence) (line : IsLineOf s (λ c. executes c ≡ true)) (which : IsLineOf s (λ c. c ≡ Resume) → command ≡ kept.Resume) (found : old.seen ≡ s.found)
+    (counts : CountsNow mid) (o : Opening command s old mid (Ok e)) (g : Going command (memory e) o.little.done mid new r) where
+  given : (q : Result Said Silence) → IfOk q (SaysHistory new) → IfOk q (λ it. (image : List ℕ) → new.may_leave image → Gives s image it.status it.text.items)
+  given (Ok it) says = history_gives s new it line says
+  given (Err x) says = tt
+
+  no_cause : HasOtherMagic s ⊎ IsStarted s ⊎ IsNotStarted s ⊎ ((n : ℕ) × IsNoHistory s n) → ⊥
+  no_cause (inl why) = o.opened.causes.magic why
+  no_cause (inr (inl why)) = o.opened.causes.started why
+  no_cause (inr (inr (inl why))) = o.opened.causes.not_started why
+  no_cause (inr (inr (inr (n, why)))) = o.opened.causes.history n why
+
+  had_outcome : (st : Standing) → history the_language (records s.found) ≡ Ok st → st.config.outcome ≢ Active → Unwritten old mid → (memory e).config.outcome ≢ Active
+  had_outcome st is ended stays active =
+      let leads = o.opened.stands.leads in
+      let here : history the_language (records s.found) ≡ Ok leads.standing = subst (λ f. history the_language (records f) ≡ Ok leads.standing) (stays.1 ∙ found) leads.history in
+      let same : leads.standing ≡ st = same_ok (history the_language (records s.found)) leads.standing st here is in
+      ended (ap (λ (k : Standing). k.config.outcome) (sym same) ∙ ap (λ c. c.outcome) leads.config ∙ active)
+
+  both_unwritten : Unwritten old mid → Unwritten mid new → Unwritten old new
+  both_unwritten first second = (
+    joined old mid new (λ c d. old.may_leave c) (λ c d. mid.may_leave c) first.0 second.0 (λ c d may. first.0.each c mid.deeds (counts old.moment c first.0.later may)),
+    second.1 ∙ first.1,
+  )
+
+  pub worked_going : Worked s old new r
+  worked_going = record {
+    little = record { done = o.little.done; deeds = g.deeds ∙ o.little.deeds; small = o.little.small; silent = o.little.silent };
+    safe = λ fit O.
+        joined old mid new (SafeAt the_language O the_reports s None old) (Moment mid (KeptAt command (memory e) (records mid.seen) o.little.done)) (o.safe fit O) g.moments
+        (λ c d now. late_going O s command old mid o.little.done e c d o.opened o.little.deeds o.little.silent now);
+    gives = given r g.said;
+    finished = λ st line2 is ended.
+        let stays = o.resumed (which line2) in
+        (both_unwritten stays (g.finished (had_outcome st is ended stays)), g.deeds ∙ o.finished st line2 is ended);
+    refused = λ why. absurd (no_cause why);
+    reports = λ other. absurd (executing s line other);
+  }
+
+pub end_going : (s : Scene) (old new : World) (a b : ℕ) (f g h : Faults) (r : Result Said Silence) → SaysResult g h r → IsLineOf s (λ c. executes c ≡ true) → IsAccepted s
+    → Told old (HasNoCause s × IfOk r (λ it. Gives s new.seen it.status it.text.items)) → (Rose g.disk h.disk → Rose f.disk h.disk) → IsEnd s old new a b f h r
+end_going s old new a b f g h (Ok it) (o, result, says) line accepted gives rose =
+    of_file it.status it.text.items (outcome_of_file o it.status says.status) line accepted (λ told. let x = gives told in (x.1, passed_all s it.status x.0))
+end_going s old new a b f g h (Err silence.Unread) says line accepted gives rose = absurd says
+end_going s old new a b f g h (Err silence.DiskFault) says line accepted gives rose = (line, accepted, rose says)
+end_going s old new a b f g h (Err silence.OutOfMemory) says line accepted gives rose = tt
+
+-- ## Commands that touch nothing
+abbrev pub OnlyNow : World → Type 0
+OnlyNow w = (c : List ℕ) (d : List Deed) → w.left_since w.moment c d → w.may_leave c × (d ≡ w.deeds)
+
+little_still : (w : World) → DidLittle w w
+little_still w = record { done = []; deeds = sym (append-nil w.deeds); small = tt; silent = refl }
+
+lack_end : (s : Scene) (w : World) (a b : ℕ) (f g : Faults) (e : Silence) → e ≡ silence.OutOfMemory → IsEnd s w w a b f g (Err e)
+lack_end s w a b f g e is = subst (λ x. IsEnd s w w a b f g (Err x)) (sym is) tt
+
+lack_worked : (s : Scene) (w : World) (e : Silence) → OnlyNow w → Worked s w w (Err e)
+lack_worked s w e only = worked_nothing s w (Err e) (little_still w) only tt
+
+-- a report
+pub report_end : (s : Scene) (w : World) (a b : ℕ) (f g : Faults) (text : List ℕ) (r : Result Said Silence) → Reported s text → SaysReport text r → IsEnd s w w a b f g r
+report_end s w a b f g text (Ok it) report says = end_report s w w a b f g text it report says
+report_end s w a b f g text (Err e) report says = lack_end s w a b f g e says
+
+pub report_worked : (s : Scene) (w : World) (text : List ℕ) (r : Result Said Silence) → Reported s text → SaysReport text r → OnlyNow w → Worked s w w r
+report_worked s w text (Ok it) report says only = worked_nothing s w (Ok it) (little_still w) only (gives_report s text it report says)
+report_worked s w text (Err e) report says only = lack_worked s w e only
+
+-- words that are no line
+pub bad_line_end : (s : Scene) (w : World) (a b : ℕ) (f g : Faults) (why : LineFault) (r : Result Said Silence) → SaysBadLine why r → ((n : ℕ) → why ≡ words.BadLine n → IsBadLine s n) → IsEnd s w w a b f g r
+bad_line_end s w a b f g (words.BadLine n) (Ok it) says bad = end_bad_line s w w a b f g n it (bad n refl) says
+bad_line_end s w a b f g (words.BadLine n) (Err e) says bad = lack_end s w a b f g e says
+bad_line_end s w a b f g words.OutOfMemory r says bad = subst (λ q. IsEnd s w w a b f g q) (sym says) tt
+
+pub bad_line_worked : (s : Scene) (w : World) (why : LineFault) (r : Result Said Silence) → SaysBadLine why r → ((n : ℕ) → why ≡ words.BadLine n → IsBadLine s n) → OnlyNow w → Worked s w w r
+bad_line_worked s w (words.BadLine n) (Ok it) says bad only = worked_nothing s w (Ok it) (little_still w) only (gives_bad_line s n (Ok it) (bad n refl) says)
+bad_line_worked s w (words.BadLine n) (Err e) says bad only = lack_worked s w e only
+bad_line_worked s w words.OutOfMemory r says bad only = subst (λ q. Worked s w w q) (sym says) (lack_worked s w silence.OutOfMemory only)
+
+-- a source that is refused, and one that isn't read
+pub refused_worked : (s : Scene) (w : World) (why : Refusal) (it : Said) → IsRefused s why → SaysStatus (status.Refused why) it → OnlyNow w → Worked s w w (Ok it)
+refused_worked s w why it is says only = worked_nothing s w (Ok it) (little_still w) only (gives_refused s why it is says)
+
+pub silent_worked : (s : Scene) (w : World) (e : Silence) → OnlyNow w → Worked s w w (Err e)
+silent_worked s w e only = lack_worked s w e only
+
+-- a refusal of bytes that were read
+pub is_refused : (s : Scene) (l : PlainLine) (bytes : List ℕ) (why : Refusal) → end.Reads the_language the_reports s l bytes → read_source bytes ≡ Err why → IsRefused s why
+unfolding the_reports
+is_refused s l bytes why reads is = (l, bytes, reads, ap why_refused is)
+
+-- bytes that are accepted are no others that are refused
+pub is_accepted : (s : Scene) (l : PlainLine) (bytes : List ℕ) (p : Program) → end.Reads the_language the_reports s l bytes → read_source bytes ≡ Ok p → IsAccepted s
+unfolding the_reports
+is_accepted s l bytes p reads is = where_told s.source _ (λ left told why (m, other, (line, uses, first), refuses). absurd (none why (ap why_refused (sym is) ∙ ap (λ b. why_refused (read_source b)) (same_bytes s.source left bytes other told reads.2 first) ∙ refuses)))
+  where
+    none : (why : Refusal) → None ≡ Some why → ⊥
+    none why never = cc never
+
+-- a line that uses no source is accepted
+pub resume_accepted : (s : Scene) → IsLineOf s (λ c. c ≡ Resume) → IsAccepted s
+resume_accepted s line = where_told s.source _ (λ left told why (m, other, (is, uses, first), refuses). absurd (not_both_uses (both s (λ c. c ≡ Resume) (λ c. uses_source c ≡ true) line (m, is, uses))))
+  where
+    not_both_uses : (c : Command) × (c ≡ Resume) × (uses_source c ≡ true) → ⊥
+    not_both_uses (c, is, uses) = let no : false ≡ true = ap uses_source (sym is) ∙ uses in cc no
+
+-- what is said of each file that a crash may leave is said of the one that reads
+pub given_seen : (s : Scene) (new : World) (r : Result Said Silence) → IfOk r (λ it. (image : List ℕ) → new.may_leave image → Gives s image it.status it.text.items) → new.may_leave new.seen → IfOk r (λ it. Gives s new.seen it.status it.text.items)
+given_seen s new (Ok it) gives may = gives new.seen may
+given_seen s new (Err e) gives may = tt
+
+pub no_said : (r : Result Said Silence) (P : Said → Type 0) → IsErr r → IfOk r P
+no_said (Ok it) P is = absurd (cc is)
+no_said (Err e) P is = tt
+
+-- a failure for want of memory
+pub lacks_engine : (command : kept.Command) (s : Scene) (old new : World) (r : Result Engine EngineFault) → IsErr r × IsErrAnd r (λ f. f ≡ engine.OutOfMemory) → ((f : EngineFault) → f ≡ engine.OutOfMemory → Opening command s old new (Err f)) → Opening command s old new r
+lacks_engine command s old new (Ok e) is all = let no : false ≡ true = is.0 in absurd (cc no)
+lacks_engine command s old new (Err f) is all = all f is.1
+
+-- a line that asks for a text of the program
+pub help_reported : (s : Scene) (l : PlainLine) (text : List ℕ) → line_of s.words ≡ Ok l → l.command ≡ Help → text ≡ help → Reported s text
+unfolding the_reports
+help_reported s l text is command same = subst (λ t. Reported s t) (sym same) (end.helped (l, is, command))
+
+pub version_reported : (s : Scene) (l : PlainLine) (text : List ℕ) → line_of s.words ≡ Ok l → l.command ≡ Version → text ≡ version → Reported s text
+unfolding the_reports
+version_reported s l text is command same = subst (λ t. Reported s t) (sym same) (end.versioned (l, is, command))

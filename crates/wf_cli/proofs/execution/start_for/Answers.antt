@@ -1,0 +1,36 @@
+use Rattle.std.proofs.Common.{◌≤◌, length, refl, ap, subst, sym}
+use Rattle.std.specs.Prelude.{map}
+use Rattle.wf_cli.proofs.Spelled.{IsPlainStart, plain_fits, plain_spelled}
+use Rattle.wf_events.specs.View.{start_view, route_view}
+use Rattle.wf_cli.proofs.execution.start_for.Goals as goal
+
+abbrev Plain : goal.In_ok-new-3 → Type 0
+Plain c =
+    IsPlainStart (start_view (record {
+      id = c.in_ok-id_for.field-0;
+      source = c.in_ok-new.field-0;
+      argument = c.in_ok-new-2.field-0;
+      routes = c.new-3.result;
+      env = c.new-4.result;
+      base = c.in_ok-new-3.field-0;
+      reading = c.args.reading;
+    }))
+
+is_plain : (c : goal.In_ok-new-3) → Plain c
+is_plain c = record {
+  rules = refl;
+  id = c.in_ok-id_for.ensures.text;
+  short = c.in_ok-id_for.ensures.short;
+  source = subst (λ l. length l ≤ 131072) (sym c.in_ok-new.ensures) c.requires.short;
+  argument = c.in_ok-new-2.ensures;
+  routes = ap (map route_view) c.new-3.ensures;
+  env = c.new-4.ensures;
+  base = c.in_ok-new-3.ensures;
+  reading = c.ranges.reading.fits;
+}
+
+pub returns-clause-spelled : goal.returns-clause-spelled
+returns-clause-spelled c = plain_spelled _ (is_plain c)
+
+pub returns-clause-fits : goal.returns-clause-fits
+returns-clause-fits c = plain_fits _ (is_plain c)

@@ -1,0 +1,37 @@
+use Rattle.std.proofs.Common.{sym}
+use Rattle.wf_cli.proofs.Works.{report_end, report_worked, help_reported, version_reported}
+use Rattle.wf_engine.specs.Safe.{scene}
+use Rattle.wf_line.specs.Plain.{plain_line}
+use Rattle.wf_cli.proofs.top.execute.Goals as goal
+
+pub returns-in-Resume-clause-end : goal.returns-in-Resume-clause-end
+returns-in-Resume-clause-end g c = λ words is. c.resume.ensures.end words (g.S.Source.left c.args.source.now) (g.S.Source.faults c.args.source.now) (g.S.Source.faults c.args.source.now) (plain_line c.args.line.now, is, sym c.in-Resume.ensures.command)
+
+pub returns-in-Resume-clause-worked : goal.returns-in-Resume-clause-worked
+returns-in-Resume-clause-worked g c = λ told words is. c.resume.ensures.worked told words (g.S.Source.left c.args.source.now) (plain_line c.args.line.now, is, sym c.in-Resume.ensures.command)
+
+pub returns-in-Help-clause-end : goal.returns-in-Help-clause-end
+returns-in-Help-clause-end g c = λ words is.
+    let old = g.H.Host.world c.args.host.now in
+    report_end (scene words (g.S.Source.left c.args.source.now) old) old (g.S.Source.faults c.args.source.now) (g.S.Source.faults c.args.source.now) (g.H.Host.faults c.args.host.now) (g.H.Host.faults c.args.host.now) c.help_text.result.now c.report.result
+    (help_reported (scene words (g.S.Source.left c.args.source.now) old) (plain_line c.args.line.now) c.help_text.result.now is (sym c.in-Help.ensures.command) c.help_text.ensures.text) c.report.ensures
+
+pub returns-in-Help-clause-worked : goal.returns-in-Help-clause-worked
+returns-in-Help-clause-worked g c = λ told words is.
+    let old = g.H.Host.world c.args.host.now in
+    report_worked (scene words (g.S.Source.left c.args.source.now) old) old c.help_text.result.now c.report.result
+    (help_reported (scene words (g.S.Source.left c.args.source.now) old) (plain_line c.args.line.now) c.help_text.result.now is (sym c.in-Help.ensures.command) c.help_text.ensures.text) c.report.ensures
+    (λ i d left. g.met.H.Host.only_now c.args.host.now i d told left)
+
+pub returns-in-Version-clause-end : goal.returns-in-Version-clause-end
+returns-in-Version-clause-end g c = λ words is.
+    let old = g.H.Host.world c.args.host.now in
+    report_end (scene words (g.S.Source.left c.args.source.now) old) old (g.S.Source.faults c.args.source.now) (g.S.Source.faults c.args.source.now) (g.H.Host.faults c.args.host.now) (g.H.Host.faults c.args.host.now) c.version_text.result.now c.report-in-Version.result
+    (version_reported (scene words (g.S.Source.left c.args.source.now) old) (plain_line c.args.line.now) c.version_text.result.now is (sym c.in-Version.ensures.command) c.version_text.ensures) c.report-in-Version.ensures
+
+pub returns-in-Version-clause-worked : goal.returns-in-Version-clause-worked
+returns-in-Version-clause-worked g c = λ told words is.
+    let old = g.H.Host.world c.args.host.now in
+    report_worked (scene words (g.S.Source.left c.args.source.now) old) old c.version_text.result.now c.report-in-Version.result
+    (version_reported (scene words (g.S.Source.left c.args.source.now) old) (plain_line c.args.line.now) c.version_text.result.now is (sym c.in-Version.ensures.command) c.version_text.ensures) c.report-in-Version.ensures
+    (λ i d left. g.met.H.Host.only_now c.args.host.now i d told left)

@@ -1,0 +1,138 @@
+-- Where a first record leads, and the records behind it.
+use Rattle.std.specs.Prelude.{◌≡◌, ◌≢◌, ℕ, true, List, [], ◌∷◌, Option, Some, None, Result, Ok, Err, IfErr, IsErr, IsErrAnd, option_and_then}
+use Rattle.std.proofs.Common.{refl, sym, ◌∙◌, ap, subst}
+use Rattle.wf_ast.specs.Tree.{Program}
+use Rattle.wf_engine.proofs.Forms.{form_is_straight}
+use Rattle.wf_engine.specs.Faults.{fault_of, replay_fault}
+use Rattle.wf_engine.specs.Openings.{NoFirst}
+use Rattle.wf_engine.specs.TheLanguage.{the_language}
+use Rattle.wf_engine.specs.declared.fault.EngineFault.{EngineFault}
+use Rattle.wf_engine.specs.declared.fault.EngineFault.TheVariants.{NotAHistory}
+use Rattle.wf_events.specs.Reading.{meaning}
+use Rattle.wf_events.specs.Records.{Record, Started}
+use Rattle.wf_first_form.specs.FirstForm.{first_form}
+use Rattle.wf_history.specs.Faults.{told}
+use Rattle.wf_history.specs.Stands.{IsBadAt, last_after}
+use Rattle.wf_history.specs.declared.fault.HistoryFault.{HistoryFault}
+use Rattle.wf_history.specs.declared.fault.HistoryFault.TheVariants as history_fault
+use Rattle.wf_machine.specs.Seen.{state_of}
+use Rattle.wf_machine.specs.Straight.{is_straight}
+use Rattle.wf_machine.specs.declared.machine.Machine.{Machine}
+use Rattle.wf_model.specs.Config.{To}
+use Rattle.wf_model.specs.Run.{initial}
+use Rattle.wf_replay.specs.History.{Standing, first_standing, goes_to, history, history_from, started}
+use Rattle.wf_replay.specs.Language.{Language}
+use Rattle.wf_replay.specs.Standing.{stands_at}
+use Rattle.wf_replay.specs.declared.fault.ReplayFault.{ReplayFault}
+use Rattle.wf_replay.specs.declared.fault.ReplayFault.TheVariants as replay_fault_of
+use Rattle.wf_shared.specs.Events.{Start}
+
+-- ## The language
+pub accepts : (source : List ℕ) (o : Option Program) → o ≡ first_form source → the_language.source source ≡ o
+unfolding the_language
+accepts source o is = sym is
+
+pub accepted_is_straight : (source : List ℕ) (p : Program) → the_language.source source ≡ Some p → is_straight p ≡ true
+unfolding the_language
+accepted_is_straight source p is = form_is_straight source p is
+
+-- ## A first record
+at_first : (m : Machine) → stands_at 1 None m ≡ record { program = (state_of m).program; config = (state_of m).config; number = 1; session = 0; waits = 0 }
+unfolding stands_at
+at_first m = refl
+
+-- an accepted start leads where its machine stands
+pub start_leads : (s : Start) (p : Program) (m : Machine) → the_language.source s.source ≡ Some p → (state_of m).program ≡ p → initial p s ≡ To (state_of m).config → first_standing the_language (Some (Started s)) ≡ Some (stands_at 1 None m)
+start_leads s p m accepted program begins_at =
+    ap (λ o. option_and_then (λ q. started q (initial q s)) o) accepted
+    ∙ ap (λ a. started p a) begins_at
+    ∙ ap (λ q. Some (record { program = q; config = (state_of m).config; number = 1; session = 0; waits = 0 })) (sym program)
+    ∙ ap Some (sym (at_first m))
+
+pub none_of : {A : Type 0} (o : Option A) → ((x : A) → o ≡ Some x → ⊥) → o ≡ None
+none_of None other = refl
+none_of (Some x) other = absurd (other x refl)
+
+pub start_refused : (s : Start) → the_language.source s.source ≡ None → first_standing the_language (Some (Started s)) ≡ None
+start_refused s refused = ap (λ o. option_and_then (λ q. started q (initial q s)) o) refused
+
+-- ## The records behind it
+pub records_lead : (L : Language) (J : List (List ℕ)) (b : List ℕ) (bs : List (List ℕ)) (s : Standing) (r : Result Standing ℕ) → J ≡ b ∷ bs → first_standing L (meaning b) ≡ Some s → goes_to s bs ≡ r → history L J ≡ r
+unfolding history
+records_lead L J b bs s r is first leads = ap (λ l. history L l) is ∙ ap (λ o. history_from o bs) first ∙ leads
+
+pub records_stop : (L : Language) (J : List (List ℕ)) (b : List ℕ) (bs : List (List ℕ)) → J ≡ b ∷ bs → first_standing L (meaning b) ≡ None → history L J ≡ Err 0
+unfolding history
+records_stop L J b bs is first = ap (λ l. history L l) is ∙ ap (λ o. history_from o bs) first
+
+-- a payload that is no record is no first one
+pub bad_first : (L : Language) (n place : ℕ) (ahead : List (List ℕ)) → place ≡ 0 → IsBadAt n place ahead → NoFirst L n ahead
+bad_first L n place ahead at bad = record {
+  number = bad.number ∙ ap told at;
+  payload = bad.payload;
+  rest = bad.rest;
+  next = bad.next;
+  first = ap (λ o. first_standing L o) bad.bad;
+}
+
+pub no_history : (L : Language) (n : ℕ) (ahead : List (List ℕ)) → NoFirst L n ahead → (history L ahead ≡ Err n) × (ahead ≢ [])
+no_history L n ahead none = (
+  records_stop L ahead none.payload none.rest none.next none.first ∙ ap (λ k. Err k) (sym none.number),
+  λ empty. let is : none.payload ∷ none.rest ≡ [] = sym none.next ∙ empty in cc is,
+)
+
+-- ## What was read of it
+-- behind a first record that begins a history one record is passed, and no turn
+pub behind_first : (place : ℕ) (last : Option (ℕ × ℕ)) (found : Record) (m : Machine) → place ≡ 1 → last ≡ last_after None found → first_standing the_language (Some found) ≡ Some (stands_at 1 None m)
+    → first_standing the_language (Some found) ≡ Some (stands_at place last m)
+behind_first place last found m at none leads = leads ∙ ap (λ n. Some (stands_at n None m)) (sym at) ∙ ap (λ l. Some (stands_at place l m)) (sym (none ∙ no_turn found leads))
+  where
+    no_turn : (r : Record) → first_standing the_language (Some r) ≡ Some (stands_at 1 None m) → last_after None r ≡ None
+    no_turn (Started s) is = refl
+    no_turn r is = absurd (cc is)
+
+-- ## Faults
+same_number : (m n : ℕ) → NotAHistory m ≡ NotAHistory n → m ≡ n
+same_number m n is = cc is
+
+bad_cause : (ahead : List (List ℕ)) (place : ℕ) (cause : HistoryFault) → place ≡ 0 → ((n : ℕ) → cause ≡ history_fault.BadRecord n → IsBadAt n place ahead) → (n : ℕ) → fault_of cause ≡ NotAHistory n → NoFirst the_language n ahead
+bad_cause ahead place (history_fault.BadRecord m) at bad n is = subst (λ k. NoFirst the_language k ahead) (same_number m n is) (bad_first the_language m place ahead at (bad m refl))
+bad_cause ahead place history_fault.DiskFault at bad n is = absurd (cc is)
+bad_cause ahead place history_fault.NotAJournal at bad n is = absurd (cc is)
+bad_cause ahead place history_fault.Closed at bad n is = absurd (cc is)
+bad_cause ahead place history_fault.OutOfMemory at bad n is = absurd (cc is)
+
+-- a payload that is no record
+pub at_bad_record : {T : Type 0} (ahead : List (List ℕ)) (place : ℕ) (r : Result T EngineFault) (cause : HistoryFault) → IsErr r × IsErrAnd r (λ e. e ≡ fault_of cause) → place ≡ 0
+    → ((n : ℕ) → cause ≡ history_fault.BadRecord n → IsBadAt n place ahead) → IfErr r (λ e. (n : ℕ) → e ≡ NotAHistory n → NoFirst the_language n ahead)
+at_bad_record ahead place (Ok x) cause gives at bad = absurd gives.1
+at_bad_record ahead place (Err e) cause gives at bad = λ n is. bad_cause ahead place cause at bad n (sym gives.1 ∙ is)
+
+-- what isn't a history, and isn't empty
+abbrev pub IsNone : EngineFault → List (List ℕ) → Type 0
+IsNone e ahead = (n : ℕ) → e ≡ NotAHistory n → (history the_language ahead ≡ Err n) × (ahead ≢ [])
+
+pub at_first_record : {T : Type 0} (ahead : List (List ℕ)) (r : Result T EngineFault) (cause : EngineFault) → IsErr r × IsErrAnd r (λ e. e ≡ cause) → ((n : ℕ) → cause ≡ NotAHistory n → NoFirst the_language n ahead)
+    → IfErr r (λ e. IsNone e ahead)
+at_first_record ahead (Ok x) cause gives bad = absurd gives.1
+at_first_record ahead (Err e) cause gives bad = λ n is. no_history the_language n ahead (bad n (sym gives.1 ∙ is))
+
+-- the payloads begin with one that leads to a standing
+pub record Begins (ahead behind : List (List ℕ)) (s : Standing) : Type 0 where
+  pub payload : List ℕ
+  pub next : ahead ≡ payload ∷ behind
+  pub first : first_standing the_language (meaning payload) ≡ Some s
+
+later_cause : (ahead behind : List (List ℕ)) (s : Standing) (cause : ReplayFault) → Begins ahead behind s → ((n : ℕ) → cause ≡ replay_fault_of.BadEvent n → goes_to s behind ≡ Err n) → IsNone (replay_fault cause) ahead
+later_cause ahead behind s (replay_fault_of.BadEvent m) b bad = λ n is. (
+  records_lead the_language ahead b.payload behind s (Err n) b.next b.first (subst (λ k. goes_to s behind ≡ Err k) (same_number m n is) (bad m refl)),
+  λ empty. let is_not : b.payload ∷ behind ≡ [] = sym b.next ∙ empty in cc is_not,
+)
+later_cause ahead behind s replay_fault_of.DiskFault b bad = λ n is. absurd (cc is)
+later_cause ahead behind s replay_fault_of.Closed b bad = λ n is. absurd (cc is)
+later_cause ahead behind s replay_fault_of.OutOfMemory b bad = λ n is. absurd (cc is)
+
+pub at_later_record : {T : Type 0} (ahead behind : List (List ℕ)) (s : Standing) (r : Result T EngineFault) (cause : ReplayFault) → IsErr r × IsErrAnd r (λ e. e ≡ replay_fault cause) → Begins ahead behind s
+    → ((n : ℕ) → cause ≡ replay_fault_of.BadEvent n → goes_to s behind ≡ Err n) → IfErr r (λ e. IsNone e ahead)
+at_later_record ahead behind s (Ok x) cause gives b bad = absurd gives.1
+at_later_record ahead behind s (Err e) cause gives b bad = λ n is. later_cause ahead behind s cause b bad n (sym gives.1 ∙ is)

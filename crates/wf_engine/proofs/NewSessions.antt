@@ -1,0 +1,157 @@
+-- A session that has no turn yet, and what its engine stands for.
+use Rattle.std.specs.Prelude.{◌≡◌, ◌≢◌, ◌⊎◌, ◌≤◌, ◌<◌, ℕ, suc, Bool, true, false, IsTrue, nat_eq, nat_le, nat_lt, ◌&&◌, ◌||◌, List, [], ◌∷◌, ◌++◌, length, All, Some, Ok, option_map}
+use Rattle.std.specs.List.{AllByRecursion}
+use Rattle.std.proofs.Common.{inl, inr, ⊎_elim, refl, sym, ◌∙◌, ap, subst, arith}
+use Rattle.std.proofs.lemmas.Bool.{lt-ltb, or_left}
+use Rattle.std.proofs.lemmas.List.Elements.{All-nil}
+use Rattle.wf_ast.specs.Tree.{Program}
+use Rattle.wf_engine.specs.Deeds.{nows, polls, reading_by, starts_or_polls}
+use Rattle.wf_engine.specs.Engine.{Memory, StandsFor, session}
+use Rattle.wf_engine.specs.Kept.{Run, Resume, Session, Place, own, last_of, ReadingsAreOfTheClock}
+use Rattle.wf_engine.specs.Laws.{OnlyReadings}
+use Rattle.wf_engine.specs.Openings.{Clocked}
+use Rattle.wf_engine.specs.Outside.{Outside}
+use Rattle.wf_engine.specs.Safe.{IsSmall}
+use Rattle.wf_engine.specs.TheLanguage.{the_language}
+use Rattle.wf_events.specs.Reading.{meaning}
+use Rattle.wf_events.specs.Records.{Started}
+use Rattle.wf_host.specs.declared.data.Deed.{Deed}
+use Rattle.wf_host.specs.declared.data.Deed.TheVariants.{Now}
+use Rattle.wf_model.specs.Config.{Config, Active, To}
+use Rattle.wf_model.specs.Run.{initial}
+use Rattle.wf_model.specs.RunLaws.{RunsAreBounded}
+use Rattle.wf_replay.specs.At.{begins, config_before, journal, reached, session_turns}
+use Rattle.wf_replay.specs.History.{Standing, history}
+use Rattle.wf_replay.specs.Language.{Language}
+use Rattle.wf_replay.specs.Laws.{StartIsAHistory}
+use Rattle.wf_replay.specs.Moments.{HistoryStandsBefore, NoTurnsBehind, SessionIsNumbered}
+use Rattle.wf_shared.specs.Events.{Event, Start, Turn}
+
+-- ## Nothing was done but one reading of the clock
+abbrev pub OneReading : List Deed → Type 0
+OneReading D = (D ≡ []) ⊎ ((t : ℕ) × (D ≡ Now t ∷ []))
+
+not_nil : {A : Type 0} (xs ys : List A) (y : A) → [] ≡ xs ++ y ∷ ys → ⊥
+not_nil [] ys y is = cc is
+not_nil (x ∷ xs) ys y is = cc is
+
+rest_is : {A : Type 0} (x y : A) (xs ys : List A) → x ∷ xs ≡ y ∷ ys → xs ≡ ys
+rest_is x y xs ys is = cc is
+
+all_small : (D : List Deed) → OneReading D → AllByRecursion IsSmall D
+all_small D (inl is) = subst (λ l. AllByRecursion IsSmall l) (sym is) tt
+all_small D (inr (t, is)) = subst (λ l. AllByRecursion IsSmall l) (sym is) (tt, tt)
+
+none_polled : (D : List Deed) → OneReading D → starts_or_polls D ≡ false
+none_polled D (inl is) = ap starts_or_polls is
+none_polled D (inr (t, is)) = ap starts_or_polls is
+
+one_at_most : (D : List Deed) → OneReading D → length (nows D) ≤ 1
+one_at_most D (inl is) = omega (arith, ap (λ l. length (nows l)) is)
+one_at_most D (inr (t, is)) = omega (arith, ap (λ l. length (nows l)) is)
+
+lone : (t : ℕ) (before behind : List Deed) (d : Deed) → Now t ∷ [] ≡ before ++ d ∷ behind → Now t ≡ d
+lone t [] behind d is = cc is
+lone t (x ∷ before) behind d is = absurd (not_nil before behind d (rest_is (Now t) x [] (before ++ d ∷ behind) is))
+
+no_poll_in : (D before behind : List Deed) (d : Deed) → OneReading D → D ≡ before ++ d ∷ behind → starts_or_polls (d ∷ []) ≡ false
+no_poll_in D before behind d (inl none) is = absurd (not_nil before behind d (sym none ∙ is))
+no_poll_in D before behind d (inr (t, one)) is = ap (λ e. starts_or_polls (e ∷ [])) (sym (lone t before behind d (sym one ∙ is)))
+
+two_ways : (b : Bool) → b ≡ false → IsTrue b → ⊥
+two_ways b off on = let is : false ≡ true = sym off ∙ on in cc is
+
+no_place : (t : Turn) (e : Event) → Place [] t e → ⊥
+no_place t e p = not_nil p.earlier p.later t p.turn
+
+-- ## The rules
+module _ (L : Language) (O : Outside) (x : Session) where
+  -- on readings
+  reads_well : own L O x ≡ [] → OneReading x.deeds → ((c : Config) → x.command ≡ Resume → config_before (journal L x.payloads) x.number ≡ Some c → c.outcome ≢ Active → nows x.deeds ≡ []) → ReadingsAreOfTheClock L O x
+  reads_well none one quiet = record {
+    waits = subst (λ ts. All (λ (t : Turn). t.waits ≤ polls x.deeds) ts) (sym none) (All-nil (λ (t : Turn). t.waits ≤ polls x.deeds));
+    readings = λ t e r p is. absurd (no_place t e (subst (λ ts. Place ts t e) none p));
+    once = λ some. absurd (⊎_elim (λ turned. turned none) (λ polled. two_ways (starts_or_polls x.deeds) (none_polled x.deeds one) polled) some);
+    first = λ before behind d comes polled. absurd (two_ways (starts_or_polls (d ∷ [])) (no_poll_in x.deeds before behind d one comes) polled);
+    at_most = one_at_most x.deeds one;
+    none = quiet;
+  }
+
+-- ## A start
+module _ (only : OnlyReadings) (start : StartIsAHistory) (bounded : RunsAreBounded) (payload : List ℕ) (s : Start) (p : Program) (c : Config) where
+  journal_of_start : meaning payload ≡ Some (Started s) → the_language.source s.source ≡ Some p → journal the_language (payload ∷ []) ≡ Some (record { start = s; program = p; turns = [] })
+  journal_of_start means accepted =
+      ap (λ o. begins the_language o []) means ∙ ap (λ o. option_map (λ q. record { start = s; program = q; turns = [] }) o) accepted
+
+  pub stands_begun : (r : ℕ) → meaning payload ≡ Some (Started s) → the_language.source s.source ≡ Some p → initial p s ≡ To c → r ≡ c.last
+      → StandsFor Run (record { program = p; config = c; session = 1; reading = r }) (payload ∷ []) (Now s.reading ∷ [])
+  stands_begun r means accepted begins_at is =
+      let found = journal_of_start means accepted in
+      let D : List Deed = Now s.reading ∷ [] in
+      let m : Memory = record { program = p; config = c; session = 1; reading = r } in
+      let one : OneReading D = inr (s.reading, refl) in
+      let before : config_before (journal the_language (payload ∷ [])) 1 ≡ Some c = ap (λ o. config_before o 1) found ∙ ap reached begins_at in
+      let bound = (bounded p s [] c begins_at).readings in
+      record {
+        kept = λ O. only the_language O (session Run m (payload ∷ []) D) (all_small D one) (λ no. cc no)
+            (reads_well the_language O (session Run m (payload ∷ []) D) (ap (λ o. session_turns o 1) found) one (λ d resumes was ended. absurd (let no : Run ≡ Resume = resumes in cc no)));
+        small = all_small D one;
+        leads = record {
+          standing = record { program = p; config = c; number = 1; session = 0; waits = 0 };
+          history = start the_language payload s p c means accepted begins_at;
+          program = refl;
+          config = refl;
+          by_now = refl;
+          first = omega arith;
+          numbered = omega arith;
+        };
+        reading = (let own_is : r ≡ reading_by c.last D 0 = omega (arith, is, bound) in own_is) ∙ ap (λ o. reading_by (last_of o) D 0) (sym before);
+        last = omega (arith, is);
+        clock = λ active. refl;
+      }
+
+-- ## A history
+one_reading : (c : Config) (D : List Deed) → Clocked c D → OneReading D
+one_reading c D (inl (ended, none)) = inl none
+one_reading c D (inr (active, one)) = inr one
+
+no_reading : (c d : Config) (D : List Deed) → Clocked c D → Some c ≡ Some d → d.outcome ≢ Active → nows D ≡ []
+no_reading c d D (inl (ended, none)) same over = ap nows none
+no_reading c d D (inr (active, one)) same over = let is : c ≡ d = cc same in absurd (over (subst (λ (e : Config). e.outcome ≡ Active) is active))
+
+read_once : (c : Config) (D : List Deed) → Clocked c D → c.outcome ≡ Active → length (nows D) ≡ 1
+read_once c D (inl (ended, none)) active = absurd (ended active)
+read_once c D (inr (was, (t, one))) active = ap (λ l. length (nows l)) one
+
+at_least : (last r : ℕ) (D : List Deed) → r ≡ reading_by last D 0 → last ≤ r
+at_least last r D is = omega (arith, is)
+
+by_next : (n : ℕ) (s : Standing) → s.session < n → IsTrue (nat_lt s.session n || (nat_eq s.session n && nat_le s.waits 0))
+by_next n s less = or_left (nat_lt s.session n) (nat_eq s.session n && nat_le s.waits 0) (lt-ltb s.session n less)
+
+module _ (only : OnlyReadings) (stands_before : HistoryStandsBefore) (no_turns : NoTurnsBehind) (numbered : SessionIsNumbered) (J : List (List ℕ)) (s : Standing) where
+  pub stands_opened : (p : Program) (c : Config) (n r : ℕ) (D : List Deed) → history the_language J ≡ Ok s → s.program ≡ p → s.config ≡ c → n ≡ suc s.session → r ≡ reading_by c.last D 0 → Clocked c D
+      → StandsFor Resume (record { program = p; config = c; session = n; reading = r }) J D
+  stands_opened p c n r D is program config next read clocked =
+      let behind : s.session < n = omega (arith, next) in
+      let m : Memory = record { program = p; config = c; session = n; reading = r } in
+      let one = one_reading c D clocked in
+      let before : config_before (journal the_language J) n ≡ Some c = stands_before the_language J s n is behind ∙ ap Some config in
+      let number = numbered the_language J s is in
+      record {
+        kept = λ O. only the_language O (session Resume m J D) (all_small D one) (λ no. cc no)
+            (reads_well the_language O (session Resume m J D) (no_turns the_language J s n is behind) one (λ d resumes was ended. no_reading c d D clocked (sym before ∙ was) ended));
+        small = all_small D one;
+        leads = record {
+          standing = s;
+          history = is;
+          program = program;
+          config = config;
+          by_now = by_next n s behind;
+          first = omega (arith, next);
+          numbered = omega (arith, next, number);
+        };
+        reading = read ∙ ap (λ o. reading_by (last_of o) D 0) (sym before);
+        last = at_least c.last r D read;
+        clock = read_once c D clocked;
+      }

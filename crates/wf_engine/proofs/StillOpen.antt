@@ -1,0 +1,21 @@
+-- Whether a history is closed, by what its calls answer.
+use Rattle.std.specs.Prelude.{◌≡◌, ◌⊎◌, ◌↔◌, Bool, true, false, IsTrue, Result, Ok, Err, IsErrOf, List, ℕ, [], ◌∷◌}
+use Rattle.std.proofs.Common.{refl, sym, ◌∙◌, ⊎_elim, subst}
+use Rattle.wf_host.specs.World.{World}
+
+-- what answered Ok stays open
+pub still_open : {A E : Type 0} (before after : Bool) (e : E) (r : Result A E) (a : A) → r ≡ Ok a → before ≡ false → (after ≡ true ↔ (before ≡ true) ⊎ IsErrOf r e) → after ≡ false
+still_open before false e r a is was closes = refl
+still_open before true e r a is was closes =
+    absurd (⊎_elim (λ shut. let no : true ≡ false = sym shut ∙ was in cc no) (λ err. let no : Err e ≡ Ok a = sym err ∙ is in cc no) (closes.0 refl))
+
+-- what was open wasn't closed before
+pub not_closed : {A E : Type 0} (before : Bool) (e : E) (r : Result A E) → before ≡ false → (IsErrOf r e ↔ before ≡ true) → IsErrOf r e → ⊥
+not_closed before e r was closed err = let no : false ≡ true = sym was ∙ closed.0 err in cc no
+
+-- a first one
+pub some_first : (ahead rest : List (List ℕ)) (b : List ℕ) → ahead ≡ b ∷ rest → ahead ≡ [] → ⊥
+some_first ahead rest b is none = let no : b ∷ rest ≡ [] = sym is ∙ none in cc no
+
+pub tells_still : (w new : World) → new.tells ≡ w.tells → IsTrue w.tells → IsTrue new.tells
+tells_still w new same told = subst IsTrue (sym same) told

@@ -1,0 +1,37 @@
+use Rattle.std.proofs.Common.{◌≡◌, ◌∙◌, ap, sym, subst, [], ◌∷◌, Some}
+use Rattle.wf_ast.specs.View.{program_view}
+use Rattle.wf_engine.proofs.Beginning.{then_begins}
+use Rattle.wf_engine.proofs.FirstRecords.{accepted_is_straight}
+use Rattle.wf_engine.proofs.NewSessions.{stands_begun}
+use Rattle.wf_engine.proofs.StillOpen.{tells_still}
+use Rattle.wf_engine.proofs.engine.Engine.begin.Goals as goal
+use Rattle.wf_engine.specs.Engine.{StandsFor}
+use Rattle.wf_engine.specs.Kept.{Run}
+use Rattle.wf_events.specs.Records.{Started}
+use Rattle.wf_events.specs.Spelling.{record_bytes}
+use Rattle.wf_events.specs.View.{start_view}
+use Rattle.wf_host.specs.declared.data.Deed.TheVariants.{Now}
+use Rattle.wf_machine.specs.Seen.{state_of}
+use Rattle.wf_model.specs.Config.{To}
+use Rattle.wf_model.specs.Run.{initial}
+
+pub new-requires : goal.new-requires
+new-requires g c = accepted_is_straight (start_view c.args.start.now).source (program_view c.args.program) c.requires.accepted
+
+pub returns-clause-stands : goal.returns-clause-stands
+returns-clause-stands g c = λ told.
+    let mid = g.H.Host.world c.empty_history.new.host in
+    let s = start_view c.args.start.now in
+    let m = c.in_ok-machine.machine in
+    subst (λ J. StandsFor Run (record { program = (state_of m).program; config = (state_of m).config; session = 1; reading = c.last_reading-reading.result }) J (Now c.args.start.now.reading ∷ []))
+    (sym (c.in_ok-begin.ensures.added (tells_still (g.H.Host.world c.args.host.now) mid c.empty_history.ensures.tells told)))
+    (stands_begun c.laws_of_rules.ensures.only_readings c.laws_of_histories.ensures.start c.laws_of_runs.ensures.runs_are_bounded (record_bytes (Started s)) s (state_of m).program (state_of m).config
+    c.last_reading-reading.result (c.one_spelling.ensures.again (Started s) c.requires.spelled tt) (c.requires.accepted ∙ ap (λ p. Some p) (sym c.in_ok-machine.ensures.program))
+    (subst (λ p. initial p s ≡ To (state_of m).config) (sym c.in_ok-machine.ensures.program) c.in_ok-machine.ensures.initial) c.last_reading-reading.ensures)
+
+pub returns-clause-any_moment : goal.returns-clause-any_moment
+returns-clause-any_moment g c = λ told.
+    let w = g.H.Host.world c.args.host.now in
+    let mid = g.H.Host.world c.empty_history.new.host in
+    then_begins w mid (g.H.Host.world c.begin.new.host) (record_bytes (Started (start_view c.args.start.now))) (c.empty_history.ensures.any_moment told)
+    (c.begin.ensures.any_moment c.in_ok-history.ensures.open (tells_still w mid c.empty_history.ensures.tells told)) (c.in_ok-history.ensures.none told) (c.empty_history.ensures.deeds told)

@@ -1,0 +1,111 @@
+use Rattle.std.proofs.Common.{None, inl, inr, ⊎_elim, refl, sym, ◌∙◌, ap, arith}
+use Rattle.wf_engine.proofs.Sessions.{at_first, ends, falls_none, goes_far, lent_active, moments_on, none_fell, not_both, passed_on, rose_later, told_on}
+use Rattle.wf_engine.proofs.engine.Engine.session.Goals as goal
+use Rattle.wf_engine.specs.Engine.{is_closed, memory, turn_records}
+use Rattle.wf_engine.specs.Turns.{turn_of}
+use Rattle.wf_engine.specs.declared.fault.EngineFault.TheVariants as fault
+
+pub loop-self-init : goal.loop-self-init
+loop-self-init g c = record {
+  not_closed = c.if-self.false;
+  holds = λ told. c.requires.kept c.if-self.false told;
+  number = refl;
+  so_far = λ told command D s.
+      at_first c.args.self.now.history (g.H.Host.world c.args.host.now) command (memory c.args.self.now) D (λ i d left. g.met.H.Host.only_now c.args.host.now i d told left) (c.requires.kept c.if-self.false told).0 (c.args.self.now.ready c.if-self.false).begun s;
+  deeds = λ told. refl;
+  tells = refl;
+  counts = falls_none (g.H.Host.faults c.args.host.now);
+  rest = inl (refl, refl);
+}
+
+pub turn-requires : goal.turn-requires
+turn-requires g c = record {
+  kept = λ open_now told.
+      c.loop-self.invariant.holds (told_on (g.H.Host.world c.loop-self.host) (g.H.Host.world c.args.host.now) (sym c.loop-self.invariant.tells) told);
+}
+
+pub loop-self-smaller : goal.loop-self-smaller
+loop-self-smaller g c =
+    let active = lent_active c.outcome.result (memory c.loop-self.self).config.outcome c.outcome.ensures.outcome c.in-Active.is in
+    omega (arith, c.in_ok-turn.ensures.goes_on.0 active, c.in_ok-turn.ensures.goes_on.1)
+
+pub loop-self-preserved : goal.loop-self-preserved
+loop-self-preserved g c =
+    let w = g.H.Host.world c.args.host.now in
+    let mid = g.H.Host.world c.loop-self.host in
+    let new = g.H.Host.world c.turn.new.host in
+    let so = c.loop-self.invariant in
+    let active = lent_active c.outcome.result (memory c.loop-self.self).config.outcome c.outcome.ensures.outcome c.in-Active.is in
+    record {
+      not_closed = c.in_ok-turn.ensures.open;
+      holds = λ told. c.turn.ensures.holds c.in_ok-turn.ensures.open (told_on w mid so.tells told);
+      number = c.turn.ensures.session ∙ so.number;
+      so_far = λ told command D s.
+          let told1 = told_on w mid so.tells told in
+          let far = so.so_far told command D s in
+          let n = memory c.loop-self.self in
+          goes_far c.turn.new.self.history command (memory c.args.self.now) n (memory c.turn.new.self) w mid new D (turn_records n.session (turn_of n.program n.config n.reading None)) far so.number
+          (c.turn.ensures.any_moment so.not_closed told1 command D far.stands) (c.in_ok-turn.ensures.turn told1) (c.in_ok-turn.ensures.stands told1 command D far.stands) (c.turn.ensures.deeds told1)
+          (c.turn.ensures.holds c.in_ok-turn.ensures.open told1).0 (c.turn.new.self.ready c.in_ok-turn.ensures.open).begun;
+      deeds = λ told. c.turn.ensures.deeds (told_on w mid so.tells told) ∙ so.deeds told;
+      tells = c.turn.ensures.tells ∙ so.tells;
+      counts = none_fell (g.H.Host.faults c.args.host.now) (g.H.Host.faults c.loop-self.host) (g.H.Host.faults c.turn.new.host) so.counts c.turn.ensures.counts;
+      rest = ⊎_elim (λ same. inr (ap (λ d. d.outcome) (sym same.1) ∙ active)) (λ was. inr was) so.rest;
+    }
+
+pub returns-in_err-turn-clause-any_moment : goal.returns-in_err-turn-clause-any_moment
+returns-in_err-turn-clause-any_moment g c = λ open_now told command D s.
+    let w = g.H.Host.world c.args.host.now in
+    let mid = g.H.Host.world c.loop-self.host in
+    let so = c.loop-self.invariant in
+    let far = so.so_far told command D s in
+    moments_on command (memory c.args.self.now) (memory c.loop-self.self) w mid (g.H.Host.world c.turn.new.host) D far so.number (c.turn.ensures.any_moment so.not_closed (told_on w mid so.tells told) command D far.stands)
+
+pub returns-in_err-turn-clause-finished : goal.returns-in_err-turn-clause-finished
+returns-in_err-turn-clause-finished g c = λ told ended.
+    let active = lent_active c.outcome.result (memory c.loop-self.self).config.outcome c.outcome.ensures.outcome c.in-Active.is in
+    absurd (ended (⊎_elim (λ same. ap (λ d. d.outcome) (sym same.1) ∙ active) (λ was. was) c.loop-self.invariant.rest))
+
+pub returns-in_err-turn-clause-session : goal.returns-in_err-turn-clause-session
+returns-in_err-turn-clause-session g c = c.turn.ensures.session ∙ c.loop-self.invariant.number
+
+pub returns-in_err-turn-clause-disk_fault : goal.returns-in_err-turn-clause-disk_fault
+returns-in_err-turn-clause-disk_fault g c = λ is.
+    rose_later (g.H.Host.faults c.args.host.now).disk (g.H.Host.faults c.loop-self.host).disk (g.H.Host.faults c.turn.new.host).disk c.loop-self.invariant.counts.disk
+    (c.in_err-turn.ensures.disk_fault (passed_on c.from_residual.result c.in_err-turn.field-0.0 fault.DiskFault c.from_residual.ensures is))
+
+pub returns-in_err-turn-clause-closed : goal.returns-in_err-turn-clause-closed
+returns-in_err-turn-clause-closed g c = (
+  λ is. absurd (not_both (is_closed c.loop-self.self) c.loop-self.invariant.not_closed (c.in_err-turn.ensures.closed.0 (passed_on c.from_residual.result c.in_err-turn.field-0.0 fault.Closed c.from_residual.ensures is))),
+  λ shut. absurd (not_both (is_closed c.args.self.now) c.if-self.false shut),
+)
+
+pub returns-in_err-turn-clause-deeds : goal.returns-in_err-turn-clause-deeds
+returns-in_err-turn-clause-deeds g c = λ told.
+    c.turn.ensures.deeds (told_on (g.H.Host.world c.args.host.now) (g.H.Host.world c.loop-self.host) c.loop-self.invariant.tells told) ∙ c.loop-self.invariant.deeds told
+
+pub returns-in_err-turn-clause-tells : goal.returns-in_err-turn-clause-tells
+returns-in_err-turn-clause-tells g c = c.turn.ensures.tells ∙ c.loop-self.invariant.tells
+
+pub returns-in_err-turn-clause-counts : goal.returns-in_err-turn-clause-counts
+returns-in_err-turn-clause-counts g c = none_fell (g.H.Host.faults c.args.host.now) (g.H.Host.faults c.loop-self.host) (g.H.Host.faults c.turn.new.host) c.loop-self.invariant.counts c.turn.ensures.counts
+
+pub returns : goal.returns
+returns g c =
+    let so = c.loop-self.invariant in
+    record {
+      holds = λ open_now told. so.holds told;
+      stands = λ told command D s. (so.so_far told command D s).stands;
+      ended = ends c.outcome.result (memory c.loop-self.self).config.outcome c.outcome.ensures.outcome (λ is. c.in_default.not-Active is);
+      any_moment = λ open_now told command D s. (so.so_far told command D s).begun.moments;
+      finished = λ told ended. ⊎_elim (λ same. same.0) (λ was. absurd (ended was)) so.rest;
+      session = so.number;
+      disk_fault = λ is. absurd (cc is);
+      closed = (λ is. absurd (cc is), λ shut. absurd (not_both (is_closed c.args.self.now) c.if-self.false shut));
+      closes = tt;
+      «open» = so.not_closed;
+      only = tt;
+      deeds = λ told. so.deeds told;
+      tells = so.tells;
+      counts = so.counts;
+    }

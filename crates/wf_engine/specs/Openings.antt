@@ -1,0 +1,31 @@
+-- What stands in a file before a session goes on from it.
+--     NoFirst      the first record begins no history
+--     ReadsClock   the reading with which the session goes on
+use Rattle.std.specs.Prelude.{◌≡◌, ◌≢◌, ◌⊎◌, ℕ, List, [], ◌∷◌, ◌++◌, None}
+use Rattle.wf_engine.specs.Deeds.{reading_by}
+use Rattle.wf_events.specs.Reading.{meaning}
+use Rattle.wf_host.specs.World.{World}
+use Rattle.wf_host.specs.declared.data.Deed.{Deed}
+use Rattle.wf_host.specs.declared.data.Deed.TheVariants.{Now}
+use Rattle.wf_model.specs.Config.{Config, Active}
+use Rattle.wf_replay.specs.History.{first_standing}
+use Rattle.wf_replay.specs.Language.{Language}
+
+-- the payloads have a first one, which is no start whose source is accepted, and its number is told
+pub record NoFirst (L : Language) (n : ℕ) (payloads : List (List ℕ)) : Type 0 where
+  pub number : n ≡ 0
+  pub payload : List ℕ
+  pub rest : List (List ℕ)
+  pub next : payloads ≡ payload ∷ rest
+  pub first : first_standing L (meaning payload) ≡ None
+
+-- with an outcome nothing is done, and else the clock is read once
+abbrev pub Clocked : Config → List Deed → Type 0
+Clocked c D = ((c.outcome ≢ Active) × (D ≡ [])) ⊎ ((c.outcome ≡ Active) × ((t : ℕ) × (D ≡ Now t ∷ [])))
+
+-- the reading of a session that goes on from a configuration
+pub record ReadsClock (c : Config) (r : ℕ) (old new : World) : Type 0 where
+  pub done : List Deed
+  pub deeds : new.deeds ≡ old.deeds ++ done
+  pub greatest : r ≡ reading_by c.last done 0
+  pub clock : Clocked c done

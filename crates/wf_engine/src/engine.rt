@@ -1,0 +1,243 @@
+// The engine: an execution over a journal.
+ghost use Rattle.std.specs.Prelude.{◌≡◌, false};
+ghost use Rattle.wf_engine.specs.Ready.{IsReady};
+
+use crate::fault::EngineFault;
+use crate::opening::{empty_history, last_machine, session_reading};
+use crate::{choose_turn, laws_of_rules};
+use std::alloc::Global;
+use wf_ast::Program;
+use wf_events::{Start, Turn, one_spelling};
+use wf_history::History;
+use wf_host::Host;
+use wf_machine::{Machine, Outcome};
+use wf_model::laws_of_runs;
+use wf_replay::{laws_of_histories, laws_of_moments};
+
+/// An execution over a journal: what stands in the file, the machine that it leads to, and the session that goes on from there.
+///
+/// Each turn is synced before anything of it is seen outside. After a fault of any call the engine is closed, and what stands in the file
+/// can be opened again.
+#[derive(Drop)]
+pub struct Engine {
+    alloc: Global,
+    history: History,
+    machine: Machine,
+    /// The number of the session, from 1 on.
+    session: u64,
+    /// The session's greatest reading of the clock, in milliseconds since 1970.
+    reading: u64,
+    closed: bool,
+    ghost ready: { closed ≡ false → IsReady history machine },
+}
+
+impl Engine {
+    ghost use Rattle.std.specs.Prelude.{◌≢◌, ◌⊎◌, ◌↔◌, ◌≤◌, ◌<◌, ◌++◌, [], ◌∷◌, true, List, ℕ, length, take, Some, None, Ok, Err, OnOk, OnErr, IfOk, IfErr, IsErrOf};
+    ghost use Rattle.wf_ast.specs.View.{program_view};
+    ghost use Rattle.wf_engine.specs.Engine.{memory, is_closed, Holds, StandsFor, KeptAt, Opened, OpeningMoment, turn_records};
+    ghost use Rattle.wf_engine.specs.Kept.{Command, Run};
+    ghost use Rattle.wf_engine.specs.TheLanguage.{the_language};
+    ghost use Rattle.wf_engine.specs.Turns.{turn_of};
+    ghost use Rattle.wf_events.specs.Records.{Started};
+    ghost use Rattle.wf_events.specs.Spelling.{record_bytes, HasSpelling};
+    ghost use Rattle.wf_events.specs.View.{start_view};
+    ghost use Rattle.wf_history.specs.Stands as history;
+    ghost use Rattle.wf_history.specs.Stands.{HasNoneOrThis};
+    ghost use Rattle.wf_host.specs.World.{World, Told, LeavesOnly, NoneFell, Rose};
+    ghost use Rattle.wf_host.specs.declared.data.Deed.{Deed};
+    ghost use Rattle.wf_host.specs.declared.data.Deed.TheVariants.{Now};
+    ghost use Rattle.wf_journal.specs.Records.{magic, records};
+    ghost use Rattle.wf_journal.specs.Steps.{Moment};
+    ghost use Rattle.wf_machine.specs.Outcome.{IsResult};
+    ghost use Rattle.wf_machine.specs.Seen.{state_of};
+    ghost use Rattle.wf_model.specs.Config.{Active};
+    ghost use Rattle.wf_replay.specs.At.{journal, next_session};
+    ghost use Rattle.wf_replay.specs.History.{Standing, history as history_of};
+
+    /// Begins an execution on a file without a record, with its start, whose source has this program. The start's reading is that of the
+    /// session, which is the first.
+    ///
+    /// The error is `DiskFault` where a disk call failed; `NotAJournal` exactly where the file has at least 5 bytes and another magic, and
+    /// `AlreadyStarted` exactly where it has a first record: then nothing was written; or `OutOfMemory`. A fault of the disk leaves no
+    /// record, or the start alone.
+    pub fn begin<H: Host>(
+        alloc: Global,
+        host: &mut H,
+        start: &Start,
+        program: Program,
+    ) -> Result<Engine, EngineFault>
+        requires accepted { the_language.source (start_view start.now).source ≡ Some (program_view program) }
+        requires spelled { HasSpelling (Started (start_view start.now)) }
+        requires short { length (record_bytes (Started (start_view start.now))) ≤ 16777215 }
+        ensures holds { Told (H.world host.old) (IfOk result (λ e. Holds e (H.world host.new))) }
+        ensures stands { Told (H.world host.old) (IfOk result (λ e. StandsFor Run (memory e) (records (H.world host.new).seen) (Now start.now.reading ∷ []))) }
+        ensures open { IfOk result (λ e. is_closed e ≡ false) }
+        ensures session { IfOk result (λ e. (memory e).session ≡ 1) }
+        ensures started { Told (H.world host.old) (OnOk result (records (H.world host.new).seen ≡ record_bytes (Started (start_view start.now)) ∷ [])) }
+        ensures any_moment { Told (H.world host.old) (LeavesOnly (H.world host.old) (H.world host.new)
+            (λ c d. ((H.world host.old).may_leave c × (d ≡ (H.world host.old).deeds)) ⊎ ((records (H.world host.old).seen ≡ []) × HasNoneOrThis (H.world host.old) (record_bytes (Started (start_view start.now))) c d))) }
+        ensures refused_stays { Told (H.world host.old) (((5 ≤ length (H.world host.old).seen) × (take 4 (H.world host.old).seen ≢ magic)) ⊎ (records (H.world host.old).seen ≢ [])
+            → LeavesOnly (H.world host.old) (H.world host.new) (λ c d. (H.world host.old).may_leave c × (d ≡ (H.world host.old).deeds))) }
+        ensures refused_reads { Told (H.world host.old) (((5 ≤ length (H.world host.old).seen) × (take 4 (H.world host.old).seen ≢ magic)) ⊎ (records (H.world host.old).seen ≢ [])
+            → (H.world host.new).seen ≡ (H.world host.old).seen) }
+        ensures disk_fault { IsErrOf result EngineFault.DiskFault → Rose (H.faults host.old).disk (H.faults host.new).disk }
+        ensures not_a_journal { Told (H.world host.old) (IsErrOf result EngineFault.NotAJournal → (5 ≤ length (H.world host.old).seen) × (take 4 (H.world host.old).seen ≢ magic)) }
+        ensures a_journal { Told (H.world host.old) (OnOk result ((length (H.world host.old).seen ≤ 4) ⊎ (take 4 (H.world host.old).seen ≡ magic))) }
+        ensures already_started { Told (H.world host.old) (IsErrOf result EngineFault.AlreadyStarted
+            → (records (H.world host.old).seen ≢ []) × ((length (H.world host.old).seen ≤ 4) ⊎ (take 4 (H.world host.old).seen ≡ magic))) }
+        ensures fresh { Told (H.world host.old) (OnOk result (records (H.world host.old).seen ≡ [])) }
+        ensures only { IfErr result (λ e. (e ≡ EngineFault.DiskFault) ⊎ (e ≡ EngineFault.NotAJournal) ⊎ (e ≡ EngineFault.AlreadyStarted) ⊎ (e ≡ EngineFault.OutOfMemory)) }
+        ensures deeds { Told (H.world host.old) ((H.world host.new).deeds ≡ (H.world host.old).deeds) }
+        ensures tells { (H.world host.new).tells ≡ (H.world host.old).tells }
+        ensures counts { NoneFell (H.faults host.old) (H.faults host.new) }
+    {
+        laws_of_histories();
+        laws_of_rules();
+        laws_of_runs();
+        one_spelling();
+        let machine = Machine::new(alloc, start, program)?;
+        let mut history = empty_history(alloc, host)?;
+        history.begin(alloc, host, start)?;
+        let reading = machine.last_reading();
+        Ok(Engine {
+            alloc,
+            history,
+            machine,
+            session: 1,
+            reading,
+            closed: false,
+        })
+    }
+
+    /// Goes on from what stands in a file: replays its history, and reads the clock once where that has no outcome. Nothing is written.
+    ///
+    /// The error is `DiskFault` where a disk call failed; `NotAJournal` exactly where the file has at least 5 bytes and another magic;
+    /// `NotStarted` exactly where it has no record; `NotAHistory` exactly where its records are no history, with the number of the first
+    /// one against it; or `OutOfMemory`.
+    pub fn open<H: Host>(alloc: Global, host: &mut H) -> Result<Engine, EngineFault>
+        ensures holds { Told (H.world host.old) (IfOk result (λ e. Holds e (H.world host.new))) }
+        ensures opened { Told (H.world host.old) (IfOk result (λ e. Opened (memory e) (H.world host.old) (H.world host.new))) }
+        ensures open { IfOk result (λ e. is_closed e ≡ false) }
+        ensures session { Told (H.world host.old) (IfOk result (λ e. (memory e).session ≡ next_session (journal the_language (records (H.world host.old).seen)))) }
+        ensures begins { Told (H.world host.old) (OnOk result (take 4 (H.world host.old).seen ≡ magic)) }
+        ensures seen { Told (H.world host.old) ((H.world host.new).seen ≡ (H.world host.old).seen) }
+        ensures any_moment { Told (H.world host.old) (LeavesOnly (H.world host.old) (H.world host.new) (OpeningMoment (H.world host.old))) }
+        ensures disk_fault { IsErrOf result EngineFault.DiskFault → Rose (H.faults host.old).disk (H.faults host.new).disk }
+        ensures not_a_journal { Told (H.world host.old) (IsErrOf result EngineFault.NotAJournal → (5 ≤ length (H.world host.old).seen) × (take 4 (H.world host.old).seen ≢ magic)) }
+        ensures not_started { Told (H.world host.old) (IsErrOf result EngineFault.NotStarted
+            → (records (H.world host.old).seen ≡ []) × ((length (H.world host.old).seen ≤ 4) ⊎ (take 4 (H.world host.old).seen ≡ magic))) }
+        ensures not_a_history { Told (H.world host.old) (IfErr result (λ e. (n : ℕ) → e ≡ EngineFault.NotAHistory n
+            → (history_of the_language (records (H.world host.old).seen) ≡ Err n) × (records (H.world host.old).seen ≢ []) × (take 4 (H.world host.old).seen ≡ magic))) }
+        ensures only { IfErr result (λ e. (e ≡ EngineFault.DiskFault) ⊎ (e ≡ EngineFault.NotAJournal) ⊎ (e ≡ EngineFault.NotStarted) ⊎ ((n : ℕ) × (e ≡ EngineFault.NotAHistory n)) ⊎ (e ≡ EngineFault.OutOfMemory)) }
+        ensures deeds { Told (H.world host.old) (((H.world host.new).deeds ≡ (H.world host.old).deeds) ⊎ ((t : ℕ) × ((H.world host.new).deeds ≡ (H.world host.old).deeds ++ Now t ∷ []))) }
+        ensures finished { Told (H.world host.old) ((s : Standing) → history_of the_language (records (H.world host.old).seen) ≡ Ok s → s.config.outcome ≢ Active → (H.world host.new).deeds ≡ (H.world host.old).deeds) }
+        ensures tells { (H.world host.new).tells ≡ (H.world host.old).tells }
+        ensures counts { NoneFell (H.faults host.old) (H.faults host.new) }
+    {
+        laws_of_moments();
+        laws_of_rules();
+        let mut history = History::open(host)?;
+        if history.at_end() {
+            return Err(EngineFault::NotStarted);
+        }
+        let machine = last_machine(alloc, &mut history, host)?;
+        let (last, _) = history.last().unwrap_or((0, 0));
+        let reading = session_reading(&machine, host)?;
+        Ok(Engine {
+            alloc,
+            history,
+            machine,
+            session: last.saturating_add(1),
+            reading,
+            closed: false,
+        })
+    }
+
+    /// Applies what is chosen at the session's reading until nothing can move, there is an outcome, or there are 4,096 events; and adds
+    /// the turn, if it has an event.
+    ///
+    /// The error is `DiskFault` where a disk call failed; `OutOfMemory`; or `Closed` exactly where an earlier call has failed. After an
+    /// error the engine is closed, and the file has the records before, or these and the turn.
+    pub fn turn<H: Host>(&mut self, host: &mut H) -> Result<(), EngineFault>
+        requires kept { is_closed self.old ≡ false → Told (H.world host.old) (Holds self.old (H.world host.old)) }
+        ensures holds { is_closed self.new ≡ false → Told (H.world host.old) (Holds self.new (H.world host.new)) }
+        ensures stands { Told (H.world host.old) (OnOk result ((command : Command) (D : List Deed)
+            → StandsFor command (memory self.old) (records (H.world host.old).seen) D → StandsFor command (memory self.new) (records (H.world host.new).seen) D)) }
+        ensures turn { Told (H.world host.old) (OnOk result (records (H.world host.new).seen
+            ≡ records (H.world host.old).seen ++ turn_records (memory self.old).session (turn_of (memory self.old).program (memory self.old).config (memory self.old).reading None))) }
+        ensures any_moment { is_closed self.old ≡ false → Told (H.world host.old) ((command : Command) (D : List Deed)
+            → StandsFor command (memory self.old) (records (H.world host.old).seen) D
+            → LeavesOnly (H.world host.old) (H.world host.new) (Moment (H.world host.old) (KeptAt command (memory self.old) (records (H.world host.old).seen) D))) }
+        ensures goes_on { OnOk result (((memory self.old).config.outcome ≡ Active → (memory self.old).config.moves < (memory self.new).config.moves) × ((memory self.new).config.moves ≤ 100000)) }
+        ensures session { (memory self.new).session ≡ (memory self.old).session }
+        ensures disk_fault { IsErrOf result EngineFault.DiskFault → Rose (H.faults host.old).disk (H.faults host.new).disk }
+        ensures closed { IsErrOf result EngineFault.Closed ↔ (is_closed self.old ≡ true) }
+        ensures closes { OnErr result (is_closed self.new ≡ true) }
+        ensures open { OnOk result (is_closed self.new ≡ false) }
+        ensures only { IfErr result (λ e. (e ≡ EngineFault.DiskFault) ⊎ (e ≡ EngineFault.Closed) ⊎ (e ≡ EngineFault.OutOfMemory)) }
+        ensures deeds { Told (H.world host.old) ((H.world host.new).deeds ≡ (H.world host.old).deeds) }
+        ensures tells { (H.world host.new).tells ≡ (H.world host.old).tells }
+        ensures counts { NoneFell (H.faults host.old) (H.faults host.new) }
+    {
+        if self.closed {
+            return Err(EngineFault::Closed);
+        }
+        laws_of_histories();
+        laws_of_moments();
+        laws_of_rules();
+        one_spelling();
+        // until the turn has succeeded
+        self.closed = true;
+        let events = choose_turn(self.alloc, &mut self.machine, self.reading)?;
+        if events.items().is_empty() {
+            self.closed = false;
+            return Ok(());
+        }
+        let turn = Turn {
+            session: self.session,
+            waits: 0,
+            events,
+        };
+        self.history.add(self.alloc, host, &turn)?;
+        self.closed = false;
+        Ok(())
+    }
+
+    /// Adds turns until there is an outcome. The errors are those of [`Engine::turn`].
+    pub fn session<H: Host>(&mut self, host: &mut H) -> Result<(), EngineFault>
+        requires kept { is_closed self.old ≡ false → Told (H.world host.old) (Holds self.old (H.world host.old)) }
+        ensures holds { is_closed self.new ≡ false → Told (H.world host.old) (Holds self.new (H.world host.new)) }
+        ensures stands { Told (H.world host.old) (OnOk result ((command : Command) (D : List Deed)
+            → StandsFor command (memory self.old) (records (H.world host.old).seen) D → StandsFor command (memory self.new) (records (H.world host.new).seen) D)) }
+        ensures ended { OnOk result (IsResult (memory self.new).config.outcome) }
+        ensures any_moment { is_closed self.old ≡ false → Told (H.world host.old) ((command : Command) (D : List Deed)
+            → StandsFor command (memory self.old) (records (H.world host.old).seen) D
+            → LeavesOnly (H.world host.old) (H.world host.new) (Moment (H.world host.old) (KeptAt command (memory self.old) (records (H.world host.old).seen) D))) }
+        ensures finished { Told (H.world host.old) ((memory self.old).config.outcome ≢ Active → host.new ≡ host.old) }
+        ensures session { (memory self.new).session ≡ (memory self.old).session }
+        ensures disk_fault { IsErrOf result EngineFault.DiskFault → Rose (H.faults host.old).disk (H.faults host.new).disk }
+        ensures closed { IsErrOf result EngineFault.Closed ↔ (is_closed self.old ≡ true) }
+        ensures closes { OnErr result (is_closed self.new ≡ true) }
+        ensures open { OnOk result (is_closed self.new ≡ false) }
+        ensures only { IfErr result (λ e. (e ≡ EngineFault.DiskFault) ⊎ (e ≡ EngineFault.Closed) ⊎ (e ≡ EngineFault.OutOfMemory)) }
+        ensures deeds { Told (H.world host.old) ((H.world host.new).deeds ≡ (H.world host.old).deeds) }
+        ensures tells { (H.world host.new).tells ≡ (H.world host.old).tells }
+        ensures counts { NoneFell (H.faults host.old) (H.faults host.new) }
+    {
+        if self.closed {
+            return Err(EngineFault::Closed);
+        }
+        while let Outcome::Active = self.machine.outcome() {
+            self.turn(host)?;
+        }
+        Ok(())
+    }
+
+    /// The machine, as it stands behind the last turn. After an error of a call it is of no use.
+    pub fn machine(&self) -> &Machine
+        ensures program { (state_of result.now).program ≡ (memory self.now).program }
+        ensures config { (state_of result.now).config ≡ (memory self.now).config }
+    {
+        &self.machine
+    }
+}

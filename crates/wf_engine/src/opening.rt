@@ -1,0 +1,148 @@
+// What stands in a file before a session goes on from it.
+ghost use Rattle.std.specs.Prelude.{◌≡◌, ◌≢◌, ◌⊎◌, ◌≤◌, ◌++◌, [], ◌∷◌, true, false, List, ℕ, length, take, Some, None, Ok, Err, OnOk, IfOk, IfErr, IsErrOf};
+ghost use Rattle.wf_engine.specs.Engine.{OpeningMoment};
+ghost use Rattle.wf_engine.specs.Openings.{NoFirst, ReadsClock};
+ghost use Rattle.wf_engine.specs.TheLanguage.{the_language};
+ghost use Rattle.wf_events.specs.Reading.{meaning};
+ghost use Rattle.wf_events.specs.View.{record_view};
+ghost use Rattle.wf_history.specs.Stands.{ahead, at_end, is_closed, is_new, last, place, Stands};
+ghost use Rattle.wf_host.specs.World.{Told, LeavesOnly, NoneFell, Only, Rose};
+ghost use Rattle.wf_host.specs.declared.data.Deed.TheVariants.{Now};
+ghost use Rattle.wf_journal.specs.Journal.{IsJournal, Stays};
+ghost use Rattle.wf_journal.specs.Records.{magic, records};
+ghost use Rattle.wf_machine.specs.Seen.{state_of};
+ghost use Rattle.wf_model.specs.Config.{Active};
+ghost use Rattle.wf_replay.specs.History.{first_standing, history as history_of};
+ghost use Rattle.wf_replay.specs.Standing.{standing, stands_at};
+
+use crate::fault::EngineFault;
+use std::alloc::Global;
+use wf_events::Record;
+use wf_first_form::first_form;
+use wf_history::{History, HistoryFault};
+use wf_host::Host;
+use wf_machine::{Machine, Outcome};
+use wf_replay::replay;
+use wf_value::OutOfMemory;
+
+/// Opens a history without a record. Nothing is written.
+pub(crate) fn empty_history<H: Host>(alloc: Global, host: &mut H) -> Result<History, EngineFault>
+    ensures stands { Told (H.world host.old) (IfOk result (λ h. Stands h (H.world host.new))) }
+    ensures open { IfOk result (λ h. is_closed h ≡ false) }
+    ensures ended { IfOk result (λ h. at_end h ≡ true) }
+    ensures none { Told (H.world host.old) (OnOk result (records (H.world host.old).seen ≡ [])) }
+    ensures seen { Told (H.world host.old) ((H.world host.new).seen ≡ (H.world host.old).seen) }
+    ensures any_moment { Told (H.world host.old) (LeavesOnly (H.world host.old) (H.world host.new) (λ c d. (H.world host.old).may_leave c × (d ≡ (H.world host.old).deeds))) }
+    ensures disk_fault { IsErrOf result EngineFault.DiskFault → Rose (H.faults host.old).disk (H.faults host.new).disk }
+    ensures not_a_journal { Told (H.world host.old) (IsErrOf result EngineFault.NotAJournal → (5 ≤ length (H.world host.old).seen) × (take 4 (H.world host.old).seen ≢ magic)) }
+    ensures a_journal { Told (H.world host.old) (OnOk result (IsJournal (H.world host.old).seen)) }
+    ensures already_started { Told (H.world host.old) (IsErrOf result EngineFault.AlreadyStarted → (records (H.world host.old).seen ≢ []) × IsJournal (H.world host.old).seen) }
+    ensures only { IfErr result (λ e. (e ≡ EngineFault.DiskFault) ⊎ (e ≡ EngineFault.NotAJournal) ⊎ (e ≡ EngineFault.AlreadyStarted) ⊎ (e ≡ EngineFault.OutOfMemory)) }
+    ensures deeds { Told (H.world host.old) ((H.world host.new).deeds ≡ (H.world host.old).deeds) }
+    ensures tells { (H.world host.new).tells ≡ (H.world host.old).tells }
+    ensures counts { NoneFell (H.faults host.old) (H.faults host.new) }
+{
+    let mut history = History::open(host)?;
+    match history.next(alloc, host) {
+        Ok(None) => Ok(history),
+        Ok(Some(_)) => Err(EngineFault::AlreadyStarted),
+        Err(HistoryFault::BadRecord(_)) => Err(EngineFault::AlreadyStarted),
+        Err(fault) => Err(fault.into()),
+    }
+}
+
+/// The machine to which all records of a history lead. The history is read to its end.
+pub(crate) fn last_machine<H: Host>(
+    alloc: Global,
+    history: &mut History,
+    host: &mut H,
+) -> Result<Machine, EngineFault>
+    requires open { is_closed history.old ≡ false }
+    requires first { place history.old ≡ 0 }
+    requires none_read { last history.old ≡ None }
+    requires kept { Told (H.world host.old) (Stands history.old (H.world host.old)) }
+    ensures stands { Told (H.world host.old) (OnOk result (Stands history.new (H.world host.new))) }
+    ensures leads { Told (H.world host.old) (IfOk result (λ m. history_of the_language (ahead history.old (H.world host.old).seen) ≡ Ok (standing history.new m))) }
+    ensures whole { IfOk result (λ m. (state_of m).broken ≡ false) }
+    ensures ended { OnOk result (at_end history.new ≡ true) }
+    ensures still_open { OnOk result (is_closed history.new ≡ false) }
+    ensures new { is_new history.new ≡ is_new history.old }
+    ensures seen { Told (H.world host.old) ((H.world host.new).seen ≡ (H.world host.old).seen) }
+    ensures any_moment { Told (H.world host.old) (LeavesOnly (H.world host.old) (H.world host.new) (Stays (H.world host.old))) }
+    ensures disk_fault { IsErrOf result EngineFault.DiskFault → Rose (H.faults host.old).disk (H.faults host.new).disk }
+    ensures not_started { Told (H.world host.old) (IsErrOf result EngineFault.NotStarted → ahead history.old (H.world host.old).seen ≡ []) }
+    ensures not_a_history { Told (H.world host.old) (IfErr result (λ e. (n : ℕ) → e ≡ EngineFault.NotAHistory n
+        → (history_of the_language (ahead history.old (H.world host.old).seen) ≡ Err n) × (ahead history.old (H.world host.old).seen ≢ []))) }
+    ensures only { IfErr result (λ e. (e ≡ EngineFault.DiskFault) ⊎ (e ≡ EngineFault.NotStarted) ⊎ ((n : ℕ) × (e ≡ EngineFault.NotAHistory n)) ⊎ (e ≡ EngineFault.OutOfMemory)) }
+    ensures deeds { Told (H.world host.old) ((H.world host.new).deeds ≡ (H.world host.old).deeds) }
+    ensures tells { (H.world host.new).tells ≡ (H.world host.old).tells }
+    ensures counts { NoneFell (H.faults host.old) (H.faults host.new) }
+{
+    let machine = first_machine(alloc, history, host)?;
+    Ok(replay(alloc, history, host, machine)?)
+}
+
+/// The machine of a history's first record, which is read.
+fn first_machine<H: Host>(
+    alloc: Global,
+    history: &mut History,
+    host: &mut H,
+) -> Result<Machine, EngineFault>
+    requires open { is_closed history.old ≡ false }
+    requires first { place history.old ≡ 0 }
+    requires none_read { last history.old ≡ None }
+    requires kept { Told (H.world host.old) (Stands history.old (H.world host.old)) }
+    ensures stands { is_closed history.new ≡ false → Told (H.world host.old) (Stands history.new (H.world host.new)) }
+    ensures leads { Told (H.world host.old) (IfOk result (λ m. (payload : List ℕ) × (ahead history.old (H.world host.old).seen ≡ payload ∷ ahead history.new (H.world host.old).seen)
+        × (first_standing the_language (meaning payload) ≡ Some (standing history.new m)))) }
+    ensures whole { IfOk result (λ m. (state_of m).broken ≡ false) }
+    ensures still_open { OnOk result (is_closed history.new ≡ false) }
+    ensures new { is_new history.new ≡ is_new history.old }
+    ensures seen { Told (H.world host.old) ((H.world host.new).seen ≡ (H.world host.old).seen) }
+    ensures any_moment { Told (H.world host.old) (LeavesOnly (H.world host.old) (H.world host.new) (Stays (H.world host.old))) }
+    ensures disk_fault { IsErrOf result EngineFault.DiskFault → Rose (H.faults host.old).disk (H.faults host.new).disk }
+    ensures not_started { Told (H.world host.old) (IsErrOf result EngineFault.NotStarted → ahead history.old (H.world host.old).seen ≡ []) }
+    ensures not_a_history { Told (H.world host.old) (IfErr result (λ e. (n : ℕ) → e ≡ EngineFault.NotAHistory n → NoFirst the_language n (ahead history.old (H.world host.old).seen))) }
+    ensures only { IfErr result (λ e. (e ≡ EngineFault.DiskFault) ⊎ (e ≡ EngineFault.NotStarted) ⊎ ((n : ℕ) × (e ≡ EngineFault.NotAHistory n)) ⊎ (e ≡ EngineFault.OutOfMemory)) }
+    ensures deeds { Told (H.world host.old) ((H.world host.new).deeds ≡ (H.world host.old).deeds) }
+    ensures tells { (H.world host.new).tells ≡ (H.world host.old).tells }
+    ensures counts { NoneFell (H.faults host.old) (H.faults host.new) }
+{
+    let Some(record) = history.next(alloc, host)? else {
+        return Err(EngineFault::NotStarted);
+    };
+    machine_of(alloc, &record)
+}
+
+/// The machine of a first record: `NotAHistory` where it is no start whose source is accepted.
+fn machine_of(alloc: Global, first: &Record) -> Result<Machine, EngineFault>
+    ensures starts { IfOk result (λ m. first_standing the_language (Some (record_view first.now)) ≡ Some (stands_at 1 None m)) }
+    ensures whole { IfOk result (λ m. (state_of m).broken ≡ false) }
+    ensures none { IsErrOf result (EngineFault.NotAHistory 0) → first_standing the_language (Some (record_view first.now)) ≡ None }
+    ensures only { IfErr result (λ e. (e ≡ EngineFault.NotAHistory 0) ⊎ (e ≡ EngineFault.OutOfMemory)) }
+{
+    let Record::Start(start) = first else {
+        return Err(EngineFault::NotAHistory(0));
+    };
+    let Some(program) = first_form(alloc, start.source.as_slice())? else {
+        return Err(EngineFault::NotAHistory(0));
+    };
+    Ok(Machine::new(alloc, start, program)?)
+}
+
+/// The greatest reading of a session that goes on from a machine: the clock is read once where there is no outcome.
+pub(crate) fn session_reading<H: Host>(machine: &Machine, host: &mut H) -> Result<u64, OutOfMemory>
+    ensures clock { Told (H.world host.old) (IfOk result (λ reading. ReadsClock (state_of machine.now).config reading (H.world host.old) (H.world host.new))) }
+    ensures settled { Told (H.world host.old) (Only (H.world host.old).seen (H.world host.old).may_leave → Only (H.world host.new).seen (H.world host.new).may_leave) }
+    ensures seen { Told (H.world host.old) ((H.world host.new).seen ≡ (H.world host.old).seen) }
+    ensures any_moment { Told (H.world host.old) (LeavesOnly (H.world host.old) (H.world host.new) (OpeningMoment (H.world host.old))) }
+    ensures deeds { Told (H.world host.old) (((H.world host.new).deeds ≡ (H.world host.old).deeds) ⊎ ((t : ℕ) × ((H.world host.new).deeds ≡ (H.world host.old).deeds ++ Now t ∷ []))) }
+    ensures finished { (state_of machine.now).config.outcome ≢ Active → host.new ≡ host.old }
+    ensures tells { (H.world host.new).tells ≡ (H.world host.old).tells }
+    ensures counts { NoneFell (H.faults host.old) (H.faults host.new) }
+{
+    match machine.outcome() {
+        Outcome::Active => Ok(host.now()?.max(machine.last_reading())),
+        _ => Ok(machine.last_reading()),
+    }
+}
