@@ -154,6 +154,14 @@ impl TreeMap {
         }
     }
 
+    /// The pairs, in the order of the keys' bytes.
+    pub fn pairs(&self) -> &[(Text, Tree)]
+        ensures pairs { plain_pairs result.now ≡ self.now }
+        ensures order { IsInOrder result.now }
+    {
+        self.pairs.as_slice()
+    }
+
     /// Puts a tree at a key, and gives the tree that was there. Without memory the map stays, and
     /// the key and the tree are dropped.
     pub fn insert(&mut self, key: Text, item: Tree) -> Result<Option<Tree>, OutOfMemory>

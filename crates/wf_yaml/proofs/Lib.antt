@@ -1,0 +1,3 @@
+pub mod Weaving
+pub mod Steps
+pub mod Sources

@@ -1,0 +1,10 @@
+pub mod Ends
+pub mod Numbers
+pub mod Sets
+pub mod FlowLengths
+pub mod FlowFronts
+pub mod FlowSteps
+pub mod FlowBounds
+pub mod FlowJoins
+pub mod FlowTurns
+pub mod FlowWhole

@@ -1,0 +1,10 @@
+use Rattle.std.proofs.Common.{sym, ◌∙◌}
+use Rattle.wf_yaml_line.specs.FlowWalk.{turned}
+use Rattle.wf_yaml_line.proofs.FlowTurns.{missing_at, closes_at}
+use Rattle.wf_yaml_line.proofs.flow.turns.at_element.Goals as goal
+
+pub returns-then-is_empty-clause-seen : goal.returns-then-is_empty-clause-seen
+returns-then-is_empty-clause-seen c = λ d. missing_at c.args.line d c.args.hand c.args.s.now (turned c.args.line d c.stopped.result) (sym c.is_empty.ensures ∙ c.if-is_empty.true) (c.stopped.ensures.seen c.args.line d)
+
+pub returns-then-closes-clause-seen : goal.returns-then-closes-clause-seen
+returns-then-closes-clause-seen c = λ d. closes_at c.args.line d c.args.hand c.args.s.now c.behind_first.result.now (turned c.args.line d c.finished.result) (sym c.closes.ensures ∙ c.if-closes.true) c.behind_first.ensures.rest (c.finished.ensures.seen c.args.line d)

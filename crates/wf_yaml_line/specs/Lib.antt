@@ -1,0 +1,11 @@
+pub mod Marks
+pub mod Fault
+pub mod Words
+pub mod Scalars
+pub mod Quoted
+pub mod Keys
+pub mod Pairs
+pub mod Flow
+pub mod Line
+pub mod Views
+pub mod FlowWalk

@@ -1,0 +1,42 @@
+// The keys that a map has so far.
+ghost use Rattle.std.specs.Prelude.{◌≡◌, ◌||◌, ℕ, List, [], IfOk, OnOk, OnErr};
+ghost use Rattle.wf_yaml_line.specs.Marks.{is_one_of, is_same};
+ghost use Rattle.wf_yaml_line.specs.Views.{keys_of};
+
+use std::alloc::Global;
+use wf_tree::{Tree, TreeMap};
+use wf_value::{OutOfMemory, Text};
+
+/// The keys that a map has so far. One is found in a time that grows with the logarithm of their
+/// number.
+#[derive(Drop)]
+pub struct KeySet {
+    keys: TreeMap,
+}
+
+impl KeySet {
+    /// No keys. It allocates nothing yet.
+    pub fn new(alloc: Global) -> Result<KeySet, OutOfMemory>
+        ensures { IfOk result (λ s. keys_of s ≡ []) }
+    {
+        Ok(KeySet {
+            keys: TreeMap::new(alloc)?,
+        })
+    }
+
+    /// Whether a key stands among them.
+    pub fn holds(&self, key: &str) -> bool
+        ensures { result ≡ is_one_of (keys_of self.now) key.now }
+    {
+        self.keys.get(key).is_some()
+    }
+
+    /// Adds a key. Without memory they stay.
+    pub fn add(&mut self, key: Text) -> Result<(), OutOfMemory>
+        ensures added { OnOk result ((k : List ℕ) → is_one_of (keys_of self.new) k ≡ (is_same key k || is_one_of (keys_of self.old) k)) }
+        ensures kept { OnErr result (keys_of self.new ≡ keys_of self.old) }
+    {
+        self.keys.insert(key, Tree::Null)?;
+        Ok(())
+    }
+}

@@ -1,0 +1,105 @@
+// Keys.
+ghost use Rattle.std.specs.Prelude.{◌≡◌, false, IfOk, option_map};
+ghost use Rattle.wf_yaml_line.specs.Marks as texts;
+ghost use Rattle.wf_yaml_line.specs.Quoted as quotes;
+ghost use Rattle.wf_yaml_line.specs.Scalars as scalars;
+ghost use Rattle.wf_yaml_line.specs.Keys as keys;
+ghost use Rattle.wf_yaml_line.specs.Flow as flows;
+ghost use Rattle.wf_yaml_line.specs.Views.{key_view};
+
+use crate::marks::{around_colon, ends_word, is_guarded, is_reserved, skip_blanks, trimmed};
+use crate::quoted::read_quoted;
+use crate::trees::text_of;
+use std::alloc::Global;
+use wf_value::{OutOfMemory, Text};
+
+/// A pair's key.
+#[derive(Drop)]
+pub struct Key<'a> {
+    /// The key itself.
+    pub text: Text,
+    /// Whether each of its escapes is good.
+    pub good: bool,
+    /// What stands behind its `:`.
+    pub rest: &'a [char],
+}
+
+/// Whether a text may start a plain scalar.
+pub fn may_start_plain(s: &[char]) -> bool
+    ensures { result ≡ scalars.may_start_plain s.now }
+{
+    match s {
+        [] => false,
+        [c, rest @ ..] => !is_reserved(*c) && !(is_guarded(*c) && ends_word(rest)),
+    }
+}
+
+// Whether a text starts with a quote.
+pub(crate) fn starts_quote(s: &[char]) -> bool
+    ensures { result ≡ texts.starts texts.is_quote s.now }
+{
+    matches!(s, ['\'' | '"', ..])
+}
+
+// What stands behind the `:` with which a text starts, where a blank or the end follows it.
+fn behind_colon(s: &[char]) -> Option<&[char]>
+    ensures { option_map (λ r. r.now) result ≡ keys.behind_colon s.now }
+{
+    match s {
+        [':', rest @ ..] => if ends_word(rest) { Some(rest) } else { None },
+        _ => None,
+    }
+}
+
+// The key of a pair that starts with a quote.
+fn quoted_key(alloc: Global, s: &[char]) -> Result<Option<Key<'_>>, OutOfMemory>
+    ensures { IfOk result (λ k. option_map key_view k ≡ keys.quoted_key (quotes.quoted s.now) (quotes.quoted s.now).rest) }
+{
+    let found = read_quoted(alloc, s)?;
+    let Some(behind) = found.rest else {
+        return Ok(None);
+    };
+    match behind_colon(skip_blanks(behind)) {
+        Some(rest) => Ok(Some(Key {
+            text: text_of(alloc, &found.chars)?,
+            good: found.good,
+            rest,
+        })),
+        None => Ok(None),
+    }
+}
+
+// The key of a pair that starts with a plain scalar. Blanks at its end are no part of it.
+fn plain_key(alloc: Global, s: &[char]) -> Result<Option<Key<'_>>, OutOfMemory>
+    ensures { IfOk result (λ k. option_map key_view k ≡ keys.plain_key (texts.around_colon false s.now)) }
+{
+    match around_colon(s) {
+        Some((before, rest)) => Ok(Some(Key {
+            text: text_of(alloc, trimmed(before))?,
+            good: true,
+            rest,
+        })),
+        None => Ok(None),
+    }
+}
+
+/// The key at the start of a pair, `key:` at the line's end or `key: value`; none where a text
+/// starts no pair.
+pub fn read_key(alloc: Global, s: &[char]) -> Result<Option<Key<'_>>, OutOfMemory>
+    ensures { IfOk result (λ k. option_map key_view k ≡ keys.key_of s.now) }
+{
+    if starts_quote(s) {
+        return quoted_key(alloc, s);
+    }
+    if may_start_plain(s) {
+        return plain_key(alloc, s);
+    }
+    Ok(None)
+}
+
+/// Whether the value of a key may be a decimal: those of a retry's backoff.
+pub fn is_delay_key(key: &str) -> bool
+    ensures { result ≡ flows.is_delay_key key.now }
+{
+    matches!(key, "initial_delay" | "max_delay" | "multiplier")
+}

@@ -1,0 +1,12 @@
+pub mod Escapes
+pub mod EscapeCases
+pub mod Lines
+pub mod Parts
+pub mod Calm
+pub mod PlainBack
+pub mod QuotedBack
+pub mod TextBack
+pub mod NumberBack
+pub mod DecimalBack
+pub mod WordsBack
+pub mod LineBack
