@@ -1,5 +1,5 @@
 -- The beginning of an execution for a line.
-use Rattle.std.proofs.Common.{◌≡◌, ◌≤◌, ◌⊎◌, ◌≢◌, inl, inr, ⊎_elim, ℕ, Bool, true, false, List, [], ◌∷◌, ◌++◌, length, take, Option, None, Some, Result, Ok, Err, IfOk, IfErr, OnOk, IsErrOf, nat_le, if◌then◌else◌, refl, sym, ◌∙◌, ap, subst, arith}
+use Rattle.std.proofs.Common.{◌≡◌, ◌≤◌, ◌⊎◌, ◌≢◌, inl, inr, ⊎_elim, ℕ, Bool, true, false, List, [], ◌∷◌, ◌++◌, length, take, None, Some, Result, Ok, Err, IfOk, IfErr, OnOk, IsErrOf, nat_le, if◌then◌else◌, refl, sym, ◌∙◌, ap, subst, arith}
 use Rattle.std.proofs.lemmas.Bool.{leb-false}
 use Rattle.wf_ast.specs.Tree.{Program}
 use Rattle.wf_cli.proofs.Moments.{early_nothing, early_now, StartOfLine, late_start}
@@ -7,8 +7,7 @@ use Rattle.wf_cli.proofs.Opens.{MayBegin, no_magic, not_resumed_by_run, no_histo
 use Rattle.wf_cli.specs.Reports.{the_reports}
 use Rattle.wf_cli.specs.Said.{DidLittle, IsOpened, FaultHolds, Opening}
 use Rattle.wf_cli.specs.Top.{IsLineOf, HasOtherMagic, IsStarted, IsNotStarted, IsNoHistory}
-use Rattle.wf_cli.proofs.Causes.{same_ok, not_run_and_resume}
-use Rattle.wf_cli.specs.Source.{read_source, refused, program_or_refusal}
+use Rattle.wf_cli.proofs.Causes.{not_run_and_resume}
 use Rattle.wf_engine.specs.Engine.{memory, StandsFor, OpeningMoment}
 use Rattle.wf_engine.specs.Kept as kept
 use Rattle.wf_engine.specs.Laws.{OnlyReadings}
@@ -19,14 +18,14 @@ use Rattle.wf_engine.specs.Starts.{start_of}
 use Rattle.wf_events.specs.Laws.{MeaningOfSpelling}
 use Rattle.wf_events.specs.Records.{Started}
 use Rattle.wf_events.specs.Spelling.{record_bytes, HasSpelling}
-use Rattle.wf_first_form.specs.FirstForm.{first_form}
 use Rattle.wf_host.specs.Source.{IsFirst}
 use Rattle.wf_line.specs.Lines.{PlainLine, line_of}
 use Rattle.wf_machine.proofs.Places.{initial_is}
 use Rattle.wf_replay.specs.Laws.{StartIsAHistory}
 use Rattle.wf_status.specs.declared.RefusalKind.TheVariants.{SourceTooLong}
 use Rattle.wf_engine.specs.Safe.{SafeAt}
-use Rattle.wf_engine.specs.TheLanguage.{the_language}
+use Rattle.wf_engine.specs.TheLanguage.{program_of, the_language}
+use Rattle.wf_source.specs.Sources.{content_tree, read_source, read_tree, refused, tree_program, without_mark}
 use Rattle.wf_engine.specs.declared.engine.Engine.{Engine}
 use Rattle.wf_engine.specs.declared.fault.EngineFault.{EngineFault}
 use Rattle.wf_engine.specs.declared.fault.EngineFault.TheVariants as engine
@@ -186,27 +185,18 @@ module _ (s : Scene) (old mid new : World) (t : ℕ) (payload : List ℕ) (line 
   }
 
 -- ## The start of a line
--- what an accepted source is
-pub accepted_of : (bytes : List ℕ) (p : Program) → read_source bytes ≡ Ok p → first_form bytes ≡ Some p
-unfolding read_source
-accepted_of bytes p is = by (nat_le 131073 (length bytes)) (first_form bytes) is
-  where
-    by : (b : Bool) (o : Option Program) → (if b then Err (refused SourceTooLong) else program_or_refusal o) ≡ Ok p → o ≡ Some p
-    by true o it = cc it
-    by false None it = cc it
-    by false (Some q) it = ap Some (same_ok (program_or_refusal (Some q)) q p refl it)
-
+-- an accepted source is short enough
 pub short_of : (bytes : List ℕ) (p : Program) → read_source bytes ≡ Ok p → length bytes ≤ 131072
-unfolding read_source
-short_of bytes p is = by (nat_le 131073 (length bytes)) (first_form bytes) refl is
+unfolding read_source read_tree
+short_of bytes p is = by (nat_le 131073 (length bytes)) refl is
   where
-    by : (b : Bool) (o : Option Program) → nat_le 131073 (length bytes) ≡ b → (if b then Err (refused SourceTooLong) else program_or_refusal o) ≡ Ok p → length bytes ≤ 131072
-    by true o long it = cc it
-    by false o long it = let low = leb-false 131073 (length bytes) long in omega (arith, low)
+    by : (b : Bool) → nat_le 131073 (length bytes) ≡ b → tree_program (length bytes) (if b then Err (refused SourceTooLong) else content_tree (without_mark bytes)) ≡ Ok p → length bytes ≤ 131072
+    by true long it = cc it
+    by false long it = let low = leb-false 131073 (length bytes) long in omega (arith, low)
 
 pub language_of : (bytes : List ℕ) (p : Program) → read_source bytes ≡ Ok p → the_language.source bytes ≡ Some p
 unfolding the_language
-language_of bytes p is = accepted_of bytes p is
+language_of bytes p is = ap program_of is
 
 pub start_of_line : (s : Scene) (l : PlainLine) (source : List ℕ) (p : Program) (t : ℕ) → line_of s.words ≡ Ok l → l.command ≡ Run → IsFirst 131073 s.source source → read_source source ≡ Ok p
     → HasSpelling (Started (start_of l source t)) → MeaningOfSpelling → StartIsAHistory → StartOfLine s t (record_bytes (Started (start_of l source t)))
@@ -214,7 +204,7 @@ start_of_line s l source p t is command first reads spelled meaning_of law =
     let st = start_of l source t in
     let means = meaning_of (Started st) spelled tt in
     let accepted = language_of source p reads in
-    let begins = initial_is p st (form_is_straight source p (accepted_of source p reads)) in
+    let begins = initial_is p st (form_is_straight source p (ap program_of reads)) in
     record {
       line = l;
       bytes = source;

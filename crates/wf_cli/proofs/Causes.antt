@@ -6,7 +6,7 @@ use Rattle.wf_engine.specs.Printed.{Scene, uses_source, uses_journal, executes, 
 use Rattle.wf_host.specs.World.{World}
 use Rattle.wf_line.specs.Lines.{PlainLine, line_of}
 use Rattle.wf_line.specs.declared.command.Command.{Command}
-use Rattle.wf_line.specs.declared.command.Command.TheVariants.{Run, Resume, Help, Version}
+use Rattle.wf_line.specs.declared.command.Command.TheVariants.{Format, Run, Resume, Help, Version}
 use Rattle.wf_model.specs.Config.{Outcome, Active, Returned, Raised, Cancelled}
 use Rattle.wf_status.specs.Statuses.{rank, status_text}
 use Rattle.wf_status.specs.declared.Refusal.{Refusal}
@@ -51,16 +51,11 @@ pub no_bad_line : (s : Scene) (P : Command → Type 0) (n : ℕ) → IsLineOf s 
 no_bad_line s P n (l, is, p) bad = not_both (line_of s.words) l n is bad
 
 pub journal_executes : (c : Command) → uses_journal c ≡ true → executes c ≡ true
+journal_executes Format is = let no : false ≡ true = is in cc no
 journal_executes Run is = refl
 journal_executes Resume is = refl
 journal_executes Help is = let no : false ≡ true = is in cc no
 journal_executes Version is = let no : false ≡ true = is in cc no
-
-source_executes : (c : Command) → uses_source c ≡ true → executes c ≡ true
-source_executes Run is = refl
-source_executes Resume is = let no : false ≡ true = is in cc no
-source_executes Help is = let no : false ≡ true = is in cc no
-source_executes Version is = let no : false ≡ true = is in cc no
 
 -- a line that executes, and one that doesn't
 pub executing : (s : Scene) → IsLineOf s (λ c. executes c ≡ true) → IsLineOf s (λ c. executes c ≡ false) → ⊥
@@ -78,11 +73,12 @@ pub resume_executes : (s : Scene) → IsLineOf s (λ c. c ≡ Resume) → IsLine
 resume_executes s line = line_is s (λ c. c ≡ Resume) (λ c. executes c ≡ true) (λ c is. ap executes is) line
 
 pub reported_line : (s : Scene) (text : List ℕ) → Reported s text → IsLineOf s (λ c. executes c ≡ false)
+reported_line s text (end.formatted l bytes text2 (is, uses, first) command laid) = (l, is, ap executes command)
 reported_line s _ (end.helped line) = line_is s (λ c. c ≡ Help) (λ c. executes c ≡ false) (λ c is. ap executes is) line
 reported_line s _ (end.versioned line) = line_is s (λ c. c ≡ Version) (λ c. executes c ≡ false) (λ c is. ap executes is) line
 
-pub refused_line : (s : Scene) (r : Refusal) → IsRefused s r → IsLineOf s (λ c. executes c ≡ true)
-refused_line s r (l, bytes, (is, uses, first), why) = (l, is, source_executes l.command uses)
+pub refused_line : (s : Scene) (r : Refusal) → IsRefused s r → IsLineOf s (λ c. uses_source c ≡ true)
+refused_line s r (l, bytes, (is, uses, first), why) = (l, is, uses)
 
 -- no line is of two commands
 pub not_run_and_resume : (s : Scene) → IsLineOf s (λ c. c ≡ Run) → IsLineOf s (λ c. c ≡ Resume) → ⊥

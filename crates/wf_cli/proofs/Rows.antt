@@ -5,11 +5,10 @@ use Rattle.wf_cli.proofs.Causes.{same_ok, same_some, no_bad_line, executing, rep
 use Rattle.wf_cli.proofs.Together.{IsOrBefore, where_bad_line, where_told, when_told, where_refused, FileCause, other_magic, started, not_started, no_history, file_cause_rank, where_of_file}
 use Rattle.wf_cli.specs.Top.{Call, IsLineOf, IsRefused, HasOutcome, Reported, Gives, IsAccepted, IsOfFile, Says, bad_line, refused, reported, of_file, Ends, said, cut, unread, failed, no_memory, Prints, IsOrYields, Exactly, BadLineRow, ReadFaultRow, RefusedRow, DiskFaultRow, NotAJournalRow, AlreadyStartedRow, NotStartedRow, NotAHistoryRow, OutcomeRow, DoneRow, PrintFaultRow, OnlyThese}
 use Rattle.wf_engine.specs.Printed as end
-use Rattle.wf_engine.specs.Printed.{Scene, executes, status_of, outcome_text}
+use Rattle.wf_engine.specs.Printed.{Scene, uses_source, executes, status_of, outcome_text}
 use Rattle.wf_engine.specs.TheLanguage.{the_language}
 use Rattle.wf_host.specs.World.{World}
 use Rattle.wf_journal.specs.Records.{records}
-use Rattle.wf_line.specs.declared.command.Command.TheVariants.{Run}
 use Rattle.wf_model.specs.Config.{Outcome, Active, Returned, Raised, Cancelled}
 use Rattle.wf_replay.specs.History.{Standing, history}
 use Rattle.wf_status.specs.Refusals.{refusal_text}
@@ -20,7 +19,7 @@ use Rattle.wf_status.specs.declared.Status.TheVariants as status
 
 -- ## What a status has
 -- a status that comes with each end, unless an earlier cause came
-yields : (x : Call) (st : Status) → Ends x → ((other : Status) (text : List ℕ) → Says x.scene x.old x.new other text → IsOrBefore st other) → (IsLineOf x.scene (λ c. c ≡ Run) → 2 < rank st)
+yields : (x : Call) (st : Status) → Ends x → ((other : Status) (text : List ℕ) → Says x.scene x.old x.new other text → IsOrBefore st other) → (IsLineOf x.scene (λ c. uses_source c ≡ true) → 2 < rank st)
     → (IsLineOf x.scene (λ c. executes c ≡ true) → IsAccepted x.scene → 4 < rank st) → IsOrYields x st
 yields x st (said text says prints) one reads disk = ⊎_elim (λ is. inl is) (λ low. inr (inl low)) (one x.status text says)
 yields x st (cut other text is says why some) one reads disk = inr (inr (inl is))
@@ -69,7 +68,7 @@ bad_line_row x ends n =
     let line = line_end (codes "bad line at word " ++ decimal n) in
     record {
       comes = λ is. subst (Cause x.scene) is (cause_early x line (subst (λ s. rank s < 5) (sym is) (omega arith)) ends (texted_as x (status.BadLine n) line refl is));
-      only = λ bad. yields x (status.BadLine n) ends (λ other text says. where_bad_line x.scene x.old x.new n other text bad says) (λ run. absurd (no_bad_line x.scene (λ c. c ≡ Run) n run bad))
+      only = λ bad. yields x (status.BadLine n) ends (λ other text says. where_bad_line x.scene x.old x.new n other text bad says) (λ run. absurd (no_bad_line x.scene (λ c. uses_source c ≡ true) n run bad))
           (λ runs accepted. absurd (no_bad_line x.scene (λ c. executes c ≡ true) n runs bad));
       prints = λ is. line_printed x line ends (texted_as x (status.BadLine n) line refl is);
     }

@@ -1,20 +1,25 @@
 -- What is said where a cause holds: the status of this cause, or one that is looked at before.
-use Rattle.std.proofs.Common.{◌≡◌, ◌<◌, ◌⊎◌, inl, inr, ⊎_elim, IsTrue, ℕ, true, false, List, None, Some, refl, sym, ◌∙◌, ap, subst, arith}
+use Rattle.std.proofs.Common.{◌≡◌, ◌<◌, ◌⊎◌, inl, inr, ⊎_elim, IsTrue, ℕ, true, false, List, None, Some, Result, Ok, Err, refl, sym, ◌∙◌, ap, subst, arith}
 use Rattle.std.proofs.lemmas.Bool.{cases_lt}
-use Rattle.wf_cli.proofs.Causes.{same_err, same_some, no_bad_line, journal_executes, executing, line_is, run_executes, resume_executes, reported_line, refused_line, Cause, gives_cause}
-use Rattle.wf_cli.specs.Reports.{the_reports}
-use Rattle.wf_cli.specs.Top.{IsLineOf, IsBadLine, IsRefused, HasOtherMagic, IsStarted, IsNotStarted, IsNoHistory, Gives, IsOfFile, IsPassed, Says, bad_line, refused, reported, of_file}
-use Rattle.wf_engine.specs.Printed.{Scene, uses_journal, executes}
+use Rattle.wf_cli.proofs.Causes.{same_ok, same_err, same_some, both, no_bad_line, journal_executes, executing, line_is, run_executes, resume_executes, reported_line, refused_line, Cause, gives_cause}
+use Rattle.wf_cli.specs.Reports.{layout_of, the_reports, why_refused}
+use Rattle.wf_cli.specs.Top.{IsLineOf, IsBadLine, IsRefused, HasOtherMagic, IsStarted, IsNotStarted, IsNoHistory, Reported, Gives, IsOfFile, IsPassed, Says, bad_line, refused, reported, of_file}
+use Rattle.wf_engine.specs.Printed as end
+use Rattle.wf_engine.specs.Printed.{Scene, uses_journal, uses_source, executes}
 use Rattle.wf_engine.specs.TheLanguage.{the_language}
 use Rattle.wf_host.specs.Source.{Rest, IsFirst, WhereTold}
 use Rattle.wf_host.specs.World.{World}
 use Rattle.wf_journal.specs.Records.{records}
-use Rattle.wf_line.specs.Lines.{line_of}
+use Rattle.wf_line.specs.Lines.{PlainLine, line_of}
+use Rattle.wf_line.specs.declared.command.Command.{Command}
+use Rattle.wf_line.specs.declared.command.Command.TheVariants.{Format, Help, Version}
 use Rattle.wf_replay.specs.History.{history}
 use Rattle.wf_status.specs.Statuses.{rank}
 use Rattle.wf_status.specs.declared.Refusal.{Refusal}
 use Rattle.wf_status.specs.declared.Status.{Status}
 use Rattle.wf_status.specs.declared.Status.TheVariants as status
+use Rattle.wf_source.specs.Sources.{read_tree}
+use Rattle.wf_tree.specs.Trees.{Tree}
 
 -- this status, or one that is looked at before it
 abbrev pub IsOrBefore : Status → Status → Type 0
@@ -23,7 +28,7 @@ IsOrBefore st other = (other ≡ st) ⊎ (rank other < rank st)
 -- ## Words that are no line
 pub where_bad_line : (s : Scene) (old new : World) (n : ℕ) (other : Status) (text : List ℕ) → IsBadLine s n → Says s old new other text → IsOrBefore (status.BadLine n) other
 where_bad_line s old new n _ _ bad (bad_line m is) = inl (ap status.BadLine (same_err (line_of s.words) m n is bad))
-where_bad_line s old new n _ _ bad (refused r why) = absurd (no_bad_line s (λ c. executes c ≡ true) n (refused_line s r why) bad)
+where_bad_line s old new n _ _ bad (refused r why) = absurd (no_bad_line s (λ c. uses_source c ≡ true) n (refused_line s r why) bad)
 where_bad_line s old new n _ _ bad (reported text report) = absurd (no_bad_line s (λ c. executes c ≡ false) n (reported_line s text report) bad)
 where_bad_line s old new n _ _ bad (of_file st text is line accepted gives) = absurd (no_bad_line s (λ c. executes c ≡ true) n line bad)
 
@@ -41,12 +46,34 @@ when_told source left P told is = subst (λ r. WhereTold r P) told is
 
 one_refusal : (s : Scene) (left : List ℕ) (q r : Refusal) → s.source ≡ Some left → IsRefused s q → IsRefused s r → q ≡ r
 one_refusal s left q r told (l, bytes, (is, uses, first), why) (m, bytes2, (is2, uses2, first2), why2) =
-    same_some (the_reports.refusal bytes) q r why (ap the_reports.refusal (same_bytes s.source left bytes bytes2 told first first2) ∙ why2)
+    let line : l ≡ m = same_ok (line_of s.words) l m is is2 in
+    same_some (the_reports.refusal l.command bytes) q r why ((λ i. the_reports.refusal (line i).command (same_bytes s.source left bytes bytes2 told first first2 i)) ∙ why2)
+
+-- what is laid out isn't refused
+not_both_answers : (t : Result Tree Refusal) (r : Refusal) (text : List ℕ) → why_refused t ≡ Some r → layout_of t ≡ Some text → ⊥
+not_both_answers (Ok t) r text why laid = let no : None ≡ Some r = why in cc no
+not_both_answers (Err q) r text why laid = let no : None ≡ Some text = laid in cc no
+
+laid_or_refused : (bytes text : List ℕ) (r : Refusal) → the_reports.refusal Format bytes ≡ Some r → the_reports.formatted bytes ≡ Some text → ⊥
+unfolding the_reports
+laid_or_refused bytes text r why laid = not_both_answers (read_tree bytes) r text why laid
+
+no_source : (s : Scene) (r : Refusal) (c : Command) → uses_source c ≡ false → IsRefused s r → IsLineOf s (λ d. d ≡ c) → ⊥
+no_source s r c none why line =
+    let it = both s (λ d. uses_source d ≡ true) (λ d. d ≡ c) (refused_line s r why) line in
+    let no : true ≡ false = sym it.1 ∙ ap uses_source it.2 ∙ none in cc no
+
+refused_or_reported : (s : Scene) (left : List ℕ) (r : Refusal) (text : List ℕ) → s.source ≡ Some left → IsRefused s r → Reported s text → ⊥
+refused_or_reported s left r text told (l, bytes, (is, uses, first), why) (end.formatted m bytes2 text2 (is2, uses2, first2) command laid) =
+    let line : l ≡ m = same_ok (line_of s.words) l m is is2 in
+    laid_or_refused bytes2 text r ((λ i. the_reports.refusal (sym (ap (λ (k : PlainLine). k.command) line ∙ command) i) (sym (same_bytes s.source left bytes bytes2 told first first2) i)) ∙ why) laid
+refused_or_reported s left r _ told why (end.helped line) = no_source s r Help refl why line
+refused_or_reported s left r _ told why (end.versioned line) = no_source s r Version refl why line
 
 pub where_refused : (s : Scene) (old new : World) (left : List ℕ) (r : Refusal) (other : Status) (text : List ℕ) → s.source ≡ Some left → IsRefused s r → Says s old new other text → IsOrBefore (status.Refused r) other
 where_refused s old new left r _ _ told why (bad_line m is) = inr (omega arith)
 where_refused s old new left r _ _ told why (refused q why2) = inl (ap status.Refused (one_refusal s left q r told why2 why))
-where_refused s old new left r _ _ told why (reported text report) = absurd (executing s (refused_line s r why) (reported_line s text report))
+where_refused s old new left r _ _ told why (reported text report) = absurd (refused_or_reported s left r text told why report)
 where_refused s old new left r _ _ told why (of_file st text is line accepted gives) =
     absurd (when_told s.source left ((q : Refusal) → ¬ IsRefused s q) told accepted r why)
 

@@ -7,9 +7,8 @@ use Rattle.wf_cli.proofs.Causes.{same_ok, same_err, same_some, both, executing}
 use Rattle.wf_cli.proofs.Together.{where_told, same_bytes}
 use Rattle.wf_cli.proofs.Moments.{early_nothing, late_going}
 use Rattle.wf_cli.proofs.Opens.{passed_all}
-use Rattle.wf_cli.specs.Reports.{the_reports, why_refused}
-use Rattle.wf_cli.specs.Source.{read_source}
-use Rattle.wf_cli.specs.Said.{SaysStatus, SaysFault, SaysReport, SaysBadLine, DidLittle, SafeSince, Unwritten, HasNoCause, FaultHolds, Opening, SaysResult, SaysHistory, Going, IsEnd, Worked}
+use Rattle.wf_cli.specs.Reports.{layout_of, refusal_by, the_reports, why_refused}
+use Rattle.wf_cli.specs.Said.{SaysStatus, SaysFault, SaysReport, SaysBadLine, SaysSource, SaysTree, SaysLayout, DidLittle, SafeSince, Unwritten, HasNoCause, FaultHolds, Opening, SaysResult, SaysHistory, Going, IsEnd, Worked}
 use Rattle.wf_cli.specs.Top.{IsLineOf, IsBadLine, IsRefused, HasOtherMagic, IsStarted, IsNotStarted, IsNoHistory, Reported, IsAccepted, IsOfFile, IsPassed, Gives, Says, bad_line, refused, reported, of_file}
 use Rattle.wf_cli.specs.declared.end.Said.{Said}
 use Rattle.wf_cli.specs.declared.end.Silence.{Silence}
@@ -31,16 +30,22 @@ use Rattle.wf_journal.specs.Steps.{Moment}
 use Rattle.wf_line.specs.Help.{help, version}
 use Rattle.wf_line.specs.Lines.{PlainLine, line_of}
 use Rattle.wf_line.specs.declared.command.Command.{Command}
-use Rattle.wf_line.specs.declared.command.Command.TheVariants.{Resume, Help, Version}
+use Rattle.wf_line.specs.declared.command.Command.TheVariants.{Format, Run, Resume, Help, Version}
 use Rattle.wf_line.specs.declared.read.LineFault.{LineFault}
 use Rattle.wf_line.specs.declared.read.LineFault.TheVariants as words
 use Rattle.wf_model.specs.Config.{Outcome, Active, Returned, Raised, Cancelled}
 use Rattle.wf_replay.specs.History.{Standing, history}
+use Rattle.wf_source.specs.Sources.{read_source, read_tree}
+use Rattle.wf_source.specs.Views.{Tells}
+use Rattle.wf_source.specs.declared.fault.SourceFault.{SourceFault}
+use Rattle.wf_source.specs.declared.fault.SourceFault.TheVariants as source_fault
 use Rattle.wf_status.specs.Refusals.{refusal_text}
 use Rattle.wf_status.specs.Statuses.{line_end, status_text}
 use Rattle.wf_status.specs.declared.Refusal.{Refusal}
 use Rattle.wf_status.specs.declared.Status.{Status}
 use Rattle.wf_status.specs.declared.Status.TheVariants as status
+use Rattle.wf_tree.specs.Trees.{Tree}
+use Rattle.wf_yaml_write.specs.Layout.{written}
 
 -- ## A status that prints a line
 -- what is said with a line has its cause
@@ -260,14 +265,17 @@ pub silent_worked : (s : Scene) (w : World) (e : Silence) → OnlyNow w → Work
 silent_worked s w e only = lack_worked s w e only
 
 -- a refusal of bytes that were read
-pub is_refused : (s : Scene) (l : PlainLine) (bytes : List ℕ) (why : Refusal) → end.Reads the_language the_reports s l bytes → read_source bytes ≡ Err why → IsRefused s why
+pub is_refused : (s : Scene) (l : PlainLine) (bytes : List ℕ) (why : Refusal) → end.Reads the_language the_reports s l bytes → l.command ≡ Run → read_source bytes ≡ Err why → IsRefused s why
 unfolding the_reports
-is_refused s l bytes why reads is = (l, bytes, reads, ap why_refused is)
+is_refused s l bytes why reads command is = (l, bytes, reads, ap (λ c. refusal_by c bytes) command ∙ ap why_refused is)
 
 -- bytes that are accepted are no others that are refused
-pub is_accepted : (s : Scene) (l : PlainLine) (bytes : List ℕ) (p : Program) → end.Reads the_language the_reports s l bytes → read_source bytes ≡ Ok p → IsAccepted s
+pub is_accepted : (s : Scene) (l : PlainLine) (bytes : List ℕ) (p : Program) → end.Reads the_language the_reports s l bytes → l.command ≡ Run → read_source bytes ≡ Ok p → IsAccepted s
 unfolding the_reports
-is_accepted s l bytes p reads is = where_told s.source _ (λ left told why (m, other, (line, uses, first), refuses). absurd (none why (ap why_refused (sym is) ∙ ap (λ b. why_refused (read_source b)) (same_bytes s.source left bytes other told reads.2 first) ∙ refuses)))
+is_accepted s l bytes p reads command is =
+    where_told s.source _ (λ left told why (m, other, (line, uses, first), refuses).
+    let runs : m.command ≡ Run = ap (λ (k : PlainLine). k.command) (same_ok (line_of s.words) m l line reads.0) ∙ command in
+    absurd (none why (ap why_refused (sym is) ∙ ap (λ b. why_refused (read_source b)) (same_bytes s.source left bytes other told reads.2 first) ∙ ap (λ c. refusal_by c other) (sym runs) ∙ refuses)))
   where
     none : (why : Refusal) → None ≡ Some why → ⊥
     none why never = cc never
@@ -292,6 +300,41 @@ no_said (Err e) P is = tt
 pub lacks_engine : (command : kept.Command) (s : Scene) (old new : World) (r : Result Engine EngineFault) → IsErr r × IsErrAnd r (λ f. f ≡ engine.OutOfMemory) → ((f : EngineFault) → f ≡ engine.OutOfMemory → Opening command s old new (Err f)) → Opening command s old new r
 lacks_engine command s old new (Ok e) is all = let no : false ≡ true = is.0 in absurd (cc no)
 lacks_engine command s old new (Err f) is all = all f is.1
+
+-- what is said of a source that isn't taken
+pub source_end : (s : Scene) (l : PlainLine) (w : World) (a b : ℕ) (f g : Faults) (bytes : List ℕ) (fault : SourceFault) (r : Result Said Silence) → end.Reads the_language the_reports s l bytes → l.command ≡ Run → Tells (read_source bytes) fault → SaysSource fault r
+    → IsEnd s w w a b f g r
+source_end s l w a b f g bytes (source_fault.Refused why) (Ok it) reads command tells says = end_refused s w w a b f g why it (is_refused s l bytes why reads command tells) says
+source_end s l w a b f g bytes (source_fault.Refused why) (Err e) reads command tells says = lack_end s w a b f g e says
+source_end s l w a b f g bytes source_fault.OutOfMemory r reads command tells says = subst (λ q. IsEnd s w w a b f g q) (sym says) tt
+
+pub source_worked : (s : Scene) (l : PlainLine) (w : World) (bytes : List ℕ) (fault : SourceFault) (r : Result Said Silence) → end.Reads the_language the_reports s l bytes → l.command ≡ Run → Tells (read_source bytes) fault → SaysSource fault r
+    → OnlyNow w → Worked s w w r
+source_worked s l w bytes (source_fault.Refused why) (Ok it) reads command tells says only = refused_worked s w why it (is_refused s l bytes why reads command tells) says only
+source_worked s l w bytes (source_fault.Refused why) (Err e) reads command tells says only = lack_worked s w e only
+source_worked s l w bytes source_fault.OutOfMemory r reads command tells says only = subst (λ q. Worked s w w q) (sym says) (lack_worked s w silence.OutOfMemory only)
+
+-- ## The layout of a source
+-- what is said of a tree is a report, and what is said of a refusal a refusal
+tree_said : (s : Scene) (l : PlainLine) (bytes : List ℕ) (r : Result Tree Refusal) (it : Said) → end.Reads the_language the_reports s l bytes → l.command ≡ Format → read_tree bytes ≡ r → SaysTree r it
+    → ((text : List ℕ) × Reported s text × ((it.status ≡ status.Done) × (it.text.items ≡ text))) ⊎ ((why : Refusal) × IsRefused s why × SaysStatus (status.Refused why) it)
+unfolding the_reports
+tree_said s l bytes (Ok t) it reads command is says = inl (written t, end.formatted l bytes (written t) reads command (ap layout_of is), says)
+tree_said s l bytes (Err why) it reads command is says = inr (why, (l, bytes, reads, ap (λ c. refusal_by c bytes) command ∙ ap why_refused is), says)
+
+pub layout_end : (s : Scene) (l : PlainLine) (w : World) (a b : ℕ) (f g : Faults) (r : Result Said Silence) → line_of s.words ≡ Ok l → l.command ≡ Format → SaysLayout s.source a b r → IsEnd s w w a b f g r
+layout_end s l w a b f g (Ok it) is command (bytes, first, says) =
+    ⊎_elim (λ (text, report, that). end_report s w w a b f g text it report that) (λ (why, refuses, that). end_refused s w w a b f g why it refuses that)
+    (tree_said s l bytes (read_tree bytes) it (is, ap uses_source command, first) command refl says)
+layout_end s l w a b f g (Err silence.Unread) is command rose = ((l, is, ap uses_source command), rose)
+layout_end s l w a b f g (Err silence.DiskFault) is command never = absurd never
+layout_end s l w a b f g (Err silence.OutOfMemory) is command lacks = tt
+
+pub layout_worked : (s : Scene) (l : PlainLine) (w : World) (a b : ℕ) (r : Result Said Silence) → line_of s.words ≡ Ok l → l.command ≡ Format → SaysLayout s.source a b r → OnlyNow w → Worked s w w r
+layout_worked s l w a b (Ok it) is command (bytes, first, says) only =
+    ⊎_elim (λ (text, report, that). report_worked s w text (Ok it) report that only) (λ (why, refuses, that). refused_worked s w why it refuses that only)
+    (tree_said s l bytes (read_tree bytes) it (is, ap uses_source command, first) command refl says)
+layout_worked s l w a b (Err e) is command says only = silent_worked s w e only
 
 -- a line that asks for a text of the program
 pub help_reported : (s : Scene) (l : PlainLine) (text : List ℕ) → line_of s.words ≡ Ok l → l.command ≡ Help → text ≡ help → Reported s text

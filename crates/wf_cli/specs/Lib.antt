@@ -1,4 +1,3 @@
-pub mod Source
 pub mod Reports
 pub mod Top
 pub mod Calls

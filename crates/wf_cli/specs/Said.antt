@@ -1,10 +1,7 @@
 -- What the code of a command has found out before it prints.
 use Rattle.std.specs.Prelude.{◌≡◌, ◌≢◌, ◌⊎◌, ℕ, true, false, List, [], ◌∷◌, ◌++◌, Contains, Some, None, Result, Ok, Err, IfOk, IfErr}
 use Rattle.std.specs.List.{AllByRecursion}
-use Rattle.wf_ast.specs.View.{program_view}
-use Rattle.wf_ast.specs.declared.Program as code
 use Rattle.wf_cli.specs.Reports.{the_reports}
-use Rattle.wf_cli.specs.Source.{read_source, refused}
 use Rattle.wf_cli.specs.Top.{IsAccepted, IsLineOf, HasOtherMagic, IsStarted, IsNotStarted, IsNoHistory, IsPassed, Gives, Says}
 use Rattle.wf_cli.specs.declared.end.Said.{Said}
 use Rattle.wf_cli.specs.declared.end.Silence.{Silence}
@@ -14,7 +11,7 @@ use Rattle.wf_engine.specs.Engine.{Memory, memory, StandsFor, KeptAt}
 use Rattle.wf_engine.specs.Kept as kept
 use Rattle.wf_engine.specs.Outside.{Outside}
 use Rattle.wf_engine.specs.Printed as end
-use Rattle.wf_engine.specs.Printed.{Scene, executes, status_of, outcome_text}
+use Rattle.wf_engine.specs.Printed.{Scene, uses_source, executes, status_of, outcome_text}
 use Rattle.wf_engine.specs.Safe.{IsFit, IsSmall, SafeAt, command_by}
 use Rattle.wf_engine.specs.Starts.{start_of}
 use Rattle.wf_engine.specs.TheLanguage.{the_language}
@@ -23,6 +20,7 @@ use Rattle.wf_engine.specs.declared.fault.EngineFault.{EngineFault}
 use Rattle.wf_engine.specs.declared.fault.EngineFault.TheVariants as engine
 use Rattle.wf_events.specs.Records.{Started}
 use Rattle.wf_events.specs.Spelling.{record_bytes}
+use Rattle.wf_host.specs.Source.{Rest, IsFirst}
 use Rattle.wf_host.specs.World.{World, Faults, Told, Only, LeavesOnly, Rose}
 use Rattle.wf_host.specs.declared.ReadFault.{ReadFault}
 use Rattle.wf_host.specs.declared.ReadFault.TheVariants as fault
@@ -30,7 +28,7 @@ use Rattle.wf_host.specs.declared.data.Deed.{Deed}
 use Rattle.wf_journal.specs.Records.{records}
 use Rattle.wf_journal.specs.Steps.{Moment}
 use Rattle.wf_line.specs.Lines.{PlainLine, line_of}
-use Rattle.wf_line.specs.declared.command.Command.TheVariants.{Run, Resume}
+use Rattle.wf_line.specs.declared.command.Command.TheVariants.{Resume}
 use Rattle.wf_line.specs.declared.read.LineFault.{LineFault}
 use Rattle.wf_line.specs.declared.read.LineFault.TheVariants as words
 use Rattle.wf_machine.specs.Outcome.{IsResult}
@@ -39,14 +37,14 @@ use Rattle.wf_printing.specs.Printing.{PrintsFront, PrintsWhole, LeavesSome, Too
 use Rattle.wf_replay.specs.At.{journal, next_session}
 use Rattle.wf_replay.specs.History.{Standing, history}
 use Rattle.wf_status.specs.Statuses.{status_text}
-use Rattle.wf_status.specs.declared.RefusalKind.{RefusalKind}
+use Rattle.wf_source.specs.Sources.{read_tree}
+use Rattle.wf_source.specs.declared.fault.SourceFault.{SourceFault}
+use Rattle.wf_source.specs.declared.fault.SourceFault.TheVariants as source
+use Rattle.wf_status.specs.declared.Refusal.{Refusal}
 use Rattle.wf_status.specs.declared.Status.{Status}
 use Rattle.wf_status.specs.declared.Status.TheVariants as status
-
--- the program of these bytes, or why they are refused
-abbrev pub IsReadAs : List ℕ → Result code.Program RefusalKind → Type 0
-IsReadAs bytes (Ok p) = read_source bytes ≡ Ok (program_view p)
-IsReadAs bytes (Err kind) = read_source bytes ≡ Err (refused kind)
+use Rattle.wf_tree.specs.Trees.{Tree}
+use Rattle.wf_yaml_write.specs.Layout.{written}
 
 -- the status and the text of an outcome
 pub record SaysOutcome (said : Said) (o : Outcome) : Type 0 where
@@ -72,6 +70,23 @@ SaysOrLacks st (Err s) = s ≡ silence.OutOfMemory
 abbrev pub SaysReport : List ℕ → Result Said Silence → Type 0
 SaysReport text (Ok said) = (said.status ≡ status.Done) × (said.text.items ≡ text)
 SaysReport text (Err s) = s ≡ silence.OutOfMemory
+
+-- what is said of a source that isn't taken
+abbrev pub SaysSource : SourceFault → Result Said Silence → Type 0
+SaysSource (source.Refused r) said = SaysOrLacks (status.Refused r) said
+SaysSource source.OutOfMemory said = said ≡ Err silence.OutOfMemory
+
+-- what is said of a source that is to be laid out: the layout of its tree, or why it is refused
+abbrev pub SaysTree : Result Tree Refusal → Said → Type 0
+SaysTree (Ok t) said = (said.status ≡ status.Done) × (said.text.items ≡ written t)
+SaysTree (Err r) said = SaysStatus (status.Refused r) said
+
+-- the source was read and laid out, or a read failed, or memory ran out
+abbrev pub SaysLayout : Rest → ℕ → ℕ → Result Said Silence → Type 0
+SaysLayout left reads reads2 (Ok said) = (bytes : List ℕ) × IsFirst 131073 left bytes × SaysTree (read_tree bytes) said
+SaysLayout left reads reads2 (Err silence.Unread) = Rose reads reads2
+SaysLayout left reads reads2 (Err silence.DiskFault) = ⊥
+SaysLayout left reads reads2 (Err silence.OutOfMemory) = Unit {0}
 
 -- what is said of words that are no line
 abbrev pub SaysBadLine : LineFault → Result Said Silence → Type 0
@@ -173,7 +188,7 @@ pub record Going (command : kept.Command) (m : Memory) (D : List Deed) (old new 
 -- a text with its cause, or why there is none
 abbrev pub IsEnd : Scene → World → World → ℕ → ℕ → Faults → Faults → Result Said Silence → Type 0
 IsEnd s old new reads reads2 faults faults2 (Ok said) = Says s old new said.status said.text.items
-IsEnd s old new reads reads2 faults faults2 (Err silence.Unread) = IsLineOf s (λ c. c ≡ Run) × Rose reads reads2
+IsEnd s old new reads reads2 faults faults2 (Err silence.Unread) = IsLineOf s (λ c. uses_source c ≡ true) × Rose reads reads2
 IsEnd s old new reads reads2 faults faults2 (Err silence.DiskFault) = IsLineOf s (λ c. executes c ≡ true) × IsAccepted s × Rose faults.disk faults2.disk
 IsEnd s old new reads reads2 faults faults2 (Err silence.OutOfMemory) = Unit {0}
 

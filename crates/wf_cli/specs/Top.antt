@@ -7,7 +7,7 @@ use Rattle.wf_cli.specs.Reports.{the_reports}
 use Rattle.wf_engine.specs.Deeds.{printed}
 use Rattle.wf_engine.specs.Outside.{Outside}
 use Rattle.wf_engine.specs.Printed as end
-use Rattle.wf_engine.specs.Printed.{Scene, uses_journal, executes, status_of, outcome_text}
+use Rattle.wf_engine.specs.Printed.{Scene, uses_source, uses_journal, executes, status_of, outcome_text}
 use Rattle.wf_engine.specs.Safe.{IsFit, SafeAt}
 use Rattle.wf_engine.specs.TheLanguage.{the_language}
 use Rattle.wf_host.specs.Source.{WhereTold}
@@ -17,7 +17,7 @@ use Rattle.wf_host.specs.declared.data.Deed.TheVariants.{Print}
 use Rattle.wf_journal.specs.Records.{records}
 use Rattle.wf_line.specs.Lines.{PlainLine}
 use Rattle.wf_line.specs.declared.command.Command.{Command}
-use Rattle.wf_line.specs.declared.command.Command.TheVariants.{Run, Resume}
+use Rattle.wf_line.specs.declared.command.Command.TheVariants.{Resume}
 use Rattle.wf_model.specs.Config.{Outcome, Active}
 use Rattle.wf_replay.specs.History.{Standing, history}
 use Rattle.wf_status.specs.Refusals.{refusal_text}
@@ -122,7 +122,7 @@ module _ (x : Call) where
   pub data Ends : Type 0 where
     said : (text : List ℕ) → Says x.scene x.old x.new x.status text → Prints text → Ends
     cut : (st : Status) (text : List ℕ) → x.status ≡ status.PrintFault → Says x.scene x.old x.new st text → Rose x.faults_old.print x.faults_new.print ⊎ TookNothing → PrintsSome text → Ends
-    unread : x.status ≡ status.ReadFault → IsLineOf x.scene (λ c. c ≡ Run) → Rose x.reads_old x.reads_new → Prints [] → Ends
+    unread : x.status ≡ status.ReadFault → IsLineOf x.scene (λ c. uses_source c ≡ true) → Rose x.reads_old x.reads_new → Prints [] → Ends
     failed : x.status ≡ status.DiskFault → IsLineOf x.scene (λ c. executes c ≡ true) → IsAccepted x.scene → Rose x.faults_old.disk x.faults_new.disk → Prints [] → Ends
     no_memory : x.status ≡ status.OutOfMemory → Prints [] → Ends
 

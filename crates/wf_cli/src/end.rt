@@ -1,6 +1,6 @@
 // What a command has found out before it prints.
 ghost use Rattle.std.specs.Prelude.{◌≡◌, ◌≤◌, ◌⊎◌, IfOk, IsErr, IsErrAnd};
-ghost use Rattle.wf_cli.specs.Said.{SaysStatus, SaysOutcome, SaysFault};
+ghost use Rattle.wf_cli.specs.Said.{SaysStatus, SaysOutcome, SaysFault, SaysSource};
 ghost use Rattle.wf_machine.specs.Lent.{outcome_view};
 ghost use Rattle.wf_machine.specs.Outcome.{IsResult, IsShallow};
 ghost use Rattle.wf_status.specs.Statuses.{line_end};
@@ -12,6 +12,7 @@ use std::alloc::Global;
 use wf_engine::EngineFault;
 use wf_host::ReadFault;
 use wf_machine::Outcome;
+use wf_source::SourceFault;
 use wf_status::Status;
 use wf_value::{OutOfMemory, Value, to_json};
 
@@ -116,6 +117,16 @@ impl Said {
                 text: json_line(alloc, error)?,
             }),
             Outcome::Active => unreachable!(),
+        }
+    }
+
+    /// The status and the line of a source that isn't taken, or why there is none.
+    pub(crate) fn of_source(alloc: Global, fault: SourceFault) -> Result<Said, Silence>
+        ensures { SaysSource fault result }
+    {
+        match fault {
+            SourceFault::Refused(refusal) => Ok(Said::line(alloc, Status::Refused(refusal))?),
+            SourceFault::OutOfMemory => Err(Silence::OutOfMemory),
         }
     }
 

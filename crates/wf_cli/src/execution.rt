@@ -2,7 +2,6 @@
 ghost use Rattle.std.specs.Prelude.{◌≡◌, ◌≤◌, ◌∷◌, false, ℕ, List, Ok, IfOk, IsErrOf, IsUtf8, codes, decimal, length, unwrap_or};
 ghost use Rattle.wf_ast.specs.View.{program_view};
 ghost use Rattle.wf_cli.specs.Said.{Going, IsEnd, Opening, SaysResult, Worked};
-ghost use Rattle.wf_cli.specs.Source.{read_source};
 ghost use Rattle.wf_cli.specs.Top.{IsLineOf};
 ghost use Rattle.wf_engine.specs.Engine.{memory, is_closed, Holds, StandsFor};
 ghost use Rattle.wf_engine.specs.Kept as kept;
@@ -19,9 +18,9 @@ ghost use Rattle.wf_line.specs.Lines.{line_of, word_of};
 ghost use Rattle.wf_line.specs.Plain.{plain_line};
 ghost use Rattle.wf_line.specs.declared.command.Command.TheVariants.{Run, Resume};
 ghost use Rattle.wf_line.specs.declared.option.OptionName.TheVariants.{Id};
+ghost use Rattle.wf_source.specs.Sources.{read_source};
 
 use crate::end::{Said, Silence};
-use crate::sources::{SOURCE_LIMIT, read_program};
 use std::alloc::Global;
 use wf_ast::Program;
 use wf_engine::{Engine, EngineFault, laws_of_rules};
@@ -29,7 +28,7 @@ use wf_events::{Pairs, Start, one_spelling};
 use wf_host::{Host, Routes, Source, read_up_to};
 use wf_line::Line;
 use wf_replay::laws_of_histories;
-use wf_status::{Place, Refusal, Status};
+use wf_source::{SOURCE_LIMIT, read_source};
 use wf_value::{Bytes, OutOfMemory, Text};
 
 /// A text of these characters, which are told to be UTF-8.
@@ -162,15 +161,9 @@ pub(crate) fn run<S: Source, H: Host>(
     ensures counts { NoneFell (H.faults host.old) (H.faults host.new) }
 {
     let bytes = read_up_to(alloc, source, SOURCE_LIMIT + 1)?;
-    match read_program(alloc, bytes.as_slice())? {
+    match read_source(alloc, bytes.as_slice()) {
         Ok(program) => run_program(alloc, line, bytes.as_slice(), program, host),
-        Err(kind) => Ok(Said::line(
-            alloc,
-            Status::Refused(Refusal {
-                kind,
-                place: Place::Source,
-            }),
-        )?),
+        Err(fault) => Said::of_source(alloc, fault),
     }
 }
 

@@ -6,7 +6,7 @@
 
 mod end;
 mod execution;
-mod sources;
+mod formatting;
 mod top;
 
 pub use top::{perform, run_line};

@@ -5,12 +5,11 @@ use Rattle.wf_ast.specs.Tree.{Program}
 use Rattle.wf_engine.proofs.Forms.{form_is_straight}
 use Rattle.wf_engine.specs.Faults.{fault_of, replay_fault}
 use Rattle.wf_engine.specs.Openings.{NoFirst}
-use Rattle.wf_engine.specs.TheLanguage.{the_language}
+use Rattle.wf_engine.specs.TheLanguage.{program_of, the_language}
 use Rattle.wf_engine.specs.declared.fault.EngineFault.{EngineFault}
 use Rattle.wf_engine.specs.declared.fault.EngineFault.TheVariants.{NotAHistory}
 use Rattle.wf_events.specs.Reading.{meaning}
 use Rattle.wf_events.specs.Records.{Record, Started}
-use Rattle.wf_first_form.specs.FirstForm.{first_form}
 use Rattle.wf_history.specs.Faults.{told}
 use Rattle.wf_history.specs.Stands.{IsBadAt, last_after}
 use Rattle.wf_history.specs.declared.fault.HistoryFault.{HistoryFault}
@@ -26,9 +25,10 @@ use Rattle.wf_replay.specs.Standing.{stands_at}
 use Rattle.wf_replay.specs.declared.fault.ReplayFault.{ReplayFault}
 use Rattle.wf_replay.specs.declared.fault.ReplayFault.TheVariants as replay_fault_of
 use Rattle.wf_shared.specs.Events.{Start}
+use Rattle.wf_source.specs.Sources.{read_source}
 
 -- ## The language
-pub accepts : (source : List ℕ) (o : Option Program) → o ≡ first_form source → the_language.source source ≡ o
+pub accepts : (source : List ℕ) (o : Option Program) → o ≡ program_of (read_source source) → the_language.source source ≡ o
 unfolding the_language
 accepts source o is = sym is
 

@@ -1,12 +1,14 @@
 -- A program of the first form runs straight through.
-use Rattle.std.proofs.Common.{◌≡◌, ℕ, Bool, true, false, ◌&&◌, List, [], ◌∷◌, ◌++◌, Option, None, Some, refl, subst}
+use Rattle.std.proofs.Common.{◌≡◌, ℕ, Bool, true, false, ◌&&◌, List, [], ◌∷◌, ◌++◌, Option, None, Some, Result, Ok, Err, refl, subst}
 use Rattle.std.specs.Prelude.{if◌then◌else◌, nat_le, length, option_map, option_and_then, bytes_eq, find, codes}
 use Rattle.std.specs.List.{list_all}
 use Rattle.wf_ast.specs.Tree.{Expr, Whole, Entry, Step, step, more, Body, Program}
-use Rattle.wf_first_form.specs.FirstForm.{assign_in, assigned_by, body_in, clock, entries_in, entry_in, entry_of, first_form, is_name, main_of, name_of, pair_in, plain_entry, program_in, reads, step_in, step_of, steps_in, text_in, value_in}
+use Rattle.wf_first_form.specs.FirstForm.{assign_in, assigned_by, body_in, clock, entries_in, entry_in, entry_of, first_form, is_name, main_of, name_of, pair_in, plain_entry, reads, step_in, step_of, steps_in, text_in, value_in}
 use Rattle.wf_machine.specs.Straight.{is_plain, is_plain_entry, is_straight_step, are_straight, is_straight}
-use Rattle.wf_value.specs.Data.{Data, null, boolean, integer, text, bytes, list, map, Items, no_items, item}
-use Rattle.wf_value.specs.Decode.{json_value}
+use Rattle.wf_engine.specs.TheLanguage.{program_of}
+use Rattle.wf_source.specs.Sources.{program_or_refusal, read_source, read_tree, tree_program}
+use Rattle.wf_status.specs.declared.Refusal.{Refusal}
+use Rattle.wf_tree.specs.Trees.{Tree, null, boolean, integer, decimal, text, list, map, Items, no_items, item}
 use Rattle.wf_value.specs.Pairs.{Text}
 
 -- ## What an option holds
@@ -36,19 +38,19 @@ text_is names t = by_text (bytes_eq t (codes "${sys.now()}")) (find (λ x. bytes
     by_text false None = tt
     by_text false (Some x) = refl
 
-value_is : (names : List Text) (v : Data) → Held is_plain (value_in names v)
+value_is : (names : List Text) (v : Tree) → Held is_plain (value_in names v)
 value_is names null = refl
 value_is names (boolean b) = refl
 value_is names (integer n) = refl
 value_is names (text t) = text_is names t
-value_is names (bytes b) = tt
+value_is names (decimal s) = tt
 value_is names (list vs) = tt
 value_is names (map ps) = tt
 
-entry_is : (names : List Text) (v : Data) → Held is_plain_entry (entry_in names v)
+entry_is : (names : List Text) (v : Tree) → Held is_plain_entry (entry_in names v)
 entry_is names v = of_pair (pair_in v)
   where
-    of_pair : (o : Option (Text × Data)) → Held is_plain_entry (option_and_then (entry_of names) o)
+    of_pair : (o : Option (Text × Tree)) → Held is_plain_entry (option_and_then (entry_of names) o)
     of_pair None = tt
     of_pair (Some p) = held_if is_plain_entry (is_name p.0) (option_map (plain_entry p.0) (value_in names p.1)) (held_map (plain_entry p.0) is_plain is_plain_entry (value_in names p.1) (λ t is. is) (value_is names p.1))
 
@@ -80,16 +82,16 @@ straight_named x (Body.Block ss) is = absurd (cc is)
 straight_named x (Body.Try t) is = absurd (cc is)
 straight_named x (Body.Raise t) is = absurd (cc is)
 
-assign_is : (names : List Text) (v : Data) → Held is_straight_body (assign_in names v)
+assign_is : (names : List Text) (v : Tree) → Held is_straight_body (assign_in names v)
 assign_is names null = tt
 assign_is names (boolean b) = tt
 assign_is names (integer n) = tt
 assign_is names (text t) = tt
-assign_is names (bytes b) = tt
+assign_is names (decimal s) = tt
 assign_is names (list vs) = held_if is_straight_body _ (option_map Body.Assign (entries_in names vs)) (held_map Body.Assign (list_all is_plain_entry) is_straight_body (entries_in names vs) (λ es is. is) (entries_are names vs))
 assign_is names (map ps) = tt
 
-body_is : (names : List Text) (form : Text) (v : Data) → Held is_straight_body (body_in names form v)
+body_is : (names : List Text) (form : Text) (v : Tree) → Held is_straight_body (body_in names form v)
 body_is names form v = by_form (bytes_eq form (codes "assign")) (bytes_eq form (codes "return"))
   where
     by_form : (a b : Bool) → Held is_straight_body (if a then assign_in names v else (if b then option_map Body.Return (value_in names v) else None))
@@ -98,14 +100,14 @@ body_is names form v = by_form (bytes_eq form (codes "assign")) (bytes_eq form (
     by_form false false = tt
 
 -- what the pair below a step's name says
-body_of_is : (names : List Text) (o : Option (Text × Data)) → Held is_straight_body (option_and_then (λ form. body_in names form.0 form.1) o)
+body_of_is : (names : List Text) (o : Option (Text × Tree)) → Held is_straight_body (option_and_then (λ form. body_in names form.0 form.1) o)
 body_of_is names None = tt
 body_of_is names (Some form) = body_is names form.0 form.1
 
-step_is : (names earlier : List Text) (v : Data) → Held is_straight_step (step_in names earlier v)
+step_is : (names earlier : List Text) (v : Tree) → Held is_straight_step (step_in names earlier v)
 step_is names earlier v = of_pair (pair_in v)
   where
-    of_pair : (o : Option (Text × Data)) → Held is_straight_step (option_and_then (step_of names earlier) o)
+    of_pair : (o : Option (Text × Tree)) → Held is_straight_step (option_and_then (step_of names earlier) o)
     of_pair None = tt
     of_pair (Some p) =
         held_if is_straight_step _ (option_map (λ b. step p.0 b None) (option_and_then (λ form. body_in names form.0 form.1) (pair_in p.1)))
@@ -123,23 +125,28 @@ steps_are names earlier no_items = refl
 steps_are names earlier (item v vs) = steps_first names earlier vs (λ names2 earlier2. steps_are names2 earlier2 vs) (step_in names earlier v) (step_is names earlier v)
 
 -- ## The source
-program_is : (v : Data) → Held is_straight (program_in v)
+program_is : (v : Tree) → Held is_straight (first_form v)
 program_is null = tt
 program_is (boolean b) = tt
 program_is (integer n) = tt
+program_is (decimal s) = tt
 program_is (text t) = tt
-program_is (bytes b) = tt
 program_is (list no_items) = tt
 program_is (list (item v vs)) = held_map main_of are_straight is_straight (steps_in [] [] (item v vs)) (λ ss is. is) (steps_are [] [] (item v vs))
 program_is (map ps) = tt
 
-source_is : (source : List ℕ) → Held is_straight (first_form source)
-source_is source = held_if is_straight (nat_le (length source) 1024) (option_and_then program_in (json_value source)) (of_value (json_value source))
+tree_is : (size : ℕ) (r : Result Tree Refusal) → Held is_straight (program_of (tree_program size r))
+tree_is size (Err r) = tt
+tree_is size (Ok t) = of_form (if nat_le size 1024 then first_form t else None) (held_if is_straight (nat_le size 1024) (first_form t) (program_is t))
   where
-    of_value : (o : Option Data) → Held is_straight (option_and_then program_in o)
-    of_value None = tt
-    of_value (Some v) = program_is v
+    of_form : (o : Option Program) → Held is_straight o → Held is_straight (program_of (program_or_refusal o))
+    of_form None h = tt
+    of_form (Some p) h = h
+
+source_is : (source : List ℕ) → Held is_straight (program_of (read_source source))
+unfolding read_source
+source_is source = tree_is (length source) (read_tree source)
 
 -- the program of some bytes
-pub form_is_straight : (source : List ℕ) (p : Program) → first_form source ≡ Some p → is_straight p ≡ true
+pub form_is_straight : (source : List ℕ) (p : Program) → program_of (read_source source) ≡ Some p → is_straight p ≡ true
 form_is_straight source p is = subst (Held is_straight) is (source_is source)

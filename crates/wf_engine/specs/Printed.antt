@@ -6,7 +6,7 @@ use Rattle.wf_host.specs.Source.{Rest, IsFirst}
 use Rattle.wf_journal.specs.Records.{magic, records}
 use Rattle.wf_line.specs.Lines.{PlainLine, line_of}
 use Rattle.wf_line.specs.declared.command.Command.{Command}
-use Rattle.wf_line.specs.declared.command.Command.TheVariants.{Run, Resume, Help, Version}
+use Rattle.wf_line.specs.declared.command.Command.TheVariants.{Format, Run, Resume, Help, Version}
 use Rattle.wf_model.specs.Config.{Outcome, Active, Returned, Raised, Cancelled}
 use Rattle.wf_replay.specs.History.{Standing, history}
 use Rattle.wf_replay.specs.Language.{Language}
@@ -25,13 +25,16 @@ pub record Scene : Type 0 where
 
 -- what is told of sources and of the program by other parts
 pub record Reports : Type 0 where
-  -- the first refusal of a source that isn't accepted
-  pub refusal : List ℕ → Option Refusal
+  -- the first refusal of a source that the command doesn't take
+  pub refusal : Command → List ℕ → Option Refusal
+  -- the tree of a source in one layout, where it has one
+  pub formatted : List ℕ → Option (List ℕ)
   pub help : List ℕ
   pub version : List ℕ
 
 -- ## What a command uses
 abbrev pub uses_source : Command → Bool
+uses_source Format = true
 uses_source Run = true
 uses_source c = false
 
@@ -73,7 +76,7 @@ module _ (L : Language) (R : Reports) (s : Scene) where
   Reads l bytes = IsLine l × (uses_source l.command ≡ true) × IsFirst 131073 s.source bytes
 
   abbrev pub IsRefused : Refusal → Type 0
-  IsRefused r = (l : PlainLine) × (bytes : List ℕ) × Reads l bytes × (R.refusal bytes ≡ Some r)
+  IsRefused r = (l : PlainLine) × (bytes : List ℕ) × Reads l bytes × (R.refusal l.command bytes ≡ Some r)
 
   -- a line that goes on with a journal, or begins one
   abbrev pub IsLineOf : (Command → Type 0) → Type 0
@@ -97,6 +100,7 @@ module _ (L : Language) (R : Reports) (s : Scene) where
 
   -- what a command that executes nothing prints
   pub data Reported : List ℕ → Type 0 where
+    formatted : (l : PlainLine) (bytes text : List ℕ) → Reads l bytes → l.command ≡ Format → R.formatted bytes ≡ Some text → Reported text
     helped : IsLineOf (λ c. c ≡ Help) → Reported R.help
     versioned : IsLineOf (λ c. c ≡ Version) → Reported R.version
 

@@ -1,8 +1,9 @@
 // What stands in a file before a session goes on from it.
-ghost use Rattle.std.specs.Prelude.{◌≡◌, ◌≢◌, ◌⊎◌, ◌≤◌, ◌++◌, [], ◌∷◌, true, false, List, ℕ, length, take, Some, None, Ok, Err, OnOk, IfOk, IfErr, IsErrOf};
+ghost use Rattle.std.specs.Prelude.{◌≡◌, ◌≢◌, ◌⊎◌, ◌≤◌, ◌++◌, [], ◌∷◌, true, false, List, ℕ, length, take, option_map, Some, None, Ok, Err, OnOk, IfOk, IfErr, IsErrOf};
+ghost use Rattle.wf_ast.specs.View.{program_view};
 ghost use Rattle.wf_engine.specs.Engine.{OpeningMoment};
 ghost use Rattle.wf_engine.specs.Openings.{NoFirst, ReadsClock};
-ghost use Rattle.wf_engine.specs.TheLanguage.{the_language};
+ghost use Rattle.wf_engine.specs.TheLanguage.{program_of, the_language};
 ghost use Rattle.wf_events.specs.Reading.{meaning};
 ghost use Rattle.wf_events.specs.View.{record_view};
 ghost use Rattle.wf_history.specs.Stands.{ahead, at_end, is_closed, is_new, last, place, Stands};
@@ -14,15 +15,17 @@ ghost use Rattle.wf_machine.specs.Seen.{state_of};
 ghost use Rattle.wf_model.specs.Config.{Active};
 ghost use Rattle.wf_replay.specs.History.{first_standing, history as history_of};
 ghost use Rattle.wf_replay.specs.Standing.{standing, stands_at};
+ghost use Rattle.wf_source.specs.Sources.{read_source};
 
 use crate::fault::EngineFault;
 use std::alloc::Global;
+use wf_ast::Program;
 use wf_events::Record;
-use wf_first_form::first_form;
 use wf_history::{History, HistoryFault};
 use wf_host::Host;
 use wf_machine::{Machine, Outcome};
 use wf_replay::replay;
+use wf_source::{SourceFault, read_source};
 use wf_value::OutOfMemory;
 
 /// Opens a history without a record. Nothing is written.
@@ -114,6 +117,17 @@ fn first_machine<H: Host>(
     machine_of(alloc, &record)
 }
 
+/// The program of a source, none where it is refused.
+fn accepted_program(alloc: Global, source: &[u8]) -> Result<Option<Program>, OutOfMemory>
+    ensures { IfOk result (λ o. option_map program_view o ≡ program_of (read_source source.now)) }
+{
+    match read_source(alloc, source) {
+        Ok(program) => Ok(Some(program)),
+        Err(SourceFault::Refused(_)) => Ok(None),
+        Err(SourceFault::OutOfMemory) => Err(OutOfMemory),
+    }
+}
+
 /// The machine of a first record: `NotAHistory` where it is no start whose source is accepted.
 fn machine_of(alloc: Global, first: &Record) -> Result<Machine, EngineFault>
     ensures starts { IfOk result (λ m. first_standing the_language (Some (record_view first.now)) ≡ Some (stands_at 1 None m)) }
@@ -124,7 +138,7 @@ fn machine_of(alloc: Global, first: &Record) -> Result<Machine, EngineFault>
     let Record::Start(start) = first else {
         return Err(EngineFault::NotAHistory(0));
     };
-    let Some(program) = first_form(alloc, start.source.as_slice())? else {
+    let Some(program) = accepted_program(alloc, start.source.as_slice())? else {
         return Err(EngineFault::NotAHistory(0));
     };
     Ok(Machine::new(alloc, start, program)?)

@@ -14,9 +14,9 @@ use wf_ast::{
     Body, Entries, Entry, Exprs, Flow, Flows, Params, Program, Step, StepList, Target, Template,
 };
 use wf_events::{Event, Pairs, Record, RecordFault, Start, decode};
-use wf_first_form::first_form;
 use wf_host::{MemHost, Plan, Routes};
 use wf_machine::{Machine, Outcome};
+use wf_source::read_source;
 use wf_value::{Bytes, OutOfMemory, Text, Value};
 
 fn entry(alloc: Global, number: i64) -> Result<Entry, OutOfMemory>
@@ -137,7 +137,7 @@ fn start_of(alloc: Global, payload: &[u8]) -> Result<Start, RecordFault>
 // What the execution of `CLOCK` returns that is begun there, with how many deeds.
 fn begun(alloc: Global, host: &mut MemHost) -> Result<(Option<i64>, usize), Fail> {
     let start = start_of(alloc, CLOCK)?;
-    let Some(program) = first_form(alloc, start.source.as_slice())? else {
+    let Ok(program) = read_source(alloc, start.source.as_slice()) else {
         return Ok((None, 0));
     };
     let mut engine = Engine::begin(alloc, host, &start, program)?;

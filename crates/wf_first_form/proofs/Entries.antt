@@ -4,29 +4,29 @@ use Rattle.std.proofs.lemmas.Bool.Decides.{nat_tests}
 use Rattle.wf_ast.specs.Tree.{Entry, Body}
 use Rattle.wf_first_form.specs.FirstForm.{assign_in, count_of, entries_in, entry_in, targets}
 use Rattle.wf_first_form.proofs.Lists.{item_at, after, after_more}
-use Rattle.wf_value.specs.Data.{Data, list, Items, item, items_of}
+use Rattle.wf_tree.specs.Trees.{Tree, list, Items, item, items_of}
 use Rattle.wf_value.specs.Pairs.{Text}
-use Rattle.wf_value.specs.Plain.{plain, plain_items}
-use Rattle.wf_value.specs.declared.value.Value.{Value}
+use Rattle.wf_tree.specs.Plain.{plain_tree, plain_items}
+use Rattle.wf_tree.specs.declared.tree.Tree.{Tree as Node}
 
 -- ## One entry more
 abbrev with_entry : List Text → Items → Entry → Option (List Entry)
 with_entry names vs e = option_map (λ es. e ∷ es) (entries_in (names ++ e.target.name ∷ []) vs)
 
-entries_next : (names : List Text) (es : List Entry) (e : Entry) (v : Data) (vs : Items) → Some e ≡ entry_in names v → after es (entries_in names (item v vs)) ≡ after (es ++ e ∷ []) (entries_in (names ++ e.target.name ∷ []) vs)
+entries_next : (names : List Text) (es : List Entry) (e : Entry) (v : Tree) (vs : Items) → Some e ≡ entry_in names v → after es (entries_in names (item v vs)) ≡ after (es ++ e ∷ []) (entries_in (names ++ e.target.name ∷ []) vs)
 entries_next names es e v vs is =
     ap (λ o. after es (option_and_then (with_entry names vs) o)) (sym is) ∙ after_more es e (entries_in (names ++ e.target.name ∷ []) vs)
 
 -- what is left is read as before, behind one entry and one variable more
-pub entry_added : (o : Option (List Entry)) (names names_more : List Text) (all : List Value) (i : ℕ) (v : Value) (es es_more : List Entry) (e : Entry)
-    → o ≡ after es (entries_in names (items_of (plain_items (drop i all)))) → i < length all → v ≡ get_or all i v → Some e ≡ entry_in names (plain v)
+pub entry_added : (o : Option (List Entry)) (names names_more : List Text) (all : List Node) (i : ℕ) (v : Node) (es es_more : List Entry) (e : Entry)
+    → o ≡ after es (entries_in names (items_of (plain_items (drop i all)))) → i < length all → v ≡ get_or all i v → Some e ≡ entry_in names (plain_tree v)
     → names_more ≡ names ++ e.target.name ∷ [] → es_more ≡ es ++ e ∷ []
     → o ≡ after es_more (entries_in names_more (items_of (plain_items (drop (i + 1) all))))
 entry_added o names names_more all i v es es_more e before lt at is is_names is_es =
     let rest : Items = items_of (plain_items (drop (i + 1) all)) in
     before
     ∙ ap (λ vs. after es (entries_in names (items_of (plain_items vs)))) (item_at all i v lt at)
-    ∙ entries_next names es e (plain v) rest is
+    ∙ entries_next names es e (plain_tree v) rest is
     ∙ ap (λ fs. after fs (entries_in (names ++ e.target.name ∷ []) rest)) (sym is_es)
     ∙ ap (λ ns. after es_more (entries_in ns rest)) (sym is_names)
 
@@ -42,7 +42,7 @@ target_added start names names_more es es_more e before is_names is_es =
     ∙ ap (λ ns. start ++ ns) (sym (targets_more es e) ∙ ap targets (sym is_es))
 
 -- ## How many there are
-count_is : (vs : List Value) → count_of (items_of (plain_items vs)) ≡ length vs
+count_is : (vs : List Node) → count_of (items_of (plain_items vs)) ≡ length vs
 count_is [] = refl
 count_is (v ∷ vs) = add-one (count_of (items_of (plain_items vs))) ∙ ap suc (count_is vs)
 
@@ -69,11 +69,11 @@ at_most_fifty n h = grind (arith, nat_tests)
 enough : (n : ℕ) → n ≢ 0 → n ≤ 50 → (nat_le 1 n && nat_le n 50) ≡ true
 enough n one most = ap (λ b. b && nat_le n 50) (at_least_one n one) ∙ at_most_fifty n most
 
-pub no_assign : (names : List Text) (d : Data) (vs : List Value) → d ≡ list (items_of (plain_items vs)) → (length vs ≡ 0) ⊎ (50 < length vs) → None ≡ assign_in names d
+pub no_assign : (names : List Text) (d : Tree) (vs : List Node) → d ≡ list (items_of (plain_items vs)) → (length vs ≡ 0) ⊎ (50 < length vs) → None ≡ assign_in names d
 no_assign names d vs is count =
     ap (if_count names (items_of (plain_items vs))) (sym (ap (λ n. nat_le 1 n && nat_le n 50) (count_is vs) ∙ few (length vs) count)) ∙ ap (assign_in names) (sym is)
 
-pub some_assign : (names : List Text) (d : Data) (vs : List Value) (o : Option (List Entry)) → d ≡ list (items_of (plain_items vs)) → length vs ≢ 0 → length vs ≤ 50 → o ≡ entries_in names (items_of (plain_items vs)) → option_map Body.Assign o ≡ assign_in names d
+pub some_assign : (names : List Text) (d : Tree) (vs : List Node) (o : Option (List Entry)) → d ≡ list (items_of (plain_items vs)) → length vs ≢ 0 → length vs ≤ 50 → o ≡ entries_in names (items_of (plain_items vs)) → option_map Body.Assign o ≡ assign_in names d
 some_assign names d vs o is one most reads =
     ap (option_map Body.Assign) reads
     ∙ ap (if_count names (items_of (plain_items vs))) (sym (ap (λ n. nat_le 1 n && nat_le n 50) (count_is vs) ∙ enough (length vs) one most))

@@ -3,4 +3,3 @@ pub mod Pairs
 pub mod Lists
 pub mod Entries
 pub mod Steps
-pub mod Sources

@@ -1,13 +1,13 @@
--- The first form of a source: a list of at least one step, each with a name of its own, that assigns or returns. Its values are null,
+-- The first form of a source's tree: a list of at least one step, each with a name of its own, that assigns or returns. Its values are null,
 -- truth values, whole numbers, the clock `${sys.now()}`, and texts `${n}` that read a variable which stands assigned earlier in the source.
---     first_form     the program that some bytes are, if they are of the form
+--     first_form     the program that a tree is, if it is of the form
 use Rattle.std.specs.Prelude.{ℕ, ◌+◌, Bool, false, not, ◌&&◌, ◌||◌, List, [], ◌∷◌, ◌++◌, length, if◌then◌else◌, nat_le, nat_lt, Option, Some, None, option_map, option_and_then, codes, bytes_eq, find}
 use Rattle.std.specs.List.{list_all}
 use Rattle.wf_ast.specs.declared.Func.TheVariants as func
 use Rattle.wf_ast.specs.Tree.{Expr, no_exprs, Template, Scalar, Whole, Entry, Step, step, Steps, no_steps, more, Body, Program}
 use Rattle.wf_shared.specs.HttpRequest.{is_among}
-use Rattle.wf_value.specs.Data.{Data, null, boolean, integer, text, list, map, Items, no_items, item, no_pairs, pair}
-use Rattle.wf_value.specs.Decode.{json_value}
+use Rattle.wf_tree.specs.Trees.{Tree, null, boolean, integer, text, list, map, Items, no_items, item, no_pairs, pair}
+use Rattle.wf_value.specs.Data as values
 use Rattle.wf_value.specs.Pairs.{Text}
 
 -- ## Names
@@ -47,16 +47,16 @@ abbrev pub text_in : List Text → Text → Option Template
 text_in names t = if bytes_eq t (codes "${sys.now()}") then Some clock else option_map (λ x. Whole (Expr.Name x)) (find (λ x. bytes_eq t (reads x)) names)
 
 -- a value, where these variables stand assigned
-abbrev pub value_in : List Text → Data → Option Template
-value_in names null = Some (Scalar null)
-value_in names (boolean b) = Some (Scalar (boolean b))
-value_in names (integer n) = Some (Scalar (integer n))
+abbrev pub value_in : List Text → Tree → Option Template
+value_in names null = Some (Scalar values.null)
+value_in names (boolean b) = Some (Scalar (values.boolean b))
+value_in names (integer n) = Some (Scalar (values.integer n))
 value_in names (text t) = text_in names t
 value_in names v = None
 
 -- ## Assignments
 -- the pair of a map of one
-abbrev pub pair_in : Data → Option (Text × Data)
+abbrev pub pair_in : Tree → Option (Text × Tree)
 pair_in (map (pair k v no_pairs)) = Some (k, v)
 pair_in v = None
 
@@ -64,10 +64,10 @@ abbrev pub plain_entry : Text → Template → Entry
 plain_entry x t = record { target = record { name = x; places = no_exprs; written = x }; value = t }
 
 -- a map of one pair, from a variable's name to a value
-abbrev pub entry_of : List Text → Text × Data → Option Entry
+abbrev pub entry_of : List Text → Text × Tree → Option Entry
 entry_of names p = if is_name p.0 then option_map (plain_entry p.0) (value_in names p.1) else None
 
-abbrev pub entry_in : List Text → Data → Option Entry
+abbrev pub entry_in : List Text → Tree → Option Entry
 entry_in names v = option_and_then (entry_of names) (pair_in v)
 
 -- the entries in order, each reading the variables before it
@@ -80,21 +80,21 @@ count_of no_items = 0
 count_of (item v vs) = count_of vs + 1
 
 -- ## Steps
-abbrev pub assign_in : List Text → Data → Option Body
+abbrev pub assign_in : List Text → Tree → Option Body
 assign_in names (list vs) = if nat_le 1 (count_of vs) && nat_le (count_of vs) 50 then option_map Body.Assign (entries_in names vs) else None
 assign_in names v = None
 
 -- `assign` with a list of 1 to 50 entries, or `return` with a value
-abbrev pub body_in : List Text → Text → Data → Option Body
+abbrev pub body_in : List Text → Text → Tree → Option Body
 body_in names form v =
     if bytes_eq form (codes "assign") then assign_in names v else (if bytes_eq form (codes "return") then option_map Body.Return (value_in names v) else None)
 
 -- a map of one pair from the step's name, which no earlier step has, to a map of one pair
-abbrev pub step_of : List Text → List Text → Text × Data → Option Step
+abbrev pub step_of : List Text → List Text → Text × Tree → Option Step
 step_of names earlier p =
     if is_step_name p.0 && not (is_among p.0 earlier) then option_map (λ b. step p.0 b None) (option_and_then (λ form. body_in names form.0 form.1) (pair_in p.1)) else None
 
-abbrev pub step_in : List Text → List Text → Data → Option Step
+abbrev pub step_in : List Text → List Text → Tree → Option Step
 step_in names earlier v = option_and_then (step_of names earlier) (pair_in v)
 
 abbrev pub name_of : Step → Text
@@ -124,14 +124,11 @@ abbrev pub behind : List Step → Steps → Steps
 behind [] rest = rest
 behind (s ∷ ss) rest = more s (behind ss rest)
 
--- ## The source
+-- ## The tree
 abbrev pub main_of : Steps → Program
 main_of ss = record { flows = record { name = codes "main"; params = []; steps = ss } ∷ [] }
 
-abbrev pub program_in : Data → Option Program
-program_in (list (item v vs)) = option_map main_of (steps_in [] [] (item v vs))
-program_in v = None
-
--- the program of a source of at most 1,024 bytes
-abbrev pub first_form : List ℕ → Option Program
-first_form source = if nat_le (length source) 1024 then option_and_then program_in (json_value source) else None
+-- the program of a tree
+abbrev pub first_form : Tree → Option Program
+first_form (list (item v vs)) = option_map main_of (steps_in [] [] (item v vs))
+first_form v = None

@@ -1,4 +1,4 @@
-//! The first form of source: JSON steps that assign and return literals, variables and the clock.
+//! The first form of a source's tree: steps that assign and return literals, variables and the clock.
 #![tactic(auto)]
 
 mod names;

@@ -2,11 +2,10 @@
 ghost use Rattle.std.specs.Prelude.{◌≡◌, ◌++◌, ◌∷◌, [], ℕ, List, IfOk, OnOk, IfSome, find, bytes_eq, option_map};
 ghost use Rattle.wf_ast.specs.Tree as t;
 ghost use Rattle.wf_ast.specs.View.{body_view, entries_view, entry_view, program_view, step_view, steps_view, template_view};
-ghost use Rattle.wf_first_form.specs.FirstForm.{assign_in, assigned_by, body_in, clock, entries_in, entry_in, first_form, main_of, pair_in, program_in, reads, step_in, steps_in, targets, text_in, unnamed, value_in};
+ghost use Rattle.wf_first_form.specs.FirstForm.{assign_in, assigned_by, body_in, clock, entries_in, entry_in, first_form, main_of, pair_in, reads, step_in, steps_in, targets, text_in, unnamed, value_in};
 ghost use Rattle.wf_shared.specs.HttpRequest.{is_among};
-ghost use Rattle.wf_value.specs.Data.{items_of};
-ghost use Rattle.wf_value.specs.Decode.{json_value};
-ghost use Rattle.wf_value.specs.Plain.{plain, plain_items};
+ghost use Rattle.wf_tree.specs.Trees.{items_of};
+ghost use Rattle.wf_tree.specs.Plain.{plain_tree, plain_items};
 
 use crate::names::{is_name, is_read_of, is_step_name};
 use std::alloc::Global;
@@ -14,19 +13,17 @@ use wf_ast::{
     Body, Entries, Entry, Expr, Exprs, Flow, Flows, Func, Params, Program, Step, StepList, Target,
     Template,
 };
-use wf_value::{JsonFault, OutOfMemory, Text, Value, from_json};
-
-/// The greatest length of a source of the first form, in bytes.
-const SOURCE_LIMIT: usize = 1_024;
+use wf_tree::Tree;
+use wf_value::{OutOfMemory, Text, Value};
 
 /// The greatest number of entries of an assign.
 const ENTRY_LIMIT: usize = 50;
 
 /// The pair of a map of one.
-fn only_pair(value: &Value) -> Option<(&str, &Value)>
-    ensures { option_map (λ p. (p.0.now, plain p.1.now)) result ≡ pair_in (plain value.now) }
+fn only_pair(value: &Tree) -> Option<(&str, &Tree)>
+    ensures { option_map (λ p. (p.0.now, plain_tree p.1.now)) result ≡ pair_in (plain_tree value.now) }
 {
-    let Value::Map(map) = value else {
+    let Tree::Map(map) = value else {
         return None;
     };
     if map.entry(1).is_some() {
@@ -65,23 +62,23 @@ fn text_in(alloc: Global, text: &str, names: &[Text]) -> Result<Option<Template>
 }
 
 /// A literal, the clock, or the read of a variable that stands assigned.
-fn value_of(alloc: Global, value: &Value, names: &[Text]) -> Result<Option<Template>, OutOfMemory>
-    ensures { IfOk result (λ o. option_map template_view o ≡ value_in names.now (plain value.now)) }
+fn value_of(alloc: Global, value: &Tree, names: &[Text]) -> Result<Option<Template>, OutOfMemory>
+    ensures { IfOk result (λ o. option_map template_view o ≡ value_in names.now (plain_tree value.now)) }
 {
     match value {
-        Value::Null => Ok(Some(Template::Lit(Value::Null))),
-        Value::Bool(truth) => Ok(Some(Template::Lit(Value::Bool(*truth)))),
-        Value::Int(number) => Ok(Some(Template::Lit(Value::Int(*number)))),
-        Value::Text(text) => text_in(alloc, text.as_str(), names),
-        Value::Bytes(_) => Ok(None),
-        Value::List(_) => Ok(None),
-        Value::Map(_) => Ok(None),
+        Tree::Null => Ok(Some(Template::Lit(Value::Null))),
+        Tree::Bool(truth) => Ok(Some(Template::Lit(Value::Bool(*truth)))),
+        Tree::Int(number) => Ok(Some(Template::Lit(Value::Int(*number)))),
+        Tree::Text(text) => text_in(alloc, text.as_str(), names),
+        Tree::Decimal(_) => Ok(None),
+        Tree::List(_) => Ok(None),
+        Tree::Map(_) => Ok(None),
     }
 }
 
 /// An assignment to a variable.
-fn entry_of(alloc: Global, value: &Value, names: &[Text]) -> Result<Option<Entry>, OutOfMemory>
-    ensures { IfOk result (λ o. option_map entry_view o ≡ entry_in names.now (plain value.now)) }
+fn entry_of(alloc: Global, value: &Tree, names: &[Text]) -> Result<Option<Entry>, OutOfMemory>
+    ensures { IfOk result (λ o. option_map entry_view o ≡ entry_in names.now (plain_tree value.now)) }
 {
     let Some((name, value)) = only_pair(value) else {
         return Ok(None);
@@ -103,7 +100,7 @@ fn entry_of(alloc: Global, value: &Value, names: &[Text]) -> Result<Option<Entry
 /// The entries of an assign, in order; each adds its variable to the names.
 fn entries_of(
     alloc: Global,
-    values: &[Value],
+    values: &[Tree],
     names: &mut Vec<Text>,
 ) -> Result<Option<Entries>, OutOfMemory>
     ensures read { IfOk result (λ o. option_map entries_view o ≡ entries_in names.old.items (items_of (plain_items values.now))) }
@@ -132,13 +129,13 @@ fn add_name(names: &mut Vec<Text>, name: &Text) -> Result<(), OutOfMemory>
 /// What an assign of these entries does, if they are 1 to 50.
 fn assign_of(
     alloc: Global,
-    value: &Value,
+    value: &Tree,
     names: &mut Vec<Text>,
 ) -> Result<Option<Body>, OutOfMemory>
-    ensures read { IfOk result (λ o. option_map body_view o ≡ assign_in names.old.items (plain value.now)) }
+    ensures read { IfOk result (λ o. option_map body_view o ≡ assign_in names.old.items (plain_tree value.now)) }
     ensures names { IfOk result (λ o. IfSome o (λ b. names.new.items ≡ names.old.items ++ assigned_by (unnamed (body_view b)))) }
 {
-    let Value::List(list) = value else {
+    let Tree::List(list) = value else {
         return Ok(None);
     };
     let values = list.items();
@@ -155,10 +152,10 @@ fn assign_of(
 fn body_of(
     alloc: Global,
     form: &str,
-    value: &Value,
+    value: &Tree,
     names: &mut Vec<Text>,
 ) -> Result<Option<Body>, OutOfMemory>
-    ensures read { IfOk result (λ o. option_map body_view o ≡ body_in names.old.items form.now (plain value.now)) }
+    ensures read { IfOk result (λ o. option_map body_view o ≡ body_in names.old.items form.now (plain_tree value.now)) }
     ensures names { IfOk result (λ o. IfSome o (λ b. names.new.items ≡ names.old.items ++ assigned_by (unnamed (body_view b)))) }
 {
     if form == "assign" {
@@ -182,11 +179,11 @@ fn is_taken(name: &str, earlier: &[Text]) -> bool
 /// A step, which adds its variables to the names.
 fn step_of(
     alloc: Global,
-    value: &Value,
+    value: &Tree,
     names: &mut Vec<Text>,
     earlier: &[Text],
 ) -> Result<Option<Step>, OutOfMemory>
-    ensures read { IfOk result (λ o. option_map step_view o ≡ step_in names.old.items earlier.now (plain value.now)) }
+    ensures read { IfOk result (λ o. option_map step_view o ≡ step_in names.old.items earlier.now (plain_tree value.now)) }
     ensures names { IfOk result (λ o. IfSome o (λ s. names.new.items ≡ names.old.items ++ assigned_by (step_view s))) }
 {
     let Some((name, value)) = only_pair(value) else {
@@ -209,7 +206,7 @@ fn step_of(
 }
 
 /// The steps of a source, in order.
-fn steps_of(alloc: Global, values: &[Value]) -> Result<Option<StepList>, OutOfMemory>
+fn steps_of(alloc: Global, values: &[Tree]) -> Result<Option<StepList>, OutOfMemory>
     ensures { IfOk result (λ o. option_map (λ ss. t.steps (steps_view ss)) o ≡ steps_in [] [] (items_of (plain_items values.now))) }
 {
     let mut names = Vec::new(alloc);
@@ -238,43 +235,12 @@ fn program_of(alloc: Global, steps: StepList) -> Result<Program, OutOfMemory>
     Ok(Program { flows })
 }
 
-/// The program that a value is.
-fn program_in(alloc: Global, value: &Value) -> Result<Option<Program>, OutOfMemory>
-    ensures { IfOk result (λ o. option_map program_view o ≡ program_in (plain value.now)) }
-{
-    let Value::List(list) = value else {
-        return Ok(None);
-    };
-    let values = list.items();
-    if values.is_empty() {
-        return Ok(None);
-    }
-    match steps_of(alloc, values)? {
-        Some(steps) => Ok(Some(program_of(alloc, steps)?)),
-        None => Ok(None),
-    }
-}
-
-/// The value that a source says, none where it says none.
-fn value_said(alloc: Global, source: &[u8]) -> Result<Option<Value>, OutOfMemory>
-    ensures { IfOk result (λ o. option_map plain o ≡ json_value source.now) }
-{
-    match from_json(alloc, source) {
-        Ok(value) => Ok(Some(value)),
-        Err(JsonFault::NotJson) => Ok(None),
-        Err(JsonFault::Decimal) => Ok(None),
-        Err(JsonFault::TooDeep) => Ok(None),
-        Err(JsonFault::OutOfMemory) => Err(OutOfMemory),
-    }
-}
-
-/// The program of a source of the first form, and none where the source isn't of the form.
+/// The program of a tree of the first form, and none where the tree isn't of the form.
 ///
-/// The form is a part of the JSON syntax of workflows (Google Cloud Workflows reference, "Syntax overview", "Steps" and
+/// The form is a part of the syntax of workflows (Google Cloud Workflows reference, "Syntax overview", "Steps" and
 /// "Variables"; "Standard library", "sys.now"):
 ///
-/// - The source is JSON (RFC 8259) of at most 1,024 bytes: a list of at least one step. These are the steps of `main`,
-///   which takes no parameters.
+/// - The tree is a list of at least one step. These are the steps of `main`, which takes no parameters.
 /// - A step is a map of one pair, from its name to a map of one pair: `"assign"` to a list of 1 to 50 assignments, or
 ///   `"return"` to a value. Its name has 1 to 256 bytes, is none of `end`, `break` and `continue`, and is no earlier
 ///   step's.
@@ -285,15 +251,19 @@ fn value_said(alloc: Global, source: &[u8]) -> Result<Option<Value>, OutOfMemory
 ///   seconds, or a text `${x}`, where an assignment that stands earlier in the source assigns `x`. Neither text has
 ///   blanks.
 ///
-/// A key that stands twice in a map of JSON keeps its last value. The only error is `OutOfMemory`.
-pub fn first_form(alloc: Global, source: &[u8]) -> Result<Option<Program>, OutOfMemory>
-    ensures { IfOk result (λ o. option_map program_view o ≡ first_form source.now) }
+/// The only error is `OutOfMemory`.
+pub fn first_form(alloc: Global, tree: &Tree) -> Result<Option<Program>, OutOfMemory>
+    ensures { IfOk result (λ o. option_map program_view o ≡ first_form (plain_tree tree.now)) }
 {
-    if source.len() > SOURCE_LIMIT {
+    let Tree::List(list) = tree else {
+        return Ok(None);
+    };
+    let values = list.items();
+    if values.is_empty() {
         return Ok(None);
     }
-    match value_said(alloc, source)? {
-        Some(value) => program_in(alloc, &value),
+    match steps_of(alloc, values)? {
+        Some(steps) => Ok(Some(program_of(alloc, steps)?)),
         None => Ok(None),
     }
 }

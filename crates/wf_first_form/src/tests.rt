@@ -3,6 +3,7 @@ use crate::first_form;
 use std::alloc::Global;
 use std::test::Fail;
 use wf_ast::{Body, Entry, Expr, Func, Program, Step, Template};
+use wf_tree::read_json;
 use wf_value::{Value, to_json};
 
 // A value as a source has it.
@@ -76,6 +77,14 @@ fn shown(alloc: Global, program: &Program) -> Result<Vec<u8>, Fail> {
     Ok(out)
 }
 
+// The program of a source in JSON, if it is a tree and of the form.
+fn program(alloc: Global, source: &str) -> Result<Option<Program>, Fail> {
+    match read_json(alloc, source) {
+        Ok(tree) => Ok(first_form(alloc, &tree)?),
+        Err(_) => Ok(None),
+    }
+}
+
 #[test]
 fn reads_programs(rt: HostRuntime) -> Result<(), Fail> {
     let alloc = rt.alloc();
@@ -103,7 +112,7 @@ fn reads_programs(rt: HostRuntime) -> Result<(), Fail> {
         ),
     ];
     for (source, want) in rows {
-        let Some(program) = first_form(alloc, source.as_bytes())? else {
+        let Some(program) = program(alloc, source)? else {
             assert!(rt; false, "none at {source}");
             continue;
         };
@@ -150,20 +159,17 @@ fn refuses_other_sources(rt: HostRuntime) -> Result<(), Fail> {
         "[{\"a\":{\"return\":{\"k\":1}}}]",
     ];
     for source in rows {
-        assert!(rt;
-            first_form(alloc, source.as_bytes())?.is_none(),
-            "at {source}"
-        );
+        assert!(rt; program(alloc, source)?.is_none(), "at {source}");
     }
     Ok(())
 }
 
 // A source with a text in place of a value, between these parts.
-fn with_text(alloc: Global, front: &str, text: &str, back: &str) -> Result<Vec<u8>, Fail> {
-    let mut source = Vec::new(alloc);
-    source.extend_from_slice(front.as_bytes())?;
-    source.extend_from_slice(text.as_bytes())?;
-    source.extend_from_slice(back.as_bytes())?;
+fn with_text(alloc: Global, front: &str, text: &str, back: &str) -> Result<String, Fail> {
+    let mut source = String::new(alloc);
+    source.push_str(front)?;
+    source.push_str(text)?;
+    source.push_str(back)?;
     Ok(source)
 }
 
@@ -208,7 +214,7 @@ fn takes_one_text_for_the_clock(rt: HostRuntime) -> Result<(), Fail> {
         for (front, back) in places {
             let source = with_text(alloc, front, text, back)?;
             assert_eq!(rt;
-                first_form(alloc, source.as_slice())?.is_some(),
+                program(alloc, source.as_str())?.is_some(),
                 reads,
                 "of {text} behind {front}"
             );
@@ -218,43 +224,25 @@ fn takes_one_text_for_the_clock(rt: HostRuntime) -> Result<(), Fail> {
 }
 
 // A source of one assign with this many entries.
-fn assigning(alloc: Global, entries: usize) -> Result<Vec<u8>, Fail> {
-    let mut source = Vec::new(alloc);
-    source.extend_from_slice(b"[{\"a\":{\"assign\":[{\"x\":0}")?;
+fn assigning(alloc: Global, entries: usize) -> Result<String, Fail> {
+    let mut source = String::new(alloc);
+    source.push_str("[{\"a\":{\"assign\":[{\"x\":0}")?;
     for _ in 1..entries {
-        source.extend_from_slice(b",{\"x\":0}")?;
+        source.push_str(",{\"x\":0}")?;
     }
-    source.extend_from_slice(b"]}}]")?;
-    Ok(source)
-}
-
-// A source of this many bytes, of which the last are blanks.
-fn padded(alloc: Global, len: usize) -> Result<Vec<u8>, Fail> {
-    let mut source = Vec::new(alloc);
-    source.extend_from_slice(b"[{\"a\":{\"return\":7}}]")?;
-    for _ in source.len()..len {
-        source.push(b' ')?;
-    }
+    source.push_str("]}}]")?;
     Ok(source)
 }
 
 #[test]
-fn keeps_to_the_limits(rt: HostRuntime) -> Result<(), Fail> {
+fn keeps_to_the_limit(rt: HostRuntime) -> Result<(), Fail> {
     let alloc = rt.alloc();
     for (entries, reads) in [(1, true), (50, true), (51, false)] {
         let source = assigning(alloc, entries)?;
         assert_eq!(rt;
-            first_form(alloc, source.as_slice())?.is_some(),
+            program(alloc, source.as_str())?.is_some(),
             reads,
             "of {entries} entries"
-        );
-    }
-    for (len, reads) in [(1_024, true), (1_025, false)] {
-        let source = padded(alloc, len)?;
-        assert_eq!(rt;
-            first_form(alloc, source.as_slice())?.is_some(),
-            reads,
-            "of {len} bytes"
         );
     }
     Ok(())

@@ -4,7 +4,7 @@ use Rattle.std.specs.List.{list_all, list_any, cons_option}
 use Rattle.std.specs.Option.{option_map_or}
 use Rattle.std.specs.declared.alloc.Global.{Global}
 use Rattle.wf_line.specs.declared.command.Command.{Command}
-use Rattle.wf_line.specs.declared.command.Command.TheVariants.{Run, Resume, Help, Version}
+use Rattle.wf_line.specs.declared.command.Command.TheVariants.{Format, Run, Resume, Help, Version}
 use Rattle.wf_line.specs.declared.option.OptionName.{OptionName}
 use Rattle.wf_line.specs.declared.option.OptionName.TheVariants.{Source, Journal, Id}
 
@@ -21,9 +21,10 @@ pub record PlainLine : Type 0 where
 
 -- the commands, and the word of each
 abbrev pub commands : List Command
-commands = Run ∷ Resume ∷ Help ∷ Version ∷ []
+commands = Format ∷ Run ∷ Resume ∷ Help ∷ Version ∷ []
 
 abbrev pub command_word : Command → List ℕ
+command_word Format = codes "format"
 command_word Run = codes "run"
 command_word Resume = codes "resume"
 command_word Help = codes "--help"
@@ -40,6 +41,7 @@ name_word Id = codes "--id"
 
 -- the options that a command takes
 abbrev pub options_of : Command → List OptionName
+options_of Format = Source ∷ []
 options_of Run = Source ∷ Journal ∷ Id ∷ []
 options_of Resume = Journal ∷ []
 options_of Help = []

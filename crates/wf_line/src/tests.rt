@@ -23,6 +23,8 @@ fn reads_lines(rt: HostRuntime) -> Result<(), Fail> {
     let long = "run --id 0123456789012345678901234567890123456789012345678901234567890123";
     let id = "0123456789012345678901234567890123456789012345678901234567890123";
     let rows = [
+        ("format", Command::Format, None, None, None),
+        ("format --source a", Command::Format, Some("a"), None, None),
         ("run", Command::Run, None, None, None),
         ("resume", Command::Resume, None, None, None),
         ("--help", Command::Help, None, None, None),
@@ -138,6 +140,9 @@ fn tells_bad_words(rt: HostRuntime) -> Result<(), Fail> {
         ("help", 0),
         ("-h", 0),
         ("check", 0),
+        ("format x", 1),
+        ("format --journal a", 1),
+        ("format --id a", 1),
         ("run x", 1),
         ("run run", 1),
         ("run ''", 1),
@@ -155,6 +160,8 @@ fn tells_bad_words(rt: HostRuntime) -> Result<(), Fail> {
         ("resume x", 1),
         ("resume --source a", 1),
         ("resume --id a", 1),
+        ("format --source", 2),
+        ("format --source ''", 2),
         ("run --source", 2),
         ("run --journal", 2),
         ("run --id", 2),
@@ -167,6 +174,7 @@ fn tells_bad_words(rt: HostRuntime) -> Result<(), Fail> {
         ("run --id é", 2),
         ("resume --journal '' x", 2),
         (long, 2),
+        ("format --source a --source b", 3),
         ("run --source a b", 3),
         ("run --source a --source b", 3),
         ("run --source a --source", 3),
@@ -244,7 +252,7 @@ fn tells_of_itself(rt: HostRuntime) -> Result<(), Fail> {
     }
     assert!(rt; help.lines().count() <= 15);
     assert!(rt; help.ends_with("\n"));
-    for word in ["run ", "resume ", "--help ", "--version "] {
+    for word in ["format ", "run ", "resume ", "--help ", "--version "] {
         assert!(rt; help.contains(word), "no {word}");
     }
     for name in [OptionName::Source, OptionName::Journal, OptionName::Id] {

@@ -46,20 +46,24 @@ fn prints_the_outcome(rt: HostRuntime) -> Result<(), Fail> {
 
 #[test]
 fn refuses_other_sources(rt: HostRuntime) -> Result<(), Fail> {
-    let rows: [&[u8]; 9] = [
-        b"[]",
-        b"",
-        b"{}",
-        b"7",
-        br#"[{"a":{"return":1.5}}]"#,
-        br#"[{"a":{"return":"seven"}}]"#,
-        br#"[{"a":{"return":"${x}"}}]"#,
-        br#"[{"a":{"return":7}},{"a":{"return":8}}]"#,
-        b"main:\n  steps:\n    - a:\n        return: 7\n",
+    let rows: [(&[u8], &[u8]); 10] = [
+        (b"[]", NOT_YET),
+        (b"", NOT_YET),
+        (b"{}", NOT_YET),
+        (b"7", NOT_YET),
+        (
+            br#"[{"a":{"return":1.5}}]"#,
+            b"refused Decimal at [0].a.return\n",
+        ),
+        (br#"[{"a":{"return":7}}"#, b"refused NotJson at source\n"),
+        (br#"[{"a":{"return":"seven"}}]"#, NOT_YET),
+        (br#"[{"a":{"return":"${x}"}}]"#, NOT_YET),
+        (br#"[{"a":{"return":7}},{"a":{"return":8}}]"#, NOT_YET),
+        (b"main:\n  steps:\n    - a:\n        return: 7\n", NOT_YET),
     ];
-    for source in rows {
+    for (source, printed) in rows {
         let ended = end_of(rt.alloc(), run(source))?;
-        assert_eq!(rt; ended.printed.as_slice(), NOT_YET);
+        assert_eq!(rt; ended.printed.as_slice(), printed);
         assert_eq!(rt; ended.code, 3);
         assert_eq!(rt; ended.journal.as_slice(), b"".as_slice());
     }

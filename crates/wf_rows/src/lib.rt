@@ -9,3 +9,5 @@ mod faults;
 mod first_form;
 #[cfg(test)]
 mod journals;
+#[cfg(test)]
+mod sources;

@@ -1,6 +1,5 @@
 -- The plain data of a map's trees, beside the map.
-use Rattle.std.proofs.Common.{◌≡◌, ℕ, List, [], ◌∷◌, Ordering, Less, Equal, Greater, Option, Some, None, option_map, Bool, true, false, cond, if◌then◌else◌, Result, Ok, Err, Bor, refl, sym, subst, ap, ◌∙◌}
-use Rattle.std.specs.Result.{IfOk}
+use Rattle.std.proofs.Common.{◌≡◌, ℕ, List, [], ◌∷◌, Ordering, Less, Equal, Greater, Option, Some, None, option_map, Bool, true, false, cond, Bor, refl, sym, subst, ap, ◌∙◌}
 use Rattle.std.specs.Option.{option_copied}
 use Rattle.std.specs.Ordering.{match_ordering, is_eq}
 use Rattle.std.specs.Map.{keys_of}
@@ -8,7 +7,6 @@ use Rattle.std.specs.List.Sorted.{IsStrictlySortedBy}
 use Rattle.wf_tree.specs.Trees as trees
 use Rattle.wf_tree.specs.Plain.{plain_tree, plain_pairs}
 use Rattle.wf_value.specs.Maps.{IsInOrder, key_cmp, value_at, with_value}
-use Rattle.wf_value.proofs.Order.{in_order_empty}
 use Rattle.wf_tree.specs.declared.tree.Tree.{Tree}
 
 abbrev pub Entry : Type 0
@@ -35,16 +33,6 @@ pub plain_with_value : (k : List ℕ) (v : Tree) (ps : List Entry) → plain_pai
 plain_with_value k v [] = refl
 plain_with_value k v (p ∷ ps) = plain_match (key_cmp k p.0) _ _ _ ∙ rw (plain_with_value k v ps)
 
--- after a change that a failure leaves out
-pub plain_kept : (b : Bool) (ps qs rs : List Entry) (ds es : List (List ℕ × trees.Tree)) → qs ≡ (if b then rs else ps) → plain_pairs ps ≡ ds → plain_pairs rs ≡ es → plain_pairs qs ≡ (if b then es else ds)
-plain_kept true ps qs rs ds es h p r = ap plain_pairs h ∙ r
-plain_kept false ps qs rs ds es h p r = ap plain_pairs h ∙ p
-
--- the tree that was there
-pub plain_old : {E : Type 0} (r : Result (Option Tree) E) (k : List ℕ) (ps : List Entry) (ds : List (List ℕ × trees.Tree)) → IfOk r (λ v. v ≡ value_at k ps) → plain_pairs ps ≡ ds → IfOk r (λ v. option_map plain_tree v ≡ value_at k ds)
-plain_old (Ok v) k ps ds h p = ap (option_map plain_tree) h ∙ plain_value_at k ps ∙ ap (value_at k) p
-plain_old (Err e) k ps ds h p = tt
-
 plain_lent : (r : Option (Bor Tree)) → option_map (λ v. plain_tree v.now) r ≡ option_map plain_tree (option_copied r)
 plain_lent None = refl
 plain_lent (Some v) = refl
@@ -55,6 +43,3 @@ plain_found r k ps qs ds h q p = plain_lent r ∙ ap (option_map plain_tree) (h 
 -- the plain pairs have the same keys
 pub in_order_plain : (ps : List Entry) → IsInOrder ps → IsInOrder (plain_pairs ps)
 in_order_plain ps s = subst (λ ks. IsStrictlySortedBy key_cmp ks) (sym (plain_keys ps)) s
-
-pub no_pairs_in_order : (ps : List Entry) → ps ≡ [] → IsInOrder ps
-no_pairs_in_order ps h = in_order_empty ps h

@@ -6,10 +6,13 @@ mod entries;
 mod json_depth;
 mod json_laws;
 mod json_text;
+mod key;
+mod pairs_so_far;
 #[cfg(test)]
 mod tests;
 mod tree;
 
 pub use json_laws::{paths_lead_to_decimals, reading_is_a_function, reading_is_decided};
 pub use json_text::{TreeFault, read_json};
+pub use pairs_so_far::PairsSoFar;
 pub use tree::{Tree, TreeList, TreeMap};

@@ -201,15 +201,16 @@ fn builds_lists_and_maps(rt: HostRuntime) -> Result<(), Fail> {
     list.push(Tree::Decimal(Text::new(alloc, "1.50")?))?;
     list.push(Tree::Null)?;
     assert_eq!(rt; list.items().len(), 2);
+    let mut pairs = PairsSoFar::new(alloc)?;
     let key = Text::new(alloc, "b")?;
-    let mut map = TreeMap::new(alloc)?;
-    assert!(rt; map.entry(0).is_none());
-    assert!(rt; map.insert(key.copy()?, Tree::Int(1))?.is_none());
+    assert!(rt; pairs.insert(key.copy()?, Tree::Int(1))?.is_none());
     assert!(rt;
-        map.insert(Text::new(alloc, "a")?, Tree::List(list))?
+        pairs
+            .insert(Text::new(alloc, "a")?, Tree::List(list))?
             .is_none()
     );
-    assert!(rt; matches!(map.insert(key, Tree::Int(3))?, Some(Tree::Int(1))));
+    assert!(rt; matches!(pairs.insert(key, Tree::Int(3))?, Some(Tree::Int(1))));
+    let map = pairs.into_map()?;
     assert!(rt; matches!(map.get("b"), Some(Tree::Int(3))));
     assert!(rt; map.get("c").is_none());
     assert!(rt; matches!(map.entry(0), Some(("a", Tree::List(_)))));
@@ -218,5 +219,66 @@ fn builds_lists_and_maps(rt: HostRuntime) -> Result<(), Fail> {
     let mut shown = String::new(alloc);
     show(alloc, &mut shown, &Tree::Map(map))?;
     assert_eq!(rt; shown.as_str(), "{a:[#1.50,null,],b:3,}");
+    Ok(())
+}
+
+// The pairs of the keys in a text, with blanks between them: the number at a key is that of the
+// keys before it.
+fn gathered(alloc: Global, keys: &str) -> Result<PairsSoFar, Fail> {
+    let mut pairs = PairsSoFar::new(alloc)?;
+    let mut count = 0i64;
+    for key in keys.split_whitespace() {
+        pairs.insert(Text::new(alloc, key)?, Tree::Int(count))?;
+        count = count.saturating_add(1);
+    }
+    Ok(pairs)
+}
+
+// The keys in a text, and the map of their pairs.
+const GATHERED: &str = "\
+a => {a:0,}
+ => {}
+a b c => {a:0,b:1,c:2,}
+c b a => {a:2,b:1,c:0,}
+b a c => {a:1,b:0,c:2,}
+a a a => {a:2,}
+b a b a => {a:3,b:2,}
+aa a B b ä => {B:2,a:1,aa:0,b:3,ä:4,}
+p o n m l k j i h g f e d c b a => {a:15,b:14,c:13,d:12,e:11,f:10,g:9,h:8,i:7,j:6,k:5,l:4,m:3,n:2,o:1,p:0,}
+a b c d e f g h i j k l m n o p => {a:0,b:1,c:2,d:3,e:4,f:5,g:6,h:7,i:8,j:9,k:10,l:11,m:12,n:13,o:14,p:15,}
+";
+
+#[test]
+fn gathers_pairs(rt: HostRuntime) -> Result<(), Fail> {
+    let alloc = rt.alloc();
+    for row in GATHERED.lines() {
+        let Some((keys, want)) = row.split_once(" => ") else {
+            panic!(rt; "no row: {row}");
+        };
+        let map = gathered(alloc, keys)?.into_map()?;
+        let mut shown = String::new(alloc);
+        show(alloc, &mut shown, &Tree::Map(map))?;
+        assert_eq!(rt; shown.as_str(), want, "at {keys}");
+    }
+    Ok(())
+}
+
+// Keys that fall and rise in turn.
+#[test]
+fn gathers_many_pairs(rt: HostRuntime) -> Result<(), Fail> {
+    let alloc = rt.alloc();
+    let mut pairs = PairsSoFar::new(alloc)?;
+    for high in 5000i64..6000 {
+        let low = 9999i64.saturating_sub(high);
+        for n in [low, high] {
+            let key = Text::new(alloc, n.to_string(alloc)?.as_str())?;
+            pairs.insert(key, Tree::Int(n))?;
+        }
+    }
+    let map = pairs.into_map()?;
+    assert_eq!(rt; map.pairs().len(), 2000);
+    assert!(rt; matches!(map.entry(0), Some(("4000", Tree::Int(4000)))));
+    assert!(rt; matches!(map.entry(1999), Some(("5999", Tree::Int(5999)))));
+    assert!(rt; matches!(map.get("4321"), Some(Tree::Int(4321))));
     Ok(())
 }

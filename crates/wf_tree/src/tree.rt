@@ -1,10 +1,10 @@
-// Trees: their types, and how lists and maps are built and read.
+// Trees: their types, how lists are built, and how lists and maps are read.
 ghost use Rattle.std.specs.Prelude.{◌≡◌, [], ◌∷◌, ◌++◌, IfOk, is_ok, option_map, if◌then◌else◌};
 ghost use Rattle.std.specs.List.{slice_get};
-ghost use Rattle.wf_value.specs.Maps.{IsInOrder, value_at, with_value};
+ghost use Rattle.wf_value.specs.Maps.{IsInOrder, value_at};
 ghost use Rattle.wf_tree.specs.Plain.{plain_tree, plain_items, plain_pairs};
 
-use crate::entries::{find, put};
+use crate::entries::find;
 use std::alloc::Global;
 use std::marker::Model;
 use wf_value::{OutOfMemory, Text};
@@ -116,16 +116,6 @@ impl TreeList {
 }
 
 impl TreeMap {
-    /// The empty map. It allocates nothing yet.
-    #[tactic(auto, using(crate::proofs::PairTrees::no_pairs_in_order))]
-    pub fn new(alloc: Global) -> Result<TreeMap, OutOfMemory>
-        ensures { IfOk result (λ m. m ≡ []) }
-    {
-        Ok(TreeMap {
-            pairs: Vec::new(alloc),
-        })
-    }
-
     // The map of pairs that stand in order.
     pub(crate) fn of_pairs(pairs: Vec<(Text, Tree)>) -> TreeMap
         requires { IsInOrder pairs.items }
@@ -160,14 +150,5 @@ impl TreeMap {
         ensures order { IsInOrder result.now }
     {
         self.pairs.as_slice()
-    }
-
-    /// Puts a tree at a key, and gives the tree that was there. Without memory the map stays, and
-    /// the key and the tree are dropped.
-    pub fn insert(&mut self, key: Text, item: Tree) -> Result<Option<Tree>, OutOfMemory>
-        ensures after { self.new ≡ (if is_ok result then with_value key (plain_tree item) self.old else self.old) }
-        ensures old { IfOk result (λ t. option_map plain_tree t ≡ value_at key self.old) }
-    {
-        put(&mut self.pairs, key, item)
     }
 }

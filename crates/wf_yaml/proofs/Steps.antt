@@ -10,8 +10,8 @@ use Rattle.wf_yaml_line.specs.declared.fault.Fault.{Fault}
 use Rattle.wf_yaml_line.specs.declared.fault.Kind.TheVariants as kinds
 use Rattle.wf_yaml_line.specs.Marks.{is_one_of, is_same, behind_first, ends_line, skip_blanks}
 use Rattle.wf_yaml_line.specs.Fault.{both, kept, refuse, refuse_if}
-use Rattle.wf_yaml_line.specs.Flow.{key_fault, is_delay_key}
-use Rattle.wf_yaml_line.specs.Keys.{Key, key_of}
+use Rattle.wf_yaml_line.specs.Flow.{is_delay_key}
+use Rattle.wf_yaml_line.specs.Keys.{Key, key_of, own_fault}
 use Rattle.wf_yaml.specs.declared.rows.Row.{Row as Line}
 use Rattle.wf_yaml.specs.Rows.{Row, starts_tab, has_tab, misplaced}
 use Rattle.wf_yaml.specs.Starts.{is_item, starts_block, has_tab_gap}
@@ -120,7 +120,7 @@ more_keys (Some k) ks ls h = λ x. ap (λ b. is_same k.text x || b) (h x)
 same_pair : (inner : Reading) (n d : ℕ) (ks ls : List (List ℕ)) (r : Row) (behind : List Row) (o : Option Key) → SameKeys ks ls → pair_entry inner n d ks r behind o ≡ pair_entry inner n d ls r behind o
 same_pair inner n d ks ls r behind None h = refl
 same_pair inner n d ks ls r behind (Some k) h =
-    ap (λ b. both (λ _ t. (k.text, t)) (both kept (key_fault r.number k.good) (refuse_if b r.number kinds.DoubleKey)) (pair_value inner n d (is_delay_key k.text) r.number k.rest behind)) (h k.text)
+    ap (λ b. both (λ _ t. (k.text, t)) (both kept (own_fault r.number k.fault) (refuse_if b r.number kinds.DoubleKey)) (pair_value inner n d (is_delay_key k.text) r.number k.rest behind)) (h k.text)
 
 same_entry : (inner : Reading) (n d : ℕ) (ks ls : List (List ℕ)) (e : Row × List Row) → SameKeys ks ls → map_entry inner n d ks e ≡ map_entry inner n d ls e
 same_entry inner n d ks ls e h = ap (λ x. cond (not (has_tab e.0) && (e.0.indent == n)) x (misplaced e.0)) (same_pair inner n d ks ls e.0 e.1 (key_of e.0.text) h)

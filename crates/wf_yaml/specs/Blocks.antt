@@ -7,8 +7,8 @@ use Rattle.wf_yaml_line.specs.declared.fault.Fault.{Fault}
 use Rattle.wf_yaml_line.specs.Fault.{both, given, kept, refuse, refuse_if}
 use Rattle.wf_yaml_line.specs.declared.fault.Kind.TheVariants as kinds
 use Rattle.wf_yaml_line.specs.Scalars.{may_start_plain}
-use Rattle.wf_yaml_line.specs.Keys.{Key, key_of}
-use Rattle.wf_yaml_line.specs.Flow.{depth_fault, key_fault, is_delay_key}
+use Rattle.wf_yaml_line.specs.Keys.{Key, key_of, own_fault}
+use Rattle.wf_yaml_line.specs.Flow.{depth_fault, is_delay_key}
 use Rattle.wf_yaml_line.specs.Line.{one_line}
 use Rattle.wf_yaml.specs.Rows.{Row, counting, has_tab, misplaced, no_more}
 use Rattle.wf_yaml.specs.Cuts.{entries_of, heads}
@@ -79,8 +79,9 @@ stray d number s =
     let own : Result Tree Fault = cond (starts_scalar s) (Ok null) line in
     both (λ _ p. p) own (refuse number kinds.Unsupported)
 
+-- the faults of a pair's key: its own, and that it stands before
 abbrev pub pair_faults : ℕ → List (List ℕ) → Key → Result (Unit {0}) Fault
-pair_faults number keys k = both kept (key_fault number k.good) (refuse_if (is_one_of keys k.text) number kinds.DoubleKey)
+pair_faults number keys k = both kept (own_fault number k.fault) (refuse_if (is_one_of keys k.text) number kinds.DoubleKey)
 
 abbrev pub pair_entry : Reading → ℕ → ℕ → List (List ℕ) → Row → List Row → Option Key → Result (List ℕ × Tree) Fault
 pair_entry inner n d keys r behind (Some k) = both (λ _ t. (k.text, t)) (pair_faults r.number keys k) (pair_value inner n d (is_delay_key k.text) r.number k.rest behind)
@@ -139,7 +140,7 @@ value_line n d k =
     cond (ends_line k.rest) (Ok null) line
 
 abbrev pub key_line : ℕ → ℕ → Key → Result Tree Fault
-key_line n d k = both (λ _ t. t) (key_fault n k.good) (value_line n d k)
+key_line n d k = both (λ _ t. t) (own_fault n k.fault) (value_line n d k)
 
 abbrev pub other_line : ℕ → ℕ → List ℕ → Option Key → Result Tree Fault
 other_line n d s (Some k) = key_line n d k

@@ -4,5 +4,6 @@ pub mod Starts
 pub mod BlockScalars
 pub mod Blocks
 pub mod Reading
+pub mod Relation
 pub mod Views
 pub mod Answers

@@ -19,7 +19,7 @@ use crate::rows::{Head, Row};
 use crate::scalars::scalar;
 use crate::starts::{has_tab_block, is_item, is_pair, starts_scalar, starts_tab};
 use std::alloc::Global;
-use wf_tree::{Tree, TreeList, TreeMap};
+use wf_tree::{PairsSoFar, Tree, TreeList};
 use wf_value::{OutOfMemory, Text};
 use wf_yaml_line::{
     Fault, Key, KeySet, Kind, YamlFault, behind_first, both_noted, ends_line, is_delay_key, least,
@@ -76,7 +76,7 @@ fn map_entries<'a>(
     requires { depth ≤ 101 }
     ensures { Gives plain_tree result (blocks.map_of_entries (blocks.inside (101 - depth)) depth (see_head first.entry) (see_all behind.now)) }
 {
-    let mut pairs = TreeMap::new(alloc)?;
+    let mut pairs = PairsSoFar::new(alloc)?;
     let mut keys = KeySet::new(alloc)?;
     let mut found: Option<Fault> = None;
     let mut head = first;
@@ -98,7 +98,7 @@ fn map_entries<'a>(
     }
     match found {
         Some(fault) => Err(YamlFault::Refused(fault)),
-        None => Ok(Tree::Map(pairs)),
+        None => Ok(Tree::Map(pairs.into_map()?)),
     }
 }
 
@@ -114,7 +114,7 @@ fn add_key(keys: &mut KeySet, key: Option<Key<'_>>) -> Result<(), OutOfMemory>
 
 // Adds a pair, or notes its fault.
 fn add_pair(
-    pairs: &mut TreeMap,
+    pairs: &mut PairsSoFar,
     found: Option<Fault>,
     entry: Result<(Text, Tree), YamlFault>,
 ) -> Result<Option<Fault>, OutOfMemory>
@@ -159,12 +159,12 @@ fn map_entry(
     }
 }
 
-// A key with a wrong escape, or one that stands before.
+// A key with a fault by itself, or one that stands before.
 fn pair_faults(number: u32, keys: &KeySet, key: &Key<'_>) -> Option<Fault>
     ensures { noted result ≡ blocks.pair_faults number (keys_of keys.now) (key_view key.now) }
 {
     both_noted(
-        refuse_if(!key.good, number, Kind::Quote),
+        key.refusal(number),
         refuse_if(keys.holds(key.text.as_str()), number, Kind::DoubleKey),
     )
 }

@@ -11,7 +11,7 @@ use std::alloc::Global;
 use wf_tree::Tree;
 use wf_yaml_line::{
     Fault, Key, Kind, YamlFault, behind_first, ends_line, is_delay_key, noting, one_line, read_key,
-    refuse_if, skip_blanks,
+    skip_blanks,
 };
 
 // A scalar by itself: of a block scalar the marks alone.
@@ -49,7 +49,7 @@ fn key_line(alloc: Global, depth: u32, number: u32, key: &Key<'_>) -> Result<Tre
     ensures { Gives plain_tree result (blocks.key_line number depth (key_view key.now)) }
 {
     let tree = value_line(alloc, depth, number, key);
-    noting(refuse_if(!key.good, number, Kind::Quote), tree)
+    noting(key.refusal(number), tree)
 }
 
 fn other_line(alloc: Global, depth: u32, number: u32, text: &[char]) -> Result<Tree, YamlFault>

@@ -2,7 +2,8 @@
 //! and the marks of a document.
 #![tactic(auto)]
 
-ghost use Rattle.std.specs.Prelude.{◌≡◌, ◌<◌, length, Ok, Err, IfOk};
+ghost use Rattle.std.specs.Prelude.{◌≡◌, ◌<◌, ◌≤◌, length, Ok, Err, IfOk};
+ghost use Rattle.wf_tree.specs.Trees.{depth};
 ghost use Rattle.wf_tree.specs.Plain.{plain_tree};
 ghost use Rattle.wf_yaml.specs.Reading.{reading};
 ghost use Rattle.wf_yaml.specs.Answers.{IfRefused};
@@ -11,6 +12,7 @@ mod block_scalars;
 mod blocks;
 mod cuts;
 mod deep;
+mod laws;
 #[cfg(test)]
 mod long_sources;
 mod rows;
@@ -22,6 +24,7 @@ mod table;
 #[cfg(test)]
 mod tests;
 
+pub use crate::laws::reading_is_a_relation;
 use crate::source::read_source;
 use std::alloc::Global;
 use wf_tree::Tree;
@@ -34,6 +37,7 @@ pub use wf_yaml_line::{Fault, Kind, YamlFault};
 pub fn read_yaml(alloc: Global, src: &str) -> Result<Tree, YamlFault>
     requires { length src.now < 4294967296 }
     ensures tree { IfOk result (λ t. reading src.now ≡ Ok (plain_tree t)) }
+    ensures depth { IfOk result (λ t. depth (plain_tree t) ≤ 100) }
     ensures fault { IfRefused result (λ f. reading src.now ≡ Err f) }
 {
     read_source(alloc, src)

@@ -75,6 +75,7 @@ fn refuses_long_marks(rt: HostRuntime) -> Result<(), Fail> {
     expect(&rt, alloc, "", "\"", 131_072, "", "Quote at line 1")?;
     expect(&rt, alloc, "", "&", 131_072, "", "Anchor at line 1")?;
     expect(&rt, alloc, "", "\r", 131_072, "", "Unsupported at line 1")?;
+    expect(&rt, alloc, "", ":", 131_072, "", "Unsupported at line 1")?;
     expect(&rt, alloc, "", "a: ", 43_690, "  ", "Unsupported at line 1")?;
     Ok(())
 }
@@ -104,17 +105,6 @@ fn answers_long_collections(rt: HostRuntime) -> Result<(), Fail> {
         "DoubleKey at line 1",
     )?;
     expect(&rt, alloc, "", "a:\n", 43_690, "  ", "DoubleKey at line 2")?;
-    Ok(())
-}
-
-// Whatever it reads as.
-#[test]
-fn answers_long_colons(rt: HostRuntime) -> Result<(), Fail> {
-    let alloc = rt.alloc();
-    let source = repeated(alloc, ":", LONGEST, "")?;
-    assert_eq!(rt; source.len(), LONGEST);
-    let found = verdict(alloc, source.as_str())?;
-    assert_ne!(rt; found.as_str(), "no memory");
     Ok(())
 }
 
@@ -151,6 +141,40 @@ fn answers_many_keys(rt: HostRuntime) -> Result<(), Fail> {
     assert_eq!(rt; block.len(), LONGEST);
     let found = verdict(alloc, block.as_str())?;
     assert_eq!(rt; found.as_str(), "a map of 16383");
+    Ok(())
+}
+
+// The letters of the keys, which fall.
+const LETTERS: &str = "zyxwvutsrqponmlkjihgfedcbaZY";
+
+// A text of as many keys of three letters as fit, in falling order, with three marks behind each.
+fn falling(alloc: Global, first: &str, behind: &str, last: &str) -> Result<String, Fail> {
+    let mut text = String::from_str(alloc, first)?;
+    for a in LETTERS.chars() {
+        for b in LETTERS.chars() {
+            for c in LETTERS.chars() {
+                if text.len() < LONGEST - 6 {
+                    let pair = format!(in alloc; "{a}{b}{c}{behind}")?;
+                    text.push_str(pair.as_str())?;
+                }
+            }
+        }
+    }
+    text.push_str(last)?;
+    Ok(text)
+}
+
+#[test]
+fn answers_falling_keys(rt: HostRuntime) -> Result<(), Fail> {
+    let alloc = rt.alloc();
+    let flow = falling(alloc, "{", ": ,", "}")?;
+    assert_eq!(rt; flow.len(), LONGEST);
+    let found = verdict(alloc, flow.as_str())?;
+    assert_eq!(rt; found.as_str(), "a map of 21845");
+    let block = falling(alloc, "", ": \n", "  ")?;
+    assert_eq!(rt; block.len(), LONGEST);
+    let found = verdict(alloc, block.as_str())?;
+    assert_eq!(rt; found.as_str(), "a map of 21845");
     Ok(())
 }
 

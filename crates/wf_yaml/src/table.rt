@@ -732,3 +732,42 @@ a : : b => Unsupported at line 1
 fn answers_at_the_edges(rt: HostRuntime) -> Result<(), Fail> {
     compare(&rt, rt.alloc(), EDGES)
 }
+
+// Plain keys that end with a colon, and keys that don't. These answers are from the sentences
+// alone.
+const COLONS: &str = r#"a:: b => Unsupported at line 1
+a:: => Unsupported at line 1
+a::: => Unsupported at line 1
+a :: b => Unsupported at line 1
+:: a => Unsupported at line 1
+a::→b => Unsupported at line 1
+a:: # b => Unsupported at line 1
+- a:: b => Unsupported at line 1
+- a: 1⏎  b:: 2 => Unsupported at line 2
+a:⏎  b:: c⏎  d: 1.5 => Unsupported at line 2
+a:: 1⏎a:: 2 => Unsupported at line 1
+a: 1⏎a:: 2 => Unsupported at line 2
+"a:": 1⏎a:: 2 => DoubleKey at line 2
+a:: &x b => Anchor at line 1
+a:: !x b => Tag at line 1
+a:: [ => Flow at line 1
+a:: "\q" => Quote at line 1
+a:: 1.5 => Decimal at line 1
+a::⏎  &x b => Unsupported at line 1
+→a:: b => Tab at line 1
+  a: 1⏎b:: 2 => Indentation at line 2
+▽▽a:: 1 => Unsupported at line 1
+▽▽- a:: 1 => Unsupported at line 1
+▽▽- a:: 1.5 => Decimal at line 1
+▽▽- "a:": 1 => TooDeep at line 1
+a : : b => Unsupported at line 1
+"a:": b => {a::'b',}
+'a:' : b => {a::'b',}
+a:b: c => {a:b:'c',}
+a::b: ::c => {a::b:'::c',}
+"#;
+
+#[test]
+fn refuses_keys_that_end_with_a_colon(rt: HostRuntime) -> Result<(), Fail> {
+    compare(&rt, rt.alloc(), COLONS)
+}

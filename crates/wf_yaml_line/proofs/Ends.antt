@@ -1,7 +1,7 @@
 -- The end of a text.
 use Rattle.std.proofs.Common.{◌≡◌, ℕ, zero, suc, ◌+◌, ◌-◌, ◌<◌, ◌≤◌, List, [], ◌∷◌, ◌++◌, length, get_or, take, drop, Bool, true, false, cond, not, ◌&&◌, ◌==◌, Option, Some, None, option_map, refl, sym, ap, ◌∙◌, arith, add-one}
 use Rattle.std.proofs.lemmas.List.{get_or_read, take_rest}
-use Rattle.wf_yaml_line.specs.Marks.{is_blank, is_empty, trimmed, ends_word, around_colon}
+use Rattle.wf_yaml_line.specs.Marks.{is_blank, is_empty, trimmed, ends_word, ends_with_colon, around_colon}
 
 one_dropped : (b : ℕ) (t : Bool) → t ≡ true → [] ≡ cond (t && true) [] (b ∷ [])
 one_dropped b true e = refl
@@ -47,6 +47,18 @@ kept_at s (suc m) x t p h r a b e =
 pub not_true : (t : Bool) → not t ≡ true → t ≡ false
 not_true true e = sym e
 not_true false e = refl
+
+-- ---- the last character
+
+last_at : (s : List ℕ) (m d : ℕ) → length s ≡ suc m → (get_or s m d == 58) ≡ ends_with_colon s
+last_at [] m d h = absurd (omega (arith, h))
+last_at (b ∷ []) zero d h = refl
+last_at (b ∷ []) (suc m) d h = absurd (omega (arith, h))
+last_at (b ∷ c ∷ r) zero d h = absurd (omega (arith, h))
+last_at (b ∷ c ∷ r) (suc m) d h = last_at (c ∷ r) m d (omega (arith, h))
+
+pub last_colon : (s : List ℕ) (x : ℕ) → 1 ≤ length s → x ≡ get_or s (length s - 1) x → (x == 58) ≡ ends_with_colon s
+last_colon s x h e = ap (λ y. y == 58) e ∙ last_at s (length s - 1) x (omega (arith, h))
 
 -- ---- a step of `around_colon`
 

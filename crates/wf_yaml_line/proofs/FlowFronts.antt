@@ -1,20 +1,10 @@
 -- The front of a text that is a word.
-use Rattle.std.proofs.Common.{◌≡◌, ℕ, zero, suc, ◌+◌, ◌-◌, ◌≤◌, List, [], ◌∷◌, length, get_or, take, drop, Bool, true, false, cond, ◌&&◌, ◌||◌, ◌==◌, Some, refl, subst, sym, ap, ◌∙◌, arith, length-take}
-use Rattle.wf_yaml_line.specs.Marks.{starts, is_empty, behind_first, is_blank, is_flow_mark, trimmed, ends_word, colon, hash, dollar, open_map}
-use Rattle.wf_yaml_line.specs.Flow.{plain_part, plain_word, ends_with_colon, starts_expression, Word, word, no_word, flow_word}
+use Rattle.std.proofs.Common.{◌≡◌, ℕ, ◌+◌, ◌≤◌, List, [], ◌∷◌, length, take, drop, Bool, true, false, cond, ◌&&◌, ◌||◌, ◌==◌, Some, refl, subst, sym, ap, ◌∙◌, arith, length-take}
+use Rattle.wf_yaml_line.specs.Marks.{starts, is_empty, behind_first, is_blank, is_flow_mark, trimmed, ends_word, ends_with_colon, colon, hash, dollar, open_map}
+use Rattle.wf_yaml_line.specs.Flow.{plain_part, plain_word, starts_expression, Word, word, no_word, flow_word}
 use Rattle.wf_yaml_line.specs.FlowWalk.{found_word}
 use Rattle.wf_yaml_line.specs.declared.flow.words.FlowWord.{FlowWord}
 use Rattle.wf_yaml_line.proofs.FlowLengths.{chosen, WordIn, word_in}
-
-last_at : (s : List ℕ) (m d : ℕ) → length s ≡ suc m → (get_or s m d == 58) ≡ ends_with_colon s
-last_at [] m d h = absurd (omega (arith, h))
-last_at (b ∷ []) zero d h = refl
-last_at (b ∷ []) (suc m) d h = absurd (omega (arith, h))
-last_at (b ∷ c ∷ r) zero d h = absurd (omega (arith, h))
-last_at (b ∷ c ∷ r) (suc m) d h = last_at (c ∷ r) m d (omega (arith, h))
-
-pub last_colon : (s : List ℕ) (x : ℕ) → 1 ≤ length s → x ≡ get_or s (length s - 1) x → (x == 58) ≡ ends_with_colon s
-last_colon s x h e = ap (λ y. y == 58) e ∙ last_at s (length s - 1) x (omega (arith, h))
 
 dollar_first : (b : ℕ) (s : List ℕ) → (b == dollar && starts (λ c. c == open_map) s) ≡ true → length (behind_first s) + 1 ≡ length s
 dollar_first b [] h = absurd (no_and (b == dollar) h) where

@@ -1,6 +1,8 @@
+pub mod Faults
 pub mod Ends
 pub mod Numbers
 pub mod Sets
+pub mod Shallow
 pub mod FlowLengths
 pub mod FlowFronts
 pub mod FlowSteps

@@ -1,7 +1,7 @@
 -- Flow collections: `[a, b]` and `{k: v}` on one line.
 use Rattle.std.specs.Prelude.{ℕ, zero, suc, List, [], ◌∷◌, length, drop, take, Bool, true, false, cond, not, ◌&&◌, ◌||◌, ◌==◌, nat_lt, Option, Some, None, Result, Ok, Err}
 use Rattle.std.specs.Str.{encode_utf8_all}
-use Rattle.wf_yaml_line.specs.Marks.{among, is_one_of, starts, is_empty, behind_first, skip, is_blank, is_quote, is_bracket, is_flow_mark, is_reserved, is_guarded, ends_word, skip_blanks, trimmed, hash, colon, comma, dollar, backslash, close_list, open_map, close_map, bang}
+use Rattle.wf_yaml_line.specs.Marks.{among, is_one_of, starts, is_empty, behind_first, skip, is_blank, is_quote, is_bracket, is_flow_mark, is_reserved, is_guarded, ends_word, ends_with_colon, skip_blanks, trimmed, hash, colon, comma, dollar, backslash, close_list, open_map, close_map, bang}
 use Rattle.wf_yaml_line.specs.Fault.{Fault, both, given, kept, refuse, refuse_if, first_of_two}
 use Rattle.wf_yaml_line.specs.declared.fault.Kind.TheVariants as kinds
 use Rattle.wf_tree.specs.Trees.{Tree, null, text, list, map, items_of, pairs_of}
@@ -44,11 +44,6 @@ flow_blanks s = cond (starts is_blank s && starts (λ b. b == hash) (skip_blanks
 abbrev pub plain_part : Bool → List ℕ → List ℕ
 plain_part after_blank [] = []
 plain_part after_blank (b ∷ r) = cond (is_flow_mark b || (b == colon && ends_word r) || (after_blank && b == hash)) [] (b ∷ plain_part (is_blank b) r)
-
-abbrev pub ends_with_colon : List ℕ → Bool
-ends_with_colon [] = false
-ends_with_colon (b ∷ []) = b == colon
-ends_with_colon (b ∷ c ∷ r) = ends_with_colon (c ∷ r)
 
 abbrev pub may_start_flow : List ℕ → Bool
 may_start_flow [] = false

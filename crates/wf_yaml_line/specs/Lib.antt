@@ -1,5 +1,6 @@
 pub mod Marks
 pub mod Fault
+pub mod FaultLaws
 pub mod Words
 pub mod Scalars
 pub mod Quoted

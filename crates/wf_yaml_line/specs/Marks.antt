@@ -131,6 +131,12 @@ abbrev pub trimmed : List ℕ → List ℕ
 trimmed [] = []
 trimmed (b ∷ r) = cond (is_blank b && is_empty (trimmed r)) [] (b ∷ trimmed r)
 
+-- the last character is a `:`
+abbrev pub ends_with_colon : List ℕ → Bool
+ends_with_colon [] = false
+ends_with_colon (b ∷ []) = b == colon
+ends_with_colon (b ∷ c ∷ r) = ends_with_colon (c ∷ r)
+
 -- a blank or the end of the line follows
 abbrev pub ends_word : List ℕ → Bool
 ends_word s = is_empty s || starts is_blank s

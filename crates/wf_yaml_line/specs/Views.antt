@@ -1,5 +1,5 @@
 -- What the code returns, without where it lies in memory.
-use Rattle.std.specs.Prelude.{◌≡◌, ℕ, List, ◌++◌, Bool, ◌&&◌, Result, Ok, Err, Option, Some, None, option_map, map}
+use Rattle.std.specs.Prelude.{◌≡◌, ℕ, List, ◌++◌, Bool, ◌&&◌, Result, Ok, Err, Option, Some, None, option_map, map, string_bytes}
 use Rattle.wf_yaml_line.specs.Fault.{Fault}
 use Rattle.wf_yaml_line.specs.Quoted as quotes
 use Rattle.wf_yaml_line.specs.Keys as keys
@@ -25,11 +25,11 @@ onto front so_far q = record { chars = front ++ q.chars; rest = q.rest; good = s
 
 -- a key
 abbrev pub key_view : Key → keys.Key
-key_view k = record { text = k.text; good = k.good; rest = k.rest.now }
+key_view k = record { text = k.text; fault = k.fault; rest = k.rest.now }
 
 -- the keys of a set
 abbrev pub keys_of : KeySet → List (List ℕ)
-keys_of s = map (λ p. p.0) s.keys
+keys_of s = map string_bytes s.keys.keys
 
 -- a tree, or its refusal
 abbrev pub seen_tree : Result Tree Fault → Result trees.Tree Fault

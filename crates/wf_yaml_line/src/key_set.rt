@@ -4,14 +4,15 @@ ghost use Rattle.wf_yaml_line.specs.Marks.{is_one_of, is_same};
 ghost use Rattle.wf_yaml_line.specs.Views.{keys_of};
 
 use std::alloc::Global;
-use wf_tree::{Tree, TreeMap};
+use std::collections::BTreeSet;
 use wf_value::{OutOfMemory, Text};
 
-/// The keys that a map has so far. One is found in a time that grows with the logarithm of their
-/// number.
+/// The keys that a map has so far. One is found, and added, in a time that grows with the logarithm
+/// of their number.
 #[derive(Drop)]
 pub struct KeySet {
-    keys: TreeMap,
+    alloc: Global,
+    keys: BTreeSet<String>,
 }
 
 impl KeySet {
@@ -20,7 +21,8 @@ impl KeySet {
         ensures { IfOk result (λ s. keys_of s ≡ []) }
     {
         Ok(KeySet {
-            keys: TreeMap::new(alloc)?,
+            alloc,
+            keys: BTreeSet::new(alloc),
         })
     }
 
@@ -28,7 +30,7 @@ impl KeySet {
     pub fn holds(&self, key: &str) -> bool
         ensures { result ≡ is_one_of (keys_of self.now) key.now }
     {
-        self.keys.get(key).is_some()
+        self.keys.contains(key)
     }
 
     /// Adds a key. Without memory they stay.
@@ -36,7 +38,12 @@ impl KeySet {
         ensures added { OnOk result ((k : List ℕ) → is_one_of (keys_of self.new) k ≡ (is_same key k || is_one_of (keys_of self.old) k)) }
         ensures kept { OnErr result (keys_of self.new ≡ keys_of self.old) }
     {
-        self.keys.insert(key, Tree::Null)?;
-        Ok(())
+        let Ok(copy) = String::from_str(self.alloc, key.as_str()) else {
+            return Err(OutOfMemory);
+        };
+        match self.keys.insert(copy) {
+            Ok(_) => Ok(()),
+            Err(_) => Err(OutOfMemory),
+        }
     }
 }

@@ -5,9 +5,13 @@ ghost use Rattle.wf_yaml_line.specs.Quoted as quotes;
 ghost use Rattle.wf_yaml_line.specs.Scalars as scalars;
 ghost use Rattle.wf_yaml_line.specs.Keys as keys;
 ghost use Rattle.wf_yaml_line.specs.Flow as flows;
+ghost use Rattle.wf_yaml_line.specs.Fault.{noted};
 ghost use Rattle.wf_yaml_line.specs.Views.{key_view};
 
-use crate::marks::{around_colon, ends_word, is_guarded, is_reserved, skip_blanks, trimmed};
+use crate::fault::{Fault, Kind};
+use crate::marks::{
+    around_colon, ends_with_colon, ends_word, is_guarded, is_reserved, skip_blanks, trimmed,
+};
 use crate::quoted::read_quoted;
 use crate::trees::text_of;
 use std::alloc::Global;
@@ -18,10 +22,22 @@ use wf_value::{OutOfMemory, Text};
 pub struct Key<'a> {
     /// The key itself.
     pub text: Text,
-    /// Whether each of its escapes is good.
-    pub good: bool,
+    /// The fault that it has by itself: a bad escape, or a `:` at the end of a plain key.
+    pub fault: Option<Kind>,
     /// What stands behind its `:`.
     pub rest: &'a [char],
+}
+
+impl Key<'_> {
+    /// The refusal of the key in this line, if it has a fault by itself.
+    pub fn refusal(&self, line: u32) -> Option<Fault>
+        ensures { noted result ≡ keys.own_fault line (key_view self.now).fault }
+    {
+        match self.fault {
+            Some(kind) => Some(Fault { line, kind }),
+            None => None,
+        }
+    }
 }
 
 /// Whether a text may start a plain scalar.
@@ -51,6 +67,24 @@ fn behind_colon(s: &[char]) -> Option<&[char]>
     }
 }
 
+// The fault of a quoted key: one of its escapes isn't good.
+fn quoted_fault(good: bool) -> Option<Kind>
+    ensures { result ≡ keys.quoted_fault good }
+{
+    if good { None } else { Some(Kind::Quote) }
+}
+
+// The fault of a plain key: no plain scalar ends with a `:`.
+fn plain_fault(key: &[char]) -> Option<Kind>
+    ensures { result ≡ keys.plain_fault key.now }
+{
+    if ends_with_colon(key) {
+        Some(Kind::Unsupported)
+    } else {
+        None
+    }
+}
+
 // The key of a pair that starts with a quote.
 fn quoted_key(alloc: Global, s: &[char]) -> Result<Option<Key<'_>>, OutOfMemory>
     ensures { IfOk result (λ k. option_map key_view k ≡ keys.quoted_key (quotes.quoted s.now) (quotes.quoted s.now).rest) }
@@ -62,7 +96,7 @@ fn quoted_key(alloc: Global, s: &[char]) -> Result<Option<Key<'_>>, OutOfMemory>
     match behind_colon(skip_blanks(behind)) {
         Some(rest) => Ok(Some(Key {
             text: text_of(alloc, &found.chars)?,
-            good: found.good,
+            fault: quoted_fault(found.good),
             rest,
         })),
         None => Ok(None),
@@ -74,11 +108,14 @@ fn plain_key(alloc: Global, s: &[char]) -> Result<Option<Key<'_>>, OutOfMemory>
     ensures { IfOk result (λ k. option_map key_view k ≡ keys.plain_key (texts.around_colon false s.now)) }
 {
     match around_colon(s) {
-        Some((before, rest)) => Ok(Some(Key {
-            text: text_of(alloc, trimmed(before))?,
-            good: true,
-            rest,
-        })),
+        Some((before, rest)) => {
+            let key = trimmed(before);
+            Ok(Some(Key {
+                text: text_of(alloc, key)?,
+                fault: plain_fault(key),
+                rest,
+            }))
+        }
         None => Ok(None),
     }
 }

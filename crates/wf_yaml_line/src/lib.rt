@@ -8,6 +8,7 @@ mod flow;
 mod flow_tests;
 mod key_set;
 mod keys;
+mod laws;
 mod line;
 mod marks;
 mod quoted;
@@ -19,6 +20,7 @@ mod trees;
 pub use fault::{Fault, Kind, YamlFault, both_noted, first_of_two, least, refuse_if};
 pub use key_set::KeySet;
 pub use keys::{Key, is_delay_key, may_start_plain, read_key};
+pub use laws::{faults_are_in_order, faults_are_least};
 pub use line::one_line;
 pub use marks::{
     before_comment, behind_first, ends_line, ends_word, is_blank, is_blank_line, skip_blanks,

@@ -146,6 +146,17 @@ pub fn trimmed(s: &[char]) -> &[char]
     &s[..n]
 }
 
+// Whether the last character is a `:`.
+#[tactic(auto, using(crate::proofs::Ends::last_colon))]
+pub(crate) fn ends_with_colon(s: &[char]) -> bool
+    ensures { result ≡ texts.ends_with_colon s.now }
+{
+    match s {
+        [] => false,
+        [.., c] => *c == ':',
+    }
+}
+
 /// Without the digits at the front.
 pub fn skip_digits(s: &[char]) -> &[char]
     ensures rest { result.now ≡ texts.skip texts.is_digit s.now }

@@ -252,50 +252,63 @@ fn reads_lines(rt: HostRuntime) -> Result<(), Fail> {
     Ok(())
 }
 
-// The keys of the examples 2.17, 7.4 and 7.10, and around them: a text, and its key, whether the
-// escapes are good, and what stands behind it.
-const KEYS: &str = r#"unicode: "Sosa" => unicode|true| "Sosa"
-'implicit block key' : [ => implicit block key|true| [
-tie-fighter: '|' => tie-fighter|true| '|'
-hex esc: x => hex esc|true| x
-a: => a|true|
-a:→ b => a|true|→ b
-a → : b => a|true| b
+// The keys of the examples 2.17, 7.4 and 7.10, and around them: a text, and its key, the key's own
+// fault, and what stands behind it.
+const KEYS: &str = r#"unicode: "Sosa" => unicode|good| "Sosa"
+'implicit block key' : [ => implicit block key|good| [
+tie-fighter: '|' => tie-fighter|good| '|'
+hex esc: x => hex esc|good| x
+a: => a|good|
+a:→ b => a|good|→ b
+a → : b => a|good| b
 a:b => none
-a:b: c: d => a:b|true| c: d
-::: a => ::|true| a
-null: 1 => null|true| 1
-1.50: 1 => 1.50|true| 1
--a: 1 => -a|true| 1
+a:b: c: d => a:b|good| c: d
+::: a => ::|Unsupported| a
+a:: b => a:|Unsupported| b
+a:: => a:|Unsupported|
+a::: => a::|Unsupported|
+a :: b => a :|Unsupported| b
+a : : b => a|good| : b
+"a:": b => a:|good| b
+'a:' : b => a:|good| b
+null: 1 => null|good| 1
+1.50: 1 => 1.50|good| 1
+-a: 1 => -a|good| 1
 - a: 1 => none
 ? a: 1 => none
 : a => none
-a#b: 1 => a#b|true| 1
+a#b: 1 => a#b|good| 1
 a #b: 1 => none
-a, [b]: 1 => a, [b]|true| 1
+a, [b]: 1 => a, [b]|good| 1
 [a]: 1 => none
 &a b: 1 => none
 !a b: 1 => none
-"a": 1 => a|true| 1
-"a": => a|true|
+"a": 1 => a|good| 1
+"a": => a|good|
 "a":1 => none
 "a: b" => none
 "a" b: 1 => none
-"\u0041\x42": 1 => AB|true| 1
-"\q": 1 => |false| 1
-'it''s': 1 => it's|true| 1
-'': 1 => |true| 1
+"\u0041\x42": 1 => AB|good| 1
+"\q": 1 => |Quote| 1
+'it''s': 1 => it's|good| 1
+'': 1 => |good| 1
 'a: 1 => none
-é: 1 => é|true| 1
+é: 1 => é|good| 1
  => none
 "#;
 
-// A key, whether its escapes are good, and what stands behind it.
+// A key, its own fault, and what stands behind it.
 fn shown_key(alloc: Global, key: &Option<Key<'_>>) -> Result<String, Fail> {
     match key {
         Some(key) => {
             let rest = text_of(alloc, key.rest)?;
-            Ok(format!(in alloc; "{}|{}|{}", key.text.as_str(), key.good, rest.as_str())?)
+            let fault = match key.fault {
+                None => "good",
+                Some(Kind::Quote) => "Quote",
+                Some(Kind::Unsupported) => "Unsupported",
+                Some(_) => "another",
+            };
+            Ok(format!(in alloc; "{}|{}|{}", key.text.as_str(), fault, rest.as_str())?)
         }
         None => Ok(String::from_str(alloc, "none")?),
     }

@@ -1,7 +1,7 @@
 -- Texts that hold nothing that ends a plain scalar or a key.
 use Rattle.std.proofs.Common.{◌≡◌, ℕ, List, [], ◌∷◌, ◌++◌, Bool, true, false, cond, ◌&&◌, ◌||◌, ◌==◌, nat_le, Some, None, option_map, refl, ap, sym, subst, ◌∙◌, arith}
 use Rattle.std.proofs.lemmas.Bool.{and_parts, and_left, or_parts, leb-true, ne_eqb}
-use Rattle.wf_yaml_line.specs.Marks.{hash, colon, space, tabulator, starts, is_empty, is_blank, ends_word, trimmed, before_comment, around_colon}
+use Rattle.wf_yaml_line.specs.Marks.{hash, colon, space, tabulator, starts, is_empty, is_blank, ends_with_colon, ends_word, trimmed, before_comment, around_colon}
 use Rattle.wf_yaml_write.specs.Layout.{is_printable, has_mark}
 
 -- No comment begins in the text, no key ends in it, and no blank ends it; the flag says that a
@@ -73,6 +73,16 @@ pub trimmed_calm : (after_blank : Bool) (s : List ℕ) → IsCalm after_blank s 
 trimmed_calm after_blank [] h = refl
 trimmed_calm after_blank (b ∷ s) h =
     ap (λ r. cond (is_blank b && is_empty r) [] (b ∷ r)) (trimmed_calm (is_blank b) s h.3) ∙ ap (λ t. cond t [] (b ∷ s)) h.2
+
+-- no `:` ends such a text
+pub no_colon_calm : (after_blank : Bool) (s : List ℕ) → IsCalm after_blank s → ends_with_colon s ≡ false
+no_colon_calm after_blank [] h = refl
+no_colon_calm after_blank (b ∷ []) h = last (b == colon) h.1
+  where
+    last : (t : Bool) → (t && true) ≡ false → t ≡ false
+    last true e = e
+    last false e = refl
+no_colon_calm after_blank (b ∷ c ∷ s) h = no_colon_calm (is_blank b) (c ∷ s) h.3
 
 pub no_key_calm : (after_blank : Bool) (s : List ℕ) → IsCalm after_blank s → around_colon after_blank s ≡ None
 no_key_calm after_blank [] h = refl

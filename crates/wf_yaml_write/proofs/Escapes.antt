@@ -23,7 +23,7 @@ high (b ∷ l) h =
     let is : escaped b ≡ b ∷ [] = own b (record { quote = λ e. omega arith; backslash = λ e. omega arith; control = omega arith; delete = λ e. omega arith }) in
     rw is (ap (λ r. b ∷ r) (high l (λ k a. h (suc k) (omega arith))))
 
-high_bytes : (c : ℕ) → 128 ≤ c → (k : ℕ) → k < length (encode_utf8 c) → (get_or (encode_utf8 c) k 0 < 128) ⊎ (128 ≤ get_or (encode_utf8 c) k 0) → 128 ≤ get_or (encode_utf8 c) k 0
+pub high_bytes : (c : ℕ) → 128 ≤ c → (k : ℕ) → k < length (encode_utf8 c) → (get_or (encode_utf8 c) k 0 < 128) ⊎ (128 ≤ get_or (encode_utf8 c) k 0) → 128 ≤ get_or (encode_utf8 c) k 0
 high_bytes c h k l = ⊎_elim (λ m. let e : c ≡ get_or (encode_utf8 c) k 0 = inside_one c [] (encode_utf8 c) k (sym (append-nil (encode_utf8 c))) l m in omega arith) (λ m. m)
 
 -- such a character stands for itself

@@ -2,6 +2,7 @@ pub mod Escapes
 pub mod EscapeCases
 pub mod Lines
 pub mod Parts
+pub mod Memory
 pub mod Calm
 pub mod PlainBack
 pub mod QuotedBack
@@ -10,3 +11,12 @@ pub mod NumberBack
 pub mod DecimalBack
 pub mod WordsBack
 pub mod LineBack
+pub mod Clean
+pub mod Fresh
+pub mod RowsBack
+pub mod CutBack
+pub mod ListBack
+pub mod PairBack
+pub mod MapBack
+pub mod Fits
+pub mod TreeBack

@@ -6,7 +6,7 @@ use Rattle.wf_tree.specs.Trees.{text}
 use Rattle.wf_yaml_line.specs.Marks.{among, colon, bang, starts, ends_word, is_quote, is_bracket, is_guarded, trimmed, before_comment, around_colon}
 use Rattle.wf_yaml_line.specs.Fault.{both, kept, refuse_if}
 use Rattle.wf_yaml_line.specs.Flow.{is_property}
-use Rattle.wf_yaml_line.specs.Keys.{key_of, plain_key, quoted_key}
+use Rattle.wf_yaml_line.specs.Keys.{key_of, plain_fault, plain_key, quoted_key}
 use Rattle.wf_yaml_line.specs.Quoted.{quoted}
 use Rattle.wf_yaml_line.specs.Line.{one_line, plain_line}
 use Rattle.wf_yaml_line.specs.Scalars.{plain_tree, plain_tree_by, may_start_plain}
@@ -15,7 +15,7 @@ use Rattle.wf_yaml_line.specs.declared.fault.Kind.TheVariants as kinds
 use Rattle.wf_yaml_line.specs.declared.scalars.Plain.{Plain}
 use Rattle.wf_yaml_line.specs.declared.scalars.Plain.TheVariants as kind
 use Rattle.wf_yaml_write.specs.Layout.{is_plain, is_printable, may_start, has_mark, is_text}
-use Rattle.wf_yaml_write.proofs.Calm.{IsCalm, calm, before_calm, trimmed_calm, no_key_calm, key_calm}
+use Rattle.wf_yaml_write.proofs.Calm.{IsCalm, calm, before_calm, trimmed_calm, no_colon_calm, no_key_calm, key_calm}
 
 -- ---- the first character
 
@@ -115,7 +115,7 @@ plain_back delay n d (b ∷ r) e =
     ∙ ap (λ k. both kept (plain_tree_by k delay n (b ∷ r)) (Ok (tt {0}))) h.kind
 
 -- and as a key before the `:` that ends it
-pub plain_key_back : (s rest : List ℕ) → is_plain s ≡ true → ends_word rest ≡ true → key_of (s ++ colon ∷ rest) ≡ Some (record { text = encode_utf8_all s; good = true; rest = rest })
+pub plain_key_back : (s rest : List ℕ) → is_plain s ≡ true → ends_word rest ≡ true → key_of (s ++ colon ∷ rest) ≡ Some (record { text = encode_utf8_all s; fault = None; rest = rest })
 plain_key_back [] rest e w = absurd (true≢false (sym (plain_facts [] e).start))
 plain_key_back (b ∷ r) rest e w =
     let h = plain_facts (b ∷ r) e in
@@ -124,4 +124,5 @@ plain_key_back (b ∷ r) rest e w =
     ap (λ t. cond t (quoted_key (quoted (b ∷ all)) (quoted (b ∷ all)).rest) (cond (may_start_plain (b ∷ all)) (plain_key (around_colon false (b ∷ all))) None)) o.quote
     ∙ ap (λ t. cond t (plain_key (around_colon false (b ∷ all))) None) o.start
     ∙ ap plain_key (key_calm false (b ∷ r) rest w (plain_calm (b ∷ r) h))
-    ∙ ap (λ u. Some (record { text = encode_utf8_all u; good = true; rest = rest })) (trimmed_calm false (b ∷ r) (plain_calm (b ∷ r) h))
+    ∙ ap (λ u. Some (record { text = encode_utf8_all u; fault = plain_fault u; rest = rest })) (trimmed_calm false (b ∷ r) (plain_calm (b ∷ r) h))
+    ∙ ap (λ t. Some (record { text = encode_utf8_all (b ∷ r); fault = cond t (Some kinds.Unsupported) None; rest = rest })) (no_colon_calm false (b ∷ r) (plain_calm (b ∷ r) h))

@@ -71,7 +71,7 @@ pub quoted_line_back : (delay : Bool) (n d : ℕ) (s : List ℕ) → one_line de
 quoted_line_back delay n d s = ap (λ (q : Quoted). quoted_tree n q q.rest) (all_back s [])
 
 -- as a key
-pub quoted_key_back : (s rest : List ℕ) → ends_word rest ≡ true → key_of (in_quotes s ++ colon ∷ rest) ≡ Some (record { text = encode_utf8_all s; good = true; rest = rest })
+pub quoted_key_back : (s rest : List ℕ) → ends_word rest ≡ true → key_of (in_quotes s ++ colon ∷ rest) ≡ Some (record { text = encode_utf8_all s; fault = None; rest = rest })
 quoted_key_back s rest w =
     ap (λ (q : Quoted). quoted_key q q.rest) (quoted_back s (colon ∷ rest))
     ∙ ap (λ t. key_with (record { chars = s; rest = Some (colon ∷ rest); good = true }) (cond t (Some rest) None)) w

@@ -1,5 +1,5 @@
 -- A written text is read back, plain or quoted.
-use Rattle.std.proofs.Common.{◌≡◌, ⊎_elim, ℕ, ◌<◌, ◌≤◌, ◌/◌, ◌%◌, List, [], ◌∷◌, ◌++◌, get_or, append_assoc, append-nil, Bool, true, false, ◌&&◌, nat_le, nat_lt, codes, Some, Ok, refl, ap, sym, ◌∙◌, arith}
+use Rattle.std.proofs.Common.{◌≡◌, ⊎_elim, ℕ, ◌<◌, ◌≤◌, ◌/◌, ◌%◌, List, [], ◌∷◌, ◌++◌, get_or, append_assoc, append-nil, Bool, true, false, ◌&&◌, nat_le, nat_lt, codes, Some, None, Ok, refl, ap, sym, ◌∙◌, arith}
 use Rattle.std.specs.Prelude.{if◌then◌else◌}
 use Rattle.std.specs.Fmt.{digit_glyph}
 use Rattle.std.specs.Char.{encode_utf8}
@@ -29,7 +29,7 @@ text_back delay n d s = ⊎_elim
     (λ e. ap (one_line delay n d) (written_quoted s e) ∙ quoted_line_back delay n d s)
     (cases_Bool (is_plain s))
 
-pub key_back : (s rest : List ℕ) → ends_word rest ≡ true → key_of (written_text s ++ codes ":" ++ rest) ≡ Some (record { text = encode_utf8_all s; good = true; rest = rest })
+pub key_back : (s rest : List ℕ) → ends_word rest ≡ true → key_of (written_text s ++ codes ":" ++ rest) ≡ Some (record { text = encode_utf8_all s; fault = None; rest = rest })
 key_back s rest w = ap key_of (append_assoc (written_text s) (codes ":") rest) ∙ ⊎_elim
     (λ e. ap (λ t. key_of (t ++ colon ∷ rest)) (written_plain s e) ∙ plain_key_back s rest e w)
     (λ e. ap (λ t. key_of (t ++ colon ∷ rest)) (written_quoted s e) ∙ quoted_key_back s rest w)
@@ -51,7 +51,7 @@ printable_low b s h =
     let l = and_parts (nat_le 0x20 b) (nat_le b 0x7E) k.0 in
     (omega (arith, leb-true b 0x7E l.1), k.1)
 
-printable_all_low : (s : List ℕ) → is_printable s ≡ true → all_low s ≡ true
+pub printable_all_low : (s : List ℕ) → is_printable s ≡ true → all_low s ≡ true
 printable_all_low [] h = refl
 printable_all_low (b ∷ s) h = let k = printable_low b s h in and_from (nat_lt b 128) (all_low s) (lt-ltb b 128 k.0) (printable_all_low s k.1)
 
@@ -70,7 +70,7 @@ printable_characters (c ∷ s) h = ⊎_elim
 glyph_low : (d : ℕ) → d < 16 → digit_glyph false d < 128
 glyph_low d h = grind (arith, nat_tests)
 
-low_hex : (c : ℕ) → c < 128 → all_low (codes "\\x" ++ hex_digits c) ≡ true
+pub low_hex : (c : ℕ) → c < 128 → all_low (codes "\\x" ++ hex_digits c) ≡ true
 low_hex c h = (λ i. lt-ltb (digit_glyph false (c / 16)) 128 (glyph_low (c / 16) (omega arith)) i && (lt-ltb (digit_glyph false (c % 16)) 128 (glyph_low (c % 16) (omega arith)) i && true))
 
 low_escape : (c : ℕ) → c < 128 → all_low (escaped c) ≡ true

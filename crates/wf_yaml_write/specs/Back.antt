@@ -15,9 +15,9 @@ use Rattle.wf_yaml_write.specs.Layout.{layout, written_text}
 abbrev pub TextsComeBack : Type 0
 TextsComeBack = (delay : Bool) (n d : ℕ) (s : List ℕ) → one_line delay n d (written_text s) ≡ Ok (text (encode_utf8_all s))
 
--- a key, of these characters, behind whose `:` a blank and more stands, or nothing
+-- a key, of these characters, behind whose `:` a blank and more stands, or nothing: it has no fault
 abbrev pub KeysComeBack : Type 0
-KeysComeBack = (s rest : List ℕ) → ends_word rest ≡ true → key_of (written_text s ++ codes ":" ++ rest) ≡ Some (record { text = encode_utf8_all s; good = true; rest = rest })
+KeysComeBack = (s rest : List ℕ) → ends_word rest ≡ true → key_of (written_text s ++ codes ":" ++ rest) ≡ Some (record { text = encode_utf8_all s; fault = None; rest = rest })
 
 -- the characters of what is written are what is written of the characters
 abbrev pub Utf8IsKept : Type 0

@@ -1,3 +1,4 @@
 pub mod Layout
 pub mod Laid
 pub mod Back
+pub mod Whole

@@ -1,5 +1,6 @@
-// Laws of what is written on one line and read back.
+// Laws of what is written and read back.
 ghost use Rattle.wf_yaml_write.specs.Back.{TextsComeBack, KeysComeBack, Utf8IsKept, NumbersComeBack, DecimalsComeBack, WordsComeBack, LinesComeBack};
+ghost use Rattle.wf_yaml_write.specs.Whole.{TreesComeBack};
 
 /// Carries a law: a text and a key that were written are read back as they were.
 pub fn texts_come_back()
@@ -19,4 +20,10 @@ pub fn scalars_come_back()
 /// read back from the characters of that line, which is no pair.
 pub fn lines_come_back()
     ensures { LinesComeBack }
+{}
+
+/// Carries a law: a tree in memory whose decimals stand where a source may have them is read from
+/// the text that it is written as.
+pub fn trees_come_back()
+    ensures { TreesComeBack }
 {}

@@ -4,8 +4,10 @@
 mod laws;
 mod layout;
 #[cfg(test)]
+mod round_trips;
+#[cfg(test)]
 mod tests;
 mod texts;
 
-pub use laws::{lines_come_back, scalars_come_back, texts_come_back};
+pub use laws::{lines_come_back, scalars_come_back, texts_come_back, trees_come_back};
 pub use layout::write_yaml;

@@ -2,7 +2,7 @@
 use crate::*;
 use std::alloc::Global;
 use std::test::Fail;
-use wf_tree::{Tree, TreeMap, read_json};
+use wf_tree::{PairsSoFar, Tree, read_json};
 use wf_value::Text;
 
 // Each source in JSON with the text of its tree. The first two are worked examples of the language.
@@ -110,9 +110,9 @@ fn quotes_texts(rt: HostRuntime) -> Result<(), Fail> {
         );
         let mut pair = String::from_str(alloc, want)?;
         pair.push_str(": null\n")?;
-        let mut map = TreeMap::new(alloc)?;
-        map.insert(Text::new(alloc, text)?, Tree::Null)?;
-        let tree = Tree::Map(map);
+        let mut pairs = PairsSoFar::new(alloc)?;
+        pairs.insert(Text::new(alloc, text)?, Tree::Null)?;
+        let tree = Tree::Map(pairs.into_map()?);
         assert_eq!(rt;
             write_yaml(alloc, &tree)?.as_str(),
             pair.as_str(),
@@ -125,15 +125,15 @@ fn quotes_texts(rt: HostRuntime) -> Result<(), Fail> {
 #[test]
 fn writes_decimals(rt: HostRuntime) -> Result<(), Fail> {
     let alloc = rt.alloc();
-    let mut backoff = TreeMap::new(alloc)?;
+    let mut backoff = PairsSoFar::new(alloc)?;
     let delay = Tree::Decimal(Text::new(alloc, "1.50")?);
     backoff.insert(Text::new(alloc, "initial_delay")?, delay)?;
     backoff.insert(Text::new(alloc, "max_delay")?, Tree::Int(60))?;
     let factor = Tree::Decimal(Text::new(alloc, "00.5")?);
     backoff.insert(Text::new(alloc, "multiplier")?, factor)?;
-    let mut retry = TreeMap::new(alloc)?;
-    retry.insert(Text::new(alloc, "backoff")?, Tree::Map(backoff))?;
-    let tree = Tree::Map(retry);
+    let mut retry = PairsSoFar::new(alloc)?;
+    retry.insert(Text::new(alloc, "backoff")?, Tree::Map(backoff.into_map()?))?;
+    let tree = Tree::Map(retry.into_map()?);
     assert_eq!(rt;
         write_yaml(alloc, &tree)?.as_str(),
         "backoff:\n  initial_delay: 1.50\n  max_delay: 60\n  multiplier: 00.5\n"

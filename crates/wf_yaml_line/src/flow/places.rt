@@ -1,13 +1,13 @@
 // Where the walk over a flow collection stands, and what is open there.
 use crate::fault::Fault;
 use crate::key_set::KeySet;
-use wf_tree::{Tree, TreeList, TreeMap};
+use wf_tree::{PairsSoFar, Tree, TreeList};
 use wf_value::Text;
 
 // The pairs of a map so far, and their keys. Where a value was refused, its key stands among them.
 #[derive(Drop)]
 pub(crate) struct MapSoFar {
-    pub(crate) pairs: TreeMap,
+    pub(crate) pairs: PairsSoFar,
     pub(crate) keys: KeySet,
 }
 

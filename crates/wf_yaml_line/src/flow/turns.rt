@@ -18,7 +18,7 @@ use crate::flow::words::{has_delay, read_word, word_text};
 use crate::key_set::KeySet;
 use crate::marks::behind_first;
 use std::alloc::Global;
-use wf_tree::{Tree, TreeList, TreeMap};
+use wf_tree::{PairsSoFar, Tree, TreeList};
 use wf_value::{OutOfMemory, Text};
 
 // An empty collection.
@@ -28,7 +28,7 @@ fn empty_hand(alloc: Global, is_map: bool) -> Result<Hand, OutOfMemory>
 {
     if is_map {
         Ok(Hand::Pairs(MapSoFar {
-            pairs: TreeMap::new(alloc)?,
+            pairs: PairsSoFar::new(alloc)?,
             keys: KeySet::new(alloc)?,
         }))
     } else {
@@ -70,25 +70,26 @@ fn closes(hand: &Hand, s: &[char]) -> bool
 }
 
 // The tree of a collection whose elements are read.
-fn ended_tree(hand: Hand) -> Tree
-    ensures { plain_tree result ≡ walk.ended hand }
+fn ended_tree(hand: Hand) -> Result<Tree, OutOfMemory>
+    ensures { IfOk result (λ t. plain_tree t ≡ walk.ended hand) }
 {
     match hand {
-        Hand::Items(items) => Tree::List(items),
-        Hand::Pairs(map) => Tree::Map(map.pairs),
+        Hand::Items(items) => Ok(Tree::List(items)),
+        Hand::Pairs(map) => Ok(Tree::Map(map.pairs.into_map()?)),
     }
 }
 
 // Behind the bracket that closes a collection.
-fn finished(hand: Hand, rest: &[char]) -> Turn<'_>
-    ensures seen { (n d : ℕ) → walk.turned n d result ≡ flows.goes (Ok (walk.ended hand)) rest.now }
-    ensures less { walk.opened result.frame + walk.ahead result.place ≡ 8 * length rest.now + 1 }
+fn finished(hand: Hand, rest: &[char]) -> Result<Turn<'_>, OutOfMemory>
+    ensures seen { (n d : ℕ) → IfOk result (λ t. walk.turned n d t ≡ flows.goes (Ok (walk.ended hand)) rest.now) }
+    ensures less { IfOk result (λ t. walk.opened t.frame + walk.ahead t.place ≡ 8 * length rest.now + 1) }
 {
-    Turn {
+    let tree = ended_tree(hand)?;
+    Ok(Turn {
         fault: None,
         frame: None,
-        place: Place::Node(ended_tree(hand), rest),
-    }
+        place: Place::Node(tree, rest),
+    })
 }
 
 // The keys, and another one.
@@ -161,29 +162,29 @@ fn at_element(alloc: Global, line: u32, hand: Hand, s: &[char]) -> Result<Turn<'
         return Ok(stopped());
     }
     if closes(&hand, s) {
-        return Ok(finished(hand, behind_first(s)));
+        return finished(hand, behind_first(s));
     }
     read_element(alloc, line, hand, s)
 }
 
 // Behind an element of a collection: a comma and more, or the end.
-fn behind_element(hand: Hand, r: &[char]) -> Turn<'_>
-    ensures seen { (n d : ℕ) → walk.turned n d result ≡ walk.behind_one n d hand r.now }
-    ensures less { walk.opened result.frame + walk.ahead result.place < 8 * length r.now + 2 }
+fn behind_element(hand: Hand, r: &[char]) -> Result<Turn<'_>, OutOfMemory>
+    ensures seen { (n d : ℕ) → IfOk result (λ t. walk.turned n d t ≡ walk.behind_one n d hand r.now) }
+    ensures less { IfOk result (λ t. walk.opened t.frame + walk.ahead t.place < 8 * length r.now + 2) }
 {
     let s = flow_blanks(r);
     if starts_comma(s) {
         let more = flow_blanks(behind_first(s));
-        return Turn {
+        return Ok(Turn {
             fault: None,
             frame: None,
             place: Place::Reading(Spot::Element(hand, more)),
-        };
+        });
     }
     if closes(&hand, s) {
         return finished(hand, behind_first(s));
     }
-    stopped()
+    Ok(stopped())
 }
 
 // One turn of the walk, where a node has this depth.
@@ -201,7 +202,7 @@ pub(crate) fn turn<'a>(
         Spot::Element(hand, s) => at_element(alloc, line, hand, s),
         Spot::Item(s) => read_item(alloc, line, depth, s),
         Spot::Value(delay, s) => read_value(alloc, delay, line, s),
-        Spot::Behind(hand, s) => Ok(behind_element(hand, s)),
+        Spot::Behind(hand, s) => behind_element(hand, s),
     }
 }
 
@@ -228,9 +229,9 @@ pub(crate) fn put<'a>(
             Ok(Place::Reading(Spot::Behind(Hand::Pairs(MapSoFar { pairs, keys }), rest)))
         }
         Frame::OnePair(key) => {
-            let mut pairs = TreeMap::new(alloc)?;
+            let mut pairs = PairsSoFar::new(alloc)?;
             pairs.insert(key, tree)?;
-            Ok(Place::Node(Tree::Map(pairs), rest))
+            Ok(Place::Node(Tree::Map(pairs.into_map()?), rest))
         }
     }
 }

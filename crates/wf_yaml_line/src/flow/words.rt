@@ -13,7 +13,8 @@ ghost use Rattle.wf_yaml_line.specs.Quoted as quotes;
 use crate::fault::{Fault, Kind, YamlFault, refuse_if};
 use crate::keys::{is_delay_key, starts_quote};
 use crate::marks::{
-    behind_first, ends_word, is_blank, is_flow_mark, is_guarded, is_reserved, trimmed,
+    behind_first, ends_with_colon, ends_word, is_blank, is_flow_mark, is_guarded, is_reserved,
+    trimmed,
 };
 use crate::quoted::read_quoted;
 use crate::trees::{plain_scalar, text_of};
@@ -77,16 +78,6 @@ fn may_start_flow(s: &[char]) -> bool
             let stands_alone = ends_word(rest) || starts_flow_mark(rest);
             !is_reserved(*c) && !(is_guarded(*c) && stands_alone)
         }
-    }
-}
-
-#[tactic(auto, using(crate::proofs::FlowFronts::last_colon))]
-fn ends_with_colon(s: &[char]) -> bool
-    ensures { result ≡ flows.ends_with_colon s.now }
-{
-    match s {
-        [] => false,
-        [.., c] => *c == ':',
     }
 }
 

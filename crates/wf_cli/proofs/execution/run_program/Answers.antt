@@ -27,7 +27,7 @@ returns-in-Ok g c =
     record {
       end = λ words rest reads reads2 is first.
           end_going (scene words rest old) old new reads reads2 (g.H.Host.faults c.args.host.now) (g.H.Host.faults c.begin.new.host) (g.H.Host.faults c.to_outcome.new.host) c.to_outcome.result c.to_outcome.ensures.says
-          (run_executes (scene words rest old) (l, is, c.requires.command)) (is_accepted (scene words rest old) l c.args.source.now (program_view c.args.program) (is, ap uses_source c.requires.command, first) c.requires.program)
+          (run_executes (scene words rest old) (l, is, c.requires.command)) (is_accepted (scene words rest old) l c.args.source.now (program_view c.args.program) (is, ap uses_source c.requires.command, first) c.requires.command c.requires.program)
           (λ told. (
             (opening told words rest is first).opened.causes,
             given_seen (scene words rest old) new c.to_outcome.result (work told words rest is first).gives (g.met.H.Host.reads_back c.to_outcome.new.host (c.to_outcome.ensures.tells ∙ k.tells ∙ told)),
@@ -48,7 +48,7 @@ returns-in-Err g c =
     record {
       end = λ words rest reads reads2 is first.
           end_fault (scene words rest old) old new reads reads2 (g.H.Host.faults c.args.host.now) (g.H.Host.faults c.begin.new.host) c.in-Err.fault c.of_fault.result c.of_fault.ensures
-          (run_executes (scene words rest old) (l, is, c.requires.command)) (is_accepted (scene words rest old) l c.args.source.now (program_view c.args.program) (is, ap uses_source c.requires.command, first) c.requires.program)
+          (run_executes (scene words rest old) (l, is, c.requires.command)) (is_accepted (scene words rest old) l c.args.source.now (program_view c.args.program) (is, ap uses_source c.requires.command, first) c.requires.command c.requires.program)
           (λ told. (opening told words rest is first).fault) (λ it. k.disk_fault (c.in-Err.is ∙ ap Err it));
       worked = λ told words rest is first.
           worked_fault (scene words rest old) kept.Run old new c.in-Err.fault c.of_fault.result (opening told words rest is first) c.of_fault.ensures (run_executes (scene words rest old) (l, is, c.requires.command))

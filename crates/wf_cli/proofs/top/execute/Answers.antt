@@ -1,8 +1,20 @@
 use Rattle.std.proofs.Common.{sym}
-use Rattle.wf_cli.proofs.Works.{report_end, report_worked, help_reported, version_reported}
+use Rattle.wf_cli.proofs.Works.{layout_end, layout_worked, report_end, report_worked, help_reported, version_reported}
 use Rattle.wf_engine.specs.Safe.{scene}
 use Rattle.wf_line.specs.Plain.{plain_line}
 use Rattle.wf_cli.proofs.top.execute.Goals as goal
+
+pub returns-in-Format-clause-end : goal.returns-in-Format-clause-end
+returns-in-Format-clause-end g c = λ words is.
+    let old = g.H.Host.world c.args.host.now in
+    layout_end (scene words (g.S.Source.left c.args.source.now) old) (plain_line c.args.line.now) old (g.S.Source.faults c.args.source.now) (g.S.Source.faults c.format.new.source) (g.H.Host.faults c.args.host.now) (g.H.Host.faults c.args.host.now) c.format.result
+    is (sym c.in-Format.ensures.command) c.format.ensures.says
+
+pub returns-in-Format-clause-worked : goal.returns-in-Format-clause-worked
+returns-in-Format-clause-worked g c = λ told words is.
+    let old = g.H.Host.world c.args.host.now in
+    layout_worked (scene words (g.S.Source.left c.args.source.now) old) (plain_line c.args.line.now) old (g.S.Source.faults c.args.source.now) (g.S.Source.faults c.format.new.source) c.format.result
+    is (sym c.in-Format.ensures.command) c.format.ensures.says (λ i d left. g.met.H.Host.only_now c.args.host.now i d told left)
 
 pub returns-in-Resume-clause-end : goal.returns-in-Resume-clause-end
 returns-in-Resume-clause-end g c = λ words is. c.resume.ensures.end words (g.S.Source.left c.args.source.now) (g.S.Source.faults c.args.source.now) (g.S.Source.faults c.args.source.now) (plain_line c.args.line.now, is, sym c.in-Resume.ensures.command)

@@ -2,7 +2,7 @@ use Rattle.std.proofs.Common.{sym, ap, ◌∙◌}
 use Rattle.std.specs.Prelude.{option_map}
 use Rattle.wf_ast.specs.View.{entries_view, entry_view}
 use Rattle.wf_first_form.specs.FirstForm.{entry_in}
-use Rattle.wf_value.specs.Plain.{plain}
+use Rattle.wf_tree.specs.Plain.{plain_tree}
 use Rattle.wf_first_form.proofs.Entries.{entry_added, target_added}
 use Rattle.wf_first_form.proofs.reading.entries_of.Goals as goal
 
@@ -13,7 +13,7 @@ loop-value-preserved c =
     record {
       left = entry_added _ c.loop-value.names.items _ c.args.values.now c.loop-value.value-index v (entries_view c.loop-value.entries) (entries_view c.push.new.self) e
           c.loop-value.invariant.left c.loop-value-test.true c.value-item.is
-          (ap (option_map entry_view) (sym c.in-Some.is) ∙ c.in_ok-entry.ensures ∙ ap (λ ns. entry_in ns (plain v)) c.as_slice.ensures.value)
+          (ap (option_map entry_view) (sym c.in-Some.is) ∙ c.in_ok-entry.ensures ∙ ap (λ ns. entry_in ns (plain_tree v)) c.as_slice.ensures.value)
           c.in_ok-add_name.ensures c.in_ok-push.ensures;
       named = target_added _ c.loop-value.names.items _ (entries_view c.loop-value.entries) (entries_view c.push.new.self) e c.loop-value.invariant.named c.in_ok-add_name.ensures c.in_ok-push.ensures;
     }

@@ -1,7 +1,7 @@
 use Rattle.std.proofs.Common.{◌≡◌, ◌++◌, drop}
 use Rattle.wf_ast.specs.View.{entries_view}
-use Rattle.wf_value.specs.Data.{items_of}
-use Rattle.wf_value.specs.Plain.{plain_items}
+use Rattle.wf_tree.specs.Trees.{items_of}
+use Rattle.wf_tree.specs.Plain.{plain_items}
 use Rattle.wf_first_form.specs.FirstForm.{entries_in, targets}
 use Rattle.wf_first_form.proofs.Lists.{after}
 use Rattle.wf_first_form.proofs.reading.entries_of.Given as goal

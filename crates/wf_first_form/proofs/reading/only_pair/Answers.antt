@@ -1,10 +1,10 @@
 use Rattle.std.proofs.Common.{◌∙◌, sym, ap}
-use Rattle.wf_value.specs.Plain.{plain}
+use Rattle.wf_tree.specs.Plain.{plain_tree}
 use Rattle.wf_first_form.proofs.Pairs.{two_pairs, one_pair}
 use Rattle.wf_first_form.proofs.reading.only_pair.Goals as goal
 
 pub returns-then-is_some : goal.returns-then-is_some
-returns-then-is_some c = two_pairs (λ p. (p.0.now, plain p.1.now)) c.in-Map.map c.entry.result (plain c.args.value.now) (ap plain c.in-Map.is) c.entry.ensures (sym c.is_some.ensures ∙ c.if-is_some.true)
+returns-then-is_some c = two_pairs (λ p. (p.0.now, plain_tree p.1.now)) c.in-Map.map c.entry.result (plain_tree c.args.value.now) (ap plain_tree c.in-Map.is) c.entry.ensures (sym c.is_some.ensures ∙ c.if-is_some.true)
 
 pub returns : goal.returns
-returns c = one_pair (λ p. (p.0.now, plain p.1.now)) c.in-Map.map c.entry.result _ (plain c.args.value.now) (ap plain c.in-Map.is) c.entry.ensures (sym c.is_some.ensures ∙ c.if-is_some.false) c.entry-2.ensures
+returns c = one_pair (λ p. (p.0.now, plain_tree p.1.now)) c.in-Map.map c.entry.result _ (plain_tree c.args.value.now) (ap plain_tree c.in-Map.is) c.entry.ensures (sym c.is_some.ensures ∙ c.if-is_some.false) c.entry-2.ensures

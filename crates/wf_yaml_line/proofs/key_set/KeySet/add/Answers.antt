@@ -1,8 +1,10 @@
-use Rattle.std.proofs.Common.{ap, ◌∙◌}
-use Rattle.wf_tree.specs.Trees.{null}
-use Rattle.wf_yaml_line.specs.Marks.{is_one_of}
-use Rattle.wf_yaml_line.proofs.Sets.{with_key, keys}
+use Rattle.std.proofs.Common.{ap, ◌∙◌, ◌||◌}
+use Rattle.wf_yaml_line.specs.Marks.{is_same, is_one_of}
+use Rattle.wf_yaml_line.specs.Views.{keys_of}
+use Rattle.wf_yaml_line.proofs.Sets.{with_key}
 use Rattle.wf_yaml_line.proofs.key_set.KeySet.add.Goals as goal
 
-pub returns-clause-added : goal.returns-clause-added
-returns-clause-added c = λ k. ap (λ ps. is_one_of (keys ps) k) c.in_ok-insert.ensures.after ∙ with_key k c.args.key null c.args.self.now.keys
+pub returns-in-Ok-insert-clause-added : goal.returns-in-Ok-insert-clause-added
+returns-in-Ok-insert-clause-added c = λ k.
+    with_key k c.in-Ok.copy c.args.self.now.keys c.insert.new.self c.in-Ok-insert.ensures.updates
+    ∙ ap (λ l. is_same l k || is_one_of (keys_of c.args.self.now) k) (c.in-Ok.ensures.ok ∙ c.as_str.ensures)
