@@ -1,0 +1,5 @@
+pub mod Listed
+pub mod Equal
+pub mod Entries
+pub mod Digits
+pub mod Arguments

@@ -1,0 +1,4 @@
+pub mod Sight
+pub mod Answers
+pub mod Built
+pub mod Steps

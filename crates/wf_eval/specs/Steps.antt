@@ -1,0 +1,42 @@
+-- What one instruction does to the stack.
+use Rattle.std.specs.Prelude.{◌≡◌, ℕ, List, [], ◌∷◌, map, reverse, Result, Ok, Err}
+use Rattle.wf_ast.specs.Apply.{View}
+use Rattle.wf_postfix.specs.Machine.{Instr, Stack, Next, act}
+use Rattle.wf_value.specs.Data.{Data}
+use Rattle.wf_value.specs.Errors.{Answer, ◌>>=◌, kept}
+use Rattle.wf_value.specs.Plain.{plain}
+use Rattle.wf_value.specs.declared.errors.Raise.{Raise}
+use Rattle.wf_value.specs.declared.errors.Raise.TheVariants.{Error, OutOfMemory}
+use Rattle.wf_value.specs.declared.errors.Tag.TheVariants.{TypeError}
+use Rattle.wf_value.specs.declared.value.Value.{Value}
+use Rattle.wf_eval.specs.Answers.{Gives}
+
+-- the stack, the topmost first
+abbrev pub tops : List Value → Stack
+tops vs = reverse (map plain vs)
+
+-- this leads on, behind so many instructions and with this stack, or raises an error
+abbrev pub Leads : (Next → Answer Stack) → Result ℕ Raise → Stack → Type 0
+Leads go (Ok n) after = (next : Next) → go next ≡ next n after
+Leads go (Err (Error t)) after = (next : Next) → go next ≡ Err t
+Leads go (Err OutOfMemory) after = Unit {0}
+
+-- one instruction leads on
+abbrev pub Steps : View → Instr → Stack → Result ℕ Raise → Stack → Type 0
+Steps s i st r after = Leads (λ next. act s i next st) r after
+
+-- a value goes on the stack, if it keeps within the limits
+abbrev pub settled : Answer Data → Stack → Next → Answer Stack
+settled d st next = d >>= kept >>= λ x. next 0 (x ∷ st)
+
+-- a value that was put on the stack
+abbrev pub Pushes : Result ℕ Raise → Stack → Stack → Type 0
+Pushes (Ok n) st after = (n ≡ 0) × (st ≡ after)
+Pushes (Err OutOfMemory) st after = Unit {0}
+Pushes (Err (Error t)) st after = ⊥
+
+-- the topmost value that was taken
+abbrev pub Pops : Result Value Raise → Stack → Stack → Type 0
+Pops (Ok v) before after = before ≡ plain v ∷ after
+Pops (Err OutOfMemory) before after = ⊥
+Pops (Err (Error t)) before after = (before ≡ []) × (t ≡ TypeError)

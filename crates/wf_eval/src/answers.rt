@@ -1,0 +1,87 @@
+//! Values as answers.
+ghost use Rattle.std.specs.Prelude.{Ok};
+ghost use Rattle.wf_ast.specs.Eval.{truth, whole};
+ghost use Rattle.wf_value.specs.Data.{text};
+ghost use Rattle.wf_value.specs.Errors.{kept};
+ghost use Rattle.wf_value.specs.Numbers.{as_answer};
+ghost use Rattle.wf_value.specs.Plain.{plain};
+ghost use Rattle.wf_eval.specs.Answers.{Gives, GivesBool, GivesInt, GivesText};
+
+use std::alloc::Global;
+use wf_value::{NumFault, Raise, Tag, Text, Value};
+
+const MAX_SIZE: u64 = 4_194_304;
+
+const MAX_DEPTH: u32 = 100;
+
+/// The value, if it keeps within the limits.
+pub fn keep(v: Value) -> Result<Value, Raise>
+    ensures { Gives result (kept (plain v)) }
+{
+    if v.size() <= MAX_SIZE && v.depth() <= MAX_DEPTH {
+        Ok(v)
+    } else {
+        Err(Raise::Error(Tag::ResourceLimitError))
+    }
+}
+
+/// A truth value.
+pub fn truth(v: &Value) -> Result<bool, Raise>
+    ensures { GivesBool result (truth (plain v.now)) }
+{
+    match v {
+        Value::Bool(b) => Ok(*b),
+        _ => Err(Raise::Error(Tag::TypeError)),
+    }
+}
+
+/// A whole number.
+pub fn whole(v: &Value) -> Result<i64, Raise>
+    ensures { GivesInt result (whole (plain v.now)) }
+{
+    match v {
+        Value::Int(n) => Ok(*n),
+        _ => Err(Raise::Error(Tag::TypeError)),
+    }
+}
+
+/// The number, or its fault's tag.
+pub fn number(n: Result<i64, NumFault>) -> Result<Value, Raise>
+    ensures { Gives result (as_answer n) }
+{
+    match n {
+        Ok(n) => Ok(Value::Int(n)),
+        Err(NumFault::ZeroDivisor) => Err(Raise::Error(Tag::ZeroDivisionError)),
+        Err(_) => Err(Raise::Error(Tag::ValueError)),
+    }
+}
+
+/// An equal value.
+pub fn copied(alloc: Global, v: &Value) -> Result<Value, Raise>
+    ensures { Gives result (Ok (plain v.now)) }
+{
+    match v.copy(alloc) {
+        Ok(w) => Ok(w),
+        Err(_) => Err(Raise::OutOfMemory),
+    }
+}
+
+/// The text.
+pub fn owned(alloc: Global, s: &str) -> Result<Text, Raise>
+    ensures { GivesText result (Ok s.now) }
+{
+    match Text::new(alloc, s) {
+        Ok(t) => Ok(t),
+        Err(_) => Err(Raise::OutOfMemory),
+    }
+}
+
+/// The text as a value.
+pub fn text(alloc: Global, s: &str) -> Result<Value, Raise>
+    ensures { Gives result (Ok (text s.now)) }
+{
+    match Text::new(alloc, s) {
+        Ok(t) => Ok(Value::Text(t)),
+        Err(_) => Err(Raise::OutOfMemory),
+    }
+}
