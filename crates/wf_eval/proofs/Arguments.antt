@@ -1,5 +1,5 @@
 -- The topmost values of a stack, taken as arguments.
-use Rattle.std.proofs.Common.{◌≡◌, ℕ, zero, suc, ◌+◌, ◌-◌, ◌≤◌, ◌<◌, List, [], ◌∷◌, ◌++◌, length, map, take, drop, reverse, Result, Ok, Err, refl, sym, ap, ◌∙◌, append_assoc, append-nil, zero-add, arith}
+use Rattle.std.proofs.Common.{◌≡◌, ℕ, zero, suc, ◌+◌, ◌<◌, List, [], ◌∷◌, ◌++◌, length, map, take, drop, reverse, Result, Ok, Err, refl, sym, ap, ◌∙◌, append_assoc, append-nil, zero-add, arith}
 use Rattle.std.proofs.lemmas.List.{reverse-append, length-reverse, map-append}
 use Rattle.wf_ast.specs.Apply.{View, apply}
 use Rattle.wf_ast.specs.declared.expr.Func.{Func}

@@ -1,5 +1,5 @@
 -- The whole numbers that texts of digits write.
-use Rattle.std.proofs.Common.{◌≡◌, ◌≢◌, ℕ, ◌<◌, ◌≤◌, ◌^◌, Bool, true, false, ◌&&◌, cond, List, [], ◌∷◌, length, drop, take, ℤ, pos, negsuc, neg_ℤ, Result, Ok, Err, refl, sym, ap, ◌∙◌, subst, slice_index, bytes_eq, codes, nat_lt, nat_eq, int_le, w64, FitsSigned, arith}
+use Rattle.std.proofs.Common.{◌≡◌, ◌≢◌, ℕ, ◌<◌, Bool, true, false, ◌&&◌, cond, List, [], ◌∷◌, length, drop, ℤ, pos, negsuc, neg_ℤ, Ok, Err, refl, sym, ap, ◌∙◌, subst, slice_index, nat_lt, nat_eq, w64, FitsSigned, arith}
 use Rattle.std.proofs.lemmas.Bool.Decides.{nat_tests}
 use Rattle.std.specs.Char.{digit_value, is_ascii_digit}
 use Rattle.std.specs.List.{list_all}

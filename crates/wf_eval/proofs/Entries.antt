@@ -1,8 +1,8 @@
 -- A map read pair by pair.
-use Rattle.std.proofs.Common.{◌≡◌, ℕ, zero, suc, ◌<◌, ◌≤◌, List, [], ◌∷◌, ◌++◌, length, take, drop, Option, Some, None, refl, sym, ap, ◌∙◌, slice_get, append_assoc, append-nil, subst, pos, Ok, Result, arith}
+use Rattle.std.proofs.Common.{◌≡◌, ℕ, zero, suc, ◌≤◌, List, [], ◌∷◌, ◌++◌, length, drop, Some, None, refl, sym, ap, ◌∙◌, slice_get, append_assoc, append-nil, subst, pos, Ok, Result, arith}
 use Rattle.std.proofs.lemmas.Option.{slice_get_within}
 use Rattle.wf_ast.specs.Apply.{key_texts, count}
-use Rattle.wf_value.specs.Data.{Data, integer, text, list, map, items_of, pairs_of}
+use Rattle.wf_value.specs.Data.{Data, integer, text, list, items_of, pairs_of}
 use Rattle.wf_value.specs.Errors.{Answer}
 use Rattle.wf_value.specs.Pairs.{items, keys}
 use Rattle.wf_value.specs.Plain.{plain, plain_items}

@@ -3,3 +3,5 @@ pub mod Equal
 pub mod Entries
 pub mod Digits
 pub mod Arguments
+pub mod Filled
+pub mod Calls

@@ -1,5 +1,5 @@
 -- The functions that are built: code and templates that call no other can be evaluated.
-use Rattle.std.specs.Prelude.{◌≡◌, Bool, true, false, ◌&&◌, List, [], ◌∷◌}
+use Rattle.std.specs.Prelude.{◌≡◌, Bool, true, false, ◌&&◌, List}
 use Rattle.std.specs.List.{list_all}
 use Rattle.wf_ast.specs.Tree.{Expr, Part, Said, Hole, Template, Scalar, Whole, Joined, Listed, Mapped, Templates, no_templates, template, Fields, no_fields, field}
 use Rattle.wf_ast.specs.declared.expr.Func.{Func}

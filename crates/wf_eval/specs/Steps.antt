@@ -9,7 +9,6 @@ use Rattle.wf_value.specs.declared.errors.Raise.{Raise}
 use Rattle.wf_value.specs.declared.errors.Raise.TheVariants.{Error, OutOfMemory}
 use Rattle.wf_value.specs.declared.errors.Tag.TheVariants.{TypeError}
 use Rattle.wf_value.specs.declared.value.Value.{Value}
-use Rattle.wf_eval.specs.Answers.{Gives}
 
 -- the stack, the topmost first
 abbrev pub tops : List Value → Stack

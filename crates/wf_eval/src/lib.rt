@@ -3,14 +3,18 @@
 
 mod answers;
 mod built;
+mod filling;
 mod functions;
 mod look;
 mod machine;
 mod members;
 mod operators;
 #[cfg(test)]
+mod template_tests;
+#[cfg(test)]
 mod tests;
 
-pub use built::are_calls_built;
+pub use built::{are_calls_built, is_template_built};
+pub use filling::fill;
 pub use look::Look;
 pub use machine::eval;

@@ -8,11 +8,13 @@ use wf_ast::{Expr, Exprs, Func, Op};
 use wf_postfix::compile;
 use wf_value::{List, Map, Raise, Text, Value, from_json, to_json};
 
+pub(crate) const NOW: u64 = 1_700_000_000_999;
+
 const ID_KEY: &str = "GOOGLE_CLOUD_WORKFLOW_EXECUTION_ID";
 
 // Names with their values.
 #[derive(Drop)]
-struct Names {
+pub(crate) struct Names {
     map: Map,
 }
 
@@ -155,7 +157,7 @@ fn shut(alloc: Global, frames: &mut Vec<Frame>) -> Result<(), Fail> {
 }
 
 // The expression of a spelling.
-fn read(alloc: Global, text: &str) -> Result<Expr, Fail> {
+pub(crate) fn read(alloc: Global, text: &str) -> Result<Expr, Fail> {
     let mut frames = Vec::new(alloc);
     open(alloc, &mut frames, "")?;
     for word in text.split(' ') {
@@ -205,7 +207,7 @@ fn add_name(alloc: Global, map: &mut Map, name: &str, v: Value) -> Result<(), Fa
     Ok(())
 }
 
-fn known_names(alloc: Global) -> Result<Names, Fail> {
+pub(crate) fn known_names(alloc: Global) -> Result<Names, Fail> {
     let json =
         r#"{"n":null,"xs":[1,"a",null],"m":{"a":1,"k":{"l":true}},"t":"äb","yes":true,"no":false}"#;
     let Ok(Value::Map(mut map)) = from_json(alloc, json.as_bytes()) else {
@@ -221,13 +223,18 @@ fn known_names(alloc: Global) -> Result<Names, Fail> {
     Ok(Names { map })
 }
 
-// What an expression comes to: JSON, the kind of a value too long to be shown, or a tag.
+// What an expression comes to.
 fn outcome(alloc: Global, names: &Names, spelling: &str) -> Result<String, Fail> {
     let postfix = compile(alloc, &read(alloc, spelling)?)?;
     if !are_calls_built(&postfix) {
         return Ok(String::from_str(alloc, "not built")?);
     }
-    match eval(alloc, &postfix, names, 1_700_000_000_999) {
+    told(alloc, eval(alloc, &postfix, names, NOW))
+}
+
+// JSON, the kind of a value too long to be shown, or a tag.
+pub(crate) fn told(alloc: Global, answer: Result<Value, Raise>) -> Result<String, Fail> {
+    match answer {
         Ok(v) => {
             if v.size() > 1000 || v.depth() > 50 {
                 return Ok(String::from_str(alloc, "large")?);

@@ -1,4 +1,4 @@
-use Rattle.std.proofs.Common.{rules, ◌≡◌, ◌≢◌, ◌∙◌, slice_index, w64, FitsSigned}
+use Rattle.std.proofs.Common.{rules, ◌≢◌, ◌∙◌, slice_index, w64, FitsSigned}
 use Rattle.std.proofs.lemmas.Int.{to_z-of_z}
 use Rattle.wf_eval.proofs.Digits.{reads, reads_none}
 use Rattle.wf_eval.proofs.functions.read_whole.Goals as goal

@@ -1,0 +1,13 @@
+pub mod Reading
+pub mod Kept
+pub mod Stops
+pub mod Ones
+pub mod Parsing
+pub mod Library
+pub mod Next
+pub mod Quotes
+pub mod Numbers
+pub mod Scans
+pub mod Judged
+pub mod Targeted
+pub mod Texts

@@ -1,0 +1,14 @@
+pub mod Symbols
+pub mod Grammar
+pub mod Begins
+pub mod Calls
+pub mod Parsing
+pub mod Targets
+pub mod Kinds
+pub mod Taking
+pub mod Machine
+pub mod Parts
+pub mod Places
+pub mod Callees
+pub mod Scanning
+pub mod Judging
