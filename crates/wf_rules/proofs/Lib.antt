@@ -1,0 +1,4 @@
+pub mod Sound
+pub mod Values
+pub mod Programs
+pub mod RowsHold

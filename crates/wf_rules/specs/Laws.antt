@@ -1,0 +1,26 @@
+-- Laws of the rules.
+use Rattle.std.specs.Prelude.{◌≡◌, List, None}
+use Rattle.wf_ast.specs.Tree.{Program}
+use Rattle.wf_expr.specs.declared.fault.ExprFault.{ExprFault}
+use Rattle.wf_rules.specs.Faults.{AreSound, FaultAt, FirstAt, IsFirstFault, IsSound, IsTextFault}
+use Rattle.wf_rules.specs.Meaning.{Builds}
+use Rattle.wf_rules.specs.Rules.{Role, own, parts}
+use Rattle.wf_rules.specs.declared.fault.SyntaxKind.{SyntaxKind}
+use Rattle.wf_tree.specs.Trees.{Tree}
+use Rattle.wf_value.specs.declared.path.PathPart.{PathPart}
+
+-- a node without a fault of its own, whose parts have none, has none
+abbrev pub NodeIsSound : Type 0
+NodeIsSound = (r : Role) (t : Tree) → own r t ≡ None → ((f : ExprFault) → IsTextFault r t f → ⊥) → AreSound (parts r t) → IsSound r t
+
+-- the first fault is a fault
+abbrev pub FirstIsAFault : Type 0
+FirstIsAFault = (ps : List PathPart) (k : SyntaxKind) (r : Role) (t : Tree) → FirstAt ps k r t → FaultAt ps k r t
+
+-- a source is one program at most
+abbrev pub OneProgram : Type 0
+OneProgram = (t : Tree) (p q : Program) → Builds t p → Builds t q → p ≡ q
+
+-- a source is not both a program and refused
+abbrev pub NotBothBuilt : Type 0
+NotBothBuilt = (t : Tree) (p : Program) (k : SyntaxKind) (ps : List PathPart) → Builds t p → IsFirstFault t k ps → ⊥

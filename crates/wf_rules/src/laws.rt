@@ -1,0 +1,20 @@
+//! Laws of the rules.
+ghost use Rattle.wf_rules.specs.Laws.{FirstIsAFault, NodeIsSound, NotBothBuilt, OneProgram};
+
+use wf_expr::one_target;
+use wf_template::one_template;
+
+/// A tree is one program at most, and it is not both a program and refused.
+pub fn one_program()
+    ensures one { OneProgram }
+    ensures apart { NotBothBuilt }
+{
+    one_template();
+    one_target();
+}
+
+/// The first fault of a tree is a fault of it, and a node has none where neither it nor a part of it has one.
+pub fn first_fault_is_a_fault()
+    ensures first { FirstIsAFault }
+    ensures nodes { NodeIsSound }
+{}
