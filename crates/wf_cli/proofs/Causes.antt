@@ -3,11 +3,13 @@ use Rattle.std.proofs.Common.{◌≡◌, ◌<◌, inl, inr, IsTrue, ℕ, Bool, t
 use Rattle.wf_cli.specs.Top.{IsLineOf, IsBadLine, IsRefused, HasOtherMagic, IsStarted, IsNotStarted, IsNoHistory, Reported, Gives, IsOfFile, Says, bad_line, refused, reported, of_file}
 use Rattle.wf_engine.specs.Printed as end
 use Rattle.wf_engine.specs.Printed.{Scene, uses_source, uses_journal, executes, status_of, outcome_text}
+use Rattle.wf_engine.specs.TheLanguage.{IsTheLanguage}
 use Rattle.wf_host.specs.World.{World}
 use Rattle.wf_line.specs.Lines.{PlainLine, line_of}
 use Rattle.wf_line.specs.declared.command.Command.{Command}
 use Rattle.wf_line.specs.declared.command.Command.TheVariants.{Format, Run, Resume, Help, Version}
 use Rattle.wf_model.specs.Config.{Outcome, Active, Returned, Raised, Cancelled}
+use Rattle.wf_replay.specs.Language.{Language}
 use Rattle.wf_status.specs.Statuses.{rank, status_text}
 use Rattle.wf_status.specs.declared.Refusal.{Refusal}
 use Rattle.wf_status.specs.declared.Status.{Status}
@@ -87,36 +89,36 @@ not_run_and_resume s a b =
     let no : Run ≡ Resume = sym it.1 ∙ it.2 in cc no
 
 -- ## The cause of a status that prints a line
-abbrev pub Cause : Scene → Status → Type 0
-Cause s (status.BadLine n) = IsBadLine s n
-Cause s (status.Refused r) = IsRefused s r
-Cause s status.NotAJournal = HasOtherMagic s
-Cause s status.AlreadyStarted = IsStarted s
-Cause s status.NotStarted = IsNotStarted s
-Cause s (status.NotAHistory n) = IsNoHistory s n
-Cause s st = Unit {0}
+abbrev pub Cause : Language → Scene → Status → Type 0
+Cause L s (status.BadLine n) = IsBadLine s n
+Cause L s (status.Refused r) = IsRefused s r
+Cause L s status.NotAJournal = HasOtherMagic s
+Cause L s status.AlreadyStarted = IsStarted s
+Cause L s status.NotStarted = IsNotStarted s
+Cause L s (status.NotAHistory n) = IsNoHistory L s n
+Cause L s st = Unit {0}
 
-outcome_cause : (s : Scene) (o : Outcome) (st : Status) → status_of o ≡ Some st → Cause s st
-outcome_cause s Active st is = let no : None ≡ Some st = is in cc no
-outcome_cause s (Returned v) st is = subst (Cause s) (same_some (Some status.Done) status.Done st refl is) tt
-outcome_cause s (Raised e) st is = subst (Cause s) (same_some (Some status.Raised) status.Raised st refl is) tt
-outcome_cause s Cancelled st is = let no : None ≡ Some st = is in cc no
+outcome_cause : (L : Language) (s : Scene) (o : Outcome) (st : Status) → status_of o ≡ Some st → Cause L s st
+outcome_cause L s Active st is = let no : None ≡ Some st = is in cc no
+outcome_cause L s (Returned v) st is = subst (Cause L s) (same_some (Some status.Done) status.Done st refl is) tt
+outcome_cause L s (Raised e) st is = subst (Cause L s) (same_some (Some status.Raised) status.Raised st refl is) tt
+outcome_cause L s Cancelled st is = let no : None ≡ Some st = is in cc no
 
-pub gives_cause : (s : Scene) (image : List ℕ) (st : Status) (text : List ℕ) → Gives s image st text → Cause s st
-gives_cause s image _ _ (end.bad_line n bad) = bad
-gives_cause s image _ _ (end.refused r why) = why
-gives_cause s image _ _ (end.not_a_journal why) = why
-gives_cause s image _ _ (end.already_started why) = why
-gives_cause s image _ _ (end.not_started why) = why
-gives_cause s image _ _ (end.not_a_history n why) = why
-gives_cause s image _ _ (end.ended o st has is) = outcome_cause s o st is
-gives_cause s image _ _ (end.done text report) = tt
+pub gives_cause : (L : Language) (s : Scene) (image : List ℕ) (st : Status) (text : List ℕ) → Gives L s image st text → Cause L s st
+gives_cause L s image _ _ (end.bad_line n bad) = bad
+gives_cause L s image _ _ (end.refused r why) = why
+gives_cause L s image _ _ (end.not_a_journal why) = why
+gives_cause L s image _ _ (end.already_started why) = why
+gives_cause L s image _ _ (end.not_started why) = why
+gives_cause L s image _ _ (end.not_a_history n why) = why
+gives_cause L s image _ _ (end.ended o st has is) = outcome_cause L s o st is
+gives_cause L s image _ _ (end.done text report) = tt
 
-pub says_cause : (s : Scene) (old new : World) (st : Status) (text : List ℕ) → IsTrue old.tells → Says s old new st text → Cause s st
-says_cause s old new _ _ told (bad_line n bad) = bad
-says_cause s old new _ _ told (refused r why) = why
-says_cause s old new _ _ told (reported text report) = tt
-says_cause s old new _ _ told (of_file st text is line accepted gives) = gives_cause s new.seen st text (gives told).0
+pub says_cause : (L : Language) → IsTheLanguage L → (s : Scene) (old new : World) (st : Status) (text : List ℕ) → IsTrue old.tells → Says s old new st text → Cause L s st
+says_cause L language s old new _ _ told (bad_line n bad) = bad
+says_cause L language s old new _ _ told (refused r why) = why
+says_cause L language s old new _ _ told (reported text report) = tt
+says_cause L language s old new _ _ told (of_file st text is line accepted gives) = gives_cause L s new.seen st text (gives told L language).0
 
 -- ## Lines that are printed
 -- of a result no line is printed by the status itself
@@ -126,21 +128,21 @@ outcome_untexted (Returned v) st line is texted = let no : None ≡ Some line = 
 outcome_untexted (Raised e) st line is texted = let no : None ≡ Some line = subst (λ x. status_text x ≡ Some line) (sym (same_some (Some status.Raised) status.Raised st refl is)) texted in cc no
 outcome_untexted Cancelled st line is texted = let no : None ≡ Some st = is in cc no
 
-gives_text : (s : Scene) (image : List ℕ) (st : Status) (text line : List ℕ) → Gives s image st text → status_text st ≡ Some line → text ≡ line
-gives_text s image _ _ line (end.bad_line n bad) is = same_some (status_text (status.BadLine n)) _ line refl is
-gives_text s image _ _ line (end.refused r why) is = same_some (status_text (status.Refused r)) _ line refl is
-gives_text s image _ _ line (end.not_a_journal why) is = same_some (status_text status.NotAJournal) _ line refl is
-gives_text s image _ _ line (end.already_started why) is = same_some (status_text status.AlreadyStarted) _ line refl is
-gives_text s image _ _ line (end.not_started why) is = same_some (status_text status.NotStarted) _ line refl is
-gives_text s image _ _ line (end.not_a_history n why) is = same_some (status_text (status.NotAHistory n)) _ line refl is
-gives_text s image _ _ line (end.ended o st has which) is = absurd (outcome_untexted o st line which is)
-gives_text s image _ _ line (end.done text report) is = let no : None ≡ Some line = is in cc no
+pub gives_text : (L : Language) (s : Scene) (image : List ℕ) (st : Status) (text line : List ℕ) → Gives L s image st text → status_text st ≡ Some line → text ≡ line
+gives_text L s image _ _ line (end.bad_line n bad) is = same_some (status_text (status.BadLine n)) _ line refl is
+gives_text L s image _ _ line (end.refused r why) is = same_some (status_text (status.Refused r)) _ line refl is
+gives_text L s image _ _ line (end.not_a_journal why) is = same_some (status_text status.NotAJournal) _ line refl is
+gives_text L s image _ _ line (end.already_started why) is = same_some (status_text status.AlreadyStarted) _ line refl is
+gives_text L s image _ _ line (end.not_started why) is = same_some (status_text status.NotStarted) _ line refl is
+gives_text L s image _ _ line (end.not_a_history n why) is = same_some (status_text (status.NotAHistory n)) _ line refl is
+gives_text L s image _ _ line (end.ended o st has which) is = absurd (outcome_untexted o st line which is)
+gives_text L s image _ _ line (end.done text report) is = let no : None ≡ Some line = is in cc no
 
-pub says_text : (s : Scene) (old new : World) (st : Status) (text line : List ℕ) → IsTrue old.tells → Says s old new st text → status_text st ≡ Some line → text ≡ line
-says_text s old new _ _ line told (bad_line n bad) is = same_some (status_text (status.BadLine n)) _ line refl is
-says_text s old new _ _ line told (refused r why) is = same_some (status_text (status.Refused r)) _ line refl is
-says_text s old new _ _ line told (reported text report) is = let no : None ≡ Some line = is in cc no
-says_text s old new _ _ line told (of_file st text isf rline accepted gives) is = gives_text s new.seen st text line (gives told).0 is
+pub says_text : (L : Language) → IsTheLanguage L → (s : Scene) (old new : World) (st : Status) (text line : List ℕ) → IsTrue old.tells → Says s old new st text → status_text st ≡ Some line → text ≡ line
+says_text L language s old new _ _ line told (bad_line n bad) is = same_some (status_text (status.BadLine n)) _ line refl is
+says_text L language s old new _ _ line told (refused r why) is = same_some (status_text (status.Refused r)) _ line refl is
+says_text L language s old new _ _ line told (reported text report) is = let no : None ≡ Some line = is in cc no
+says_text L language s old new _ _ line told (of_file st text isf rline accepted gives) is = gives_text L s new.seen st text line (gives told L language).0 is
 
 -- ## Statuses that are said
 abbrev pub is_said : Status → Bool
@@ -181,8 +183,19 @@ file_rank st (inr (inr (inr (inr (inl is))))) = subst (λ x. (4 < rank x) × (ra
 file_rank st (inr (inr (inr (inr (inr is))))) = subst (λ x. (4 < rank x) × (rank x < 12)) (sym is) (omega arith, omega arith)
 
 -- what is said of words or of a source doesn't depend on the file
-pub says_early : (s : Scene) (old new : World) (st : Status) (text : List ℕ) → rank st < 5 → Says s old new st text → Cause s st
+abbrev pub EarlyCause : Scene → Status → Type 0
+EarlyCause s (status.BadLine n) = IsBadLine s n
+EarlyCause s (status.Refused r) = IsRefused s r
+EarlyCause s st = Unit {0}
+
+pub says_early : (s : Scene) (old new : World) (st : Status) (text : List ℕ) → rank st < 5 → Says s old new st text → EarlyCause s st
 says_early s old new _ _ low (bad_line n bad) = bad
 says_early s old new _ _ low (refused r why) = why
 says_early s old new _ _ low (reported text report) = tt
 says_early s old new _ _ low (of_file st text is line accepted gives) = absurd (let r = file_rank st is in let no : ⊥ = omega (arith, r.0, low) in no)
+
+pub text_early : (s : Scene) (old new : World) (st : Status) (text line : List ℕ) → rank st < 5 → Says s old new st text → status_text st ≡ Some line → text ≡ line
+text_early s old new _ _ line low (bad_line n bad) is = same_some (status_text (status.BadLine n)) _ line refl is
+text_early s old new _ _ line low (refused r why) is = same_some (status_text (status.Refused r)) _ line refl is
+text_early s old new _ _ line low (reported text report) is = let no : None ≡ Some line = is in cc no
+text_early s old new _ _ line low (of_file st text isf rline accepted gives) is = absurd (let r = file_rank st isf in let no : ⊥ = omega (arith, r.0, low) in no)

@@ -16,19 +16,20 @@ use Rattle.wf_journal.specs.Records.{records}
 use Rattle.wf_journal.specs.Steps.{Moment}
 use Rattle.wf_machine.specs.Outcome.{IsResult}
 use Rattle.wf_model.specs.Config.{Outcome, Active}
+use Rattle.wf_replay.specs.Language.{Language}
 
 pub settled : (e : Engine) (w : World) → Holds e w → Only w.seen w.may_leave
 settled e w holds = holds.0.journal.settled
 
 -- what a session promises
-pub record Session (e : Engine) (old new : World) : Type 0 where
-  pub moments : (command : kept.Command) (D : List Deed) → StandsFor command (memory e) (records old.seen) D → LeavesOnly old new (Moment old (KeptAt command (memory e) (records old.seen) D))
+pub record Session (L : Language) (e : Engine) (old new : World) : Type 0 where
+  pub moments : (command : kept.Command) (D : List Deed) → StandsFor L command (memory e) (records old.seen) D → LeavesOnly old new (Moment old (KeptAt L command (memory e) (records old.seen) D))
   pub deeds : new.deeds ≡ old.deeds
   pub finished : (memory e).config.outcome ≢ Active → Unwritten old new
 
-pub going : (e : Engine) (old new : World) (r : Result Said Silence) → Session e old new → ((command : kept.Command) (D : List Deed) → StandsFor command (memory e) (records old.seen) D → IfOk r (SaysHistory new))
-    → (command : kept.Command) (D : List Deed) → StandsFor command (memory e) (records old.seen) D → Going command (memory e) D old new r
-going e old new r s said command D stands = record { moments = s.moments command D stands; deeds = s.deeds; said = said command D stands; finished = s.finished }
+pub going : (L : Language) (e : Engine) (old new : World) (r : Result Said Silence) → Session L e old new → ((command : kept.Command) (D : List Deed) → StandsFor L command (memory e) (records old.seen) D → IfOk r (SaysHistory L new))
+    → (command : kept.Command) (D : List Deed) → StandsFor L command (memory e) (records old.seen) D → Going L command (memory e) D old new r
+going L e old new r s said command D stands = record { moments = s.moments command D stands; deeds = s.deeds; said = said command D stands; finished = s.finished }
 
 -- a fault says no outcome
 abbrev pub IsOfSession : EngineFault → Type 0
@@ -49,9 +50,9 @@ fault_result f (Err e) a b is says rose =
     ⊎_elim (λ disk. subst (λ x. SaysResult a b (Err x)) (sym disk.1) (rose disk.0)) (λ lack. subst (λ x. SaysResult a b (Err x)) (sym lack) tt) (fault_silence f e says)
 
 -- what is said of the outcome of the machine is said of the history
-pub says_history : (command : kept.Command) (D : List Deed) (e : Engine) (new : World) (o : Outcome) (r : Result Said Silence) → StandsFor command (memory e) (records new.seen) D → Holds e new → o ≡ (memory e).config.outcome
-    → IfOk r (λ it. SaysOutcome it o) → IfOk r (SaysHistory new)
-says_history command D e new o (Ok it) stands holds is says =
+pub says_history : (L : Language) (command : kept.Command) (D : List Deed) (e : Engine) (new : World) (o : Outcome) (r : Result Said Silence) → StandsFor L command (memory e) (records new.seen) D → Holds e new → o ≡ (memory e).config.outcome
+    → IfOk r (λ it. SaysOutcome it o) → IfOk r (SaysHistory L new)
+says_history L command D e new o (Ok it) stands holds is says =
     let leads = stands.leads in
     record {
       standing = leads.standing;
@@ -59,7 +60,7 @@ says_history command D e new o (Ok it) stands holds is says =
       says = subst (SaysOutcome it) (is ∙ sym (ap (λ c. c.outcome) leads.config)) says;
       settled = settled e new holds;
     }
-says_history command D e new o (Err x) stands holds is says = tt
+says_history L command D e new o (Err x) stands holds is says = tt
 
 pub says_result : (o : Outcome) (r : Result Said Silence) (a b : Faults) → IsResult o → IfOk r (λ it. SaysOutcome it o) → IfErr r (λ e. e ≡ silence.OutOfMemory) → SaysResult a b r
 says_result o (Ok it) a b result says lacks = (o, result, says)

@@ -7,6 +7,7 @@ mod Moments
 mod Opens
 mod Promises
 mod Rows
+mod Freed
 mod Safe
 mod Spelled
 mod Together

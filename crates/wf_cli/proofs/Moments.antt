@@ -16,7 +16,7 @@ use Rattle.wf_engine.specs.Outside.{Outside}
 use Rattle.wf_engine.specs.Printed.{Scene, Reads}
 use Rattle.wf_engine.specs.Safe.{IsFit, IsSmall, SafeAt, command_by}
 use Rattle.wf_engine.specs.Starts.{start_of}
-use Rattle.wf_engine.specs.TheLanguage.{the_language}
+use Rattle.wf_engine.specs.TheLanguage.{InTheLanguage, IsTheLanguage}
 use Rattle.wf_engine.specs.declared.engine.Engine.{Engine}
 use Rattle.wf_events.specs.Reading.{meaning}
 use Rattle.wf_events.specs.Records.{Started}
@@ -31,16 +31,18 @@ use Rattle.wf_journal.specs.Steps.{Moment}
 use Rattle.wf_line.specs.Lines.{PlainLine, line_of}
 use Rattle.wf_replay.specs.At.{journal, begins, next_session, session_turns}
 use Rattle.wf_replay.specs.History.{history}
+use Rattle.wf_replay.specs.Language.{Language}
 use Rattle.wf_replay.specs.Laws.{IsHistory}
 use Rattle.wf_ast.specs.Tree.{Program}
 use Rattle.wf_shared.specs.Events.{Turn, Start}
+use Rattle.wf_source.specs.Programs.{IsSourceOf}
 
 -- a moment at which nothing was opened yet: a file as at entry, and no deed or one reading of the clock
-pub early_nothing : (O : Outside) (s : Scene) (old : World) (c : List ℕ) (d : List Deed) → old.may_leave c → d ≡ old.deeds → SafeAt the_language O the_reports s None old c d
-early_nothing O s old c d may is = ([], is ∙ sym (append-nil old.deeds), inl (record { small = tt; at_entry = may; printed = inl refl }))
+pub early_nothing : (L : Language) (O : Outside) (s : Scene) (old : World) (c : List ℕ) (d : List Deed) → old.may_leave c → d ≡ old.deeds → SafeAt L O the_reports s None old c d
+early_nothing L O s old c d may is = ([], is ∙ sym (append-nil old.deeds), inl (record { small = tt; at_entry = may; printed = inl refl }))
 
-pub early_now : (O : Outside) (s : Scene) (old : World) (c : List ℕ) (d : List Deed) (t : ℕ) → old.may_leave c → d ≡ old.deeds ++ Now t ∷ [] → SafeAt the_language O the_reports s None old c d
-early_now O s old c d t may is = (Now t ∷ [], is, inl (record { small = (tt, tt); at_entry = may; printed = inl refl }))
+pub early_now : (L : Language) (O : Outside) (s : Scene) (old : World) (c : List ℕ) (d : List Deed) (t : ℕ) → old.may_leave c → d ≡ old.deeds ++ Now t ∷ [] → SafeAt L O the_reports s None old c d
+early_now L O s old c d t may is = (Now t ∷ [], is, inl (record { small = (tt, tt); at_entry = may; printed = inl refl }))
 
 -- ## The start alone
 no_place : (es ls : List Turn) (u : Turn) → [] ≡ es ++ u ∷ ls → ⊥
@@ -48,11 +50,11 @@ no_place [] ls u is = cc is
 no_place (e ∷ es) ls u is = cc is
 
 -- one reading of the clock, and no turn
-pub kept_now : (O : Outside) (payloads : List (List ℕ)) (number t : ℕ) → OnlyReadings → own the_language O (of_command payloads number (Now t ∷ []) kept.Run None) ≡ []
-    → Kept the_language O (of_command payloads number (Now t ∷ []) kept.Run None)
-kept_now O payloads number t only none =
+pub kept_now : (L : Language) (O : Outside) (payloads : List (List ℕ)) (number t : ℕ) → OnlyReadings → own L O (of_command payloads number (Now t ∷ []) kept.Run None) ≡ []
+    → Kept L O (of_command payloads number (Now t ∷ []) kept.Run None)
+kept_now L O payloads number t only none =
     let x = of_command payloads number (Now t ∷ []) kept.Run None in
-    only the_language O x (tt, tt) (λ no. cc no) (record {
+    only L O x (tt, tt) (λ no. cc no) (record {
       waits = subst (λ ts. All (λ (u : Turn). u.waits ≤ 0) ts) (sym none) (All-nil (λ (u : Turn). u.waits ≤ 0));
       readings = λ u e r p is. absurd (no_place p.earlier p.later u (sym none ∙ p.turn));
       once = λ some. refl;
@@ -61,24 +63,24 @@ kept_now O payloads number t only none =
       none = λ c resumes was ended. absurd (cc resumes);
     })
 
-no_turns_of_none : (J : List (List ℕ)) (n : ℕ) → J ≡ [] → session_turns (journal the_language J) n ≡ []
-no_turns_of_none J n is = ap (λ K. session_turns (journal the_language K) n) is
+no_turns_of_none : (L : Language) (J : List (List ℕ)) (n : ℕ) → J ≡ [] → session_turns (journal L J) n ≡ []
+no_turns_of_none L J n is = ap (λ K. session_turns (journal L K) n) is
 
-no_turns_of_start : (payload : List ℕ) (st : Start) (p : Program) (n : ℕ) → meaning payload ≡ Some (Started st) → the_language.source st.source ≡ Some p → session_turns (journal the_language (payload ∷ [])) n ≡ []
-no_turns_of_start payload st p n means accepted =
-    ap (λ m. session_turns (begins the_language m []) n) means
+no_turns_of_start : (L : Language) (payload : List ℕ) (st : Start) (p : Program) (n : ℕ) → meaning payload ≡ Some (Started st) → L.source st.source ≡ Some p → session_turns (journal L (payload ∷ [])) n ≡ []
+no_turns_of_start L payload st p n means accepted =
+    ap (λ m. session_turns (begins L m []) n) means
     ∙ ap (λ o. session_turns (option_map (λ q. record { start = st; program = q; turns = [] }) o) n) accepted
 
 -- what is known of the start of a line
 pub record StartOfLine (s : Scene) (t : ℕ) (payload : List ℕ) : Type 0 where
   pub line : PlainLine
   pub bytes : List ℕ
-  pub reads : Reads the_language the_reports s line bytes
+  pub reads : Reads s line bytes
   pub is_start : payload ≡ record_bytes (Started (start_of line bytes t))
   pub means : meaning payload ≡ Some (Started (start_of line bytes t))
   pub program : Program
-  pub accepted : the_language.source bytes ≡ Some program
-  pub history : IsHistory the_language (payload ∷ [])
+  pub accepted : IsSourceOf bytes program
+  pub history : InTheLanguage (λ L. IsHistory L (payload ∷ []))
   pub command : command_by (line_of s.words) ≡ kept.Run
 
 head_is : (a b : List ℕ) (x y : List (List ℕ)) → a ∷ x ≡ b ∷ y → a ≡ b
@@ -89,9 +91,9 @@ head_is a b x y is = ap (λ l. first_of a l) is
     first_of d (e ∷ l) = e
 
 -- no record yet, or the start alone, behind one reading of the clock
-pub late_start : (O : Outside) (s : Scene) (old : World) (t : ℕ) (payload : List ℕ) (c : List ℕ) (d : List Deed) → OnlyReadings → StartOfLine s t payload → records s.found ≡ [] → d ≡ old.deeds ++ Now t ∷ [] → IsJournal c
-    → (records c ≡ []) ⊎ (records c ≡ payload ∷ []) → SafeAt the_language O the_reports s None old c d
-late_start O s old t payload c d only start none is file has = (
+pub late_start : (L : Language) → IsTheLanguage L → (O : Outside) (s : Scene) (old : World) (t : ℕ) (payload : List ℕ) (c : List ℕ) (d : List Deed) → OnlyReadings → StartOfLine s t payload → records s.found ≡ [] → d ≡ old.deeds ++ Now t ∷ [] → IsJournal c
+    → (records c ≡ []) ⊎ (records c ≡ payload ∷ []) → SafeAt L O the_reports s None old c d
+late_start L language O s old t payload c d only start none is file has = (
   Now t ∷ [],
   is,
   inr (record {
@@ -99,8 +101,8 @@ late_start O s old t payload c d only start none is file has = (
     keeps = (records c, ap (λ J. J ++ records c) (sym none));
     start = λ first rest found is_first. (start.line, start.bytes, start.reads, (t, (0, omega arith, refl), ⊎_elim (λ no. absurd (nothing first rest (sym no ∙ is_first))) (λ this. head_is first payload rest [] (sym is_first ∙ this) ∙ start.is_start) has));
     deeds =
-        subst (λ k. Kept the_language O (of_command (records c) (next_session (journal the_language (records s.found))) (Now t ∷ []) k None)) (sym start.command)
-        (kept_now O (records c) (next_session (journal the_language (records s.found))) t only (no_turns (next_session (journal the_language (records s.found))) has));
+        subst (λ k. Kept L O (of_command (records c) (next_session (journal L (records s.found))) (Now t ∷ []) k None)) (sym start.command)
+        (kept_now L O (records c) (next_session (journal L (records s.found))) t only (no_turns (next_session (journal L (records s.found))) has));
     printed = inl refl;
   }),
 )
@@ -108,21 +110,21 @@ late_start O s old t payload c d only start none is file has = (
     nothing : (first : List ℕ) (rest : List (List ℕ)) → [] ≡ first ∷ rest → ⊥
     nothing first rest never = cc never
 
-    no_turns : (n : ℕ) → (records c ≡ []) ⊎ (records c ≡ payload ∷ []) → session_turns (journal the_language (records c)) n ≡ []
-    no_turns n (inl empty) = no_turns_of_none (records c) n empty
-    no_turns n (inr this) = ap (λ J. session_turns (journal the_language J) n) this ∙ no_turns_of_start payload (start_of start.line start.bytes t) start.program n start.means start.accepted
+    no_turns : (n : ℕ) → (records c ≡ []) ⊎ (records c ≡ payload ∷ []) → session_turns (journal L (records c)) n ≡ []
+    no_turns n (inl empty) = no_turns_of_none L (records c) n empty
+    no_turns n (inr this) = ap (λ J. session_turns (journal L J) n) this ∙ no_turns_of_start L payload (start_of start.line start.bytes t) start.program n start.means ((language start.bytes start.program).1 start.accepted)
 
-    empty : records c ≡ [] → IsFit the_language c
+    empty : records c ≡ [] → IsFit L c
     empty none = ⊎_elim (λ short. inl short) (λ begins. inr (inl (begins, none))) file
 
-    this : records c ≡ payload ∷ [] → IsFit the_language c
-    this one = inr (inr (magic_of_records c file (λ no. nothing payload [] (sym no ∙ one)), (start.history.0, ap (history the_language) one ∙ start.history.1)))
+    this : records c ≡ payload ∷ [] → IsFit L c
+    this one = inr (inr (magic_of_records c file (λ no. nothing payload [] (sym no ∙ one)), ((start.history L language).0, ap (history L) one ∙ (start.history L language).1)))
 
 -- ## Going on
 -- a moment of an execution that was opened
-pub late_going : (O : Outside) (s : Scene) (command : kept.Command) (old mid : World) (done : List Deed) (e : Engine) (c : List ℕ) (d : List Deed) → IsOpened command s done mid e → mid.deeds ≡ old.deeds ++ done → printed done ≡ []
-    → Moment mid (KeptAt command (memory e) (records mid.seen) done) c d → SafeAt the_language O the_reports s None old c d
-late_going O s command old mid done e c d opened deeds silent (E, is, begins, k) = (
+pub late_going : (L : Language) (O : Outside) (s : Scene) (command : kept.Command) (old mid : World) (done : List Deed) (e : Engine) (c : List ℕ) (d : List Deed) → IsOpened L command s done mid e → mid.deeds ≡ old.deeds ++ done → printed done ≡ []
+    → Moment mid (KeptAt L command (memory e) (records mid.seen) done) c d → SafeAt L O the_reports s None old c d
+late_going L O s command old mid done e c d opened deeds silent (E, is, begins, k) = (
   done ++ E,
   is ∙ ap (λ l. l ++ E) deeds ∙ append_assoc old.deeds done E,
   inr (record {
@@ -130,8 +132,8 @@ late_going O s command old mid done e c d opened deeds silent (E, is, begins, k)
     keeps = (opened.added ++ k.added, keeps);
     start = λ first rest found is_first. again first rest is_first (opened.start found);
     deeds =
-        subst (λ n. Kept the_language O (of_command (records c) n (done ++ E) (command_by (line_of s.words)) None)) opened.number
-        (subst (λ q. Kept the_language O (of_command (records c) (memory e).session (done ++ E) q None)) (sym opened.is_of) (k.kept O));
+        subst (λ n. Kept L O (of_command (records c) n (done ++ E) (command_by (line_of s.words)) None)) opened.number
+        (subst (λ q. Kept L O (of_command (records c) (memory e).session (done ++ E) q None)) (sym opened.is_of) (k.kept O));
     printed = inl (printed_both done E ∙ ap (λ l. l ++ printed E) silent ∙ k.silent);
   }),
 )
@@ -140,8 +142,8 @@ late_going O s command old mid done e c d opened deeds silent (E, is, begins, k)
     keeps = k.records ∙ ap (λ J. J ++ k.added) opened.keeps ∙ append_assoc (records s.found) opened.added k.added
 
     again : (first : List ℕ) (rest : List (List ℕ)) → records c ≡ first ∷ rest
-        → (l : PlainLine) × (bytes : List ℕ) × Reads the_language the_reports s l bytes × ((t : ℕ) × Contains (nows done) t × (records mid.seen ≡ record_bytes (Started (start_of l bytes t)) ∷ []))
-        → (l : PlainLine) × (bytes : List ℕ) × Reads the_language the_reports s l bytes × ((t : ℕ) × Contains (nows (done ++ E)) t × (first ≡ record_bytes (Started (start_of l bytes t))))
+        → (l : PlainLine) × (bytes : List ℕ) × Reads s l bytes × ((t : ℕ) × Contains (nows done) t × (records mid.seen ≡ record_bytes (Started (start_of l bytes t)) ∷ []))
+        → (l : PlainLine) × (bytes : List ℕ) × Reads s l bytes × ((t : ℕ) × Contains (nows (done ++ E)) t × (first ≡ record_bytes (Started (start_of l bytes t))))
     again first rest is_first (l, bytes, reads, (t, among, one)) = (
       l,
       bytes,

@@ -11,7 +11,7 @@ use Rattle.wf_engine.specs.Kept as kept
 use Rattle.wf_engine.specs.Outside.{Outside}
 use Rattle.wf_engine.specs.Printed.{Scene, uses_journal}
 use Rattle.wf_engine.specs.Safe.{SafeAt, command_of, command_by}
-use Rattle.wf_engine.specs.TheLanguage.{the_language}
+use Rattle.wf_engine.specs.TheLanguage.{InTheLanguage, IsTheLanguage}
 use Rattle.wf_engine.specs.declared.engine.Engine.{Engine}
 use Rattle.wf_engine.specs.declared.fault.EngineFault.{EngineFault}
 use Rattle.wf_engine.specs.declared.fault.EngineFault.TheVariants as engine
@@ -25,6 +25,7 @@ use Rattle.wf_line.specs.declared.command.Command.TheVariants.{Run, Resume}
 use Rattle.wf_model.specs.Config.{Active}
 use Rattle.wf_replay.specs.At.{journal, next_session}
 use Rattle.wf_replay.specs.History.{Standing, history}
+use Rattle.wf_replay.specs.Language.{Language}
 use Rattle.wf_status.specs.declared.Status.{Status}
 use Rattle.wf_status.specs.declared.Status.TheVariants as status
 
@@ -42,44 +43,44 @@ not_started_by_resume s line why = not_run_and_resume s why.0 line
 pub not_resumed_by_run : (s : Scene) → IsLineOf s (λ c. c ≡ Run) → ¬ IsNotStarted s
 not_resumed_by_run s line why = not_run_and_resume s line why.0
 
-pub no_history_by_run : (s : Scene) (n : ℕ) → IsLineOf s (λ c. c ≡ Run) → ¬ IsNoHistory s n
-no_history_by_run s n line why = not_run_and_resume s line why.0
+pub no_history_by_run : (L : Language) (s : Scene) (n : ℕ) → IsLineOf s (λ c. c ≡ Run) → ¬ IsNoHistory L s n
+no_history_by_run L s n line why = not_run_and_resume s line why.0
 
 -- what is passed over before each status
-pub passed_magic : (s : Scene) → IsPassed s status.NotAJournal
-passed_magic s = record {
+pub passed_magic : (L : Language) (s : Scene) → IsPassed L s status.NotAJournal
+passed_magic L s = record {
   magic = λ low. absurd (let no : ⊥ = omega (arith, low) in no);
   started = λ low. absurd (let no : ⊥ = omega (arith, low) in no);
   not_started = λ low. absurd (let no : ⊥ = omega (arith, low) in no);
   history = λ n low. absurd (let no : ⊥ = omega (arith, low) in no);
 }
 
-pub passed_started : (s : Scene) → ¬ HasOtherMagic s → IsPassed s status.AlreadyStarted
-passed_started s none = record {
+pub passed_started : (L : Language) (s : Scene) → ¬ HasOtherMagic s → IsPassed L s status.AlreadyStarted
+passed_started L s none = record {
   magic = λ low. none;
   started = λ low. absurd (let no : ⊥ = omega (arith, low) in no);
   not_started = λ low. absurd (let no : ⊥ = omega (arith, low) in no);
   history = λ n low. absurd (let no : ⊥ = omega (arith, low) in no);
 }
 
-pub passed_not_started : (s : Scene) → ¬ HasOtherMagic s → ¬ IsStarted s → IsPassed s status.NotStarted
-passed_not_started s none none2 = record {
+pub passed_not_started : (L : Language) (s : Scene) → ¬ HasOtherMagic s → ¬ IsStarted s → IsPassed L s status.NotStarted
+passed_not_started L s none none2 = record {
   magic = λ low. none;
   started = λ low. none2;
   not_started = λ low. absurd (let no : ⊥ = omega (arith, low) in no);
   history = λ n low. absurd (let no : ⊥ = omega (arith, low) in no);
 }
 
-pub passed_history : (s : Scene) (m : ℕ) → ¬ HasOtherMagic s → ¬ IsStarted s → ¬ IsNotStarted s → IsPassed s (status.NotAHistory m)
-passed_history s m none none2 none3 = record {
+pub passed_history : (L : Language) (s : Scene) (m : ℕ) → ¬ HasOtherMagic s → ¬ IsStarted s → ¬ IsNotStarted s → IsPassed L s (status.NotAHistory m)
+passed_history L s m none none2 none3 = record {
   magic = λ low. none;
   started = λ low. none2;
   not_started = λ low. none3;
   history = λ n low. absurd (let no : ⊥ = omega (arith, low) in no);
 }
 
-pub passed_all : (s : Scene) (st : Status) → HasNoCause s → IsPassed s st
-passed_all s st none = record { magic = λ low. none.magic; started = λ low. none.started; not_started = λ low. none.not_started; history = λ n low. none.history n }
+pub passed_all : (L : Language) (s : Scene) (st : Status) → HasNoCause L s → IsPassed L s st
+passed_all L s st none = record { magic = λ low. none.magic; started = λ low. none.started; not_started = λ low. none.not_started; history = λ n low. none.history n }
 
 pub resume_uses : (s : Scene) → IsLineOf s (λ c. c ≡ Resume) → IsLineOf s (λ c. uses_journal c ≡ true)
 resume_uses s (l, is, it) = (l, is, ap uses_journal it)
@@ -101,67 +102,67 @@ abbrev pub little_now : (old new : World) (t : ℕ) → new.deeds ≡ old.deeds 
 little_now old new t is = record { done = Now t ∷ []; deeds = is; small = (tt, tt); silent = refl }
 
 -- the first records of what is found are those of an empty front
-no_record_no_history : (J : List (List ℕ)) (st : Standing) → history the_language J ≡ Ok st → J ≡ [] → ⊥
+no_record_no_history : (L : Language) (J : List (List ℕ)) (st : Standing) → history L J ≡ Ok st → J ≡ [] → ⊥
 unfolding history
-no_record_no_history J st is none = let no : Err 0 ≡ Ok st = ap (history the_language) (sym none) ∙ is in cc no
+no_record_no_history L J st is none = let no : Err 0 ≡ Ok st = ap (history L) (sym none) ∙ is in cc no
 
 -- ## Resuming
 -- what an opening promises
 pub record Clauses (old new : World) (r : Result Engine EngineFault) : Type 0 where
-  pub opened : IfOk r (λ e. Opened (memory e) old new)
-  pub session : IfOk r (λ e. (memory e).session ≡ next_session (journal the_language (records old.seen)))
+  pub opened : InTheLanguage (λ L. IfOk r (λ e. Opened L (memory e) old new))
+  pub session : InTheLanguage (λ L. IfOk r (λ e. (memory e).session ≡ next_session (journal L (records old.seen))))
   pub begins : OnOk r (take 4 old.seen ≡ magic)
   pub seen : new.seen ≡ old.seen
   pub any_moment : LeavesOnly old new (OpeningMoment old)
   pub not_a_journal : IsErrOf r engine.NotAJournal → (5 ≤ length old.seen) × (take 4 old.seen ≢ magic)
   pub not_started : IsErrOf r engine.NotStarted → (records old.seen ≡ []) × MayBegin old.seen
-  pub not_a_history : IfErr r (λ e. (n : ℕ) → e ≡ engine.NotAHistory n → (history the_language (records old.seen) ≡ Err n) × (records old.seen ≢ []) × (take 4 old.seen ≡ magic))
+  pub not_a_history : InTheLanguage (λ L. IfErr r (λ e. (n : ℕ) → e ≡ engine.NotAHistory n → (history L (records old.seen) ≡ Err n) × (records old.seen ≢ []) × (take 4 old.seen ≡ magic)))
   pub only : IfErr r (λ e. (e ≡ engine.DiskFault) ⊎ (e ≡ engine.NotAJournal) ⊎ (e ≡ engine.NotStarted) ⊎ ((n : ℕ) × (e ≡ engine.NotAHistory n)) ⊎ (e ≡ engine.OutOfMemory))
   pub deeds : (new.deeds ≡ old.deeds) ⊎ ((t : ℕ) × (new.deeds ≡ old.deeds ++ Now t ∷ []))
-  pub finished : (s : Standing) → history the_language (records old.seen) ≡ Ok s → s.config.outcome ≢ Active → new.deeds ≡ old.deeds
+  pub finished : InTheLanguage (λ L. (s : Standing) → history L (records old.seen) ≡ Ok s → s.config.outcome ≢ Active → new.deeds ≡ old.deeds)
 
 module _ (s : Scene) (old new : World) (line : IsLineOf s (λ c. c ≡ Resume)) (found : old.seen ≡ s.found) where
-  moment_safe : (O : Outside) (c : List ℕ) (d : List Deed) → OpeningMoment old c d → SafeAt the_language O the_reports s None old c d
-  moment_safe O c d (may, inl is) = early_nothing O s old c d may is
-  moment_safe O c d (may, inr (t, is)) = early_now O s old c d t may is
+  moment_safe : (L : Language) (O : Outside) (c : List ℕ) (d : List Deed) → OpeningMoment old c d → SafeAt L O the_reports s None old c d
+  moment_safe L O c d (may, inl is) = early_nothing L O s old c d may is
+  moment_safe L O c d (may, inr (t, is)) = early_now L O s old c d t may is
 
   little_of : (new.deeds ≡ old.deeds) ⊎ ((t : ℕ) × (new.deeds ≡ old.deeds ++ Now t ∷ [])) → DidLittle old new
   little_of (inl is) = little_nothing old new is
   little_of (inr (t, is)) = little_now old new t is
 
-  causes_of : take 4 s.found ≡ magic → (st : Standing) → history the_language (records s.found) ≡ Ok st → HasNoCause s
-  causes_of begins st is = record {
+  causes_of : (L : Language) → take 4 s.found ≡ magic → (st : Standing) → history L (records s.found) ≡ Ok st → HasNoCause L s
+  causes_of L begins st is = record {
     magic = no_magic s (inr begins);
     started = not_started_by_resume s line;
-    not_started = λ why. no_record_no_history (records s.found) st is why.1;
-    history = λ n why. not_both (history the_language (records s.found)) st n is why.1;
+    not_started = λ why. no_record_no_history L (records s.found) st is why.1;
+    history = λ n why. not_both (history L (records s.found)) st n is why.1;
   }
 
-  opened_of : (e : Engine) (done : List Deed) → new.deeds ≡ old.deeds ++ done → Clauses old new (Ok e) → IsOpened kept.Resume s done new e
-  opened_of e done deeds k =
-      let o = k.opened in
+  opened_of : (L : Language) → IsTheLanguage L → (e : Engine) (done : List Deed) → new.deeds ≡ old.deeds ++ done → Clauses old new (Ok e) → IsOpened L kept.Resume s done new e
+  opened_of L language e done deeds k =
+      let o = k.opened L language in
       let same : o.done ≡ done = append_cancel_left old.deeds o.done done (sym o.deeds ∙ deeds) in
       let stays : records new.seen ≡ records s.found = ap records (k.seen ∙ found) in
-      let is : history the_language (records s.found) ≡ Ok o.stands.leads.standing = subst (λ J. history the_language J ≡ Ok o.stands.leads.standing) stays o.stands.leads.history in
+      let is : history L (records s.found) ≡ Ok o.stands.leads.standing = subst (λ J. history L J ≡ Ok o.stands.leads.standing) stays o.stands.leads.history in
       record {
-        stands = subst (λ D. StandsFor kept.Resume (memory e) (records new.seen) D) same o.stands;
-        number = k.session ∙ ap (λ f. next_session (journal the_language (records f))) found;
+        stands = subst (λ D. StandsFor L kept.Resume (memory e) (records new.seen) D) same o.stands;
+        number = k.session L language ∙ ap (λ f. next_session (journal L (records f))) found;
         added = [];
         keeps = stays ∙ sym (append-nil (records s.found));
-        start = λ none. absurd (no_record_no_history (records s.found) o.stands.leads.standing is none);
+        start = λ none. absurd (no_record_no_history L (records s.found) o.stands.leads.standing is none);
         is_of = resume_command s line;
-        causes = causes_of (subst (λ f. take 4 f ≡ magic) found k.begins) o.stands.leads.standing is;
+        causes = causes_of L (subst (λ f. take 4 f ≡ magic) found k.begins) o.stands.leads.standing is;
       }
 
-  fault_of : (f : EngineFault) → Clauses old new (Err f) → FaultHolds s f
-  fault_of engine.DiskFault k = tt
-  fault_of engine.NotAJournal k =
+  fault_of : (L : Language) → IsTheLanguage L → (f : EngineFault) → Clauses old new (Err f) → FaultHolds L s f
+  fault_of L language engine.DiskFault k = tt
+  fault_of L language engine.NotAJournal k =
       let why = subst (λ f. (5 ≤ length f) × (take 4 f ≢ magic)) found (k.not_a_journal refl) in
-      ((resume_uses s line, why.0, why.1), passed_magic s)
-  fault_of (engine.NotAHistory n) k =
-      let why = subst (λ f. (history the_language (records f) ≡ Err n) × (records f ≢ []) × (take 4 f ≡ magic)) found (k.not_a_history n refl) in
-      ((line, why.0), passed_history s n (no_magic s (inr why.2)) (not_started_by_resume s line) (λ no. why.1 no.1))
-  fault_of engine.AlreadyStarted k = absurd (none k.only)
+      ((resume_uses s line, why.0, why.1), passed_magic L s)
+  fault_of L language (engine.NotAHistory n) k =
+      let why = subst (λ f. (history L (records f) ≡ Err n) × (records f ≢ []) × (take 4 f ≡ magic)) found (k.not_a_history L language n refl) in
+      ((line, why.0), passed_history L s n (no_magic s (inr why.2)) (not_started_by_resume s line) (λ no. why.1 no.1))
+  fault_of L language engine.AlreadyStarted k = absurd (none k.only)
     where
       none : (engine.AlreadyStarted ≡ engine.DiskFault) ⊎ (engine.AlreadyStarted ≡ engine.NotAJournal) ⊎ (engine.AlreadyStarted ≡ engine.NotStarted) ⊎ ((n : ℕ) × (engine.AlreadyStarted ≡ engine.NotAHistory n)) ⊎ (engine.AlreadyStarted ≡ engine.OutOfMemory) → ⊥
       none (inl is) = cc is
@@ -169,19 +170,19 @@ module _ (s : Scene) (old new : World) (line : IsLineOf s (λ c. c ≡ Resume)) 
       none (inr (inr (inl is))) = cc is
       none (inr (inr (inr (inl (n, is))))) = cc is
       none (inr (inr (inr (inr is)))) = cc is
-  fault_of engine.NotStarted k =
+  fault_of L language engine.NotStarted k =
       let why = subst (λ f. (records f ≡ []) × MayBegin f) found (k.not_started refl) in
-      ((line, why.0), passed_not_started s (no_magic s why.1) (not_started_by_resume s line))
-  fault_of engine.Closed k = tt
-  fault_of engine.OutOfMemory k = tt
+      ((line, why.0), passed_not_started L s (no_magic s why.1) (not_started_by_resume s line))
+  fault_of L language engine.Closed k = tt
+  fault_of L language engine.OutOfMemory k = tt
 
-  opened_if : (r : Result Engine EngineFault) (done : List Deed) → new.deeds ≡ old.deeds ++ done → Clauses old new r → IfOk r (IsOpened kept.Resume s done new)
-  opened_if (Ok e) done deeds k = opened_of e done deeds k
-  opened_if (Err f) done deeds k = tt
+  opened_if : (L : Language) → IsTheLanguage L → (r : Result Engine EngineFault) (done : List Deed) → new.deeds ≡ old.deeds ++ done → Clauses old new r → IfOk r (IsOpened L kept.Resume s done new)
+  opened_if L language (Ok e) done deeds k = opened_of L language e done deeds k
+  opened_if L language (Err f) done deeds k = tt
 
-  fault_if : (r : Result Engine EngineFault) → Clauses old new r → IfErr r (FaultHolds s)
-  fault_if (Ok e) k = tt
-  fault_if (Err f) k = fault_of f k
+  fault_if : (L : Language) → IsTheLanguage L → (r : Result Engine EngineFault) → Clauses old new r → IfErr r (FaultHolds L s)
+  fault_if L language (Ok e) k = tt
+  fault_if L language (Err f) k = fault_of L language f k
 
   pub opening_by_resume : (r : Result Engine EngineFault) → Clauses old new r → Opening kept.Resume s old new r
   opening_by_resume r k =
@@ -189,10 +190,10 @@ module _ (s : Scene) (old new : World) (line : IsLineOf s (λ c. c ≡ Resume)) 
       let unwritten : Unwritten old new = (weaker old new (OpeningMoment old) (λ c d. old.may_leave c) k.any_moment (λ c d now. now.0), k.seen) in
       record {
         little = little;
-        safe = λ fit O. weaker old new (OpeningMoment old) (SafeAt the_language O the_reports s None old) k.any_moment (λ c d now. moment_safe O c d now);
-        opened = opened_if r little.done little.deeds k;
-        fault = fault_if r k;
-        refused = λ why. unwritten;
+        safe = λ L language fit O. weaker old new (OpeningMoment old) (SafeAt L O the_reports s None old) k.any_moment (λ c d now. moment_safe L O c d now);
+        opened = λ L language. opened_if L language r little.done little.deeds k;
+        fault = λ L language. fault_if L language r k;
+        refused = λ L language why. unwritten;
         resumed = λ is. unwritten;
-        finished = λ st line2 is ended. k.finished st (subst (λ f. history the_language (records f) ≡ Ok st) (sym found) is) ended;
+        finished = λ L language st line2 is ended. k.finished L language st (subst (λ f. history L (records f) ≡ Ok st) (sym found) is) ended;
       }

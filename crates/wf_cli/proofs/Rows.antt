@@ -1,16 +1,18 @@
 -- The rows of the statuses, each from how the call ended.
 use Rattle.std.proofs.Common.{◌≡◌, ◌<◌, ◌⊎◌, inl, inr, ⊎_elim, IsTrue, ℕ, Bool, true, false, List, ◌++◌, None, Some, refl, sym, ◌∙◌, ap, subst, arith}
 use Rattle.std.specs.Prelude.{codes, decimal}
-use Rattle.wf_cli.proofs.Causes.{same_ok, same_some, no_bad_line, executing, reported_line, Cause, says_cause, says_text, says_early, not_said}
-use Rattle.wf_cli.proofs.Together.{IsOrBefore, where_bad_line, where_told, when_told, where_refused, FileCause, other_magic, started, not_started, no_history, file_cause_rank, where_of_file}
-use Rattle.wf_cli.specs.Top.{Call, IsLineOf, IsRefused, HasOutcome, Reported, Gives, IsAccepted, IsOfFile, Says, bad_line, refused, reported, of_file, Ends, said, cut, unread, failed, no_memory, Prints, IsOrYields, Exactly, BadLineRow, ReadFaultRow, RefusedRow, DiskFaultRow, NotAJournalRow, AlreadyStartedRow, NotStartedRow, NotAHistoryRow, OutcomeRow, DoneRow, PrintFaultRow, OnlyThese}
+use Rattle.wf_cli.proofs.Causes.{same_ok, same_some, no_bad_line, executing, reported_line, Cause, says_cause, says_text, EarlyCause, says_early, text_early, not_said}
+use Rattle.wf_cli.proofs.Together.{IsOrBefore, where_bad_line, where_told, when_told, where_refused, where_no_history}
+use Rattle.wf_cli.specs.Top.{Call, IsLineOf, IsRefused, HasOutcome, Reported, Gives, IsAccepted, IsOfFile, Says, bad_line, refused, reported, of_file, Ends, said, cut, unread, failed, no_memory, Prints, IsOrYields, BadLineRow, ReadFaultRow, RefusedRow, DiskFaultRow, NotAHistoryRow, OutcomeRow, DoneRow, PrintFaultRow, OnlyThese}
 use Rattle.wf_engine.specs.Printed as end
 use Rattle.wf_engine.specs.Printed.{Scene, uses_source, executes, status_of, outcome_text}
-use Rattle.wf_engine.specs.TheLanguage.{the_language}
+use Rattle.wf_engine.specs.TheLanguage.{IsTheLanguage}
 use Rattle.wf_host.specs.World.{World}
 use Rattle.wf_journal.specs.Records.{records}
 use Rattle.wf_model.specs.Config.{Outcome, Active, Returned, Raised, Cancelled}
 use Rattle.wf_replay.specs.History.{Standing, history}
+use Rattle.wf_replay.specs.Language.{Language}
+use Rattle.wf_source.specs.Laws.{OneRefusal}
 use Rattle.wf_status.specs.Refusals.{refusal_text}
 use Rattle.wf_status.specs.Statuses.{line_end, rank, status_text}
 use Rattle.wf_status.specs.declared.Refusal.{Refusal}
@@ -19,7 +21,7 @@ use Rattle.wf_status.specs.declared.Status.TheVariants as status
 
 -- ## What a status has
 -- a status that comes with each end, unless an earlier cause came
-yields : (x : Call) (st : Status) → Ends x → ((other : Status) (text : List ℕ) → Says x.scene x.old x.new other text → IsOrBefore st other) → (IsLineOf x.scene (λ c. uses_source c ≡ true) → 2 < rank st)
+pub yields : (x : Call) (st : Status) → Ends x → ((other : Status) (text : List ℕ) → Says x.scene x.old x.new other text → IsOrBefore st other) → (IsLineOf x.scene (λ c. uses_source c ≡ true) → 2 < rank st)
     → (IsLineOf x.scene (λ c. executes c ≡ true) → IsAccepted x.scene → 4 < rank st) → IsOrYields x st
 yields x st (said text says prints) one reads disk = ⊎_elim (λ is. inl is) (λ low. inr (inl low)) (one x.status text says)
 yields x st (cut other text is says why some) one reads disk = inr (inr (inl is))
@@ -28,22 +30,22 @@ yields x st (failed is line accepted rose prints) one reads disk = inr (inl (sub
 yields x st (no_memory is prints) one reads disk = inr (inr (inr is))
 
 -- a status that prints a line of its own
-abbrev IsTexted : Status → List ℕ → Type 0
+abbrev pub IsTexted : Status → List ℕ → Type 0
 IsTexted st line = status_text st ≡ Some line
 
-no_text : (st other : Status) (line : List ℕ) → IsTexted st line → st ≡ other → status_text other ≡ None → ⊥
+pub no_text : (st other : Status) (line : List ℕ) → IsTexted st line → st ≡ other → status_text other ≡ None → ⊥
 no_text st other line texted is none = let no : Some line ≡ None = sym texted ∙ ap status_text is ∙ none in cc no
 
 -- comes with its cause where the host tells
-cause_told : (x : Call) (line : List ℕ) → IsTrue x.old.tells → Ends x → IsTexted x.status line → Cause x.scene x.status
-cause_told x line told (said text says prints) texted = says_cause x.scene x.old x.new x.status text told says
-cause_told x line told (cut other text is says why some) texted = absurd (no_text x.status status.PrintFault line texted is refl)
-cause_told x line told (unread is rline rose prints) texted = absurd (no_text x.status status.ReadFault line texted is refl)
-cause_told x line told (failed is rline accepted rose prints) texted = absurd (no_text x.status status.DiskFault line texted is refl)
-cause_told x line told (no_memory is prints) texted = absurd (no_text x.status status.OutOfMemory line texted is refl)
+cause_told : (L : Language) → IsTheLanguage L → (x : Call) (line : List ℕ) → IsTrue x.old.tells → Ends x → IsTexted x.status line → Cause L x.scene x.status
+cause_told L language x line told (said text says prints) texted = says_cause L language x.scene x.old x.new x.status text told says
+cause_told L language x line told (cut other text is says why some) texted = absurd (no_text x.status status.PrintFault line texted is refl)
+cause_told L language x line told (unread is rline rose prints) texted = absurd (no_text x.status status.ReadFault line texted is refl)
+cause_told L language x line told (failed is rline accepted rose prints) texted = absurd (no_text x.status status.DiskFault line texted is refl)
+cause_told L language x line told (no_memory is prints) texted = absurd (no_text x.status status.OutOfMemory line texted is refl)
 
 -- and one of the words or of the source in any case
-cause_early : (x : Call) (line : List ℕ) → rank x.status < 5 → Ends x → IsTexted x.status line → Cause x.scene x.status
+cause_early : (x : Call) (line : List ℕ) → rank x.status < 5 → Ends x → IsTexted x.status line → EarlyCause x.scene x.status
 cause_early x line low (said text says prints) texted = says_early x.scene x.old x.new x.status text low says
 cause_early x line low (cut other text is says why some) texted = absurd (no_text x.status status.PrintFault line texted is refl)
 cause_early x line low (unread is rline rose prints) texted = absurd (no_text x.status status.ReadFault line texted is refl)
@@ -51,15 +53,23 @@ cause_early x line low (failed is rline accepted rose prints) texted = absurd (n
 cause_early x line low (no_memory is prints) texted = absurd (no_text x.status status.OutOfMemory line texted is refl)
 
 -- and then just its line is printed
-line_printed : (x : Call) (line : List ℕ) → Ends x → IsTexted x.status line → Prints x line
-line_printed x line (said text says prints) texted = λ told. subst (λ t. Prints x t) (says_text x.scene x.old x.new x.status text line told says texted) prints told
-line_printed x line (cut other text is says why some) texted = absurd (no_text x.status status.PrintFault line texted is refl)
-line_printed x line (unread is rline rose prints) texted = absurd (no_text x.status status.ReadFault line texted is refl)
-line_printed x line (failed is rline accepted rose prints) texted = absurd (no_text x.status status.DiskFault line texted is refl)
-line_printed x line (no_memory is prints) texted = absurd (no_text x.status status.OutOfMemory line texted is refl)
+line_printed : (L : Language) → IsTheLanguage L → (x : Call) (line : List ℕ) → Ends x → IsTexted x.status line → Prints x line
+line_printed L language x line (said text says prints) texted = λ told. subst (λ t. Prints x t) (says_text L language x.scene x.old x.new x.status text line told says texted) prints told
+line_printed L language x line (cut other text is says why some) texted = absurd (no_text x.status status.PrintFault line texted is refl)
+line_printed L language x line (unread is rline rose prints) texted = absurd (no_text x.status status.ReadFault line texted is refl)
+line_printed L language x line (failed is rline accepted rose prints) texted = absurd (no_text x.status status.DiskFault line texted is refl)
+line_printed L language x line (no_memory is prints) texted = absurd (no_text x.status status.OutOfMemory line texted is refl)
+
+-- in any case where it is of the words or of the source
+line_early : (x : Call) (line : List ℕ) → rank x.status < 5 → Ends x → IsTexted x.status line → Prints x line
+line_early x line low (said text says prints) texted = λ told. subst (λ t. Prints x t) (text_early x.scene x.old x.new x.status text line low says texted) prints told
+line_early x line low (cut other text is says why some) texted = absurd (no_text x.status status.PrintFault line texted is refl)
+line_early x line low (unread is rline rose prints) texted = absurd (no_text x.status status.ReadFault line texted is refl)
+line_early x line low (failed is rline accepted rose prints) texted = absurd (no_text x.status status.DiskFault line texted is refl)
+line_early x line low (no_memory is prints) texted = absurd (no_text x.status status.OutOfMemory line texted is refl)
 
 -- of a status that prints this line
-texted_as : (x : Call) (st : Status) (line : List ℕ) → status_text st ≡ Some line → x.status ≡ st → IsTexted x.status line
+pub texted_as : (x : Call) (st : Status) (line : List ℕ) → status_text st ≡ Some line → x.status ≡ st → IsTexted x.status line
 texted_as x st line is same = ap status_text same ∙ is
 
 -- ## The rows
@@ -67,45 +77,32 @@ pub bad_line_row : (x : Call) → Ends x → BadLineRow x
 bad_line_row x ends n =
     let line = line_end (codes "bad line at word " ++ decimal n) in
     record {
-      comes = λ is. subst (Cause x.scene) is (cause_early x line (subst (λ s. rank s < 5) (sym is) (omega arith)) ends (texted_as x (status.BadLine n) line refl is));
+      comes = λ is. subst (EarlyCause x.scene) is (cause_early x line (subst (λ s. rank s < 5) (sym is) (omega arith)) ends (texted_as x (status.BadLine n) line refl is));
       only = λ bad. yields x (status.BadLine n) ends (λ other text says. where_bad_line x.scene x.old x.new n other text bad says) (λ run. absurd (no_bad_line x.scene (λ c. uses_source c ≡ true) n run bad))
           (λ runs accepted. absurd (no_bad_line x.scene (λ c. executes c ≡ true) n runs bad));
-      prints = λ is. line_printed x line ends (texted_as x (status.BadLine n) line refl is);
+      prints = λ is. line_early x line (subst (λ s. rank s < 5) (sym is) (omega arith)) ends (texted_as x (status.BadLine n) line refl is);
     }
 
-pub refused_row : (x : Call) → Ends x → RefusedRow x
-refused_row x ends =
+pub refused_row : OneRefusal → (x : Call) → Ends x → RefusedRow x
+refused_row law x ends =
     where_told x.scene.source _ (λ left told r.
     let line = line_end (refusal_text r) in
     record {
-      comes = λ is. subst (Cause x.scene) is (cause_early x line (subst (λ s. rank s < 5) (sym is) (omega arith)) ends (texted_as x (status.Refused r) line refl is));
-      only = λ why. yields x (status.Refused r) ends (λ other text says. where_refused x.scene x.old x.new left r other text told why says) (λ run. omega arith)
+      comes = λ is. subst (EarlyCause x.scene) is (cause_early x line (subst (λ s. rank s < 5) (sym is) (omega arith)) ends (texted_as x (status.Refused r) line refl is));
+      only = λ why. yields x (status.Refused r) ends (λ other text says. where_refused law x.scene x.old x.new left r other text told why says) (λ run. omega arith)
           (λ runs accepted. absurd (when_told x.scene.source left ((q : Refusal) → ¬ IsRefused x.scene q) told accepted r why));
-      prints = λ is. line_printed x line ends (texted_as x (status.Refused r) line refl is);
+      prints = λ is. line_early x line (subst (λ s. rank s < 5) (sym is) (omega arith)) ends (texted_as x (status.Refused r) line refl is);
     })
 
--- a row of the file
-file_row : (x : Call) (st : Status) (line : List ℕ) → IsTrue x.old.tells → Ends x → status_text st ≡ Some line → (Cause x.scene st → FileCause x.scene st) → Exactly x st (Cause x.scene st) line
-file_row x st line told ends texted cause = record {
-  comes = λ is. subst (Cause x.scene) is (cause_told x line told ends (texted_as x st line texted is));
-  only = λ why.
-      let c = cause why in
-      let low = file_cause_rank x.scene st c in
-      yields x st ends (λ other text says. where_of_file x.scene x.old x.new st other text told c says) (λ run. omega (arith, low)) (λ runs accepted. low);
-  prints = λ is. line_printed x line ends (texted_as x st line texted is);
-}
-
-pub not_a_journal_row : (x : Call) → IsTrue x.old.tells → Ends x → NotAJournalRow x
-not_a_journal_row x told ends = file_row x status.NotAJournal _ told ends refl (λ why. other_magic why)
-
-pub already_started_row : (x : Call) → IsTrue x.old.tells → Ends x → AlreadyStartedRow x
-already_started_row x told ends = file_row x status.AlreadyStarted _ told ends refl (λ why. started why)
-
-pub not_started_row : (x : Call) → IsTrue x.old.tells → Ends x → NotStartedRow x
-not_started_row x told ends = file_row x status.NotStarted _ told ends refl (λ why. not_started why)
-
-pub not_a_history_row : (x : Call) → IsTrue x.old.tells → Ends x → NotAHistoryRow x
-not_a_history_row x told ends n = file_row x (status.NotAHistory n) _ told ends refl (λ why. no_history n why)
+pub not_a_history_row : (L : Language) → IsTheLanguage L → (x : Call) → IsTrue x.old.tells → Ends x → NotAHistoryRow L x
+not_a_history_row L language x told ends n =
+    let st = status.NotAHistory n in
+    let line = line_end (codes "not a history at record " ++ decimal n) in
+    record {
+      comes = λ is. subst (Cause L x.scene) is (cause_told L language x line told ends (texted_as x st line refl is));
+      only = λ why. yields x st ends (λ other text says. where_no_history L language x.scene x.old x.new n other text told why says) (λ run. omega arith) (λ runs accepted. omega arith);
+      prints = λ is. line_printed L language x line ends (texted_as x st line refl is);
+    }
 
 -- ## Faults
 pub read_fault_row : (x : Call) → Ends x → ReadFaultRow x
@@ -191,38 +188,38 @@ outcome_rank status.Suspended is = let no : false ≡ true = is in absurd (cc no
 outcome_rank status.OutOfMemory is = let no : false ≡ true = is in absurd (cc no)
 
 -- Done and Raised are told of an outcome, where a command executes
-outcome_of_gives : (s : Scene) (image : List ℕ) (st : Status) (text : List ℕ) → IsLineOf s (λ c. executes c ≡ true) → Gives s image st text → is_outcome st ≡ true
-    → (o : Outcome) × HasOutcome s image o × (status_of o ≡ Some st) × (text ≡ outcome_text o)
-outcome_of_gives s image _ _ line (end.bad_line n bad) is = let no : false ≡ true = is in absurd (cc no)
-outcome_of_gives s image _ _ line (end.refused r why) is = let no : false ≡ true = is in absurd (cc no)
-outcome_of_gives s image _ _ line (end.not_a_journal why) is = let no : false ≡ true = is in absurd (cc no)
-outcome_of_gives s image _ _ line (end.already_started why) is = let no : false ≡ true = is in absurd (cc no)
-outcome_of_gives s image _ _ line (end.not_started why) is = let no : false ≡ true = is in absurd (cc no)
-outcome_of_gives s image _ _ line (end.not_a_history n why) is = let no : false ≡ true = is in absurd (cc no)
-outcome_of_gives s image _ _ line (end.ended o st has which) is = (o, has, which, refl)
-outcome_of_gives s image _ _ line (end.done text report) is = absurd (executing s line (reported_line s text report))
+outcome_of_gives : (L : Language) (s : Scene) (image : List ℕ) (st : Status) (text : List ℕ) → IsLineOf s (λ c. executes c ≡ true) → Gives L s image st text → is_outcome st ≡ true
+    → (o : Outcome) × HasOutcome L s image o × (status_of o ≡ Some st) × (text ≡ outcome_text o)
+outcome_of_gives L s image _ _ line (end.bad_line n bad) is = let no : false ≡ true = is in absurd (cc no)
+outcome_of_gives L s image _ _ line (end.refused r why) is = let no : false ≡ true = is in absurd (cc no)
+outcome_of_gives L s image _ _ line (end.not_a_journal why) is = let no : false ≡ true = is in absurd (cc no)
+outcome_of_gives L s image _ _ line (end.already_started why) is = let no : false ≡ true = is in absurd (cc no)
+outcome_of_gives L s image _ _ line (end.not_started why) is = let no : false ≡ true = is in absurd (cc no)
+outcome_of_gives L s image _ _ line (end.not_a_history n why) is = let no : false ≡ true = is in absurd (cc no)
+outcome_of_gives L s image _ _ line (end.ended o st has which) is = (o, has, which, refl)
+outcome_of_gives L s image _ _ line (end.done text report) is = absurd (executing s line (reported_line s text report))
 
-outcome_of_says : (s : Scene) (old new : World) (st : Status) (text : List ℕ) → IsTrue old.tells → IsLineOf s (λ c. executes c ≡ true) → Says s old new st text → is_outcome st ≡ true
-    → (o : Outcome) × HasOutcome s new.seen o × (status_of o ≡ Some st) × (text ≡ outcome_text o)
-outcome_of_says s old new _ _ told line (bad_line n bad) is = let no : false ≡ true = is in absurd (cc no)
-outcome_of_says s old new _ _ told line (refused r why) is = let no : false ≡ true = is in absurd (cc no)
-outcome_of_says s old new _ _ told line (reported text report) is = absurd (executing s line (reported_line s text report))
-outcome_of_says s old new _ _ told line (of_file st text isf line2 accepted gives) is = outcome_of_gives s new.seen st text line (gives told).0 is
+outcome_of_says : (L : Language) → IsTheLanguage L → (s : Scene) (old new : World) (st : Status) (text : List ℕ) → IsTrue old.tells → IsLineOf s (λ c. executes c ≡ true) → Says s old new st text → is_outcome st ≡ true
+    → (o : Outcome) × HasOutcome L s new.seen o × (status_of o ≡ Some st) × (text ≡ outcome_text o)
+outcome_of_says L language s old new _ _ told line (bad_line n bad) is = let no : false ≡ true = is in absurd (cc no)
+outcome_of_says L language s old new _ _ told line (refused r why) is = let no : false ≡ true = is in absurd (cc no)
+outcome_of_says L language s old new _ _ told line (reported text report) is = absurd (executing s line (reported_line s text report))
+outcome_of_says L language s old new _ _ told line (of_file st text isf line2 accepted gives) is = outcome_of_gives L s new.seen st text line (gives told L language).0 is
 
-outcome_comes : (x : Call) → IsTrue x.old.tells → Ends x → IsLineOf x.scene (λ c. executes c ≡ true) → is_outcome x.status ≡ true
-    → (o : Outcome) × HasOutcome x.scene x.new.seen o × (status_of o ≡ Some x.status) × Prints x (outcome_text o)
-outcome_comes x told (said text says prints) line is =
-    let it = outcome_of_says x.scene x.old x.new x.status text told line says is in
+outcome_comes : (L : Language) → IsTheLanguage L → (x : Call) → IsTrue x.old.tells → Ends x → IsLineOf x.scene (λ c. executes c ≡ true) → is_outcome x.status ≡ true
+    → (o : Outcome) × HasOutcome L x.scene x.new.seen o × (status_of o ≡ Some x.status) × Prints x (outcome_text o)
+outcome_comes L language x told (said text says prints) line is =
+    let it = outcome_of_says L language x.scene x.old x.new x.status text told line says is in
     (it.0, it.1, it.2, subst (λ t. Prints x t) it.3 prints)
-outcome_comes x told (cut other text it says why some) line is = let no : false ≡ true = sym (ap is_outcome it) ∙ is in absurd (cc no)
-outcome_comes x told (unread it rline rose prints) line is = let no : false ≡ true = sym (ap is_outcome it) ∙ is in absurd (cc no)
-outcome_comes x told (failed it rline accepted rose prints) line is = let no : false ≡ true = sym (ap is_outcome it) ∙ is in absurd (cc no)
-outcome_comes x told (no_memory it prints) line is = let no : false ≡ true = sym (ap is_outcome it) ∙ is in absurd (cc no)
+outcome_comes L language x told (cut other text it says why some) line is = let no : false ≡ true = sym (ap is_outcome it) ∙ is in absurd (cc no)
+outcome_comes L language x told (unread it rline rose prints) line is = let no : false ≡ true = sym (ap is_outcome it) ∙ is in absurd (cc no)
+outcome_comes L language x told (failed it rline accepted rose prints) line is = let no : false ≡ true = sym (ap is_outcome it) ∙ is in absurd (cc no)
+outcome_comes L language x told (no_memory it prints) line is = let no : false ≡ true = sym (ap is_outcome it) ∙ is in absurd (cc no)
 
 -- one outcome of the records, and one status of it
-one_status : (s : Scene) (image : List ℕ) (o p : Outcome) (st other : Status) → HasOutcome s image o → HasOutcome s image p → status_of o ≡ Some st → status_of p ≡ Some other → other ≡ st
-one_status s image o p st other (line, (c, is, has)) (line2, (d, is2, has2)) which which2 =
-    let same : p ≡ o = sym has2 ∙ ap (λ (k : Standing). k.config.outcome) (same_ok (history the_language (records image)) d c is2 is) ∙ has in
+one_status : (L : Language) (s : Scene) (image : List ℕ) (o p : Outcome) (st other : Status) → HasOutcome L s image o → HasOutcome L s image p → status_of o ≡ Some st → status_of p ≡ Some other → other ≡ st
+one_status L s image o p st other (line, (c, is, has)) (line2, (d, is2, has2)) which which2 =
+    let same : p ≡ o = sym has2 ∙ ap (λ (k : Standing). k.config.outcome) (same_ok (history L (records image)) d c is2 is) ∙ has in
     same_some (status_of p) other st which2 (ap status_of same ∙ which)
 
 low_or_outcome : (other st : Status) → IsOfFile other → rank st ≡ 11 → (rank other < rank st) ⊎ (is_outcome other ≡ true)
@@ -233,21 +230,21 @@ low_or_outcome other st (inr (inr (inr (inl (n, is))))) equal = inl (let r = ap 
 low_or_outcome other st (inr (inr (inr (inr (inl is))))) equal = inr (ap is_outcome is)
 low_or_outcome other st (inr (inr (inr (inr (inr is))))) equal = inr (ap is_outcome is)
 
-where_outcome : (s : Scene) (old new : World) (o : Outcome) (st other : Status) (text : List ℕ) → IsTrue old.tells → status_of o ≡ Some st → HasOutcome s new.seen o → Says s old new other text → IsOrBefore st other
-where_outcome s old new o st _ _ told which has (bad_line n bad) = inr (let r = outcome_rank st (outcome_status o st which) in omega (arith, r))
-where_outcome s old new o st _ _ told which has (refused q why) = inr (let r = outcome_rank st (outcome_status o st which) in omega (arith, r))
-where_outcome s old new o st _ _ told which has (reported text report) = absurd (executing s has.0 (reported_line s text report))
-where_outcome s old new o st _ _ told which has (of_file other text is line accepted gives) =
+where_outcome : (L : Language) → IsTheLanguage L → (s : Scene) (old new : World) (o : Outcome) (st other : Status) (text : List ℕ) → IsTrue old.tells → status_of o ≡ Some st → HasOutcome L s new.seen o → Says s old new other text → IsOrBefore st other
+where_outcome L language s old new o st _ _ told which has (bad_line n bad) = inr (let r = outcome_rank st (outcome_status o st which) in omega (arith, r))
+where_outcome L language s old new o st _ _ told which has (refused q why) = inr (let r = outcome_rank st (outcome_status o st which) in omega (arith, r))
+where_outcome L language s old new o st _ _ told which has (reported text report) = absurd (executing s has.0 (reported_line s text report))
+where_outcome L language s old new o st _ _ told which has (of_file other text is line accepted gives) =
     ⊎_elim (λ low. inr low)
-    (λ ends. let it = outcome_of_gives s new.seen other text line (gives told).0 ends in inl (one_status s new.seen o it.0 st other has it.1 which it.2))
+    (λ ends. let it = outcome_of_gives L s new.seen other text line (gives told L language).0 ends in inl (one_status L s new.seen o it.0 st other has it.1 which it.2))
     (low_or_outcome other st is (outcome_rank st (outcome_status o st which)))
 
-pub outcome_row : (x : Call) → IsTrue x.old.tells → Ends x → OutcomeRow x
-outcome_row x told ends = record {
-  comes = λ line is. outcome_comes x told ends line (⊎_elim (λ done. ap is_outcome done) (λ raised. ap is_outcome raised) is);
+pub outcome_row : (L : Language) → IsTheLanguage L → (x : Call) → IsTrue x.old.tells → Ends x → OutcomeRow L x
+outcome_row L language x told ends = record {
+  comes = λ line is. outcome_comes L language x told ends line (⊎_elim (λ done. ap is_outcome done) (λ raised. ap is_outcome raised) is);
   only = λ o st which has.
       let r = outcome_rank st (outcome_status o st which) in
-      yields x st ends (λ other text says. where_outcome x.scene x.old x.new o st other text told which has says) (λ run. omega (arith, r)) (λ runs accepted. omega (arith, r));
+      yields x st ends (λ other text says. where_outcome L language x.scene x.old x.new o st other text told which has says) (λ run. omega (arith, r)) (λ runs accepted. omega (arith, r));
 }
 
 report_of_says : (s : Scene) (old new : World) (st : Status) (text : List ℕ) → Says s old new st text → IsLineOf s (λ c. executes c ≡ false) → st ≡ status.Done → Reported s text

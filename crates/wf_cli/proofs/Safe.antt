@@ -58,8 +58,8 @@ module _ (L : Language) (O : Outside) (R : Reports) (s : Scene) (e : Option Stat
   start_behind : (image : List ℕ) (D P : List Deed) → AllByRecursion IsPrint P → StartIsOfTheLine L O R s None image D → StartIsOfTheLine L O R s e image (D ++ P)
   start_behind image D P prints start first rest none is = again first (start first rest none is)
     where
-      again : (first : List ℕ) → (l : PlainLine) × (bytes : List ℕ) × Reads L R s l bytes × ((t : ℕ) × Contains (nows D) t × (first ≡ record_bytes (Started (start_of l bytes t))))
-          → (l : PlainLine) × (bytes : List ℕ) × Reads L R s l bytes × ((t : ℕ) × Contains (nows (D ++ P)) t × (first ≡ record_bytes (Started (start_of l bytes t))))
+      again : (first : List ℕ) → (l : PlainLine) × (bytes : List ℕ) × Reads s l bytes × ((t : ℕ) × Contains (nows D) t × (first ≡ record_bytes (Started (start_of l bytes t))))
+          → (l : PlainLine) × (bytes : List ℕ) × Reads s l bytes × ((t : ℕ) × Contains (nows (D ++ P)) t × (first ≡ record_bytes (Started (start_of l bytes t))))
       again first (l, bytes, reads, (t, among, at)) = (l, bytes, reads, (t, subst (λ ts. Contains ts t) (sym (nows_behind D P prints)) among, at))
 
   pub safe_behind : (entry : List ℕ → Type 0) (image : List ℕ) (D P : List Deed) → OnlyReadings → option_map status_code e ≢ Some 13 → AllByRecursion IsSmall D → printed D ≡ [] → AllByRecursion IsPrint P

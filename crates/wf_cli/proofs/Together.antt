@@ -1,23 +1,25 @@
 -- What is said where a cause holds: the status of this cause, or one that is looked at before.
-use Rattle.std.proofs.Common.{◌≡◌, ◌<◌, ◌⊎◌, inl, inr, ⊎_elim, IsTrue, ℕ, true, false, List, None, Some, Result, Ok, Err, refl, sym, ◌∙◌, ap, subst, arith}
+use Rattle.std.proofs.Common.{◌≡◌, ◌<◌, ◌⊎◌, inl, inr, ⊎_elim, IsTrue, ℕ, true, false, List, None, Some, Result, Err, refl, sym, ◌∙◌, ap, subst, arith}
 use Rattle.std.proofs.lemmas.Bool.{cases_lt}
-use Rattle.wf_cli.proofs.Causes.{same_ok, same_err, same_some, both, no_bad_line, journal_executes, executing, line_is, run_executes, resume_executes, reported_line, refused_line, Cause, gives_cause}
-use Rattle.wf_cli.specs.Reports.{layout_of, the_reports, why_refused}
-use Rattle.wf_cli.specs.Top.{IsLineOf, IsBadLine, IsRefused, HasOtherMagic, IsStarted, IsNotStarted, IsNoHistory, Reported, Gives, IsOfFile, IsPassed, Says, bad_line, refused, reported, of_file}
+use Rattle.wf_cli.proofs.Causes.{same_ok, same_err, both, no_bad_line, executing, resume_executes, reported_line, refused_line, Cause, gives_cause}
+use Rattle.wf_cli.specs.Reports.{layout_of, the_reports}
+use Rattle.wf_cli.specs.Top.{IsLineOf, IsBadLine, IsRefused, IsNoHistory, Reported, Gives, IsOfFile, Says, bad_line, refused, reported, of_file}
 use Rattle.wf_engine.specs.Printed as end
-use Rattle.wf_engine.specs.Printed.{Scene, uses_journal, uses_source, executes}
-use Rattle.wf_engine.specs.TheLanguage.{the_language}
+use Rattle.wf_engine.specs.Printed.{Scene, uses_journal, uses_source, executes, refuses}
+use Rattle.wf_engine.specs.TheLanguage.{IsTheLanguage}
 use Rattle.wf_host.specs.Source.{Rest, IsFirst, WhereTold}
 use Rattle.wf_host.specs.World.{World}
 use Rattle.wf_journal.specs.Records.{records}
 use Rattle.wf_line.specs.Lines.{PlainLine, line_of}
 use Rattle.wf_line.specs.declared.command.Command.{Command}
-use Rattle.wf_line.specs.declared.command.Command.TheVariants.{Format, Help, Version}
+use Rattle.wf_line.specs.declared.command.Command.TheVariants.{Format, Run, Resume, Help, Version}
 use Rattle.wf_replay.specs.History.{history}
+use Rattle.wf_replay.specs.Language.{Language}
 use Rattle.wf_status.specs.Statuses.{rank}
 use Rattle.wf_status.specs.declared.Refusal.{Refusal}
 use Rattle.wf_status.specs.declared.Status.{Status}
 use Rattle.wf_status.specs.declared.Status.TheVariants as status
+use Rattle.wf_source.specs.Laws.{OneRefusal}
 use Rattle.wf_source.specs.Sources.{read_tree}
 use Rattle.wf_tree.specs.Trees.{Tree}
 
@@ -44,17 +46,26 @@ where_told (Some left) P f = f left refl
 pub when_told : (source : Rest) (left : List ℕ) (P : Type 0) → source ≡ Some left → WhereTold source P → P
 when_told source left P told is = subst (λ r. WhereTold r P) told is
 
-one_refusal : (s : Scene) (left : List ℕ) (q r : Refusal) → s.source ≡ Some left → IsRefused s q → IsRefused s r → q ≡ r
-one_refusal s left q r told (l, bytes, (is, uses, first), why) (m, bytes2, (is2, uses2, first2), why2) =
+-- a command that refuses uses the source, and `run` refuses by its law
+refuses_once : OneRefusal → (c : Command) (bytes : List ℕ) (q r : Refusal) → refuses c bytes q → refuses c bytes r → q ≡ r
+refuses_once law Format bytes q r is js = same_err (read_tree bytes) q r is js
+refuses_once law Run bytes q r is js = law bytes q r is js
+refuses_once law Resume bytes q r is js = absurd is
+refuses_once law Help bytes q r is js = absurd is
+refuses_once law Version bytes q r is js = absurd is
+
+one_refusal : OneRefusal → (s : Scene) (left : List ℕ) (q r : Refusal) → s.source ≡ Some left → IsRefused s q → IsRefused s r → q ≡ r
+one_refusal law s left q r told (l, bytes, (is, uses, first), why) (m, bytes2, (is2, uses2, first2), why2) =
     let line : l ≡ m = same_ok (line_of s.words) l m is is2 in
-    same_some (the_reports.refusal l.command bytes) q r why ((λ i. the_reports.refusal (line i).command (same_bytes s.source left bytes bytes2 told first first2 i)) ∙ why2)
+    let here : refuses l.command bytes r =
+    subst (λ b. refuses l.command b r) (sym (same_bytes s.source left bytes bytes2 told first first2)) (subst (λ (k : PlainLine). refuses k.command bytes2 r) (sym line) why2) in
+    refuses_once law l.command bytes q r why here
 
 -- what is laid out isn't refused
-not_both_answers : (t : Result Tree Refusal) (r : Refusal) (text : List ℕ) → why_refused t ≡ Some r → layout_of t ≡ Some text → ⊥
-not_both_answers (Ok t) r text why laid = let no : None ≡ Some r = why in cc no
-not_both_answers (Err q) r text why laid = let no : None ≡ Some text = laid in cc no
+not_both_answers : (t : Result Tree Refusal) (r : Refusal) (text : List ℕ) → t ≡ Err r → layout_of t ≡ Some text → ⊥
+not_both_answers t r text why laid = let no : None ≡ Some text = sym (ap layout_of why) ∙ laid in cc no
 
-laid_or_refused : (bytes text : List ℕ) (r : Refusal) → the_reports.refusal Format bytes ≡ Some r → the_reports.formatted bytes ≡ Some text → ⊥
+laid_or_refused : (bytes text : List ℕ) (r : Refusal) → refuses Format bytes r → the_reports.formatted bytes ≡ Some text → ⊥
 unfolding the_reports
 laid_or_refused bytes text r why laid = not_both_answers (read_tree bytes) r text why laid
 
@@ -66,46 +77,22 @@ no_source s r c none why line =
 refused_or_reported : (s : Scene) (left : List ℕ) (r : Refusal) (text : List ℕ) → s.source ≡ Some left → IsRefused s r → Reported s text → ⊥
 refused_or_reported s left r text told (l, bytes, (is, uses, first), why) (end.formatted m bytes2 text2 (is2, uses2, first2) command laid) =
     let line : l ≡ m = same_ok (line_of s.words) l m is is2 in
-    laid_or_refused bytes2 text r ((λ i. the_reports.refusal (sym (ap (λ (k : PlainLine). k.command) line ∙ command) i) (sym (same_bytes s.source left bytes bytes2 told first first2) i)) ∙ why) laid
+    let here : refuses Format bytes2 r =
+    subst (λ b. refuses Format b r) (same_bytes s.source left bytes bytes2 told first first2) (subst (λ c. refuses c bytes r) (ap (λ (k : PlainLine). k.command) line ∙ command) why) in
+    laid_or_refused bytes2 text r here laid
 refused_or_reported s left r _ told why (end.helped line) = no_source s r Help refl why line
 refused_or_reported s left r _ told why (end.versioned line) = no_source s r Version refl why line
 
-pub where_refused : (s : Scene) (old new : World) (left : List ℕ) (r : Refusal) (other : Status) (text : List ℕ) → s.source ≡ Some left → IsRefused s r → Says s old new other text → IsOrBefore (status.Refused r) other
-where_refused s old new left r _ _ told why (bad_line m is) = inr (omega arith)
-where_refused s old new left r _ _ told why (refused q why2) = inl (ap status.Refused (one_refusal s left q r told why2 why))
-where_refused s old new left r _ _ told why (reported text report) = absurd (refused_or_reported s left r text told why report)
-where_refused s old new left r _ _ told why (of_file st text is line accepted gives) =
+pub where_refused : OneRefusal → (s : Scene) (old new : World) (left : List ℕ) (r : Refusal) (other : Status) (text : List ℕ) → s.source ≡ Some left → IsRefused s r → Says s old new other text → IsOrBefore (status.Refused r) other
+where_refused law s old new left r _ _ told why (bad_line m is) = inr (omega arith)
+where_refused law s old new left r _ _ told why (refused q why2) = inl (ap status.Refused (one_refusal law s left q r told why2 why))
+where_refused law s old new left r _ _ told why (reported text report) = absurd (refused_or_reported s left r text told why report)
+where_refused law s old new left r _ _ told why (of_file st text is line accepted gives) =
     absurd (when_told s.source left ((q : Refusal) → ¬ IsRefused s q) told accepted r why)
 
 -- ## A cause of the file
--- a status that is said of the file has a rank between those of the source's and of printing's
-pub data FileCause (s : Scene) : Status → Type 0 where
-  other_magic : HasOtherMagic s → FileCause s status.NotAJournal
-  started : IsStarted s → FileCause s status.AlreadyStarted
-  not_started : IsNotStarted s → FileCause s status.NotStarted
-  no_history : (n : ℕ) → IsNoHistory s n → FileCause s (status.NotAHistory n)
-
-pub file_cause_line : (s : Scene) (st : Status) → FileCause s st → IsLineOf s (λ c. executes c ≡ true)
-file_cause_line s _ (other_magic why) = line_is s (λ c. uses_journal c ≡ true) (λ c. executes c ≡ true) journal_executes why.0
-file_cause_line s _ (started why) = run_executes s why.0
-file_cause_line s _ (not_started why) = resume_executes s why.0
-file_cause_line s _ (no_history n why) = resume_executes s why.0
-
-pub file_cause_rank : (s : Scene) (st : Status) → FileCause s st → 4 < rank st
-file_cause_rank s _ (other_magic why) = omega arith
-file_cause_rank s _ (started why) = omega arith
-file_cause_rank s _ (not_started why) = omega arith
-file_cause_rank s _ (no_history n why) = omega arith
-
--- a cause that wasn't passed over
-not_passed : (s : Scene) (st other : Status) → FileCause s st → IsPassed s other → rank st < rank other → ⊥
-not_passed s _ other (other_magic why) passed low = passed.magic low why
-not_passed s _ other (started why) passed low = passed.started low why
-not_passed s _ other (not_started why) passed low = passed.not_started low why
-not_passed s _ other (no_history n why) passed low = passed.history n low why
-
 -- whichever of two ranks is lower
-ordered : (st other : Status) → IsOfFile other → (rank st < rank other → ⊥) → (rank other ≡ rank st → other ≡ st) → IsOrBefore st other
+pub ordered : (st other : Status) → IsOfFile other → (rank st < rank other → ⊥) → (rank other ≡ rank st → other ≡ st) → IsOrBefore st other
 ordered st other is never same = elim (three (rank other) (rank st)) [
   | inl low ↦ inr low
   | inr (inl equal) ↦ inl (same equal)
@@ -119,7 +106,7 @@ ordered st other is never same = elim (three (rank other) (rank st)) [
 off : (other x : Status) (n : ℕ) → other ≡ x → rank other ≡ n → (rank x ≡ n → ⊥) → ⊥
 off other x n is equal never = never (ap rank (sym is) ∙ equal)
 
-at_magic : (other : Status) → IsOfFile other → rank other ≡ 5 → other ≡ status.NotAJournal
+pub at_magic : (other : Status) → IsOfFile other → rank other ≡ 5 → other ≡ status.NotAJournal
 at_magic other (inl is) equal = is
 at_magic other (inr (inl is)) equal = absurd (off other status.AlreadyStarted 5 is equal (λ no. cc no))
 at_magic other (inr (inr (inl is))) equal = absurd (off other status.NotStarted 5 is equal (λ no. cc no))
@@ -127,7 +114,7 @@ at_magic other (inr (inr (inr (inl (n, is))))) equal = absurd (off other (status
 at_magic other (inr (inr (inr (inr (inl is))))) equal = absurd (off other status.Done 5 is equal (λ no. cc no))
 at_magic other (inr (inr (inr (inr (inr is))))) equal = absurd (off other status.Raised 5 is equal (λ no. cc no))
 
-at_started : (other : Status) → IsOfFile other → rank other ≡ 6 → other ≡ status.AlreadyStarted
+pub at_started : (other : Status) → IsOfFile other → rank other ≡ 6 → other ≡ status.AlreadyStarted
 at_started other (inl is) equal = absurd (off other status.NotAJournal 6 is equal (λ no. cc no))
 at_started other (inr (inl is)) equal = is
 at_started other (inr (inr (inl is))) equal = absurd (off other status.NotStarted 6 is equal (λ no. cc no))
@@ -135,7 +122,7 @@ at_started other (inr (inr (inr (inl (n, is))))) equal = absurd (off other (stat
 at_started other (inr (inr (inr (inr (inl is))))) equal = absurd (off other status.Done 6 is equal (λ no. cc no))
 at_started other (inr (inr (inr (inr (inr is))))) equal = absurd (off other status.Raised 6 is equal (λ no. cc no))
 
-at_not_started : (other : Status) → IsOfFile other → rank other ≡ 7 → other ≡ status.NotStarted
+pub at_not_started : (other : Status) → IsOfFile other → rank other ≡ 7 → other ≡ status.NotStarted
 at_not_started other (inl is) equal = absurd (off other status.NotAJournal 7 is equal (λ no. cc no))
 at_not_started other (inr (inl is)) equal = absurd (off other status.AlreadyStarted 7 is equal (λ no. cc no))
 at_not_started other (inr (inr (inl is))) equal = is
@@ -151,20 +138,17 @@ at_history other (inr (inr (inr (inl (n, is))))) equal = (n, is)
 at_history other (inr (inr (inr (inr (inl is))))) equal = absurd (off other status.Done 8 is equal (λ no. cc no))
 at_history other (inr (inr (inr (inr (inr is))))) equal = absurd (off other status.Raised 8 is equal (λ no. cc no))
 
--- of one rank there is one status of the file, and one number of a record
-same_rank : (s : Scene) (image text : List ℕ) (st other : Status) → FileCause s st → IsOfFile other → Gives s image other text → rank other ≡ rank st → other ≡ st
-same_rank s image text _ other (other_magic why) is gives equal = at_magic other is equal
-same_rank s image text _ other (started why) is gives equal = at_started other is equal
-same_rank s image text _ other (not_started why) is gives equal = at_not_started other is equal
-same_rank s image text _ other (no_history n why) is gives equal =
+-- of this rank there is one status of the file, and one number of a record
+same_history : (L : Language) (s : Scene) (image text : List ℕ) (n : ℕ) (other : Status) → IsNoHistory L s n → IsOfFile other → Gives L s image other text → rank other ≡ 8 → other ≡ status.NotAHistory n
+same_history L s image text n other why is gives equal =
     let found = at_history other is equal in
-    let why2 : IsNoHistory s found.0 = subst (Cause s) found.1 (gives_cause s image other text gives) in
-    found.1 ∙ ap status.NotAHistory (same_err (history the_language (records s.found)) found.0 n why2.1 why.1)
+    let why2 : IsNoHistory L s found.0 = subst (Cause L s) found.1 (gives_cause L s image other text gives) in
+    found.1 ∙ ap status.NotAHistory (same_err (history L (records s.found)) found.0 n why2.1 why.1)
 
--- where a cause of the file holds, and the host tells
-pub where_of_file : (s : Scene) (old new : World) (st other : Status) (text : List ℕ) → IsTrue old.tells → FileCause s st → Says s old new other text → IsOrBefore st other
-where_of_file s old new st _ _ told cause (bad_line m is) = inr (let low = file_cause_rank s st cause in omega (arith, low))
-where_of_file s old new st _ _ told cause (refused q why) = inr (let low = file_cause_rank s st cause in omega (arith, low))
-where_of_file s old new st _ _ told cause (reported text report) = absurd (executing s (file_cause_line s st cause) (reported_line s text report))
-where_of_file s old new st _ _ told cause (of_file other text is line accepted gives) =
-    ordered st other is (λ low. not_passed s st other cause (gives told).1 low) (same_rank s new.seen text st other cause is (gives told).0)
+-- where the records are no history, and the host tells
+pub where_no_history : (L : Language) → IsTheLanguage L → (s : Scene) (old new : World) (n : ℕ) (other : Status) (text : List ℕ) → IsTrue old.tells → IsNoHistory L s n → Says s old new other text → IsOrBefore (status.NotAHistory n) other
+where_no_history L language s old new n _ _ told why (bad_line m is) = inr (omega arith)
+where_no_history L language s old new n _ _ told why (refused q is) = inr (omega arith)
+where_no_history L language s old new n _ _ told why (reported text report) = absurd (executing s (resume_executes s why.0) (reported_line s text report))
+where_no_history L language s old new n _ _ told why (of_file other text is line accepted gives) =
+    ordered (status.NotAHistory n) other is (λ low. (gives told L language).1.history n low why) (same_history L s new.seen text n other why is (gives told L language).0)

@@ -7,7 +7,7 @@ use Rattle.wf_cli.proofs.Causes.{same_ok, same_err, same_some, both, executing}
 use Rattle.wf_cli.proofs.Together.{where_told, same_bytes}
 use Rattle.wf_cli.proofs.Moments.{early_nothing, late_going}
 use Rattle.wf_cli.proofs.Opens.{passed_all}
-use Rattle.wf_cli.specs.Reports.{layout_of, refusal_by, the_reports, why_refused}
+use Rattle.wf_cli.specs.Reports.{layout_of, the_reports}
 use Rattle.wf_cli.specs.Said.{SaysStatus, SaysFault, SaysReport, SaysBadLine, SaysSource, SaysTree, SaysLayout, DidLittle, SafeSince, Unwritten, HasNoCause, FaultHolds, Opening, SaysResult, SaysHistory, Going, IsEnd, Worked}
 use Rattle.wf_cli.specs.Top.{IsLineOf, IsBadLine, IsRefused, HasOtherMagic, IsStarted, IsNotStarted, IsNoHistory, Reported, IsAccepted, IsOfFile, IsPassed, Gives, Says, bad_line, refused, reported, of_file}
 use Rattle.wf_cli.specs.declared.end.Said.{Said}
@@ -18,7 +18,7 @@ use Rattle.wf_engine.specs.Kept as kept
 use Rattle.wf_engine.specs.Printed as end
 use Rattle.wf_engine.specs.Printed.{Scene, uses_source, executes, status_of, outcome_text}
 use Rattle.wf_engine.specs.Safe.{SafeAt}
-use Rattle.wf_engine.specs.TheLanguage.{the_language}
+use Rattle.wf_engine.specs.TheLanguage.{InTheLanguage, IsTheLanguage}
 use Rattle.wf_engine.specs.declared.engine.Engine.{Engine}
 use Rattle.wf_engine.specs.declared.fault.EngineFault.{EngineFault}
 use Rattle.wf_engine.specs.declared.fault.EngineFault.TheVariants as engine
@@ -35,8 +35,11 @@ use Rattle.wf_line.specs.declared.read.LineFault.{LineFault}
 use Rattle.wf_line.specs.declared.read.LineFault.TheVariants as words
 use Rattle.wf_model.specs.Config.{Outcome, Active, Returned, Raised, Cancelled}
 use Rattle.wf_replay.specs.History.{Standing, history}
-use Rattle.wf_source.specs.Sources.{read_source, read_tree}
-use Rattle.wf_source.specs.Views.{Tells}
+use Rattle.wf_replay.specs.Language.{Language}
+use Rattle.wf_source.specs.Laws.{NotBoth}
+use Rattle.wf_source.specs.Programs.{IsRefusalOf, IsSourceOf}
+use Rattle.wf_source.specs.Sources.{read_tree}
+use Rattle.wf_source.specs.Views.{TellsOf}
 use Rattle.wf_source.specs.declared.fault.SourceFault.{SourceFault}
 use Rattle.wf_source.specs.declared.fault.SourceFault.TheVariants as source_fault
 use Rattle.wf_status.specs.Refusals.{refusal_text}
@@ -52,68 +55,68 @@ use Rattle.wf_yaml_write.specs.Layout.{written}
 says_line : (s : Scene) (old new : World) (st : Status) (line : List ℕ) (it : Said) → Says s old new st line → status_text st ≡ Some line → SaysStatus st it → Says s old new it.status it.text.items
 says_line s old new st line it says is that = subst (λ t. Says s old new it.status t) (sym (that.text line is)) (subst (λ x. Says s old new x line) (sym that.status) says)
 
-gives_line : (s : Scene) (image : List ℕ) (st : Status) (line : List ℕ) (it : Said) → Gives s image st line → status_text st ≡ Some line → SaysStatus st it → Gives s image it.status it.text.items
-gives_line s image st line it gives is that = subst (λ t. Gives s image it.status t) (sym (that.text line is)) (subst (λ x. Gives s image x line) (sym that.status) gives)
+gives_line : (L : Language) (s : Scene) (image : List ℕ) (st : Status) (line : List ℕ) (it : Said) → Gives L s image st line → status_text st ≡ Some line → SaysStatus st it → Gives L s image it.status it.text.items
+gives_line L s image st line it gives is that = subst (λ t. Gives L s image it.status t) (sym (that.text line is)) (subst (λ x. Gives L s image x line) (sym that.status) gives)
 
 -- ## A command that touches no file
 -- it did nothing
-nothing_done : (s : Scene) (w : World) → ((c : List ℕ) (d : List Deed) → w.left_since w.moment c d → w.may_leave c × (d ≡ w.deeds)) → SafeSince s w w
-nothing_done s w only fit O = started w (SafeAt the_language O the_reports s None w) only (λ c may. early_nothing O s w c w.deeds may refl)
+nothing_done : (s : Scene) (w : World) → ((c : List ℕ) (d : List Deed) → w.left_since w.moment c d → w.may_leave c × (d ≡ w.deeds)) → InTheLanguage (λ L. SafeSince L s w w)
+nothing_done s w only L language fit O = started w (SafeAt L O the_reports s None w) only (λ c may. early_nothing L O s w c w.deeds may refl)
 
 pub still_unwritten : (w : World) → ((c : List ℕ) (d : List Deed) → w.left_since w.moment c d → w.may_leave c × (d ≡ w.deeds)) → Unwritten w w
 still_unwritten w only = (started w (λ c d. w.may_leave c) only (λ c may. may), refl)
 
 pub worked_nothing : (s : Scene) (w : World) (r : Result Said Silence) (little : DidLittle w w) → ((c : List ℕ) (d : List Deed) → w.left_since w.moment c d → w.may_leave c × (d ≡ w.deeds))
-    → IfOk r (λ it. (image : List ℕ) → Gives s image it.status it.text.items) → Worked s w w r
+    → InTheLanguage (λ L. IfOk r (λ it. (image : List ℕ) → Gives L s image it.status it.text.items)) → Worked s w w r
 worked_nothing s w r little only gives = record {
   little = little;
   safe = nothing_done s w only;
-  gives = every r gives;
-  finished = λ st line is ended. (still_unwritten w only, refl);
-  refused = λ why. still_unwritten w only;
+  gives = λ L language. every L r (gives L language);
+  finished = λ L language st line is ended. (still_unwritten w only, refl);
+  refused = λ L language why. still_unwritten w only;
   reports = λ line. still_unwritten w only;
 }
   where
-    every : (q : Result Said Silence) → IfOk q (λ it. (image : List ℕ) → Gives s image it.status it.text.items) → IfOk q (λ it. (image : List ℕ) → w.may_leave image → Gives s image it.status it.text.items)
-    every (Ok it) gives = λ image may. gives image
-    every (Err e) gives = tt
+    every : (L : Language) (q : Result Said Silence) → IfOk q (λ it. (image : List ℕ) → Gives L s image it.status it.text.items) → IfOk q (λ it. (image : List ℕ) → w.may_leave image → Gives L s image it.status it.text.items)
+    every L (Ok it) gives = λ image may. gives image
+    every L (Err e) gives = tt
 
 -- words that are no line
-pub gives_bad_line : (s : Scene) (n : ℕ) (r : Result Said Silence) → IsBadLine s n → IfOk r (SaysStatus (status.BadLine n)) → IfOk r (λ it. (image : List ℕ) → Gives s image it.status it.text.items)
-gives_bad_line s n (Ok it) bad says = λ image. gives_line s image (status.BadLine n) (line_end (codes "bad line at word " ++ decimal n)) it (end.bad_line n bad) refl says
-gives_bad_line s n (Err e) bad says = tt
+pub gives_bad_line : (L : Language) (s : Scene) (n : ℕ) (r : Result Said Silence) → IsBadLine s n → IfOk r (SaysStatus (status.BadLine n)) → IfOk r (λ it. (image : List ℕ) → Gives L s image it.status it.text.items)
+gives_bad_line L s n (Ok it) bad says = λ image. gives_line L s image (status.BadLine n) (line_end (codes "bad line at word " ++ decimal n)) it (end.bad_line n bad) refl says
+gives_bad_line L s n (Err e) bad says = tt
 
 pub end_bad_line : (s : Scene) (old new : World) (a b : ℕ) (f g : Faults) (n : ℕ) (it : Said) → IsBadLine s n → SaysStatus (status.BadLine n) it → IsEnd s old new a b f g (Ok it)
 end_bad_line s old new a b f g n it bad says = says_line s old new (status.BadLine n) (line_end (codes "bad line at word " ++ decimal n)) it (bad_line n bad) refl says
 
 -- a source that is refused
-pub gives_refused : (s : Scene) (why : Refusal) (it : Said) → IsRefused s why → SaysStatus (status.Refused why) it → (image : List ℕ) → Gives s image it.status it.text.items
-gives_refused s why it is says = λ image. gives_line s image (status.Refused why) (line_end (refusal_text why)) it (end.refused why is) refl says
+pub gives_refused : (L : Language) (s : Scene) (why : Refusal) (it : Said) → IsRefused s why → SaysStatus (status.Refused why) it → (image : List ℕ) → Gives L s image it.status it.text.items
+gives_refused L s why it is says = λ image. gives_line L s image (status.Refused why) (line_end (refusal_text why)) it (end.refused why is) refl says
 
 pub end_refused : (s : Scene) (old new : World) (a b : ℕ) (f g : Faults) (why : Refusal) (it : Said) → IsRefused s why → SaysStatus (status.Refused why) it → IsEnd s old new a b f g (Ok it)
 end_refused s old new a b f g why it is says = says_line s old new (status.Refused why) (line_end (refusal_text why)) it (refused why is) refl says
 
 -- a report
-pub gives_report : (s : Scene) (text : List ℕ) (it : Said) → Reported s text → (it.status ≡ status.Done) × (it.text.items ≡ text) → (image : List ℕ) → Gives s image it.status it.text.items
-gives_report s text it report says = λ image. subst (λ t. Gives s image it.status t) (sym says.1) (subst (λ x. Gives s image x text) (sym says.0) (end.done text report))
+pub gives_report : (L : Language) (s : Scene) (text : List ℕ) (it : Said) → Reported s text → (it.status ≡ status.Done) × (it.text.items ≡ text) → (image : List ℕ) → Gives L s image it.status it.text.items
+gives_report L s text it report says = λ image. subst (λ t. Gives L s image it.status t) (sym says.1) (subst (λ x. Gives L s image x text) (sym says.0) (end.done text report))
 
 pub end_report : (s : Scene) (old new : World) (a b : ℕ) (f g : Faults) (text : List ℕ) (it : Said) → Reported s text → (it.status ≡ status.Done) × (it.text.items ≡ text) → IsEnd s old new a b f g (Ok it)
 end_report s old new a b f g text it report says = subst (λ t. Says s old new it.status t) (sym says.1) (subst (λ x. Says s old new x text) (sym says.0) (reported text report))
 
 -- ## A file that isn't opened
 -- the status and the line of a fault
-fault_gives : (s : Scene) (f : EngineFault) (it : Said) → FaultHolds s f → SaysFault f (Ok it) → ((image : List ℕ) → Gives s image it.status it.text.items) × IsPassed s it.status × IsOfFile it.status
-fault_gives s engine.DiskFault it holds says = absurd (cc says)
-fault_gives s engine.NotAJournal it holds says =
-    (λ image. gives_line s image status.NotAJournal (line_end (codes "not a journal")) it (end.not_a_journal holds.0) refl says, subst (IsPassed s) (sym says.status) holds.1, inl says.status)
-fault_gives s (engine.NotAHistory n) it holds says =
-    (λ image. gives_line s image (status.NotAHistory n) (line_end (codes "not a history at record " ++ decimal n)) it (end.not_a_history n holds.0) refl says, subst (IsPassed s) (sym says.status) holds.1, inr (inr (inr (inl (n, says.status)))))
-fault_gives s engine.AlreadyStarted it holds says =
-    (λ image. gives_line s image status.AlreadyStarted (line_end (codes "already started")) it (end.already_started holds.0) refl says, subst (IsPassed s) (sym says.status) holds.1, inr (inl says.status))
-fault_gives s engine.NotStarted it holds says =
-    (λ image. gives_line s image status.NotStarted (line_end (codes "not started")) it (end.not_started holds.0) refl says, subst (IsPassed s) (sym says.status) holds.1, inr (inr (inl says.status)))
-fault_gives s engine.Closed it holds says = absurd (cc says)
-fault_gives s engine.OutOfMemory it holds says = absurd (cc says)
+fault_gives : (L : Language) (s : Scene) (f : EngineFault) (it : Said) → FaultHolds L s f → SaysFault f (Ok it) → ((image : List ℕ) → Gives L s image it.status it.text.items) × IsPassed L s it.status × IsOfFile it.status
+fault_gives L s engine.DiskFault it holds says = absurd (cc says)
+fault_gives L s engine.NotAJournal it holds says =
+    (λ image. gives_line L s image status.NotAJournal (line_end (codes "not a journal")) it (end.not_a_journal holds.0) refl says, subst (IsPassed L s) (sym says.status) holds.1, inl says.status)
+fault_gives L s (engine.NotAHistory n) it holds says =
+    (λ image. gives_line L s image (status.NotAHistory n) (line_end (codes "not a history at record " ++ decimal n)) it (end.not_a_history n holds.0) refl says, subst (IsPassed L s) (sym says.status) holds.1, inr (inr (inr (inl (n, says.status)))))
+fault_gives L s engine.AlreadyStarted it holds says =
+    (λ image. gives_line L s image status.AlreadyStarted (line_end (codes "already started")) it (end.already_started holds.0) refl says, subst (IsPassed L s) (sym says.status) holds.1, inr (inl says.status))
+fault_gives L s engine.NotStarted it holds says =
+    (λ image. gives_line L s image status.NotStarted (line_end (codes "not started")) it (end.not_started holds.0) refl says, subst (IsPassed L s) (sym says.status) holds.1, inr (inr (inl says.status)))
+fault_gives L s engine.Closed it holds says = absurd (cc says)
+fault_gives L s engine.OutOfMemory it holds says = absurd (cc says)
 
 -- a fault is of the file, whether or not the host tells
 fault_of_file : (f : EngineFault) (it : Said) → SaysFault f (Ok it) → IsOfFile it.status
@@ -141,10 +144,10 @@ fault_silence engine.NotStarted e says = inr says
 fault_silence engine.Closed e says = inr (err_is e silence.OutOfMemory says)
 fault_silence engine.OutOfMemory e says = inr (err_is e silence.OutOfMemory says)
 
-pub end_fault : (s : Scene) (old new : World) (a b : ℕ) (f g : Faults) (why : EngineFault) (r : Result Said Silence) → SaysFault why r → IsLineOf s (λ c. executes c ≡ true) → IsAccepted s → Told old (FaultHolds s why)
+pub end_fault : (s : Scene) (old new : World) (a b : ℕ) (f g : Faults) (why : EngineFault) (r : Result Said Silence) → SaysFault why r → IsLineOf s (λ c. executes c ≡ true) → IsAccepted s → Told old (InTheLanguage (λ L. FaultHolds L s why))
     → (why ≡ engine.DiskFault → Rose f.disk g.disk) → IsEnd s old new a b f g r
 end_fault s old new a b f g why (Ok it) says line accepted holds rose =
-    of_file it.status it.text.items (fault_of_file why it says) line accepted (λ told. let x = fault_gives s why it (holds told) says in (x.0 new.seen, x.1))
+    of_file it.status it.text.items (fault_of_file why it says) line accepted (λ told L language. let x = fault_gives L s why it (holds told L language) says in (x.0 new.seen, x.1))
 end_fault s old new a b f g why (Err e) says line accepted holds rose =
     ⊎_elim (λ disk. subst (λ x. IsEnd s old new a b f g (Err x)) (sym disk.1) (line, accepted, rose disk.0)) (λ lack. subst (λ x. IsEnd s old new a b f g (Err x)) (sym lack) tt) (fault_silence why e says)
 
@@ -153,15 +156,15 @@ pub worked_fault : (s : Scene) (command : kept.Command) (old new : World) (why :
 worked_fault s command old new why r o says line which = record {
   little = o.little;
   safe = o.safe;
-  gives = given r says;
-  finished = λ st line2 is ended. (o.resumed (which line2), o.finished st line2 is ended);
+  gives = λ L language. given L language r says;
+  finished = λ L language st line2 is ended. (o.resumed (which line2), o.finished L language st line2 is ended);
   refused = o.refused;
   reports = λ other. absurd (executing s line other);
 }
   where
-    given : (q : Result Said Silence) → SaysFault why q → IfOk q (λ it. (image : List ℕ) → new.may_leave image → Gives s image it.status it.text.items)
-    given (Ok it) says = λ image may. (fault_gives s why it o.fault says).0 image
-    given (Err e) says = tt
+    given : (L : Language) → IsTheLanguage L → (q : Result Said Silence) → SaysFault why q → IfOk q (λ it. (image : List ℕ) → new.may_leave image → Gives L s image it.status it.text.items)
+    given L language (Ok it) says = λ image may. (fault_gives L s why it (o.fault L language) says).0 image
+    given L language (Err e) says = tt
 
 -- ## The outcome
 -- a status that is said of an outcome is of the file
@@ -172,28 +175,28 @@ outcome_of_file (Raised e) st is = inr (inr (inr (inr (inr (sym (same_some (Some
 outcome_of_file Cancelled st is = let no : None ≡ Some st = is in absurd (cc no)
 
 -- the outcome of what stands there
-history_gives : (s : Scene) (new : World) (it : Said) → IsLineOf s (λ c. executes c ≡ true) → SaysHistory new it → (image : List ℕ) → new.may_leave image → Gives s image it.status it.text.items
-history_gives s new it line says image may =
-    subst (λ t. Gives s image it.status t) (sym says.says.text)
-    (end.ended says.standing.config.outcome it.status (line, (says.standing, subst (λ f. history the_language (records f) ≡ Ok says.standing) (sym (says.settled image may)) says.history, refl)) says.says.status)
+history_gives : (L : Language) (s : Scene) (new : World) (it : Said) → IsLineOf s (λ c. executes c ≡ true) → SaysHistory L new it → (image : List ℕ) → new.may_leave image → Gives L s image it.status it.text.items
+history_gives L s new it line says image may =
+    subst (λ t. Gives L s image it.status t) (sym says.says.text)
+    (end.ended says.standing.config.outcome it.status (line, (says.standing, subst (λ f. history L (records f) ≡ Ok says.standing) (sym (says.settled image may)) says.history, refl)) says.says.status)
 
 module _ (s : Scene) (command : kept.Command) (old mid new : World) (e : Engine) (r : Result Said Silence) (line : IsLineOf s (λ c. executes c ≡ true)) (which : IsLineOf s (λ c. c ≡ Resume) → command ≡ kept.Resume) (found : old.seen ≡ s.found)
-    (counts : CountsNow mid) (o : Opening command s old mid (Ok e)) (g : Going command (memory e) o.little.done mid new r) where
-  given : (q : Result Said Silence) → IfOk q (SaysHistory new) → IfOk q (λ it. (image : List ℕ) → new.may_leave image → Gives s image it.status it.text.items)
-  given (Ok it) says = history_gives s new it line says
-  given (Err x) says = tt
+    (counts : CountsNow mid) (o : Opening command s old mid (Ok e)) (g : InTheLanguage (λ L. Going L command (memory e) o.little.done mid new r)) (deeds : new.deeds ≡ mid.deeds) where
+  given : (L : Language) (q : Result Said Silence) → IfOk q (SaysHistory L new) → IfOk q (λ it. (image : List ℕ) → new.may_leave image → Gives L s image it.status it.text.items)
+  given L (Ok it) says = history_gives L s new it line says
+  given L (Err x) says = tt
 
-  no_cause : HasOtherMagic s ⊎ IsStarted s ⊎ IsNotStarted s ⊎ ((n : ℕ) × IsNoHistory s n) → ⊥
-  no_cause (inl why) = o.opened.causes.magic why
-  no_cause (inr (inl why)) = o.opened.causes.started why
-  no_cause (inr (inr (inl why))) = o.opened.causes.not_started why
-  no_cause (inr (inr (inr (n, why)))) = o.opened.causes.history n why
+  no_cause : (L : Language) → IsTheLanguage L → HasOtherMagic s ⊎ IsStarted s ⊎ IsNotStarted s ⊎ ((n : ℕ) × IsNoHistory L s n) → ⊥
+  no_cause L language (inl why) = (o.opened L language).causes.magic why
+  no_cause L language (inr (inl why)) = (o.opened L language).causes.started why
+  no_cause L language (inr (inr (inl why))) = (o.opened L language).causes.not_started why
+  no_cause L language (inr (inr (inr (n, why)))) = (o.opened L language).causes.history n why
 
-  had_outcome : (st : Standing) → history the_language (records s.found) ≡ Ok st → st.config.outcome ≢ Active → Unwritten old mid → (memory e).config.outcome ≢ Active
-  had_outcome st is ended stays active =
-      let leads = o.opened.stands.leads in
-      let here : history the_language (records s.found) ≡ Ok leads.standing = subst (λ f. history the_language (records f) ≡ Ok leads.standing) (stays.1 ∙ found) leads.history in
-      let same : leads.standing ≡ st = same_ok (history the_language (records s.found)) leads.standing st here is in
+  had_outcome : (L : Language) → IsTheLanguage L → (st : Standing) → history L (records s.found) ≡ Ok st → st.config.outcome ≢ Active → Unwritten old mid → (memory e).config.outcome ≢ Active
+  had_outcome L language st is ended stays active =
+      let leads = (o.opened L language).stands.leads in
+      let here : history L (records s.found) ≡ Ok leads.standing = subst (λ f. history L (records f) ≡ Ok leads.standing) (stays.1 ∙ found) leads.history in
+      let same : leads.standing ≡ st = same_ok (history L (records s.found)) leads.standing st here is in
       ended (ap (λ (k : Standing). k.config.outcome) (sym same) ∙ ap (λ c. c.outcome) leads.config ∙ active)
 
   both_unwritten : Unwritten old mid → Unwritten mid new → Unwritten old new
@@ -204,22 +207,22 @@ module _ (s : Scene) (command : kept.Command) (old mid new : World) (e : Engine)
 
   pub worked_going : Worked s old new r
   worked_going = record {
-    little = record { done = o.little.done; deeds = g.deeds ∙ o.little.deeds; small = o.little.small; silent = o.little.silent };
-    safe = λ fit O.
-        joined old mid new (SafeAt the_language O the_reports s None old) (Moment mid (KeptAt command (memory e) (records mid.seen) o.little.done)) (o.safe fit O) g.moments
-        (λ c d now. late_going O s command old mid o.little.done e c d o.opened o.little.deeds o.little.silent now);
-    gives = given r g.said;
-    finished = λ st line2 is ended.
+    little = record { done = o.little.done; deeds = deeds ∙ o.little.deeds; small = o.little.small; silent = o.little.silent };
+    safe = λ L language fit O.
+        joined old mid new (SafeAt L O the_reports s None old) (Moment mid (KeptAt L command (memory e) (records mid.seen) o.little.done)) (o.safe L language fit O) (g L language).moments
+        (λ c d now. late_going L O s command old mid o.little.done e c d (o.opened L language) o.little.deeds o.little.silent now);
+    gives = λ L language. given L r (g L language).said;
+    finished = λ L language st line2 is ended.
         let stays = o.resumed (which line2) in
-        (both_unwritten stays (g.finished (had_outcome st is ended stays)), g.deeds ∙ o.finished st line2 is ended);
-    refused = λ why. absurd (no_cause why);
+        (both_unwritten stays ((g L language).finished (had_outcome L language st is ended stays)), deeds ∙ o.finished L language st line2 is ended);
+    refused = λ L language why. absurd (no_cause L language why);
     reports = λ other. absurd (executing s line other);
   }
 
 pub end_going : (s : Scene) (old new : World) (a b : ℕ) (f g h : Faults) (r : Result Said Silence) → SaysResult g h r → IsLineOf s (λ c. executes c ≡ true) → IsAccepted s
-    → Told old (HasNoCause s × IfOk r (λ it. Gives s new.seen it.status it.text.items)) → (Rose g.disk h.disk → Rose f.disk h.disk) → IsEnd s old new a b f h r
+    → Told old (InTheLanguage (λ L. HasNoCause L s × IfOk r (λ it. Gives L s new.seen it.status it.text.items))) → (Rose g.disk h.disk → Rose f.disk h.disk) → IsEnd s old new a b f h r
 end_going s old new a b f g h (Ok it) (o, result, says) line accepted gives rose =
-    of_file it.status it.text.items (outcome_of_file o it.status says.status) line accepted (λ told. let x = gives told in (x.1, passed_all s it.status x.0))
+    of_file it.status it.text.items (outcome_of_file o it.status says.status) line accepted (λ told L language. let x = gives told L language in (x.1, passed_all L s it.status x.0))
 end_going s old new a b f g h (Err silence.Unread) says line accepted gives rose = absurd says
 end_going s old new a b f g h (Err silence.DiskFault) says line accepted gives rose = (line, accepted, rose says)
 end_going s old new a b f g h (Err silence.OutOfMemory) says line accepted gives rose = tt
@@ -235,7 +238,7 @@ lack_end : (s : Scene) (w : World) (a b : ℕ) (f g : Faults) (e : Silence) → 
 lack_end s w a b f g e is = subst (λ x. IsEnd s w w a b f g (Err x)) (sym is) tt
 
 lack_worked : (s : Scene) (w : World) (e : Silence) → OnlyNow w → Worked s w w (Err e)
-lack_worked s w e only = worked_nothing s w (Err e) (little_still w) only tt
+lack_worked s w e only = worked_nothing s w (Err e) (little_still w) only (λ L language. tt)
 
 -- a report
 pub report_end : (s : Scene) (w : World) (a b : ℕ) (f g : Faults) (text : List ℕ) (r : Result Said Silence) → Reported s text → SaysReport text r → IsEnd s w w a b f g r
@@ -243,7 +246,7 @@ report_end s w a b f g text (Ok it) report says = end_report s w w a b f g text 
 report_end s w a b f g text (Err e) report says = lack_end s w a b f g e says
 
 pub report_worked : (s : Scene) (w : World) (text : List ℕ) (r : Result Said Silence) → Reported s text → SaysReport text r → OnlyNow w → Worked s w w r
-report_worked s w text (Ok it) report says only = worked_nothing s w (Ok it) (little_still w) only (gives_report s text it report says)
+report_worked s w text (Ok it) report says only = worked_nothing s w (Ok it) (little_still w) only (λ L language. gives_report L s text it report says)
 report_worked s w text (Err e) report says only = lack_worked s w e only
 
 -- words that are no line
@@ -253,32 +256,27 @@ bad_line_end s w a b f g (words.BadLine n) (Err e) says bad = lack_end s w a b f
 bad_line_end s w a b f g words.OutOfMemory r says bad = subst (λ q. IsEnd s w w a b f g q) (sym says) tt
 
 pub bad_line_worked : (s : Scene) (w : World) (why : LineFault) (r : Result Said Silence) → SaysBadLine why r → ((n : ℕ) → why ≡ words.BadLine n → IsBadLine s n) → OnlyNow w → Worked s w w r
-bad_line_worked s w (words.BadLine n) (Ok it) says bad only = worked_nothing s w (Ok it) (little_still w) only (gives_bad_line s n (Ok it) (bad n refl) says)
+bad_line_worked s w (words.BadLine n) (Ok it) says bad only = worked_nothing s w (Ok it) (little_still w) only (λ L language. gives_bad_line L s n (Ok it) (bad n refl) says)
 bad_line_worked s w (words.BadLine n) (Err e) says bad only = lack_worked s w e only
 bad_line_worked s w words.OutOfMemory r says bad only = subst (λ q. Worked s w w q) (sym says) (lack_worked s w silence.OutOfMemory only)
 
 -- a source that is refused, and one that isn't read
 pub refused_worked : (s : Scene) (w : World) (why : Refusal) (it : Said) → IsRefused s why → SaysStatus (status.Refused why) it → OnlyNow w → Worked s w w (Ok it)
-refused_worked s w why it is says only = worked_nothing s w (Ok it) (little_still w) only (gives_refused s why it is says)
+refused_worked s w why it is says only = worked_nothing s w (Ok it) (little_still w) only (λ L language. gives_refused L s why it is says)
 
 pub silent_worked : (s : Scene) (w : World) (e : Silence) → OnlyNow w → Worked s w w (Err e)
 silent_worked s w e only = lack_worked s w e only
 
 -- a refusal of bytes that were read
-pub is_refused : (s : Scene) (l : PlainLine) (bytes : List ℕ) (why : Refusal) → end.Reads the_language the_reports s l bytes → l.command ≡ Run → read_source bytes ≡ Err why → IsRefused s why
-unfolding the_reports
-is_refused s l bytes why reads command is = (l, bytes, reads, ap (λ c. refusal_by c bytes) command ∙ ap why_refused is)
+pub is_refused : (s : Scene) (l : PlainLine) (bytes : List ℕ) (why : Refusal) → end.Reads s l bytes → l.command ≡ Run → IsRefusalOf bytes why → IsRefused s why
+is_refused s l bytes why reads command is = (l, bytes, reads, subst (λ c. end.refuses c bytes why) (sym command) is)
 
 -- bytes that are accepted are no others that are refused
-pub is_accepted : (s : Scene) (l : PlainLine) (bytes : List ℕ) (p : Program) → end.Reads the_language the_reports s l bytes → l.command ≡ Run → read_source bytes ≡ Ok p → IsAccepted s
-unfolding the_reports
-is_accepted s l bytes p reads command is =
+pub is_accepted : NotBoth → (s : Scene) (l : PlainLine) (bytes : List ℕ) (p : Program) → end.Reads s l bytes → l.command ≡ Run → IsSourceOf bytes p → IsAccepted s
+is_accepted apart s l bytes p reads command is =
     where_told s.source _ (λ left told why (m, other, (line, uses, first), refuses).
     let runs : m.command ≡ Run = ap (λ (k : PlainLine). k.command) (same_ok (line_of s.words) m l line reads.0) ∙ command in
-    absurd (none why (ap why_refused (sym is) ∙ ap (λ b. why_refused (read_source b)) (same_bytes s.source left bytes other told reads.2 first) ∙ ap (λ c. refusal_by c other) (sym runs) ∙ refuses)))
-  where
-    none : (why : Refusal) → None ≡ Some why → ⊥
-    none why never = cc never
+    apart bytes p why is (subst (λ b. IsRefusalOf b why) (same_bytes s.source left other bytes told first reads.2) (subst (λ c. end.refuses c other why) runs refuses)))
 
 -- a line that uses no source is accepted
 pub resume_accepted : (s : Scene) → IsLineOf s (λ c. c ≡ Resume) → IsAccepted s
@@ -288,9 +286,9 @@ resume_accepted s line = where_told s.source _ (λ left told why (m, other, (is,
     not_both_uses (c, is, uses) = let no : false ≡ true = ap uses_source (sym is) ∙ uses in cc no
 
 -- what is said of each file that a crash may leave is said of the one that reads
-pub given_seen : (s : Scene) (new : World) (r : Result Said Silence) → IfOk r (λ it. (image : List ℕ) → new.may_leave image → Gives s image it.status it.text.items) → new.may_leave new.seen → IfOk r (λ it. Gives s new.seen it.status it.text.items)
-given_seen s new (Ok it) gives may = gives new.seen may
-given_seen s new (Err e) gives may = tt
+pub given_seen : (L : Language) (s : Scene) (new : World) (r : Result Said Silence) → IfOk r (λ it. (image : List ℕ) → new.may_leave image → Gives L s image it.status it.text.items) → new.may_leave new.seen → IfOk r (λ it. Gives L s new.seen it.status it.text.items)
+given_seen L s new (Ok it) gives may = gives new.seen may
+given_seen L s new (Err e) gives may = tt
 
 pub no_said : (r : Result Said Silence) (P : Said → Type 0) → IsErr r → IfOk r P
 no_said (Ok it) P is = absurd (cc is)
@@ -302,13 +300,13 @@ lacks_engine command s old new (Ok e) is all = let no : false ≡ true = is.0 in
 lacks_engine command s old new (Err f) is all = all f is.1
 
 -- what is said of a source that isn't taken
-pub source_end : (s : Scene) (l : PlainLine) (w : World) (a b : ℕ) (f g : Faults) (bytes : List ℕ) (fault : SourceFault) (r : Result Said Silence) → end.Reads the_language the_reports s l bytes → l.command ≡ Run → Tells (read_source bytes) fault → SaysSource fault r
+pub source_end : (s : Scene) (l : PlainLine) (w : World) (a b : ℕ) (f g : Faults) (bytes : List ℕ) (fault : SourceFault) (r : Result Said Silence) → end.Reads s l bytes → l.command ≡ Run → TellsOf (IsRefusalOf bytes) fault → SaysSource fault r
     → IsEnd s w w a b f g r
 source_end s l w a b f g bytes (source_fault.Refused why) (Ok it) reads command tells says = end_refused s w w a b f g why it (is_refused s l bytes why reads command tells) says
 source_end s l w a b f g bytes (source_fault.Refused why) (Err e) reads command tells says = lack_end s w a b f g e says
 source_end s l w a b f g bytes source_fault.OutOfMemory r reads command tells says = subst (λ q. IsEnd s w w a b f g q) (sym says) tt
 
-pub source_worked : (s : Scene) (l : PlainLine) (w : World) (bytes : List ℕ) (fault : SourceFault) (r : Result Said Silence) → end.Reads the_language the_reports s l bytes → l.command ≡ Run → Tells (read_source bytes) fault → SaysSource fault r
+pub source_worked : (s : Scene) (l : PlainLine) (w : World) (bytes : List ℕ) (fault : SourceFault) (r : Result Said Silence) → end.Reads s l bytes → l.command ≡ Run → TellsOf (IsRefusalOf bytes) fault → SaysSource fault r
     → OnlyNow w → Worked s w w r
 source_worked s l w bytes (source_fault.Refused why) (Ok it) reads command tells says only = refused_worked s w why it (is_refused s l bytes why reads command tells) says only
 source_worked s l w bytes (source_fault.Refused why) (Err e) reads command tells says only = lack_worked s w e only
@@ -316,11 +314,11 @@ source_worked s l w bytes source_fault.OutOfMemory r reads command tells says on
 
 -- ## The layout of a source
 -- what is said of a tree is a report, and what is said of a refusal a refusal
-tree_said : (s : Scene) (l : PlainLine) (bytes : List ℕ) (r : Result Tree Refusal) (it : Said) → end.Reads the_language the_reports s l bytes → l.command ≡ Format → read_tree bytes ≡ r → SaysTree r it
+tree_said : (s : Scene) (l : PlainLine) (bytes : List ℕ) (r : Result Tree Refusal) (it : Said) → end.Reads s l bytes → l.command ≡ Format → read_tree bytes ≡ r → SaysTree r it
     → ((text : List ℕ) × Reported s text × ((it.status ≡ status.Done) × (it.text.items ≡ text))) ⊎ ((why : Refusal) × IsRefused s why × SaysStatus (status.Refused why) it)
 unfolding the_reports
 tree_said s l bytes (Ok t) it reads command is says = inl (written t, end.formatted l bytes (written t) reads command (ap layout_of is), says)
-tree_said s l bytes (Err why) it reads command is says = inr (why, (l, bytes, reads, ap (λ c. refusal_by c bytes) command ∙ ap why_refused is), says)
+tree_said s l bytes (Err why) it reads command is says = inr (why, (l, bytes, reads, subst (λ c. end.refuses c bytes why) (sym command) is), says)
 
 pub layout_end : (s : Scene) (l : PlainLine) (w : World) (a b : ℕ) (f g : Faults) (r : Result Said Silence) → line_of s.words ≡ Ok l → l.command ≡ Format → SaysLayout s.source a b r → IsEnd s w w a b f g r
 layout_end s l w a b f g (Ok it) is command (bytes, first, says) =

@@ -14,7 +14,7 @@ use Rattle.wf_engine.specs.Printed as end
 use Rattle.wf_engine.specs.Printed.{Scene, uses_source, executes, status_of, outcome_text}
 use Rattle.wf_engine.specs.Safe.{IsFit, IsSmall, SafeAt, command_by}
 use Rattle.wf_engine.specs.Starts.{start_of}
-use Rattle.wf_engine.specs.TheLanguage.{the_language}
+use Rattle.wf_engine.specs.TheLanguage.{InTheLanguage}
 use Rattle.wf_engine.specs.declared.engine.Engine.{Engine}
 use Rattle.wf_engine.specs.declared.fault.EngineFault.{EngineFault}
 use Rattle.wf_engine.specs.declared.fault.EngineFault.TheVariants as engine
@@ -36,6 +36,7 @@ use Rattle.wf_model.specs.Config.{Outcome, Active}
 use Rattle.wf_printing.specs.Printing.{PrintsFront, PrintsWhole, LeavesSome, TookNothing, PrintedSoFar}
 use Rattle.wf_replay.specs.At.{journal, next_session}
 use Rattle.wf_replay.specs.History.{Standing, history}
+use Rattle.wf_replay.specs.Language.{Language}
 use Rattle.wf_status.specs.Statuses.{status_text}
 use Rattle.wf_source.specs.Sources.{read_tree}
 use Rattle.wf_source.specs.declared.fault.SourceFault.{SourceFault}
@@ -116,51 +117,51 @@ pub record DidLittle (old new : World) : Type 0 where
   pub silent : printed done ≡ []
 
 -- what a crash at any moment by now may leave is safe
-abbrev pub SafeSince : Scene → World → World → Type 0
-SafeSince s old new = IsFit the_language s.found → (O : Outside) → LeavesOnly old new (SafeAt the_language O the_reports s None old)
+abbrev pub SafeSince : Language → Scene → World → World → Type 0
+SafeSince L s old new = IsFit L s.found → (O : Outside) → LeavesOnly old new (SafeAt L O the_reports s None old)
 
 -- where none was found, the records are the start of the line, of the source that was read and of the clock
 abbrev pub HasStartOfLine : Scene → List Deed → List (List ℕ) → Type 0
-HasStartOfLine s done J = records s.found ≡ [] → (l : PlainLine) × (bytes : List ℕ) × end.Reads the_language the_reports s l bytes
+HasStartOfLine s done J = records s.found ≡ [] → (l : PlainLine) × (bytes : List ℕ) × end.Reads s l bytes
     × ((t : ℕ) × Contains (nows done) t × (J ≡ record_bytes (Started (start_of l bytes t)) ∷ []))
 
 -- no cause of the file holds
-pub record HasNoCause (s : Scene) : Type 0 where
+pub record HasNoCause (L : Language) (s : Scene) : Type 0 where
   pub magic : ¬ HasOtherMagic s
   pub started : ¬ IsStarted s
   pub not_started : ¬ IsNotStarted s
-  pub history : (n : ℕ) → ¬ IsNoHistory s n
+  pub history : (n : ℕ) → ¬ IsNoHistory L s n
 
 -- an engine that stands for what was found, and for the start of the line where it was begun
-pub record IsOpened (command : kept.Command) (s : Scene) (done : List Deed) (new : World) (e : Engine) : Type 0 where
-  pub stands : StandsFor command (memory e) (records new.seen) done
-  pub number : (memory e).session ≡ next_session (journal the_language (records s.found))
+pub record IsOpened (L : Language) (command : kept.Command) (s : Scene) (done : List Deed) (new : World) (e : Engine) : Type 0 where
+  pub stands : StandsFor L command (memory e) (records new.seen) done
+  pub number : (memory e).session ≡ next_session (journal L (records s.found))
   pub added : List (List ℕ)
   pub keeps : records new.seen ≡ records s.found ++ added
   pub start : HasStartOfLine s done (records new.seen)
   pub is_of : command_by (line_of s.words) ≡ command
-  pub causes : HasNoCause s
+  pub causes : HasNoCause L s
 
 -- why a file isn't opened
-abbrev pub FaultHolds : Scene → EngineFault → Type 0
-FaultHolds s engine.DiskFault = Unit {0}
-FaultHolds s engine.NotAJournal = HasOtherMagic s × IsPassed s status.NotAJournal
-FaultHolds s (engine.NotAHistory n) = IsNoHistory s n × IsPassed s (status.NotAHistory n)
-FaultHolds s engine.AlreadyStarted = IsStarted s × IsPassed s status.AlreadyStarted
-FaultHolds s engine.NotStarted = IsNotStarted s × IsPassed s status.NotStarted
-FaultHolds s engine.Closed = Unit {0}
-FaultHolds s engine.OutOfMemory = Unit {0}
+abbrev pub FaultHolds : Language → Scene → EngineFault → Type 0
+FaultHolds L s engine.DiskFault = Unit {0}
+FaultHolds L s engine.NotAJournal = HasOtherMagic s × IsPassed L s status.NotAJournal
+FaultHolds L s (engine.NotAHistory n) = IsNoHistory L s n × IsPassed L s (status.NotAHistory n)
+FaultHolds L s engine.AlreadyStarted = IsStarted s × IsPassed L s status.AlreadyStarted
+FaultHolds L s engine.NotStarted = IsNotStarted s × IsPassed L s status.NotStarted
+FaultHolds L s engine.Closed = Unit {0}
+FaultHolds L s engine.OutOfMemory = Unit {0}
 
 -- the opening of a file, where the host tells
 pub record Opening (command : kept.Command) (s : Scene) (old new : World) (r : Result Engine EngineFault) : Type 0 where
   pub little : DidLittle old new
-  pub safe : SafeSince s old new
-  pub opened : IfOk r (IsOpened command s little.done new)
-  pub fault : IfErr r (FaultHolds s)
+  pub safe : InTheLanguage (λ L. SafeSince L s old new)
+  pub opened : InTheLanguage (λ L. IfOk r (IsOpened L command s little.done new))
+  pub fault : InTheLanguage (λ L. IfErr r (FaultHolds L s))
   -- what is refused or only gone on with isn't written by this
-  pub refused : HasOtherMagic s ⊎ IsStarted s ⊎ IsNotStarted s ⊎ ((n : ℕ) × IsNoHistory s n) → Unwritten old new
+  pub refused : InTheLanguage (λ L. HasOtherMagic s ⊎ IsStarted s ⊎ IsNotStarted s ⊎ ((n : ℕ) × IsNoHistory L s n) → Unwritten old new)
   pub resumed : command ≡ kept.Resume → Unwritten old new
-  pub finished : (st : Standing) → IsLineOf s (λ c. c ≡ Resume) → history the_language (records s.found) ≡ Ok st → st.config.outcome ≢ Active → new.deeds ≡ old.deeds
+  pub finished : InTheLanguage (λ L. (st : Standing) → IsLineOf s (λ c. c ≡ Resume) → history L (records s.found) ≡ Ok st → st.config.outcome ≢ Active → new.deeds ≡ old.deeds)
 
 -- ## Going on to the outcome
 -- an outcome is said, or the disk failed, or there was no memory
@@ -171,17 +172,17 @@ SaysResult faults faults2 (Err silence.DiskFault) = Rose faults.disk faults2.dis
 SaysResult faults faults2 (Err silence.OutOfMemory) = Unit {0}
 
 -- what is said is the outcome of the history of the file, and a crash leaves just this
-pub record SaysHistory (new : World) (said : Said) : Type 0 where
+pub record SaysHistory (L : Language) (new : World) (said : Said) : Type 0 where
   pub standing : Standing
-  pub history : history the_language (records new.seen) ≡ Ok standing
+  pub history : history L (records new.seen) ≡ Ok standing
   pub says : SaysOutcome said standing.config.outcome
   pub settled : Only new.seen new.may_leave
 
 -- an execution that goes on to its outcome, where the host tells
-pub record Going (command : kept.Command) (m : Memory) (D : List Deed) (old new : World) (r : Result Said Silence) : Type 0 where
-  pub moments : LeavesOnly old new (Moment old (KeptAt command m (records old.seen) D))
+pub record Going (L : Language) (command : kept.Command) (m : Memory) (D : List Deed) (old new : World) (r : Result Said Silence) : Type 0 where
+  pub moments : LeavesOnly old new (Moment old (KeptAt L command m (records old.seen) D))
   pub deeds : new.deeds ≡ old.deeds
-  pub said : IfOk r (SaysHistory new)
+  pub said : IfOk r (SaysHistory L new)
   pub finished : m.config.outcome ≢ Active → Unwritten old new
 
 -- ## What a command has done before it prints
@@ -196,10 +197,10 @@ IsEnd s old new reads reads2 faults faults2 (Err silence.OutOfMemory) = Unit {0}
 -- and where nothing is to be written nothing was.
 pub record Worked (s : Scene) (old new : World) (r : Result Said Silence) : Type 0 where
   pub little : DidLittle old new
-  pub safe : SafeSince s old new
-  pub gives : IfOk r (λ said. (image : List ℕ) → new.may_leave image → Gives s image said.status said.text.items)
-  pub finished : (st : Standing) → IsLineOf s (λ c. c ≡ Resume) → history the_language (records s.found) ≡ Ok st → st.config.outcome ≢ Active → Unwritten old new × (new.deeds ≡ old.deeds)
-  pub refused : HasOtherMagic s ⊎ IsStarted s ⊎ IsNotStarted s ⊎ ((n : ℕ) × IsNoHistory s n) → Unwritten old new
+  pub safe : InTheLanguage (λ L. SafeSince L s old new)
+  pub gives : InTheLanguage (λ L. IfOk r (λ said. (image : List ℕ) → new.may_leave image → Gives L s image said.status said.text.items))
+  pub finished : InTheLanguage (λ L. (st : Standing) → IsLineOf s (λ c. c ≡ Resume) → history L (records s.found) ≡ Ok st → st.config.outcome ≢ Active → Unwritten old new × (new.deeds ≡ old.deeds))
+  pub refused : InTheLanguage (λ L. HasOtherMagic s ⊎ IsStarted s ⊎ IsNotStarted s ⊎ ((n : ℕ) × IsNoHistory L s n) → Unwritten old new)
   pub reports : IsLineOf s (λ c. executes c ≡ false) → Unwritten old new
 
 -- ## Printing

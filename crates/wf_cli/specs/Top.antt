@@ -7,19 +7,19 @@ use Rattle.wf_cli.specs.Reports.{the_reports}
 use Rattle.wf_engine.specs.Deeds.{printed}
 use Rattle.wf_engine.specs.Outside.{Outside}
 use Rattle.wf_engine.specs.Printed as end
-use Rattle.wf_engine.specs.Printed.{Scene, uses_source, uses_journal, executes, status_of, outcome_text}
+use Rattle.wf_engine.specs.Printed.{Scene, uses_source, executes, status_of, outcome_text}
+pub use Rattle.wf_engine.specs.Printed.{IsLine, IsBadLine, IsLineOf, IsRefused, HasOtherMagic, IsStarted, IsNotStarted}
 use Rattle.wf_engine.specs.Safe.{IsFit, SafeAt}
-use Rattle.wf_engine.specs.TheLanguage.{the_language}
+use Rattle.wf_engine.specs.TheLanguage.{InTheLanguage}
 use Rattle.wf_host.specs.Source.{WhereTold}
 use Rattle.wf_host.specs.World.{World, Faults, Told, LeavesOnly, Rose}
 use Rattle.wf_host.specs.declared.data.Deed.{Deed}
 use Rattle.wf_host.specs.declared.data.Deed.TheVariants.{Print}
 use Rattle.wf_journal.specs.Records.{records}
-use Rattle.wf_line.specs.Lines.{PlainLine}
-use Rattle.wf_line.specs.declared.command.Command.{Command}
 use Rattle.wf_line.specs.declared.command.Command.TheVariants.{Resume}
 use Rattle.wf_model.specs.Config.{Outcome, Active}
 use Rattle.wf_replay.specs.History.{Standing, history}
+use Rattle.wf_replay.specs.Language.{Language}
 use Rattle.wf_status.specs.Refusals.{refusal_text}
 use Rattle.wf_status.specs.Statuses.{line_end, rank}
 use Rattle.wf_status.specs.declared.Refusal.{Refusal}
@@ -37,39 +37,18 @@ pub record Call : Type 1 where
   pub faults_new : Faults
   pub status : Status
 
--- ## Causes, in this language
-abbrev pub IsLine : Scene → PlainLine → Type 0
-IsLine s l = end.IsLine the_language the_reports s l
+-- ## Causes
+abbrev pub IsNoHistory : Language → Scene → ℕ → Type 0
+IsNoHistory L s n = end.IsNoHistory L the_reports s n
 
-abbrev pub IsBadLine : Scene → ℕ → Type 0
-IsBadLine s n = end.IsBadLine the_language the_reports s n
-
-abbrev pub IsLineOf : Scene → (Command → Type 0) → Type 0
-IsLineOf s P = end.IsLineOf the_language the_reports s P
-
-abbrev pub IsRefused : Scene → Refusal → Type 0
-IsRefused s r = end.IsRefused the_language the_reports s r
-
-abbrev pub HasOtherMagic : Scene → Type 0
-HasOtherMagic s = end.HasOtherMagic the_language the_reports s
-
-abbrev pub IsStarted : Scene → Type 0
-IsStarted s = end.IsStarted the_language the_reports s
-
-abbrev pub IsNotStarted : Scene → Type 0
-IsNotStarted s = end.IsNotStarted the_language the_reports s
-
-abbrev pub IsNoHistory : Scene → ℕ → Type 0
-IsNoHistory s n = end.IsNoHistory the_language the_reports s n
-
-abbrev pub HasOutcome : Scene → List ℕ → Outcome → Type 0
-HasOutcome s image o = end.HasOutcome the_language the_reports s image o
+abbrev pub HasOutcome : Language → Scene → List ℕ → Outcome → Type 0
+HasOutcome L s image o = end.HasOutcome L the_reports s image o
 
 abbrev pub Reported : Scene → List ℕ → Type 0
-Reported s text = end.Reported the_language the_reports s text
+Reported s text = end.Reported the_reports s text
 
-abbrev pub Gives : Scene → List ℕ → Status → List ℕ → Type 0
-Gives s image st text = end.Gives the_language the_reports s image st text
+abbrev pub Gives : Language → Scene → List ℕ → Status → List ℕ → Type 0
+Gives L s image st text = end.Gives L the_reports s image st text
 
 -- a deed that prints
 abbrev pub IsPrint : Deed → Type 0
@@ -86,18 +65,18 @@ abbrev pub IsOfFile : Status → Type 0
 IsOfFile st = (st ≡ status.NotAJournal) ⊎ (st ≡ status.AlreadyStarted) ⊎ (st ≡ status.NotStarted) ⊎ ((n : ℕ) × (st ≡ status.NotAHistory n)) ⊎ (st ≡ status.Done) ⊎ (st ≡ status.Raised)
 
 -- the causes of the file that are looked at before this status didn't come
-pub record IsPassed (s : Scene) (st : Status) : Type 0 where
+pub record IsPassed (L : Language) (s : Scene) (st : Status) : Type 0 where
   pub magic : rank status.NotAJournal < rank st → ¬ HasOtherMagic s
   pub started : rank status.AlreadyStarted < rank st → ¬ IsStarted s
   pub not_started : rank status.NotStarted < rank st → ¬ IsNotStarted s
-  pub history : (n : ℕ) → rank (status.NotAHistory n) < rank st → ¬ IsNoHistory s n
+  pub history : (n : ℕ) → rank (status.NotAHistory n) < rank st → ¬ IsNoHistory L s n
 
--- a status and its text, for the file that the call leaves
+-- a status and its text; one that the file decides is told in the language, of the file that the call leaves
 pub data Says (s : Scene) (old new : World) : Status → List ℕ → Type 0 where
   bad_line : (n : ℕ) → IsBadLine s n → Says s old new (status.BadLine n) (line_end (codes "bad line at word " ++ decimal n))
   refused : (r : Refusal) → IsRefused s r → Says s old new (status.Refused r) (line_end (refusal_text r))
   reported : (text : List ℕ) → Reported s text → Says s old new status.Done text
-  of_file : (st : Status) (text : List ℕ) → IsOfFile st → IsLineOf s (λ c. executes c ≡ true) → IsAccepted s → Told old (Gives s new.seen st text × IsPassed s st) → Says s old new st text
+  of_file : (st : Status) (text : List ℕ) → IsOfFile st → IsLineOf s (λ c. executes c ≡ true) → IsAccepted s → Told old (InTheLanguage (λ L. Gives L s new.seen st text × IsPassed L s st)) → Says s old new st text
 
 -- ## How the call ends
 module _ (x : Call) where
@@ -158,22 +137,24 @@ module _ (x : Call) where
   abbrev pub NotStartedRow : Type 0
   NotStartedRow = Exactly status.NotStarted (IsNotStarted x.scene) (line_end (codes "not started"))
 
+module _ (L : Language) (x : Call) where
   abbrev pub NotAHistoryRow : Type 0
-  NotAHistoryRow = (n : ℕ) → Exactly (status.NotAHistory n) (IsNoHistory x.scene n) (line_end (codes "not a history at record " ++ decimal n))
+  NotAHistoryRow = (n : ℕ) → Exactly x (status.NotAHistory n) (IsNoHistory L x.scene n) (line_end (codes "not a history at record " ++ decimal n))
 
   -- of a command that executes: the outcome that the journal has at the end
   pub record OutcomeRow : Type 0 where
     pub comes : IsLineOf x.scene (λ c. executes c ≡ true) → (x.status ≡ status.Done) ⊎ (x.status ≡ status.Raised)
-        → (o : Outcome) × HasOutcome x.scene x.new.seen o × (status_of o ≡ Some x.status) × Prints (outcome_text o)
-    pub only : (o : Outcome) (st : Status) → status_of o ≡ Some st → HasOutcome x.scene x.new.seen o → IsOrYields st
+        → (o : Outcome) × HasOutcome L x.scene x.new.seen o × (status_of o ≡ Some x.status) × Prints x (outcome_text o)
+    pub only : (o : Outcome) (st : Status) → status_of o ≡ Some st → HasOutcome L x.scene x.new.seen o → IsOrYields x st
 
+module _ (x : Call) where
   -- of another command: its report
   pub record DoneRow : Type 0 where
-    pub comes : IsLineOf x.scene (λ c. executes c ≡ false) → x.status ≡ status.Done → (text : List ℕ) × Reported x.scene text × Prints text
-    pub only : (text : List ℕ) → Reported x.scene text → IsOrYields status.Done
+    pub comes : IsLineOf x.scene (λ c. executes c ≡ false) → x.status ≡ status.Done → (text : List ℕ) × Reported x.scene text × Prints x text
+    pub only : (text : List ℕ) → Reported x.scene text → IsOrYields x status.Done
 
   abbrev pub PrintFaultRow : Type 0
-  PrintFaultRow = x.status ≡ status.PrintFault → Rose x.faults_old.print x.faults_new.print ⊎ TookNothing
+  PrintFaultRow = x.status ≡ status.PrintFault → Rose x.faults_old.print x.faults_new.print ⊎ TookNothing x
 
   -- a status of another part never comes
   abbrev pub OnlyThese : Type 0
@@ -184,24 +165,25 @@ module _ (x : Call) where
   abbrev pub WritesNothing : Type 0
   WritesNothing = LeavesOnly x.old x.new (λ c d. x.old.may_leave c) × (x.new.seen ≡ x.old.seen)
 
-  -- a finished journal isn't written, and nothing but prints is done
-  abbrev pub FinishedStays : Type 0
-  FinishedStays = (s : Standing) → IsLineOf x.scene (λ c. c ≡ Resume) → history the_language (records x.scene.found) ≡ Ok s → s.config.outcome ≢ Active
-      → WritesNothing × Deeds (λ D. AllByRecursion IsPrint D)
-
-  -- a journal that is refused isn't written
-  abbrev pub RefusedStays : Type 0
-  RefusedStays = (HasOtherMagic x.scene ⊎ IsStarted x.scene ⊎ IsNotStarted x.scene ⊎ ((n : ℕ) × IsNoHistory x.scene n)) → WritesNothing
-
   -- a command that executes nothing doesn't write
   abbrev pub ReportsStay : Type 0
   ReportsStay = IsLineOf x.scene (λ c. executes c ≡ false) → WritesNothing
 
+module _ (L : Language) (x : Call) where
+  -- a finished journal isn't written, and nothing but prints is done
+  abbrev pub FinishedStays : Type 0
+  FinishedStays = (s : Standing) → IsLineOf x.scene (λ c. c ≡ Resume) → history L (records x.scene.found) ≡ Ok s → s.config.outcome ≢ Active
+      → WritesNothing x × Deeds x (λ D. AllByRecursion IsPrint D)
+
+  -- a journal that is refused isn't written
+  abbrev pub RefusedStays : Type 0
+  RefusedStays = (HasOtherMagic x.scene ⊎ IsStarted x.scene ⊎ IsNotStarted x.scene ⊎ ((n : ℕ) × IsNoHistory L x.scene n)) → WritesNothing x
+
   -- ## Crashes
   -- a crash at any moment leaves a file that is safe with what was done by then, whatever heard bytes come to
   abbrev pub SafeThroughout : Type 0
-  SafeThroughout = IsFit the_language x.scene.found → (O : Outside) → LeavesOnly x.old x.new (SafeAt the_language O the_reports x.scene None x.old)
+  SafeThroughout = IsFit L x.scene.found → (O : Outside) → LeavesOnly x.old x.new (SafeAt L O the_reports x.scene None x.old)
 
   -- and so does one behind its end
   abbrev pub SafeAtEnd : Type 0
-  SafeAtEnd = IsFit the_language x.scene.found → (O : Outside) (image : List ℕ) → x.new.may_leave image → SafeAt the_language O the_reports x.scene (Some x.status) x.old image x.new.deeds
+  SafeAtEnd = IsFit L x.scene.found → (O : Outside) (image : List ℕ) → x.new.may_leave image → SafeAt L O the_reports x.scene (Some x.status) x.old image x.new.deeds

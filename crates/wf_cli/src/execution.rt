@@ -7,6 +7,7 @@ ghost use Rattle.wf_engine.specs.Engine.{memory, is_closed, Holds, StandsFor};
 ghost use Rattle.wf_engine.specs.Kept as kept;
 ghost use Rattle.wf_engine.specs.Safe.{scene};
 ghost use Rattle.wf_engine.specs.Starts.{start_of};
+ghost use Rattle.wf_engine.specs.TheLanguage.{InTheLanguage};
 ghost use Rattle.wf_events.specs.Records.{Started};
 ghost use Rattle.wf_events.specs.Spelling.{record_bytes, HasSpelling};
 ghost use Rattle.wf_events.specs.View.{start_view};
@@ -18,7 +19,7 @@ ghost use Rattle.wf_line.specs.Lines.{line_of, word_of};
 ghost use Rattle.wf_line.specs.Plain.{plain_line};
 ghost use Rattle.wf_line.specs.declared.command.Command.TheVariants.{Run, Resume};
 ghost use Rattle.wf_line.specs.declared.option.OptionName.TheVariants.{Id};
-ghost use Rattle.wf_source.specs.Sources.{read_source};
+ghost use Rattle.wf_source.specs.Programs.{IsSourceOf};
 
 use crate::end::{Said, Silence};
 use std::alloc::Global;
@@ -28,7 +29,7 @@ use wf_events::{Pairs, Start, one_spelling};
 use wf_host::{Host, Routes, Source, read_up_to};
 use wf_line::Line;
 use wf_replay::laws_of_histories;
-use wf_source::{SOURCE_LIMIT, read_source};
+use wf_source::{SOURCE_LIMIT, laws_of_sources, read_source};
 use wf_value::{Bytes, OutOfMemory, Text};
 
 /// A text of these characters, which are told to be UTF-8.
@@ -87,7 +88,7 @@ fn begin<H: Host>(
     host: &mut H,
 ) -> Result<Engine, EngineFault>
     requires command { (plain_line line.now).command ≡ Run }
-    requires program { read_source source.now ≡ Ok (program_view program) }
+    requires program { IsSourceOf source.now (program_view program) }
     ensures opening { Told (H.world host.old) ((words : List (List ℕ)) (rest : Rest) → line_of words ≡ Ok (plain_line line.now) → IsFirst 131073 rest source.now
         → Opening kept.Run (scene words rest (H.world host.old)) (H.world host.old) (H.world host.new) result) }
     ensures holds { Told (H.world host.old) (IfOk result (λ e. Holds e (H.world host.new))) }
@@ -98,6 +99,7 @@ fn begin<H: Host>(
 {
     laws_of_histories();
     laws_of_rules();
+    laws_of_sources();
     one_spelling();
     let reading = host.now()?;
     let start = start_for(alloc, line, source, reading)?;
@@ -109,8 +111,9 @@ fn to_outcome<H: Host>(alloc: Global, engine: Engine, host: &mut H) -> Result<Sa
     requires open { is_closed engine ≡ false }
     requires holds { Told (H.world host.old) (Holds engine (H.world host.old)) }
     ensures says { SaysResult (H.faults host.old) (H.faults host.new) result }
-    ensures going { Told (H.world host.old) ((command : kept.Command) (D : List Deed) → StandsFor command (memory engine) (records (H.world host.old).seen) D
-        → Going command (memory engine) D (H.world host.old) (H.world host.new) result) }
+    ensures going { InTheLanguage (λ L. Told (H.world host.old) ((command : kept.Command) (D : List Deed) → StandsFor L command (memory engine) (records (H.world host.old).seen) D
+        → Going L command (memory engine) D (H.world host.old) (H.world host.new) result)) }
+    ensures deeds { Told (H.world host.old) ((H.world host.new).deeds ≡ (H.world host.old).deeds) }
     ensures tells { (H.world host.new).tells ≡ (H.world host.old).tells }
     ensures counts { NoneFell (H.faults host.old) (H.faults host.new) }
 {
@@ -130,7 +133,7 @@ fn run_program<H: Host>(
     host: &mut H,
 ) -> Result<Said, Silence>
     requires command { (plain_line line.now).command ≡ Run }
-    requires program { read_source source.now ≡ Ok (program_view program) }
+    requires program { IsSourceOf source.now (program_view program) }
     ensures end { (words : List (List ℕ)) (rest : Rest) (reads reads2 : ℕ) → line_of words ≡ Ok (plain_line line.now) → IsFirst 131073 rest source.now
         → IsEnd (scene words rest (H.world host.old)) (H.world host.old) (H.world host.new) reads reads2 (H.faults host.old) (H.faults host.new) result }
     ensures worked { Told (H.world host.old) ((words : List (List ℕ)) (rest : Rest) → line_of words ≡ Ok (plain_line line.now) → IsFirst 131073 rest source.now
@@ -138,6 +141,7 @@ fn run_program<H: Host>(
     ensures tells { (H.world host.new).tells ≡ (H.world host.old).tells }
     ensures counts { NoneFell (H.faults host.old) (H.faults host.new) }
 {
+    laws_of_sources();
     match begin(alloc, line, source, program, host) {
         Ok(engine) => to_outcome(alloc, engine, host),
         Err(fault) => Said::of_fault(alloc, fault),

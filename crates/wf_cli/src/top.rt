@@ -4,6 +4,7 @@ ghost use Rattle.wf_cli.specs.Calls.{called};
 ghost use Rattle.wf_cli.specs.Said.{IsEnd, Printing, SaysBadLine, SaysReport, Tells, Worked, text_of};
 ghost use Rattle.wf_cli.specs.Top.{Ends, BadLineRow, ReadFaultRow, RefusedRow, DiskFaultRow, NotAJournalRow, AlreadyStartedRow, NotStartedRow, NotAHistoryRow, OutcomeRow, DoneRow, PrintFaultRow, OnlyThese, FinishedStays, RefusedStays, ReportsStay, SafeThroughout, SafeAtEnd};
 ghost use Rattle.wf_engine.specs.Safe.{scene};
+ghost use Rattle.wf_engine.specs.TheLanguage.{InTheLanguage};
 ghost use Rattle.wf_host.specs.World.{NoneFell, Told};
 ghost use Rattle.wf_line.specs.Lines.{line_of, words_view};
 ghost use Rattle.wf_line.specs.Plain.{plain_line};
@@ -12,10 +13,11 @@ use crate::end::{Said, Silence};
 use crate::execution::{resume, run};
 use crate::formatting::format;
 use std::alloc::Global;
-use wf_engine::laws_of_rules;
+use wf_engine::{law_of_languages, laws_of_rules};
 use wf_host::{Host, Source};
 use wf_line::{Command, Line, LineFault, help_text, read_line, version_text};
 use wf_printing::print_all;
+use wf_source::laws_of_sources;
 use wf_status::Status;
 
 /// Prints what a command has to say, and gives the status.
@@ -103,10 +105,10 @@ pub fn perform<S: Source, H: Host>(
         (S.faults source.old) (S.faults source.new) (H.faults host.old) (H.faults host.new) result)) }
     ensures not_started { Told (H.world host.old) ((words : List (List ℕ)) → line_of words ≡ Ok (plain_line line.now) → NotStartedRow (called words (S.left source.old) (H.world host.old) (H.world host.new)
         (S.faults source.old) (S.faults source.new) (H.faults host.old) (H.faults host.new) result)) }
-    ensures not_a_history { Told (H.world host.old) ((words : List (List ℕ)) → line_of words ≡ Ok (plain_line line.now) → NotAHistoryRow (called words (S.left source.old) (H.world host.old) (H.world host.new)
-        (S.faults source.old) (S.faults source.new) (H.faults host.old) (H.faults host.new) result)) }
-    ensures outcome { Told (H.world host.old) ((words : List (List ℕ)) → line_of words ≡ Ok (plain_line line.now) → OutcomeRow (called words (S.left source.old) (H.world host.old) (H.world host.new)
-        (S.faults source.old) (S.faults source.new) (H.faults host.old) (H.faults host.new) result)) }
+    ensures not_a_history { InTheLanguage (λ L. Told (H.world host.old) ((words : List (List ℕ)) → line_of words ≡ Ok (plain_line line.now) → NotAHistoryRow L (called words (S.left source.old) (H.world host.old) (H.world host.new)
+        (S.faults source.old) (S.faults source.new) (H.faults host.old) (H.faults host.new) result))) }
+    ensures outcome { InTheLanguage (λ L. Told (H.world host.old) ((words : List (List ℕ)) → line_of words ≡ Ok (plain_line line.now) → OutcomeRow L (called words (S.left source.old) (H.world host.old) (H.world host.new)
+        (S.faults source.old) (S.faults source.new) (H.faults host.old) (H.faults host.new) result))) }
     ensures done { (words : List (List ℕ)) → line_of words ≡ Ok (plain_line line.now) → DoneRow (called words (S.left source.old) (H.world host.old) (H.world host.new)
         (S.faults source.old) (S.faults source.new) (H.faults host.old) (H.faults host.new) result) }
     ensures print_fault { (words : List (List ℕ)) → line_of words ≡ Ok (plain_line line.now) → PrintFaultRow (called words (S.left source.old) (H.world host.old) (H.world host.new)
@@ -114,22 +116,24 @@ pub fn perform<S: Source, H: Host>(
     ensures only { (words : List (List ℕ)) → line_of words ≡ Ok (plain_line line.now) → OnlyThese (called words (S.left source.old) (H.world host.old) (H.world host.new)
         (S.faults source.old) (S.faults source.new) (H.faults host.old) (H.faults host.new) result) }
     // what isn't written
-    ensures finished_stays { Told (H.world host.old) ((words : List (List ℕ)) → line_of words ≡ Ok (plain_line line.now) → FinishedStays (called words (S.left source.old) (H.world host.old) (H.world host.new)
-        (S.faults source.old) (S.faults source.new) (H.faults host.old) (H.faults host.new) result)) }
-    ensures refused_stays { Told (H.world host.old) ((words : List (List ℕ)) → line_of words ≡ Ok (plain_line line.now) → RefusedStays (called words (S.left source.old) (H.world host.old) (H.world host.new)
-        (S.faults source.old) (S.faults source.new) (H.faults host.old) (H.faults host.new) result)) }
+    ensures finished_stays { InTheLanguage (λ L. Told (H.world host.old) ((words : List (List ℕ)) → line_of words ≡ Ok (plain_line line.now) → FinishedStays L (called words (S.left source.old) (H.world host.old) (H.world host.new)
+        (S.faults source.old) (S.faults source.new) (H.faults host.old) (H.faults host.new) result))) }
+    ensures refused_stays { InTheLanguage (λ L. Told (H.world host.old) ((words : List (List ℕ)) → line_of words ≡ Ok (plain_line line.now) → RefusedStays L (called words (S.left source.old) (H.world host.old) (H.world host.new)
+        (S.faults source.old) (S.faults source.new) (H.faults host.old) (H.faults host.new) result))) }
     ensures reports_stay { Told (H.world host.old) ((words : List (List ℕ)) → line_of words ≡ Ok (plain_line line.now) → ReportsStay (called words (S.left source.old) (H.world host.old) (H.world host.new)
         (S.faults source.old) (S.faults source.new) (H.faults host.old) (H.faults host.new) result)) }
     // killed at any moment: what a crash may leave is safe with what was done by then
-    ensures safe { Told (H.world host.old) ((words : List (List ℕ)) → line_of words ≡ Ok (plain_line line.now) → SafeThroughout (called words (S.left source.old) (H.world host.old) (H.world host.new)
-        (S.faults source.old) (S.faults source.new) (H.faults host.old) (H.faults host.new) result)) }
-    ensures safe_end { Told (H.world host.old) ((words : List (List ℕ)) → line_of words ≡ Ok (plain_line line.now) → SafeAtEnd (called words (S.left source.old) (H.world host.old) (H.world host.new)
-        (S.faults source.old) (S.faults source.new) (H.faults host.old) (H.faults host.new) result)) }
+    ensures safe { InTheLanguage (λ L. Told (H.world host.old) ((words : List (List ℕ)) → line_of words ≡ Ok (plain_line line.now) → SafeThroughout L (called words (S.left source.old) (H.world host.old) (H.world host.new)
+        (S.faults source.old) (S.faults source.new) (H.faults host.old) (H.faults host.new) result))) }
+    ensures safe_end { InTheLanguage (λ L. Told (H.world host.old) ((words : List (List ℕ)) → line_of words ≡ Ok (plain_line line.now) → SafeAtEnd L (called words (S.left source.old) (H.world host.old) (H.world host.new)
+        (S.faults source.old) (S.faults source.new) (H.faults host.old) (H.faults host.new) result))) }
     ensures tells { (H.world host.new).tells ≡ (H.world host.old).tells }
     ensures reads { S.faults source.old ≤ S.faults source.new }
     ensures counts { NoneFell (H.faults host.old) (H.faults host.new) }
 {
+    law_of_languages();
     laws_of_rules();
+    laws_of_sources();
     let said = execute(alloc, line, source, host);
     tell(host, said)
 }
@@ -178,10 +182,10 @@ pub fn run_line<S: Source, H: Host>(
         (S.faults source.old) (S.faults source.new) (H.faults host.old) (H.faults host.new) result)) }
     ensures not_started { Told (H.world host.old) (NotStartedRow (called (words_view words.now) (S.left source.old) (H.world host.old) (H.world host.new)
         (S.faults source.old) (S.faults source.new) (H.faults host.old) (H.faults host.new) result)) }
-    ensures not_a_history { Told (H.world host.old) (NotAHistoryRow (called (words_view words.now) (S.left source.old) (H.world host.old) (H.world host.new)
-        (S.faults source.old) (S.faults source.new) (H.faults host.old) (H.faults host.new) result)) }
-    ensures outcome { Told (H.world host.old) (OutcomeRow (called (words_view words.now) (S.left source.old) (H.world host.old) (H.world host.new)
-        (S.faults source.old) (S.faults source.new) (H.faults host.old) (H.faults host.new) result)) }
+    ensures not_a_history { InTheLanguage (λ L. Told (H.world host.old) (NotAHistoryRow L (called (words_view words.now) (S.left source.old) (H.world host.old) (H.world host.new)
+        (S.faults source.old) (S.faults source.new) (H.faults host.old) (H.faults host.new) result))) }
+    ensures outcome { InTheLanguage (λ L. Told (H.world host.old) (OutcomeRow L (called (words_view words.now) (S.left source.old) (H.world host.old) (H.world host.new)
+        (S.faults source.old) (S.faults source.new) (H.faults host.old) (H.faults host.new) result))) }
     ensures done { DoneRow (called (words_view words.now) (S.left source.old) (H.world host.old) (H.world host.new)
         (S.faults source.old) (S.faults source.new) (H.faults host.old) (H.faults host.new) result) }
     ensures print_fault { PrintFaultRow (called (words_view words.now) (S.left source.old) (H.world host.old) (H.world host.new)
@@ -189,22 +193,24 @@ pub fn run_line<S: Source, H: Host>(
     ensures only { OnlyThese (called (words_view words.now) (S.left source.old) (H.world host.old) (H.world host.new)
         (S.faults source.old) (S.faults source.new) (H.faults host.old) (H.faults host.new) result) }
     // what isn't written
-    ensures finished_stays { Told (H.world host.old) (FinishedStays (called (words_view words.now) (S.left source.old) (H.world host.old) (H.world host.new)
-        (S.faults source.old) (S.faults source.new) (H.faults host.old) (H.faults host.new) result)) }
-    ensures refused_stays { Told (H.world host.old) (RefusedStays (called (words_view words.now) (S.left source.old) (H.world host.old) (H.world host.new)
-        (S.faults source.old) (S.faults source.new) (H.faults host.old) (H.faults host.new) result)) }
+    ensures finished_stays { InTheLanguage (λ L. Told (H.world host.old) (FinishedStays L (called (words_view words.now) (S.left source.old) (H.world host.old) (H.world host.new)
+        (S.faults source.old) (S.faults source.new) (H.faults host.old) (H.faults host.new) result))) }
+    ensures refused_stays { InTheLanguage (λ L. Told (H.world host.old) (RefusedStays L (called (words_view words.now) (S.left source.old) (H.world host.old) (H.world host.new)
+        (S.faults source.old) (S.faults source.new) (H.faults host.old) (H.faults host.new) result))) }
     ensures reports_stay { Told (H.world host.old) (ReportsStay (called (words_view words.now) (S.left source.old) (H.world host.old) (H.world host.new)
         (S.faults source.old) (S.faults source.new) (H.faults host.old) (H.faults host.new) result)) }
     // killed at any moment: what a crash may leave is safe with what was done by then
-    ensures safe { Told (H.world host.old) (SafeThroughout (called (words_view words.now) (S.left source.old) (H.world host.old) (H.world host.new)
-        (S.faults source.old) (S.faults source.new) (H.faults host.old) (H.faults host.new) result)) }
-    ensures safe_end { Told (H.world host.old) (SafeAtEnd (called (words_view words.now) (S.left source.old) (H.world host.old) (H.world host.new)
-        (S.faults source.old) (S.faults source.new) (H.faults host.old) (H.faults host.new) result)) }
+    ensures safe { InTheLanguage (λ L. Told (H.world host.old) (SafeThroughout L (called (words_view words.now) (S.left source.old) (H.world host.old) (H.world host.new)
+        (S.faults source.old) (S.faults source.new) (H.faults host.old) (H.faults host.new) result))) }
+    ensures safe_end { InTheLanguage (λ L. Told (H.world host.old) (SafeAtEnd L (called (words_view words.now) (S.left source.old) (H.world host.old) (H.world host.new)
+        (S.faults source.old) (S.faults source.new) (H.faults host.old) (H.faults host.new) result))) }
     ensures tells { (H.world host.new).tells ≡ (H.world host.old).tells }
     ensures reads { S.faults source.old ≤ S.faults source.new }
     ensures counts { NoneFell (H.faults host.old) (H.faults host.new) }
 {
+    law_of_languages();
     laws_of_rules();
+    laws_of_sources();
     match read_line(alloc, words) {
         Ok(line) => perform(alloc, &line, source, host),
         Err(fault) => tell(host, bad_line(alloc, fault)),

@@ -9,7 +9,6 @@ use Rattle.wf_engine.specs.Deeds.{nows, reading_by}
 use Rattle.wf_engine.specs.Engine.{Memory, LeadsTo, StandsFor, KeptAt, session, turn_records}
 use Rattle.wf_engine.specs.Kept.{Command, Kept, last_of}
 use Rattle.wf_engine.specs.Laws.{OnlyReadings, TurnKeepsReadings}
-use Rattle.wf_engine.specs.TheLanguage.{the_language}
 use Rattle.wf_engine.specs.Turns.{TakeReading}
 use Rattle.wf_events.specs.Laws.{MeaningOfSpelling}
 use Rattle.wf_events.specs.Reading.{meaning}
@@ -23,6 +22,7 @@ use Rattle.wf_model.specs.Config.{Active, Returned, Raised, Cancelled, Outcome, 
 use Rattle.wf_model.specs.Run.{run_on}
 use Rattle.wf_replay.specs.At.{Journal, config_at, config_before, journal}
 use Rattle.wf_replay.specs.History.{Standing, goes_on, goes_on_at, history as history_of, is_numbered, led, turned}
+use Rattle.wf_replay.specs.Language.{Language}
 use Rattle.wf_replay.specs.Laws.{RecordGoesOn}
 use Rattle.wf_replay.specs.Moments.{HistoryStandsThere, SessionBeforeStays, TurnIsAdded, is_by}
 use Rattle.wf_shared.specs.Events.{Event, Move, MoveAt, Turn}
@@ -119,10 +119,9 @@ is_active (Returned v) es none some = absurd (some (none (λ is. cc is)))
 is_active (Raised v) es none some = absurd (some (none (λ is. cc is)))
 is_active Cancelled es none some = absurd (some (none (λ is. cc is)))
 
-pub one_turn_more : Laws → (command : Command) (m : Memory) (J : List (List ℕ)) (D : List Deed) (es : List Event) (c : Config) → StandsFor command m J D → Choice m es c → es ≢ [] → HasSpelling (Turned (turn_by m.session es)) → AllByRecursion IsMove es
-    → StandsFor command (after m c) (J ++ payload_by m.session es ∷ []) D
-one_turn_more laws command m J D es c s chosen some spelled moves =
-    let L = the_language in
+pub one_turn_more : Laws → (L : Language) (command : Command) (m : Memory) (J : List (List ℕ)) (D : List Deed) (es : List Event) (c : Config) → StandsFor L command m J D → Choice m es c → es ≢ [] → HasSpelling (Turned (turn_by m.session es)) → AllByRecursion IsMove es
+    → StandsFor L command (after m c) (J ++ payload_by m.session es ∷ []) D
+one_turn_more laws L command m J D es c s chosen some spelled moves =
     let t = turn_by m.session es in
     let payload = payload_by m.session es in
     let lead = s.leads in
@@ -152,32 +151,32 @@ one_turn_more laws command m J D es c s chosen some spelled moves =
     }
 
 -- where nothing was chosen
-pub none_more : (command : Command) (m : Memory) (J : List (List ℕ)) (D : List Deed) (es : List Event) (c : Config) → StandsFor command m J D → Choice m es c → es ≡ [] → StandsFor command (after m c) J D
-none_more command m J D es c s chosen none =
+pub none_more : (L : Language) (command : Command) (m : Memory) (J : List (List ℕ)) (D : List Deed) (es : List Event) (c : Config) → StandsFor L command m J D → Choice m es c → es ≡ [] → StandsFor L command (after m c) J D
+none_more L command m J D es c s chosen none =
     let same : m.config ≡ c = cc (ap (λ l. run_on m.program (To m.config) l) (sym none) ∙ chosen.leads) in
-    subst (λ d. StandsFor command (after m d) J D) same s
+    subst (λ d. StandsFor L command (after m d) J D) same s
 
 -- a program that is the same
-pub same_program : (command : Command) (m n : Memory) (J : List (List ℕ)) (D : List Deed) → n.program ≡ m.program → StandsFor command (after m n.config) J D → n.session ≡ m.session → n.reading ≡ m.reading → StandsFor command n J D
-same_program command m n J D program s number reading =
-    subst (λ p. StandsFor command (record { program = p; config = n.config; session = n.session; reading = n.reading }) J D) (sym program)
-    (subst (λ k. StandsFor command (record { program = m.program; config = n.config; session = k; reading = n.reading }) J D) (sym number)
-    (subst (λ r. StandsFor command (record { program = m.program; config = n.config; session = m.session; reading = r }) J D) (sym reading) s))
+pub same_program : (L : Language) (command : Command) (m n : Memory) (J : List (List ℕ)) (D : List Deed) → n.program ≡ m.program → StandsFor L command (after m n.config) J D → n.session ≡ m.session → n.reading ≡ m.reading → StandsFor L command n J D
+same_program L command m n J D program s number reading =
+    subst (λ p. StandsFor L command (record { program = p; config = n.config; session = n.session; reading = n.reading }) J D) (sym program)
+    (subst (λ k. StandsFor L command (record { program = m.program; config = n.config; session = k; reading = n.reading }) J D) (sym number)
+    (subst (λ r. StandsFor L command (record { program = m.program; config = n.config; session = m.session; reading = r }) J D) (sym reading) s))
 
 -- ## Moments
-pub kept_now : (command : Command) (m : Memory) (J K added : List (List ℕ)) (D : List Deed) (c : Config) → StandsFor command (after m c) K D → K ≡ J ++ added → KeptAt command m J D K []
-kept_now command m J K added D c s is = record {
+pub kept_now : (L : Language) (command : Command) (m : Memory) (J K added : List (List ℕ)) (D : List Deed) (c : Config) → StandsFor L command (after m c) K D → K ≡ J ++ added → KeptAt L command m J D K []
+kept_now L command m J K added D c s is = record {
   added = added;
   records = is;
   history = (s.leads.standing, s.leads.history);
-  kept = λ O. subst (λ E. Kept the_language O (session command m K E)) (sym (append-nil D)) (s.kept O);
+  kept = λ O. subst (λ E. Kept L O (session command m K E)) (sym (append-nil D)) (s.kept O);
   silent = refl;
 }
 
 -- records that a session stands on aren't none
-pub some_records : (J : List (List ℕ)) (m : Memory) → LeadsTo J m → J ≢ []
+pub some_records : (L : Language) (J : List (List ℕ)) (m : Memory) → LeadsTo L J m → J ≢ []
 unfolding history_of
-some_records J m lead none = let no : history_of the_language [] ≡ Ok lead.standing = ap (λ l. history_of the_language l) (sym none) ∙ lead.history in cc no
+some_records L J m lead none = let no : history_of L [] ≡ Ok lead.standing = ap (λ l. history_of L l) (sym none) ∙ lead.history in cc no
 
 -- ## Records of a turn
 pub records_of : (number : ℕ) (es : List Event) → es ≢ [] → turn_records number es ≡ payload_by number es ∷ []

@@ -1,13 +1,12 @@
 -- Where a first record leads, and the records behind it.
-use Rattle.std.specs.Prelude.{◌≡◌, ◌≢◌, ℕ, true, List, [], ◌∷◌, Option, Some, None, Result, Ok, Err, IfErr, IsErr, IsErrAnd, option_and_then}
-use Rattle.std.proofs.Common.{refl, sym, ◌∙◌, ap, subst}
+use Rattle.std.specs.Prelude.{◌≡◌, ◌≢◌, ◌⊎◌, ℕ, List, [], ◌∷◌, Option, Some, None, Result, Ok, Err, IfErr, OnOk, IsErr, IsErrAnd, IsErrOf, option_and_then}
+use Rattle.std.proofs.Common.{inl, inr, refl, sym, ◌∙◌, ap, subst}
 use Rattle.wf_ast.specs.Tree.{Program}
-use Rattle.wf_engine.proofs.Forms.{form_is_straight}
 use Rattle.wf_engine.specs.Faults.{fault_of, replay_fault}
-use Rattle.wf_engine.specs.Openings.{NoFirst}
-use Rattle.wf_engine.specs.TheLanguage.{program_of, the_language}
+use Rattle.wf_engine.specs.Openings.{Accepts, NoFirst}
+use Rattle.wf_engine.specs.TheLanguage.{IsTheLanguage}
 use Rattle.wf_engine.specs.declared.fault.EngineFault.{EngineFault}
-use Rattle.wf_engine.specs.declared.fault.EngineFault.TheVariants.{NotAHistory}
+use Rattle.wf_engine.specs.declared.fault.EngineFault.TheVariants.{NotAHistory, OutOfMemory}
 use Rattle.wf_events.specs.Reading.{meaning}
 use Rattle.wf_events.specs.Records.{Record, Started}
 use Rattle.wf_history.specs.Faults.{told}
@@ -15,7 +14,6 @@ use Rattle.wf_history.specs.Stands.{IsBadAt, last_after}
 use Rattle.wf_history.specs.declared.fault.HistoryFault.{HistoryFault}
 use Rattle.wf_history.specs.declared.fault.HistoryFault.TheVariants as history_fault
 use Rattle.wf_machine.specs.Seen.{state_of}
-use Rattle.wf_machine.specs.Straight.{is_straight}
 use Rattle.wf_machine.specs.declared.machine.Machine.{Machine}
 use Rattle.wf_model.specs.Config.{To}
 use Rattle.wf_model.specs.Run.{initial}
@@ -25,16 +23,19 @@ use Rattle.wf_replay.specs.Standing.{stands_at}
 use Rattle.wf_replay.specs.declared.fault.ReplayFault.{ReplayFault}
 use Rattle.wf_replay.specs.declared.fault.ReplayFault.TheVariants as replay_fault_of
 use Rattle.wf_shared.specs.Events.{Start}
-use Rattle.wf_source.specs.Sources.{read_source}
+use Rattle.wf_source.specs.Laws.{NotBoth}
+use Rattle.wf_source.specs.Programs.{IsRefusalOf}
+use Rattle.wf_status.specs.declared.Refusal.{Refusal}
 
 -- ## The language
-pub accepts : (source : List ℕ) (o : Option Program) → o ≡ program_of (read_source source) → the_language.source source ≡ o
-unfolding the_language
-accepts source o is = sym is
+none_of_source : NotBoth → (L : Language) → IsTheLanguage L → (source : List ℕ) (r : Refusal) → IsRefusalOf source r → (o : Option Program) → L.source source ≡ o → o ≡ None
+none_of_source apart L language source r refused None is = refl
+none_of_source apart L language source r refused (Some p) is = absurd (apart source p r ((language source p).0 is) refused)
 
-pub accepted_is_straight : (source : List ℕ) (p : Program) → the_language.source source ≡ Some p → is_straight p ≡ true
-unfolding the_language
-accepted_is_straight source p is = form_is_straight source p is
+-- what a source was found to be it is in the language
+pub accepts : NotBoth → (L : Language) → IsTheLanguage L → (source : List ℕ) (o : Option Program) → Accepts source o → L.source source ≡ o
+accepts apart L language source None (r, refused) = none_of_source apart L language source r refused (L.source source) refl
+accepts apart L language source (Some p) is = (language source p).1 is
 
 -- ## A first record
 at_first : (m : Machine) → stands_at 1 None m ≡ record { program = (state_of m).program; config = (state_of m).config; number = 1; session = 0; waits = 0 }
@@ -42,8 +43,8 @@ unfolding stands_at
 at_first m = refl
 
 -- an accepted start leads where its machine stands
-pub start_leads : (s : Start) (p : Program) (m : Machine) → the_language.source s.source ≡ Some p → (state_of m).program ≡ p → initial p s ≡ To (state_of m).config → first_standing the_language (Some (Started s)) ≡ Some (stands_at 1 None m)
-start_leads s p m accepted program begins_at =
+pub start_leads : (L : Language) (s : Start) (p : Program) (m : Machine) → L.source s.source ≡ Some p → (state_of m).program ≡ p → initial p s ≡ To (state_of m).config → first_standing L (Some (Started s)) ≡ Some (stands_at 1 None m)
+start_leads L s p m accepted program begins_at =
     ap (λ o. option_and_then (λ q. started q (initial q s)) o) accepted
     ∙ ap (λ a. started p a) begins_at
     ∙ ap (λ q. Some (record { program = q; config = (state_of m).config; number = 1; session = 0; waits = 0 })) (sym program)
@@ -53,8 +54,8 @@ pub none_of : {A : Type 0} (o : Option A) → ((x : A) → o ≡ Some x → ⊥)
 none_of None other = refl
 none_of (Some x) other = absurd (other x refl)
 
-pub start_refused : (s : Start) → the_language.source s.source ≡ None → first_standing the_language (Some (Started s)) ≡ None
-start_refused s refused = ap (λ o. option_and_then (λ q. started q (initial q s)) o) refused
+pub start_refused : (L : Language) (s : Start) → L.source s.source ≡ None → first_standing L (Some (Started s)) ≡ None
+start_refused L s refused = ap (λ o. option_and_then (λ q. started q (initial q s)) o) refused
 
 -- ## The records behind it
 pub records_lead : (L : Language) (J : List (List ℕ)) (b : List ℕ) (bs : List (List ℕ)) (s : Standing) (r : Result Standing ℕ) → J ≡ b ∷ bs → first_standing L (meaning b) ≡ Some s → goes_to s bs ≡ r → history L J ≡ r
@@ -83,56 +84,77 @@ no_history L n ahead none = (
 
 -- ## What was read of it
 -- behind a first record that begins a history one record is passed, and no turn
-pub behind_first : (place : ℕ) (last : Option (ℕ × ℕ)) (found : Record) (m : Machine) → place ≡ 1 → last ≡ last_after None found → first_standing the_language (Some found) ≡ Some (stands_at 1 None m)
-    → first_standing the_language (Some found) ≡ Some (stands_at place last m)
-behind_first place last found m at none leads = leads ∙ ap (λ n. Some (stands_at n None m)) (sym at) ∙ ap (λ l. Some (stands_at place l m)) (sym (none ∙ no_turn found leads))
+pub behind_first : (L : Language) (place : ℕ) (last : Option (ℕ × ℕ)) (found : Record) (m : Machine) → place ≡ 1 → last ≡ last_after None found → first_standing L (Some found) ≡ Some (stands_at 1 None m)
+    → first_standing L (Some found) ≡ Some (stands_at place last m)
+behind_first L place last found m at none leads = leads ∙ ap (λ n. Some (stands_at n None m)) (sym at) ∙ ap (λ l. Some (stands_at place l m)) (sym (none ∙ no_turn found leads))
   where
-    no_turn : (r : Record) → first_standing the_language (Some r) ≡ Some (stands_at 1 None m) → last_after None r ≡ None
+    no_turn : (r : Record) → first_standing L (Some r) ≡ Some (stands_at 1 None m) → last_after None r ≡ None
     no_turn (Started s) is = refl
     no_turn r is = absurd (cc is)
+
+-- what holds anyway holds where it answered Ok
+pub on_ok : {A E P : Type 0} (r : Result A E) → P → OnOk r P
+on_ok (Ok a) it = it
+on_ok (Err e) it = tt
 
 -- ## Faults
 same_number : (m n : ℕ) → NotAHistory m ≡ NotAHistory n → m ≡ n
 same_number m n is = cc is
 
-bad_cause : (ahead : List (List ℕ)) (place : ℕ) (cause : HistoryFault) → place ≡ 0 → ((n : ℕ) → cause ≡ history_fault.BadRecord n → IsBadAt n place ahead) → (n : ℕ) → fault_of cause ≡ NotAHistory n → NoFirst the_language n ahead
-bad_cause ahead place (history_fault.BadRecord m) at bad n is = subst (λ k. NoFirst the_language k ahead) (same_number m n is) (bad_first the_language m place ahead at (bad m refl))
-bad_cause ahead place history_fault.DiskFault at bad n is = absurd (cc is)
-bad_cause ahead place history_fault.NotAJournal at bad n is = absurd (cc is)
-bad_cause ahead place history_fault.Closed at bad n is = absurd (cc is)
-bad_cause ahead place history_fault.OutOfMemory at bad n is = absurd (cc is)
+bad_cause : (L : Language) (ahead : List (List ℕ)) (place : ℕ) (cause : HistoryFault) → place ≡ 0 → ((n : ℕ) → cause ≡ history_fault.BadRecord n → IsBadAt n place ahead) → (n : ℕ) → fault_of cause ≡ NotAHistory n → NoFirst L n ahead
+bad_cause L ahead place (history_fault.BadRecord m) at bad n is = subst (λ k. NoFirst L k ahead) (same_number m n is) (bad_first L m place ahead at (bad m refl))
+bad_cause L ahead place history_fault.DiskFault at bad n is = absurd (cc is)
+bad_cause L ahead place history_fault.NotAJournal at bad n is = absurd (cc is)
+bad_cause L ahead place history_fault.Closed at bad n is = absurd (cc is)
+bad_cause L ahead place history_fault.OutOfMemory at bad n is = absurd (cc is)
 
 -- a payload that is no record
-pub at_bad_record : {T : Type 0} (ahead : List (List ℕ)) (place : ℕ) (r : Result T EngineFault) (cause : HistoryFault) → IsErr r × IsErrAnd r (λ e. e ≡ fault_of cause) → place ≡ 0
-    → ((n : ℕ) → cause ≡ history_fault.BadRecord n → IsBadAt n place ahead) → IfErr r (λ e. (n : ℕ) → e ≡ NotAHistory n → NoFirst the_language n ahead)
-at_bad_record ahead place (Ok x) cause gives at bad = absurd gives.1
-at_bad_record ahead place (Err e) cause gives at bad = λ n is. bad_cause ahead place cause at bad n (sym gives.1 ∙ is)
+pub at_bad_record : {T : Type 0} (L : Language) (ahead : List (List ℕ)) (place : ℕ) (r : Result T EngineFault) (cause : HistoryFault) → IsErr r × IsErrAnd r (λ e. e ≡ fault_of cause) → place ≡ 0
+    → ((n : ℕ) → cause ≡ history_fault.BadRecord n → IsBadAt n place ahead) → IfErr r (λ e. (n : ℕ) → e ≡ NotAHistory n → NoFirst L n ahead)
+at_bad_record L ahead place (Ok x) cause gives at bad = absurd gives.1
+at_bad_record L ahead place (Err e) cause gives at bad = λ n is. bad_cause L ahead place cause at bad n (sym gives.1 ∙ is)
 
 -- what isn't a history, and isn't empty
-abbrev pub IsNone : EngineFault → List (List ℕ) → Type 0
-IsNone e ahead = (n : ℕ) → e ≡ NotAHistory n → (history the_language ahead ≡ Err n) × (ahead ≢ [])
+abbrev pub IsNone : Language → EngineFault → List (List ℕ) → Type 0
+IsNone L e ahead = (n : ℕ) → e ≡ NotAHistory n → (history L ahead ≡ Err n) × (ahead ≢ [])
 
-pub at_first_record : {T : Type 0} (ahead : List (List ℕ)) (r : Result T EngineFault) (cause : EngineFault) → IsErr r × IsErrAnd r (λ e. e ≡ cause) → ((n : ℕ) → cause ≡ NotAHistory n → NoFirst the_language n ahead)
-    → IfErr r (λ e. IsNone e ahead)
-at_first_record ahead (Ok x) cause gives bad = absurd gives.1
-at_first_record ahead (Err e) cause gives bad = λ n is. no_history the_language n ahead (bad n (sym gives.1 ∙ is))
+pub at_first_record : {T : Type 0} (L : Language) (ahead : List (List ℕ)) (r : Result T EngineFault) (cause : EngineFault) → IsErr r × IsErrAnd r (λ e. e ≡ cause) → ((n : ℕ) → cause ≡ NotAHistory n → NoFirst L n ahead)
+    → IfErr r (λ e. IsNone L e ahead)
+at_first_record L ahead (Ok x) cause gives bad = absurd gives.1
+at_first_record L ahead (Err e) cause gives bad = λ n is. no_history L n ahead (bad n (sym gives.1 ∙ is))
+
+-- a record that is no start whose source is accepted
+pub at_no_start : (L : Language) (ahead behind : List (List ℕ)) (payload : List ℕ) (found : Record) (r : Result Machine EngineFault) → ahead ≡ payload ∷ behind → meaning payload ≡ Some found → (IsErrOf r (NotAHistory 0) → first_standing L (Some found) ≡ None)
+    → IfErr r (λ e. (e ≡ NotAHistory 0) ⊎ (e ≡ OutOfMemory)) → IfErr r (λ e. (n : ℕ) → e ≡ NotAHistory n → NoFirst L n ahead)
+at_no_start L ahead behind payload found (Ok m) next means none only = tt
+at_no_start L ahead behind payload found (Err e) next means none only = λ n is. by only n is
+  where
+    by : (e ≡ NotAHistory 0) ⊎ (e ≡ OutOfMemory) → (n : ℕ) → e ≡ NotAHistory n → NoFirst L n ahead
+    by (inl at) n is = record {
+      number = same_number n 0 (sym is ∙ at);
+      payload = payload;
+      rest = behind;
+      next = next;
+      first = ap (λ o. first_standing L o) means ∙ none (ap Err at);
+    }
+    by (inr lack) n is = absurd (let no : NotAHistory n ≡ OutOfMemory = sym is ∙ lack in cc no)
 
 -- the payloads begin with one that leads to a standing
-pub record Begins (ahead behind : List (List ℕ)) (s : Standing) : Type 0 where
+pub record Begins (L : Language) (ahead behind : List (List ℕ)) (s : Standing) : Type 0 where
   pub payload : List ℕ
   pub next : ahead ≡ payload ∷ behind
-  pub first : first_standing the_language (meaning payload) ≡ Some s
+  pub first : first_standing L (meaning payload) ≡ Some s
 
-later_cause : (ahead behind : List (List ℕ)) (s : Standing) (cause : ReplayFault) → Begins ahead behind s → ((n : ℕ) → cause ≡ replay_fault_of.BadEvent n → goes_to s behind ≡ Err n) → IsNone (replay_fault cause) ahead
-later_cause ahead behind s (replay_fault_of.BadEvent m) b bad = λ n is. (
-  records_lead the_language ahead b.payload behind s (Err n) b.next b.first (subst (λ k. goes_to s behind ≡ Err k) (same_number m n is) (bad m refl)),
+later_cause : (L : Language) (ahead behind : List (List ℕ)) (s : Standing) (cause : ReplayFault) → Begins L ahead behind s → ((n : ℕ) → cause ≡ replay_fault_of.BadEvent n → goes_to s behind ≡ Err n) → IsNone L (replay_fault cause) ahead
+later_cause L ahead behind s (replay_fault_of.BadEvent m) b bad = λ n is. (
+  records_lead L ahead b.payload behind s (Err n) b.next b.first (subst (λ k. goes_to s behind ≡ Err k) (same_number m n is) (bad m refl)),
   λ empty. let is_not : b.payload ∷ behind ≡ [] = sym b.next ∙ empty in cc is_not,
 )
-later_cause ahead behind s replay_fault_of.DiskFault b bad = λ n is. absurd (cc is)
-later_cause ahead behind s replay_fault_of.Closed b bad = λ n is. absurd (cc is)
-later_cause ahead behind s replay_fault_of.OutOfMemory b bad = λ n is. absurd (cc is)
+later_cause L ahead behind s replay_fault_of.DiskFault b bad = λ n is. absurd (cc is)
+later_cause L ahead behind s replay_fault_of.Closed b bad = λ n is. absurd (cc is)
+later_cause L ahead behind s replay_fault_of.OutOfMemory b bad = λ n is. absurd (cc is)
 
-pub at_later_record : {T : Type 0} (ahead behind : List (List ℕ)) (s : Standing) (r : Result T EngineFault) (cause : ReplayFault) → IsErr r × IsErrAnd r (λ e. e ≡ replay_fault cause) → Begins ahead behind s
-    → ((n : ℕ) → cause ≡ replay_fault_of.BadEvent n → goes_to s behind ≡ Err n) → IfErr r (λ e. IsNone e ahead)
-at_later_record ahead behind s (Ok x) cause gives b bad = absurd gives.1
-at_later_record ahead behind s (Err e) cause gives b bad = λ n is. later_cause ahead behind s cause b bad n (sym gives.1 ∙ is)
+pub at_later_record : {T : Type 0} (L : Language) (ahead behind : List (List ℕ)) (s : Standing) (r : Result T EngineFault) (cause : ReplayFault) → IsErr r × IsErrAnd r (λ e. e ≡ replay_fault cause) → Begins L ahead behind s
+    → ((n : ℕ) → cause ≡ replay_fault_of.BadEvent n → goes_to s behind ≡ Err n) → IfErr r (λ e. IsNone L e ahead)
+at_later_record L ahead behind s (Ok x) cause gives b bad = absurd gives.1
+at_later_record L ahead behind s (Err e) cause gives b bad = λ n is. later_cause L ahead behind s cause b bad n (sym gives.1 ∙ is)

@@ -4,6 +4,7 @@ mod Chosen
 mod Clock
 mod FirstRecords
 pub mod Forms
+mod Languages
 mod LivesKept
 mod LivesRuns
 mod Moves

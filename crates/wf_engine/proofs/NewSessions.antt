@@ -12,7 +12,6 @@ use Rattle.wf_engine.specs.Laws.{OnlyReadings}
 use Rattle.wf_engine.specs.Openings.{Clocked}
 use Rattle.wf_engine.specs.Outside.{Outside}
 use Rattle.wf_engine.specs.Safe.{IsSmall}
-use Rattle.wf_engine.specs.TheLanguage.{the_language}
 use Rattle.wf_events.specs.Reading.{meaning}
 use Rattle.wf_events.specs.Records.{Started}
 use Rattle.wf_host.specs.declared.data.Deed.{Deed}
@@ -78,27 +77,27 @@ module _ (L : Language) (O : Outside) (x : Session) where
   }
 
 -- ## A start
-module _ (only : OnlyReadings) (start : StartIsAHistory) (bounded : RunsAreBounded) (payload : List ℕ) (s : Start) (p : Program) (c : Config) where
-  journal_of_start : meaning payload ≡ Some (Started s) → the_language.source s.source ≡ Some p → journal the_language (payload ∷ []) ≡ Some (record { start = s; program = p; turns = [] })
+module _ (L : Language) (only : OnlyReadings) (start : StartIsAHistory) (bounded : RunsAreBounded) (payload : List ℕ) (s : Start) (p : Program) (c : Config) where
+  journal_of_start : meaning payload ≡ Some (Started s) → L.source s.source ≡ Some p → journal L (payload ∷ []) ≡ Some (record { start = s; program = p; turns = [] })
   journal_of_start means accepted =
-      ap (λ o. begins the_language o []) means ∙ ap (λ o. option_map (λ q. record { start = s; program = q; turns = [] }) o) accepted
+      ap (λ o. begins L o []) means ∙ ap (λ o. option_map (λ q. record { start = s; program = q; turns = [] }) o) accepted
 
-  pub stands_begun : (r : ℕ) → meaning payload ≡ Some (Started s) → the_language.source s.source ≡ Some p → initial p s ≡ To c → r ≡ c.last
-      → StandsFor Run (record { program = p; config = c; session = 1; reading = r }) (payload ∷ []) (Now s.reading ∷ [])
+  pub stands_begun : (r : ℕ) → meaning payload ≡ Some (Started s) → L.source s.source ≡ Some p → initial p s ≡ To c → r ≡ c.last
+      → StandsFor L Run (record { program = p; config = c; session = 1; reading = r }) (payload ∷ []) (Now s.reading ∷ [])
   stands_begun r means accepted begins_at is =
       let found = journal_of_start means accepted in
       let D : List Deed = Now s.reading ∷ [] in
       let m : Memory = record { program = p; config = c; session = 1; reading = r } in
       let one : OneReading D = inr (s.reading, refl) in
-      let before : config_before (journal the_language (payload ∷ [])) 1 ≡ Some c = ap (λ o. config_before o 1) found ∙ ap reached begins_at in
+      let before : config_before (journal L (payload ∷ [])) 1 ≡ Some c = ap (λ o. config_before o 1) found ∙ ap reached begins_at in
       let bound = (bounded p s [] c begins_at).readings in
       record {
-        kept = λ O. only the_language O (session Run m (payload ∷ []) D) (all_small D one) (λ no. cc no)
-            (reads_well the_language O (session Run m (payload ∷ []) D) (ap (λ o. session_turns o 1) found) one (λ d resumes was ended. absurd (let no : Run ≡ Resume = resumes in cc no)));
+        kept = λ O. only L O (session Run m (payload ∷ []) D) (all_small D one) (λ no. cc no)
+            (reads_well L O (session Run m (payload ∷ []) D) (ap (λ o. session_turns o 1) found) one (λ d resumes was ended. absurd (let no : Run ≡ Resume = resumes in cc no)));
         small = all_small D one;
         leads = record {
           standing = record { program = p; config = c; number = 1; session = 0; waits = 0 };
-          history = start the_language payload s p c means accepted begins_at;
+          history = start L payload s p c means accepted begins_at;
           program = refl;
           config = refl;
           by_now = refl;
@@ -129,18 +128,18 @@ at_least last r D is = omega (arith, is)
 by_next : (n : ℕ) (s : Standing) → s.session < n → IsTrue (nat_lt s.session n || (nat_eq s.session n && nat_le s.waits 0))
 by_next n s less = or_left (nat_lt s.session n) (nat_eq s.session n && nat_le s.waits 0) (lt-ltb s.session n less)
 
-module _ (only : OnlyReadings) (stands_before : HistoryStandsBefore) (no_turns : NoTurnsBehind) (numbered : SessionIsNumbered) (J : List (List ℕ)) (s : Standing) where
-  pub stands_opened : (p : Program) (c : Config) (n r : ℕ) (D : List Deed) → history the_language J ≡ Ok s → s.program ≡ p → s.config ≡ c → n ≡ suc s.session → r ≡ reading_by c.last D 0 → Clocked c D
-      → StandsFor Resume (record { program = p; config = c; session = n; reading = r }) J D
+module _ (L : Language) (only : OnlyReadings) (stands_before : HistoryStandsBefore) (no_turns : NoTurnsBehind) (numbered : SessionIsNumbered) (J : List (List ℕ)) (s : Standing) where
+  pub stands_opened : (p : Program) (c : Config) (n r : ℕ) (D : List Deed) → history L J ≡ Ok s → s.program ≡ p → s.config ≡ c → n ≡ suc s.session → r ≡ reading_by c.last D 0 → Clocked c D
+      → StandsFor L Resume (record { program = p; config = c; session = n; reading = r }) J D
   stands_opened p c n r D is program config next read clocked =
       let behind : s.session < n = omega (arith, next) in
       let m : Memory = record { program = p; config = c; session = n; reading = r } in
       let one = one_reading c D clocked in
-      let before : config_before (journal the_language J) n ≡ Some c = stands_before the_language J s n is behind ∙ ap Some config in
-      let number = numbered the_language J s is in
+      let before : config_before (journal L J) n ≡ Some c = stands_before L J s n is behind ∙ ap Some config in
+      let number = numbered L J s is in
       record {
-        kept = λ O. only the_language O (session Resume m J D) (all_small D one) (λ no. cc no)
-            (reads_well the_language O (session Resume m J D) (no_turns the_language J s n is behind) one (λ d resumes was ended. no_reading c d D clocked (sym before ∙ was) ended));
+        kept = λ O. only L O (session Resume m J D) (all_small D one) (λ no. cc no)
+            (reads_well L O (session Resume m J D) (no_turns L J s n is behind) one (λ d resumes was ended. no_reading c d D clocked (sym before ∙ was) ended));
         small = all_small D one;
         leads = record {
           standing = s;

@@ -1,21 +1,24 @@
 -- A history that was read to its end, and the session that goes on from it.
-use Rattle.std.specs.Prelude.{◌≡◌, ◌≢◌, ◌⊎◌, ◌≤◌, ◌+◌, min, ℕ, zero, suc, Bool, true, false, if◌then◌else◌, List, [], ◌∷◌, ◌++◌, length, take, drop, Option, Some, None, Ok, unwrap_or}
+use Rattle.std.specs.Prelude.{◌≡◌, ◌≢◌, ◌⊎◌, ◌≤◌, ◌+◌, min, ℕ, zero, suc, Bool, true, false, if◌then◌else◌, List, [], ◌∷◌, ◌++◌, length, take, drop, Option, Some, None, Result, Ok, Err, IfErr, IsErr, IsErrAnd, unwrap_or}
 use Rattle.std.proofs.Common.{inl, inr, refl, sym, ◌∙◌, ap, arith, length-drop}
 use Rattle.wf_engine.proofs.NewSessions.{stands_opened}
 use Rattle.wf_engine.specs.Engine.{Opened}
 use Rattle.wf_engine.specs.Laws.{OnlyReadings}
 use Rattle.wf_engine.specs.Openings.{ReadsClock}
-use Rattle.wf_engine.specs.TheLanguage.{the_language}
+use Rattle.wf_engine.specs.declared.fault.EngineFault.{EngineFault}
+use Rattle.wf_engine.specs.declared.fault.EngineFault.TheVariants.{NotAHistory}
 use Rattle.wf_history.specs.Stands.{Stands, ahead, last}
 use Rattle.wf_history.specs.declared.history.History.{History}
 use Rattle.wf_host.specs.World.{World, Only, longest}
 use Rattle.wf_host.specs.declared.data.Deed.TheVariants.{Now}
-use Rattle.wf_journal.specs.Records.{records, payloads, is_open, length_of}
-use Rattle.wf_journal.specs.Standing.{stands_where}
+use Rattle.wf_journal.specs.Journal.{IsJournal}
+use Rattle.wf_journal.specs.Records.{magic, records, payloads, is_open, length_of}
+use Rattle.wf_journal.specs.Standing.{new_none, stands_where}
 use Rattle.wf_machine.specs.Seen.{state_of}
 use Rattle.wf_machine.specs.declared.machine.Machine.{Machine}
 use Rattle.wf_model.specs.Config.{Config, Active}
 use Rattle.wf_replay.specs.History.{Standing, history}
+use Rattle.wf_replay.specs.Language.{Language}
 use Rattle.wf_replay.specs.Moments.{HistoryStandsBefore, NoTurnsBehind, NumberIsCount, SessionIsNumbered}
 use Rattle.wf_replay.specs.Standing.{session_of, standing, stands_at}
 
@@ -31,12 +34,6 @@ config_at n l m = refl
 session_at : (n : ℕ) (l : Option (ℕ × ℕ)) (m : Machine) → (stands_at n l m).session ≡ session_of l
 unfolding stands_at
 session_at n l m = refl
-
--- a history has a record
-pub has_records : (J : List (List ℕ)) (s : Standing) → history the_language J ≡ Ok s → J ≢ []
-unfolding history
-has_records [] s is none = cc is
-has_records (b ∷ bs) s is none = cc none
 
 -- a history stands wherever the file reads as it did and a crash leaves just this
 pub still_stands : (h : History) (w new : World) → Stands h w → new.seen ≡ w.seen → Only new.seen new.may_leave → Stands h new
@@ -67,22 +64,22 @@ session_in None = refl
 session_in (Some p) = refl
 
 -- it is the one behind that of the last turn
-pub next_number : NumberIsCount → SessionIsNumbered → (image : List ℕ) (h : History) (m : Machine) (n last_one : ℕ) → history the_language (records image) ≡ Ok (standing h m) → length image ≤ longest
+pub next_number : (L : Language) → NumberIsCount → SessionIsNumbered → (image : List ℕ) (h : History) (m : Machine) (n last_one : ℕ) → history L (records image) ≡ Ok (standing h m) → length image ≤ longest
     → last_one ≡ (unwrap_or (last h) (0, 0)).0 → n ≡ min (last_one + 1) 18446744073709551615 → n ≡ suc (standing h m).session
-next_number count numbered image h m n last_one is fits found next =
+next_number L count numbered image h m n last_one is fits found next =
     let s = standing h m in
     let one : last_one ≡ s.session = found ∙ session_in (last h) ∙ sym (session_at h.place (last h) m) in
-    omega (arith, few_records image, fits, count the_language (records image) s is, numbered the_language (records image) s is, one, next)
+    omega (arith, few_records image, fits, count L (records image) s is, numbered L (records image) s is, one, next)
 
 -- ## What was opened
-module _ (only : OnlyReadings) (stands_before : HistoryStandsBefore) (no_turns : NoTurnsBehind) (numbered : SessionIsNumbered) where
-  pub opened : (old mid new : World) (h : History) (m : Machine) (n r : ℕ) → history the_language (records old.seen) ≡ Ok (standing h m) → new.seen ≡ old.seen → mid.deeds ≡ old.deeds → n ≡ suc (standing h m).session
-      → ReadsClock (state_of m).config r mid new → Opened (record { program = (state_of m).program; config = (state_of m).config; session = n; reading = r }) old new
+module _ (L : Language) (only : OnlyReadings) (stands_before : HistoryStandsBefore) (no_turns : NoTurnsBehind) (numbered : SessionIsNumbered) where
+  pub opened : (old mid new : World) (h : History) (m : Machine) (n r : ℕ) → history L (records old.seen) ≡ Ok (standing h m) → new.seen ≡ old.seen → mid.deeds ≡ old.deeds → n ≡ suc (standing h m).session
+      → ReadsClock (state_of m).config r mid new → Opened L (record { program = (state_of m).program; config = (state_of m).config; session = n; reading = r }) old new
   opened old mid new h m n r is seen deeds next read = record {
     done = read.done;
     deeds = read.deeds ∙ ap (λ l. l ++ read.done) deeds;
-    stands = stands_opened only stands_before no_turns numbered (records new.seen) (standing h m) (state_of m).program (state_of m).config n r read.done
-        (ap (λ l. history the_language (records l)) seen ∙ is) (program_at h.place (last h) m) (config_at h.place (last h) m) next read.greatest read.clock;
+    stands = stands_opened L only stands_before no_turns numbered (records new.seen) (standing h m) (state_of m).program (state_of m).config n r read.done
+        (ap (λ l. history L (records l)) seen ∙ is) (program_at h.place (last h) m) (config_at h.place (last h) m) next read.greatest read.clock;
     clock = read.clock;
   }
 
@@ -90,9 +87,23 @@ pub deeds_on : (old mid new : World) → mid.deeds ≡ old.deeds → (new.deeds 
 deeds_on old mid new same (inl none) = inl (none ∙ same)
 deeds_on old mid new same (inr (t, one)) = inr (t, one ∙ ap (λ l. l ++ Now t ∷ []) same)
 
+-- a file with a record that is a journal begins with the magic
+begins : (file : List ℕ) → IsJournal file → records file ≢ [] → take 4 file ≡ magic
+begins file (inl short) some = absurd (some (new_none file short))
+begins file (inr is) some = is
+
+-- what was found to be no history is none, in a file with a record
+pub no_history_told : {T : Type 0} (L : Language) (file : List ℕ) (J : List (List ℕ)) (r : Result T EngineFault) (cause : EngineFault) → IsErr r × IsErrAnd r (λ e. e ≡ cause) → J ≡ records file → IsJournal file
+    → ((n : ℕ) → cause ≡ NotAHistory n → (history L J ≡ Err n) × (J ≢ [])) → IfErr r (λ e. (n : ℕ) → e ≡ NotAHistory n → (history L (records file) ≡ Err n) × (records file ≢ []) × (take 4 file ≡ magic))
+no_history_told L file J (Ok x) cause gives same fit why = absurd gives.1
+no_history_told L file J (Err e) cause gives same fit why = λ n is.
+    let it = why n (sym gives.1 ∙ is) in
+    let some : records file ≢ [] = λ none. it.1 (same ∙ none) in
+    (ap (λ K. history L K) (sym same) ∙ it.0, some, begins file fit some)
+
 -- a history with an outcome is that of its machine
-pub has_ended : (J : List (List ℕ)) (h : History) (m : Machine) (s : Standing) → history the_language J ≡ Ok (standing h m) → history the_language J ≡ Ok s → s.config.outcome ≢ Active → (state_of m).config.outcome ≢ Active
-has_ended J h m s is other ended active =
+pub has_ended : (L : Language) (J : List (List ℕ)) (h : History) (m : Machine) (s : Standing) → history L J ≡ Ok (standing h m) → history L J ≡ Ok s → s.config.outcome ≢ Active → (state_of m).config.outcome ≢ Active
+has_ended L J h m s is other ended active =
     let same : Ok (standing h m) ≡ Ok s = sym is ∙ other in
     let one : standing h m ≡ s = cc same in
     ended (ap (λ (t : Standing). t.config.outcome) (sym one) ∙ ap (λ (c : Config). c.outcome) (config_at h.place (last h) m) ∙ active)

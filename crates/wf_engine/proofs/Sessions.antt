@@ -5,7 +5,7 @@ use Rattle.std.proofs.lemmas.List.{append-nil}
 use Rattle.wf_engine.proofs.Added.{Choice, Laws, kept_now, one_turn_more, payload_by, turn_by}
 use Rattle.wf_engine.specs.Engine.{Holds, KeptAt, Memory, StandsFor, is_closed, memory}
 use Rattle.wf_engine.specs.Kept.{Command, Kept}
-use Rattle.wf_engine.specs.TheLanguage.{the_language}
+use Rattle.wf_engine.specs.TheLanguage.{InTheLanguage}
 use Rattle.wf_engine.specs.declared.engine.Engine.{Engine}
 use Rattle.wf_events.specs.Records.{Turned}
 use Rattle.wf_events.specs.Spelling.{HasSpelling, IsMove}
@@ -23,64 +23,65 @@ use Rattle.wf_machine.specs.declared.machine.Outcome.{Outcome}
 use Rattle.wf_machine.specs.declared.machine.Outcome.TheVariants as outcome
 use Rattle.wf_model.specs.Config as plain
 use Rattle.wf_model.specs.Config.{Active, Config}
+use Rattle.wf_replay.specs.Language.{Language}
 use Rattle.wf_shared.specs.Events.{Event}
 
 -- ## One turn
 -- before it
-pub turn_begun : (h : History) (w : World) (command : Command) (m : Memory) (D : List Deed) → ((c : List ℕ) (d : List Deed) → w.left_since w.moment c d → w.may_leave c × (d ≡ w.deeds)) → history.Stands h w → history.is_new h ≡ false
-    → StandsFor command m (records w.seen) D → Begun w w (KeptAt command m (records w.seen) D) []
-turn_begun h w command m D only stands old s =
-    begun_over h.journal w (KeptAt command m (records w.seen) D) only stands.journal old (kept_now command m (records w.seen) (records w.seen) [] D m.config s (sym (append-nil (records w.seen))))
+pub turn_begun : (L : Language) (h : History) (w : World) (command : Command) (m : Memory) (D : List Deed) → ((c : List ℕ) (d : List Deed) → w.left_since w.moment c d → w.may_leave c × (d ≡ w.deeds)) → history.Stands h w → history.is_new h ≡ false
+    → StandsFor L command m (records w.seen) D → Begun w w (KeptAt L command m (records w.seen) D) []
+turn_begun L h w command m D only stands old s =
+    begun_over h.journal w (KeptAt L command m (records w.seen) D) only stands.journal old (kept_now L command m (records w.seen) (records w.seen) [] D m.config s (sym (append-nil (records w.seen))))
 
 -- while it is added
-pub turn_adds : Laws → (h : History) (w new : World) (command : Command) (m : Memory) (D : List Deed) (es : List Event) (c : Config) → ((c : List ℕ) (d : List Deed) → w.left_since w.moment c d → w.may_leave c × (d ≡ w.deeds)) → history.Stands h w → history.is_new h ≡ false
-    → StandsFor command m (records w.seen) D → Choice m es c → es ≢ [] → HasSpelling (Turned (turn_by m.session es)) → AllByRecursion IsMove es
-    → LeavesOnly w new (IsBeforeOrAfter w (payload_by m.session es)) → LeavesOnly w new (Moment w (KeptAt command m (records w.seen) D))
-turn_adds laws h w new command m D es c only stands old s chosen some spelled moves more =
+pub turn_adds : Laws → (L : Language) (h : History) (w new : World) (command : Command) (m : Memory) (D : List Deed) (es : List Event) (c : Config) → ((c : List ℕ) (d : List Deed) → w.left_since w.moment c d → w.may_leave c × (d ≡ w.deeds)) → history.Stands h w → history.is_new h ≡ false
+    → StandsFor L command m (records w.seen) D → Choice m es c → es ≢ [] → HasSpelling (Turned (turn_by m.session es)) → AllByRecursion IsMove es
+    → LeavesOnly w new (IsBeforeOrAfter w (payload_by m.session es)) → LeavesOnly w new (Moment w (KeptAt L command m (records w.seen) D))
+turn_adds laws L h w new command m D es c only stands old s chosen some spelled moves more =
     let J = records w.seen in
     let payload = payload_by m.session es in
-    record_goes_on w w new (KeptAt command m J D) [] payload (turn_begun h w command m D only stands old s) more
-    (kept_now command m J J [] D m.config s (sym (append-nil J)))
-    (kept_now command m J (J ++ payload ∷ []) (payload ∷ []) D c (one_turn_more laws command m J D es c s chosen some spelled moves) refl)
+    record_goes_on w w new (KeptAt L command m J D) [] payload (turn_begun L h w command m D only stands old s) more
+    (kept_now L command m J J [] D m.config s (sym (append-nil J)))
+    (kept_now L command m J (J ++ payload ∷ []) (payload ∷ []) D c (one_turn_more laws L command m J D es c s chosen some spelled moves) refl)
 
 -- ## Turn after turn
-pub record SoFar (command : Command) (m n : Memory) (first now : World) (D : List Deed) : Type 0 where
+pub record SoFar (L : Language) (command : Command) (m n : Memory) (first now : World) (D : List Deed) : Type 0 where
   pub added : List (List ℕ)
   pub longer : records now.seen ≡ records first.seen ++ added
-  pub stands : StandsFor command n (records now.seen) D
-  pub begun : Begun first now (KeptAt command m (records first.seen) D) []
+  pub stands : StandsFor L command n (records now.seen) D
+  pub begun : Begun first now (KeptAt L command m (records first.seen) D) []
 
-pub at_first : (h : History) (w : World) (command : Command) (m : Memory) (D : List Deed) → ((c : List ℕ) (d : List Deed) → w.left_since w.moment c d → w.may_leave c × (d ≡ w.deeds)) → history.Stands h w → history.is_new h ≡ false
-    → StandsFor command m (records w.seen) D → SoFar command m m w w D
-at_first h w command m D only stands old s = record {
+pub at_first : (L : Language) (h : History) (w : World) (command : Command) (m : Memory) (D : List Deed) → ((c : List ℕ) (d : List Deed) → w.left_since w.moment c d → w.may_leave c × (d ≡ w.deeds)) → history.Stands h w → history.is_new h ≡ false
+    → StandsFor L command m (records w.seen) D → SoFar L command m m w w D
+at_first L h w command m D only stands old s = record {
   added = [];
   longer = sym (append-nil (records w.seen));
   stands = s;
-  begun = turn_begun h w command m D only stands old s;
+  begun = turn_begun L h w command m D only stands old s;
 }
 
 -- what a turn keeps is kept by the session
-within : (command : Command) (m n : Memory) (first mid : World) (D : List Deed) → SoFar command m n first mid D → n.session ≡ m.session → (K : List (List ℕ)) (E : List Deed) → KeptAt command n (records mid.seen) D K E → KeptAt command m (records first.seen) D K E
-within command m n first mid D s number K E k = record {
+within : (L : Language) (command : Command) (m n : Memory) (first mid : World) (D : List Deed) → SoFar L command m n first mid D → n.session ≡ m.session → (K : List (List ℕ)) (E : List Deed) → KeptAt L command n (records mid.seen) D K E → KeptAt L command m (records first.seen) D K E
+within L command m n first mid D s number K E k = record {
   added = s.added ++ k.added;
   records = k.records ∙ ap (λ l. l ++ k.added) s.longer ∙ append_assoc (records first.seen) s.added k.added;
   history = k.history;
-  kept = λ O. subst (λ i. Kept the_language O (record { payloads = K; number = i; deeds = D ++ E; command = command; end = None })) number (k.kept O);
+  kept = λ O. subst (λ i. Kept L O (record { payloads = K; number = i; deeds = D ++ E; command = command; end = None })) number (k.kept O);
   silent = k.silent;
 }
 
-pub moments_on : (command : Command) (m n : Memory) (first mid new : World) (D : List Deed) → SoFar command m n first mid D → n.session ≡ m.session → LeavesOnly mid new (Moment mid (KeptAt command n (records mid.seen) D))
-    → LeavesOnly first new (Moment first (KeptAt command m (records first.seen) D))
-moments_on command m n first mid new D s number more =
-    part_goes_on first mid new (KeptAt command m (records first.seen) D) (KeptAt command n (records mid.seen) D) [] s.begun more (within command m n first mid D s number)
+pub moments_on : (L : Language) (command : Command) (m n : Memory) (first mid new : World) (D : List Deed) → SoFar L command m n first mid D → n.session ≡ m.session → LeavesOnly mid new (Moment mid (KeptAt L command n (records mid.seen) D))
+    → LeavesOnly first new (Moment first (KeptAt L command m (records first.seen) D))
+moments_on L command m n first mid new D s number more =
+    part_goes_on first mid new (KeptAt L command m (records first.seen) D) (KeptAt L command n (records mid.seen) D) [] s.begun more (within L command m n first mid D s number)
 
-pub goes_far : (h : History) (command : Command) (m n o : Memory) (first mid new : World) (D : List Deed) (more : List (List ℕ)) → SoFar command m n first mid D → n.session ≡ m.session → LeavesOnly mid new (Moment mid (KeptAt command n (records mid.seen) D))
-    → records new.seen ≡ records mid.seen ++ more → StandsFor command o (records new.seen) D → new.deeds ≡ mid.deeds → history.Stands h new → history.is_new h ≡ false → SoFar command m o first new D
-goes_far h command m n o first mid new D more s number moments added stands deeds holds old = record {
+pub goes_far : (L : Language) (h : History) (command : Command) (m n o : Memory) (first mid new : World) (D : List Deed) (more : List (List ℕ)) → SoFar L command m n first mid D → n.session ≡ m.session → LeavesOnly mid new (Moment mid (KeptAt L command n (records mid.seen) D))
+    → records new.seen ≡ records mid.seen ++ more → StandsFor L command o (records new.seen) D → new.deeds ≡ mid.deeds → history.Stands h new → history.is_new h ≡ false → SoFar L command m o first new D
+goes_far L h command m n o first mid new D more s number moments added stands deeds holds old = record {
   added = s.added ++ more;
   longer = added ∙ ap (λ l. l ++ more) s.longer ∙ append_assoc (records first.seen) s.added more;
   stands = stands;
-  begun = still_begun h.journal first mid new (KeptAt command m (records first.seen) D) [] [] s.begun (moments_on command m n first mid new D s number moments) (deeds ∙ sym (append-nil mid.deeds)) holds.journal old;
+  begun = still_begun h.journal first mid new (KeptAt L command m (records first.seen) D) [] [] s.begun (moments_on L command m n first mid new D s number moments) (deeds ∙ sym (append-nil mid.deeds)) holds.journal old;
 }
 
 -- ## Of an engine
@@ -88,7 +89,7 @@ pub record Going (first now : World) (f g : Faults) (e d : Engine) (Rest : Type 
   pub not_closed : is_closed d ≡ false
   pub holds : Told first (Holds d now)
   pub number : (memory d).session ≡ (memory e).session
-  pub so_far : Told first ((command : Command) (D : List Deed) → StandsFor command (memory e) (records first.seen) D → SoFar command (memory e) (memory d) first now D)
+  pub so_far : InTheLanguage (λ L. Told first ((command : Command) (D : List Deed) → StandsFor L command (memory e) (records first.seen) D → SoFar L command (memory e) (memory d) first now D))
   pub deeds : Told first (now.deeds ≡ first.deeds)
   pub tells : now.tells ≡ first.tells
   pub counts : NoneFell f g

@@ -9,7 +9,6 @@ use Rattle.wf_engine.specs.Deeds.{nows, printed, reading_by}
 use Rattle.wf_engine.specs.Kept.{Command, Resume, Session, Kept, last_of}
 use Rattle.wf_engine.specs.Outside.{Outside}
 use Rattle.wf_engine.specs.Safe.{IsSmall}
-use Rattle.wf_engine.specs.TheLanguage.{the_language}
 use Rattle.wf_engine.specs.declared.engine.Engine.{Engine}
 use Rattle.wf_events.specs.Records.{Turned}
 use Rattle.wf_events.specs.Spelling.{record_bytes}
@@ -22,6 +21,7 @@ use Rattle.wf_machine.specs.Seen.{state_of}
 use Rattle.wf_model.specs.Config.{Config, Active}
 use Rattle.wf_replay.specs.At.{journal, config_before}
 use Rattle.wf_replay.specs.History.{Standing, history as history_of}
+use Rattle.wf_replay.specs.Language.{Language}
 use Rattle.wf_replay.specs.Laws.{IsHistory}
 use Rattle.wf_replay.specs.Moments.{is_by}
 use Rattle.wf_shared.specs.Events.{Event}
@@ -52,9 +52,9 @@ abbrev pub session : Command → Memory → List (List ℕ) → List Deed → Se
 session command m J D = record { payloads = J; number = m.session; deeds = D; command = command; end = None }
 
 -- the records are a history that leads to the program and the configuration, and the session may add its next turn
-pub record LeadsTo (J : List (List ℕ)) (m : Memory) : Type 0 where
+pub record LeadsTo (L : Language) (J : List (List ℕ)) (m : Memory) : Type 0 where
   pub standing : Standing
-  pub history : history_of the_language J ≡ Ok standing
+  pub history : history_of L J ≡ Ok standing
   pub program : standing.program ≡ m.program
   pub config : standing.config ≡ m.config
   pub by_now : IsTrue (is_by m.session 0 standing)
@@ -62,23 +62,23 @@ pub record LeadsTo (J : List (List ℕ)) (m : Memory) : Type 0 where
   pub numbered : m.session ≤ standing.number
 
 -- The records and the deeds of the session so far keep the rules, whatever heard bytes come to, and the memory is theirs.
-pub record StandsFor (command : Command) (m : Memory) (J : List (List ℕ)) (D : List Deed) : Type 0 where
-  pub kept : (O : Outside) → Kept the_language O (session command m J D)
+pub record StandsFor (L : Language) (command : Command) (m : Memory) (J : List (List ℕ)) (D : List Deed) : Type 0 where
+  pub kept : (O : Outside) → Kept L O (session command m J D)
   -- nothing was sent or awaited
   pub small : AllByRecursion IsSmall D
-  pub leads : LeadsTo J m
-  pub reading : m.reading ≡ reading_by (last_of (config_before (journal the_language J) m.session)) D 0
+  pub leads : LeadsTo L J m
+  pub reading : m.reading ≡ reading_by (last_of (config_before (journal L J) m.session)) D 0
   -- no reading of the execution is greater, and the clock was read where there is no outcome
   pub last : m.config.last ≤ m.reading
   pub clock : m.config.outcome ≡ Active → length (nows D) ≡ 1
 
 -- ## Moments
 -- at a moment of a call: a history that goes on from the records before, under the rules, with the deeds of the call behind those before
-pub record KeptAt (command : Command) (m : Memory) (before : List (List ℕ)) (D : List Deed) (J : List (List ℕ)) (E : List Deed) : Type 0 where
+pub record KeptAt (L : Language) (command : Command) (m : Memory) (before : List (List ℕ)) (D : List Deed) (J : List (List ℕ)) (E : List Deed) : Type 0 where
   pub added : List (List ℕ)
   pub records : J ≡ before ++ added
-  pub history : IsHistory the_language J
-  pub kept : (O : Outside) → Kept the_language O (session command m J (D ++ E))
+  pub history : IsHistory L J
+  pub kept : (O : Outside) → Kept L O (session command m J (D ++ E))
   -- nothing was printed
   pub silent : printed E ≡ []
 
@@ -88,10 +88,10 @@ OpeningMoment w c d = w.may_leave c × ((d ≡ w.deeds) ⊎ ((t : ℕ) × (d ≡
 
 -- ## What a call gives
 -- an opened engine: with an outcome it has done nothing, and else it has read the clock once
-pub record Opened (m : Memory) (old new : World) : Type 0 where
+pub record Opened (L : Language) (m : Memory) (old new : World) : Type 0 where
   pub done : List Deed
   pub deeds : new.deeds ≡ old.deeds ++ done
-  pub stands : StandsFor Resume m (records new.seen) done
+  pub stands : StandsFor L Resume m (records new.seen) done
   pub clock : ((m.config.outcome ≢ Active) × (done ≡ [])) ⊎ ((m.config.outcome ≡ Active) × ((t : ℕ) × (done ≡ Now t ∷ [])))
 
 -- the record of a turn of the session, and none where it has no event

@@ -1,10 +1,11 @@
--- Laws of the rules on deeds, as they stand in the contract of `laws_of_rules`.
+-- Laws of the rules on deeds and of languages, as they stand in the contracts of `laws_of_rules` and `law_of_languages`.
 use Rattle.std.specs.Prelude.{◌≡◌, ◌≢◌, ◌≤◌, ℕ, List, [], ◌∷◌, ◌++◌, length, Some}
 use Rattle.std.specs.List.{AllByRecursion}
 use Rattle.wf_engine.specs.Deeds.{polls, nows}
 use Rattle.wf_engine.specs.Kept.{Session, Kept, ReadingsAreOfTheClock, reading, reading_of}
 use Rattle.wf_engine.specs.Outside.{Outside}
 use Rattle.wf_engine.specs.Safe.{IsSmall}
+use Rattle.wf_engine.specs.TheLanguage.{IsTheLanguage}
 use Rattle.wf_events.specs.Reading.{meaning}
 use Rattle.wf_events.specs.Records.{Turned}
 use Rattle.wf_replay.specs.At.{Journal, journal}
@@ -28,3 +29,7 @@ abbrev pub TurnKeepsReadings : Type 0
 TurnKeepsReadings = (L : Language) (O : Outside) (x : Session) (payload : List ℕ) (j : Journal) (t : Turn)
     → ReadingsAreOfTheClock L O x → journal L x.payloads ≡ Some j → meaning payload ≡ Some (Turned t) → t.session ≡ x.number → t.waits ≤ polls x.deeds → TakesReadings L O x t → length (nows x.deeds) ≡ 1
     → ReadingsAreOfTheClock L O (with_record x payload)
+
+-- it can't be that no language accepts exactly the sources that are programs, with these programs
+abbrev pub LanguageIsThere : Type 0
+LanguageIsThere = ¬ (¬ ((L : Language) × IsTheLanguage L))

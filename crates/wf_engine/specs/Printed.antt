@@ -10,6 +10,8 @@ use Rattle.wf_line.specs.declared.command.Command.TheVariants.{Format, Run, Resu
 use Rattle.wf_model.specs.Config.{Outcome, Active, Returned, Raised, Cancelled}
 use Rattle.wf_replay.specs.History.{Standing, history}
 use Rattle.wf_replay.specs.Language.{Language}
+use Rattle.wf_source.specs.Programs.{IsRefusalOf}
+use Rattle.wf_source.specs.Sources.{read_tree}
 use Rattle.wf_status.specs.Refusals.{refusal_text}
 use Rattle.wf_status.specs.Statuses.{line_end}
 use Rattle.wf_status.specs.declared.Refusal.{Refusal}
@@ -23,10 +25,8 @@ pub record Scene : Type 0 where
   pub source : Rest
   pub found : List ℕ
 
--- what is told of sources and of the program by other parts
+-- what is told of trees and of the program by other parts
 pub record Reports : Type 0 where
-  -- the first refusal of a source that the command doesn't take
-  pub refusal : Command → List ℕ → Option Refusal
   -- the tree of a source in one layout, where it has one
   pub formatted : List ℕ → Option (List ℕ)
   pub help : List ℕ
@@ -49,6 +49,12 @@ executes Run = true
 executes Resume = true
 executes c = false
 
+-- this refusal of a source that the command doesn't take speaks first: `format` takes what has a tree, and `run` what is a program
+abbrev pub refuses : Command → List ℕ → Refusal → Type 0
+refuses Format bytes r = read_tree bytes ≡ Err r
+refuses Run bytes r = IsRefusalOf bytes r
+refuses c bytes r = ⊥
+
 -- ## Outcomes
 -- the status of an outcome, and the line that is printed of it
 abbrev pub status_of : Outcome → Option Status
@@ -63,8 +69,8 @@ outcome_text (Returned v) = line_end (json_text v)
 outcome_text (Raised e) = line_end (json_text e)
 outcome_text Cancelled = []
 
-module _ (L : Language) (R : Reports) (s : Scene) where
-  -- ## Causes
+-- ## Causes
+module _ (s : Scene) where
   abbrev pub IsLine : PlainLine → Type 0
   IsLine l = line_of s.words ≡ Ok l
 
@@ -76,7 +82,7 @@ module _ (L : Language) (R : Reports) (s : Scene) where
   Reads l bytes = IsLine l × (uses_source l.command ≡ true) × IsFirst 131073 s.source bytes
 
   abbrev pub IsRefused : Refusal → Type 0
-  IsRefused r = (l : PlainLine) × (bytes : List ℕ) × Reads l bytes × (R.refusal l.command bytes ≡ Some r)
+  IsRefused r = (l : PlainLine) × (bytes : List ℕ) × Reads l bytes × refuses l.command bytes r
 
   -- a line that goes on with a journal, or begins one
   abbrev pub IsLineOf : (Command → Type 0) → Type 0
@@ -91,25 +97,27 @@ module _ (L : Language) (R : Reports) (s : Scene) where
   abbrev pub IsNotStarted : Type 0
   IsNotStarted = IsLineOf (λ c. c ≡ Resume) × (records s.found ≡ [])
 
+-- what a command that executes nothing prints
+pub data Reported (R : Reports) (s : Scene) : List ℕ → Type 0 where
+  formatted : (l : PlainLine) (bytes text : List ℕ) → Reads s l bytes → l.command ≡ Format → R.formatted bytes ≡ Some text → Reported R s text
+  helped : IsLineOf s (λ c. c ≡ Help) → Reported R s R.help
+  versioned : IsLineOf s (λ c. c ≡ Version) → Reported R s R.version
+
+-- ## In a language
+module _ (L : Language) (R : Reports) (s : Scene) where
   abbrev pub IsNoHistory : ℕ → Type 0
-  IsNoHistory n = IsLineOf (λ c. c ≡ Resume) × (history L (records s.found) ≡ Err n)
+  IsNoHistory n = IsLineOf s (λ c. c ≡ Resume) × (history L (records s.found) ≡ Err n)
 
   -- the records of an image give this outcome
   abbrev pub HasOutcome : List ℕ → Outcome → Type 0
-  HasOutcome image o = IsLineOf (λ c. executes c ≡ true) × ((c : Standing) × (history L (records image) ≡ Ok c) × (c.config.outcome ≡ o))
-
-  -- what a command that executes nothing prints
-  pub data Reported : List ℕ → Type 0 where
-    formatted : (l : PlainLine) (bytes text : List ℕ) → Reads l bytes → l.command ≡ Format → R.formatted bytes ≡ Some text → Reported text
-    helped : IsLineOf (λ c. c ≡ Help) → Reported R.help
-    versioned : IsLineOf (λ c. c ≡ Version) → Reported R.version
+  HasOutcome image o = IsLineOf s (λ c. executes c ≡ true) × ((c : Standing) × (history L (records image) ≡ Ok c) × (c.config.outcome ≡ o))
 
   pub data Gives (image : List ℕ) : Status → List ℕ → Type 0 where
-    bad_line : (n : ℕ) → IsBadLine n → Gives image (status.BadLine n) (line_end (codes "bad line at word " ++ decimal n))
-    refused : (r : Refusal) → IsRefused r → Gives image (status.Refused r) (line_end (refusal_text r))
-    not_a_journal : HasOtherMagic → Gives image status.NotAJournal (line_end (codes "not a journal"))
-    already_started : IsStarted → Gives image status.AlreadyStarted (line_end (codes "already started"))
-    not_started : IsNotStarted → Gives image status.NotStarted (line_end (codes "not started"))
+    bad_line : (n : ℕ) → IsBadLine s n → Gives image (status.BadLine n) (line_end (codes "bad line at word " ++ decimal n))
+    refused : (r : Refusal) → IsRefused s r → Gives image (status.Refused r) (line_end (refusal_text r))
+    not_a_journal : HasOtherMagic s → Gives image status.NotAJournal (line_end (codes "not a journal"))
+    already_started : IsStarted s → Gives image status.AlreadyStarted (line_end (codes "already started"))
+    not_started : IsNotStarted s → Gives image status.NotStarted (line_end (codes "not started"))
     not_a_history : (n : ℕ) → IsNoHistory n → Gives image (status.NotAHistory n) (line_end (codes "not a history at record " ++ decimal n))
     ended : (o : Outcome) (st : Status) → HasOutcome image o → status_of o ≡ Some st → Gives image st (outcome_text o)
-    done : (text : List ℕ) → Reported text → Gives image status.Done text
+    done : (text : List ℕ) → Reported R s text → Gives image status.Done text

@@ -66,7 +66,7 @@ module _ (L : Language) (O : Outside) (R : Reports) (s : Scene) (end : Option St
   -- a first record that this command added is the start of its line, of the source and of the clock
   abbrev pub StartIsOfTheLine : List ℕ → List Deed → Type 0
   StartIsOfTheLine image D = (first : List ℕ) (rest : List (List ℕ)) → records s.found ≡ [] → records image ≡ first ∷ rest
-      → (l : PlainLine) × (bytes : List ℕ) × Reads L R s l bytes × ((t : ℕ) × Contains (nows D) t × (first ≡ record_bytes (Started (start_of l bytes t))))
+      → (l : PlainLine) × (bytes : List ℕ) × Reads s l bytes × ((t : ℕ) × Contains (nows D) t × (first ≡ record_bytes (Started (start_of l bytes t))))
 
   -- what was printed is the front of a text that the command has cause to print
   abbrev pub PrintedIsOutcome : List ℕ → List Deed → Type 0

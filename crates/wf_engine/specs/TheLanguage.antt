@@ -1,15 +1,13 @@
--- The language as far as it is built.
-use Rattle.std.specs.Prelude.{Result, Ok, Err, Option, Some, None}
+-- The language as far as it is built. Its programs are told by a relation, so the clauses speak of every language that has exactly these.
+use Rattle.std.specs.Prelude.{◌≡◌, ◌↔◌, ℕ, List, Some}
 use Rattle.wf_ast.specs.Tree.{Program}
 use Rattle.wf_replay.specs.Language.{Language}
-use Rattle.wf_source.specs.Sources.{read_source}
-use Rattle.wf_status.specs.declared.Refusal.{Refusal}
+use Rattle.wf_source.specs.Programs.{IsSourceOf}
 
--- the program of a source, where it isn't refused
-abbrev pub program_of : Result Program Refusal → Option Program
-program_of (Ok p) = Some p
-program_of (Err r) = None
+-- A language is the one that is built where it accepts exactly the sources that are programs, with these programs.
+abbrev pub IsTheLanguage : Language → Type 0
+IsTheLanguage L = (bytes : List ℕ) (p : Program) → (L.source bytes ≡ Some p) ↔ IsSourceOf bytes p
 
--- a source is accepted where it has a program
-unfoldable pub the_language : Language
-the_language = record { source = λ bytes. program_of (read_source bytes) }
+-- what holds in it
+abbrev pub InTheLanguage : (Language → Type 0) → Type 0
+InTheLanguage P = (L : Language) → IsTheLanguage L → P L

@@ -12,6 +12,6 @@ mod turns;
 
 pub use engine::Engine;
 pub use fault::EngineFault;
-pub use laws::laws_of_rules;
+pub use laws::{law_of_languages, laws_of_rules};
 pub use lives::law_of_lives;
 pub use turns::choose_turn;

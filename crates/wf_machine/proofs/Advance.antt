@@ -11,9 +11,10 @@ use Rattle.wf_ast.specs.declared.Body as body
 use Rattle.wf_ast.specs.declared.Entries.{Entries}
 use Rattle.wf_ast.specs.declared.Step as code_step
 use Rattle.wf_ast.specs.declared.Template as code
+use Rattle.wf_eval.specs.Built.{is_template_built}
 use Rattle.wf_machine.specs.Machine.{control_at, config_by, at_or_end, is_within, after_entry}
 use Rattle.wf_machine.specs.Moves.{first_entries, IsPlace, before, LeadsOn, EntryLeads, assign_step, return_step}
-use Rattle.wf_machine.specs.Straight.{is_plain, value_by, is_plain_entry, is_straight_step}
+use Rattle.wf_machine.specs.Straight.{value_by, is_plain_entry, is_straight_step}
 use Rattle.wf_machine.specs.declared.moves.Next.TheVariants as next
 use Rattle.wf_machine.proofs.Straight.{and_left, and_right, end_by, move_return, move_entry, move_assign, move_no_entry}
 use Rattle.wf_model.specs.Config.{Facts, To, Raised, limits}
@@ -66,7 +67,7 @@ module _ (ss : List Step) (i : ℕ) where
   at_step facts reading m s vars is = ap (λ l. at_or_end facts reading (control_at (t.steps ss) [] (t.steps l)) vars m) is
 
   -- a return with a value
-  pub leads_returned : (x : Text) (r : Template) (j now : ℕ) (vars : Pairs) (v : Value) → drop i ss ≡ return_step x r ∷ Rest → IsPlace ss i j → is_plain r ≡ true → value_by now r vars ≡ Ok (plain v) → LeadsOn ss i j now vars (next.Returned v) vars
+  pub leads_returned : (x : Text) (r : Template) (j now : ℕ) (vars : Pairs) (v : Value) → drop i ss ≡ return_step x r ∷ Rest → IsPlace ss i j → is_template_built r ≡ true → value_by now r vars ≡ Ok (plain v) → LeadsOn ss i j now vars (next.Returned v) vars
   leads_returned x r zero now vars v is place flat value p facts reading m rules =
       ap (by_itself p 0 now move) (at_step facts reading m (return_step x r) vars is)
       ∙ move_return p facts reading (t.steps ss) now x r (t.steps Rest) vars m flat
@@ -75,7 +76,7 @@ module _ (ss : List Step) (i : ℕ) where
       let none : suc j < 0 = subst (λ l. suc j < length (first_entries l)) is place in absurd (omega (arith, none))
 
   -- a return whose value raises an error
-  pub leads_raised : (x : Text) (r : Template) (j now : ℕ) (vars : Pairs) (tag : Tag) → drop i ss ≡ return_step x r ∷ Rest → IsPlace ss i j → is_plain r ≡ true → value_by now r vars ≡ Err tag → LeadsOn ss i j now vars (next.Raised tag) vars
+  pub leads_raised : (x : Text) (r : Template) (j now : ℕ) (vars : Pairs) (tag : Tag) → drop i ss ≡ return_step x r ∷ Rest → IsPlace ss i j → is_template_built r ≡ true → value_by now r vars ≡ Err tag → LeadsOn ss i j now vars (next.Raised tag) vars
   leads_raised x r zero now vars tag is place flat value p facts reading m rules =
       ap (by_itself p 0 now move) (at_step facts reading m (return_step x r) vars is)
       ∙ move_return p facts reading (t.steps ss) now x r (t.steps Rest) vars m flat
@@ -138,13 +139,13 @@ none_of None never = refl
 none_of (Some a) never = absurd (never a refl)
 
 -- a straight return has no `next`
-return_next : (x : Text) (n : Option Text) (r : Template) → is_straight_step (step x (Body.Return r) n) ≡ true → (step x (Body.Return r) n ≡ return_step x r) × (is_plain r ≡ true)
+return_next : (x : Text) (n : Option Text) (r : Template) → is_straight_step (step x (Body.Return r) n) ≡ true → (step x (Body.Return r) n ≡ return_step x r) × (is_template_built r ≡ true)
 return_next x None r is = (refl, is)
 return_next x (Some y) r is = absurd (cc is)
 
 -- the same of a body that is a return
-pub return_straight : (x : Text) (b : Body) (n : Option Text) (r : Template) → b ≡ Body.Return r → is_straight_step (step x b n) ≡ true → (step x b n ≡ return_step x r) × (is_plain r ≡ true)
-return_straight x b n r same is = subst (λ c. (step x c n ≡ return_step x r) × (is_plain r ≡ true)) (sym same) (return_next x n r (ap (λ c. is_straight_step (step x c n)) (sym same) ∙ is))
+pub return_straight : (x : Text) (b : Body) (n : Option Text) (r : Template) → b ≡ Body.Return r → is_straight_step (step x b n) ≡ true → (step x b n ≡ return_step x r) × (is_template_built r ≡ true)
+return_straight x b n r same is = subst (λ c. (step x c n ≡ return_step x r) × (is_template_built r ≡ true)) (sym same) (return_next x n r (ap (λ c. is_straight_step (step x c n)) (sym same) ∙ is))
 
 -- a straight assign has no `next`
 assign_next : (x : Text) (n : Option Text) (es : List Entry) → is_straight_step (step x (Body.Assign es) n) ≡ true → (step x (Body.Assign es) n ≡ assign_step x es) × (list_all is_plain_entry es ≡ true)
@@ -207,7 +208,7 @@ module _ (steps : List code_step.Step) (i : ℕ) (d : code_step.Step) (lt : i < 
   straight_here = all_at is_straight_step (map step_view steps) i (step_view Here) (drop (i + 1) (map step_view steps)) straight here
 
   -- where it is a return
-  pub return_here : (r : code.Template) → Here.body ≡ body.Return r → (drop i (map step_view steps) ≡ return_step Here.name (template_view r) ∷ drop (i + 1) (map step_view steps)) × (is_plain (template_view r) ≡ true)
+  pub return_here : (r : code.Template) → Here.body ≡ body.Return r → (drop i (map step_view steps) ≡ return_step Here.name (template_view r) ∷ drop (i + 1) (map step_view steps)) × (is_template_built (template_view r) ≡ true)
   return_here r is = let both = return_straight Here.name (body_view Here.body) Here.next (template_view r) (ap body_view is) straight_here in (here ∙ ap (λ s. s ∷ drop (i + 1) (map step_view steps)) both.0, both.1)
 
   -- where it is an assign

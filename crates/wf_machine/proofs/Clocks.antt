@@ -36,7 +36,7 @@ module _ (entries : List code.Entry) (j : ℕ) (d : code.Entry) (lt : j < length
   here = at_index entry_view entries j d Here lt refl
 
   -- it is plain
-  pub plain_here : is_plain_entry (entry_view Here) ≡ true
+  plain_here : is_plain_entry (entry_view Here) ≡ true
   plain_here = all_at is_plain_entry (map entry_view entries) j (entry_view Here) (drop (j + 1) (map entry_view entries)) plain here
 
   -- and reads the clock where its value does

@@ -12,12 +12,13 @@ use Rattle.wf_machine.proofs.Places.{all_drop, initial_is, more_left}
 use Rattle.wf_machine.proofs.Stands.{are_list, below_limit, cons_of, drop_next, stands, stands_at_end, alone, limit_here, plain_here, clock_here}
 use Rattle.wf_machine.proofs.Straight.{and_left, and_right, end_by, move_no_entry, move_return}
 use Rattle.wf_machine.specs.Laws.{ResultsAgree, ThereIsAResult}
+use Rattle.wf_eval.specs.Built.{is_template_built}
 use Rattle.wf_machine.specs.Machine.{control_at, config_by, fits, at_or_end, after_entry}
 use Rattle.wf_machine.specs.Facts.{facts_of}
 use Rattle.wf_machine.specs.Moves.{entries_of, first_entries, entries_left, IsPlace, first_now, step_now, first_step_now, clock_at, main_event, before, assign_step, return_step}
 use Rattle.wf_machine.specs.Outcome.{HasOutcome, IsResult}
 use Rattle.wf_machine.specs.State.{config_at}
-use Rattle.wf_machine.specs.Straight.{is_plain, is_plain_entry, is_straight_step, are_straight, are_straight_flows, is_straight, is_untimed_entry, is_untimed_step, are_untimed, reads_no_clock}
+use Rattle.wf_machine.specs.Straight.{is_plain_entry, is_straight_step, are_straight, are_straight_flows, is_straight, is_untimed_entry, is_untimed_step, are_untimed, reads_no_clock}
 use Rattle.wf_model.specs.Config.{Facts, Outcome, Active, Raised, Config, To}
 use Rattle.wf_model.specs.Kinds.{template_now, entry_now}
 use Rattle.wf_model.specs.Move.{move}
@@ -82,7 +83,7 @@ module _ (p : Program) (facts : Facts) (reading now : ℕ) (ss : List Step) wher
   MovesOn i j vars m = (d : Config) × (by_itself p 0 now move (before facts reading ss i j vars m) ≡ To d) × IsOnward facts reading ss m d
 
   -- from a return
-  on_return : (i j : ℕ) (vars : Pairs) (m : ℕ) (x : Text) (r : Template) → drop i ss ≡ return_step x r ∷ drop (i + 1) ss → IsPlace ss i j → is_plain r ≡ true → MovesOn i j vars m
+  on_return : (i j : ℕ) (vars : Pairs) (m : ℕ) (x : Text) (r : Template) → drop i ss ≡ return_step x r ∷ drop (i + 1) ss → IsPlace ss i j → is_template_built r ≡ true → MovesOn i j vars m
   on_return i zero vars m x r at place flat = (
     _,
     ap (λ l. by_itself p 0 now move (at_or_end facts reading (control_at (t.steps ss) [] (t.steps l)) vars m)) at ∙ move_return p facts reading (t.steps ss) now x r (t.steps (drop (i + 1) ss)) vars m flat,

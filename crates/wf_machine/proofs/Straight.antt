@@ -3,9 +3,9 @@ use Rattle.std.proofs.Common.{◌≡◌, ℕ, Bool, true, false, ◌&&◌, ◌||
 use Rattle.std.proofs.Math.Bool.{or-false}
 use Rattle.std.specs.Prelude.{if◌then◌else◌, nat_le, not}
 use Rattle.wf_ast.specs.Eval.{fill}
-use Rattle.wf_ast.specs.Tree.{Expr, Exprs, no_exprs, expr, Template, Scalar, Whole, Joined, Listed, Mapped, Entry, step, Steps, no_steps, more, Body, Program}
+use Rattle.wf_ast.specs.Tree.{Exprs, no_exprs, expr, Template, Entry, step, Steps, no_steps, more, Body, Program}
 use Rattle.wf_model.specs.Config.{Item, Do, Entries, Awake, Facts, limits, Active, Raised, Config, To}
-use Rattle.wf_model.specs.Kinds.{NextKind, Plainly, ByClock, is_now, template_now, exprs_now, entry_now, next_kind}
+use Rattle.wf_model.specs.Kinds.{NextKind, Plainly, ByClock, template_now, exprs_now, entry_now, next_kind}
 use Rattle.wf_model.specs.Layers.{view, value_of, Own, Nowhere, Done, Refused, within_limits, assign_at, assign}
 use Rattle.wf_model.specs.Leave.{on, on_assigned, returns}
 use Rattle.wf_model.specs.Local.{Local, Scene, Main, End, Gives, Fails, Moved, Ends, Goes, total, settle, ended, settled, goes}
@@ -15,13 +15,13 @@ use Rattle.wf_model.specs.Step.{next, wants, counted, read_at, when, same_kind}
 use Rattle.wf_model.specs.Taken.{by_itself, merged, scene, outcome_of}
 use Rattle.wf_shared.specs.Events.{Event}
 use Rattle.wf_value.specs.Data.{Data, null, Pairs, depth, pairs_size}
-use Rattle.wf_value.specs.Errors.{error_map, Answer, or_error, kept, ◌>>=◌}
+use Rattle.wf_value.specs.Errors.{error_map, Answer}
 use Rattle.wf_value.specs.Pairs.{Text, get, put}
-use Rattle.wf_value.specs.declared.Tag.TheVariants.{KeyError, ResourceLimitError}
+use Rattle.wf_value.specs.declared.Tag.TheVariants.{ResourceLimitError}
 use Rattle.wf_machine.specs.Machine.{control_at, main_task, config_by, fits, at_or_end, after_entry}
-use Rattle.wf_machine.specs.Straight.{value_by, is_plain, has_no_exprs, is_plain_entry}
-use Rattle.wf_ast.specs.declared.Func.{Func}
-use Rattle.wf_ast.specs.declared.Func.TheVariants as func
+use Rattle.wf_eval.specs.Built.{is_template_built}
+use Rattle.wf_machine.proofs.Sees.{fill_same}
+use Rattle.wf_machine.specs.Straight.{seen_by, value_by, has_no_exprs, is_plain_entry}
 
 -- ## Truth values
 -- both, so the first
@@ -44,62 +44,9 @@ seen_var (Some v) = refl
 abbrev at_work : List Item → Pairs → Local
 at_work k vars = record { control = k; layers = record { vars = vars; by_call = false } ∷ []; outer = []; wait = Awake }
 
--- the clock's function
-pub clock_is : (f : Func) → is_now f ≡ true → f ≡ func.SysNow
-clock_is func.Default is = absurd (cc is)
-clock_is func.Keys is = absurd (cc is)
-clock_is func.Len is = absurd (cc is)
-clock_is func.GetType is = absurd (cc is)
-clock_is func.Int is = absurd (cc is)
-clock_is func.String is = absurd (cc is)
-clock_is func.If is = absurd (cc is)
-clock_is func.TextSplit is = absurd (cc is)
-clock_is func.TextReplaceAll is = absurd (cc is)
-clock_is func.TextSubstring is = absurd (cc is)
-clock_is func.TextFindAll is = absurd (cc is)
-clock_is func.TextToUpper is = absurd (cc is)
-clock_is func.TextToLower is = absurd (cc is)
-clock_is func.TextUrlEncode is = absurd (cc is)
-clock_is func.TextUrlDecode is = absurd (cc is)
-clock_is func.TextEncode is = absurd (cc is)
-clock_is func.TextDecode is = absurd (cc is)
-clock_is func.ListConcat is = absurd (cc is)
-clock_is func.ListPrepend is = absurd (cc is)
-clock_is func.MapGet is = absurd (cc is)
-clock_is func.MapDelete is = absurd (cc is)
-clock_is func.MapMerge is = absurd (cc is)
-clock_is func.JsonEncode is = absurd (cc is)
-clock_is func.JsonEncodeToString is = absurd (cc is)
-clock_is func.JsonDecode is = absurd (cc is)
-clock_is func.Base64Encode is = absurd (cc is)
-clock_is func.Base64Decode is = absurd (cc is)
-clock_is func.TimeFormat is = absurd (cc is)
-clock_is func.TimeParse is = absurd (cc is)
-clock_is func.SysNow is = refl
-clock_is func.SysGetEnv is = absurd (cc is)
-
--- and so a plain call is the clock
-fill_call : (s : Scene) (k : List Item) (vars : Pairs) (f : Func) (es : Exprs) → f ≡ func.SysNow → has_no_exprs es ≡ true
-    → fill (Whole (Expr.Call f es)) (view s (at_work k vars)) ≡ value_by s.now (Whole (Expr.Call f es)) vars
-fill_call s k vars f no_exprs is none = rw is refl
-fill_call s k vars f (expr e es) is none = absurd (cc none)
-
--- the value of a plain template
-pub fill_plain : (s : Scene) (k : List Item) (vars : Pairs) (t : Template) → is_plain t ≡ true → fill t (view s (at_work k vars)) ≡ value_by s.now t vars
-fill_plain s k vars (Scalar v) is = refl
-fill_plain s k vars (Whole (Expr.Name x)) is = ap (λ o. or_error KeyError o >>= kept) (seen_var (get x vars))
-fill_plain s k vars (Whole (Expr.Lit v)) is = absurd (cc is)
-fill_plain s k vars (Whole (Expr.Neg a)) is = absurd (cc is)
-fill_plain s k vars (Whole (Expr.Not a)) is = absurd (cc is)
-fill_plain s k vars (Whole (Expr.And a b)) is = absurd (cc is)
-fill_plain s k vars (Whole (Expr.Or a b)) is = absurd (cc is)
-fill_plain s k vars (Whole (Expr.Bin o a b)) is = absurd (cc is)
-fill_plain s k vars (Whole (Expr.Key a x)) is = absurd (cc is)
-fill_plain s k vars (Whole (Expr.Index a b)) is = absurd (cc is)
-fill_plain s k vars (Whole (Expr.Call f es)) is = fill_call s k vars f es (clock_is f (and_left _ _ is)) (and_right _ _ is)
-fill_plain s k vars (Joined ps) is = absurd (cc is)
-fill_plain s k vars (Listed ts) is = absurd (cc is)
-fill_plain s k vars (Mapped fs) is = absurd (cc is)
+-- the value of a template: `main` sees what its variables are, and nothing else that a template looks at
+pub fill_plain : (s : Scene) (k : List Item) (vars : Pairs) (t : Template) → is_template_built t ≡ true → fill t (view s (at_work k vars)) ≡ value_by s.now t vars
+fill_plain s k vars t built = fill_same (view s (at_work k vars)) (seen_by s.now vars) (λ x. seen_var (get x vars)) t built (λ is. refl)
 
 -- a return ends the task with its value or its error
 abbrev pub end_by : Answer Data → End
@@ -172,7 +119,7 @@ assigned_by s block es left x k vars (Ok v) none =
 
 -- an entry without places
 assigns_plain : (s : Scene) (block : Steps) (x : Text) (places : Exprs) (written : Text) (t : Template) (es : List Entry) (left : Steps) (k : List Item) (vars : Pairs)
-    → s.others ≡ 0 → has_no_exprs places && is_plain t ≡ true
+    → s.others ≡ 0 → has_no_exprs places && is_template_built t ≡ true
     → assigns s (record { target = record { name = x; places = places; written = written }; value = t }) (Entries es ∷ Do block left ∷ []) (at_work k vars)
     ≡ moved_by s.facts block es left x k vars (value_by s.now t vars)
 assigns_plain s block x no_exprs written t es left k vars none is =
@@ -210,7 +157,7 @@ module _ (p : Program) (facts : Facts) (reading : ℕ) (block : Steps) where
       ∙ ap (λ b. when b (counted (read_at now (At k vars m)) (by_itself p 0 now move))) (wants_it ByClock k vars refl stands kind)
 
   -- ### A return
-  pub move_return : (now : ℕ) (x : Text) (t : Template) (ss : Steps) (vars : Pairs) (m : ℕ) → is_plain t ≡ true
+  pub move_return : (now : ℕ) (x : Text) (t : Template) (ss : Steps) (vars : Pairs) (m : ℕ) → is_template_built t ≡ true
       → by_itself p 0 now move (At (Do block (more (step x (Body.Return t) None) ss) ∷ []) vars m) ≡ To (config_by facts reading [] m (outcome_of (end_by (value_by now t vars))))
   move_return now x t ss vars m is =
       let k : List Item = Do block (more (step x (Body.Return t) None) ss) ∷ [] in

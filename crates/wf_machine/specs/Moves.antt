@@ -6,7 +6,7 @@
 use Rattle.std.specs.Prelude.{◌≡◌, ◌<◌, ◌≤◌, ℕ, zero, suc, ◌+◌, Bool, false, List, [], ◌∷◌, length, drop, Option, Some, None}
 use Rattle.wf_ast.specs.Tree as t
 use Rattle.wf_ast.specs.Tree.{Template, Entry, Step, step, Steps, Body, Program}
-use Rattle.wf_machine.specs.Answers.{IsPlainTag}
+use Rattle.wf_machine.specs.Answers.{IsValueTag}
 use Rattle.wf_machine.specs.Machine.{control_at, config_by, at_or_end, after_entry}
 use Rattle.wf_machine.specs.Straight.{value_by}
 use Rattle.wf_machine.specs.declared.moves.Next.{Next}
@@ -82,11 +82,11 @@ config_after facts reading ss (next.Before i j) vars m = before facts reading ss
 config_after facts reading ss (next.Returned v) vars m = config_by facts reading [] m (Returned (plain v))
 config_after facts reading ss (next.Raised tag) vars m = config_by facts reading [] m (Raised (error_map tag))
 
--- a place in these steps or behind them, a value that doesn't nest past the limit, or an error
+-- a place in these steps or behind them, a value that doesn't nest past the limit, or an error of values
 abbrev pub IsFine : List Step → Next → Type 0
 IsFine ss (next.Before i j) = (i ≤ length ss) × IsPlace ss i j × (i ≡ length ss → j ≡ 0)
 IsFine ss (next.Returned v) = depth (plain v) ≤ 100
-IsFine ss (next.Raised tag) = IsPlainTag tag
+IsFine ss (next.Raised tag) = IsValueTag tag
 
 -- the move from before entry j of step i leads there where the clock reads `now`, under the first rules
 abbrev pub LeadsOn : List Step → ℕ → ℕ → ℕ → Pairs → Next → Pairs → Type 0

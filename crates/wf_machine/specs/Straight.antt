@@ -1,49 +1,42 @@
--- Programs that run straight through: `main` alone, without parameters, whose steps assign plain names or return, and whose values are
--- literals, names and the clock.
+-- Programs that run straight through: `main` alone, without parameters, whose steps assign plain names or return, and whose values call only
+-- functions that are built.
 --     is_straight        the program runs straight through
---     reads_no_clock     none of its values is the clock
+--     reads_no_clock     none of its values names the clock
 --     value_by           what its values are
-use Rattle.std.specs.Prelude.{ℕ, ◌/◌, Bool, true, false, not, ◌&&◌, List, [], ◌∷◌, pos, None, Ok, Err}
+use Rattle.std.specs.Prelude.{ℕ, Bool, true, false, not, ◌&&◌, List, [], ◌∷◌, None}
 use Rattle.std.specs.List.{list_all}
-use Rattle.wf_ast.specs.Tree.{Expr, Exprs, no_exprs, expr, Template, Scalar, Whole, Entry, Step, step, Steps, no_steps, more, Body, Param, Flow, Program}
-use Rattle.wf_model.specs.Kinds.{is_now, template_now, entry_now}
+use Rattle.wf_ast.specs.Apply.{View}
+use Rattle.wf_ast.specs.Eval.{fill}
+use Rattle.wf_ast.specs.Tree.{Exprs, no_exprs, expr, Template, Entry, Step, step, Steps, no_steps, more, Body, Param, Flow, Program}
+use Rattle.wf_eval.specs.Built.{is_template_built}
+use Rattle.wf_eval.specs.Sight.{seen}
+use Rattle.wf_model.specs.Kinds.{template_now, entry_now}
 use Rattle.wf_model.specs.Run.{main_steps}
-use Rattle.wf_value.specs.Data.{Data, integer, Pairs}
-use Rattle.wf_value.specs.Errors.{Answer, ◌>>=◌, or_error, kept}
-use Rattle.wf_value.specs.Pairs.{Text, get}
-use Rattle.wf_value.specs.declared.Tag.TheVariants.{KeyError}
+use Rattle.wf_value.specs.Data.{Data, Pairs}
+use Rattle.wf_value.specs.Errors.{Answer}
+use Rattle.wf_value.specs.Pairs.{pair_list}
 
 -- there are none of these expressions
 abbrev pub has_no_exprs : Exprs → Bool
 has_no_exprs no_exprs = true
 has_no_exprs (expr e es) = false
 
--- a literal, a variable's name, or `sys.now()`
-abbrev pub is_plain : Template → Bool
-is_plain (Scalar v) = true
-is_plain (Whole (Expr.Name x)) = true
-is_plain (Whole (Expr.Call f es)) = is_now f && has_no_exprs es
-is_plain t = false
+-- what an evaluation sees: these variables, and the clock
+abbrev pub seen_by : ℕ → Pairs → View
+seen_by now vars = seen (record { names = pair_list vars; env = []; id = []; base = [] }) now
 
--- the value of a variable
-abbrev pub read_by : Text → Pairs → Answer Data
-read_by x vars = or_error KeyError (get x vars) >>= kept
-
--- the value of a literal, of a variable, or of the clock where its reading is `now`: the whole seconds of these milliseconds
+-- the value of a template, where these variables are seen and the clock reads `now` milliseconds
 abbrev pub value_by : ℕ → Template → Pairs → Answer Data
-value_by now (Scalar v) vars = kept v
-value_by now (Whole (Expr.Name x)) vars = read_by x vars
-value_by now (Whole (Expr.Call f es)) vars = Ok (integer (pos (now / 1000)))
-value_by now t vars = Err KeyError
+value_by now t vars = fill t (seen_by now vars)
 
--- a plain name, with nothing below it, takes a plain value
+-- a plain name, with nothing below it, takes a value
 abbrev pub is_plain_entry : Entry → Bool
-is_plain_entry e = has_no_exprs e.target.places && is_plain e.value
+is_plain_entry e = has_no_exprs e.target.places && is_template_built e.value
 
 -- an assign or a return, without `next` beside it
 abbrev pub is_straight_step : Step → Bool
 is_straight_step (step x (Body.Assign es) None) = list_all is_plain_entry es
-is_straight_step (step x (Body.Return t) None) = is_plain t
+is_straight_step (step x (Body.Return t) None) = is_template_built t
 is_straight_step s = false
 
 -- each of the steps is one of these

@@ -6,16 +6,20 @@
 //! come in from outside, in milliseconds since 1970.
 //!
 //! The programs are those that run straight through: `main` alone, without parameters, whose steps assign plain names or return, and
-//! whose values are literals, names and `sys.now()`. Each entry of an assign, each empty assign and each return is one event: a
-//! `MoveAt` with a reading where its value is `sys.now()`, and else a `Move`. The limits are those of the first rules:
+//! whose values are templates with expressions that call only functions that are built. Each entry of an assign, each empty assign and
+//! each return is one event: a `MoveAt` with a reading where its value names `sys.now`, whether or not the evaluation comes there, and
+//! else a `Move`. The limits are those of the first rules:
 //! - counted events: 100,000 in an execution, of which the last isn't carried out: it raises a `ResourceLimitError`;
 //! - variables: 65,536 in all, each counting 2, the bytes of its name and the size of its value;
-//! - one value: a size of 4,194,304, and a nesting of 100.
+//! - one value, each on the way too: a size of 4,194,304, and a nesting of 100.
 //!
-//! An error of the program (`KeyError`, `ResourceLimitError`) is an outcome. An error of a call is an [`ApplyFault`] or want of memory.
+//! An error of the program (a `KeyError`, say) is an outcome. An error of a call is an [`ApplyFault`] or want of memory.
 #![tactic(auto)]
 
+mod clock;
 mod evaluate;
+#[cfg(test)]
+mod expression_tests;
 mod facts;
 mod laws;
 mod machine;

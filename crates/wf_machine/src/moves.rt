@@ -3,12 +3,14 @@ ghost use Rattle.std.specs.Prelude.{◌≡◌, ◌+◌, ◌<◌, ◌^◌, ◌∷
 ghost use Rattle.std.specs.List.{list_all};
 ghost use Rattle.wf_ast.specs.Tree as t;
 ghost use Rattle.wf_ast.specs.View.{entry_view, step_view, template_view};
+ghost use Rattle.wf_eval.specs.Built.{is_template_built};
+ghost use Rattle.wf_machine.specs.Answers.{IsValueTag};
 ghost use Rattle.wf_machine.specs.Moves.{EntryLeads, IsFine, IsPlace, LeadsOn, assign_step, clock_at, return_step};
-ghost use Rattle.wf_machine.specs.Answers.{IsPlainTag};
-ghost use Rattle.wf_machine.specs.Straight.{is_plain, is_plain_entry, is_straight_step};
+ghost use Rattle.wf_machine.specs.Straight.{is_plain_entry, is_straight_step};
 ghost use Rattle.wf_value.specs.Data.{pairs_of};
 
-use crate::evaluate::{evaluate, is_clock};
+use crate::clock::is_clock;
+use crate::evaluate::evaluate;
 use crate::store::store;
 use std::alloc::Global;
 use wf_ast::{Body, Entry, Step, Template};
@@ -33,7 +35,7 @@ fn assign(
     variables: &mut Map,
 ) -> Result<Option<Tag>, OutOfMemory>
     requires { is_plain_entry (entry_view entry.now) ≡ true }
-    ensures raised { IfOk result (λ raised. IfSome raised IsPlainTag) }
+    ensures raised { IfOk result (λ raised. IfSome raised IsValueTag) }
     ensures leads { IfOk result (λ raised. EntryLeads (entry_view entry.now) now (pairs_of variables.old) raised (pairs_of variables.new)) }
 {
     match evaluate(alloc, &entry.value, now, variables) {
@@ -83,7 +85,7 @@ fn return_from(
     now: u64,
     variables: &Map,
 ) -> Result<Next, OutOfMemory>
-    requires { is_plain (template_view template.now) ≡ true }
+    requires { is_template_built (template_view template.now) ≡ true }
     ensures fine { IfOk result (λ n. (ss : List t.Step) → IsFine ss n) }
     ensures leads { IfOk result (λ n. (ss : List t.Step) (x : List ℕ) (i j : ℕ) → drop i ss ≡ return_step x (template_view template.now) ∷ drop (i + 1) ss
         → IsPlace ss i j → LeadsOn ss i j now (pairs_of variables.now) n (pairs_of variables.now)) }

@@ -3,7 +3,8 @@ ghost use Rattle.std.specs.Prelude.{◌≡◌, ◌∷◌, [], true, None, IfOk};
 ghost use Rattle.std.specs.List.{list_all};
 ghost use Rattle.wf_ast.specs.Tree as t;
 ghost use Rattle.wf_ast.specs.View.{body_view, entries_view, entry_view, program_view, step_view, steps_view, template_view};
-ghost use Rattle.wf_machine.specs.Straight.{are_straight, is_plain, is_plain_entry, is_straight, is_straight_step};
+ghost use Rattle.wf_eval.specs.Built.{is_template_built};
+ghost use Rattle.wf_machine.specs.Straight.{are_straight, is_plain_entry, is_straight, is_straight_step};
 
 use crate::{ApplyFault, Machine, Outcome, one_outcome};
 use std::alloc::Global;
@@ -17,21 +18,21 @@ use wf_host::{Address, Routes};
 use wf_value::{Bytes, Map, OutOfMemory, Tag, Text, Value, error_map};
 
 // The template `${name}`.
-fn read(alloc: Global, name: &str) -> Result<Template, OutOfMemory>
-    ensures { IfOk result (λ v. is_plain (template_view v) ≡ true) }
+pub(crate) fn read(alloc: Global, name: &str) -> Result<Template, OutOfMemory>
+    ensures { IfOk result (λ v. is_template_built (template_view v) ≡ true) }
 {
     Ok(Template::Expr(Expr::Name(Text::new(alloc, name)?)))
 }
 
 // The template `${sys.now()}`.
-fn clock(alloc: Global) -> Result<Template, OutOfMemory>
-    ensures { IfOk result (λ v. is_plain (template_view v) ≡ true) }
+pub(crate) fn clock(alloc: Global) -> Result<Template, OutOfMemory>
+    ensures { IfOk result (λ v. is_template_built (template_view v) ≡ true) }
 {
     Ok(Template::Expr(Expr::Call(Func::SysNow, Exprs::new(alloc)?)))
 }
 
-fn entry(alloc: Global, name: &str, value: Template) -> Result<Entry, OutOfMemory>
-    requires { is_plain (template_view value) ≡ true }
+pub(crate) fn entry(alloc: Global, name: &str, value: Template) -> Result<Entry, OutOfMemory>
+    requires { is_template_built (template_view value) ≡ true }
     ensures { IfOk result (λ e. is_plain_entry (entry_view e) ≡ true) }
 {
     let target = Target {
@@ -42,7 +43,7 @@ fn entry(alloc: Global, name: &str, value: Template) -> Result<Entry, OutOfMemor
     Ok(Entry { target, value })
 }
 
-fn assign(alloc: Global, entries: Entries) -> Result<Step, OutOfMemory>
+pub(crate) fn assign(alloc: Global, entries: Entries) -> Result<Step, OutOfMemory>
     requires { list_all is_plain_entry (entries_view entries) ≡ true }
     ensures { IfOk result (λ s. is_straight_step (step_view s) ≡ true) }
 {
@@ -54,8 +55,8 @@ fn assign(alloc: Global, entries: Entries) -> Result<Step, OutOfMemory>
 }
 
 // Assigns one name.
-fn assign_one(alloc: Global, name: &str, value: Template) -> Result<Step, OutOfMemory>
-    requires { is_plain (template_view value) ≡ true }
+pub(crate) fn assign_one(alloc: Global, name: &str, value: Template) -> Result<Step, OutOfMemory>
+    requires { is_template_built (template_view value) ≡ true }
     ensures { IfOk result (λ s. is_straight_step (step_view s) ≡ true) }
 {
     let mut entries = Entries::new(alloc)?;
@@ -63,8 +64,8 @@ fn assign_one(alloc: Global, name: &str, value: Template) -> Result<Step, OutOfM
     assign(alloc, entries)
 }
 
-fn give_back(alloc: Global, value: Template) -> Result<Step, OutOfMemory>
-    requires { is_plain (template_view value) ≡ true }
+pub(crate) fn give_back(alloc: Global, value: Template) -> Result<Step, OutOfMemory>
+    requires { is_template_built (template_view value) ≡ true }
     ensures { IfOk result (λ s. is_straight_step (step_view s) ≡ true) }
 {
     Ok(Step {
@@ -75,7 +76,7 @@ fn give_back(alloc: Global, value: Template) -> Result<Step, OutOfMemory>
 }
 
 // The program whose `main` has these steps.
-fn program(alloc: Global, steps: StepList) -> Result<Program, OutOfMemory>
+pub(crate) fn program(alloc: Global, steps: StepList) -> Result<Program, OutOfMemory>
     requires { are_straight (t.steps (steps_view steps)) ≡ true }
     ensures { IfOk result (λ p. is_straight (program_view p) ≡ true) }
 {
@@ -89,7 +90,7 @@ fn program(alloc: Global, steps: StepList) -> Result<Program, OutOfMemory>
 }
 
 // The program of one step.
-fn program_of(alloc: Global, step: Step) -> Result<Program, OutOfMemory>
+pub(crate) fn program_of(alloc: Global, step: Step) -> Result<Program, OutOfMemory>
     requires { is_straight_step (step_view step) ≡ true }
     ensures { IfOk result (λ p. is_straight (program_view p) ≡ true) }
 {
@@ -142,7 +143,7 @@ fn start(alloc: Global) -> Result<Start, OutOfMemory> {
 }
 
 // The machine of this program, before its first move.
-fn begun(alloc: Global, program: Program) -> Result<Machine, OutOfMemory>
+pub(crate) fn begun(alloc: Global, program: Program) -> Result<Machine, OutOfMemory>
     requires { is_straight (program_view program) ≡ true }
 {
     let start = start(alloc)?;
@@ -160,7 +161,7 @@ fn run(machine: &mut Machine) -> Result<(), ApplyFault> {
 }
 
 // The machine of this program, after all its moves.
-fn ended(alloc: Global, program: Program) -> Result<Machine, ApplyFault>
+pub(crate) fn ended(alloc: Global, program: Program) -> Result<Machine, ApplyFault>
     requires { is_straight (program_view program) ≡ true }
 {
     match begun(alloc, program) {
@@ -172,21 +173,21 @@ fn ended(alloc: Global, program: Program) -> Result<Machine, ApplyFault>
     }
 }
 
-fn returns(machine: &Machine, value: &Value) -> bool {
+pub(crate) fn returns(machine: &Machine, value: &Value) -> bool {
     match machine.outcome() {
         Outcome::Returned(returned) => returned.same(value),
         _ => false,
     }
 }
 
-fn raises(machine: &Machine, error: &Value) -> bool {
+pub(crate) fn raises(machine: &Machine, error: &Value) -> bool {
     match machine.outcome() {
         Outcome::Raised(raised) => raised.same(error),
         _ => false,
     }
 }
 
-fn refuses(machine: &mut Machine, event: &Event) -> bool {
+pub(crate) fn refuses(machine: &mut Machine, event: &Event) -> bool {
     machine.apply(event) == Err(ApplyFault::NotEnabled)
 }
 

@@ -96,7 +96,7 @@ fn tells_an_output_that_fails(rt: HostRuntime) -> Result<(), Fail> {
         rt.alloc(),
         Command {
             print_room: Some(7),
-            ..run(b"[]")
+            ..run(b"7")
         },
     )?;
     assert_eq!(rt; ended.printed.as_slice(), b"refused".as_slice());

@@ -271,3 +271,42 @@ fn tells_a_disk_that_fails(rt: HostRuntime) -> Result<(), Fail> {
     assert!(rt; faults > 4);
     Ok(())
 }
+
+/// Three assigns and a return.
+const SUM: &[u8] =
+    br#"[{"a":{"assign":[{"x":1}]}},{"b":{"assign":[{"y":"${x + 1}"}]}},{"c":{"assign":[{"z":"${x + y}"}]}},{"d":{"return":"${z}"}}]"#;
+
+#[test]
+fn goes_on_with_values(rt: HostRuntime) -> Result<(), Fail> {
+    let alloc = rt.alloc();
+    let whole = end_of(alloc, run(SUM))?;
+    assert_eq!(rt; whole.printed.as_slice(), b"3\n".as_slice());
+    for stop in 0..STOPS {
+        let killed = end_of(
+            alloc,
+            Command {
+                stop: Some(stop),
+                ..run(SUM)
+            },
+        )?;
+        for journal in [killed.journal.as_slice(), killed.synced.as_slice()] {
+            let mut ended = end_of(alloc, resume(journal))?;
+            if ended.code == 6 {
+                ended = end_of(
+                    alloc,
+                    Command {
+                        journal,
+                        ..run(SUM)
+                    },
+                )?;
+            }
+            assert_eq!(rt;
+                ended.printed.as_slice(),
+                whole.printed.as_slice(),
+                "stopped after {stop}"
+            );
+            assert_eq!(rt; ended.code, 0);
+        }
+    }
+    Ok(())
+}

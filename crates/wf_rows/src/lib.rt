@@ -6,8 +6,8 @@ mod command;
 #[cfg(test)]
 mod faults;
 #[cfg(test)]
-mod first_form;
-#[cfg(test)]
 mod journals;
+#[cfg(test)]
+mod runs;
 #[cfg(test)]
 mod sources;

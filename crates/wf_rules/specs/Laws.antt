@@ -24,3 +24,7 @@ OneProgram = (t : Tree) (p q : Program) → Builds t p → Builds t q → p ≡ 
 -- a source is not both a program and refused
 abbrev pub NotBothBuilt : Type 0
 NotBothBuilt = (t : Tree) (p : Program) (k : SyntaxKind) (ps : List PathPart) → Builds t p → IsFirstFault t k ps → ⊥
+
+-- a source is refused in one way at most: its first fault is one, at one place
+abbrev pub OneFault : Type 0
+OneFault = (t : Tree) (k j : SyntaxKind) (ps qs : List PathPart) → IsFirstFault t k ps → IsFirstFault t j qs → (k ≡ j) × (ps ≡ qs)

@@ -1,5 +1,5 @@
 //! Laws of the rules.
-ghost use Rattle.wf_rules.specs.Laws.{FirstIsAFault, NodeIsSound, NotBothBuilt, OneProgram};
+ghost use Rattle.wf_rules.specs.Laws.{FirstIsAFault, NodeIsSound, NotBothBuilt, OneFault, OneProgram};
 
 use wf_expr::one_target;
 use wf_template::one_template;
@@ -17,4 +17,9 @@ pub fn one_program()
 pub fn first_fault_is_a_fault()
     ensures first { FirstIsAFault }
     ensures nodes { NodeIsSound }
+{}
+
+/// A tree is refused in one way at most: its first fault is one, at one place.
+pub fn one_fault()
+    ensures { OneFault }
 {}

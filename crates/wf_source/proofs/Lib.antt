@@ -1,2 +1,4 @@
 pub mod Json
 pub mod Contents
+mod Programs
+mod Bytes

@@ -1,2 +1,4 @@
 pub mod Sources
+pub mod Programs
 pub mod Views
+pub mod Laws

@@ -1,5 +1,5 @@
 -- What the code answers of a source, beside what it is.
-use Rattle.std.specs.Prelude.{◌≡◌, Result, Ok, Err}
+use Rattle.std.specs.Prelude.{◌≡◌, Result, Err}
 use Rattle.wf_source.specs.declared.fault.SourceFault.{SourceFault}
 use Rattle.wf_source.specs.declared.fault.SourceFault.TheVariants.{Refused, OutOfMemory}
 use Rattle.wf_status.specs.declared.Refusal.{Refusal}
@@ -8,3 +8,8 @@ use Rattle.wf_status.specs.declared.Refusal.{Refusal}
 abbrev pub Tells : {A : Type 0} → Result A Refusal → SourceFault → Type 0
 Tells is (Refused r) = is ≡ Err r
 Tells is OutOfMemory = Unit {0}
+
+-- the same where the refusal is told by a relation
+abbrev pub TellsOf : (Refusal → Type 0) → SourceFault → Type 0
+TellsOf Is (Refused r) = Is r
+TellsOf Is OutOfMemory = Unit {0}

@@ -78,12 +78,16 @@ fn padded(alloc: Global, first: &[u8], length: usize) -> Result<Vec<u8>, Fail> {
 fn keeps_to_the_limits(rt: HostRuntime) -> Result<(), Fail> {
     let alloc = rt.alloc();
     let form: &[u8] = b"[{\"a\":{\"return\":7}}]";
-    let rows: [(&[u8], usize, &str, &str); 6] = [
-        (form, 1_024, "list", "program"),
-        (form, 1_025, "list", "refused NotYet at source\n"),
+    let rows: [(&[u8], usize, &str, &str); 5] = [
         (b"- a: {return: 7}\n", 1_024, "list", "program"),
-        (b"[1]", 3, "list", "refused NotYet at source\n"),
-        (form, SOURCE_LIMIT, "list", "refused NotYet at source\n"),
+        (
+            b"- a: {raise: 7}\n",
+            1_024,
+            "list",
+            "refused NotYet at source\n",
+        ),
+        (b"[1]", 3, "list", "refused NotAStep at main.steps[0]\n"),
+        (form, SOURCE_LIMIT, "list", "program"),
         (
             form,
             SOURCE_LIMIT + 1,

@@ -1,6 +1,6 @@
 use Rattle.std.proofs.Common.{◌≡◌, ◌∷◌, [], IfOk, ◌∙◌, ap, refl, subst, sym}
 use Rattle.wf_ast.specs.View.{program_view}
-use Rattle.wf_cli.proofs.Begins.{no_clock, no_start, opening_by_run, start_of_line, language_of, short_of}
+use Rattle.wf_cli.proofs.Begins.{no_clock, no_start, opening_by_run, start_of_line}
 use Rattle.wf_cli.proofs.Moments.{StartOfLine}
 use Rattle.wf_cli.proofs.Works.{lacks_engine}
 use Rattle.wf_engine.specs.Engine.{memory, StandsFor}
@@ -10,15 +10,16 @@ use Rattle.wf_cli.specs.Top.{IsLineOf}
 use Rattle.wf_line.specs.declared.command.Command.TheVariants.{Run}
 use Rattle.wf_engine.specs.Kept as kept
 use Rattle.wf_engine.specs.Safe.{scene}
-use Rattle.wf_engine.specs.TheLanguage.{the_language}
 use Rattle.wf_events.specs.Records.{Started}
 use Rattle.wf_events.specs.Spelling.{HasSpelling, record_bytes}
 use Rattle.wf_events.specs.View.{start_view}
 use Rattle.wf_line.specs.Plain.{plain_line}
+use Rattle.wf_shared.specs.Events.{Start}
+use Rattle.wf_source.specs.Programs.{IsSourceOf}
 use Rattle.wf_cli.proofs.execution.begin.Goals as goal
 
 pub start_for-requires : goal.start_for-requires
-start_for-requires g c = record { short = short_of c.args.source.now (program_view c.args.program) c.requires.program }
+start_for-requires g c = record { short = c.laws_of_sources.ensures.short c.args.source.now (program_view c.args.program) c.requires.program }
 
 pub returns-in_err-reading-clause-opening : goal.returns-in_err-reading-clause-opening
 returns-in_err-reading-clause-opening g c = λ told words rest is first.
@@ -40,8 +41,7 @@ returns-in_err-start-clause-opening g c = λ told words rest is first.
     no_start s old (plain_line c.args.line.now, is, c.requires.command) f new c.in_ok-reading.reading (λ i d left. g.met.H.Host.only_now c.args.host.now i d told left) (c.in_ok-reading.ensures.time told) (c.now.ensures.seen told) why)
 
 pub begin-requires-clause-accepted : goal.begin-requires-clause-accepted
-begin-requires-clause-accepted g c =
-    ap (λ s. the_language.source s.source) c.in_ok-start.ensures.start ∙ language_of c.args.source.now (program_view c.args.program) c.requires.program
+begin-requires-clause-accepted g c = subst (λ (s : Start). IsSourceOf s.source (program_view c.args.program)) (sym c.in_ok-start.ensures.start) c.requires.program
 
 pub returns-clause-opening : goal.returns-clause-opening
 returns-clause-opening g c = λ told words rest is first.
@@ -61,7 +61,7 @@ returns-clause-opening g c = λ told words rest is first.
     c.laws_of_histories.ensures.start))
     c.laws_of_rules.ensures.only_readings c.begin.result (c.begin.ensures.refused_reads told2)
     (record {
-      stands = subst (λ u. IfOk c.begin.result (λ e. StandsFor kept.Run (memory e) (records new.seen) (Now u ∷ []))) (ap (λ st. st.reading) the_start) (c.begin.ensures.stands told2);
+      stands = λ L language. subst (λ u. IfOk c.begin.result (λ e. StandsFor L kept.Run (memory e) (records new.seen) (Now u ∷ []))) (ap (λ st. st.reading) the_start) (c.begin.ensures.stands L language told2);
       session = c.begin.ensures.session;
       started = c.begin.ensures.started told2;
       any_moment = c.begin.ensures.any_moment told2;

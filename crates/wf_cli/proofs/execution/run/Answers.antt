@@ -4,8 +4,8 @@ use Rattle.wf_engine.specs.Printed.{uses_source}
 use Rattle.wf_engine.specs.Safe.{scene}
 use Rattle.wf_host.specs.Source.{IsFirst}
 use Rattle.wf_line.specs.Plain.{plain_line}
-use Rattle.wf_source.specs.Sources.{read_source}
-use Rattle.wf_source.specs.Views.{Tells}
+use Rattle.wf_source.specs.Programs.{IsRefusalOf}
+use Rattle.wf_source.specs.Views.{TellsOf}
 use Rattle.wf_cli.proofs.execution.run.Goals as goal
 
 pub returns-in-Ok-clause-end : goal.returns-in-Ok-clause-end
@@ -21,12 +21,12 @@ returns-clause-end g c = λ words is.
     let old = g.H.Host.world c.args.host.now in
     let s = scene words (g.S.Source.left c.args.source.now) old in
     source_end s (plain_line c.args.line.now) old (g.S.Source.faults c.args.source.now) (g.S.Source.faults c.read_up_to.new.source) (g.H.Host.faults c.args.host.now) (g.H.Host.faults c.args.host.now) c.in_ok-bytes.bytes.items c.in-Err.fault c.of_source.result
-    (is, ap uses_source c.requires.command, c.in_ok-bytes.ensures.bytes) c.requires.command (subst (λ b. Tells (read_source b) c.in-Err.fault) c.as_slice.ensures.value c.in-Err.ensures.fault) c.of_source.ensures
+    (is, ap uses_source c.requires.command, c.in_ok-bytes.ensures.bytes) c.requires.command (subst (λ b. TellsOf (IsRefusalOf b) c.in-Err.fault) c.as_slice.ensures.value c.in-Err.ensures.fault) c.of_source.ensures
 
 pub returns-clause-worked : goal.returns-clause-worked
 returns-clause-worked g c = λ told words is.
     let old = g.H.Host.world c.args.host.now in
     let s = scene words (g.S.Source.left c.args.source.now) old in
     source_worked s (plain_line c.args.line.now) old c.in_ok-bytes.bytes.items c.in-Err.fault c.of_source.result
-    (is, ap uses_source c.requires.command, c.in_ok-bytes.ensures.bytes) c.requires.command (subst (λ b. Tells (read_source b) c.in-Err.fault) c.as_slice.ensures.value c.in-Err.ensures.fault) c.of_source.ensures
+    (is, ap uses_source c.requires.command, c.in_ok-bytes.ensures.bytes) c.requires.command (subst (λ b. TellsOf (IsRefusalOf b) c.in-Err.fault) c.as_slice.ensures.value c.in-Err.ensures.fault) c.of_source.ensures
     (λ i d left. g.met.H.Host.only_now c.args.host.now i d told left)

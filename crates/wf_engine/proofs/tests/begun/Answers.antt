@@ -1,9 +1,7 @@
-use Rattle.std.proofs.Common.{◌∙◌, ap, sym}
-use Rattle.wf_engine.proofs.FirstRecords.{accepts}
+use Rattle.std.proofs.Common.{subst}
+use Rattle.wf_ast.specs.View.{program_view}
 use Rattle.wf_engine.proofs.tests.begun.Goals as goal
-use Rattle.wf_engine.specs.TheLanguage.{program_of, the_language}
+use Rattle.wf_source.specs.Programs.{IsSourceOf}
 
 pub begin-requires-clause-accepted : goal.begin-requires-clause-accepted
-begin-requires-clause-accepted c =
-    ap (λ l. the_language.source l) (sym c.as_slice.ensures)
-    ∙ accepts c.as_slice.result.now _ (ap program_of (sym c.in-Ok.ensures.program))
+begin-requires-clause-accepted c = subst (λ l. IsSourceOf l (program_view c.in-Ok.program)) c.as_slice.ensures c.in-Ok.ensures.program

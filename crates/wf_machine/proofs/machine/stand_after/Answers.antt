@@ -22,3 +22,10 @@ returns-after-step-steps-clause-config c = λ facts reading vars m.
           stands_at_end facts reading ss c.in-Before.step c.in-Before.entry vars m past (fine.2 (omega (arith, past, fine.0)))
           ∙ ap (λ e. config_at facts reading (is_running e) ss c.in-Before.step c.in-Before.entry vars m (outcome_by e)) (sym w.ending-is)
     ]
+
+-- an error of values has no more in its map
+pub error_map-requires-clause-no_answer : goal.error_map-requires-clause-no_answer
+error_map-requires-clause-no_answer c = (subst (IsFine (map step_view c.args.steps.now)) c.in-Raised.is c.requires.fine).0
+
+pub error_map-requires-clause-no_branches : goal.error_map-requires-clause-no_branches
+error_map-requires-clause-no_branches c = (subst (IsFine (map step_view c.args.steps.now)) c.in-Raised.is c.requires.fine).1

@@ -1,7 +1,9 @@
+use Rattle.std.specs.Prelude.{IfSome}
 use Rattle.std.proofs.Common.{◌+◌, map, drop, subst, arith}
 use Rattle.std.proofs.lemmas.List.{drop_all}
 use Rattle.wf_ast.specs.View.{entry_view}
 use Rattle.wf_value.specs.Data.{pairs_of}
+use Rattle.wf_machine.specs.Answers.{IsValueTag}
 use Rattle.wf_machine.specs.Moves.{EntryLeads}
 use Rattle.wf_machine.specs.Straight.{is_plain_entry}
 use Rattle.wf_machine.proofs.Advance.{length_mapped, at_index, all_at, none_of, leads_entry_raised, leads_entry, leads_last_entry}
@@ -33,3 +35,6 @@ returns-else-entry-entries-clause-leads c = λ ss x is place.
     (all_at is_plain_entry (map entry_view c.args.entries.now) c.args.entry (entry_view c.index-entries-entry.result) (drop (c.args.entry + 1) (map entry_view c.args.entries.now)) c.requires.plain at)
     (drop_all (c.args.entry + 1) (map entry_view c.args.entries.now) (omega (arith, length_mapped entry_view c.args.entries.now, c.if-entry-entries.false)))
     (subst (λ o. EntryLeads (entry_view c.index-entries-entry.result) c.args.now (pairs_of c.args.variables.now) o (pairs_of c.assign.new.variables)) (none_of c.in_ok-tag.field-0 c.in_default.not-Some) c.in_ok-tag.ensures.leads)
+
+pub returns-in-Some-clause-fine : goal.returns-in-Some-clause-fine
+returns-in-Some-clause-fine c = λ ss x is inside. subst (λ o. IfSome o IsValueTag) c.in-Some.is c.in_ok-tag.ensures.raised

@@ -4,19 +4,9 @@ use Rattle.wf_ast.specs.View.{step_view, entry_view}
 use Rattle.wf_machine.specs.Moves.{first_now}
 use Rattle.wf_machine.specs.Straight.{is_plain_entry}
 use Rattle.wf_machine.proofs.Advance.{straight_here, return_here, assign_here, no_other, length_mapped}
-use Rattle.wf_machine.proofs.Clocks.{clock_in_return, clock_in_assign, clock_behind, clock_of_entry, plain_here}
+use Rattle.wf_machine.proofs.Clocks.{clock_in_return, clock_in_assign, clock_behind, clock_of_entry}
 use Rattle.wf_machine.proofs.Places.{not_less}
-use Rattle.wf_machine.proofs.Straight.{and_right}
 use Rattle.wf_machine.proofs.moves.reads_clock.Goals as goal
-
-pub is_clock-requires : goal.is_clock-requires
-is_clock-requires c = (return_here c.args.steps.now c.args.step c.index-steps-step.result c.requires.inside c.requires.straight c.in-Return.template c.in-Return.is).1
-
-pub is_clock-requires-then-entry-entries : goal.is_clock-requires-then-entry-entries
-is_clock-requires-then-entry-entries c =
-    let all : list_all is_plain_entry (map entry_view c.items-entries.result.now) ≡ true =
-    ap (list_all is_plain_entry) c.items-entries.ensures.view ∙ (assign_here c.args.steps.now c.args.step c.index-steps-step.result c.requires.inside c.requires.straight c.in-Assign.entries c.in-Assign.is).1 in
-    and_right _ _ (plain_here c.items-entries.result.now c.args.entry c.index-entries-entry.result c.if-entry-entries.true all)
 
 pub unreachable-requires : goal.unreachable-requires
 unreachable-requires c =

@@ -1,5 +1,0 @@
-pub mod Texts
-pub mod Pairs
-pub mod Lists
-pub mod Entries
-pub mod Steps

@@ -1,0 +1,59 @@
+// Why a tree is no program, as a refusal.
+ghost use Rattle.std.specs.Prelude.{◌≡◌};
+ghost use Rattle.wf_source.specs.Programs as programs;
+
+use wf_expr::ExprFault;
+use wf_rules::SyntaxKind;
+use wf_span::LexFault;
+use wf_status::{Place, Refusal, RefusalKind};
+use wf_value::Path;
+
+// The kind of an expression's fault.
+fn expression_kind(fault: ExprFault) -> RefusalKind
+    ensures { result ≡ programs.expression_kind fault }
+{
+    match fault {
+        ExprFault::Lex(LexFault::BadCharacter(_)) => RefusalKind::BadCharacter,
+        ExprFault::Lex(LexFault::OpenText(_)) => RefusalKind::OpenText,
+        ExprFault::Decimal(_) => RefusalKind::Decimal,
+        ExprFault::UnknownFunction(_) => RefusalKind::UnknownFunction,
+        ExprFault::Arity(_) => RefusalKind::Arity,
+        ExprFault::TooLong => RefusalKind::TooLong,
+        // want of memory is told apart
+        _ => RefusalKind::Syntax,
+    }
+}
+
+// The place of an expression's fault in its text, from behind its `${`; none where it is too long.
+fn expression_place(fault: ExprFault, path: Path) -> Place
+    ensures { result ≡ programs.expression_place fault path }
+{
+    match fault {
+        ExprFault::Lex(LexFault::BadCharacter(at)) | ExprFault::Lex(LexFault::OpenText(at)) => {
+            Place::Within(path, at)
+        }
+        ExprFault::Syntax(at)
+        | ExprFault::Decimal(at)
+        | ExprFault::UnknownFunction(at)
+        | ExprFault::Arity(at) => Place::Within(path, at),
+        _ => Place::Path(path),
+    }
+}
+
+// The refusal of a tree that breaks a rule at a path.
+pub(crate) fn refusal_of(kind: SyntaxKind, path: Path) -> Refusal
+    ensures { result ≡ programs.refusal_of kind path }
+{
+    let place = match kind {
+        SyntaxKind::Expression(fault) => expression_place(fault, path),
+        _ => Place::Path(path),
+    };
+    let kind = match kind {
+        SyntaxKind::NotAStep => RefusalKind::NotAStep,
+        SyntaxKind::UnknownField => RefusalKind::UnknownField,
+        SyntaxKind::MissingField => RefusalKind::MissingField,
+        SyntaxKind::WrongKind => RefusalKind::WrongKind,
+        SyntaxKind::Expression(fault) => expression_kind(fault),
+    };
+    Refusal { kind, place }
+}
