@@ -3,6 +3,7 @@ ghost use Rattle.std.specs.Prelude.{◌≡◌, [], ◌∷◌, ◌++◌, IfOk, is
 ghost use Rattle.wf_ast.specs.View.{arm_list, arm_view, arms_view, branch_list, branch_view, branches_view, step_list, step_view, steps_view};
 
 use crate::entry::Entries;
+use crate::grow::add;
 use crate::policy::Policy;
 use crate::template::{NamedTemplates, Template};
 use crate::texts::Texts;
@@ -54,10 +55,7 @@ impl StepList {
     pub fn push(&mut self, item: Step) -> Result<(), OutOfMemory>
         ensures { steps_view self.new ≡ (if is_ok result then steps_view self.old ++ step_view item ∷ [] else steps_view self.old) }
     {
-        match self.items.push(item) {
-            Ok(()) => Ok(()),
-            Err(_) => Err(OutOfMemory),
-        }
+        add(&mut self.items, item)
     }
 
     /// Lends the items, in their order.
@@ -71,7 +69,6 @@ impl StepList {
 
 /// What a step does.
 #[cycle(body)]
-#[derive(Drop)]
 pub enum Body {
     Nothing,
     Assign(Entries),
@@ -83,6 +80,18 @@ pub enum Body {
     Try(TryBody),
     Raise(Template),
     Return(Template),
+}
+
+// Written, and not derived: it is one call wherever a body is let go.
+impl Drop for Body {
+    #[cycle(body)]
+    fn drop(self) {
+        match self {
+            Body::Nothing | Body::Raise(_) | Body::Return(_) => {}
+            Body::Assign(_) | Body::Call(_) | Body::For(_) | Body::Try(_) => {}
+            Body::Switch(_) | Body::Parallel(_) | Body::Block(_) => {}
+        }
+    }
 }
 
 /// An arm of a switch.
@@ -115,10 +124,7 @@ impl Arms {
     pub fn push(&mut self, item: Arm) -> Result<(), OutOfMemory>
         ensures { arms_view self.new ≡ (if is_ok result then arms_view self.old ++ arm_view item ∷ [] else arms_view self.old) }
     {
-        match self.items.push(item) {
-            Ok(()) => Ok(()),
-            Err(_) => Err(OutOfMemory),
-        }
+        add(&mut self.items, item)
     }
 
     /// Lends the items, in their order.
@@ -186,10 +192,7 @@ impl Branches {
     pub fn push(&mut self, item: Branch) -> Result<(), OutOfMemory>
         ensures { branches_view self.new ≡ (if is_ok result then branches_view self.old ++ branch_view item ∷ [] else branches_view self.old) }
     {
-        match self.items.push(item) {
-            Ok(()) => Ok(()),
-            Err(_) => Err(OutOfMemory),
-        }
+        add(&mut self.items, item)
     }
 
     /// Lends the items, in their order.

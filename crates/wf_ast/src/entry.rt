@@ -3,6 +3,7 @@ ghost use Rattle.std.specs.Prelude.{◌≡◌, [], ◌∷◌, ◌++◌, IfOk, is
 ghost use Rattle.wf_ast.specs.View.{entries_view, entry_list, entry_view};
 
 use crate::expr::Exprs;
+use crate::grow::add;
 use crate::template::Template;
 use std::alloc::Global;
 use wf_value::{OutOfMemory, Text};
@@ -43,10 +44,7 @@ impl Entries {
     pub fn push(&mut self, item: Entry) -> Result<(), OutOfMemory>
         ensures { entries_view self.new ≡ (if is_ok result then entries_view self.old ++ entry_view item ∷ [] else entries_view self.old) }
     {
-        match self.items.push(item) {
-            Ok(()) => Ok(()),
-            Err(_) => Err(OutOfMemory),
-        }
+        add(&mut self.items, item)
     }
 
     /// Lends the items, in their order.

@@ -2,6 +2,7 @@
 ghost use Rattle.std.specs.Prelude.{◌≡◌, [], ◌∷◌, ◌++◌, IfOk, is_ok, if◌then◌else◌, map};
 ghost use Rattle.wf_ast.specs.View.{expr_list, expr_view, exprs_view};
 
+use crate::grow::add;
 use std::alloc::Global;
 use wf_value::{OutOfMemory, Text, Value};
 
@@ -61,7 +62,6 @@ pub enum Func {
 
 /// An expression.
 #[cycle(expr)]
-#[derive(Drop)]
 pub enum Expr {
     Lit(Value),
     Name(Text),
@@ -73,6 +73,17 @@ pub enum Expr {
     Key(Box<Expr>, Text),
     Index(Box<Expr>, Box<Expr>),
     Call(Func, Exprs),
+}
+
+// Written, and not derived: it is one call wherever an expression is let go.
+impl Drop for Expr {
+    fn drop(self) {
+        match self {
+            Expr::Lit(_) | Expr::Name(_) | Expr::Call(_, _) => {}
+            Expr::Neg(_) | Expr::Not(_) | Expr::Key(_, _) => {}
+            Expr::And(_, _) | Expr::Or(_, _) | Expr::Bin(_, _, _) | Expr::Index(_, _) => {}
+        }
+    }
 }
 
 /// Expressions in their order.
@@ -96,10 +107,7 @@ impl Exprs {
     pub fn push(&mut self, item: Expr) -> Result<(), OutOfMemory>
         ensures { exprs_view self.new ≡ (if is_ok result then exprs_view self.old ++ expr_view item ∷ [] else exprs_view self.old) }
     {
-        match self.items.push(item) {
-            Ok(()) => Ok(()),
-            Err(_) => Err(OutOfMemory),
-        }
+        add(&mut self.items, item)
     }
 
     /// Lends the items, in their order.

@@ -3,6 +3,7 @@ ghost use Rattle.std.specs.Prelude.{◌≡◌, [], ◌∷◌, ◌++◌, IfOk, is
 ghost use Rattle.wf_ast.specs.View.{flow_list, flow_view, flows_view, param_list, param_view, params_view};
 
 use crate::body::StepList;
+use crate::grow::add;
 use std::alloc::Global;
 use wf_value::{OutOfMemory, Text, Value};
 
@@ -33,10 +34,7 @@ impl Params {
     pub fn push(&mut self, item: Param) -> Result<(), OutOfMemory>
         ensures { params_view self.new ≡ (if is_ok result then params_view self.old ++ param_view item ∷ [] else params_view self.old) }
     {
-        match self.items.push(item) {
-            Ok(()) => Ok(()),
-            Err(_) => Err(OutOfMemory),
-        }
+        add(&mut self.items, item)
     }
 
     /// Lends the items, in their order.
@@ -76,10 +74,7 @@ impl Flows {
     pub fn push(&mut self, item: Flow) -> Result<(), OutOfMemory>
         ensures { flows_view self.new ≡ (if is_ok result then flows_view self.old ++ flow_view item ∷ [] else flows_view self.old) }
     {
-        match self.items.push(item) {
-            Ok(()) => Ok(()),
-            Err(_) => Err(OutOfMemory),
-        }
+        add(&mut self.items, item)
     }
 
     /// Lends the items, in their order.

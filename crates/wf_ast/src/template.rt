@@ -3,6 +3,7 @@ ghost use Rattle.std.specs.Prelude.{◌≡◌, [], ◌∷◌, ◌++◌, IfOk, is
 ghost use Rattle.wf_ast.specs.View.{field_list, field_view, fields_view, part_list, part_view, parts_view, template_list, template_view, templates_view};
 
 use crate::expr::Expr;
+use crate::grow::add;
 use std::alloc::Global;
 use wf_value::{OutOfMemory, Text, Value};
 
@@ -33,10 +34,7 @@ impl Parts {
     pub fn push(&mut self, item: Part) -> Result<(), OutOfMemory>
         ensures { parts_view self.new ≡ (if is_ok result then parts_view self.old ++ part_view item ∷ [] else parts_view self.old) }
     {
-        match self.items.push(item) {
-            Ok(()) => Ok(()),
-            Err(_) => Err(OutOfMemory),
-        }
+        add(&mut self.items, item)
     }
 
     /// Lends the items, in their order.
@@ -50,13 +48,23 @@ impl Parts {
 
 /// A value with expressions in it.
 #[cycle(template)]
-#[derive(Drop)]
 pub enum Template {
     Lit(Value),
     Expr(Expr),
     Join(Parts),
     List(Templates),
     Map(NamedTemplates),
+}
+
+// Written, and not derived: it is one call wherever a template is let go.
+impl Drop for Template {
+    #[cycle(template)]
+    fn drop(self) {
+        match self {
+            Template::Lit(_) | Template::Expr(_) => {}
+            Template::Join(_) | Template::List(_) | Template::Map(_) => {}
+        }
+    }
 }
 
 /// Templates in their order.
@@ -80,10 +88,7 @@ impl Templates {
     pub fn push(&mut self, item: Template) -> Result<(), OutOfMemory>
         ensures { templates_view self.new ≡ (if is_ok result then templates_view self.old ++ template_view item ∷ [] else templates_view self.old) }
     {
-        match self.items.push(item) {
-            Ok(()) => Ok(()),
-            Err(_) => Err(OutOfMemory),
-        }
+        add(&mut self.items, item)
     }
 
     /// Lends the items, in their order.
@@ -124,10 +129,7 @@ impl NamedTemplates {
     pub fn push(&mut self, item: NamedTemplate) -> Result<(), OutOfMemory>
         ensures { fields_view self.new ≡ (if is_ok result then fields_view self.old ++ field_view item ∷ [] else fields_view self.old) }
     {
-        match self.items.push(item) {
-            Ok(()) => Ok(()),
-            Err(_) => Err(OutOfMemory),
-        }
+        add(&mut self.items, item)
     }
 
     /// Lends the items, in their order.

@@ -2,6 +2,7 @@
 ghost use Rattle.std.specs.Prelude.{◌≡◌, [], ◌∷◌, ◌++◌, IfOk, is_ok, if◌then◌else◌};
 ghost use Rattle.wf_ast.specs.View.{texts_view};
 
+use crate::grow::add;
 use std::alloc::Global;
 use wf_value::{OutOfMemory, Text};
 
@@ -25,10 +26,7 @@ impl Texts {
     pub fn push(&mut self, item: Text) -> Result<(), OutOfMemory>
         ensures { texts_view self.new ≡ (if is_ok result then texts_view self.old ++ item ∷ [] else texts_view self.old) }
     {
-        match self.items.push(item) {
-            Ok(()) => Ok(()),
-            Err(_) => Err(OutOfMemory),
-        }
+        add(&mut self.items, item)
     }
 
     /// Lends the items, in their order.

@@ -8,10 +8,11 @@ use Rattle.wf_cli.specs.Said.{DidLittle, IsOpened, FaultHolds, Opening}
 use Rattle.wf_cli.specs.Top.{IsLineOf, HasOtherMagic, IsStarted, IsNotStarted, IsNoHistory}
 use Rattle.wf_cli.proofs.Causes.{not_run_and_resume}
 use Rattle.wf_engine.specs.Engine.{memory, StandsFor, OpeningMoment}
-use Rattle.wf_engine.specs.Kept as kept
-use Rattle.wf_engine.specs.Laws.{OnlyReadings}
-use Rattle.wf_engine.specs.Outside.{Outside}
+use Rattle.wf_deeds.specs.Kept as kept
+use Rattle.wf_deeds.specs.Laws.{OnlyReadings}
+use Rattle.wf_deeds.specs.Outside.{Outside}
 use Rattle.wf_engine.proofs.Forms.{form_is_straight}
+use Rattle.wf_engine.proofs.Language.{of_program}
 use Rattle.wf_engine.specs.Printed.{Scene, uses_source}
 use Rattle.wf_engine.specs.Starts.{start_of}
 use Rattle.wf_events.specs.Laws.{MeaningOfSpelling}
@@ -23,7 +24,8 @@ use Rattle.wf_machine.proofs.Places.{initial_is}
 use Rattle.wf_replay.specs.Language.{Language}
 use Rattle.wf_replay.specs.Laws.{StartIsAHistory}
 use Rattle.wf_engine.specs.Safe.{SafeAt}
-use Rattle.wf_engine.specs.TheLanguage.{InTheLanguage, IsTheLanguage}
+use Rattle.wf_engine.specs.TheLanguage.{the_language}
+use Rattle.wf_source.specs.Function.{SourceIsIt}
 use Rattle.wf_source.specs.Programs.{IsSourceOf}
 use Rattle.wf_engine.specs.declared.engine.Engine.{Engine}
 use Rattle.wf_engine.specs.declared.fault.EngineFault.{EngineFault}
@@ -61,17 +63,17 @@ module _ (s : Scene) (old : World) (line : IsLineOf s (λ c. c ≡ Run)) where
   pub lacking : (f : EngineFault) (new : World) → DidLittle old new → LeavesOnly old new (OpeningMoment old) → new.seen ≡ old.seen → f ≡ engine.OutOfMemory → Opening kept.Run s old new (Err f)
   lacking f new little moments seen is = record {
     little = little;
-    safe = λ L language fit O. weaker old new (OpeningMoment old) (SafeAt L O the_reports s None old) moments (λ c d now. moment_safe L O c d now);
-    opened = λ L language. tt;
-    fault = λ L language. subst (FaultHolds L s) (sym is) tt;
-    refused = λ L language why. (weaker old new (OpeningMoment old) (λ c d. old.may_leave c) moments (λ c d now. now.0), seen);
+    safe = λ fit O. weaker old new (OpeningMoment old) (SafeAt the_language O the_reports s None old) moments (λ c d now. moment_safe O c d now);
+    opened = tt;
+    fault = subst (FaultHolds the_language s) (sym is) tt;
+    refused = λ why. (weaker old new (OpeningMoment old) (λ c d. old.may_leave c) moments (λ c d now. now.0), seen);
     resumed = λ no. absurd (cc no);
-    finished = λ L language st line2 h ended. absurd (not_run_and_resume s line line2);
+    finished = λ st line2 h ended. absurd (not_run_and_resume s line line2);
   }
     where
-      moment_safe : (L : Language) (O : Outside) (c : List ℕ) (d : List Deed) → OpeningMoment old c d → SafeAt L O the_reports s None old c d
-      moment_safe L O c d (may, inl is) = early_nothing L O s old c d may is
-      moment_safe L O c d (may, inr (t, is)) = early_now L O s old c d t may is
+      moment_safe : (O : Outside) (c : List ℕ) (d : List Deed) → OpeningMoment old c d → SafeAt the_language O the_reports s None old c d
+      moment_safe O c d (may, inl is) = early_nothing the_language O s old c d may is
+      moment_safe O c d (may, inr (t, is)) = early_now the_language O s old c d t may is
 
   pub no_clock : (f : EngineFault) (new : World) → OnlyNow old → CountsNow old → Elapses Same [] old new → new.seen ≡ old.seen → f ≡ engine.OutOfMemory → Opening kept.Run s old new (Err f)
   no_clock f new only counts time seen is =
@@ -83,7 +85,7 @@ module _ (s : Scene) (old : World) (line : IsLineOf s (λ c. c ≡ Run)) where
 -- ## Beginning
 -- what a beginning promises
 pub record Clauses (old new : World) (t : ℕ) (payload : List ℕ) (r : Result Engine EngineFault) : Type 0 where
-  pub stands : InTheLanguage (λ L. IfOk r (λ e. StandsFor L kept.Run (memory e) (records new.seen) (Now t ∷ [])))
+  pub stands : IfOk r (λ e. StandsFor the_language kept.Run (memory e) (records new.seen) (Now t ∷ []))
   pub session : IfOk r (λ e. (memory e).session ≡ 1)
   pub started : OnOk r (records new.seen ≡ payload ∷ [])
   pub any_moment : LeavesOnly old new (λ c d. (old.may_leave c × (d ≡ old.deeds)) ⊎ ((records old.seen ≡ []) × HasNoneOrThis old payload c d))
@@ -100,20 +102,20 @@ module _ (s : Scene) (old mid new : World) (t : ℕ) (payload : List ℕ) (line 
   found_is : mid.seen ≡ s.found
   found_is = same ∙ found
 
-  safe_begin : (L : Language) → IsTheLanguage L → (O : Outside) (c : List ℕ) (d : List Deed) → (mid.may_leave c × (d ≡ mid.deeds)) ⊎ ((records mid.seen ≡ []) × HasNoneOrThis mid payload c d) → SafeAt L O the_reports s None old c d
-  safe_begin L language O c d (inl (may, is)) = early_now L O s old c d t (within old mid (Now t ∷ []) counts time c may) (is ∙ time.deeds)
-  safe_begin L language O c d (inr (none, (file, has, is))) = late_start L language O s old t payload c d law start (ap records (sym found_is) ∙ none) (is ∙ time.deeds) file has
+  safe_begin : (O : Outside) (c : List ℕ) (d : List Deed) → (mid.may_leave c × (d ≡ mid.deeds)) ⊎ ((records mid.seen ≡ []) × HasNoneOrThis mid payload c d) → SafeAt the_language O the_reports s None old c d
+  safe_begin O c d (inl (may, is)) = early_now the_language O s old c d t (within old mid (Now t ∷ []) counts time c may) (is ∙ time.deeds)
+  safe_begin O c d (inr (none, (file, has, is))) = late_start O s old t payload c d law start (ap records (sym found_is) ∙ none) (is ∙ time.deeds) file has
 
   safe_now : (L : Language) (O : Outside) (c : List ℕ) (d : List Deed) → OpeningMoment old c d → SafeAt L O the_reports s None old c d
   safe_now L O c d (may, inl is) = early_nothing L O s old c d may is
   safe_now L O c d (may, inr (u, is)) = early_now L O s old c d u may is
 
-  opened_of : (L : Language) → IsTheLanguage L → (e : Engine) → Clauses mid new t payload (Ok e) → IsOpened L kept.Run s (Now t ∷ []) new e
-  opened_of L language e k =
+  opened_of : (e : Engine) → Clauses mid new t payload (Ok e) → IsOpened the_language kept.Run s (Now t ∷ []) new e
+  opened_of e k =
       let none : records s.found ≡ [] = ap records (sym found_is) ∙ k.fresh in
       record {
-        stands = k.stands L language;
-        number = k.session ∙ ap (λ J. next_session (journal L J)) (sym none);
+        stands = k.stands;
+        number = k.session ∙ ap (λ J. next_session (journal the_language J)) (sym none);
         added = payload ∷ [];
         keeps = k.started ∙ ap (λ J. J ++ payload ∷ []) (sym none);
         start = λ is. (start.line, start.bytes, start.reads, (t, (0, omega arith, refl), k.started ∙ ap (λ p. p ∷ []) start.is_start));
@@ -122,42 +124,42 @@ module _ (s : Scene) (old mid new : World) (t : ℕ) (payload : List ℕ) (line 
           magic = no_magic s (subst MayBegin found_is k.a_journal);
           started = λ why. why.1 none;
           not_started = not_resumed_by_run s line;
-          history = λ n why. no_history_by_run L s n line why;
+          history = λ n why. no_history_by_run the_language s n line why;
         };
       }
 
-  fault_of : (L : Language) → IsTheLanguage L → (f : EngineFault) → Clauses mid new t payload (Err f) → FaultHolds L s f
-  fault_of L language engine.DiskFault k = tt
-  fault_of L language engine.NotAJournal k =
+  fault_of : (f : EngineFault) → Clauses mid new t payload (Err f) → FaultHolds the_language s f
+  fault_of engine.DiskFault k = tt
+  fault_of engine.NotAJournal k =
       let why = subst (λ f. (5 ≤ length f) × (take 4 f ≢ magic)) found_is (k.not_a_journal refl) in
-      ((run_uses s line, why.0, why.1), passed_magic L s)
-  fault_of L language (engine.NotAHistory n) k = absurd (none k.only)
+      ((run_uses s line, why.0, why.1), passed_magic the_language s)
+  fault_of (engine.NotAHistory n) k = absurd (none k.only)
     where
       none : (engine.NotAHistory n ≡ engine.DiskFault) ⊎ (engine.NotAHistory n ≡ engine.NotAJournal) ⊎ (engine.NotAHistory n ≡ engine.AlreadyStarted) ⊎ (engine.NotAHistory n ≡ engine.OutOfMemory) → ⊥
       none (inl is) = cc is
       none (inr (inl is)) = cc is
       none (inr (inr (inl is))) = cc is
       none (inr (inr (inr is))) = cc is
-  fault_of L language engine.AlreadyStarted k =
+  fault_of engine.AlreadyStarted k =
       let why = subst (λ f. (records f ≢ []) × MayBegin f) found_is (k.already_started refl) in
-      ((line, why.0), passed_started L s (no_magic s why.1))
-  fault_of L language engine.NotStarted k = absurd (none k.only)
+      ((line, why.0), passed_started the_language s (no_magic s why.1))
+  fault_of engine.NotStarted k = absurd (none k.only)
     where
       none : (engine.NotStarted ≡ engine.DiskFault) ⊎ (engine.NotStarted ≡ engine.NotAJournal) ⊎ (engine.NotStarted ≡ engine.AlreadyStarted) ⊎ (engine.NotStarted ≡ engine.OutOfMemory) → ⊥
       none (inl is) = cc is
       none (inr (inl is)) = cc is
       none (inr (inr (inl is))) = cc is
       none (inr (inr (inr is))) = cc is
-  fault_of L language engine.Closed k = tt
-  fault_of L language engine.OutOfMemory k = tt
+  fault_of engine.Closed k = tt
+  fault_of engine.OutOfMemory k = tt
 
-  opened_if : (L : Language) → IsTheLanguage L → (r : Result Engine EngineFault) → Clauses mid new t payload r → IfOk r (IsOpened L kept.Run s (Now t ∷ []) new)
-  opened_if L language (Ok e) k = opened_of L language e k
-  opened_if L language (Err f) k = tt
+  opened_if : (r : Result Engine EngineFault) → Clauses mid new t payload r → IfOk r (IsOpened the_language kept.Run s (Now t ∷ []) new)
+  opened_if (Ok e) k = opened_of e k
+  opened_if (Err f) k = tt
 
-  fault_if : (L : Language) → IsTheLanguage L → (r : Result Engine EngineFault) → Clauses mid new t payload r → IfErr r (FaultHolds L s)
-  fault_if L language (Ok e) k = tt
-  fault_if L language (Err f) k = fault_of L language f k
+  fault_if : (r : Result Engine EngineFault) → Clauses mid new t payload r → IfErr r (FaultHolds the_language s)
+  fault_if (Ok e) k = tt
+  fault_if (Err f) k = fault_of f k
 
   stays_where : (L : Language) → HasOtherMagic s ⊎ IsStarted s ⊎ IsNotStarted s ⊎ ((n : ℕ) × IsNoHistory L s n) → ((5 ≤ length s.found) × (take 4 s.found ≢ magic)) ⊎ (records s.found ≢ [])
   stays_where L (inl why) = inl (why.1, why.2)
@@ -168,27 +170,28 @@ module _ (s : Scene) (old mid new : World) (t : ℕ) (payload : List ℕ) (line 
   pub opening_by_run : (r : Result Engine EngineFault) → (refused_seen : ((5 ≤ length mid.seen) × (take 4 mid.seen ≢ magic)) ⊎ (records mid.seen ≢ []) → new.seen ≡ mid.seen) → Clauses mid new t payload r → Opening kept.Run s old new r
   opening_by_run r seen k = record {
     little = little_now old new t (k.deeds ∙ time.deeds);
-    safe = λ L language fit O.
-        joined old mid new (SafeAt L O the_reports s None old) _ (weaker old mid (OpeningMoment old) (SafeAt L O the_reports s None old) (now_moments old mid t only_now time) (λ c d now. safe_now L O c d now)) k.any_moment
-        (λ c d now. safe_begin L language O c d now);
-    opened = λ L language. opened_if L language r k;
-    fault = λ L language. fault_if L language r k;
-    refused = λ L language why.
-        let stays = subst (λ f. ((5 ≤ length f) × (take 4 f ≢ magic)) ⊎ (records f ≢ [])) (sym found_is) (stays_where L why) in (
+    safe = λ fit O.
+        joined old mid new (SafeAt the_language O the_reports s None old) _ (weaker old mid (OpeningMoment old) (SafeAt the_language O the_reports s None old) (now_moments old mid t only_now time) (λ c d now. safe_now the_language O c d now)) k.any_moment
+        (λ c d now. safe_begin O c d now);
+    opened = opened_if r k;
+    fault = fault_if r k;
+    refused = λ why.
+        let stays = subst (λ f. ((5 ≤ length f) × (take 4 f ≢ magic)) ⊎ (records f ≢ [])) (sym found_is) (stays_where the_language why) in (
           joined old mid new (λ c d. old.may_leave c) (λ c d. mid.may_leave c × (d ≡ mid.deeds)) (weaker old mid (OpeningMoment old) (λ c d. old.may_leave c) (now_moments old mid t only_now time) (λ c d now. now.0)) (k.refused_stays stays)
               (λ c d now. within old mid (Now t ∷ []) counts time c now.0),
           seen stays ∙ same,
         );
     resumed = λ no. absurd (cc no);
-    finished = λ L language st line2 h ended. absurd (not_run_and_resume s line line2);
+    finished = λ st line2 h ended. absurd (not_run_and_resume s line line2);
   }
 
 -- ## The start of a line
-pub start_of_line : (s : Scene) (l : PlainLine) (source : List ℕ) (p : Program) (t : ℕ) → line_of s.words ≡ Ok l → l.command ≡ Run → IsFirst 131073 s.source source → IsSourceOf source p
+pub start_of_line : SourceIsIt → (s : Scene) (l : PlainLine) (source : List ℕ) (p : Program) (t : ℕ) → line_of s.words ≡ Ok l → l.command ≡ Run → IsFirst 131073 s.source source → IsSourceOf source p
     → HasSpelling (Started (start_of l source t)) → MeaningOfSpelling → StartIsAHistory → StartOfLine s t (record_bytes (Started (start_of l source t)))
-start_of_line s l source p t is command first reads spelled meaning_of law =
+start_of_line once s l source p t is command first reads spelled meaning_of law =
     let st = start_of l source t in
     let means = meaning_of (Started st) spelled tt in
+    let accepted = of_program once source p reads in
     let begins = initial_is p st (form_is_straight source p reads) in
     record {
       line = l;
@@ -197,7 +200,7 @@ start_of_line s l source p t is command first reads spelled meaning_of law =
       is_start = refl;
       means = means;
       program = p;
-      accepted = reads;
-      history = λ L language. (_, law L (record_bytes (Started st)) st p _ means ((language source p).1 reads) begins);
+      accepted = accepted;
+      history = (_, law the_language (record_bytes (Started st)) st p _ means accepted begins);
       command = run_command s (l, is, command);
     }

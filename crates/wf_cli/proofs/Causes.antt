@@ -3,7 +3,7 @@ use Rattle.std.proofs.Common.{◌≡◌, ◌<◌, inl, inr, IsTrue, ℕ, Bool, t
 use Rattle.wf_cli.specs.Top.{IsLineOf, IsBadLine, IsRefused, HasOtherMagic, IsStarted, IsNotStarted, IsNoHistory, Reported, Gives, IsOfFile, Says, bad_line, refused, reported, of_file}
 use Rattle.wf_engine.specs.Printed as end
 use Rattle.wf_engine.specs.Printed.{Scene, uses_source, uses_journal, executes, status_of, outcome_text}
-use Rattle.wf_engine.specs.TheLanguage.{IsTheLanguage}
+use Rattle.wf_engine.specs.TheLanguage.{the_language}
 use Rattle.wf_host.specs.World.{World}
 use Rattle.wf_line.specs.Lines.{PlainLine, line_of}
 use Rattle.wf_line.specs.declared.command.Command.{Command}
@@ -74,6 +74,9 @@ run_executes s line = line_is s (λ c. c ≡ Run) (λ c. executes c ≡ true) (�
 pub resume_executes : (s : Scene) → IsLineOf s (λ c. c ≡ Resume) → IsLineOf s (λ c. executes c ≡ true)
 resume_executes s line = line_is s (λ c. c ≡ Resume) (λ c. executes c ≡ true) (λ c is. ap executes is) line
 
+pub format_reports : (s : Scene) → IsLineOf s (λ c. c ≡ Format) → IsLineOf s (λ c. executes c ≡ false)
+format_reports s line = line_is s (λ c. c ≡ Format) (λ c. executes c ≡ false) (λ c is. ap executes is) line
+
 pub reported_line : (s : Scene) (text : List ℕ) → Reported s text → IsLineOf s (λ c. executes c ≡ false)
 reported_line s text (end.formatted l bytes text2 (is, uses, first) command laid) = (l, is, ap executes command)
 reported_line s _ (end.helped line) = line_is s (λ c. c ≡ Help) (λ c. executes c ≡ false) (λ c is. ap executes is) line
@@ -114,11 +117,11 @@ gives_cause L s image _ _ (end.not_a_history n why) = why
 gives_cause L s image _ _ (end.ended o st has is) = outcome_cause L s o st is
 gives_cause L s image _ _ (end.done text report) = tt
 
-pub says_cause : (L : Language) → IsTheLanguage L → (s : Scene) (old new : World) (st : Status) (text : List ℕ) → IsTrue old.tells → Says s old new st text → Cause L s st
-says_cause L language s old new _ _ told (bad_line n bad) = bad
-says_cause L language s old new _ _ told (refused r why) = why
-says_cause L language s old new _ _ told (reported text report) = tt
-says_cause L language s old new _ _ told (of_file st text is line accepted gives) = gives_cause L s new.seen st text (gives told L language).0
+pub says_cause : (s : Scene) (old new : World) (st : Status) (text : List ℕ) → IsTrue old.tells → Says s old new st text → Cause the_language s st
+says_cause s old new _ _ told (bad_line n bad) = bad
+says_cause s old new _ _ told (refused r why) = why
+says_cause s old new _ _ told (reported text report back) = tt
+says_cause s old new _ _ told (of_file st text is line accepted gives) = gives_cause the_language s new.seen st text (gives told).0
 
 -- ## Lines that are printed
 -- of a result no line is printed by the status itself
@@ -138,11 +141,11 @@ gives_text L s image _ _ line (end.not_a_history n why) is = same_some (status_t
 gives_text L s image _ _ line (end.ended o st has which) is = absurd (outcome_untexted o st line which is)
 gives_text L s image _ _ line (end.done text report) is = let no : None ≡ Some line = is in cc no
 
-pub says_text : (L : Language) → IsTheLanguage L → (s : Scene) (old new : World) (st : Status) (text line : List ℕ) → IsTrue old.tells → Says s old new st text → status_text st ≡ Some line → text ≡ line
-says_text L language s old new _ _ line told (bad_line n bad) is = same_some (status_text (status.BadLine n)) _ line refl is
-says_text L language s old new _ _ line told (refused r why) is = same_some (status_text (status.Refused r)) _ line refl is
-says_text L language s old new _ _ line told (reported text report) is = let no : None ≡ Some line = is in cc no
-says_text L language s old new _ _ line told (of_file st text isf rline accepted gives) is = gives_text L s new.seen st text line (gives told L language).0 is
+pub says_text : (s : Scene) (old new : World) (st : Status) (text line : List ℕ) → IsTrue old.tells → Says s old new st text → status_text st ≡ Some line → text ≡ line
+says_text s old new _ _ line told (bad_line n bad) is = same_some (status_text (status.BadLine n)) _ line refl is
+says_text s old new _ _ line told (refused r why) is = same_some (status_text (status.Refused r)) _ line refl is
+says_text s old new _ _ line told (reported text report back) is = let no : None ≡ Some line = is in cc no
+says_text s old new _ _ line told (of_file st text isf rline accepted gives) is = gives_text the_language s new.seen st text line (gives told).0 is
 
 -- ## Statuses that are said
 abbrev pub is_said : Status → Bool
@@ -166,7 +169,7 @@ file_said st (inr (inr (inr (inr (inr is))))) = ap is_said is
 pub says_said : (s : Scene) (old new : World) (st : Status) (text : List ℕ) → Says s old new st text → is_said st ≡ true
 says_said s old new _ _ (bad_line n bad) = refl
 says_said s old new _ _ (refused r why) = refl
-says_said s old new _ _ (reported text report) = refl
+says_said s old new _ _ (reported text report back) = refl
 says_said s old new _ _ (of_file st text is line accepted gives) = file_said st is
 
 -- a status that is said is none of the others
@@ -191,11 +194,11 @@ EarlyCause s st = Unit {0}
 pub says_early : (s : Scene) (old new : World) (st : Status) (text : List ℕ) → rank st < 5 → Says s old new st text → EarlyCause s st
 says_early s old new _ _ low (bad_line n bad) = bad
 says_early s old new _ _ low (refused r why) = why
-says_early s old new _ _ low (reported text report) = tt
+says_early s old new _ _ low (reported text report back) = tt
 says_early s old new _ _ low (of_file st text is line accepted gives) = absurd (let r = file_rank st is in let no : ⊥ = omega (arith, r.0, low) in no)
 
 pub text_early : (s : Scene) (old new : World) (st : Status) (text line : List ℕ) → rank st < 5 → Says s old new st text → status_text st ≡ Some line → text ≡ line
 text_early s old new _ _ line low (bad_line n bad) is = same_some (status_text (status.BadLine n)) _ line refl is
 text_early s old new _ _ line low (refused r why) is = same_some (status_text (status.Refused r)) _ line refl is
-text_early s old new _ _ line low (reported text report) is = let no : None ≡ Some line = is in cc no
+text_early s old new _ _ line low (reported text report back) is = let no : None ≡ Some line = is in cc no
 text_early s old new _ _ line low (of_file st text isf rline accepted gives) is = absurd (let r = file_rank st isf in let no : ⊥ = omega (arith, r.0, low) in no)

@@ -3,8 +3,7 @@ use Rattle.std.proofs.Common.{◌≡◌, suc, List, [], ◌∷◌, ◌++◌, ref
 use Rattle.std.specs.List.{AllByRecursion}
 use Rattle.std.proofs.lemmas.List.Elements.{All-head, All-tail}
 use Rattle.wf_cli.specs.Top.{IsPrint}
-use Rattle.wf_engine.specs.Deeds.{polls, nows, poll_readings, starts_or_polls, printed}
-use Rattle.wf_engine.specs.Safe.{IsSmall}
+use Rattle.wf_deeds.specs.Deeds.{polls, nows, poll_readings, starts_or_polls, printed, IsSmall}
 use Rattle.wf_host.specs.declared.data.Deed.{Deed}
 use Rattle.wf_host.specs.declared.data.Deed.TheVariants.{Start, Poll, Now, Reply, Drop, Print}
 use Rattle.wf_printing.specs.Printing as printing

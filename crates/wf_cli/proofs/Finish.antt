@@ -14,12 +14,12 @@ use Rattle.wf_cli.specs.Top.{Call, IsPrint, Gives, Says, bad_line, refused, repo
 use Rattle.wf_cli.specs.declared.end.Said.{Said}
 use Rattle.wf_cli.specs.declared.end.Silence.{Silence}
 use Rattle.wf_cli.specs.declared.end.Silence.TheVariants as silence
-use Rattle.wf_engine.specs.Deeds.{printed}
-use Rattle.wf_engine.specs.Laws.{OnlyReadings}
-use Rattle.wf_engine.specs.Outside.{Outside}
+use Rattle.wf_deeds.specs.Deeds.{printed, IsSmall}
+use Rattle.wf_deeds.specs.Laws.{OnlyReadings}
+use Rattle.wf_deeds.specs.Outside.{Outside}
 use Rattle.wf_engine.specs.Printed.{Scene}
-use Rattle.wf_engine.specs.Safe.{IsSmall, PrintedIsOutcome, SafeAt}
-use Rattle.wf_engine.specs.TheLanguage.{InTheLanguage, IsTheLanguage}
+use Rattle.wf_engine.specs.Safe.{PrintedIsOutcome, SafeAt}
+use Rattle.wf_engine.specs.TheLanguage.{the_language}
 use Rattle.wf_host.specs.Moments.{CountsNow, joined}
 use Rattle.wf_host.specs.World.{World, Faults, Told, LeavesOnly, NoneFell, Rose}
 use Rattle.wf_host.specs.declared.data.Deed.{Deed}
@@ -60,9 +60,9 @@ printed_behind D P silent = printed_same P ∙ sym (printed_both D P ∙ ap (λ 
 says_later : (s : Scene) (old mid new : World) (st : Status) (text : List ℕ) → Told old (new.seen ≡ mid.seen) → Says s old mid st text → Says s old new st text
 says_later s old mid new _ _ same (bad_line n bad) = bad_line n bad
 says_later s old mid new _ _ same (refused r why) = refused r why
-says_later s old mid new _ _ same (reported text report) = reported text report
+says_later s old mid new _ _ same (reported text report back) = reported text report back
 says_later s old mid new _ _ same (of_file st text is line accepted gives) =
-    of_file st text is line accepted (λ told L language. (subst (λ f. Gives L s f st text) (sym (same told)) (gives told L language).0, (gives told L language).1))
+    of_file st text is line accepted (λ told. (subst (λ f. Gives the_language s f st text) (sym (same told)) (gives told).0, (gives told).1))
 
 -- ## How the call ends
 module _ (x : Call) (mid : World) (reads2 : ℕ) (faults2 : Faults) (tells : mid.tells ≡ x.old.tells) where
@@ -139,30 +139,30 @@ module _ (x : Call) (mid : World) (r : Result Said Silence) (w : Worked x.scene 
   given L (Ok it) image gives may = gives image may
   given L (Err s) image gives may = tt
 
-  safe_print : (L : Language) → IsTheLanguage L → (O : Outside) (e : Option Status) (c : List ℕ) (d : List Deed) → option_map status_code e ≢ Some 13 → LeavesOnly x.old mid (SafeAt L O the_reports x.scene None x.old) → PrintedSoFar mid (text_of r) c d
-      → SafeAt L O the_reports x.scene e x.old c d
-  safe_print L language O e c d done so_far (may, (P, is, (all, (rest, parts)))) = by (so_far.each c mid.deeds (counts_mid x.old.moment c so_far.later may))
+  safe_print : (O : Outside) (e : Option Status) (c : List ℕ) (d : List Deed) → option_map status_code e ≢ Some 13 → LeavesOnly x.old mid (SafeAt the_language O the_reports x.scene None x.old) → PrintedSoFar mid (text_of r) c d
+      → SafeAt the_language O the_reports x.scene e x.old c d
+  safe_print O e c d done so_far (may, (P, is, (all, (rest, parts)))) = by (so_far.each c mid.deeds (counts_mid x.old.moment c so_far.later may))
     where
-      by : SafeAt L O the_reports x.scene None x.old c mid.deeds → SafeAt L O the_reports x.scene e x.old c d
+      by : SafeAt the_language O the_reports x.scene None x.old c mid.deeds → SafeAt the_language O the_reports x.scene e x.old c d
       by (D, was, safe) =
           let little = w.little in
           let equal : little.done ≡ D = append_cancel_left x.old.deeds little.done D (sym little.deeds ∙ was) in
           let prints = all_prints P all in (
             D ++ P,
             is ∙ ap (λ l. l ++ P) was ∙ append_assoc x.old.deeds D P,
-            safe_behind L O the_reports x.scene e x.old.may_leave c D P only done (subst (λ l. AllByRecursion IsSmall l) equal little.small) (ap printed (sym equal) ∙ little.silent) prints
-                (front L O e c [] P r (given L r c (w.gives L language) may) rest parts) safe,
+            safe_behind the_language O the_reports x.scene e x.old.may_leave c D P only done (subst (λ l. AllByRecursion IsSmall l) equal little.small) (ap printed (sym equal) ∙ little.silent) prints
+                (front the_language O e c [] P r (given the_language r c w.gives may) rest parts) safe,
           )
 
-  pub safe_throughout : InTheLanguage (λ L. SafeThroughout L x)
-  safe_throughout L language fit O =
-      let so_far = w.safe L language fit O in
-      joined x.old mid x.new (SafeAt L O the_reports x.scene None x.old) (PrintedSoFar mid (text_of r)) so_far p.moments (λ c d now. safe_print L language O None c d (λ no. cc no) so_far now)
+  pub safe_throughout : SafeThroughout the_language x
+  safe_throughout fit O =
+      let so_far = w.safe fit O in
+      joined x.old mid x.new (SafeAt the_language O the_reports x.scene None x.old) (PrintedSoFar mid (text_of r)) so_far p.moments (λ c d now. safe_print O None c d (λ no. cc no) so_far now)
 
-  pub safe_at_end : is_own x.status ≡ true → InTheLanguage (λ L. SafeAtEnd L x)
-  safe_at_end is L language fit O image may =
-      let so_far = w.safe L language fit O in
-      safe_print L language O (Some x.status) image x.new.deeds (not_suspended x.status is) so_far (p.moments.each image x.new.deeds (counts_new mid.moment image p.moments.later may))
+  pub safe_at_end : is_own x.status ≡ true → SafeAtEnd the_language x
+  safe_at_end is fit O image may =
+      let so_far = w.safe fit O in
+      safe_print O (Some x.status) image x.new.deeds (not_suspended x.status is) so_far (p.moments.each image x.new.deeds (counts_new mid.moment image p.moments.later may))
 
   -- ## What isn't written
   unwritten : Unwritten x.old mid → WritesNothing x
@@ -171,16 +171,16 @@ module _ (x : Call) (mid : World) (r : Result Said Silence) (w : Worked x.scene 
     p.seen ∙ seen,
   )
 
-  pub finished_stays : InTheLanguage (λ L. FinishedStays L x)
-  finished_stays L language st line is ended =
-      let it = w.finished L language st line is ended in
+  pub finished_stays : FinishedStays the_language x
+  finished_stays st line is ended =
+      let it = w.finished st line is ended in
       (unwritten it.0, only_prints it.1 p.printed)
     where
       only_prints : mid.deeds ≡ x.old.deeds → PrintsFront mid x.new (text_of r) → (D : List Deed) × (x.new.deeds ≡ x.old.deeds ++ D) × AllByRecursion IsPrint D
       only_prints none (P, is, (all, front)) = (P, is ∙ ap (λ l. l ++ P) none, all_prints P all)
 
-  pub refused_stays : InTheLanguage (λ L. RefusedStays L x)
-  refused_stays L language why = unwritten (w.refused L language why)
+  pub refused_stays : RefusedStays the_language x
+  refused_stays why = unwritten (w.refused why)
 
   pub reports_stay : ReportsStay x
   reports_stay line = unwritten (w.reports line)

@@ -6,7 +6,7 @@ use Rattle.wf_cli.specs.declared.end.Said.{Said}
 use Rattle.wf_cli.specs.declared.end.Silence.{Silence}
 use Rattle.wf_cli.specs.declared.end.Silence.TheVariants as silence
 use Rattle.wf_engine.specs.Engine.{memory, Holds, KeptAt, StandsFor}
-use Rattle.wf_engine.specs.Kept as kept
+use Rattle.wf_deeds.specs.Kept as kept
 use Rattle.wf_engine.specs.declared.engine.Engine.{Engine}
 use Rattle.wf_engine.specs.declared.fault.EngineFault.{EngineFault}
 use Rattle.wf_engine.specs.declared.fault.EngineFault.TheVariants as engine

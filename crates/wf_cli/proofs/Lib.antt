@@ -2,12 +2,12 @@ mod Begins
 mod Causes
 mod Deeds
 mod Finish
+mod Fits
 mod Goes
 mod Moments
 mod Opens
 mod Promises
 mod Rows
-mod Freed
 mod Safe
 mod Spelled
 mod Together

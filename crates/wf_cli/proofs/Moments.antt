@@ -7,16 +7,16 @@ use Rattle.wf_cli.proofs.Deeds.{nows_both, printed_both, all_at}
 use Rattle.wf_cli.proofs.Safe.{no_start, of_command}
 use Rattle.wf_cli.specs.Reports.{the_reports}
 use Rattle.wf_cli.specs.Said.{IsOpened}
-use Rattle.wf_engine.specs.Deeds.{nows, printed}
+use Rattle.wf_deeds.specs.Deeds.{nows, printed, IsSmall}
 use Rattle.wf_engine.specs.Engine.{memory, KeptAt}
-use Rattle.wf_engine.specs.Kept as kept
-use Rattle.wf_engine.specs.Kept.{Session, Kept, Place, ReadingsAreOfTheClock, own}
-use Rattle.wf_engine.specs.Laws.{OnlyReadings}
-use Rattle.wf_engine.specs.Outside.{Outside}
+use Rattle.wf_deeds.specs.Kept as kept
+use Rattle.wf_deeds.specs.Kept.{Session, Kept, Place, ReadingsAreOfTheClock, own}
+use Rattle.wf_deeds.specs.Laws.{OnlyReadings}
+use Rattle.wf_deeds.specs.Outside.{Outside}
 use Rattle.wf_engine.specs.Printed.{Scene, Reads}
-use Rattle.wf_engine.specs.Safe.{IsFit, IsSmall, SafeAt, command_by}
+use Rattle.wf_engine.specs.Safe.{IsFit, SafeAt, command_by}
 use Rattle.wf_engine.specs.Starts.{start_of}
-use Rattle.wf_engine.specs.TheLanguage.{InTheLanguage, IsTheLanguage}
+use Rattle.wf_engine.specs.TheLanguage.{the_language}
 use Rattle.wf_engine.specs.declared.engine.Engine.{Engine}
 use Rattle.wf_events.specs.Reading.{meaning}
 use Rattle.wf_events.specs.Records.{Started}
@@ -35,7 +35,6 @@ use Rattle.wf_replay.specs.Language.{Language}
 use Rattle.wf_replay.specs.Laws.{IsHistory}
 use Rattle.wf_ast.specs.Tree.{Program}
 use Rattle.wf_shared.specs.Events.{Turn, Start}
-use Rattle.wf_source.specs.Programs.{IsSourceOf}
 
 -- a moment at which nothing was opened yet: a file as at entry, and no deed or one reading of the clock
 pub early_nothing : (L : Language) (O : Outside) (s : Scene) (old : World) (c : List ℕ) (d : List Deed) → old.may_leave c → d ≡ old.deeds → SafeAt L O the_reports s None old c d
@@ -79,8 +78,8 @@ pub record StartOfLine (s : Scene) (t : ℕ) (payload : List ℕ) : Type 0 where
   pub is_start : payload ≡ record_bytes (Started (start_of line bytes t))
   pub means : meaning payload ≡ Some (Started (start_of line bytes t))
   pub program : Program
-  pub accepted : IsSourceOf bytes program
-  pub history : InTheLanguage (λ L. IsHistory L (payload ∷ []))
+  pub accepted : the_language.source bytes ≡ Some program
+  pub history : IsHistory the_language (payload ∷ [])
   pub command : command_by (line_of s.words) ≡ kept.Run
 
 head_is : (a b : List ℕ) (x y : List (List ℕ)) → a ∷ x ≡ b ∷ y → a ≡ b
@@ -91,9 +90,9 @@ head_is a b x y is = ap (λ l. first_of a l) is
     first_of d (e ∷ l) = e
 
 -- no record yet, or the start alone, behind one reading of the clock
-pub late_start : (L : Language) → IsTheLanguage L → (O : Outside) (s : Scene) (old : World) (t : ℕ) (payload : List ℕ) (c : List ℕ) (d : List Deed) → OnlyReadings → StartOfLine s t payload → records s.found ≡ [] → d ≡ old.deeds ++ Now t ∷ [] → IsJournal c
-    → (records c ≡ []) ⊎ (records c ≡ payload ∷ []) → SafeAt L O the_reports s None old c d
-late_start L language O s old t payload c d only start none is file has = (
+pub late_start : (O : Outside) (s : Scene) (old : World) (t : ℕ) (payload : List ℕ) (c : List ℕ) (d : List Deed) → OnlyReadings → StartOfLine s t payload → records s.found ≡ [] → d ≡ old.deeds ++ Now t ∷ [] → IsJournal c
+    → (records c ≡ []) ⊎ (records c ≡ payload ∷ []) → SafeAt the_language O the_reports s None old c d
+late_start O s old t payload c d only start none is file has = (
   Now t ∷ [],
   is,
   inr (record {
@@ -101,8 +100,8 @@ late_start L language O s old t payload c d only start none is file has = (
     keeps = (records c, ap (λ J. J ++ records c) (sym none));
     start = λ first rest found is_first. (start.line, start.bytes, start.reads, (t, (0, omega arith, refl), ⊎_elim (λ no. absurd (nothing first rest (sym no ∙ is_first))) (λ this. head_is first payload rest [] (sym is_first ∙ this) ∙ start.is_start) has));
     deeds =
-        subst (λ k. Kept L O (of_command (records c) (next_session (journal L (records s.found))) (Now t ∷ []) k None)) (sym start.command)
-        (kept_now L O (records c) (next_session (journal L (records s.found))) t only (no_turns (next_session (journal L (records s.found))) has));
+        subst (λ k. Kept the_language O (of_command (records c) (next_session (journal the_language (records s.found))) (Now t ∷ []) k None)) (sym start.command)
+        (kept_now the_language O (records c) (next_session (journal the_language (records s.found))) t only (no_turns (next_session (journal the_language (records s.found))) has));
     printed = inl refl;
   }),
 )
@@ -110,15 +109,15 @@ late_start L language O s old t payload c d only start none is file has = (
     nothing : (first : List ℕ) (rest : List (List ℕ)) → [] ≡ first ∷ rest → ⊥
     nothing first rest never = cc never
 
-    no_turns : (n : ℕ) → (records c ≡ []) ⊎ (records c ≡ payload ∷ []) → session_turns (journal L (records c)) n ≡ []
-    no_turns n (inl empty) = no_turns_of_none L (records c) n empty
-    no_turns n (inr this) = ap (λ J. session_turns (journal L J) n) this ∙ no_turns_of_start L payload (start_of start.line start.bytes t) start.program n start.means ((language start.bytes start.program).1 start.accepted)
+    no_turns : (n : ℕ) → (records c ≡ []) ⊎ (records c ≡ payload ∷ []) → session_turns (journal the_language (records c)) n ≡ []
+    no_turns n (inl empty) = no_turns_of_none the_language (records c) n empty
+    no_turns n (inr this) = ap (λ J. session_turns (journal the_language J) n) this ∙ no_turns_of_start the_language payload (start_of start.line start.bytes t) start.program n start.means start.accepted
 
-    empty : records c ≡ [] → IsFit L c
+    empty : records c ≡ [] → IsFit the_language c
     empty none = ⊎_elim (λ short. inl short) (λ begins. inr (inl (begins, none))) file
 
-    this : records c ≡ payload ∷ [] → IsFit L c
-    this one = inr (inr (magic_of_records c file (λ no. nothing payload [] (sym no ∙ one)), ((start.history L language).0, ap (history L) one ∙ (start.history L language).1)))
+    this : records c ≡ payload ∷ [] → IsFit the_language c
+    this one = inr (inr (magic_of_records c file (λ no. nothing payload [] (sym no ∙ one)), (start.history.0, ap (history the_language) one ∙ start.history.1)))
 
 -- ## Going on
 -- a moment of an execution that was opened

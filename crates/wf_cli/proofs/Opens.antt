@@ -7,11 +7,11 @@ use Rattle.wf_cli.specs.Reports.{the_reports}
 use Rattle.wf_cli.specs.Said.{DidLittle, HasNoCause, IsOpened, FaultHolds, Opening, Unwritten}
 use Rattle.wf_cli.specs.Top.{IsLineOf, HasOtherMagic, IsStarted, IsNotStarted, IsNoHistory, IsPassed}
 use Rattle.wf_engine.specs.Engine.{memory, StandsFor, Opened, OpeningMoment}
-use Rattle.wf_engine.specs.Kept as kept
-use Rattle.wf_engine.specs.Outside.{Outside}
+use Rattle.wf_deeds.specs.Kept as kept
+use Rattle.wf_deeds.specs.Outside.{Outside}
 use Rattle.wf_engine.specs.Printed.{Scene, uses_journal}
 use Rattle.wf_engine.specs.Safe.{SafeAt, command_of, command_by}
-use Rattle.wf_engine.specs.TheLanguage.{InTheLanguage, IsTheLanguage}
+use Rattle.wf_engine.specs.TheLanguage.{the_language}
 use Rattle.wf_engine.specs.declared.engine.Engine.{Engine}
 use Rattle.wf_engine.specs.declared.fault.EngineFault.{EngineFault}
 use Rattle.wf_engine.specs.declared.fault.EngineFault.TheVariants as engine
@@ -109,17 +109,17 @@ no_record_no_history L J st is none = let no : Err 0 ≡ Ok st = ap (history L) 
 -- ## Resuming
 -- what an opening promises
 pub record Clauses (old new : World) (r : Result Engine EngineFault) : Type 0 where
-  pub opened : InTheLanguage (λ L. IfOk r (λ e. Opened L (memory e) old new))
-  pub session : InTheLanguage (λ L. IfOk r (λ e. (memory e).session ≡ next_session (journal L (records old.seen))))
+  pub opened : IfOk r (λ e. Opened the_language (memory e) old new)
+  pub session : IfOk r (λ e. (memory e).session ≡ next_session (journal the_language (records old.seen)))
   pub begins : OnOk r (take 4 old.seen ≡ magic)
   pub seen : new.seen ≡ old.seen
   pub any_moment : LeavesOnly old new (OpeningMoment old)
   pub not_a_journal : IsErrOf r engine.NotAJournal → (5 ≤ length old.seen) × (take 4 old.seen ≢ magic)
   pub not_started : IsErrOf r engine.NotStarted → (records old.seen ≡ []) × MayBegin old.seen
-  pub not_a_history : InTheLanguage (λ L. IfErr r (λ e. (n : ℕ) → e ≡ engine.NotAHistory n → (history L (records old.seen) ≡ Err n) × (records old.seen ≢ []) × (take 4 old.seen ≡ magic)))
+  pub not_a_history : IfErr r (λ e. (n : ℕ) → e ≡ engine.NotAHistory n → (history the_language (records old.seen) ≡ Err n) × (records old.seen ≢ []) × (take 4 old.seen ≡ magic))
   pub only : IfErr r (λ e. (e ≡ engine.DiskFault) ⊎ (e ≡ engine.NotAJournal) ⊎ (e ≡ engine.NotStarted) ⊎ ((n : ℕ) × (e ≡ engine.NotAHistory n)) ⊎ (e ≡ engine.OutOfMemory))
   pub deeds : (new.deeds ≡ old.deeds) ⊎ ((t : ℕ) × (new.deeds ≡ old.deeds ++ Now t ∷ []))
-  pub finished : InTheLanguage (λ L. (s : Standing) → history L (records old.seen) ≡ Ok s → s.config.outcome ≢ Active → new.deeds ≡ old.deeds)
+  pub finished : (s : Standing) → history the_language (records old.seen) ≡ Ok s → s.config.outcome ≢ Active → new.deeds ≡ old.deeds
 
 module _ (s : Scene) (old new : World) (line : IsLineOf s (λ c. c ≡ Resume)) (found : old.seen ≡ s.found) where
   moment_safe : (L : Language) (O : Outside) (c : List ℕ) (d : List Deed) → OpeningMoment old c d → SafeAt L O the_reports s None old c d
@@ -138,31 +138,31 @@ module _ (s : Scene) (old new : World) (line : IsLineOf s (λ c. c ≡ Resume)) 
     history = λ n why. not_both (history L (records s.found)) st n is why.1;
   }
 
-  opened_of : (L : Language) → IsTheLanguage L → (e : Engine) (done : List Deed) → new.deeds ≡ old.deeds ++ done → Clauses old new (Ok e) → IsOpened L kept.Resume s done new e
-  opened_of L language e done deeds k =
-      let o = k.opened L language in
+  opened_of : (e : Engine) (done : List Deed) → new.deeds ≡ old.deeds ++ done → Clauses old new (Ok e) → IsOpened the_language kept.Resume s done new e
+  opened_of e done deeds k =
+      let o = k.opened in
       let same : o.done ≡ done = append_cancel_left old.deeds o.done done (sym o.deeds ∙ deeds) in
       let stays : records new.seen ≡ records s.found = ap records (k.seen ∙ found) in
-      let is : history L (records s.found) ≡ Ok o.stands.leads.standing = subst (λ J. history L J ≡ Ok o.stands.leads.standing) stays o.stands.leads.history in
+      let is : history the_language (records s.found) ≡ Ok o.stands.leads.standing = subst (λ J. history the_language J ≡ Ok o.stands.leads.standing) stays o.stands.leads.history in
       record {
-        stands = subst (λ D. StandsFor L kept.Resume (memory e) (records new.seen) D) same o.stands;
-        number = k.session L language ∙ ap (λ f. next_session (journal L (records f))) found;
+        stands = subst (λ D. StandsFor the_language kept.Resume (memory e) (records new.seen) D) same o.stands;
+        number = k.session ∙ ap (λ f. next_session (journal the_language (records f))) found;
         added = [];
         keeps = stays ∙ sym (append-nil (records s.found));
-        start = λ none. absurd (no_record_no_history L (records s.found) o.stands.leads.standing is none);
+        start = λ none. absurd (no_record_no_history the_language (records s.found) o.stands.leads.standing is none);
         is_of = resume_command s line;
-        causes = causes_of L (subst (λ f. take 4 f ≡ magic) found k.begins) o.stands.leads.standing is;
+        causes = causes_of the_language (subst (λ f. take 4 f ≡ magic) found k.begins) o.stands.leads.standing is;
       }
 
-  fault_of : (L : Language) → IsTheLanguage L → (f : EngineFault) → Clauses old new (Err f) → FaultHolds L s f
-  fault_of L language engine.DiskFault k = tt
-  fault_of L language engine.NotAJournal k =
+  fault_of : (f : EngineFault) → Clauses old new (Err f) → FaultHolds the_language s f
+  fault_of engine.DiskFault k = tt
+  fault_of engine.NotAJournal k =
       let why = subst (λ f. (5 ≤ length f) × (take 4 f ≢ magic)) found (k.not_a_journal refl) in
-      ((resume_uses s line, why.0, why.1), passed_magic L s)
-  fault_of L language (engine.NotAHistory n) k =
-      let why = subst (λ f. (history L (records f) ≡ Err n) × (records f ≢ []) × (take 4 f ≡ magic)) found (k.not_a_history L language n refl) in
-      ((line, why.0), passed_history L s n (no_magic s (inr why.2)) (not_started_by_resume s line) (λ no. why.1 no.1))
-  fault_of L language engine.AlreadyStarted k = absurd (none k.only)
+      ((resume_uses s line, why.0, why.1), passed_magic the_language s)
+  fault_of (engine.NotAHistory n) k =
+      let why = subst (λ f. (history the_language (records f) ≡ Err n) × (records f ≢ []) × (take 4 f ≡ magic)) found (k.not_a_history n refl) in
+      ((line, why.0), passed_history the_language s n (no_magic s (inr why.2)) (not_started_by_resume s line) (λ no. why.1 no.1))
+  fault_of engine.AlreadyStarted k = absurd (none k.only)
     where
       none : (engine.AlreadyStarted ≡ engine.DiskFault) ⊎ (engine.AlreadyStarted ≡ engine.NotAJournal) ⊎ (engine.AlreadyStarted ≡ engine.NotStarted) ⊎ ((n : ℕ) × (engine.AlreadyStarted ≡ engine.NotAHistory n)) ⊎ (engine.AlreadyStarted ≡ engine.OutOfMemory) → ⊥
       none (inl is) = cc is
@@ -170,19 +170,19 @@ module _ (s : Scene) (old new : World) (line : IsLineOf s (λ c. c ≡ Resume)) 
       none (inr (inr (inl is))) = cc is
       none (inr (inr (inr (inl (n, is))))) = cc is
       none (inr (inr (inr (inr is)))) = cc is
-  fault_of L language engine.NotStarted k =
+  fault_of engine.NotStarted k =
       let why = subst (λ f. (records f ≡ []) × MayBegin f) found (k.not_started refl) in
-      ((line, why.0), passed_not_started L s (no_magic s why.1) (not_started_by_resume s line))
-  fault_of L language engine.Closed k = tt
-  fault_of L language engine.OutOfMemory k = tt
+      ((line, why.0), passed_not_started the_language s (no_magic s why.1) (not_started_by_resume s line))
+  fault_of engine.Closed k = tt
+  fault_of engine.OutOfMemory k = tt
 
-  opened_if : (L : Language) → IsTheLanguage L → (r : Result Engine EngineFault) (done : List Deed) → new.deeds ≡ old.deeds ++ done → Clauses old new r → IfOk r (IsOpened L kept.Resume s done new)
-  opened_if L language (Ok e) done deeds k = opened_of L language e done deeds k
-  opened_if L language (Err f) done deeds k = tt
+  opened_if : (r : Result Engine EngineFault) (done : List Deed) → new.deeds ≡ old.deeds ++ done → Clauses old new r → IfOk r (IsOpened the_language kept.Resume s done new)
+  opened_if (Ok e) done deeds k = opened_of e done deeds k
+  opened_if (Err f) done deeds k = tt
 
-  fault_if : (L : Language) → IsTheLanguage L → (r : Result Engine EngineFault) → Clauses old new r → IfErr r (FaultHolds L s)
-  fault_if L language (Ok e) k = tt
-  fault_if L language (Err f) k = fault_of L language f k
+  fault_if : (r : Result Engine EngineFault) → Clauses old new r → IfErr r (FaultHolds the_language s)
+  fault_if (Ok e) k = tt
+  fault_if (Err f) k = fault_of f k
 
   pub opening_by_resume : (r : Result Engine EngineFault) → Clauses old new r → Opening kept.Resume s old new r
   opening_by_resume r k =
@@ -190,10 +190,10 @@ module _ (s : Scene) (old new : World) (line : IsLineOf s (λ c. c ≡ Resume)) 
       let unwritten : Unwritten old new = (weaker old new (OpeningMoment old) (λ c d. old.may_leave c) k.any_moment (λ c d now. now.0), k.seen) in
       record {
         little = little;
-        safe = λ L language fit O. weaker old new (OpeningMoment old) (SafeAt L O the_reports s None old) k.any_moment (λ c d now. moment_safe L O c d now);
-        opened = λ L language. opened_if L language r little.done little.deeds k;
-        fault = λ L language. fault_if L language r k;
-        refused = λ L language why. unwritten;
+        safe = λ fit O. weaker old new (OpeningMoment old) (SafeAt the_language O the_reports s None old) k.any_moment (λ c d now. moment_safe the_language O c d now);
+        opened = opened_if r little.done little.deeds k;
+        fault = fault_if r k;
+        refused = λ why. unwritten;
         resumed = λ is. unwritten;
-        finished = λ L language st line2 is ended. k.finished L language st (subst (λ f. history L (records f) ≡ Ok st) (sym found) is) ended;
+        finished = λ st line2 is ended. k.finished st (subst (λ f. history the_language (records f) ≡ Ok st) (sym found) is) ended;
       }

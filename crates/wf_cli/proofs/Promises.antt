@@ -1,14 +1,13 @@
 -- What the top call promises of a call, all together.
 use Rattle.std.proofs.Common.{◌≡◌, ◌≤◌, ℕ, Result, ◌∙◌}
 use Rattle.wf_cli.proofs.Finish.{ends, safe_throughout, safe_at_end, finished_stays, refused_stays, reports_stay}
-use Rattle.wf_cli.proofs.Freed.{not_a_journal_row, already_started_row, not_started_row}
-use Rattle.wf_cli.proofs.Rows.{bad_line_row, read_fault_row, refused_row, disk_fault_row, not_a_history_row, outcome_row, done_row, print_fault_row, only_these, own_status}
+use Rattle.wf_cli.proofs.Rows.{bad_line_row, read_fault_row, refused_row, disk_fault_row, not_a_journal_row, already_started_row, not_started_row, not_a_history_row, outcome_row, done_row, comes_back_row, print_fault_row, only_these, own_status}
 use Rattle.wf_cli.specs.Said.{IsEnd, Worked, Tells, Printing, text_of}
-use Rattle.wf_cli.specs.Top.{Call, Ends, BadLineRow, ReadFaultRow, RefusedRow, DiskFaultRow, NotAJournalRow, AlreadyStartedRow, NotStartedRow, NotAHistoryRow, OutcomeRow, DoneRow, PrintFaultRow, OnlyThese, FinishedStays, RefusedStays, ReportsStay, SafeThroughout, SafeAtEnd}
+use Rattle.wf_cli.specs.Top.{Call, Ends, BadLineRow, ReadFaultRow, RefusedRow, DiskFaultRow, NotAJournalRow, AlreadyStartedRow, NotStartedRow, NotAHistoryRow, OutcomeRow, DoneRow, ComesBackRow, PrintFaultRow, OnlyThese, FinishedStays, RefusedStays, ReportsStay, SafeThroughout, SafeAtEnd}
 use Rattle.wf_cli.specs.declared.end.Said.{Said}
 use Rattle.wf_cli.specs.declared.end.Silence.{Silence}
-use Rattle.wf_engine.specs.Laws.{LanguageIsThere, OnlyReadings}
-use Rattle.wf_engine.specs.TheLanguage.{InTheLanguage}
+use Rattle.wf_deeds.specs.Laws.{OnlyReadings}
+use Rattle.wf_engine.specs.TheLanguage.{the_language}
 use Rattle.wf_host.specs.Moments.{CountsNow}
 use Rattle.wf_host.specs.World.{World, Faults, Told, NoneFell}
 use Rattle.wf_source.specs.Laws.{OneRefusal}
@@ -22,22 +21,23 @@ pub record Promised (x : Call) : Type 0 where
   pub not_a_journal : Told x.old (NotAJournalRow x)
   pub already_started : Told x.old (AlreadyStartedRow x)
   pub not_started : Told x.old (NotStartedRow x)
-  pub not_a_history : InTheLanguage (λ L. Told x.old (NotAHistoryRow L x))
-  pub outcome : InTheLanguage (λ L. Told x.old (OutcomeRow L x))
+  pub not_a_history : Told x.old (NotAHistoryRow the_language x)
+  pub outcome : Told x.old (OutcomeRow the_language x)
   pub done : DoneRow x
+  pub comes_back : ComesBackRow x
   pub print_fault : PrintFaultRow x
   pub only : OnlyThese x
-  pub finished_stays : InTheLanguage (λ L. Told x.old (FinishedStays L x))
-  pub refused_stays : InTheLanguage (λ L. Told x.old (RefusedStays L x))
+  pub finished_stays : Told x.old (FinishedStays the_language x)
+  pub refused_stays : Told x.old (RefusedStays the_language x)
   pub reports_stay : Told x.old (ReportsStay x)
-  pub safe : InTheLanguage (λ L. Told x.old (SafeThroughout L x))
-  pub safe_end : InTheLanguage (λ L. Told x.old (SafeAtEnd L x))
+  pub safe : Told x.old (SafeThroughout the_language x)
+  pub safe_end : Told x.old (SafeAtEnd the_language x)
 
 -- from the work of the command and the printing of what it says
 pub promised : (x : Call) (mid : World) (reads2 : ℕ) (faults2 : Faults) (r : Result Said Silence) → IsEnd x.scene x.old mid x.reads_old reads2 x.faults_old faults2 r → Told x.old (Worked x.scene x.old mid r)
     → Tells r mid x.new faults2 x.faults_new x.status → Told mid (Printing (text_of r) mid x.new) → mid.tells ≡ x.old.tells → reads2 ≤ x.reads_new → NoneFell x.faults_old faults2 → NoneFell faults2 x.faults_new
-    → Told x.old (CountsNow mid) → Told x.old (CountsNow x.new) → OnlyReadings → OneRefusal → LanguageIsThere → Promised x
-promised x mid reads2 faults2 r is worked tells printing same reads before after counts_mid counts_new law once there =
+    → Told x.old (CountsNow mid) → Told x.old (CountsNow x.new) → OnlyReadings → OneRefusal → Promised x
+promised x mid reads2 faults2 r is worked tells printing same reads before after counts_mid counts_new law once =
     let all : Ends x = ends x mid reads2 faults2 same r is (λ told. (worked told).little) tells (λ told. (printing (same ∙ told)).seen) reads before after in
     record {
       ends = all;
@@ -45,17 +45,18 @@ promised x mid reads2 faults2 r is worked tells printing same reads before after
       read_fault = read_fault_row x all;
       refused = refused_row once x all;
       disk_fault = disk_fault_row x all;
-      not_a_journal = λ told. not_a_journal_row there x told all;
-      already_started = λ told. already_started_row there x told all;
-      not_started = λ told. not_started_row there x told all;
-      not_a_history = λ L language told. not_a_history_row L language x told all;
-      outcome = λ L language told. outcome_row L language x told all;
+      not_a_journal = λ told. not_a_journal_row x told all;
+      already_started = λ told. already_started_row x told all;
+      not_started = λ told. not_started_row x told all;
+      not_a_history = λ told. not_a_history_row x told all;
+      outcome = λ told. outcome_row x told all;
       done = done_row x all;
+      comes_back = comes_back_row x all;
       print_fault = print_fault_row x all;
       only = only_these x all;
-      finished_stays = λ L language told. finished_stays x mid r (worked told) (printing (same ∙ told)) (counts_mid told) (counts_new told) law L language;
-      refused_stays = λ L language told. refused_stays x mid r (worked told) (printing (same ∙ told)) (counts_mid told) (counts_new told) law L language;
+      finished_stays = λ told. finished_stays x mid r (worked told) (printing (same ∙ told)) (counts_mid told) (counts_new told) law;
+      refused_stays = λ told. refused_stays x mid r (worked told) (printing (same ∙ told)) (counts_mid told) (counts_new told) law;
       reports_stay = λ told. reports_stay x mid r (worked told) (printing (same ∙ told)) (counts_mid told) (counts_new told) law;
-      safe = λ L language told. safe_throughout x mid r (worked told) (printing (same ∙ told)) (counts_mid told) (counts_new told) law L language;
-      safe_end = λ L language told. safe_at_end x mid r (worked told) (printing (same ∙ told)) (counts_mid told) (counts_new told) law (own_status x all) L language;
+      safe = λ told. safe_throughout x mid r (worked told) (printing (same ∙ told)) (counts_mid told) (counts_new told) law;
+      safe_end = λ told. safe_at_end x mid r (worked told) (printing (same ∙ told)) (counts_mid told) (counts_new told) law (own_status x all);
     }

@@ -1,14 +1,15 @@
 -- The rows of the statuses, each from how the call ended.
 use Rattle.std.proofs.Common.{◌≡◌, ◌<◌, ◌⊎◌, inl, inr, ⊎_elim, IsTrue, ℕ, Bool, true, false, List, ◌++◌, None, Some, refl, sym, ◌∙◌, ap, subst, arith}
 use Rattle.std.specs.Prelude.{codes, decimal}
-use Rattle.wf_cli.proofs.Causes.{same_ok, same_some, no_bad_line, executing, reported_line, Cause, says_cause, says_text, EarlyCause, says_early, text_early, not_said}
-use Rattle.wf_cli.proofs.Together.{IsOrBefore, where_bad_line, where_told, when_told, where_refused, where_no_history}
-use Rattle.wf_cli.specs.Top.{Call, IsLineOf, IsRefused, HasOutcome, Reported, Gives, IsAccepted, IsOfFile, Says, bad_line, refused, reported, of_file, Ends, said, cut, unread, failed, no_memory, Prints, IsOrYields, BadLineRow, ReadFaultRow, RefusedRow, DiskFaultRow, NotAHistoryRow, OutcomeRow, DoneRow, PrintFaultRow, OnlyThese}
+use Rattle.wf_cli.proofs.Causes.{same_ok, same_some, no_bad_line, executing, journal_executes, format_reports, line_is, run_executes, resume_executes, reported_line, Cause, says_cause, says_text, EarlyCause, says_early, text_early, not_said}
+use Rattle.wf_cli.proofs.Together.{IsOrBefore, where_bad_line, where_told, when_told, where_refused, where_of_file, where_no_history, at_magic, at_started, at_not_started}
+use Rattle.wf_cli.specs.Top.{Call, IsLineOf, IsRefused, HasOutcome, Reported, Gives, IsAccepted, IsOfFile, ComesBack, Says, bad_line, refused, reported, of_file, Ends, said, cut, unread, failed, no_memory, Prints, IsOrYields, Exactly, BadLineRow, ReadFaultRow, RefusedRow, DiskFaultRow, NotAJournalRow, AlreadyStartedRow, NotStartedRow, NotAHistoryRow, OutcomeRow, DoneRow, ComesBackRow, PrintFaultRow, OnlyThese}
 use Rattle.wf_engine.specs.Printed as end
-use Rattle.wf_engine.specs.Printed.{Scene, uses_source, executes, status_of, outcome_text}
-use Rattle.wf_engine.specs.TheLanguage.{IsTheLanguage}
+use Rattle.wf_engine.specs.Printed.{Scene, uses_source, uses_journal, executes, status_of, outcome_text}
+use Rattle.wf_engine.specs.TheLanguage.{the_language}
 use Rattle.wf_host.specs.World.{World}
 use Rattle.wf_journal.specs.Records.{records}
+use Rattle.wf_line.specs.declared.command.Command.TheVariants.{Format}
 use Rattle.wf_model.specs.Config.{Outcome, Active, Returned, Raised, Cancelled}
 use Rattle.wf_replay.specs.History.{Standing, history}
 use Rattle.wf_replay.specs.Language.{Language}
@@ -18,6 +19,8 @@ use Rattle.wf_status.specs.Statuses.{line_end, rank, status_text}
 use Rattle.wf_status.specs.declared.Refusal.{Refusal}
 use Rattle.wf_status.specs.declared.Status.{Status}
 use Rattle.wf_status.specs.declared.Status.TheVariants as status
+use Rattle.wf_tree.specs.Trees.{Tree}
+use Rattle.wf_yaml_write.specs.Layout.{written}
 
 -- ## What a status has
 -- a status that comes with each end, unless an earlier cause came
@@ -37,12 +40,12 @@ pub no_text : (st other : Status) (line : List ℕ) → IsTexted st line → st 
 no_text st other line texted is none = let no : Some line ≡ None = sym texted ∙ ap status_text is ∙ none in cc no
 
 -- comes with its cause where the host tells
-cause_told : (L : Language) → IsTheLanguage L → (x : Call) (line : List ℕ) → IsTrue x.old.tells → Ends x → IsTexted x.status line → Cause L x.scene x.status
-cause_told L language x line told (said text says prints) texted = says_cause L language x.scene x.old x.new x.status text told says
-cause_told L language x line told (cut other text is says why some) texted = absurd (no_text x.status status.PrintFault line texted is refl)
-cause_told L language x line told (unread is rline rose prints) texted = absurd (no_text x.status status.ReadFault line texted is refl)
-cause_told L language x line told (failed is rline accepted rose prints) texted = absurd (no_text x.status status.DiskFault line texted is refl)
-cause_told L language x line told (no_memory is prints) texted = absurd (no_text x.status status.OutOfMemory line texted is refl)
+cause_told : (x : Call) (line : List ℕ) → IsTrue x.old.tells → Ends x → IsTexted x.status line → Cause the_language x.scene x.status
+cause_told x line told (said text says prints) texted = says_cause x.scene x.old x.new x.status text told says
+cause_told x line told (cut other text is says why some) texted = absurd (no_text x.status status.PrintFault line texted is refl)
+cause_told x line told (unread is rline rose prints) texted = absurd (no_text x.status status.ReadFault line texted is refl)
+cause_told x line told (failed is rline accepted rose prints) texted = absurd (no_text x.status status.DiskFault line texted is refl)
+cause_told x line told (no_memory is prints) texted = absurd (no_text x.status status.OutOfMemory line texted is refl)
 
 -- and one of the words or of the source in any case
 cause_early : (x : Call) (line : List ℕ) → rank x.status < 5 → Ends x → IsTexted x.status line → EarlyCause x.scene x.status
@@ -53,12 +56,12 @@ cause_early x line low (failed is rline accepted rose prints) texted = absurd (n
 cause_early x line low (no_memory is prints) texted = absurd (no_text x.status status.OutOfMemory line texted is refl)
 
 -- and then just its line is printed
-line_printed : (L : Language) → IsTheLanguage L → (x : Call) (line : List ℕ) → Ends x → IsTexted x.status line → Prints x line
-line_printed L language x line (said text says prints) texted = λ told. subst (λ t. Prints x t) (says_text L language x.scene x.old x.new x.status text line told says texted) prints told
-line_printed L language x line (cut other text is says why some) texted = absurd (no_text x.status status.PrintFault line texted is refl)
-line_printed L language x line (unread is rline rose prints) texted = absurd (no_text x.status status.ReadFault line texted is refl)
-line_printed L language x line (failed is rline accepted rose prints) texted = absurd (no_text x.status status.DiskFault line texted is refl)
-line_printed L language x line (no_memory is prints) texted = absurd (no_text x.status status.OutOfMemory line texted is refl)
+line_printed : (x : Call) (line : List ℕ) → Ends x → IsTexted x.status line → Prints x line
+line_printed x line (said text says prints) texted = λ told. subst (λ t. Prints x t) (says_text x.scene x.old x.new x.status text line told says texted) prints told
+line_printed x line (cut other text is says why some) texted = absurd (no_text x.status status.PrintFault line texted is refl)
+line_printed x line (unread is rline rose prints) texted = absurd (no_text x.status status.ReadFault line texted is refl)
+line_printed x line (failed is rline accepted rose prints) texted = absurd (no_text x.status status.DiskFault line texted is refl)
+line_printed x line (no_memory is prints) texted = absurd (no_text x.status status.OutOfMemory line texted is refl)
 
 -- in any case where it is of the words or of the source
 line_early : (x : Call) (line : List ℕ) → rank x.status < 5 → Ends x → IsTexted x.status line → Prints x line
@@ -94,15 +97,34 @@ refused_row law x ends =
       prints = λ is. line_early x line (subst (λ s. rank s < 5) (sym is) (omega arith)) ends (texted_as x (status.Refused r) line refl is);
     })
 
-pub not_a_history_row : (L : Language) → IsTheLanguage L → (x : Call) → IsTrue x.old.tells → Ends x → NotAHistoryRow L x
-not_a_history_row L language x told ends n =
-    let st = status.NotAHistory n in
-    let line = line_end (codes "not a history at record " ++ decimal n) in
-    record {
-      comes = λ is. subst (Cause L x.scene) is (cause_told L language x line told ends (texted_as x st line refl is));
-      only = λ why. yields x st ends (λ other text says. where_no_history L language x.scene x.old x.new n other text told why says) (λ run. omega arith) (λ runs accepted. omega arith);
-      prints = λ is. line_printed L language x line ends (texted_as x st line refl is);
-    }
+-- of a status of the file
+file_row : (x : Call) (st : Status) (line : List ℕ) → IsTrue x.old.tells → Ends x → status_text st ≡ Some line → 4 < rank st
+    → ((other : Status) (text : List ℕ) → Cause the_language x.scene st → Says x.scene x.old x.new other text → IsOrBefore st other) → Exactly x st (Cause the_language x.scene st) line
+file_row x st line told ends texted low before = record {
+  comes = λ is. subst (Cause the_language x.scene) is (cause_told x line told ends (texted_as x st line texted is));
+  only = λ why. yields x st ends (λ other text says. before other text why says) (λ run. omega (arith, low)) (λ runs accepted. low);
+  prints = λ is. line_printed x line ends (texted_as x st line texted is);
+}
+
+pub not_a_journal_row : (x : Call) → IsTrue x.old.tells → Ends x → NotAJournalRow x
+not_a_journal_row x told ends =
+    file_row x status.NotAJournal _ told ends refl (omega arith) (λ other text why says.
+    let line = line_is x.scene (λ c. uses_journal c ≡ true) (λ c. executes c ≡ true) journal_executes why.0 in
+    where_of_file x.scene x.old x.new status.NotAJournal other text told (omega arith) line (λ q passed low. passed.magic low why) at_magic says)
+
+pub already_started_row : (x : Call) → IsTrue x.old.tells → Ends x → AlreadyStartedRow x
+already_started_row x told ends =
+    file_row x status.AlreadyStarted _ told ends refl (omega arith) (λ other text why says.
+    where_of_file x.scene x.old x.new status.AlreadyStarted other text told (omega arith) (run_executes x.scene why.0) (λ q passed low. passed.started low why) at_started says)
+
+pub not_started_row : (x : Call) → IsTrue x.old.tells → Ends x → NotStartedRow x
+not_started_row x told ends =
+    file_row x status.NotStarted _ told ends refl (omega arith) (λ other text why says.
+    where_of_file x.scene x.old x.new status.NotStarted other text told (omega arith) (resume_executes x.scene why.0) (λ q passed low. passed.not_started low why) at_not_started says)
+
+pub not_a_history_row : (x : Call) → IsTrue x.old.tells → Ends x → NotAHistoryRow the_language x
+not_a_history_row x told ends n =
+    file_row x (status.NotAHistory n) _ told ends refl (omega arith) (λ other text why says. where_no_history x.scene x.old x.new n other text told why says)
 
 -- ## Faults
 pub read_fault_row : (x : Call) → Ends x → ReadFaultRow x
@@ -136,7 +158,7 @@ is_own st = true
 own_of_said : (s : Scene) (old new : World) (st : Status) (text : List ℕ) → Says s old new st text → is_own st ≡ true
 own_of_said s old new _ _ (bad_line n bad) = refl
 own_of_said s old new _ _ (refused r why) = refl
-own_of_said s old new _ _ (reported text report) = refl
+own_of_said s old new _ _ (reported text report back) = refl
 own_of_said s old new _ _ (of_file st text (inl is) line accepted gives) = ap is_own is
 own_of_said s old new _ _ (of_file st text (inr (inl is)) line accepted gives) = ap is_own is
 own_of_said s old new _ _ (of_file st text (inr (inr (inl is))) line accepted gives) = ap is_own is
@@ -199,22 +221,22 @@ outcome_of_gives L s image _ _ line (end.not_a_history n why) is = let no : fals
 outcome_of_gives L s image _ _ line (end.ended o st has which) is = (o, has, which, refl)
 outcome_of_gives L s image _ _ line (end.done text report) is = absurd (executing s line (reported_line s text report))
 
-outcome_of_says : (L : Language) → IsTheLanguage L → (s : Scene) (old new : World) (st : Status) (text : List ℕ) → IsTrue old.tells → IsLineOf s (λ c. executes c ≡ true) → Says s old new st text → is_outcome st ≡ true
-    → (o : Outcome) × HasOutcome L s new.seen o × (status_of o ≡ Some st) × (text ≡ outcome_text o)
-outcome_of_says L language s old new _ _ told line (bad_line n bad) is = let no : false ≡ true = is in absurd (cc no)
-outcome_of_says L language s old new _ _ told line (refused r why) is = let no : false ≡ true = is in absurd (cc no)
-outcome_of_says L language s old new _ _ told line (reported text report) is = absurd (executing s line (reported_line s text report))
-outcome_of_says L language s old new _ _ told line (of_file st text isf line2 accepted gives) is = outcome_of_gives L s new.seen st text line (gives told L language).0 is
+outcome_of_says : (s : Scene) (old new : World) (st : Status) (text : List ℕ) → IsTrue old.tells → IsLineOf s (λ c. executes c ≡ true) → Says s old new st text → is_outcome st ≡ true
+    → (o : Outcome) × HasOutcome the_language s new.seen o × (status_of o ≡ Some st) × (text ≡ outcome_text o)
+outcome_of_says s old new _ _ told line (bad_line n bad) is = let no : false ≡ true = is in absurd (cc no)
+outcome_of_says s old new _ _ told line (refused r why) is = let no : false ≡ true = is in absurd (cc no)
+outcome_of_says s old new _ _ told line (reported text report back) is = absurd (executing s line (reported_line s text report))
+outcome_of_says s old new _ _ told line (of_file st text isf line2 accepted gives) is = outcome_of_gives the_language s new.seen st text line (gives told).0 is
 
-outcome_comes : (L : Language) → IsTheLanguage L → (x : Call) → IsTrue x.old.tells → Ends x → IsLineOf x.scene (λ c. executes c ≡ true) → is_outcome x.status ≡ true
-    → (o : Outcome) × HasOutcome L x.scene x.new.seen o × (status_of o ≡ Some x.status) × Prints x (outcome_text o)
-outcome_comes L language x told (said text says prints) line is =
-    let it = outcome_of_says L language x.scene x.old x.new x.status text told line says is in
+outcome_comes : (x : Call) → IsTrue x.old.tells → Ends x → IsLineOf x.scene (λ c. executes c ≡ true) → is_outcome x.status ≡ true
+    → (o : Outcome) × HasOutcome the_language x.scene x.new.seen o × (status_of o ≡ Some x.status) × Prints x (outcome_text o)
+outcome_comes x told (said text says prints) line is =
+    let it = outcome_of_says x.scene x.old x.new x.status text told line says is in
     (it.0, it.1, it.2, subst (λ t. Prints x t) it.3 prints)
-outcome_comes L language x told (cut other text it says why some) line is = let no : false ≡ true = sym (ap is_outcome it) ∙ is in absurd (cc no)
-outcome_comes L language x told (unread it rline rose prints) line is = let no : false ≡ true = sym (ap is_outcome it) ∙ is in absurd (cc no)
-outcome_comes L language x told (failed it rline accepted rose prints) line is = let no : false ≡ true = sym (ap is_outcome it) ∙ is in absurd (cc no)
-outcome_comes L language x told (no_memory it prints) line is = let no : false ≡ true = sym (ap is_outcome it) ∙ is in absurd (cc no)
+outcome_comes x told (cut other text it says why some) line is = let no : false ≡ true = sym (ap is_outcome it) ∙ is in absurd (cc no)
+outcome_comes x told (unread it rline rose prints) line is = let no : false ≡ true = sym (ap is_outcome it) ∙ is in absurd (cc no)
+outcome_comes x told (failed it rline accepted rose prints) line is = let no : false ≡ true = sym (ap is_outcome it) ∙ is in absurd (cc no)
+outcome_comes x told (no_memory it prints) line is = let no : false ≡ true = sym (ap is_outcome it) ∙ is in absurd (cc no)
 
 -- one outcome of the records, and one status of it
 one_status : (L : Language) (s : Scene) (image : List ℕ) (o p : Outcome) (st other : Status) → HasOutcome L s image o → HasOutcome L s image p → status_of o ≡ Some st → status_of p ≡ Some other → other ≡ st
@@ -230,27 +252,27 @@ low_or_outcome other st (inr (inr (inr (inl (n, is))))) equal = inl (let r = ap 
 low_or_outcome other st (inr (inr (inr (inr (inl is))))) equal = inr (ap is_outcome is)
 low_or_outcome other st (inr (inr (inr (inr (inr is))))) equal = inr (ap is_outcome is)
 
-where_outcome : (L : Language) → IsTheLanguage L → (s : Scene) (old new : World) (o : Outcome) (st other : Status) (text : List ℕ) → IsTrue old.tells → status_of o ≡ Some st → HasOutcome L s new.seen o → Says s old new other text → IsOrBefore st other
-where_outcome L language s old new o st _ _ told which has (bad_line n bad) = inr (let r = outcome_rank st (outcome_status o st which) in omega (arith, r))
-where_outcome L language s old new o st _ _ told which has (refused q why) = inr (let r = outcome_rank st (outcome_status o st which) in omega (arith, r))
-where_outcome L language s old new o st _ _ told which has (reported text report) = absurd (executing s has.0 (reported_line s text report))
-where_outcome L language s old new o st _ _ told which has (of_file other text is line accepted gives) =
+where_outcome : (s : Scene) (old new : World) (o : Outcome) (st other : Status) (text : List ℕ) → IsTrue old.tells → status_of o ≡ Some st → HasOutcome the_language s new.seen o → Says s old new other text → IsOrBefore st other
+where_outcome s old new o st _ _ told which has (bad_line n bad) = inr (let r = outcome_rank st (outcome_status o st which) in omega (arith, r))
+where_outcome s old new o st _ _ told which has (refused q why) = inr (let r = outcome_rank st (outcome_status o st which) in omega (arith, r))
+where_outcome s old new o st _ _ told which has (reported text report back) = absurd (executing s has.0 (reported_line s text report))
+where_outcome s old new o st _ _ told which has (of_file other text is line accepted gives) =
     ⊎_elim (λ low. inr low)
-    (λ ends. let it = outcome_of_gives L s new.seen other text line (gives told L language).0 ends in inl (one_status L s new.seen o it.0 st other has it.1 which it.2))
+    (λ ends. let it = outcome_of_gives the_language s new.seen other text line (gives told).0 ends in inl (one_status the_language s new.seen o it.0 st other has it.1 which it.2))
     (low_or_outcome other st is (outcome_rank st (outcome_status o st which)))
 
-pub outcome_row : (L : Language) → IsTheLanguage L → (x : Call) → IsTrue x.old.tells → Ends x → OutcomeRow L x
-outcome_row L language x told ends = record {
-  comes = λ line is. outcome_comes L language x told ends line (⊎_elim (λ done. ap is_outcome done) (λ raised. ap is_outcome raised) is);
+pub outcome_row : (x : Call) → IsTrue x.old.tells → Ends x → OutcomeRow the_language x
+outcome_row x told ends = record {
+  comes = λ line is. outcome_comes x told ends line (⊎_elim (λ done. ap is_outcome done) (λ raised. ap is_outcome raised) is);
   only = λ o st which has.
       let r = outcome_rank st (outcome_status o st which) in
-      yields x st ends (λ other text says. where_outcome L language x.scene x.old x.new o st other text told which has says) (λ run. omega (arith, r)) (λ runs accepted. omega (arith, r));
+      yields x st ends (λ other text says. where_outcome x.scene x.old x.new o st other text told which has says) (λ run. omega (arith, r)) (λ runs accepted. omega (arith, r));
 }
 
 report_of_says : (s : Scene) (old new : World) (st : Status) (text : List ℕ) → Says s old new st text → IsLineOf s (λ c. executes c ≡ false) → st ≡ status.Done → Reported s text
 report_of_says s old new _ _ (bad_line n bad) line is = absurd (cc is)
 report_of_says s old new _ _ (refused r why) line is = absurd (cc is)
-report_of_says s old new _ _ (reported text report) line is = report
+report_of_says s old new _ _ (reported text report back) line is = report
 report_of_says s old new _ _ (of_file st text isf line2 accepted gives) line is = absurd (executing s line2 line)
 
 done_comes : (x : Call) → Ends x → IsLineOf x.scene (λ c. executes c ≡ false) → x.status ≡ status.Done → (text : List ℕ) × Reported x.scene text × Prints x text
@@ -263,7 +285,7 @@ done_comes x (no_memory it prints) line is = let no : status.OutOfMemory ≡ sta
 where_reported : (s : Scene) (old new : World) (shown : List ℕ) (other : Status) (text : List ℕ) → Reported s shown → Says s old new other text → IsOrBefore status.Done other
 where_reported s old new shown _ _ report (bad_line n bad) = inr (omega arith)
 where_reported s old new shown _ _ report (refused q why) = inr (omega arith)
-where_reported s old new shown _ _ report (reported text report2) = inl refl
+where_reported s old new shown _ _ report (reported text report2 back) = inl refl
 where_reported s old new shown _ _ report (of_file st text is line accepted gives) = absurd (executing s line (reported_line s shown report))
 
 pub done_row : (x : Call) → Ends x → DoneRow x
@@ -271,3 +293,19 @@ done_row x ends = record {
   comes = λ line is. done_comes x ends line is;
   only = λ shown report. yields x status.Done ends (λ other text says. where_reported x.scene x.old x.new shown other text report says) (λ run. omega arith) (λ runs accepted. omega arith);
 }
+
+-- ## Layouts
+layout_of_says : (s : Scene) (old new : World) (st : Status) (text : List ℕ) → Says s old new st text → IsLineOf s (λ c. c ≡ Format) → st ≡ status.Done → (t : Tree) × ComesBack s t × (text ≡ written t)
+layout_of_says s old new _ _ (bad_line n bad) line is = absurd (cc is)
+layout_of_says s old new _ _ (refused r why) line is = absurd (cc is)
+layout_of_says s old new _ _ (reported text report back) line is = back line
+layout_of_says s old new _ _ (of_file st text isf line2 accepted gives) line is = absurd (executing s line2 (format_reports s line))
+
+pub comes_back_row : (x : Call) → Ends x → ComesBackRow x
+comes_back_row x (said text says prints) line is =
+    let it = layout_of_says x.scene x.old x.new x.status text says line is in
+    (it.0, it.1, subst (λ t. Prints x t) it.2 prints)
+comes_back_row x (cut other text it says why some) line is = let no : status.PrintFault ≡ status.Done = sym it ∙ is in absurd (cc no)
+comes_back_row x (unread it rline rose prints) line is = let no : status.ReadFault ≡ status.Done = sym it ∙ is in absurd (cc no)
+comes_back_row x (failed it rline accepted rose prints) line is = let no : status.DiskFault ≡ status.Done = sym it ∙ is in absurd (cc no)
+comes_back_row x (no_memory it prints) line is = let no : status.OutOfMemory ≡ status.Done = sym it ∙ is in absurd (cc no)

@@ -3,12 +3,12 @@ use Rattle.std.proofs.Common.{◌≡◌, ◌≤◌, ◌⊎◌, ◌≢◌, inl, i
 use Rattle.std.specs.List.{AllByRecursion}
 use Rattle.wf_cli.proofs.Deeds.{nows_behind, polls_behind, poll_readings_behind, starts_behind, printed_both, all_both, prints_small, all_at}
 use Rattle.wf_cli.specs.Top.{IsPrint}
-use Rattle.wf_engine.specs.Deeds.{nows, poll_readings, greatest, reading_by, starts_or_polls, printed}
-use Rattle.wf_engine.specs.Kept.{Command, Session, ReadingsAreOfTheClock, own}
-use Rattle.wf_engine.specs.Laws.{OnlyReadings}
-use Rattle.wf_engine.specs.Outside.{Outside}
+use Rattle.wf_deeds.specs.Deeds.{nows, poll_readings, greatest, reading_by, starts_or_polls, printed, IsSmall}
+use Rattle.wf_deeds.specs.Kept.{Command, Session, ReadingsAreOfTheClock, own}
+use Rattle.wf_deeds.specs.Laws.{OnlyReadings}
+use Rattle.wf_deeds.specs.Outside.{Outside}
 use Rattle.wf_engine.specs.Printed.{Scene, Reports, Reads, Gives}
-use Rattle.wf_engine.specs.Safe.{IsSmall, IsPrefix, session, StartIsOfTheLine, PrintedIsOutcome, Safe}
+use Rattle.wf_engine.specs.Safe.{IsPrefix, session, StartIsOfTheLine, PrintedIsOutcome, Safe}
 use Rattle.wf_engine.specs.Starts.{start_of}
 use Rattle.wf_events.specs.Records.{Started}
 use Rattle.wf_events.specs.Spelling.{record_bytes}
@@ -31,7 +31,7 @@ no_start (Drop k) small is = small
 no_start (Print b) small is = let no : false ≡ true = is in cc no
 
 abbrev pub of_command : List (List ℕ) → ℕ → List Deed → Command → Option ℕ → Session
-of_command payloads number D command end = record { payloads = payloads; number = number; deeds = D; command = command; end = end }
+of_command payloads number D command end = record { payloads = payloads; number = number; deeds = D; command = command; end = end; handed = false }
 
 reading_behind : (last : ℕ) (D P : List Deed) (w : ℕ) → AllByRecursion IsPrint P → reading_by last (D ++ P) w ≡ reading_by last D w
 reading_behind last D P w prints =

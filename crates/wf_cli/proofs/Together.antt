@@ -3,10 +3,10 @@ use Rattle.std.proofs.Common.{◌≡◌, ◌<◌, ◌⊎◌, inl, inr, ⊎_elim,
 use Rattle.std.proofs.lemmas.Bool.{cases_lt}
 use Rattle.wf_cli.proofs.Causes.{same_ok, same_err, both, no_bad_line, executing, resume_executes, reported_line, refused_line, Cause, gives_cause}
 use Rattle.wf_cli.specs.Reports.{layout_of, the_reports}
-use Rattle.wf_cli.specs.Top.{IsLineOf, IsBadLine, IsRefused, IsNoHistory, Reported, Gives, IsOfFile, Says, bad_line, refused, reported, of_file}
+use Rattle.wf_cli.specs.Top.{IsLineOf, IsBadLine, IsRefused, IsNoHistory, Reported, Gives, IsOfFile, IsPassed, Says, bad_line, refused, reported, of_file}
 use Rattle.wf_engine.specs.Printed as end
 use Rattle.wf_engine.specs.Printed.{Scene, uses_journal, uses_source, executes, refuses}
-use Rattle.wf_engine.specs.TheLanguage.{IsTheLanguage}
+use Rattle.wf_engine.specs.TheLanguage.{the_language}
 use Rattle.wf_host.specs.Source.{Rest, IsFirst, WhereTold}
 use Rattle.wf_host.specs.World.{World}
 use Rattle.wf_journal.specs.Records.{records}
@@ -31,7 +31,7 @@ IsOrBefore st other = (other ≡ st) ⊎ (rank other < rank st)
 pub where_bad_line : (s : Scene) (old new : World) (n : ℕ) (other : Status) (text : List ℕ) → IsBadLine s n → Says s old new other text → IsOrBefore (status.BadLine n) other
 where_bad_line s old new n _ _ bad (bad_line m is) = inl (ap status.BadLine (same_err (line_of s.words) m n is bad))
 where_bad_line s old new n _ _ bad (refused r why) = absurd (no_bad_line s (λ c. uses_source c ≡ true) n (refused_line s r why) bad)
-where_bad_line s old new n _ _ bad (reported text report) = absurd (no_bad_line s (λ c. executes c ≡ false) n (reported_line s text report) bad)
+where_bad_line s old new n _ _ bad (reported text report back) = absurd (no_bad_line s (λ c. executes c ≡ false) n (reported_line s text report) bad)
 where_bad_line s old new n _ _ bad (of_file st text is line accepted gives) = absurd (no_bad_line s (λ c. executes c ≡ true) n line bad)
 
 -- ## A source that is refused
@@ -86,7 +86,7 @@ refused_or_reported s left r _ told why (end.versioned line) = no_source s r Ver
 pub where_refused : OneRefusal → (s : Scene) (old new : World) (left : List ℕ) (r : Refusal) (other : Status) (text : List ℕ) → s.source ≡ Some left → IsRefused s r → Says s old new other text → IsOrBefore (status.Refused r) other
 where_refused law s old new left r _ _ told why (bad_line m is) = inr (omega arith)
 where_refused law s old new left r _ _ told why (refused q why2) = inl (ap status.Refused (one_refusal law s left q r told why2 why))
-where_refused law s old new left r _ _ told why (reported text report) = absurd (refused_or_reported s left r text told why report)
+where_refused law s old new left r _ _ told why (reported text report back) = absurd (refused_or_reported s left r text told why report)
 where_refused law s old new left r _ _ told why (of_file st text is line accepted gives) =
     absurd (when_told s.source left ((q : Refusal) → ¬ IsRefused s q) told accepted r why)
 
@@ -145,10 +145,18 @@ same_history L s image text n other why is gives equal =
     let why2 : IsNoHistory L s found.0 = subst (Cause L s) found.1 (gives_cause L s image other text gives) in
     found.1 ∙ ap status.NotAHistory (same_err (history L (records s.found)) found.0 n why2.1 why.1)
 
+-- where a cause of the file holds, and the host tells: nothing behind it comes, and no other status of its rank
+pub where_of_file : (s : Scene) (old new : World) (st other : Status) (text : List ℕ) → IsTrue old.tells → 4 < rank st → IsLineOf s (λ c. executes c ≡ true) → ((q : Status) → IsPassed the_language s q → rank st < rank q → ⊥)
+    → ((q : Status) → IsOfFile q → rank q ≡ rank st → q ≡ st) → Says s old new other text → IsOrBefore st other
+where_of_file s old new st _ _ told low line never alone (bad_line m is) = inr (omega (arith, low))
+where_of_file s old new st _ _ told low line never alone (refused q is) = inr (omega (arith, low))
+where_of_file s old new st _ _ told low line never alone (reported text report back) = absurd (executing s line (reported_line s text report))
+where_of_file s old new st _ _ told low line never alone (of_file other text is runs accepted gives) = ordered st other is (λ high. never other (gives told).1 high) (alone other is)
+
 -- where the records are no history, and the host tells
-pub where_no_history : (L : Language) → IsTheLanguage L → (s : Scene) (old new : World) (n : ℕ) (other : Status) (text : List ℕ) → IsTrue old.tells → IsNoHistory L s n → Says s old new other text → IsOrBefore (status.NotAHistory n) other
-where_no_history L language s old new n _ _ told why (bad_line m is) = inr (omega arith)
-where_no_history L language s old new n _ _ told why (refused q is) = inr (omega arith)
-where_no_history L language s old new n _ _ told why (reported text report) = absurd (executing s (resume_executes s why.0) (reported_line s text report))
-where_no_history L language s old new n _ _ told why (of_file other text is line accepted gives) =
-    ordered (status.NotAHistory n) other is (λ low. (gives told L language).1.history n low why) (same_history L s new.seen text n other why is (gives told L language).0)
+pub where_no_history : (s : Scene) (old new : World) (n : ℕ) (other : Status) (text : List ℕ) → IsTrue old.tells → IsNoHistory the_language s n → Says s old new other text → IsOrBefore (status.NotAHistory n) other
+where_no_history s old new n _ _ told why (bad_line m is) = inr (omega arith)
+where_no_history s old new n _ _ told why (refused q is) = inr (omega arith)
+where_no_history s old new n _ _ told why (reported text report back) = absurd (executing s (resume_executes s why.0) (reported_line s text report))
+where_no_history s old new n _ _ told why (of_file other text is line accepted gives) =
+    ordered (status.NotAHistory n) other is (λ low. (gives told).1.history n low why) (same_history the_language s new.seen text n other why is (gives told).0)

@@ -9,16 +9,16 @@ use Rattle.wf_cli.proofs.Moments.{early_nothing, late_going}
 use Rattle.wf_cli.proofs.Opens.{passed_all}
 use Rattle.wf_cli.specs.Reports.{layout_of, the_reports}
 use Rattle.wf_cli.specs.Said.{SaysStatus, SaysFault, SaysReport, SaysBadLine, SaysSource, SaysTree, SaysLayout, DidLittle, SafeSince, Unwritten, HasNoCause, FaultHolds, Opening, SaysResult, SaysHistory, Going, IsEnd, Worked}
-use Rattle.wf_cli.specs.Top.{IsLineOf, IsBadLine, IsRefused, HasOtherMagic, IsStarted, IsNotStarted, IsNoHistory, Reported, IsAccepted, IsOfFile, IsPassed, Gives, Says, bad_line, refused, reported, of_file}
+use Rattle.wf_cli.specs.Top.{IsLineOf, IsBadLine, IsRefused, HasOtherMagic, IsStarted, IsNotStarted, IsNoHistory, Reported, IsAccepted, IsOfFile, IsPassed, Gives, ReadsBack, Says, bad_line, refused, reported, of_file}
 use Rattle.wf_cli.specs.declared.end.Said.{Said}
 use Rattle.wf_cli.specs.declared.end.Silence.{Silence}
 use Rattle.wf_cli.specs.declared.end.Silence.TheVariants as silence
 use Rattle.wf_engine.specs.Engine.{memory, KeptAt}
-use Rattle.wf_engine.specs.Kept as kept
+use Rattle.wf_deeds.specs.Kept as kept
 use Rattle.wf_engine.specs.Printed as end
 use Rattle.wf_engine.specs.Printed.{Scene, uses_source, executes, status_of, outcome_text}
 use Rattle.wf_engine.specs.Safe.{SafeAt}
-use Rattle.wf_engine.specs.TheLanguage.{InTheLanguage, IsTheLanguage}
+use Rattle.wf_engine.specs.TheLanguage.{the_language}
 use Rattle.wf_engine.specs.declared.engine.Engine.{Engine}
 use Rattle.wf_engine.specs.declared.fault.EngineFault.{EngineFault}
 use Rattle.wf_engine.specs.declared.fault.EngineFault.TheVariants as engine
@@ -60,26 +60,26 @@ gives_line L s image st line it gives is that = subst (λ t. Gives L s image it.
 
 -- ## A command that touches no file
 -- it did nothing
-nothing_done : (s : Scene) (w : World) → ((c : List ℕ) (d : List Deed) → w.left_since w.moment c d → w.may_leave c × (d ≡ w.deeds)) → InTheLanguage (λ L. SafeSince L s w w)
-nothing_done s w only L language fit O = started w (SafeAt L O the_reports s None w) only (λ c may. early_nothing L O s w c w.deeds may refl)
+nothing_done : (s : Scene) (w : World) → ((c : List ℕ) (d : List Deed) → w.left_since w.moment c d → w.may_leave c × (d ≡ w.deeds)) → SafeSince the_language s w w
+nothing_done s w only fit O = started w (SafeAt the_language O the_reports s None w) only (λ c may. early_nothing the_language O s w c w.deeds may refl)
 
 pub still_unwritten : (w : World) → ((c : List ℕ) (d : List Deed) → w.left_since w.moment c d → w.may_leave c × (d ≡ w.deeds)) → Unwritten w w
 still_unwritten w only = (started w (λ c d. w.may_leave c) only (λ c may. may), refl)
 
 pub worked_nothing : (s : Scene) (w : World) (r : Result Said Silence) (little : DidLittle w w) → ((c : List ℕ) (d : List Deed) → w.left_since w.moment c d → w.may_leave c × (d ≡ w.deeds))
-    → InTheLanguage (λ L. IfOk r (λ it. (image : List ℕ) → Gives L s image it.status it.text.items)) → Worked s w w r
+    → IfOk r (λ it. (image : List ℕ) → Gives the_language s image it.status it.text.items) → Worked s w w r
 worked_nothing s w r little only gives = record {
   little = little;
   safe = nothing_done s w only;
-  gives = λ L language. every L r (gives L language);
-  finished = λ L language st line is ended. (still_unwritten w only, refl);
-  refused = λ L language why. still_unwritten w only;
+  gives = every r gives;
+  finished = λ st line is ended. (still_unwritten w only, refl);
+  refused = λ why. still_unwritten w only;
   reports = λ line. still_unwritten w only;
 }
   where
-    every : (L : Language) (q : Result Said Silence) → IfOk q (λ it. (image : List ℕ) → Gives L s image it.status it.text.items) → IfOk q (λ it. (image : List ℕ) → w.may_leave image → Gives L s image it.status it.text.items)
-    every L (Ok it) gives = λ image may. gives image
-    every L (Err e) gives = tt
+    every : (q : Result Said Silence) → IfOk q (λ it. (image : List ℕ) → Gives the_language s image it.status it.text.items) → IfOk q (λ it. (image : List ℕ) → w.may_leave image → Gives the_language s image it.status it.text.items)
+    every (Ok it) gives = λ image may. gives image
+    every (Err e) gives = tt
 
 -- words that are no line
 pub gives_bad_line : (L : Language) (s : Scene) (n : ℕ) (r : Result Said Silence) → IsBadLine s n → IfOk r (SaysStatus (status.BadLine n)) → IfOk r (λ it. (image : List ℕ) → Gives L s image it.status it.text.items)
@@ -100,8 +100,8 @@ end_refused s old new a b f g why it is says = says_line s old new (status.Refus
 pub gives_report : (L : Language) (s : Scene) (text : List ℕ) (it : Said) → Reported s text → (it.status ≡ status.Done) × (it.text.items ≡ text) → (image : List ℕ) → Gives L s image it.status it.text.items
 gives_report L s text it report says = λ image. subst (λ t. Gives L s image it.status t) (sym says.1) (subst (λ x. Gives L s image x text) (sym says.0) (end.done text report))
 
-pub end_report : (s : Scene) (old new : World) (a b : ℕ) (f g : Faults) (text : List ℕ) (it : Said) → Reported s text → (it.status ≡ status.Done) × (it.text.items ≡ text) → IsEnd s old new a b f g (Ok it)
-end_report s old new a b f g text it report says = subst (λ t. Says s old new it.status t) (sym says.1) (subst (λ x. Says s old new x text) (sym says.0) (reported text report))
+pub end_report : (s : Scene) (old new : World) (a b : ℕ) (f g : Faults) (text : List ℕ) (it : Said) → Reported s text → ReadsBack s text → (it.status ≡ status.Done) × (it.text.items ≡ text) → IsEnd s old new a b f g (Ok it)
+end_report s old new a b f g text it report back says = subst (λ t. Says s old new it.status t) (sym says.1) (subst (λ x. Says s old new x text) (sym says.0) (reported text report back))
 
 -- ## A file that isn't opened
 -- the status and the line of a fault
@@ -144,10 +144,10 @@ fault_silence engine.NotStarted e says = inr says
 fault_silence engine.Closed e says = inr (err_is e silence.OutOfMemory says)
 fault_silence engine.OutOfMemory e says = inr (err_is e silence.OutOfMemory says)
 
-pub end_fault : (s : Scene) (old new : World) (a b : ℕ) (f g : Faults) (why : EngineFault) (r : Result Said Silence) → SaysFault why r → IsLineOf s (λ c. executes c ≡ true) → IsAccepted s → Told old (InTheLanguage (λ L. FaultHolds L s why))
+pub end_fault : (s : Scene) (old new : World) (a b : ℕ) (f g : Faults) (why : EngineFault) (r : Result Said Silence) → SaysFault why r → IsLineOf s (λ c. executes c ≡ true) → IsAccepted s → Told old (FaultHolds the_language s why)
     → (why ≡ engine.DiskFault → Rose f.disk g.disk) → IsEnd s old new a b f g r
 end_fault s old new a b f g why (Ok it) says line accepted holds rose =
-    of_file it.status it.text.items (fault_of_file why it says) line accepted (λ told L language. let x = fault_gives L s why it (holds told L language) says in (x.0 new.seen, x.1))
+    of_file it.status it.text.items (fault_of_file why it says) line accepted (λ told. let x = fault_gives the_language s why it (holds told) says in (x.0 new.seen, x.1))
 end_fault s old new a b f g why (Err e) says line accepted holds rose =
     ⊎_elim (λ disk. subst (λ x. IsEnd s old new a b f g (Err x)) (sym disk.1) (line, accepted, rose disk.0)) (λ lack. subst (λ x. IsEnd s old new a b f g (Err x)) (sym lack) tt) (fault_silence why e says)
 
@@ -156,15 +156,15 @@ pub worked_fault : (s : Scene) (command : kept.Command) (old new : World) (why :
 worked_fault s command old new why r o says line which = record {
   little = o.little;
   safe = o.safe;
-  gives = λ L language. given L language r says;
-  finished = λ L language st line2 is ended. (o.resumed (which line2), o.finished L language st line2 is ended);
+  gives = given r says;
+  finished = λ st line2 is ended. (o.resumed (which line2), o.finished st line2 is ended);
   refused = o.refused;
   reports = λ other. absurd (executing s line other);
 }
   where
-    given : (L : Language) → IsTheLanguage L → (q : Result Said Silence) → SaysFault why q → IfOk q (λ it. (image : List ℕ) → new.may_leave image → Gives L s image it.status it.text.items)
-    given L language (Ok it) says = λ image may. (fault_gives L s why it (o.fault L language) says).0 image
-    given L language (Err e) says = tt
+    given : (q : Result Said Silence) → SaysFault why q → IfOk q (λ it. (image : List ℕ) → new.may_leave image → Gives the_language s image it.status it.text.items)
+    given (Ok it) says = λ image may. (fault_gives the_language s why it o.fault says).0 image
+    given (Err e) says = tt
 
 -- ## The outcome
 -- a status that is said of an outcome is of the file
@@ -181,22 +181,22 @@ history_gives L s new it line says image may =
     (end.ended says.standing.config.outcome it.status (line, (says.standing, subst (λ f. history L (records f) ≡ Ok says.standing) (sym (says.settled image may)) says.history, refl)) says.says.status)
 
 module _ (s : Scene) (command : kept.Command) (old mid new : World) (e : Engine) (r : Result Said Silence) (line : IsLineOf s (λ c. executes c ≡ true)) (which : IsLineOf s (λ c. c ≡ Resume) → command ≡ kept.Resume) (found : old.seen ≡ s.found)
-    (counts : CountsNow mid) (o : Opening command s old mid (Ok e)) (g : InTheLanguage (λ L. Going L command (memory e) o.little.done mid new r)) (deeds : new.deeds ≡ mid.deeds) where
+    (counts : CountsNow mid) (o : Opening command s old mid (Ok e)) (g : Going the_language command (memory e) o.little.done mid new r) (deeds : new.deeds ≡ mid.deeds) where
   given : (L : Language) (q : Result Said Silence) → IfOk q (SaysHistory L new) → IfOk q (λ it. (image : List ℕ) → new.may_leave image → Gives L s image it.status it.text.items)
   given L (Ok it) says = history_gives L s new it line says
   given L (Err x) says = tt
 
-  no_cause : (L : Language) → IsTheLanguage L → HasOtherMagic s ⊎ IsStarted s ⊎ IsNotStarted s ⊎ ((n : ℕ) × IsNoHistory L s n) → ⊥
-  no_cause L language (inl why) = (o.opened L language).causes.magic why
-  no_cause L language (inr (inl why)) = (o.opened L language).causes.started why
-  no_cause L language (inr (inr (inl why))) = (o.opened L language).causes.not_started why
-  no_cause L language (inr (inr (inr (n, why)))) = (o.opened L language).causes.history n why
+  no_cause : HasOtherMagic s ⊎ IsStarted s ⊎ IsNotStarted s ⊎ ((n : ℕ) × IsNoHistory the_language s n) → ⊥
+  no_cause (inl why) = o.opened.causes.magic why
+  no_cause (inr (inl why)) = o.opened.causes.started why
+  no_cause (inr (inr (inl why))) = o.opened.causes.not_started why
+  no_cause (inr (inr (inr (n, why)))) = o.opened.causes.history n why
 
-  had_outcome : (L : Language) → IsTheLanguage L → (st : Standing) → history L (records s.found) ≡ Ok st → st.config.outcome ≢ Active → Unwritten old mid → (memory e).config.outcome ≢ Active
-  had_outcome L language st is ended stays active =
-      let leads = (o.opened L language).stands.leads in
-      let here : history L (records s.found) ≡ Ok leads.standing = subst (λ f. history L (records f) ≡ Ok leads.standing) (stays.1 ∙ found) leads.history in
-      let same : leads.standing ≡ st = same_ok (history L (records s.found)) leads.standing st here is in
+  had_outcome : (st : Standing) → history the_language (records s.found) ≡ Ok st → st.config.outcome ≢ Active → Unwritten old mid → (memory e).config.outcome ≢ Active
+  had_outcome st is ended stays active =
+      let leads = o.opened.stands.leads in
+      let here : history the_language (records s.found) ≡ Ok leads.standing = subst (λ f. history the_language (records f) ≡ Ok leads.standing) (stays.1 ∙ found) leads.history in
+      let same : leads.standing ≡ st = same_ok (history the_language (records s.found)) leads.standing st here is in
       ended (ap (λ (k : Standing). k.config.outcome) (sym same) ∙ ap (λ c. c.outcome) leads.config ∙ active)
 
   both_unwritten : Unwritten old mid → Unwritten mid new → Unwritten old new
@@ -208,21 +208,21 @@ module _ (s : Scene) (command : kept.Command) (old mid new : World) (e : Engine)
   pub worked_going : Worked s old new r
   worked_going = record {
     little = record { done = o.little.done; deeds = deeds ∙ o.little.deeds; small = o.little.small; silent = o.little.silent };
-    safe = λ L language fit O.
-        joined old mid new (SafeAt L O the_reports s None old) (Moment mid (KeptAt L command (memory e) (records mid.seen) o.little.done)) (o.safe L language fit O) (g L language).moments
-        (λ c d now. late_going L O s command old mid o.little.done e c d (o.opened L language) o.little.deeds o.little.silent now);
-    gives = λ L language. given L r (g L language).said;
-    finished = λ L language st line2 is ended.
+    safe = λ fit O.
+        joined old mid new (SafeAt the_language O the_reports s None old) (Moment mid (KeptAt the_language command (memory e) (records mid.seen) o.little.done)) (o.safe fit O) g.moments
+        (λ c d now. late_going the_language O s command old mid o.little.done e c d o.opened o.little.deeds o.little.silent now);
+    gives = given the_language r g.said;
+    finished = λ st line2 is ended.
         let stays = o.resumed (which line2) in
-        (both_unwritten stays ((g L language).finished (had_outcome L language st is ended stays)), deeds ∙ o.finished L language st line2 is ended);
-    refused = λ L language why. absurd (no_cause L language why);
+        (both_unwritten stays (g.finished (had_outcome st is ended stays)), deeds ∙ o.finished st line2 is ended);
+    refused = λ why. absurd (no_cause why);
     reports = λ other. absurd (executing s line other);
   }
 
 pub end_going : (s : Scene) (old new : World) (a b : ℕ) (f g h : Faults) (r : Result Said Silence) → SaysResult g h r → IsLineOf s (λ c. executes c ≡ true) → IsAccepted s
-    → Told old (InTheLanguage (λ L. HasNoCause L s × IfOk r (λ it. Gives L s new.seen it.status it.text.items))) → (Rose g.disk h.disk → Rose f.disk h.disk) → IsEnd s old new a b f h r
+    → Told old (HasNoCause the_language s × IfOk r (λ it. Gives the_language s new.seen it.status it.text.items)) → (Rose g.disk h.disk → Rose f.disk h.disk) → IsEnd s old new a b f h r
 end_going s old new a b f g h (Ok it) (o, result, says) line accepted gives rose =
-    of_file it.status it.text.items (outcome_of_file o it.status says.status) line accepted (λ told L language. let x = gives told L language in (x.1, passed_all L s it.status x.0))
+    of_file it.status it.text.items (outcome_of_file o it.status says.status) line accepted (λ told. let x = gives told in (x.1, passed_all the_language s it.status x.0))
 end_going s old new a b f g h (Err silence.Unread) says line accepted gives rose = absurd says
 end_going s old new a b f g h (Err silence.DiskFault) says line accepted gives rose = (line, accepted, rose says)
 end_going s old new a b f g h (Err silence.OutOfMemory) says line accepted gives rose = tt
@@ -238,15 +238,15 @@ lack_end : (s : Scene) (w : World) (a b : ℕ) (f g : Faults) (e : Silence) → 
 lack_end s w a b f g e is = subst (λ x. IsEnd s w w a b f g (Err x)) (sym is) tt
 
 lack_worked : (s : Scene) (w : World) (e : Silence) → OnlyNow w → Worked s w w (Err e)
-lack_worked s w e only = worked_nothing s w (Err e) (little_still w) only (λ L language. tt)
+lack_worked s w e only = worked_nothing s w (Err e) (little_still w) only tt
 
 -- a report
-pub report_end : (s : Scene) (w : World) (a b : ℕ) (f g : Faults) (text : List ℕ) (r : Result Said Silence) → Reported s text → SaysReport text r → IsEnd s w w a b f g r
-report_end s w a b f g text (Ok it) report says = end_report s w w a b f g text it report says
-report_end s w a b f g text (Err e) report says = lack_end s w a b f g e says
+pub report_end : (s : Scene) (w : World) (a b : ℕ) (f g : Faults) (text : List ℕ) (r : Result Said Silence) → Reported s text → ReadsBack s text → SaysReport text r → IsEnd s w w a b f g r
+report_end s w a b f g text (Ok it) report back says = end_report s w w a b f g text it report back says
+report_end s w a b f g text (Err e) report back says = lack_end s w a b f g e says
 
 pub report_worked : (s : Scene) (w : World) (text : List ℕ) (r : Result Said Silence) → Reported s text → SaysReport text r → OnlyNow w → Worked s w w r
-report_worked s w text (Ok it) report says only = worked_nothing s w (Ok it) (little_still w) only (λ L language. gives_report L s text it report says)
+report_worked s w text (Ok it) report says only = worked_nothing s w (Ok it) (little_still w) only (gives_report the_language s text it report says)
 report_worked s w text (Err e) report says only = lack_worked s w e only
 
 -- words that are no line
@@ -256,13 +256,13 @@ bad_line_end s w a b f g (words.BadLine n) (Err e) says bad = lack_end s w a b f
 bad_line_end s w a b f g words.OutOfMemory r says bad = subst (λ q. IsEnd s w w a b f g q) (sym says) tt
 
 pub bad_line_worked : (s : Scene) (w : World) (why : LineFault) (r : Result Said Silence) → SaysBadLine why r → ((n : ℕ) → why ≡ words.BadLine n → IsBadLine s n) → OnlyNow w → Worked s w w r
-bad_line_worked s w (words.BadLine n) (Ok it) says bad only = worked_nothing s w (Ok it) (little_still w) only (λ L language. gives_bad_line L s n (Ok it) (bad n refl) says)
+bad_line_worked s w (words.BadLine n) (Ok it) says bad only = worked_nothing s w (Ok it) (little_still w) only (gives_bad_line the_language s n (Ok it) (bad n refl) says)
 bad_line_worked s w (words.BadLine n) (Err e) says bad only = lack_worked s w e only
 bad_line_worked s w words.OutOfMemory r says bad only = subst (λ q. Worked s w w q) (sym says) (lack_worked s w silence.OutOfMemory only)
 
 -- a source that is refused, and one that isn't read
 pub refused_worked : (s : Scene) (w : World) (why : Refusal) (it : Said) → IsRefused s why → SaysStatus (status.Refused why) it → OnlyNow w → Worked s w w (Ok it)
-refused_worked s w why it is says only = worked_nothing s w (Ok it) (little_still w) only (λ L language. gives_refused L s why it is says)
+refused_worked s w why it is says only = worked_nothing s w (Ok it) (little_still w) only (gives_refused the_language s why it is says)
 
 pub silent_worked : (s : Scene) (w : World) (e : Silence) → OnlyNow w → Worked s w w (Err e)
 silent_worked s w e only = lack_worked s w e only
@@ -313,16 +313,17 @@ source_worked s l w bytes (source_fault.Refused why) (Err e) reads command tells
 source_worked s l w bytes source_fault.OutOfMemory r reads command tells says only = subst (λ q. Worked s w w q) (sym says) (lack_worked s w silence.OutOfMemory only)
 
 -- ## The layout of a source
--- what is said of a tree is a report, and what is said of a refusal a refusal
+-- what is said of a tree is a report from which the tree is read back, and what is said of a refusal a refusal
 tree_said : (s : Scene) (l : PlainLine) (bytes : List ℕ) (r : Result Tree Refusal) (it : Said) → end.Reads s l bytes → l.command ≡ Format → read_tree bytes ≡ r → SaysTree r it
-    → ((text : List ℕ) × Reported s text × ((it.status ≡ status.Done) × (it.text.items ≡ text))) ⊎ ((why : Refusal) × IsRefused s why × SaysStatus (status.Refused why) it)
+    → ((text : List ℕ) × Reported s text × ReadsBack s text × ((it.status ≡ status.Done) × (it.text.items ≡ text))) ⊎ ((why : Refusal) × IsRefused s why × SaysStatus (status.Refused why) it)
 unfolding the_reports
-tree_said s l bytes (Ok t) it reads command is says = inl (written t, end.formatted l bytes (written t) reads command (ap layout_of is), says)
+tree_said s l bytes (Ok t) it reads command is says =
+    inl (written t, end.formatted l bytes (written t) reads command (ap layout_of is), (λ line. (t, record { bytes = bytes; first = reads.2; tree = is; back = says.2 }, refl)), (says.0, says.1))
 tree_said s l bytes (Err why) it reads command is says = inr (why, (l, bytes, reads, subst (λ c. end.refuses c bytes why) (sym command) is), says)
 
 pub layout_end : (s : Scene) (l : PlainLine) (w : World) (a b : ℕ) (f g : Faults) (r : Result Said Silence) → line_of s.words ≡ Ok l → l.command ≡ Format → SaysLayout s.source a b r → IsEnd s w w a b f g r
 layout_end s l w a b f g (Ok it) is command (bytes, first, says) =
-    ⊎_elim (λ (text, report, that). end_report s w w a b f g text it report that) (λ (why, refuses, that). end_refused s w w a b f g why it refuses that)
+    ⊎_elim (λ (text, report, back, that). end_report s w w a b f g text it report back that) (λ (why, refuses, that). end_refused s w w a b f g why it refuses that)
     (tree_said s l bytes (read_tree bytes) it (is, ap uses_source command, first) command refl says)
 layout_end s l w a b f g (Err silence.Unread) is command rose = ((l, is, ap uses_source command), rose)
 layout_end s l w a b f g (Err silence.DiskFault) is command never = absurd never
@@ -330,9 +331,16 @@ layout_end s l w a b f g (Err silence.OutOfMemory) is command lacks = tt
 
 pub layout_worked : (s : Scene) (l : PlainLine) (w : World) (a b : ℕ) (r : Result Said Silence) → line_of s.words ≡ Ok l → l.command ≡ Format → SaysLayout s.source a b r → OnlyNow w → Worked s w w r
 layout_worked s l w a b (Ok it) is command (bytes, first, says) only =
-    ⊎_elim (λ (text, report, that). report_worked s w text (Ok it) report that only) (λ (why, refuses, that). refused_worked s w why it refuses that only)
+    ⊎_elim (λ (text, report, back, that). report_worked s w text (Ok it) report that only) (λ (why, refuses, that). refused_worked s w why it refuses that only)
     (tree_said s l bytes (read_tree bytes) it (is, ap uses_source command, first) command refl says)
 layout_worked s l w a b (Err e) is command says only = silent_worked s w e only
+
+-- a line that uses no source lays none out
+pub no_layout : (s : Scene) (l : PlainLine) (text : List ℕ) → line_of s.words ≡ Ok l → uses_source l.command ≡ false → ReadsBack s text
+no_layout s l text is none (m, js, format) =
+    let command : l.command ≡ Format = ap (λ (k : PlainLine). k.command) (same_ok (line_of s.words) l m is js) ∙ format in
+    let no : true ≡ false = sym (ap uses_source command) ∙ none in
+    absurd (cc no)
 
 -- a line that asks for a text of the program
 pub help_reported : (s : Scene) (l : PlainLine) (text : List ℕ) → line_of s.words ≡ Ok l → l.command ≡ Help → text ≡ help → Reported s text

@@ -6,15 +6,15 @@ use Rattle.wf_cli.specs.Top.{IsAccepted, IsLineOf, HasOtherMagic, IsStarted, IsN
 use Rattle.wf_cli.specs.declared.end.Said.{Said}
 use Rattle.wf_cli.specs.declared.end.Silence.{Silence}
 use Rattle.wf_cli.specs.declared.end.Silence.TheVariants as silence
-use Rattle.wf_engine.specs.Deeds.{printed, nows}
+use Rattle.wf_deeds.specs.Deeds.{printed, nows, IsSmall}
 use Rattle.wf_engine.specs.Engine.{Memory, memory, StandsFor, KeptAt}
-use Rattle.wf_engine.specs.Kept as kept
-use Rattle.wf_engine.specs.Outside.{Outside}
+use Rattle.wf_deeds.specs.Kept as kept
+use Rattle.wf_deeds.specs.Outside.{Outside}
 use Rattle.wf_engine.specs.Printed as end
 use Rattle.wf_engine.specs.Printed.{Scene, uses_source, executes, status_of, outcome_text}
-use Rattle.wf_engine.specs.Safe.{IsFit, IsSmall, SafeAt, command_by}
+use Rattle.wf_engine.specs.Safe.{IsFit, SafeAt, command_by}
 use Rattle.wf_engine.specs.Starts.{start_of}
-use Rattle.wf_engine.specs.TheLanguage.{InTheLanguage}
+use Rattle.wf_engine.specs.TheLanguage.{the_language}
 use Rattle.wf_engine.specs.declared.engine.Engine.{Engine}
 use Rattle.wf_engine.specs.declared.fault.EngineFault.{EngineFault}
 use Rattle.wf_engine.specs.declared.fault.EngineFault.TheVariants as engine
@@ -45,6 +45,7 @@ use Rattle.wf_status.specs.declared.Refusal.{Refusal}
 use Rattle.wf_status.specs.declared.Status.{Status}
 use Rattle.wf_status.specs.declared.Status.TheVariants as status
 use Rattle.wf_tree.specs.Trees.{Tree}
+use Rattle.wf_yaml.specs.Reading.{reading}
 use Rattle.wf_yaml_write.specs.Layout.{written}
 
 -- the status and the text of an outcome
@@ -77,9 +78,9 @@ abbrev pub SaysSource : SourceFault → Result Said Silence → Type 0
 SaysSource (source.Refused r) said = SaysOrLacks (status.Refused r) said
 SaysSource source.OutOfMemory said = said ≡ Err silence.OutOfMemory
 
--- what is said of a source that is to be laid out: the layout of its tree, or why it is refused
+-- what is said of a source that is to be laid out: the layout of its tree, from which the tree is read back, or why it is refused
 abbrev pub SaysTree : Result Tree Refusal → Said → Type 0
-SaysTree (Ok t) said = (said.status ≡ status.Done) × (said.text.items ≡ written t)
+SaysTree (Ok t) said = (said.status ≡ status.Done) × (said.text.items ≡ written t) × (reading (written t) ≡ Ok t)
 SaysTree (Err r) said = SaysStatus (status.Refused r) said
 
 -- the source was read and laid out, or a read failed, or memory ran out
@@ -155,13 +156,13 @@ FaultHolds L s engine.OutOfMemory = Unit {0}
 -- the opening of a file, where the host tells
 pub record Opening (command : kept.Command) (s : Scene) (old new : World) (r : Result Engine EngineFault) : Type 0 where
   pub little : DidLittle old new
-  pub safe : InTheLanguage (λ L. SafeSince L s old new)
-  pub opened : InTheLanguage (λ L. IfOk r (IsOpened L command s little.done new))
-  pub fault : InTheLanguage (λ L. IfErr r (FaultHolds L s))
+  pub safe : SafeSince the_language s old new
+  pub opened : IfOk r (IsOpened the_language command s little.done new)
+  pub fault : IfErr r (FaultHolds the_language s)
   -- what is refused or only gone on with isn't written by this
-  pub refused : InTheLanguage (λ L. HasOtherMagic s ⊎ IsStarted s ⊎ IsNotStarted s ⊎ ((n : ℕ) × IsNoHistory L s n) → Unwritten old new)
+  pub refused : HasOtherMagic s ⊎ IsStarted s ⊎ IsNotStarted s ⊎ ((n : ℕ) × IsNoHistory the_language s n) → Unwritten old new
   pub resumed : command ≡ kept.Resume → Unwritten old new
-  pub finished : InTheLanguage (λ L. (st : Standing) → IsLineOf s (λ c. c ≡ Resume) → history L (records s.found) ≡ Ok st → st.config.outcome ≢ Active → new.deeds ≡ old.deeds)
+  pub finished : (st : Standing) → IsLineOf s (λ c. c ≡ Resume) → history the_language (records s.found) ≡ Ok st → st.config.outcome ≢ Active → new.deeds ≡ old.deeds
 
 -- ## Going on to the outcome
 -- an outcome is said, or the disk failed, or there was no memory
@@ -197,10 +198,10 @@ IsEnd s old new reads reads2 faults faults2 (Err silence.OutOfMemory) = Unit {0}
 -- and where nothing is to be written nothing was.
 pub record Worked (s : Scene) (old new : World) (r : Result Said Silence) : Type 0 where
   pub little : DidLittle old new
-  pub safe : InTheLanguage (λ L. SafeSince L s old new)
-  pub gives : InTheLanguage (λ L. IfOk r (λ said. (image : List ℕ) → new.may_leave image → Gives L s image said.status said.text.items))
-  pub finished : InTheLanguage (λ L. (st : Standing) → IsLineOf s (λ c. c ≡ Resume) → history L (records s.found) ≡ Ok st → st.config.outcome ≢ Active → Unwritten old new × (new.deeds ≡ old.deeds))
-  pub refused : InTheLanguage (λ L. HasOtherMagic s ⊎ IsStarted s ⊎ IsNotStarted s ⊎ ((n : ℕ) × IsNoHistory L s n) → Unwritten old new)
+  pub safe : SafeSince the_language s old new
+  pub gives : IfOk r (λ said. (image : List ℕ) → new.may_leave image → Gives the_language s image said.status said.text.items)
+  pub finished : (st : Standing) → IsLineOf s (λ c. c ≡ Resume) → history the_language (records s.found) ≡ Ok st → st.config.outcome ≢ Active → Unwritten old new × (new.deeds ≡ old.deeds)
+  pub refused : HasOtherMagic s ⊎ IsStarted s ⊎ IsNotStarted s ⊎ ((n : ℕ) × IsNoHistory the_language s n) → Unwritten old new
   pub reports : IsLineOf s (λ c. executes c ≡ false) → Unwritten old new
 
 -- ## Printing

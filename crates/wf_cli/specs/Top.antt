@@ -4,27 +4,31 @@
 use Rattle.std.specs.Prelude.{◌≡◌, ◌≢◌, ◌⊎◌, ◌<◌, ℕ, true, false, List, [], ◌∷◌, ◌++◌, Contains, Some, None, Ok, codes, decimal}
 use Rattle.std.specs.List.{AllByRecursion}
 use Rattle.wf_cli.specs.Reports.{the_reports}
-use Rattle.wf_engine.specs.Deeds.{printed}
-use Rattle.wf_engine.specs.Outside.{Outside}
+use Rattle.wf_deeds.specs.Deeds.{printed}
+use Rattle.wf_deeds.specs.Outside.{Outside}
 use Rattle.wf_engine.specs.Printed as end
 use Rattle.wf_engine.specs.Printed.{Scene, uses_source, executes, status_of, outcome_text}
 pub use Rattle.wf_engine.specs.Printed.{IsLine, IsBadLine, IsLineOf, IsRefused, HasOtherMagic, IsStarted, IsNotStarted}
 use Rattle.wf_engine.specs.Safe.{IsFit, SafeAt}
-use Rattle.wf_engine.specs.TheLanguage.{InTheLanguage}
-use Rattle.wf_host.specs.Source.{WhereTold}
+use Rattle.wf_engine.specs.TheLanguage.{the_language}
+use Rattle.wf_host.specs.Source.{IsFirst, WhereTold}
 use Rattle.wf_host.specs.World.{World, Faults, Told, LeavesOnly, Rose}
 use Rattle.wf_host.specs.declared.data.Deed.{Deed}
 use Rattle.wf_host.specs.declared.data.Deed.TheVariants.{Print}
 use Rattle.wf_journal.specs.Records.{records}
-use Rattle.wf_line.specs.declared.command.Command.TheVariants.{Resume}
+use Rattle.wf_line.specs.declared.command.Command.TheVariants.{Format, Resume}
 use Rattle.wf_model.specs.Config.{Outcome, Active}
 use Rattle.wf_replay.specs.History.{Standing, history}
 use Rattle.wf_replay.specs.Language.{Language}
+use Rattle.wf_source.specs.Sources.{read_tree}
 use Rattle.wf_status.specs.Refusals.{refusal_text}
 use Rattle.wf_status.specs.Statuses.{line_end, rank}
 use Rattle.wf_status.specs.declared.Refusal.{Refusal}
 use Rattle.wf_status.specs.declared.Status.{Status}
 use Rattle.wf_status.specs.declared.Status.TheVariants as status
+use Rattle.wf_tree.specs.Trees.{Tree}
+use Rattle.wf_yaml.specs.Reading.{reading}
+use Rattle.wf_yaml_write.specs.Layout.{written}
 
 -- a call of the top function: what it met, the host before and behind it, the counts, and its end
 pub record Call : Type 1 where
@@ -59,6 +63,18 @@ IsPrint d = ⊥
 abbrev pub IsAccepted : Scene → Type 0
 IsAccepted s = WhereTold s.source ((r : Refusal) → ¬ IsRefused s r)
 
+-- ## Layouts
+-- the source has this tree, which is read back from its layout
+pub record ComesBack (s : Scene) (t : Tree) : Type 0 where
+  pub bytes : List ℕ
+  pub first : IsFirst 131073 s.source bytes
+  pub tree : read_tree bytes ≡ Ok t
+  pub back : reading (written t) ≡ Ok t
+
+-- under `format` the text is the layout of such a tree
+abbrev pub ReadsBack : Scene → List ℕ → Type 0
+ReadsBack s text = IsLineOf s (λ c. c ≡ Format) → (t : Tree) × ComesBack s t × (text ≡ written t)
+
 -- ## What a command has to say
 -- a status that the file decides
 abbrev pub IsOfFile : Status → Type 0
@@ -75,8 +91,8 @@ pub record IsPassed (L : Language) (s : Scene) (st : Status) : Type 0 where
 pub data Says (s : Scene) (old new : World) : Status → List ℕ → Type 0 where
   bad_line : (n : ℕ) → IsBadLine s n → Says s old new (status.BadLine n) (line_end (codes "bad line at word " ++ decimal n))
   refused : (r : Refusal) → IsRefused s r → Says s old new (status.Refused r) (line_end (refusal_text r))
-  reported : (text : List ℕ) → Reported s text → Says s old new status.Done text
-  of_file : (st : Status) (text : List ℕ) → IsOfFile st → IsLineOf s (λ c. executes c ≡ true) → IsAccepted s → Told old (InTheLanguage (λ L. Gives L s new.seen st text × IsPassed L s st)) → Says s old new st text
+  reported : (text : List ℕ) → Reported s text → ReadsBack s text → Says s old new status.Done text
+  of_file : (st : Status) (text : List ℕ) → IsOfFile st → IsLineOf s (λ c. executes c ≡ true) → IsAccepted s → Told old (Gives the_language s new.seen st text × IsPassed the_language s st) → Says s old new st text
 
 -- ## How the call ends
 module _ (x : Call) where
@@ -152,6 +168,10 @@ module _ (x : Call) where
   pub record DoneRow : Type 0 where
     pub comes : IsLineOf x.scene (λ c. executes c ≡ false) → x.status ≡ status.Done → (text : List ℕ) × Reported x.scene text × Prints x text
     pub only : (text : List ℕ) → Reported x.scene text → IsOrYields x status.Done
+
+  -- of `format`: just the layout of the source's tree, which is read back from it
+  abbrev pub ComesBackRow : Type 0
+  ComesBackRow = IsLineOf x.scene (λ c. c ≡ Format) → x.status ≡ status.Done → (t : Tree) × ComesBack x.scene t × Prints x (written t)
 
   abbrev pub PrintFaultRow : Type 0
   PrintFaultRow = x.status ≡ status.PrintFault → Rose x.faults_old.print x.faults_new.print ⊎ TookNothing x

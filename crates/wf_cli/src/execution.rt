@@ -4,10 +4,10 @@ ghost use Rattle.wf_ast.specs.View.{program_view};
 ghost use Rattle.wf_cli.specs.Said.{Going, IsEnd, Opening, SaysResult, Worked};
 ghost use Rattle.wf_cli.specs.Top.{IsLineOf};
 ghost use Rattle.wf_engine.specs.Engine.{memory, is_closed, Holds, StandsFor};
-ghost use Rattle.wf_engine.specs.Kept as kept;
+ghost use Rattle.wf_deeds.specs.Kept as kept;
 ghost use Rattle.wf_engine.specs.Safe.{scene};
 ghost use Rattle.wf_engine.specs.Starts.{start_of};
-ghost use Rattle.wf_engine.specs.TheLanguage.{InTheLanguage};
+ghost use Rattle.wf_engine.specs.TheLanguage.{the_language};
 ghost use Rattle.wf_events.specs.Records.{Started};
 ghost use Rattle.wf_events.specs.Spelling.{record_bytes, HasSpelling};
 ghost use Rattle.wf_events.specs.View.{start_view};
@@ -24,12 +24,13 @@ ghost use Rattle.wf_source.specs.Programs.{IsSourceOf};
 use crate::end::{Said, Silence};
 use std::alloc::Global;
 use wf_ast::Program;
-use wf_engine::{Engine, EngineFault, laws_of_rules};
+use wf_deeds::laws_of_rules;
+use wf_engine::{Engine, EngineFault};
 use wf_events::{Pairs, Start, one_spelling};
 use wf_host::{Host, Routes, Source, read_up_to};
 use wf_line::Line;
 use wf_replay::laws_of_histories;
-use wf_source::{SOURCE_LIMIT, laws_of_sources, read_source};
+use wf_source::{SOURCE_LIMIT, each_source_is_one, laws_of_sources, read_source};
 use wf_value::{Bytes, OutOfMemory, Text};
 
 /// A text of these characters, which are told to be UTF-8.
@@ -97,6 +98,7 @@ fn begin<H: Host>(
     ensures tells { (H.world host.new).tells ≡ (H.world host.old).tells }
     ensures counts { NoneFell (H.faults host.old) (H.faults host.new) }
 {
+    each_source_is_one();
     laws_of_histories();
     laws_of_rules();
     laws_of_sources();
@@ -111,8 +113,8 @@ fn to_outcome<H: Host>(alloc: Global, engine: Engine, host: &mut H) -> Result<Sa
     requires open { is_closed engine ≡ false }
     requires holds { Told (H.world host.old) (Holds engine (H.world host.old)) }
     ensures says { SaysResult (H.faults host.old) (H.faults host.new) result }
-    ensures going { InTheLanguage (λ L. Told (H.world host.old) ((command : kept.Command) (D : List Deed) → StandsFor L command (memory engine) (records (H.world host.old).seen) D
-        → Going L command (memory engine) D (H.world host.old) (H.world host.new) result)) }
+    ensures going { Told (H.world host.old) ((command : kept.Command) (D : List Deed) → StandsFor the_language command (memory engine) (records (H.world host.old).seen) D
+        → Going the_language command (memory engine) D (H.world host.old) (H.world host.new) result) }
     ensures deeds { Told (H.world host.old) ((H.world host.new).deeds ≡ (H.world host.old).deeds) }
     ensures tells { (H.world host.new).tells ≡ (H.world host.old).tells }
     ensures counts { NoneFell (H.faults host.old) (H.faults host.new) }

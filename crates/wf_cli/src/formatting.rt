@@ -5,15 +5,19 @@ ghost use Rattle.wf_host.specs.World.{Rose};
 
 use crate::end::{Said, Silence};
 use std::alloc::Global;
+use wf_format_laws::read_trees_fit;
 use wf_host::{Source, read_up_to};
 use wf_source::{SOURCE_LIMIT, read_tree};
+use wf_tree::reading_is_a_function;
 use wf_yaml_write::write_yaml;
 
-/// Reads the source, and lays its tree out.
+/// Reads the source, and lays its tree out. The tree is read back from its layout.
 pub(crate) fn format<S: Source>(alloc: Global, source: &mut S) -> Result<Said, Silence>
     ensures says { SaysLayout (S.left source.old) (S.faults source.old) (S.faults source.new) result }
     ensures reads { S.faults source.old ≤ S.faults source.new }
 {
+    read_trees_fit();
+    reading_is_a_function();
     let bytes = read_up_to(alloc, source, SOURCE_LIMIT + 1)?;
     match read_tree(alloc, bytes.as_slice()) {
         Ok(tree) => {

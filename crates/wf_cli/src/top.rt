@@ -2,9 +2,9 @@
 ghost use Rattle.std.specs.Prelude.{◌≡◌, ◌≤◌, ℕ, List, Ok};
 ghost use Rattle.wf_cli.specs.Calls.{called};
 ghost use Rattle.wf_cli.specs.Said.{IsEnd, Printing, SaysBadLine, SaysReport, Tells, Worked, text_of};
-ghost use Rattle.wf_cli.specs.Top.{Ends, BadLineRow, ReadFaultRow, RefusedRow, DiskFaultRow, NotAJournalRow, AlreadyStartedRow, NotStartedRow, NotAHistoryRow, OutcomeRow, DoneRow, PrintFaultRow, OnlyThese, FinishedStays, RefusedStays, ReportsStay, SafeThroughout, SafeAtEnd};
+ghost use Rattle.wf_cli.specs.Top.{Ends, BadLineRow, ReadFaultRow, RefusedRow, DiskFaultRow, NotAJournalRow, AlreadyStartedRow, NotStartedRow, NotAHistoryRow, OutcomeRow, DoneRow, ComesBackRow, PrintFaultRow, OnlyThese, FinishedStays, RefusedStays, ReportsStay, SafeThroughout, SafeAtEnd};
 ghost use Rattle.wf_engine.specs.Safe.{scene};
-ghost use Rattle.wf_engine.specs.TheLanguage.{InTheLanguage};
+ghost use Rattle.wf_engine.specs.TheLanguage.{the_language};
 ghost use Rattle.wf_host.specs.World.{NoneFell, Told};
 ghost use Rattle.wf_line.specs.Lines.{line_of, words_view};
 ghost use Rattle.wf_line.specs.Plain.{plain_line};
@@ -13,7 +13,7 @@ use crate::end::{Said, Silence};
 use crate::execution::{resume, run};
 use crate::formatting::format;
 use std::alloc::Global;
-use wf_engine::{law_of_languages, laws_of_rules};
+use wf_deeds::laws_of_rules;
 use wf_host::{Host, Source};
 use wf_line::{Command, Line, LineFault, help_text, read_line, version_text};
 use wf_printing::print_all;
@@ -105,33 +105,34 @@ pub fn perform<S: Source, H: Host>(
         (S.faults source.old) (S.faults source.new) (H.faults host.old) (H.faults host.new) result)) }
     ensures not_started { Told (H.world host.old) ((words : List (List ℕ)) → line_of words ≡ Ok (plain_line line.now) → NotStartedRow (called words (S.left source.old) (H.world host.old) (H.world host.new)
         (S.faults source.old) (S.faults source.new) (H.faults host.old) (H.faults host.new) result)) }
-    ensures not_a_history { InTheLanguage (λ L. Told (H.world host.old) ((words : List (List ℕ)) → line_of words ≡ Ok (plain_line line.now) → NotAHistoryRow L (called words (S.left source.old) (H.world host.old) (H.world host.new)
-        (S.faults source.old) (S.faults source.new) (H.faults host.old) (H.faults host.new) result))) }
-    ensures outcome { InTheLanguage (λ L. Told (H.world host.old) ((words : List (List ℕ)) → line_of words ≡ Ok (plain_line line.now) → OutcomeRow L (called words (S.left source.old) (H.world host.old) (H.world host.new)
-        (S.faults source.old) (S.faults source.new) (H.faults host.old) (H.faults host.new) result))) }
+    ensures not_a_history { Told (H.world host.old) ((words : List (List ℕ)) → line_of words ≡ Ok (plain_line line.now) → NotAHistoryRow the_language (called words (S.left source.old) (H.world host.old) (H.world host.new)
+        (S.faults source.old) (S.faults source.new) (H.faults host.old) (H.faults host.new) result)) }
+    ensures outcome { Told (H.world host.old) ((words : List (List ℕ)) → line_of words ≡ Ok (plain_line line.now) → OutcomeRow the_language (called words (S.left source.old) (H.world host.old) (H.world host.new)
+        (S.faults source.old) (S.faults source.new) (H.faults host.old) (H.faults host.new) result)) }
     ensures done { (words : List (List ℕ)) → line_of words ≡ Ok (plain_line line.now) → DoneRow (called words (S.left source.old) (H.world host.old) (H.world host.new)
+        (S.faults source.old) (S.faults source.new) (H.faults host.old) (H.faults host.new) result) }
+    ensures comes_back { (words : List (List ℕ)) → line_of words ≡ Ok (plain_line line.now) → ComesBackRow (called words (S.left source.old) (H.world host.old) (H.world host.new)
         (S.faults source.old) (S.faults source.new) (H.faults host.old) (H.faults host.new) result) }
     ensures print_fault { (words : List (List ℕ)) → line_of words ≡ Ok (plain_line line.now) → PrintFaultRow (called words (S.left source.old) (H.world host.old) (H.world host.new)
         (S.faults source.old) (S.faults source.new) (H.faults host.old) (H.faults host.new) result) }
     ensures only { (words : List (List ℕ)) → line_of words ≡ Ok (plain_line line.now) → OnlyThese (called words (S.left source.old) (H.world host.old) (H.world host.new)
         (S.faults source.old) (S.faults source.new) (H.faults host.old) (H.faults host.new) result) }
     // what isn't written
-    ensures finished_stays { InTheLanguage (λ L. Told (H.world host.old) ((words : List (List ℕ)) → line_of words ≡ Ok (plain_line line.now) → FinishedStays L (called words (S.left source.old) (H.world host.old) (H.world host.new)
-        (S.faults source.old) (S.faults source.new) (H.faults host.old) (H.faults host.new) result))) }
-    ensures refused_stays { InTheLanguage (λ L. Told (H.world host.old) ((words : List (List ℕ)) → line_of words ≡ Ok (plain_line line.now) → RefusedStays L (called words (S.left source.old) (H.world host.old) (H.world host.new)
-        (S.faults source.old) (S.faults source.new) (H.faults host.old) (H.faults host.new) result))) }
+    ensures finished_stays { Told (H.world host.old) ((words : List (List ℕ)) → line_of words ≡ Ok (plain_line line.now) → FinishedStays the_language (called words (S.left source.old) (H.world host.old) (H.world host.new)
+        (S.faults source.old) (S.faults source.new) (H.faults host.old) (H.faults host.new) result)) }
+    ensures refused_stays { Told (H.world host.old) ((words : List (List ℕ)) → line_of words ≡ Ok (plain_line line.now) → RefusedStays the_language (called words (S.left source.old) (H.world host.old) (H.world host.new)
+        (S.faults source.old) (S.faults source.new) (H.faults host.old) (H.faults host.new) result)) }
     ensures reports_stay { Told (H.world host.old) ((words : List (List ℕ)) → line_of words ≡ Ok (plain_line line.now) → ReportsStay (called words (S.left source.old) (H.world host.old) (H.world host.new)
         (S.faults source.old) (S.faults source.new) (H.faults host.old) (H.faults host.new) result)) }
     // killed at any moment: what a crash may leave is safe with what was done by then
-    ensures safe { InTheLanguage (λ L. Told (H.world host.old) ((words : List (List ℕ)) → line_of words ≡ Ok (plain_line line.now) → SafeThroughout L (called words (S.left source.old) (H.world host.old) (H.world host.new)
-        (S.faults source.old) (S.faults source.new) (H.faults host.old) (H.faults host.new) result))) }
-    ensures safe_end { InTheLanguage (λ L. Told (H.world host.old) ((words : List (List ℕ)) → line_of words ≡ Ok (plain_line line.now) → SafeAtEnd L (called words (S.left source.old) (H.world host.old) (H.world host.new)
-        (S.faults source.old) (S.faults source.new) (H.faults host.old) (H.faults host.new) result))) }
+    ensures safe { Told (H.world host.old) ((words : List (List ℕ)) → line_of words ≡ Ok (plain_line line.now) → SafeThroughout the_language (called words (S.left source.old) (H.world host.old) (H.world host.new)
+        (S.faults source.old) (S.faults source.new) (H.faults host.old) (H.faults host.new) result)) }
+    ensures safe_end { Told (H.world host.old) ((words : List (List ℕ)) → line_of words ≡ Ok (plain_line line.now) → SafeAtEnd the_language (called words (S.left source.old) (H.world host.old) (H.world host.new)
+        (S.faults source.old) (S.faults source.new) (H.faults host.old) (H.faults host.new) result)) }
     ensures tells { (H.world host.new).tells ≡ (H.world host.old).tells }
     ensures reads { S.faults source.old ≤ S.faults source.new }
     ensures counts { NoneFell (H.faults host.old) (H.faults host.new) }
 {
-    law_of_languages();
     laws_of_rules();
     laws_of_sources();
     let said = execute(alloc, line, source, host);
@@ -141,7 +142,7 @@ pub fn perform<S: Source, H: Host>(
 /// Does what the words of a command line say, prints what it comes to, and returns the status. `words` are those behind the program's
 /// name.
 ///
-/// `format` reads the source to its end and prints its tree in one layout, with [`Status::Done`]. `run` reads the source to its end, begins its execution on the journal, and goes on to the outcome; `resume` goes on with the
+/// `format` reads the source to its end and prints its tree in one layout, from which the same tree is read back, with [`Status::Done`]. `run` reads the source to its end, begins its execution on the journal, and goes on to the outcome; `resume` goes on with the
 /// execution that stands in the journal. A value prints as a line of JSON with [`Status::Done`], an error with [`Status::Raised`]. The
 /// words `--help` and `--version` alone print a text, with [`Status::Done`]. The causes of the other statuses are looked at in this order:
 ///
@@ -182,33 +183,34 @@ pub fn run_line<S: Source, H: Host>(
         (S.faults source.old) (S.faults source.new) (H.faults host.old) (H.faults host.new) result)) }
     ensures not_started { Told (H.world host.old) (NotStartedRow (called (words_view words.now) (S.left source.old) (H.world host.old) (H.world host.new)
         (S.faults source.old) (S.faults source.new) (H.faults host.old) (H.faults host.new) result)) }
-    ensures not_a_history { InTheLanguage (λ L. Told (H.world host.old) (NotAHistoryRow L (called (words_view words.now) (S.left source.old) (H.world host.old) (H.world host.new)
-        (S.faults source.old) (S.faults source.new) (H.faults host.old) (H.faults host.new) result))) }
-    ensures outcome { InTheLanguage (λ L. Told (H.world host.old) (OutcomeRow L (called (words_view words.now) (S.left source.old) (H.world host.old) (H.world host.new)
-        (S.faults source.old) (S.faults source.new) (H.faults host.old) (H.faults host.new) result))) }
+    ensures not_a_history { Told (H.world host.old) (NotAHistoryRow the_language (called (words_view words.now) (S.left source.old) (H.world host.old) (H.world host.new)
+        (S.faults source.old) (S.faults source.new) (H.faults host.old) (H.faults host.new) result)) }
+    ensures outcome { Told (H.world host.old) (OutcomeRow the_language (called (words_view words.now) (S.left source.old) (H.world host.old) (H.world host.new)
+        (S.faults source.old) (S.faults source.new) (H.faults host.old) (H.faults host.new) result)) }
     ensures done { DoneRow (called (words_view words.now) (S.left source.old) (H.world host.old) (H.world host.new)
+        (S.faults source.old) (S.faults source.new) (H.faults host.old) (H.faults host.new) result) }
+    ensures comes_back { ComesBackRow (called (words_view words.now) (S.left source.old) (H.world host.old) (H.world host.new)
         (S.faults source.old) (S.faults source.new) (H.faults host.old) (H.faults host.new) result) }
     ensures print_fault { PrintFaultRow (called (words_view words.now) (S.left source.old) (H.world host.old) (H.world host.new)
         (S.faults source.old) (S.faults source.new) (H.faults host.old) (H.faults host.new) result) }
     ensures only { OnlyThese (called (words_view words.now) (S.left source.old) (H.world host.old) (H.world host.new)
         (S.faults source.old) (S.faults source.new) (H.faults host.old) (H.faults host.new) result) }
     // what isn't written
-    ensures finished_stays { InTheLanguage (λ L. Told (H.world host.old) (FinishedStays L (called (words_view words.now) (S.left source.old) (H.world host.old) (H.world host.new)
-        (S.faults source.old) (S.faults source.new) (H.faults host.old) (H.faults host.new) result))) }
-    ensures refused_stays { InTheLanguage (λ L. Told (H.world host.old) (RefusedStays L (called (words_view words.now) (S.left source.old) (H.world host.old) (H.world host.new)
-        (S.faults source.old) (S.faults source.new) (H.faults host.old) (H.faults host.new) result))) }
+    ensures finished_stays { Told (H.world host.old) (FinishedStays the_language (called (words_view words.now) (S.left source.old) (H.world host.old) (H.world host.new)
+        (S.faults source.old) (S.faults source.new) (H.faults host.old) (H.faults host.new) result)) }
+    ensures refused_stays { Told (H.world host.old) (RefusedStays the_language (called (words_view words.now) (S.left source.old) (H.world host.old) (H.world host.new)
+        (S.faults source.old) (S.faults source.new) (H.faults host.old) (H.faults host.new) result)) }
     ensures reports_stay { Told (H.world host.old) (ReportsStay (called (words_view words.now) (S.left source.old) (H.world host.old) (H.world host.new)
         (S.faults source.old) (S.faults source.new) (H.faults host.old) (H.faults host.new) result)) }
     // killed at any moment: what a crash may leave is safe with what was done by then
-    ensures safe { InTheLanguage (λ L. Told (H.world host.old) (SafeThroughout L (called (words_view words.now) (S.left source.old) (H.world host.old) (H.world host.new)
-        (S.faults source.old) (S.faults source.new) (H.faults host.old) (H.faults host.new) result))) }
-    ensures safe_end { InTheLanguage (λ L. Told (H.world host.old) (SafeAtEnd L (called (words_view words.now) (S.left source.old) (H.world host.old) (H.world host.new)
-        (S.faults source.old) (S.faults source.new) (H.faults host.old) (H.faults host.new) result))) }
+    ensures safe { Told (H.world host.old) (SafeThroughout the_language (called (words_view words.now) (S.left source.old) (H.world host.old) (H.world host.new)
+        (S.faults source.old) (S.faults source.new) (H.faults host.old) (H.faults host.new) result)) }
+    ensures safe_end { Told (H.world host.old) (SafeAtEnd the_language (called (words_view words.now) (S.left source.old) (H.world host.old) (H.world host.new)
+        (S.faults source.old) (S.faults source.new) (H.faults host.old) (H.faults host.new) result)) }
     ensures tells { (H.world host.new).tells ≡ (H.world host.old).tells }
     ensures reads { S.faults source.old ≤ S.faults source.new }
     ensures counts { NoneFell (H.faults host.old) (H.faults host.new) }
 {
-    law_of_languages();
     laws_of_rules();
     laws_of_sources();
     match read_line(alloc, words) {

@@ -5,11 +5,11 @@ use Rattle.std.proofs.Common.{◌*◌, refl, sym, ◌∙◌, ap, subst, arith, l
 use Rattle.std.proofs.lemmas.Bool.{and_from, eq-eqb, eqb-true, le-leb, or_right}
 use Rattle.std.proofs.lemmas.List.{append-nil, length-map, nil_from_length}
 use Rattle.std.proofs.lemmas.List.Concat.{flat_map-cons}
-use Rattle.wf_engine.specs.Deeds.{nows, reading_by}
+use Rattle.wf_deeds.specs.Deeds.{nows, reading_by}
 use Rattle.wf_engine.specs.Engine.{Memory, LeadsTo, StandsFor, KeptAt, session, turn_records}
-use Rattle.wf_engine.specs.Kept.{Command, Kept, last_of}
-use Rattle.wf_engine.specs.Laws.{OnlyReadings, TurnKeepsReadings}
-use Rattle.wf_engine.specs.Turns.{TakeReading}
+use Rattle.wf_deeds.specs.Kept.{Command, Kept, last_of}
+use Rattle.wf_deeds.specs.Laws.{OnlyReadings, TurnKeepsReadings}
+use Rattle.wf_deeds.specs.Turns.{TakeReading}
 use Rattle.wf_events.specs.Laws.{MeaningOfSpelling}
 use Rattle.wf_events.specs.Reading.{meaning}
 use Rattle.wf_events.specs.Records.{Turned}

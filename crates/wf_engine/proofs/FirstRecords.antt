@@ -3,8 +3,7 @@ use Rattle.std.specs.Prelude.{◌≡◌, ◌≢◌, ◌⊎◌, ℕ, List, [], �
 use Rattle.std.proofs.Common.{inl, inr, refl, sym, ◌∙◌, ap, subst}
 use Rattle.wf_ast.specs.Tree.{Program}
 use Rattle.wf_engine.specs.Faults.{fault_of, replay_fault}
-use Rattle.wf_engine.specs.Openings.{Accepts, NoFirst}
-use Rattle.wf_engine.specs.TheLanguage.{IsTheLanguage}
+use Rattle.wf_engine.specs.Openings.{NoFirst}
 use Rattle.wf_engine.specs.declared.fault.EngineFault.{EngineFault}
 use Rattle.wf_engine.specs.declared.fault.EngineFault.TheVariants.{NotAHistory, OutOfMemory}
 use Rattle.wf_events.specs.Reading.{meaning}
@@ -23,19 +22,6 @@ use Rattle.wf_replay.specs.Standing.{stands_at}
 use Rattle.wf_replay.specs.declared.fault.ReplayFault.{ReplayFault}
 use Rattle.wf_replay.specs.declared.fault.ReplayFault.TheVariants as replay_fault_of
 use Rattle.wf_shared.specs.Events.{Start}
-use Rattle.wf_source.specs.Laws.{NotBoth}
-use Rattle.wf_source.specs.Programs.{IsRefusalOf}
-use Rattle.wf_status.specs.declared.Refusal.{Refusal}
-
--- ## The language
-none_of_source : NotBoth → (L : Language) → IsTheLanguage L → (source : List ℕ) (r : Refusal) → IsRefusalOf source r → (o : Option Program) → L.source source ≡ o → o ≡ None
-none_of_source apart L language source r refused None is = refl
-none_of_source apart L language source r refused (Some p) is = absurd (apart source p r ((language source p).0 is) refused)
-
--- what a source was found to be it is in the language
-pub accepts : NotBoth → (L : Language) → IsTheLanguage L → (source : List ℕ) (o : Option Program) → Accepts source o → L.source source ≡ o
-accepts apart L language source None (r, refused) = none_of_source apart L language source r refused (L.source source) refl
-accepts apart L language source (Some p) is = (language source p).1 is
 
 -- ## A first record
 at_first : (m : Machine) → stands_at 1 None m ≡ record { program = (state_of m).program; config = (state_of m).config; number = 1; session = 0; waits = 0 }

@@ -4,15 +4,12 @@ mod Chosen
 mod Clock
 mod FirstRecords
 pub mod Forms
-mod Languages
+pub mod Language
 mod LivesKept
 mod LivesRuns
-mod Moves
 mod NewSessions
-mod Quiet
-mod Readings
 mod Reopened
 mod Sessions
-mod Splits
 mod StillOpen
 mod Turning
+pub mod RowsHold

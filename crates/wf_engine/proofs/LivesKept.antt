@@ -3,11 +3,11 @@ use Rattle.std.specs.Prelude.{◌≡◌, ◌⊎◌, ◌<◌, ◌≤◌, ℕ, zer
 use Rattle.std.specs.List.{AllByRecursion}
 use Rattle.std.proofs.Common.{inl, inr, ⊎_elim, sym, ◌∙◌, ap, ap₂, subst, arith, append_assoc, append-nil, drop_of_length-le}
 use Rattle.wf_engine.proofs.LivesRuns.{WasOpen, facts, longer, open_before, same_end, same_request, still_was_open, was_open, with_more}
-use Rattle.wf_engine.specs.Deeds.{polls}
+use Rattle.wf_deeds.specs.Deeds.{polls, IsSmall}
 use Rattle.wf_engine.specs.Lives.{ClosedIsNotStarted, FilesStayFit, Stay, IsStay, IsLifeFrom, IsOutcomeText, OneLine, OneRequest, RecordsStay}
-use Rattle.wf_engine.specs.Outside.{Outside}
+use Rattle.wf_deeds.specs.Outside.{Outside}
 use Rattle.wf_engine.specs.Printed.{Reports, outcome_text}
-use Rattle.wf_engine.specs.Safe.{IsFit, IsSmall}
+use Rattle.wf_engine.specs.Safe.{IsFit}
 use Rattle.wf_events.specs.View.{address_view}
 use Rattle.wf_host.specs.declared.data.Address.{Address}
 use Rattle.wf_host.specs.declared.data.Deed.{Deed}

@@ -5,13 +5,12 @@ use Rattle.std.proofs.Common.{inl, inr, ⊎_elim, refl, sym, ◌∙◌, ap, subs
 use Rattle.std.proofs.lemmas.Bool.{lt-ltb, or_left}
 use Rattle.std.proofs.lemmas.List.Elements.{All-nil}
 use Rattle.wf_ast.specs.Tree.{Program}
-use Rattle.wf_engine.specs.Deeds.{nows, polls, reading_by, starts_or_polls}
+use Rattle.wf_deeds.specs.Deeds.{nows, polls, reading_by, starts_or_polls, IsSmall}
 use Rattle.wf_engine.specs.Engine.{Memory, StandsFor, session}
-use Rattle.wf_engine.specs.Kept.{Run, Resume, Session, Place, own, last_of, ReadingsAreOfTheClock}
-use Rattle.wf_engine.specs.Laws.{OnlyReadings}
+use Rattle.wf_deeds.specs.Kept.{Run, Resume, Session, Place, own, last_of, ReadingsAreOfTheClock}
+use Rattle.wf_deeds.specs.Laws.{OnlyReadings}
 use Rattle.wf_engine.specs.Openings.{Clocked}
-use Rattle.wf_engine.specs.Outside.{Outside}
-use Rattle.wf_engine.specs.Safe.{IsSmall}
+use Rattle.wf_deeds.specs.Outside.{Outside}
 use Rattle.wf_events.specs.Reading.{meaning}
 use Rattle.wf_events.specs.Records.{Started}
 use Rattle.wf_host.specs.declared.data.Deed.{Deed}

@@ -3,7 +3,7 @@ use Rattle.std.specs.Prelude.{◌≡◌, ◌≢◌, ◌⊎◌, ◌≤◌, ◌+�
 use Rattle.std.proofs.Common.{inl, inr, refl, sym, ◌∙◌, ap, arith, length-drop}
 use Rattle.wf_engine.proofs.NewSessions.{stands_opened}
 use Rattle.wf_engine.specs.Engine.{Opened}
-use Rattle.wf_engine.specs.Laws.{OnlyReadings}
+use Rattle.wf_deeds.specs.Laws.{OnlyReadings}
 use Rattle.wf_engine.specs.Openings.{ReadsClock}
 use Rattle.wf_engine.specs.declared.fault.EngineFault.{EngineFault}
 use Rattle.wf_engine.specs.declared.fault.EngineFault.TheVariants.{NotAHistory}

@@ -4,8 +4,9 @@ use Rattle.std.proofs.Common.{refl, sym, ◌∙◌, ap, subst, arith, append_ass
 use Rattle.std.proofs.lemmas.List.{append-nil}
 use Rattle.wf_engine.proofs.Added.{Choice, Laws, kept_now, one_turn_more, payload_by, turn_by}
 use Rattle.wf_engine.specs.Engine.{Holds, KeptAt, Memory, StandsFor, is_closed, memory}
-use Rattle.wf_engine.specs.Kept.{Command, Kept}
-use Rattle.wf_engine.specs.TheLanguage.{InTheLanguage}
+use Rattle.wf_deeds.specs.Kept.{Command, Kept}
+use Rattle.wf_engine.specs.TheLanguage.{the_language}
+use Rattle.wf_engine.specs.TheLanguage.{the_language}
 use Rattle.wf_engine.specs.declared.engine.Engine.{Engine}
 use Rattle.wf_events.specs.Records.{Turned}
 use Rattle.wf_events.specs.Spelling.{HasSpelling, IsMove}
@@ -66,7 +67,7 @@ within L command m n first mid D s number K E k = record {
   added = s.added ++ k.added;
   records = k.records ∙ ap (λ l. l ++ k.added) s.longer ∙ append_assoc (records first.seen) s.added k.added;
   history = k.history;
-  kept = λ O. subst (λ i. Kept L O (record { payloads = K; number = i; deeds = D ++ E; command = command; end = None })) number (k.kept O);
+  kept = λ O. subst (λ i. Kept L O (record { payloads = K; number = i; deeds = D ++ E; command = command; end = None; handed = false })) number (k.kept O);
   silent = k.silent;
 }
 
@@ -89,7 +90,7 @@ pub record Going (first now : World) (f g : Faults) (e d : Engine) (Rest : Type 
   pub not_closed : is_closed d ≡ false
   pub holds : Told first (Holds d now)
   pub number : (memory d).session ≡ (memory e).session
-  pub so_far : InTheLanguage (λ L. Told first ((command : Command) (D : List Deed) → StandsFor L command (memory e) (records first.seen) D → SoFar L command (memory e) (memory d) first now D))
+  pub so_far : Told first ((command : Command) (D : List Deed) → StandsFor the_language command (memory e) (records first.seen) D → SoFar the_language command (memory e) (memory d) first now D)
   pub deeds : Told first (now.deeds ≡ first.deeds)
   pub tells : now.tells ≡ first.tells
   pub counts : NoneFell f g

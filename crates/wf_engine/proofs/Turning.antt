@@ -4,8 +4,8 @@ use Rattle.std.specs.List.{AllByRecursion}
 use Rattle.std.proofs.Common.{inl, inr, refl, sym, ◌∙◌, ap, subst, arith, length-append}
 use Rattle.wf_ast.specs.Tree.{Program}
 use Rattle.wf_engine.proofs.Chosen.{Turning}
-use Rattle.wf_engine.specs.Kept.{reading_of}
-use Rattle.wf_engine.specs.Turns.{chosen, TakeReading}
+use Rattle.wf_deeds.specs.Kept.{reading_of}
+use Rattle.wf_deeds.specs.Turns.{chosen, TakeReading}
 use Rattle.wf_events.specs.Spelling.{IsOld}
 use Rattle.wf_machine.specs.State.{State}
 use Rattle.wf_model.specs.ChoiceLaws as choice

@@ -2,13 +2,12 @@
 --     Memory      the program, where it stands, the session and its reading
 --     StandsFor   the deeds of the session so far, over the records of the file
 --     KeptAt      a moment of a call: a history under the rules
-use Rattle.std.specs.Prelude.{◌≡◌, ◌≢◌, ◌⊎◌, ◌≤◌, ℕ, Bool, IsTrue, List, [], ◌∷◌, ◌++◌, length, None, Ok}
+use Rattle.std.specs.Prelude.{◌≡◌, ◌≢◌, ◌⊎◌, ◌≤◌, ℕ, Bool, IsTrue, List, [], ◌∷◌, ◌++◌, length, None, Ok, false}
 use Rattle.std.specs.List.{AllByRecursion}
 use Rattle.wf_ast.specs.Tree.{Program}
-use Rattle.wf_engine.specs.Deeds.{nows, printed, reading_by}
-use Rattle.wf_engine.specs.Kept.{Command, Resume, Session, Kept, last_of}
-use Rattle.wf_engine.specs.Outside.{Outside}
-use Rattle.wf_engine.specs.Safe.{IsSmall}
+use Rattle.wf_deeds.specs.Deeds.{nows, printed, reading_by, IsSmall}
+use Rattle.wf_deeds.specs.Kept.{Command, Resume, Session, Kept, last_of}
+use Rattle.wf_deeds.specs.Outside.{Outside}
 use Rattle.wf_engine.specs.declared.engine.Engine.{Engine}
 use Rattle.wf_events.specs.Records.{Turned}
 use Rattle.wf_events.specs.Spelling.{record_bytes}
@@ -49,7 +48,7 @@ Holds e w = history.Stands e.history w × (records w.seen ≢ [])
 -- ## What it stands for
 -- the session, with these records and these deeds
 abbrev pub session : Command → Memory → List (List ℕ) → List Deed → Session
-session command m J D = record { payloads = J; number = m.session; deeds = D; command = command; end = None }
+session command m J D = record { payloads = J; number = m.session; deeds = D; command = command; end = None; handed = false }
 
 -- the records are a history that leads to the program and the configuration, and the session may add its next turn
 pub record LeadsTo (L : Language) (J : List (List ℕ)) (m : Memory) : Type 0 where

@@ -1,14 +1,10 @@
-pub mod Outside
-pub mod Deeds
-pub mod Kept
-pub mod Turns
 pub mod Starts
 pub mod Printed
 pub mod Safe
 pub mod Lives
-pub mod Laws
 pub mod TheLanguage
 pub mod Ready
 pub mod Engine
 pub mod Faults
 pub mod Openings
+pub mod Rows

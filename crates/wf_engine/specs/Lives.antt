@@ -2,8 +2,8 @@
 --     Life           from a file that is fit
 --     OneRequest, ClosedIsNotStarted, RecordsStay, OneLine     what holds over all commands of a life
 use Rattle.std.specs.Prelude.{◌≡◌, ◌≢◌, ◌≤◌, ℕ, List, [], ◌∷◌, ◌++◌, length, Contains, Option, Ok}
-use Rattle.wf_engine.specs.Kept.{IsOpen}
-use Rattle.wf_engine.specs.Outside.{Outside}
+use Rattle.wf_deeds.specs.Kept.{IsOpen}
+use Rattle.wf_deeds.specs.Outside.{Outside}
 use Rattle.wf_engine.specs.Printed.{Scene, Reports, HasOutcome, outcome_text}
 use Rattle.wf_engine.specs.Safe.{Safe, IsFit}
 use Rattle.wf_host.specs.Source.{Rest}

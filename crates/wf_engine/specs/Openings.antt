@@ -4,7 +4,7 @@
 --     Accepts      the program of a source, if it is one
 use Rattle.std.specs.Prelude.{◌≡◌, ◌≢◌, ◌⊎◌, ℕ, List, [], ◌∷◌, ◌++◌, Option, Some, None}
 use Rattle.wf_ast.specs.Tree.{Program}
-use Rattle.wf_engine.specs.Deeds.{reading_by}
+use Rattle.wf_deeds.specs.Deeds.{reading_by}
 use Rattle.wf_events.specs.Reading.{meaning}
 use Rattle.wf_host.specs.World.{World}
 use Rattle.wf_host.specs.declared.data.Deed.{Deed}

@@ -1,12 +1,12 @@
 -- What a crash at a moment of a command may leave, and what was done by then.
 --     Safe      five facts of a pair of an image and the deeds of the command
 --     SafeAt    the same over a host
-use Rattle.std.specs.Prelude.{◌≡◌, ◌⊎◌, ◌≤◌, ℕ, List, [], ◌∷◌, ◌++◌, length, take, Contains, Option, option_map, Result, Ok, Err}
+use Rattle.std.specs.Prelude.{◌≡◌, ◌⊎◌, ◌≤◌, ℕ, List, [], ◌∷◌, ◌++◌, length, take, Contains, Option, option_map, Result, Ok, Err, false}
 use Rattle.std.specs.List.{AllByRecursion}
-use Rattle.wf_engine.specs.Deeds.{printed, nows}
-use Rattle.wf_engine.specs.Kept as kept
-use Rattle.wf_engine.specs.Kept.{Session, Kept}
-use Rattle.wf_engine.specs.Outside.{Outside}
+use Rattle.wf_deeds.specs.Deeds.{printed, nows, IsSmall}
+use Rattle.wf_deeds.specs.Kept as kept
+use Rattle.wf_deeds.specs.Kept.{Session, Kept}
+use Rattle.wf_deeds.specs.Outside.{Outside}
 use Rattle.wf_engine.specs.Printed.{Scene, Reports, Reads, Gives}
 use Rattle.wf_engine.specs.Starts.{start_of}
 use Rattle.wf_events.specs.Records.{Started}
@@ -14,7 +14,6 @@ use Rattle.wf_events.specs.Spelling.{record_bytes}
 use Rattle.wf_host.specs.Source.{Rest}
 use Rattle.wf_host.specs.World.{World}
 use Rattle.wf_host.specs.declared.data.Deed.{Deed}
-use Rattle.wf_host.specs.declared.data.Deed.TheVariants.{Now, Print}
 use Rattle.wf_journal.specs.Records.{magic, records}
 use Rattle.wf_line.specs.Lines.{PlainLine, line_of}
 use Rattle.wf_line.specs.declared.command.Command as line
@@ -28,12 +27,6 @@ use Rattle.wf_status.specs.declared.Status.{Status}
 -- one text begins with another
 abbrev pub IsPrefix : List ℕ → List ℕ → Type 0
 IsPrefix front text = (rest : List ℕ) × (text ≡ front ++ rest)
-
--- a deed that isn't sent anywhere
-abbrev pub IsSmall : Deed → Type 0
-IsSmall (Print b) = Unit {0}
-IsSmall (Now t) = Unit {0}
-IsSmall d = ⊥
 
 -- every command but `run` counts as one that goes on
 abbrev pub command_of : line.Command → kept.Command
@@ -57,6 +50,7 @@ module _ (L : Language) (O : Outside) (R : Reports) (s : Scene) (end : Option St
     deeds = D;
     command = command_by (line_of s.words);
     end = option_map status_code end;
+    handed = false;
   }
 
   -- the records found at opening stand in front

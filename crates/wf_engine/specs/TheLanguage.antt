@@ -1,13 +1,14 @@
--- The language as far as it is built. Its programs are told by a relation, so the clauses speak of every language that has exactly these.
-use Rattle.std.specs.Prelude.{◌≡◌, ◌↔◌, ℕ, List, Some}
+-- The language as far as it is built: its sources are those that are programs, with these programs.
+use Rattle.std.specs.Prelude.{Option, Some, None, Result, Ok, Err}
 use Rattle.wf_ast.specs.Tree.{Program}
 use Rattle.wf_replay.specs.Language.{Language}
-use Rattle.wf_source.specs.Programs.{IsSourceOf}
+use Rattle.wf_source.specs.Function.{source_of}
+use Rattle.wf_status.specs.declared.Refusal.{Refusal}
 
--- A language is the one that is built where it accepts exactly the sources that are programs, with these programs.
-abbrev pub IsTheLanguage : Language → Type 0
-IsTheLanguage L = (bytes : List ℕ) (p : Program) → (L.source bytes ≡ Some p) ↔ IsSourceOf bytes p
+-- the program, if the source isn't refused
+abbrev pub accepted : Result Program Refusal → Option Program
+accepted (Ok p) = Some p
+accepted (Err r) = None
 
--- what holds in it
-abbrev pub InTheLanguage : (Language → Type 0) → Type 0
-InTheLanguage P = (L : Language) → IsTheLanguage L → P L
+unfoldable pub the_language : Language
+the_language = record { source = λ bytes. accepted (source_of bytes) }

@@ -2,17 +2,19 @@
 ghost use Rattle.std.specs.Prelude.{◌≡◌, false};
 ghost use Rattle.wf_engine.specs.Ready.{IsReady};
 
+use crate::choose_turn;
 use crate::fault::EngineFault;
 use crate::opening::{empty_history, last_machine, session_reading};
-use crate::{choose_turn, laws_of_rules};
 use std::alloc::Global;
 use wf_ast::Program;
+use wf_deeds::laws_of_rules;
 use wf_events::{Start, Turn, one_spelling};
 use wf_history::History;
 use wf_host::Host;
 use wf_machine::{Machine, Outcome};
 use wf_model::laws_of_runs;
 use wf_replay::{laws_of_histories, laws_of_moments};
+use wf_source::each_source_is_one;
 
 /// An execution over a journal: what stands in the file, the machine that it leads to, and the session that goes on from there.
 ///
@@ -35,9 +37,9 @@ impl Engine {
     ghost use Rattle.std.specs.Prelude.{◌≢◌, ◌⊎◌, ◌↔◌, ◌≤◌, ◌<◌, ◌++◌, [], ◌∷◌, true, List, ℕ, length, take, None, Ok, Err, OnOk, OnErr, IfOk, IfErr, IsErrOf};
     ghost use Rattle.wf_ast.specs.View.{program_view};
     ghost use Rattle.wf_engine.specs.Engine.{memory, is_closed, Holds, StandsFor, KeptAt, Opened, OpeningMoment, turn_records};
-    ghost use Rattle.wf_engine.specs.Kept.{Command, Run};
-    ghost use Rattle.wf_engine.specs.TheLanguage.{InTheLanguage};
-    ghost use Rattle.wf_engine.specs.Turns.{turn_of};
+    ghost use Rattle.wf_deeds.specs.Kept.{Command, Run};
+    ghost use Rattle.wf_engine.specs.TheLanguage.{the_language};
+    ghost use Rattle.wf_deeds.specs.Turns.{turn_of};
     ghost use Rattle.wf_events.specs.Records.{Started};
     ghost use Rattle.wf_events.specs.Spelling.{record_bytes, HasSpelling};
     ghost use Rattle.wf_events.specs.View.{start_view};
@@ -71,7 +73,7 @@ impl Engine {
         requires spelled { HasSpelling (Started (start_view start.now)) }
         requires short { length (record_bytes (Started (start_view start.now))) ≤ 16777215 }
         ensures holds { Told (H.world host.old) (IfOk result (λ e. Holds e (H.world host.new))) }
-        ensures stands { InTheLanguage (λ L. Told (H.world host.old) (IfOk result (λ e. StandsFor L Run (memory e) (records (H.world host.new).seen) (Now start.now.reading ∷ [])))) }
+        ensures stands { Told (H.world host.old) (IfOk result (λ e. StandsFor the_language Run (memory e) (records (H.world host.new).seen) (Now start.now.reading ∷ []))) }
         ensures open { IfOk result (λ e. is_closed e ≡ false) }
         ensures session { IfOk result (λ e. (memory e).session ≡ 1) }
         ensures started { Told (H.world host.old) (OnOk result (records (H.world host.new).seen ≡ record_bytes (Started (start_view start.now)) ∷ [])) }
@@ -92,6 +94,7 @@ impl Engine {
         ensures tells { (H.world host.new).tells ≡ (H.world host.old).tells }
         ensures counts { NoneFell (H.faults host.old) (H.faults host.new) }
     {
+        each_source_is_one();
         laws_of_histories();
         laws_of_rules();
         laws_of_runs();
@@ -117,9 +120,9 @@ impl Engine {
     /// one against it; or `OutOfMemory`.
     pub fn open<H: Host>(alloc: Global, host: &mut H) -> Result<Engine, EngineFault>
         ensures holds { Told (H.world host.old) (IfOk result (λ e. Holds e (H.world host.new))) }
-        ensures opened { InTheLanguage (λ L. Told (H.world host.old) (IfOk result (λ e. Opened L (memory e) (H.world host.old) (H.world host.new)))) }
+        ensures opened { Told (H.world host.old) (IfOk result (λ e. Opened the_language (memory e) (H.world host.old) (H.world host.new))) }
         ensures open { IfOk result (λ e. is_closed e ≡ false) }
-        ensures session { InTheLanguage (λ L. Told (H.world host.old) (IfOk result (λ e. (memory e).session ≡ next_session (journal L (records (H.world host.old).seen))))) }
+        ensures session { Told (H.world host.old) (IfOk result (λ e. (memory e).session ≡ next_session (journal the_language (records (H.world host.old).seen)))) }
         ensures begins { Told (H.world host.old) (OnOk result (take 4 (H.world host.old).seen ≡ magic)) }
         ensures seen { Told (H.world host.old) ((H.world host.new).seen ≡ (H.world host.old).seen) }
         ensures any_moment { Told (H.world host.old) (LeavesOnly (H.world host.old) (H.world host.new) (OpeningMoment (H.world host.old))) }
@@ -127,11 +130,11 @@ impl Engine {
         ensures not_a_journal { Told (H.world host.old) (IsErrOf result EngineFault.NotAJournal → (5 ≤ length (H.world host.old).seen) × (take 4 (H.world host.old).seen ≢ magic)) }
         ensures not_started { Told (H.world host.old) (IsErrOf result EngineFault.NotStarted
             → (records (H.world host.old).seen ≡ []) × ((length (H.world host.old).seen ≤ 4) ⊎ (take 4 (H.world host.old).seen ≡ magic))) }
-        ensures not_a_history { InTheLanguage (λ L. Told (H.world host.old) (IfErr result (λ e. (n : ℕ) → e ≡ EngineFault.NotAHistory n
-            → (history_of L (records (H.world host.old).seen) ≡ Err n) × (records (H.world host.old).seen ≢ []) × (take 4 (H.world host.old).seen ≡ magic)))) }
+        ensures not_a_history { Told (H.world host.old) (IfErr result (λ e. (n : ℕ) → e ≡ EngineFault.NotAHistory n
+            → (history_of the_language (records (H.world host.old).seen) ≡ Err n) × (records (H.world host.old).seen ≢ []) × (take 4 (H.world host.old).seen ≡ magic))) }
         ensures only { IfErr result (λ e. (e ≡ EngineFault.DiskFault) ⊎ (e ≡ EngineFault.NotAJournal) ⊎ (e ≡ EngineFault.NotStarted) ⊎ ((n : ℕ) × (e ≡ EngineFault.NotAHistory n)) ⊎ (e ≡ EngineFault.OutOfMemory)) }
         ensures deeds { Told (H.world host.old) (((H.world host.new).deeds ≡ (H.world host.old).deeds) ⊎ ((t : ℕ) × ((H.world host.new).deeds ≡ (H.world host.old).deeds ++ Now t ∷ []))) }
-        ensures finished { InTheLanguage (λ L. Told (H.world host.old) ((s : Standing) → history_of L (records (H.world host.old).seen) ≡ Ok s → s.config.outcome ≢ Active → (H.world host.new).deeds ≡ (H.world host.old).deeds)) }
+        ensures finished { Told (H.world host.old) ((s : Standing) → history_of the_language (records (H.world host.old).seen) ≡ Ok s → s.config.outcome ≢ Active → (H.world host.new).deeds ≡ (H.world host.old).deeds) }
         ensures tells { (H.world host.new).tells ≡ (H.world host.old).tells }
         ensures counts { NoneFell (H.faults host.old) (H.faults host.new) }
     {
@@ -162,13 +165,13 @@ impl Engine {
     pub fn turn<H: Host>(&mut self, host: &mut H) -> Result<(), EngineFault>
         requires kept { is_closed self.old ≡ false → Told (H.world host.old) (Holds self.old (H.world host.old)) }
         ensures holds { is_closed self.new ≡ false → Told (H.world host.old) (Holds self.new (H.world host.new)) }
-        ensures stands { InTheLanguage (λ L. Told (H.world host.old) (OnOk result ((command : Command) (D : List Deed)
-            → StandsFor L command (memory self.old) (records (H.world host.old).seen) D → StandsFor L command (memory self.new) (records (H.world host.new).seen) D))) }
+        ensures stands { Told (H.world host.old) (OnOk result ((command : Command) (D : List Deed)
+            → StandsFor the_language command (memory self.old) (records (H.world host.old).seen) D → StandsFor the_language command (memory self.new) (records (H.world host.new).seen) D)) }
         ensures turn { Told (H.world host.old) (OnOk result (records (H.world host.new).seen
             ≡ records (H.world host.old).seen ++ turn_records (memory self.old).session (turn_of (memory self.old).program (memory self.old).config (memory self.old).reading None))) }
-        ensures any_moment { InTheLanguage (λ L. is_closed self.old ≡ false → Told (H.world host.old) ((command : Command) (D : List Deed)
-            → StandsFor L command (memory self.old) (records (H.world host.old).seen) D
-            → LeavesOnly (H.world host.old) (H.world host.new) (Moment (H.world host.old) (KeptAt L command (memory self.old) (records (H.world host.old).seen) D)))) }
+        ensures any_moment { is_closed self.old ≡ false → Told (H.world host.old) ((command : Command) (D : List Deed)
+            → StandsFor the_language command (memory self.old) (records (H.world host.old).seen) D
+            → LeavesOnly (H.world host.old) (H.world host.new) (Moment (H.world host.old) (KeptAt the_language command (memory self.old) (records (H.world host.old).seen) D))) }
         ensures goes_on { OnOk result (((memory self.old).config.outcome ≡ Active → (memory self.old).config.moves < (memory self.new).config.moves) × ((memory self.new).config.moves ≤ 100000)) }
         ensures session { (memory self.new).session ≡ (memory self.old).session }
         ensures disk_fault { IsErrOf result EngineFault.DiskFault → Rose (H.faults host.old).disk (H.faults host.new).disk }
@@ -208,12 +211,12 @@ impl Engine {
     pub fn session<H: Host>(&mut self, host: &mut H) -> Result<(), EngineFault>
         requires kept { is_closed self.old ≡ false → Told (H.world host.old) (Holds self.old (H.world host.old)) }
         ensures holds { is_closed self.new ≡ false → Told (H.world host.old) (Holds self.new (H.world host.new)) }
-        ensures stands { InTheLanguage (λ L. Told (H.world host.old) (OnOk result ((command : Command) (D : List Deed)
-            → StandsFor L command (memory self.old) (records (H.world host.old).seen) D → StandsFor L command (memory self.new) (records (H.world host.new).seen) D))) }
+        ensures stands { Told (H.world host.old) (OnOk result ((command : Command) (D : List Deed)
+            → StandsFor the_language command (memory self.old) (records (H.world host.old).seen) D → StandsFor the_language command (memory self.new) (records (H.world host.new).seen) D)) }
         ensures ended { OnOk result (IsResult (memory self.new).config.outcome) }
-        ensures any_moment { InTheLanguage (λ L. is_closed self.old ≡ false → Told (H.world host.old) ((command : Command) (D : List Deed)
-            → StandsFor L command (memory self.old) (records (H.world host.old).seen) D
-            → LeavesOnly (H.world host.old) (H.world host.new) (Moment (H.world host.old) (KeptAt L command (memory self.old) (records (H.world host.old).seen) D)))) }
+        ensures any_moment { is_closed self.old ≡ false → Told (H.world host.old) ((command : Command) (D : List Deed)
+            → StandsFor the_language command (memory self.old) (records (H.world host.old).seen) D
+            → LeavesOnly (H.world host.old) (H.world host.new) (Moment (H.world host.old) (KeptAt the_language command (memory self.old) (records (H.world host.old).seen) D))) }
         ensures finished { Told (H.world host.old) ((memory self.old).config.outcome ≢ Active → host.new ≡ host.old) }
         ensures session { (memory self.new).session ≡ (memory self.old).session }
         ensures disk_fault { IsErrOf result EngineFault.DiskFault → Rose (H.faults host.old).disk (H.faults host.new).disk }

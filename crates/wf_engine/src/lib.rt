@@ -3,15 +3,13 @@
 
 mod engine;
 mod fault;
-mod laws;
 mod lives;
 mod opening;
-#[cfg(test)]
-mod tests;
+mod rows;
 mod turns;
 
 pub use engine::Engine;
 pub use fault::EngineFault;
-pub use laws::{law_of_languages, laws_of_rules};
 pub use lives::law_of_lives;
+pub use rows::worked_histories;
 pub use turns::choose_turn;

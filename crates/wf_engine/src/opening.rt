@@ -3,7 +3,7 @@ ghost use Rattle.std.specs.Prelude.{◌≡◌, ◌≢◌, ◌⊎◌, ◌≤◌, 
 ghost use Rattle.wf_ast.specs.View.{program_view};
 ghost use Rattle.wf_engine.specs.Engine.{OpeningMoment};
 ghost use Rattle.wf_engine.specs.Openings.{Accepts, NoFirst, ReadsClock};
-ghost use Rattle.wf_engine.specs.TheLanguage.{InTheLanguage};
+ghost use Rattle.wf_engine.specs.TheLanguage.{the_language};
 ghost use Rattle.wf_events.specs.Reading.{meaning};
 ghost use Rattle.wf_events.specs.View.{record_view};
 ghost use Rattle.wf_history.specs.Stands.{ahead, at_end, is_closed, is_new, last, place, Stands};
@@ -24,7 +24,7 @@ use wf_history::{History, HistoryFault};
 use wf_host::Host;
 use wf_machine::{Machine, Outcome};
 use wf_replay::replay;
-use wf_source::{SourceFault, laws_of_sources, read_source};
+use wf_source::{SourceFault, each_source_is_one, read_source};
 use wf_value::OutOfMemory;
 
 /// Opens a history without a record. Nothing is written.
@@ -64,7 +64,7 @@ pub(crate) fn last_machine<H: Host>(
     requires none_read { last history.old ≡ None }
     requires kept { Told (H.world host.old) (Stands history.old (H.world host.old)) }
     ensures stands { Told (H.world host.old) (OnOk result (Stands history.new (H.world host.new))) }
-    ensures leads { InTheLanguage (λ L. Told (H.world host.old) (IfOk result (λ m. history_of L (ahead history.old (H.world host.old).seen) ≡ Ok (standing history.new m)))) }
+    ensures leads { Told (H.world host.old) (IfOk result (λ m. history_of the_language (ahead history.old (H.world host.old).seen) ≡ Ok (standing history.new m))) }
     ensures some { Told (H.world host.old) (OnOk result (ahead history.old (H.world host.old).seen ≢ [])) }
     ensures whole { IfOk result (λ m. (state_of m).broken ≡ false) }
     ensures ended { OnOk result (at_end history.new ≡ true) }
@@ -74,8 +74,8 @@ pub(crate) fn last_machine<H: Host>(
     ensures any_moment { Told (H.world host.old) (LeavesOnly (H.world host.old) (H.world host.new) (Stays (H.world host.old))) }
     ensures disk_fault { IsErrOf result EngineFault.DiskFault → Rose (H.faults host.old).disk (H.faults host.new).disk }
     ensures not_started { Told (H.world host.old) (IsErrOf result EngineFault.NotStarted → ahead history.old (H.world host.old).seen ≡ []) }
-    ensures not_a_history { InTheLanguage (λ L. Told (H.world host.old) (IfErr result (λ e. (n : ℕ) → e ≡ EngineFault.NotAHistory n
-        → (history_of L (ahead history.old (H.world host.old).seen) ≡ Err n) × (ahead history.old (H.world host.old).seen ≢ [])))) }
+    ensures not_a_history { Told (H.world host.old) (IfErr result (λ e. (n : ℕ) → e ≡ EngineFault.NotAHistory n
+        → (history_of the_language (ahead history.old (H.world host.old).seen) ≡ Err n) × (ahead history.old (H.world host.old).seen ≢ []))) }
     ensures only { IfErr result (λ e. (e ≡ EngineFault.DiskFault) ⊎ (e ≡ EngineFault.NotStarted) ⊎ ((n : ℕ) × (e ≡ EngineFault.NotAHistory n)) ⊎ (e ≡ EngineFault.OutOfMemory)) }
     ensures deeds { Told (H.world host.old) ((H.world host.new).deeds ≡ (H.world host.old).deeds) }
     ensures tells { (H.world host.new).tells ≡ (H.world host.old).tells }
@@ -96,8 +96,8 @@ fn first_machine<H: Host>(
     requires none_read { last history.old ≡ None }
     requires kept { Told (H.world host.old) (Stands history.old (H.world host.old)) }
     ensures stands { is_closed history.new ≡ false → Told (H.world host.old) (Stands history.new (H.world host.new)) }
-    ensures leads { InTheLanguage (λ L. Told (H.world host.old) (IfOk result (λ m. (payload : List ℕ) × (ahead history.old (H.world host.old).seen ≡ payload ∷ ahead history.new (H.world host.old).seen)
-        × (first_standing L (meaning payload) ≡ Some (standing history.new m))))) }
+    ensures leads { Told (H.world host.old) (IfOk result (λ m. (payload : List ℕ) × (ahead history.old (H.world host.old).seen ≡ payload ∷ ahead history.new (H.world host.old).seen)
+        × (first_standing the_language (meaning payload) ≡ Some (standing history.new m)))) }
     ensures some { Told (H.world host.old) (OnOk result (ahead history.old (H.world host.old).seen ≢ [])) }
     ensures whole { IfOk result (λ m. (state_of m).broken ≡ false) }
     ensures still_open { OnOk result (is_closed history.new ≡ false) }
@@ -106,7 +106,7 @@ fn first_machine<H: Host>(
     ensures any_moment { Told (H.world host.old) (LeavesOnly (H.world host.old) (H.world host.new) (Stays (H.world host.old))) }
     ensures disk_fault { IsErrOf result EngineFault.DiskFault → Rose (H.faults host.old).disk (H.faults host.new).disk }
     ensures not_started { Told (H.world host.old) (IsErrOf result EngineFault.NotStarted → ahead history.old (H.world host.old).seen ≡ []) }
-    ensures not_a_history { InTheLanguage (λ L. Told (H.world host.old) (IfErr result (λ e. (n : ℕ) → e ≡ EngineFault.NotAHistory n → NoFirst L n (ahead history.old (H.world host.old).seen)))) }
+    ensures not_a_history { Told (H.world host.old) (IfErr result (λ e. (n : ℕ) → e ≡ EngineFault.NotAHistory n → NoFirst the_language n (ahead history.old (H.world host.old).seen))) }
     ensures only { IfErr result (λ e. (e ≡ EngineFault.DiskFault) ⊎ (e ≡ EngineFault.NotStarted) ⊎ ((n : ℕ) × (e ≡ EngineFault.NotAHistory n)) ⊎ (e ≡ EngineFault.OutOfMemory)) }
     ensures deeds { Told (H.world host.old) ((H.world host.new).deeds ≡ (H.world host.old).deeds) }
     ensures tells { (H.world host.new).tells ≡ (H.world host.old).tells }
@@ -131,12 +131,12 @@ fn accepted_program(alloc: Global, source: &[u8]) -> Result<Option<Program>, Out
 
 /// The machine of a first record: `NotAHistory` where it is no start whose source is accepted.
 fn machine_of(alloc: Global, first: &Record) -> Result<Machine, EngineFault>
-    ensures starts { InTheLanguage (λ L. IfOk result (λ m. first_standing L (Some (record_view first.now)) ≡ Some (stands_at 1 None m))) }
+    ensures starts { IfOk result (λ m. first_standing the_language (Some (record_view first.now)) ≡ Some (stands_at 1 None m)) }
     ensures whole { IfOk result (λ m. (state_of m).broken ≡ false) }
-    ensures none { InTheLanguage (λ L. IsErrOf result (EngineFault.NotAHistory 0) → first_standing L (Some (record_view first.now)) ≡ None) }
+    ensures none { IsErrOf result (EngineFault.NotAHistory 0) → first_standing the_language (Some (record_view first.now)) ≡ None }
     ensures only { IfErr result (λ e. (e ≡ EngineFault.NotAHistory 0) ⊎ (e ≡ EngineFault.OutOfMemory)) }
 {
-    laws_of_sources();
+    each_source_is_one();
     let Record::Start(start) = first else {
         return Err(EngineFault::NotAHistory(0));
     };

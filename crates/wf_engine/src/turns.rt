@@ -1,7 +1,7 @@
 // The events of one turn.
 ghost use Rattle.std.specs.List.{AllByRecursion};
 ghost use Rattle.std.specs.Prelude.{◌≡◌, ◌≢◌, ◌≤◌, ◌<◌, ◌+◌, [], false, length, None, IfOk, OnOk};
-ghost use Rattle.wf_engine.specs.Turns.{turn_of, TakeReading};
+ghost use Rattle.wf_deeds.specs.Turns.{turn_of, TakeReading};
 ghost use Rattle.wf_events.specs.Spelling.{IsOld};
 ghost use Rattle.wf_events.specs.View.{event_view, events_view};
 ghost use Rattle.wf_machine.specs.Outcome.{IsResult};

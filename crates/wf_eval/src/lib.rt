@@ -9,10 +9,6 @@ mod look;
 mod machine;
 mod members;
 mod operators;
-#[cfg(test)]
-mod template_tests;
-#[cfg(test)]
-mod tests;
 
 pub use built::{are_calls_built, is_template_built};
 pub use filling::fill;

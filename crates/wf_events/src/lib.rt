@@ -8,8 +8,6 @@ mod laws;
 mod reading;
 mod routes;
 mod rows;
-#[cfg(test)]
-mod tests;
 mod writing;
 
 pub use argument::is_argument;

@@ -42,7 +42,7 @@ whole_fails ts (stop.Syntax n) h = (h.0, h.1, stuck_place ts h.0 (h.2 top))
 whole_fails ts stop.OutOfMemory h = tt
 
 -- ## The cut
-some_sym : (t u : Sym) → Some t ≡ Some u → t ≡ u
+pub some_sym : (t u : Sym) → Some t ≡ Some u → t ≡ u
 some_sym t u h = cc
 
 split_before : (xs : List Symbol) (b r : List Sym) → syms_of xs ≡ b ++ r → syms_of (take (length b) xs) ≡ b
@@ -59,11 +59,11 @@ split_rest (x ∷ xs) (t ∷ b) r h = split_rest xs b r (ap (drop 1) h)
 placed_split : (xs : List Symbol) (k : ℕ) → map placed_of xs ≡ map placed_of (take k xs) ++ map placed_of (drop k xs)
 placed_split xs k = ap (map placed_of) (sym (take-append-drop k xs)) ∙ map-append placed_of (take k xs) (drop k xs)
 
-further : (Is : List Sym → Type 0) (l before : List Placed) (b r : List Sym) → syms before ≡ b → syms l ≡ r → ((t : Sym) → head r ≡ Some t → BeginsOne Is (b ++ t ∷ []) → ⊥) → GoesNoFurther Is before l
+pub further : (Is : List Sym → Type 0) (l before : List Placed) (b r : List Sym) → syms before ≡ b → syms l ≡ r → ((t : Sym) → head r ≡ Some t → BeginsOne Is (b ++ t ∷ []) → ⊥) → GoesNoFurther Is before l
 further Is [] before b r e f never = tt
 further Is (p ∷ l) before b r e f never = λ x. never p.sym (ap head (sym f)) (subst (λ (m : List Sym). BeginsOne Is (m ++ p.sym ∷ [])) e x)
 
-no_more : (Is : List Sym → Type 0) (l before : List Placed) (ts : List Sym) → ts ≡ syms before ++ syms l → (Is ts → ⊥) → IsNone Is before l
+pub no_more : (Is : List Sym → Type 0) (l before : List Placed) (ts : List Sym) → ts ≡ syms before ++ syms l → (Is ts → ⊥) → IsNone Is before l
 no_more Is [] before ts e never = λ x. never (subst (λ (l : List Sym). Is l) (sym (append-nil (syms before)) ∙ sym e) x)
 no_more Is (p ∷ l) before ts e never = tt
 
@@ -113,7 +113,7 @@ fault_of Is source ps before rest f c h =
     told_refused Is source ps f all.0 (record { before = before; rest = rest; cut = c; told = has_fault f w.0 w.1 })
 
 -- symbols that are one are cut at their end
-end_cut : (Is : List Sym → Type 0) (ps : List Placed) → Is (syms ps) → CutOf Is ps ps []
+pub end_cut : (Is : List Sym → Type 0) (ps : List Placed) → Is (syms ps) → CutOf Is ps ps []
 end_cut Is ps h = record {
   whole = sym (append-nil ps);
   begins = ([], subst (λ (l : List Sym). Is l) (sym (append-nil (syms ps))) h);

@@ -11,3 +11,6 @@ pub mod Scans
 pub mod Judged
 pub mod Targeted
 pub mod Texts
+pub mod TargetEnds
+pub mod Parsed
+pub mod Computed

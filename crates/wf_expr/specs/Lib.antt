@@ -4,6 +4,7 @@ pub mod Begins
 pub mod Calls
 pub mod Parsing
 pub mod Targets
+pub mod Parser
 pub mod Kinds
 pub mod Taking
 pub mod Machine

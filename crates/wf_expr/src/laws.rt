@@ -1,4 +1,5 @@
 // Laws of expressions and targets.
+ghost use Rattle.wf_expr.specs.Parser.{ParserIsThem, TargetParserIsThem};
 ghost use Rattle.wf_expr.specs.Parsing.{NotBoth, OneDerivation, OneExpression};
 ghost use Rattle.wf_expr.specs.Targets.{NotTargetAndRefused, OneTarget};
 
@@ -20,3 +21,9 @@ pub fn one_target()
 {
     tokens_are_one();
 }
+
+/// Each text is an expression or has a first fault, and the parser of the definitions gives it; and so of targets.
+pub fn parser_is_them()
+    ensures expression { ParserIsThem }
+    ensures target { TargetParserIsThem }
+{}

@@ -16,13 +16,9 @@ mod source;
 mod stop;
 mod symbol;
 mod target;
-#[cfg(test)]
-mod target_tests;
-#[cfg(test)]
-mod tests;
 mod words;
 
 pub use fault::ExprFault;
-pub use laws::{one_expression, one_target};
+pub use laws::{one_expression, one_target, parser_is_them};
 pub use source::parse;
 pub use target::parse_target;

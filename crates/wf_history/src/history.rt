@@ -103,6 +103,7 @@ impl History {
         ensures closes { (is_closed self.new ≡ true) ↔ ((is_closed self.old ≡ true) ⊎ IsErrOf result HistoryFault.DiskFault) }
         ensures not_asked { IsErrOf result HistoryFault.NotAJournal → ⊥ }
         ensures unchanged { OnErr result (IsErrOf result HistoryFault.DiskFault ⊎ (self.new ≡ self.old)) }
+        ensures idle { IsErrOf result HistoryFault.Closed → (self.new ≡ self.old) × (host.new ≡ host.old) }
         ensures new { is_new self.new ≡ is_new self.old }
         ensures deeds { Told (H.world host.old) ((H.world host.new).deeds ≡ (H.world host.old).deeds) }
         ensures tells { (H.world host.new).tells ≡ (H.world host.old).tells }
@@ -167,6 +168,7 @@ impl History {
         ensures closes { (is_closed self.new ≡ true) ↔ ((is_closed self.old ≡ true) ⊎ IsErrOf result HistoryFault.DiskFault) }
         ensures only { IfErr result (λ e. (e ≡ HistoryFault.DiskFault) ⊎ (e ≡ HistoryFault.Closed) ⊎ (e ≡ HistoryFault.OutOfMemory)) }
         ensures unchanged { IsErrOf result HistoryFault.OutOfMemory → (self.new ≡ self.old) × (host.new ≡ host.old) }
+        ensures idle { IsErrOf result HistoryFault.Closed → (self.new ≡ self.old) × (host.new ≡ host.old) }
         ensures deeds { Told (H.world host.old) ((H.world host.new).deeds ≡ (H.world host.old).deeds) }
         ensures tells { (H.world host.new).tells ≡ (H.world host.old).tells }
         ensures counts { NoneFell (H.faults host.old) (H.faults host.new) }
@@ -212,6 +214,7 @@ impl History {
         ensures closes { (is_closed self.new ≡ true) ↔ ((is_closed self.old ≡ true) ⊎ IsErrOf result HistoryFault.DiskFault) }
         ensures only { IfErr result (λ e. (e ≡ HistoryFault.DiskFault) ⊎ (e ≡ HistoryFault.Closed) ⊎ (e ≡ HistoryFault.OutOfMemory)) }
         ensures unchanged { IsErrOf result HistoryFault.OutOfMemory → (self.new ≡ self.old) × (host.new ≡ host.old) }
+        ensures idle { IsErrOf result HistoryFault.Closed → (self.new ≡ self.old) × (host.new ≡ host.old) }
         ensures deeds { Told (H.world host.old) ((H.world host.new).deeds ≡ (H.world host.old).deeds) }
         ensures tells { (H.world host.new).tells ≡ (H.world host.old).tells }
         ensures counts { NoneFell (H.faults host.old) (H.faults host.new) }

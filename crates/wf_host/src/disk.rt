@@ -4,62 +4,34 @@ ghost use Rattle.wf_host.specs.World.{longest};
 
 use crate::Failed;
 use crate::host::LONGEST;
+use crate::journal_file::JournalFile;
 use crate::moves::{copy_from, put_in};
-use std::fs::{File, Files, OpenFile, OpenOptions};
-use std::io;
-use std::os::unix::fs::FileExt;
+use std::fs::{File, Files};
 
 /// A journal.
 #[derive(Drop)]
 pub(crate) enum Disk {
-    /// A file that couldn't be opened. It fails at each call.
-    Broken,
-    /// A file.
-    Journal(File),
+    /// A file at a path.
+    Journal(JournalFile),
     /// Memory, which ends with the program.
     Memory(Vec<u8>),
 }
 
-// Fills the room as far as the file reaches.
-fn fill(file: &File, at: u64, into: &mut [u8]) -> io::Result<usize>
-    ensures { IfOk result (λ n. n ≤ length into.old) }
-{
-    let mut count = 0;
-    for _ in 0..u64::MAX {
-        if count >= into.len() {
-            break;
-        }
-        match file.read_at(&mut into[count..], at.saturating_add(count as u64)) {
-            Ok(0) => break,
-            Ok(more) => count += more,
-            Err(e) if e.kind() == io::ErrorKind::Interrupted => {}
-            Err(e) => return Err(e),
-        }
-    }
-    Ok(count)
-}
-
 impl Disk {
-    /// The file at this path, made where there is none.
-    pub(crate) fn open<R: Files<File = File>>(rt: &R, path: &str) -> Disk {
-        let mut how = OpenOptions::new();
-        how.read(true).write(true).create(true);
-        match how.open(rt, path) {
-            Ok(file) => Disk::Journal(file),
-            Err(_) => Disk::Broken,
+    /// Whether another process holds the file.
+    pub(crate) fn is_held(&self) -> bool {
+        match self {
+            Disk::Journal(file) => file.is_held(),
+            Disk::Memory(_) => false,
         }
     }
 
     /// The length in bytes.
-    pub(crate) fn size(&self) -> Result<u64, Failed>
+    pub(crate) fn size<R: Files<File = File>>(&mut self, rt: &R) -> Result<u64, Failed>
         ensures { IfOk result (λ n. n ≤ longest) }
     {
         let size = match self {
-            Disk::Broken => return Err(Failed),
-            Disk::Journal(file) => match file.metadata() {
-                Ok(found) => found.len(),
-                Err(_) => return Err(Failed),
-            },
+            Disk::Journal(file) => file.size(rt)?,
             Disk::Memory(file) => file.len() as u64,
         };
         if size > LONGEST {
@@ -69,21 +41,27 @@ impl Disk {
     }
 
     /// Fills the room with the bytes at an offset, as far as they reach.
-    pub(crate) fn read_at(&self, at: u64, into: &mut [u8]) -> Result<usize, Failed>
+    pub(crate) fn read_at<R: Files<File = File>>(
+        &mut self,
+        rt: &R,
+        at: u64,
+        into: &mut [u8],
+    ) -> Result<usize, Failed>
         ensures { IfOk result (λ n. n ≤ length into.old) }
     {
         match self {
-            Disk::Broken => Err(Failed),
-            Disk::Journal(file) => match fill(file, at, into) {
-                Ok(count) => Ok(count),
-                Err(_) => Err(Failed),
-            },
+            Disk::Journal(file) => file.read_at(rt, at, into),
             Disk::Memory(file) => Ok(copy_from(file, at, into)),
         }
     }
 
     /// Writes at or before the end. A write behind it in memory, or past the longest file, fails.
-    pub(crate) fn write_at(&mut self, at: u64, bytes: &[u8]) -> Result<(), Failed>
+    pub(crate) fn write_at<R: Files<File = File>>(
+        &mut self,
+        rt: &R,
+        at: u64,
+        bytes: &[u8],
+    ) -> Result<(), Failed>
         requires { at ≤ longest }
         ensures { OnOk result (at + length bytes.now ≤ longest) }
     {
@@ -91,11 +69,7 @@ impl Disk {
             return Err(Failed);
         }
         match self {
-            Disk::Broken => Err(Failed),
-            Disk::Journal(file) => match file.write_all_at(bytes, at) {
-                Ok(()) => Ok(()),
-                Err(_) => Err(Failed),
-            },
+            Disk::Journal(file) => file.write_at(rt, at, bytes),
             Disk::Memory(file) => {
                 if at > file.len() as u64 {
                     return Err(Failed);
@@ -109,13 +83,9 @@ impl Disk {
     }
 
     /// Makes what was written stable.
-    pub(crate) fn sync(&self) -> Result<(), Failed> {
+    pub(crate) fn sync<R: Files<File = File>>(&mut self, rt: &R) -> Result<(), Failed> {
         match self {
-            Disk::Broken => Err(Failed),
-            Disk::Journal(file) => match file.sync_all() {
-                Ok(()) => Ok(()),
-                Err(_) => Err(Failed),
-            },
+            Disk::Journal(file) => file.sync(rt),
             Disk::Memory(_) => Ok(()),
         }
     }

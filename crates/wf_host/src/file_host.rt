@@ -5,6 +5,7 @@ ghost use Rattle.wf_host.specs.Untold.{untold};
 ghost use Rattle.wf_host.specs.FileHost.{file_host_faults, last_reading};
 
 use crate::disk::Disk;
+use crate::journal_file::JournalFile;
 use crate::{Failed, Host};
 use std::alloc::Global;
 use std::fs::{File, Files};
@@ -40,13 +41,20 @@ impl<R: Files<File = File> + Clock + Print + Drop> FileHost<R> {
         FileHost::on(rt, Disk::Memory(Vec::new(alloc)))
     }
 
-    /// A host with the journal at this path. Where there is none it is made; one that can't be opened fails at each
-    /// disk call.
-    pub fn with_journal(rt: R, path: &str) -> FileHost<R>
-        ensures { file_host_faults result ≡ no_faults }
+    /// A host with the journal at this path. It is opened at the first disk call and made at the first write. Where it can't be opened,
+    /// or another process holds it, each disk call fails.
+    pub fn with_journal(alloc: Global, rt: R, path: &str) -> Result<FileHost<R>, OutOfMemory>
+        ensures { IfOk result (λ h. file_host_faults h ≡ no_faults) }
     {
-        let disk = Disk::open(&rt, path);
-        FileHost::on(rt, disk)
+        match String::from_str(alloc, path) {
+            Ok(path) => Ok(FileHost::on(rt, Disk::Journal(JournalFile::new(path)))),
+            Err(_) => Err(OutOfMemory),
+        }
+    }
+
+    /// Whether another process holds the journal, so that each disk call fails.
+    pub fn is_held(&self) -> bool {
+        self.disk.is_held()
     }
 
     fn on(rt: R, disk: Disk) -> FileHost<R>
@@ -107,7 +115,7 @@ impl<R: Files<File = File> + Clock + Print + Drop> Host for FileHost<R> {
         ensures faults_on_err { OnErr result (file_host_faults self.new ≡ disk_failed (file_host_faults self.old)) }
         ensures clock { last_reading self.new ≡ last_reading self.old }
     {
-        let answer = self.disk.size();
+        let answer = self.disk.size(&self.rt);
         if answer.is_err() {
             self.count_disk_fault();
         }
@@ -122,7 +130,7 @@ impl<R: Files<File = File> + Clock + Print + Drop> Host for FileHost<R> {
         ensures faults_on_err { OnErr result (file_host_faults self.new ≡ disk_failed (file_host_faults self.old)) }
         ensures clock { last_reading self.new ≡ last_reading self.old }
     {
-        let answer = self.disk.read_at(at, into);
+        let answer = self.disk.read_at(&self.rt, at, into);
         if answer.is_err() {
             self.count_disk_fault();
         }
@@ -138,7 +146,7 @@ impl<R: Files<File = File> + Clock + Print + Drop> Host for FileHost<R> {
         ensures faults_on_err { OnErr result (file_host_faults self.new ≡ disk_failed (file_host_faults self.old)) }
         ensures clock { last_reading self.new ≡ last_reading self.old }
     {
-        let answer = self.disk.write_at(at, bytes);
+        let answer = self.disk.write_at(&self.rt, at, bytes);
         if answer.is_err() {
             self.count_disk_fault();
         }
@@ -152,7 +160,7 @@ impl<R: Files<File = File> + Clock + Print + Drop> Host for FileHost<R> {
         ensures faults_on_err { OnErr result (file_host_faults self.new ≡ disk_failed (file_host_faults self.old)) }
         ensures clock { last_reading self.new ≡ last_reading self.old }
     {
-        let answer = self.disk.sync();
+        let answer = self.disk.sync(&self.rt);
         if answer.is_err() {
             self.count_disk_fault();
         }
@@ -170,6 +178,7 @@ impl<R: Files<File = File> + Clock + Print + Drop> Host for FileHost<R> {
     }
 
     fn print(&mut self, bytes: &[u8]) -> Result<usize, Failed>
+        requires { 1 ≤ length bytes.now }
         ensures bound { IfOk result (λ n. n ≤ length bytes.now) }
         ensures counts { NoneFell (file_host_faults self.old) (file_host_faults self.new) }
         ensures cause { OnErr result (Rose (file_host_faults self.old).print (file_host_faults self.new).print) }

@@ -3,24 +3,38 @@ ghost use Rattle.std.specs.Prelude.{◌≡◌, ◌≤◌, length, None, IfOk, On
 ghost use Rattle.wf_host.specs.World.{Rose, next_count};
 ghost use Rattle.wf_host.specs.FileSource.{file_source_faults};
 
-use crate::{Failed, Source};
+use crate::{Failed, LateFile, Source};
+use std::alloc::Global;
+use std::fs::{File, Files};
 use std::io;
 use std::io::Read;
+use wf_value::OutOfMemory;
 
-/// A file or standard input, or a file that couldn't be opened, which fails at each read. It tells nothing of what
-/// it has left, but counts its faults.
+/// A file or standard input. It tells nothing of what it has left, but counts its faults.
 #[derive(Drop)]
 pub struct FileSource<R: Read> {
-    inner: Option<R>,
+    inner: R,
     faults: u64,
 }
 
 impl<R: Read> FileSource<R> {
-    /// A source that reads from this reader, or fails at each read where there is none.
-    pub fn new(inner: Option<R>) -> FileSource<R>
+    /// A source that reads from this reader.
+    pub fn new(inner: R) -> FileSource<R>
         ensures { file_source_faults result ≡ 0 }
     {
         FileSource { inner, faults: 0 }
+    }
+}
+
+impl<R: Files<File = File> + Drop> FileSource<LateFile<R>> {
+    /// The file at this path, which is opened at the first read. One that can't be opened fails at each read.
+    pub fn at(alloc: Global, rt: R, path: &str) -> Result<FileSource<LateFile<R>>, OutOfMemory>
+        ensures { IfOk result (λ s. file_source_faults s ≡ 0) }
+    {
+        match String::from_str(alloc, path) {
+            Ok(path) => Ok(FileSource::new(LateFile::new(rt, path))),
+            Err(_) => Err(OutOfMemory),
+        }
     }
 }
 
@@ -37,13 +51,12 @@ impl<R: Read> Source for FileSource<R> {
         ensures rests { OnOk result (file_source_faults self.new ≡ file_source_faults self.old) }
         ensures rises { OnErr result (file_source_faults self.new ≡ next_count (file_source_faults self.old)) }
     {
-        if let Some(inner) = &mut self.inner {
-            for _ in 0..u64::MAX {
-                match inner.read(into) {
-                    Ok(count) => return Ok(count),
-                    Err(e) if e.kind() == io::ErrorKind::Interrupted => {}
-                    Err(_) => break,
-                }
+        let inner = &mut self.inner;
+        for _ in 0..u64::MAX {
+            match inner.read(into) {
+                Ok(count) => return Ok(count),
+                Err(e) if e.kind() == io::ErrorKind::Interrupted => {}
+                Err(_) => break,
             }
         }
         self.faults = self.faults.saturating_add(1);

@@ -72,8 +72,9 @@ pub trait Host {
         ensures tells { (world self.new).tells ≡ (world self.old).tells }
         ensures counts { NoneFell (faults self.old) (faults self.new) };
 
-    /// Takes a prefix of the bytes, and says how long it is. On an error there is no deed.
+    /// Takes a prefix of the bytes, of which there is at least one, and says how long it is. On an error there is no deed.
     fn print(&mut self, bytes: &[u8]) -> Result<usize, Failed>
+        requires { 1 ≤ length bytes.now }
         ensures bound { IfOk result (λ n. n ≤ length bytes.now) }
         ensures seen { Told (world self.old) ((world self.new).seen ≡ (world self.old).seen) }
         ensures time { Told (world self.old) (MatchResult result

@@ -6,6 +6,8 @@ mod disk;
 mod file_host;
 mod file_source;
 mod host;
+mod journal_file;
+mod late_file;
 mod mem_host;
 mod mem_source;
 mod memory;
@@ -14,13 +16,12 @@ mod plan;
 mod progress;
 mod reading;
 mod source;
-#[cfg(test)]
-mod tests;
 
 pub use data::{Address, Deed, Failed, Heard, PollError, Routes, What};
 pub use file_host::FileHost;
 pub use file_source::FileSource;
 pub use host::Host;
+pub use late_file::LateFile;
 pub use mem_host::MemHost;
 pub use mem_source::MemSource;
 pub use plan::{Close, Plan, Reply, Service, Visitation};

@@ -295,6 +295,7 @@ impl Host for MemHost {
 
     /// Takes as many bytes as the plan has room for. It fails exactly where the plan says, or without memory.
     fn print(&mut self, bytes: &[u8]) -> Result<usize, Failed>
+        requires { 1 ≤ length bytes.now }
         ensures bound { IfOk result (λ n. n ≤ length bytes.now) }
         ensures seen { Told (mem_world self.old) ((mem_world self.new).seen ≡ (mem_world self.old).seen) }
         ensures time { Told (mem_world self.old) (MatchResult result

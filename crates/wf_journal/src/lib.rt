@@ -8,8 +8,6 @@ mod fault;
 mod journal;
 mod reading;
 mod record;
-#[cfg(test)]
-mod tests;
 mod writing;
 
 pub use fault::JournalFault;

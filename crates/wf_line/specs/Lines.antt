@@ -59,10 +59,18 @@ most n = 1
 abbrev pub is_id_byte : ℕ → Bool
 is_id_byte b = (nat_le 48 b && nat_le b 57) || (nat_le 65 b && nat_le b 90) || (nat_le 97 b && nat_le b 122) || b == 46 || b == 95 || b == 45
 
+-- the most bytes of a path
+abbrev pub longest_path : ℕ
+longest_path = 65536
+
+-- a path
+abbrev pub is_path : List ℕ → Bool
+is_path word = nat_lt 0 (length word) && nat_le (length word) longest_path
+
 -- the words that may stand behind an option's name
 abbrev pub is_word : OptionName → List ℕ → Bool
-is_word Source word = nat_lt 0 (length word)
-is_word Journal word = nat_lt 0 (length word)
+is_word Source word = is_path word
+is_word Journal word = is_path word
 is_word Id word = nat_lt 0 (length word) && nat_le (length word) 64 && list_all is_id_byte word
 
 -- ## Reading

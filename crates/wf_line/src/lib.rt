@@ -10,8 +10,6 @@ mod lookup;
 mod option;
 mod read;
 mod rows;
-#[cfg(test)]
-mod tests;
 
 pub use command::Command;
 pub use help::{help_text, version_text};

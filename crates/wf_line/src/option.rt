@@ -3,6 +3,9 @@ ghost use Rattle.std.specs.Prelude.{◌≡◌};
 ghost use Rattle.std.specs.List.{list_all};
 ghost use Rattle.wf_line.specs.Lines.{name_of, name_word, most, is_word, is_id_byte};
 
+/// The most bytes of a path.
+const LONGEST_PATH: usize = 65_536;
+
 /// An option of a command line.
 #[derive(Debug, Clone, Copy, PartialEq, Eq)]
 pub enum OptionName {
@@ -45,13 +48,15 @@ impl OptionName {
         1
     }
 
-    /// Whether a word may stand behind the name: for a path one that isn't empty, for an id 1 to 64
-    /// letters, digits, `.`, `_` and `-`.
+    /// Whether a word may stand behind the name: for a path one of 1 to 65,536 bytes, for an id 1 to
+    /// 64 letters, digits, `.`, `_` and `-`.
     pub(crate) fn fits(self, word: &str) -> bool
         ensures { result ≡ is_word self word.now }
     {
         match self {
-            OptionName::Source | OptionName::Journal => !word.is_empty(),
+            OptionName::Source | OptionName::Journal => {
+                !word.is_empty() && word.len() <= LONGEST_PATH
+            }
             OptionName::Id => !word.is_empty() && word.len() <= 64 && all_of_ids(word.as_bytes()),
         }
     }

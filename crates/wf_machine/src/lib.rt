@@ -18,15 +18,11 @@
 
 mod clock;
 mod evaluate;
-#[cfg(test)]
-mod expression_tests;
 mod facts;
 mod laws;
 mod machine;
 mod moves;
 mod store;
-#[cfg(test)]
-mod tests;
 
 pub use laws::one_outcome;
 pub use machine::{ApplyFault, Machine, Outcome};

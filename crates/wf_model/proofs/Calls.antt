@@ -1,20 +1,24 @@
 -- No event changes the request of an open call, or opens a call again.
-use Rattle.std.specs.Prelude.{◌≡◌, ℕ, zero, suc, ◌≤◌, ◌⊎◌, List, [], ◌∷◌, ◌++◌, length, nat_le, slice_get, slice_set, Some, None}
+use Rattle.std.specs.Prelude.{◌≡◌, ℕ, zero, suc, ◌+◌, ◌≤◌, ◌⊎◌, List, [], ◌∷◌, ◌++◌, length, nat_le, slice_get, slice_set, Some, None}
 use Rattle.std.proofs.Common.{inl, inr, arith}
 use mathlib.Core.Path.{refl, sym, ap, ◌∙◌}
 use Rattle.wf_ast.specs.Tree.{Program}
 use Rattle.wf_model.proofs.After.{Leads, led_to}
 use Rattle.wf_model.proofs.Runs.{runs_join}
-use Rattle.wf_model.proofs.Walk.{bool_case, leads_on, when_leads, for_task_leads, Stays, by_itself_stays, begins_stays, timed_out_stays, replied_to_stays, visited_stays}
-use Rattle.wf_model.specs.Config.{Call, Open, Answered, Outcome, Active, Returned, Raised, Cancelled, Config, After, To, Wrong, NotNow}
+use Rattle.wf_model.proofs.Walk.{bool_case, option_case, leads_on, when_leads, for_task_leads, Stays, by_itself_stays, begins_stays, timed_out_stays, replied_to_stays, visited_stays}
+use Rattle.wf_model.specs.Config.{Wait, Calling, Call, Open, Answered, Outcome, Active, Returned, Raised, Cancelled, Config, After, To, Wrong, NotNow, body_limit, task}
+use Rattle.wf_model.specs.CallLaws.{CallsGoOn, AnswersClose}
 use Rattle.wf_model.specs.Kinds.{Plainly, ByClock, ByCall}
-use Rattle.wf_model.specs.Move.{move, issue, due}
+use Rattle.wf_model.specs.Move.{move, issue, due, resumed}
 use Rattle.wf_model.specs.Ready.{call, is_due, may_begin, request_in, request_of}
 use Rattle.wf_model.specs.Run.{run_on, run}
 use Rattle.wf_model.specs.RunLaws.{OnlyClose, StepsOnlyCloseCalls, RequestsStay}
-use Rattle.wf_model.specs.Step.{stopped, one_more, counted, read_at, close, timed_out, begins_by, wants, bodies_left, by_event, step_from, next}
+use Rattle.wf_model.specs.Step.{stopped, replied, replied_to, one_more, counted, read_at, close, timed_out, begins_by, wants, bodies_left, by_event, step_from, next}
 use Rattle.wf_model.specs.Taken.{by_itself}
-use Rattle.wf_shared.specs.Events.{Event}
+use Rattle.wf_shared.specs.Events.{Event, Reply}
+use Rattle.wf_shared.specs.HttpText.{reply_result, reply_length}
+use Rattle.wf_value.specs.Errors.{error_map}
+use Rattle.wf_value.specs.declared.Tag.TheVariants.{ResourceLimitError}
 use Rattle.wf_shared.specs.HttpRequest.{Request}
 use Rattle.wf_shared.specs.Queues.{arrive_fault}
 
@@ -126,3 +130,104 @@ requests_stay p s es fs b c h i k q le e =
     let leads : Leads (Closes b) (run_on p (To b) fs) = run_closes p b (To b) fs (closes_same b.calls) in
     let there : run_on p (To b) fs ≡ To c = ap (λ a. run_on p a fs) (sym h) ∙ sym (runs_join p (run p s []) es fs) ∙ i in
     request_stays b c k q (led_to (Closes b) (run_on p (To b) fs) c leads there) le e
+
+closes_longer : (xs ys : List Call) → OnlyClose xs ys → length xs ≤ length ys
+closes_longer [] ys h = omega arith
+closes_longer (x ∷ xs) [] h = absurd h
+closes_longer (x ∷ xs) (y ∷ ys) h = let le = closes_longer xs ys h.1 in omega (arith, le)
+
+pub calls_go_on : CallsGoOn
+calls_go_on p b c es is =
+    let closes = led_to (Closes b) (run_on p (To b) es) c (run_closes p b (To b) es (closes_same b.calls)) is in
+    (closes_longer b.calls c.calls closes, λ k q le asks. request_stays b c k q closes le asks)
+
+-- ## Answers
+-- a call that was issued and isn't open
+abbrev Shut : ℕ → Config → Type 0
+Shut k c = (k ≤ length c.calls) × (request_of c k ≡ None)
+
+nth_more : (xs zs : List Call) (n : ℕ) → suc n ≤ length xs → nth (xs ++ zs) n ≡ nth xs n
+nth_more [] zs n le = absurd (omega (arith, le))
+nth_more (x ∷ xs) zs zero le = refl
+nth_more (x ∷ xs) zs (suc n) le = nth_more xs zs n (omega (arith, le))
+
+longer : (xs zs : List Call) → length xs ≤ length (xs ++ zs)
+longer [] zs = omega arith
+longer (x ∷ xs) zs = let le = longer xs zs in omega (arith, le)
+
+same_length : (xs : List Call) (n : ℕ) (x : Call) → length (slice_set xs n x) ≡ length xs
+same_length [] n x = refl
+same_length (y ∷ ys) zero x = refl
+same_length (y ∷ ys) (suc n) x = ap suc (same_length ys n x)
+
+-- where one is closed, what was closed stays so
+nth_closed : (xs : List Call) (m n : ℕ) (x : Call) → request_in x ≡ None → request_in (nth xs n) ≡ None → request_in (nth (slice_set xs m x) n) ≡ None
+nth_closed [] m n x h k = k
+nth_closed (y ∷ ys) zero zero x h k = h
+nth_closed (y ∷ ys) zero (suc n) x h k = k
+nth_closed (y ∷ ys) (suc m) zero x h k = k
+nth_closed (y ∷ ys) (suc m) (suc n) x h k = nth_closed ys m n x h k
+
+-- and it is closed itself
+nth_set : (xs : List Call) (n : ℕ) (x : Call) → suc n ≤ length xs → request_in x ≡ None → request_in (nth (slice_set xs n x) n) ≡ None
+nth_set [] n x le h = absurd (omega (arith, le))
+nth_set (y ∷ ys) zero x le h = h
+nth_set (y ∷ ys) (suc n) x le h = nth_set ys n x (omega (arith, le)) h
+
+shut_with : (k : ℕ) (c : Config) (zs : List Call) → Shut k c → Shut k (record c { calls = c.calls ++ zs })
+shut_with zero c zs h = (omega arith, refl)
+shut_with (suc n) c zs h = (let le = h.0 in omega (arith, le, longer c.calls zs), ap request_in (nth_more c.calls zs n h.0) ∙ h.1)
+
+shut_still : (k : ℕ) (c : Config) (n : ℕ) (x : Call) → request_in x ≡ None → Shut k c → Shut k (close n x c)
+shut_still k c zero x e h = h
+shut_still zero c (suc n) x e h = (omega arith, refl)
+shut_still (suc k) c (suc n) x e h = (let le = h.0 in omega (arith, le, same_length c.calls n x), nth_closed c.calls n k x e h.1)
+
+shut_stays : (k : ℕ) → Stays (Shut k)
+shut_stays k = record {
+  tasks = λ c ts h. h;
+  made = λ c h. h;
+  sent = λ c n q d h. shut_with k c (Open n q d ∷ []) h;
+  closed = λ c n x e h. shut_still k c n x e h;
+  endpoints = λ c es h. h;
+  logged = λ c e h. h;
+  bodies = λ c n h. h;
+  outcome = λ c o h. h;
+}
+
+-- a call that is open can be closed
+open_at : (xs : List Call) (n : ℕ) (i : ℕ) (q : Request) (d : ℕ) → nth xs n ≡ Open i q d → suc n ≤ length xs
+open_at [] n i q d h = absurd (let f : Answered ≡ Open i q d = h in cc f)
+open_at (x ∷ xs) zero i q d h = omega arith
+open_at (x ∷ xs) (suc n) i q d h = let le = open_at xs n i q d h in omega (arith, le)
+
+shut_one : (k : ℕ) (c : Config) (i : ℕ) (q : Request) (d : ℕ) → call c k ≡ Open i q d → Shut k (close k Answered c)
+shut_one zero c i q d h = absurd (let f : Answered ≡ Open i q d = h in cc f)
+shut_one (suc n) c i q d h =
+    let le = open_at c.calls n i q d h in
+    (omega (arith, le, same_length c.calls n Answered), nth_set c.calls n Answered le refl)
+
+abbrev IfActive : ℕ → Config → Type 0
+IfActive k c = c.outcome ≡ Active → Shut k c
+
+replied_shuts : (p : Program) (k : ℕ) (a : Reply) (i : ℕ) (w : Wait) (c : Config) (q : Request) (d : ℕ) → call c k ≡ Open i q d → Leads (IfActive k) (replied p k a i w c)
+replied_shuts p k a i (Calling m r) c q d h =
+    let f = record c { bodies = c.bodies + reply_length a } in
+    bool_case (Leads (IfActive k)) (nat_le (c.bodies + reply_length a) body_limit) (by_itself p i 0 (λ s l. resumed s r (reply_result a) l) (close k Answered f)) (To (stopped c))
+    (λ e. leads_on (Shut k) (IfActive k) (by_itself p i 0 (λ s l. resumed s r (reply_result a) l) (close k Answered f)) (λ b shut active. shut)
+    (by_itself_stays (Shut k) (shut_stays k) p i 0 (λ s l. resumed s r (reply_result a) l) (close k Answered f) (shut_one k f i q d h)))
+    (λ e active. absurd (let no : Raised (error_map ResourceLimitError) ≡ Active = active in cc no))
+replied_shuts p k a i w c q d h = tt
+
+replied_to_shuts : (p : Program) (k : ℕ) (a : Reply) (x : Call) (c : Config) → call c k ≡ x → Leads (IfActive k) (replied_to p k a x c)
+replied_to_shuts p k a (Open i q d) c h = option_case (Leads (IfActive k)) (task c i) NotNow (λ t. replied p k a i t.wait c) tt (λ t. replied_shuts p k a i t.wait c q d h)
+replied_to_shuts p k a x c h = tt
+
+answer_shuts : (o : Outcome) (p : Program) (b : Config) (k r : ℕ) (a : Reply) → Leads (IfActive k) (step_from o p b (Event.Answer k r a))
+answer_shuts Active p b k r a = when_leads (IfActive k) (nat_le b.last r) _ (λ e. replied_to_shuts p k a (call b k) (read_at r b) refl)
+answer_shuts (Returned v) p b k r a = tt
+answer_shuts (Raised v) p b k r a = tt
+answer_shuts Cancelled p b k r a = tt
+
+pub answers_close : AnswersClose
+answers_close p b c k r a is = led_to (IfActive k) (next p b (Event.Answer k r a)) c (answer_shuts b.outcome p b k r a) is

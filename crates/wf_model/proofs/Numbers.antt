@@ -22,20 +22,20 @@ use Rattle.wf_shared.specs.Events.{Visitor, Reply, Event, Start}
 use Rattle.wf_shared.specs.HttpText.{reply_result, visit_result, reply_length}
 use Rattle.wf_shared.specs.Queues.{ArriveFault, arrive_fault}
 
-some_case : {A B : Type 0} (P : B → Type 0) (o : Option A) (x : B) (f : A → B) → P x → ((t : A) → o ≡ Some t → P (f t)) → P (elim o [ None ↦ x | Some t ↦ f t ])
+pub some_case : {A B : Type 0} (P : B → Type 0) (o : Option A) (x : B) (f : A → B) → P x → ((t : A) → o ≡ Some t → P (f t)) → P (elim o [ None ↦ x | Some t ↦ f t ])
 some_case P None x f h k = h
 some_case P (Some t) x f h k = k t refl
 
 -- ## Lists of tasks
-lower : (low from made : ℕ) (ts : List (ℕ × Task)) → low ≤ from → RisesFrom from made ts → RisesFrom low made ts
+pub lower : (low from made : ℕ) (ts : List (ℕ × Task)) → low ≤ from → RisesFrom from made ts → RisesFrom low made ts
 lower low from made [] le h = tt
 lower low from made (t ∷ ts) le h = (omega (arith, le, h.0), h.1, h.2)
 
-higher : (low made more : ℕ) (ts : List (ℕ × Task)) → made ≤ more → RisesFrom low made ts → RisesFrom low more ts
+pub higher : (low made more : ℕ) (ts : List (ℕ × Task)) → made ≤ more → RisesFrom low made ts → RisesFrom low more ts
 higher low made more [] le h = tt
 higher low made more (t ∷ ts) le h = (h.0, omega (arith, le, h.1), higher (suc t.0) made more ts le h.2)
 
-put_rises : (low made b : ℕ) (t : Task) (ts : List (ℕ × Task)) → low ≤ b → b < made → RisesFrom low made ts → RisesFrom low made (put_in b t ts)
+pub put_rises : (low made b : ℕ) (t : Task) (ts : List (ℕ × Task)) → low ≤ b → b < made → RisesFrom low made ts → RisesFrom low made (put_in b t ts)
 put_rises low made b t [] le less h = (le, less, tt)
 put_rises low made b t (u ∷ us) le less h =
     bool_case (RisesFrom low made) (nat_eq u.0 b) ((b, t) ∷ us) (if nat_lt b u.0 then (b, t) ∷ u ∷ us else u ∷ put_in b t us)
@@ -44,13 +44,13 @@ put_rises low made b t (u ∷ us) le less h =
     (λ i. (le, less, (ltb-true b u.0 i, h.1, h.2)))
     (λ i. (h.0, h.1, put_rises (suc u.0) made b t us (omega (arith, eqb-false u.0 b e, ltb-false b u.0 i)) less h.2)))
 
-drop_rises : (low made b : ℕ) (ts : List (ℕ × Task)) → RisesFrom low made ts → RisesFrom low made (drop_in b ts)
+pub drop_rises : (low made b : ℕ) (ts : List (ℕ × Task)) → RisesFrom low made ts → RisesFrom low made (drop_in b ts)
 drop_rises low made b [] h = tt
 drop_rises low made b (u ∷ us) h =
     bool_case (RisesFrom low made) (nat_eq u.0 b) us (u ∷ drop_in b us)
     (λ e. lower low (suc u.0) made us (omega (arith, h.0)) h.2) (λ e. (h.0, h.1, drop_rises (suc u.0) made b us h.2))
 
-known : (low made b : ℕ) (ts : List (ℕ × Task)) (t : Task) → RisesFrom low made ts → task_in ts b ≡ Some t → b < made
+pub known : (low made b : ℕ) (ts : List (ℕ × Task)) (t : Task) → RisesFrom low made ts → task_in ts b ≡ Some t → b < made
 known low made b [] t h = λ e. cc e
 known low made b (u ∷ us) t h =
     bool_case (λ o. o ≡ Some t → b < made) (nat_eq u.0 b) (Some u.1) (task_in us b)
@@ -211,7 +211,7 @@ run_numbered p (To c) (e ∷ es) h = run_numbered p (next p c e) es (step_from_n
 run_numbered p (Wrong k) (e ∷ es) h = tt
 run_numbered p NotNow (e ∷ es) h = tt
 
-initial_numbered : (p : Program) (s : Start) → Leads Numbered (initial p s)
+pub initial_numbered : (p : Program) (s : Start) → Leads Numbered (initial p s)
 initial_numbered p s =
     leads_on (With 1 0) Numbered (initial p s) (with_numbered 1 0 (omega arith))
     (merged_with 1 0 0 None (goes (Do (main_steps p.flows) (main_steps p.flows) ∷ []) (main_local p (unwrap_or (json_value s.argument) null))) (empty s) (refl, refl, (omega arith, omega arith, tt)))

@@ -6,6 +6,6 @@ use Rattle.wf_model.specs.Config.{Wrong}
 use Rattle.wf_model.specs.Run.{run}
 use Rattle.wf_shared.specs.Events.{Event, Start}
 
--- whatever the start and the events (it isn't proved yet)
+-- whatever the start and the events; wf_never_wrong carries it as a clause
 abbrev pub NeverWrong : Type 0
 NeverWrong = (p : Program) → Accept p → (s : Start) (es : List Event) (k : Kind) → run p s es ≡ Wrong k → ⊥

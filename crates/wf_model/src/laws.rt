@@ -1,6 +1,10 @@
 //! Laws of the language's meaning, for every program. The functions do nothing; each of their clauses is a law.
 
 ghost use Rattle.wf_model.specs.ChoiceLaws.{NothingIsChosenWhenQuiet, NothingIsChosenBehindAnOutcome, ChoiceTakesTheReading};
+ghost use Rattle.wf_model.specs.CallLaws.{CallsGoOn, AnswersClose};
+ghost use Rattle.wf_model.specs.CountLaws.{EventsAreCounted, TakenWeighsNothing, TasksWeighLittle};
+ghost use Rattle.wf_model.specs.ReadingLaws.{StepsRead, ChosenIsFromInside};
+ghost use Rattle.wf_model.specs.WaitLaws.{AnswersLead, CallsAreAwaited, QuietHasADue, RootLives, SoundAtFirst, SoundIsAwaited, StepsStaySound, WaitingHasADue};
 ghost use Rattle.wf_model.specs.TurnLaws.{NextTurnGoesOn, LaterTurnDoesNotCount, AllTurnsAreTheRun};
 ghost use Rattle.wf_model.specs.RunLaws.{RunsJoin, FrontIsARun, StepGoesOn, RunsAgree, StepIsOne, NothingFollowsAnOutcome, StepsCount, StepsOnlyCloseCalls, RequestsStay, RunsAreBounded, TasksAreNumbered};
 
@@ -35,4 +39,37 @@ pub fn laws_of_turns()
     ensures next_turn_goes_on { NextTurnGoesOn }
     ensures later_turn_does_not_count { LaterTurnDoesNotCount }
     ensures all_turns_are_the_run { AllTurnsAreTheRun }
+{}
+
+/// What holds of calls: events only close them, new ones come behind, and an answer closes its call unless it ends the execution.
+pub fn laws_of_calls()
+    ensures calls_go_on { CallsGoOn }
+    ensures answers_close { AnswersClose }
+{}
+
+/// What holds of readings and choices: a step takes its event's reading, and what is chosen needs nothing from outside.
+pub fn laws_of_readings()
+    ensures steps_read { StepsRead }
+    ensures chosen_is_from_inside { ChosenIsFromInside }
+{}
+
+/// What holds of waits: an open call is one for which its task waits, and a task waits for none but an open call of its own; without an
+/// outcome task 0 lives; where a task waits there is a due moment; and an answer to an open call can come.
+pub fn laws_of_waits()
+    ensures sound_at_first { SoundAtFirst }
+    ensures steps_stay_sound { StepsStaySound }
+    ensures sound_is_awaited { SoundIsAwaited }
+    ensures calls_are_awaited { CallsAreAwaited }
+    ensures root_lives { RootLives }
+    ensures waiting_has_a_due { WaitingHasADue }
+    ensures quiet_has_a_due { QuietHasADue }
+    ensures answers_lead { AnswersLead }
+{}
+
+/// What holds of events that nothing outside has to bring: with each of them the weight of the tasks' waits and three times the moves that
+/// are left fall. An answer or a request that comes makes no task heavier, and a task weighs at most two.
+pub fn laws_of_counts()
+    ensures events_are_counted { EventsAreCounted }
+    ensures taken_weighs_nothing { TakenWeighsNothing }
+    ensures tasks_weigh_little { TasksWeighLittle }
 {}

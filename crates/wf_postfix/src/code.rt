@@ -13,7 +13,6 @@ use wf_ast::{Expr, Func, Op};
 use wf_value::{OutOfMemory, Text, Value};
 
 /// An instruction for a stack of values. A skip passes so many instructions.
-#[derive(Drop)]
 pub enum Instr {
     Push(Value),
     Load(Text),
@@ -26,6 +25,25 @@ pub enum Instr {
     AndSkip(usize),
     OrSkip(usize),
     Check,
+}
+
+// Written, and not derived: it is one call wherever an instruction is let go.
+impl Drop for Instr {
+    fn drop(self) {
+        match self {
+            Instr::Push(_)
+            | Instr::Load(_)
+            | Instr::Negate
+            | Instr::Invert
+            | Instr::Combine(_)
+            | Instr::Member(_)
+            | Instr::Index
+            | Instr::Call(_, _)
+            | Instr::AndSkip(_)
+            | Instr::OrSkip(_)
+            | Instr::Check => {}
+        }
+    }
 }
 
 /// The code of an expression, which `compile` alone makes.

@@ -5,7 +5,5 @@
 #![tactic(auto)]
 
 mod printing;
-#[cfg(test)]
-mod tests;
 
 pub use printing::print_all;

@@ -1,5 +1,5 @@
 -- A loop that replays a history.
-use Rattle.std.specs.Prelude.{◌≡◌, ℕ, false, List}
+use Rattle.std.specs.Prelude.{◌≡◌, ℕ, true, false, List}
 use Rattle.std.proofs.Common.{refl, arith}
 use Rattle.wf_history.specs.Stands.{Stands, ahead, is_closed, is_new}
 use Rattle.wf_history.specs.declared.history.History.{History}
@@ -20,14 +20,15 @@ pub record SoFar (first now : World) (h g : History) (m n : Machine) : Type 0 wh
   pub stands : is_closed g ≡ false → Stands g now
   pub moments : is_closed h ≡ false → LeavesOnly first now (Stays first)
 
--- what it keeps
-pub record Kept (first now : World) (before after : Faults) (h g : History) (m n : Machine) : Type 0 where
+-- what it keeps; and of a closed history that nothing was done
+pub record Kept (first now : World) (before after : Faults) (h g : History) (m n : Machine) (nothing_done : Type 0) : Type 0 where
   pub so_far : Told first (SoFar first now h g m n)
   pub closed : is_closed g ≡ is_closed h
   pub new : is_new g ≡ is_new h
   pub whole : (state_of n).broken ≡ false
   pub tells : now.tells ≡ first.tells
   pub counts : NoneFell before after
+  pub idle : is_closed h ≡ true → nothing_done
 
 -- no count falls by nothing
 pub none_fell : (f : Faults) → NoneFell f f

@@ -9,8 +9,6 @@
 mod fault;
 mod laws;
 mod replaying;
-#[cfg(test)]
-mod tests;
 
 pub use fault::ReplayFault;
 pub use laws::{laws_of_histories, laws_of_moments};

@@ -43,6 +43,7 @@ pub fn replay<H: Host>(
     ensures disk_fault { IsErrOf result ReplayFault.DiskFault → Rose (H.faults host.old).disk (H.faults host.new).disk }
     ensures closed { IsErrOf result ReplayFault.Closed ↔ (is_closed history.old ≡ true) }
     ensures closes { (is_closed history.new ≡ true) ↔ ((is_closed history.old ≡ true) ⊎ IsErrOf result ReplayFault.DiskFault) }
+    ensures idle { IsErrOf result ReplayFault.Closed → (history.new ≡ history.old) × (host.new ≡ host.old) }
     ensures deeds { Told (H.world host.old) ((H.world host.new).deeds ≡ (H.world host.old).deeds) }
     ensures tells { (H.world host.new).tells ≡ (H.world host.old).tells }
     ensures counts { NoneFell (H.faults host.old) (H.faults host.new) }
@@ -74,6 +75,7 @@ fn replay_next<H: Host>(
     ensures disk_fault { IsErrOf result ReplayFault.DiskFault → Rose (H.faults host.old).disk (H.faults host.new).disk }
     ensures closed { IsErrOf result ReplayFault.Closed ↔ (is_closed history.old ≡ true) }
     ensures closes { (is_closed history.new ≡ true) ↔ ((is_closed history.old ≡ true) ⊎ IsErrOf result ReplayFault.DiskFault) }
+    ensures idle { IsErrOf result ReplayFault.Closed → (history.new ≡ history.old) × (host.new ≡ host.old) }
     ensures deeds { Told (H.world host.old) ((H.world host.new).deeds ≡ (H.world host.old).deeds) }
     ensures tells { (H.world host.new).tells ≡ (H.world host.old).tells }
     ensures counts { NoneFell (H.faults host.old) (H.faults host.new) }

@@ -5,3 +5,14 @@ pub mod RowsHold
 pub mod Firsts
 pub mod OneText
 pub mod OneFault
+pub mod Own
+pub mod Deep
+pub mod Finding
+pub mod Faultless
+pub mod OneForm
+pub mod Soundness
+pub mod ValuesMade
+pub mod BodiesMade
+pub mod ProgramsMade
+pub mod BuiltTrees
+pub mod Computed

@@ -1,4 +1,6 @@
 //! Laws of the rules.
+ghost use Rattle.wf_rules.specs.Built.{BuiltIsIt};
+ghost use Rattle.wf_rules.specs.First.{FirstFaultIsIt};
 ghost use Rattle.wf_rules.specs.Laws.{FirstIsAFault, NodeIsSound, NotBothBuilt, OneFault, OneProgram};
 
 use wf_expr::one_target;
@@ -22,4 +24,14 @@ pub fn first_fault_is_a_fault()
 /// A tree is refused in one way at most: its first fault is one, at one place.
 pub fn one_fault()
     ensures { OneFault }
+{}
+
+/// Each tree has no fault or a first one, and the definitions' function gives it.
+pub fn first_fault_is_it()
+    ensures { FirstFaultIsIt }
+{}
+
+/// Each tree is a program or has a first fault, and the definitions' function gives it.
+pub fn each_tree_is_one()
+    ensures { BuiltIsIt }
 {}

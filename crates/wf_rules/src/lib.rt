@@ -7,5 +7,7 @@ mod laws;
 mod rows;
 
 pub use fault::{SyntaxFault, SyntaxKind};
-pub use laws::{first_fault_is_a_fault, one_fault, one_program};
+pub use laws::{
+    each_tree_is_one, first_fault_is_a_fault, first_fault_is_it, one_fault, one_program,
+};
 pub use rows::worked_faults;

@@ -3,7 +3,5 @@
 
 mod form;
 mod reads;
-#[cfg(test)]
-mod tests;
 
 pub use form::is_second_form;

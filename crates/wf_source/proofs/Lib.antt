@@ -1,4 +1,5 @@
 pub mod Json
 pub mod Contents
 mod Programs
-mod Bytes
+pub mod Sourced
+pub mod RowsHold

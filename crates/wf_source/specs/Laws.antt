@@ -1,6 +1,5 @@
 -- Laws of sources, as they stand in the contract of `laws_of_sources`.
-use Rattle.std.specs.Prelude.{◌≡◌, ◌≤◌, ◌<◌, ℕ, List, length}
-use Rattle.std.specs.List.{AllByRecursion}
+use Rattle.std.specs.Prelude.{◌≡◌, ◌≤◌, ℕ, List, length}
 use Rattle.wf_ast.specs.Tree.{Program}
 use Rattle.wf_source.specs.Programs.{IsRefusalOf, IsSourceOf}
 use Rattle.wf_status.specs.declared.Refusal.{Refusal}
@@ -20,7 +19,3 @@ NotBoth = (bytes : List ℕ) (p : Program) (r : Refusal) → IsSourceOf bytes p 
 -- a program has at most 131,072 bytes
 abbrev pub ProgramIsShort : Type 0
 ProgramIsShort = (bytes : List ℕ) (p : Program) → IsSourceOf bytes p → length bytes ≤ 131072
-
--- each of its bytes is below 256
-abbrev pub ProgramIsBytes : Type 0
-ProgramIsBytes = (bytes : List ℕ) (p : Program) → IsSourceOf bytes p → AllByRecursion (λ b. b < 256) bytes

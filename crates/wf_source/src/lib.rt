@@ -6,11 +6,11 @@ mod fault;
 mod laws;
 mod program;
 mod refusing;
-#[cfg(test)]
-mod tests;
+mod rows;
 mod tree;
 
 pub use fault::SourceFault;
-pub use laws::laws_of_sources;
+pub use laws::{each_source_is_one, laws_of_sources};
 pub use program::read_source;
+pub use rows::worked_sources;
 pub use tree::{SOURCE_LIMIT, read_tree};

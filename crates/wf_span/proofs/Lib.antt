@@ -8,3 +8,4 @@ pub mod Longest
 pub mod Boundaries
 pub mod Sequence
 pub mod Unique
+pub mod Lexing

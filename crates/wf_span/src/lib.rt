@@ -5,12 +5,10 @@ mod laws;
 mod lexer;
 mod line;
 mod piece;
-#[cfg(test)]
-mod tests;
 mod token;
 mod walk;
 
-pub use laws::tokens_are_one;
+pub use laws::{lexer_is_them, tokens_are_one};
 pub use lexer::tokens;
 pub use line::{Line, Lines};
 pub use token::{LexFault, Token, TokenKind, Tokens};

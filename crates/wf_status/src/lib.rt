@@ -5,8 +5,6 @@ mod kind;
 mod place;
 mod refusal;
 mod status;
-#[cfg(test)]
-mod tests;
 
 pub use kind::RefusalKind;
 pub use place::Place;

@@ -7,7 +7,6 @@ pub mod Pairs
 pub mod Nodes
 pub mod Texts
 pub mod Targets
-pub mod Own
 pub mod Ordered
 pub mod Defaults
 pub mod Amounts
@@ -17,7 +16,6 @@ pub mod Mains
 pub mod Sources
 pub mod Programs
 pub mod Depths
-pub mod Faultless
 pub mod OneForm
 pub mod Rows
 pub mod Levels

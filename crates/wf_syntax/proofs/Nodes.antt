@@ -2,6 +2,7 @@
 use Rattle.std.proofs.Common.{◌≡◌, ◌+◌, ◌<◌, ℕ, zero, suc, length, take, slice_index_or, arith, not-suc-le-zero, add-one, ◌≤◌, Bool, true, false, if◌then◌else◌, List, [], ◌∷◌, ◌++◌, reverse, append_assoc, take_all, Option, Some, None, refl, sym, ap, ◌∙◌, subst, subst₂}
 use Rattle.std.proofs.lemmas.List.{reverse-append, get_or-map, length-map}
 use Rattle.wf_expr.specs.declared.fault.ExprFault.{ExprFault}
+use Rattle.wf_rules.proofs.Own.{own_is}
 use Rattle.wf_rules.proofs.Sound.{node_is_sound}
 use Rattle.wf_rules.specs.Faults.{AreSound, FirstAt, IsOwn, IsSound, IsTextFault}
 use Rattle.wf_rules.specs.Meaning.{Each}
@@ -73,6 +74,10 @@ pub here_fails : (r : Role) (t : Tree) (k : SyntaxKind) (out : Stop) → IsOwn r
 here_fails r t k (stop.Refused j ps) h o =
     subst (λ l. FirstAt (reverse l) j r t) (sym o.1) (subst (λ x. IsOwn r t x) (sym o.0) h)
 here_fails r t k stop.OutOfMemory h o = absurd o
+
+-- a node's own fault stops it
+pub own_fails : (r : Role) (t : Tree) (k : SyntaxKind) (out : Stop) → own r t ≡ Some k → IsHere k out → Fails r t out
+own_fails r t k out e h = here_fails r t k out (own_is r t k e) h
 
 below_fails : (ps : List PathPart) (k : SyntaxKind) (r : Role) (t : Tree) → own r t ≡ None → FirstAmong ps k (parts r t) → FirstAt ps k r t
 below_fails [] k r t e h = absurd h

@@ -1,5 +1,6 @@
 -- Fields in a row: that none has a fault, and where the first one stands.
-use Rattle.std.proofs.Common.{◌≡◌, ℕ, zero, suc, List, [], ◌∷◌, ◌++◌, Result, Err, MatchResult, codes, sym, subst}
+use Rattle.std.proofs.Common.{◌≡◌, ℕ, zero, suc, List, [], ◌∷◌, ◌++◌, Result, Ok, Err, MatchResult, codes, sym, subst, ap}
+use Rattle.std.specs.Result.{IsErr, IsErrAnd}
 use Rattle.wf_rules.specs.Faults.{AreSound}
 use Rattle.wf_rules.specs.Rules.{Role, AnyText, Arguments, Arms, Branches, Entries, Except, Limit, Loop, Parallel, Policy, Range, Retry, Shared, Steps, Sub, Try, Value, VariableName, at}
 use Rattle.wf_syntax.proofs.Nodes.{both_sound, fails_first, fails_then}
@@ -53,6 +54,11 @@ row_fails fs (k ∷ ks) (suc i) out h = after_fails (at k.0 k.1 fs) fs ks i out 
 -- a stop that is passed on
 pub told : {T : Type 0} (P : T → Type 0) (Q : Stop → Type 0) (r : Result T Stop) (s : Stop) → r ≡ Err s → Q s → MatchResult r P Q
 told P Q r s is h = subst (λ x. MatchResult x P Q) (sym is) h
+
+-- what `?` hands on is the stop itself
+pub handed_on : {T : Type 0} (r : Result T Stop) (s : Stop) → IsErr r × IsErrAnd r (λ e. e ≡ s) → r ≡ Err s
+handed_on (Ok x) s gives = absurd gives.1
+handed_on (Err e) s gives = ap Err gives.1
 
 -- ## The keys of nodes, in their order
 abbrev pub body_keys : List (Text × Role)

@@ -9,8 +9,7 @@ use Rattle.wf_rules.specs.Meaning.{IsStep}
 use Rattle.wf_rules.specs.Names.{is_step_name}
 use Rattle.wf_rules.specs.Rules.{Role, Block, Body, Branch, Step, demand, own, parts, single_of}
 use Rattle.wf_rules.specs.declared.fault.SyntaxKind.TheVariants.{NotAStep}
-use Rattle.wf_syntax.proofs.Nodes.{fails_part, map_fails, map_sound}
-use Rattle.wf_syntax.proofs.Own.{own_fails}
+use Rattle.wf_syntax.proofs.Nodes.{fails_part, map_fails, map_sound, own_fails}
 use Rattle.wf_syntax.proofs.Targets.{single_is}
 use Rattle.wf_syntax.specs.Answers.{Fails, Gives, IsHere, IsOutside}
 use Rattle.wf_syntax.specs.Forms.{IsBlock, IsBranch, IsStepBody}

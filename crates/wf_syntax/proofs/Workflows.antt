@@ -13,8 +13,7 @@ use Rattle.wf_rules.specs.Rules.{Flow, Literal, Parameter, Parameters, Steps, Su
 use Rattle.wf_rules.specs.declared.fault.SyntaxKind.{SyntaxKind}
 use Rattle.wf_rules.specs.declared.fault.SyntaxKind.TheVariants.{MissingField, UnknownField, WrongKind}
 use Rattle.wf_shared.specs.HttpRequest.{is_among}
-use Rattle.wf_syntax.proofs.Nodes.{both_sound, fails_first, fails_part, fails_then, leaf_sound, map_fails, map_sound}
-use Rattle.wf_syntax.proofs.Own.{own_fails}
+use Rattle.wf_syntax.proofs.Nodes.{both_sound, fails_first, fails_part, fails_then, leaf_sound, map_fails, map_sound, own_fails}
 use Rattle.wf_syntax.proofs.Targets.{single_is}
 use Rattle.wf_syntax.specs.Answers.{Fails, FailsAmong, Gives, GivesAll, IsHere, IsOutside}
 use Rattle.wf_syntax.specs.declared.stop.Stop.{Stop}

@@ -12,10 +12,6 @@ mod policies;
 mod source;
 mod steps;
 mod stop;
-#[cfg(test)]
-mod table;
-#[cfg(test)]
-mod tests;
 mod values;
 mod words;
 

@@ -103,6 +103,9 @@ fn try_body(
             policy,
             except,
         })),
-        Err(_) => Err(Stop::OutOfMemory),
+        Err(failed) => {
+            drop(failed);
+            Err(Stop::OutOfMemory)
+        }
     }
 }

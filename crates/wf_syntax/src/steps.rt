@@ -51,9 +51,13 @@ fn loop_of(
 ) -> Option<LoopBody>
     ensures { option_map loop_view result ≡ loop_of (over_of (option_map template_view list) (option_map ends_view range)) index (option_map steps_in steps) value }
 {
-    let over = over(list, range)?;
-    let steps = steps?;
-    let value = value?;
+    let Some(over) = over(list, range) else {
+        return None;
+    };
+    let (Some(steps), Some(value)) = (steps, value) else {
+        drop(over);
+        return None;
+    };
     Some(LoopBody {
         value,
         index,
@@ -125,9 +129,10 @@ fn step(alloc: Global, tree: &Tree) -> Result<Step, Stop>
     if !is_step_name(name) {
         return Err(Stop::here(alloc, SyntaxKind::NotAStep));
     }
+    let held = owned(alloc, name)?;
     match step_body(alloc, tree) {
         Ok((body, next)) => Ok(Step {
-            name: owned(alloc, name)?,
+            name: held,
             body,
             next,
         }),
@@ -235,7 +240,10 @@ fn arm(alloc: Global, tree: &Tree) -> Result<Arm, Stop>
             body,
             next,
         }),
-        None => Err(Stop::here(alloc, SyntaxKind::MissingField)),
+        None => {
+            drop(body);
+            Err(Stop::here(alloc, SyntaxKind::MissingField))
+        }
     }
 }
 

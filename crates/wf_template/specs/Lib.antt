@@ -1,3 +1,4 @@
 pub mod Pieces
 pub mod Splits
 pub mod Texts
+pub mod Templates

@@ -1,4 +1,5 @@
 //! Laws of templates.
+ghost use Rattle.wf_template.specs.Templates.{TemplateIsIt};
 ghost use Rattle.wf_template.specs.Texts.{NotBothOf, OneTemplate};
 
 use wf_expr::one_expression;
@@ -10,3 +11,8 @@ pub fn one_template()
 {
     one_expression();
 }
+
+/// Each text is a template or has a first fault, and the definitions' function gives it.
+pub fn template_is_it()
+    ensures { TemplateIsIt }
+{}

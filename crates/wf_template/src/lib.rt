@@ -6,8 +6,6 @@ mod piece;
 mod quoting;
 mod split;
 mod template;
-#[cfg(test)]
-mod tests;
 
-pub use laws::one_template;
+pub use laws::{one_template, template_is_it};
 pub use template::{has_expressions, parse_template};

@@ -8,8 +8,6 @@ mod json_laws;
 mod json_text;
 mod key;
 mod pairs_so_far;
-#[cfg(test)]
-mod tests;
 mod tree;
 
 pub use json_laws::{paths_lead_to_decimals, reading_is_a_function, reading_is_decided};

@@ -11,7 +11,6 @@ use wf_value::{OutOfMemory, Text};
 
 /// A source as it was read. Contracts speak of the plain data that it is.
 #[cycle(tree)]
-#[derive(Drop)]
 pub enum Tree {
     /// No value.
     Null,
@@ -27,6 +26,17 @@ pub enum Tree {
     List(TreeList),
     /// Trees by key.
     Map(TreeMap),
+}
+
+// Written, and not derived: it is one call wherever a tree is let go.
+impl Drop for Tree {
+    #[cycle(tree)]
+    fn drop(self) {
+        match self {
+            Tree::Null | Tree::Bool(_) | Tree::Int(_) | Tree::Decimal(_) => {}
+            Tree::Text(_) | Tree::List(_) | Tree::Map(_) => {}
+        }
+    }
 }
 
 /// Trees in order, which contracts see as the list of their plain data.

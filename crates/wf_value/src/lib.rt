@@ -18,8 +18,6 @@ mod same;
 mod severity;
 mod sharing;
 mod size;
-#[cfg(test)]
-mod tests;
 mod text;
 mod value;
 

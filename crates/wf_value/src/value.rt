@@ -13,7 +13,6 @@ use std::rc::Rc;
 
 /// A value of the language. Contracts speak of the plain tree that it is.
 #[cycle(value)]
-#[derive(Drop)]
 pub enum Value {
     /// No value.
     Null,
@@ -29,6 +28,17 @@ pub enum Value {
     List(List),
     /// Values by key.
     Map(Map),
+}
+
+// Written, and not derived: it is one call wherever a value is let go.
+impl Drop for Value {
+    #[cycle(value)]
+    fn drop(self) {
+        match self {
+            Value::Null | Value::Bool(_) | Value::Int(_) => {}
+            Value::Text(_) | Value::Bytes(_) | Value::List(_) | Value::Map(_) => {}
+        }
+    }
 }
 
 /// Values in order, which contracts see as the list of their trees. Copies share the items until

@@ -4,7 +4,7 @@ use Rattle.std.specs.List.{AllByRecursion}
 use Rattle.wf_tree.specs.Trees.{Tree}
 use Rattle.wf_yaml_line.specs.declared.fault.Kind.TheVariants as kinds
 use Rattle.wf_yaml_line.specs.Fault.{kept}
-use Rattle.wf_yaml_line.specs.Flow.{max_depth}
+use Rattle.wf_yaml_flow.specs.Flow.{max_depth}
 use Rattle.wf_yaml_line.specs.Marks.{among, return_mark}
 use Rattle.wf_yaml.specs.Blocks.{node}
 use Rattle.wf_yaml.specs.Reading.{no_delay, document, reading}

@@ -12,8 +12,9 @@ use Rattle.wf_yaml_line.specs.declared.fault.Kind.{Kind}
 use Rattle.wf_yaml_line.specs.declared.fault.Kind.TheVariants as kinds
 use Rattle.wf_yaml_line.specs.Fault.{both, given, kept, refuse, refuse_if}
 use Rattle.wf_yaml_line.specs.Keys.{Key, key_of}
-use Rattle.wf_yaml_line.specs.Flow.{depth_fault, max_depth, is_delay_key}
-use Rattle.wf_yaml_line.proofs.Shallow.{within}
+use Rattle.wf_yaml_flow.specs.Flow.{depth_fault, max_depth}
+use Rattle.wf_yaml_line.specs.Scalars.{is_delay_key}
+use Rattle.wf_yaml_flow.proofs.Shallow.{within}
 use Rattle.wf_yaml.specs.Rows.{Row, counting, has_tab, misplaced_at}
 use Rattle.wf_yaml.specs.Cuts.{entries_of, heads}
 use Rattle.wf_yaml.specs.Starts.{is_item, starts_block, has_tab_gap}

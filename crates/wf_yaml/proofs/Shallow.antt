@@ -3,11 +3,12 @@ use Rattle.std.proofs.Common.{ℕ, zero, suc, ◌+◌, ◌≤◌, List, [], ◌�
 use Rattle.std.specs.List.{AllByRecursion}
 use Rattle.wf_tree.specs.Trees.{Tree, list, map, items_of, pairs_of, depth}
 use Rattle.wf_value.specs.Maps.{with_value}
-use Rattle.wf_yaml_line.proofs.Shallow.{IsShallow, Any, any, both_is, cond_is, list_is, map_is, within, with_value_all, one_line_is}
+use Rattle.wf_yaml_flow.proofs.Shallow.{IsShallow, Any, any, both_is, cond_is, list_is, map_is, within, with_value_all, one_line_is}
 use Rattle.wf_yaml_line.specs.Fault.{both, given, kept}
-use Rattle.wf_yaml_line.specs.Flow.{depth_fault, is_delay_key}
+use Rattle.wf_yaml_flow.specs.Flow.{depth_fault}
+use Rattle.wf_yaml_line.specs.Scalars.{is_delay_key}
 use Rattle.wf_yaml_line.specs.Keys.{Key, key_of}
-use Rattle.wf_yaml_line.specs.Line.{one_line}
+use Rattle.wf_yaml_flow.specs.Line.{one_line}
 use Rattle.wf_yaml_line.specs.Marks.{behind_first, ends_line, skip_blanks}
 use Rattle.wf_tree.specs.Plain.{plain_tree}
 use Rattle.wf_tree.specs.declared.tree.Tree.{Tree as Node}

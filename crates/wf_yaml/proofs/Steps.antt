@@ -10,7 +10,7 @@ use Rattle.wf_yaml_line.specs.declared.fault.Fault.{Fault}
 use Rattle.wf_yaml_line.specs.declared.fault.Kind.TheVariants as kinds
 use Rattle.wf_yaml_line.specs.Marks.{is_one_of, is_same, behind_first, ends_line, skip_blanks}
 use Rattle.wf_yaml_line.specs.Fault.{both, kept, refuse, refuse_if}
-use Rattle.wf_yaml_line.specs.Flow.{is_delay_key}
+use Rattle.wf_yaml_line.specs.Scalars.{is_delay_key}
 use Rattle.wf_yaml_line.specs.Keys.{Key, key_of, own_fault}
 use Rattle.wf_yaml.specs.declared.rows.Row.{Row as Line}
 use Rattle.wf_yaml.specs.Rows.{Row, starts_tab, has_tab, misplaced}

@@ -8,8 +8,9 @@ use Rattle.wf_yaml_line.specs.Fault.{both, given, kept, refuse, refuse_if}
 use Rattle.wf_yaml_line.specs.declared.fault.Kind.TheVariants as kinds
 use Rattle.wf_yaml_line.specs.Scalars.{may_start_plain}
 use Rattle.wf_yaml_line.specs.Keys.{Key, key_of, own_fault}
-use Rattle.wf_yaml_line.specs.Flow.{depth_fault, is_delay_key}
-use Rattle.wf_yaml_line.specs.Line.{one_line}
+use Rattle.wf_yaml_flow.specs.Flow.{depth_fault}
+use Rattle.wf_yaml_line.specs.Scalars.{is_delay_key}
+use Rattle.wf_yaml_flow.specs.Line.{one_line}
 use Rattle.wf_yaml.specs.Rows.{Row, counting, has_tab, misplaced, no_more}
 use Rattle.wf_yaml.specs.Cuts.{entries_of, heads}
 use Rattle.wf_yaml.specs.Starts.{is_item, starts_block, starts_scalar, has_tab_gap}

@@ -3,7 +3,7 @@ use Rattle.std.specs.Prelude.{ℕ, List, Bool, false, Result}
 use Rattle.wf_tree.specs.Trees.{Tree}
 use Rattle.wf_yaml_line.specs.declared.fault.Fault.{Fault}
 use Rattle.wf_yaml_line.specs.Fault.{both, kept}
-use Rattle.wf_yaml_line.specs.Flow.{max_depth}
+use Rattle.wf_yaml_flow.specs.Flow.{max_depth}
 use Rattle.wf_yaml.specs.Rows.{Row, rows, counting, behind_start, before_mark, no_mark, no_lone_return}
 use Rattle.wf_yaml.specs.Blocks.{node}
 

@@ -10,7 +10,8 @@ use Rattle.wf_tree.specs.Trees.{Tree, Items, Pairs, null, boolean, integer, deci
 use Rattle.wf_value.specs.Maps.{IsInOrder}
 use Rattle.wf_yaml_line.specs.Marks.{among, return_mark, behind_first, skip_blanks, ends_line}
 use Rattle.wf_yaml_line.specs.Keys.{Key, key_of}
-use Rattle.wf_yaml_line.specs.Flow.{max_depth, is_delay_key}
+use Rattle.wf_yaml_flow.specs.Flow.{max_depth}
+use Rattle.wf_yaml_line.specs.Scalars.{is_delay_key}
 use Rattle.wf_yaml.specs.Rows.{Row, rows, counting, has_tab, behind_start, is_any_mark}
 use Rattle.wf_yaml.specs.Cuts.{entries_of, heads}
 use Rattle.wf_yaml.specs.Starts.{is_item, starts_block, has_tab_gap}

@@ -6,7 +6,7 @@ ghost use Rattle.wf_tree.specs.Plain.{plain_tree};
 ghost use Rattle.wf_yaml_line.specs.declared.fault.Fault.{Fault};
 ghost use Rattle.wf_yaml_line.specs.Fault.{noted, both};
 ghost use Rattle.wf_yaml_line.specs.Keys.{key_of};
-ghost use Rattle.wf_yaml_line.specs.Flow as flows;
+ghost use Rattle.wf_yaml_line.specs.Scalars as scalars;
 ghost use Rattle.wf_yaml_line.specs.Marks.{is_one_of};
 ghost use Rattle.wf_yaml_line.specs.Views.{Gives, so_far, key_view, keys_of};
 ghost use Rattle.wf_yaml.specs.Rows as lines;
@@ -21,9 +21,10 @@ use crate::starts::{has_tab_block, is_item, is_pair, starts_scalar, starts_tab};
 use std::alloc::Global;
 use wf_tree::{PairsSoFar, Tree, TreeList};
 use wf_value::{OutOfMemory, Text};
+use wf_yaml_flow::one_line;
 use wf_yaml_line::{
     Fault, Key, KeySet, Kind, YamlFault, behind_first, both_noted, ends_line, is_delay_key, least,
-    noting, one_line, read_key, refuse_if, skip_blanks,
+    noting, read_key, refuse_if, skip_blanks,
 };
 
 // The node that begins at this head, with the lines behind it. The floor is the least indentation
@@ -181,7 +182,7 @@ fn pair_value(
 ) -> Result<Tree, YamlFault>
     requires deep { depth ≤ 101 }
     requires block { indent < 4294967296 }
-    ensures { Gives plain_tree result (blocks.pair_value (blocks.inside (101 - depth)) indent depth (flows.is_delay_key (key_view key.now).text) number (key_view key.now).rest (see_all body.now)) }
+    ensures { Gives plain_tree result (blocks.pair_value (blocks.inside (101 - depth)) indent depth (scalars.is_delay_key (key_view key.now).text) number (key_view key.now).rest (see_all body.now)) }
 {
     let delay = is_delay_key(key.text.as_str());
     if ends_line(key.rest) {

@@ -9,8 +9,9 @@ use crate::block_scalars::header_fault;
 use crate::starts::{has_tab_block, is_item, starts_scalar};
 use std::alloc::Global;
 use wf_tree::Tree;
+use wf_yaml_flow::one_line;
 use wf_yaml_line::{
-    Fault, Key, Kind, YamlFault, behind_first, ends_line, is_delay_key, noting, one_line, read_key,
+    Fault, Key, Kind, YamlFault, behind_first, ends_line, is_delay_key, noting, read_key,
     skip_blanks,
 };
 

@@ -13,16 +13,10 @@ mod blocks;
 mod cuts;
 mod deep;
 mod laws;
-#[cfg(test)]
-mod long_sources;
 mod rows;
 mod scalars;
 mod source;
 mod starts;
-#[cfg(test)]
-mod table;
-#[cfg(test)]
-mod tests;
 
 pub use crate::laws::reading_is_a_relation;
 use crate::source::read_source;

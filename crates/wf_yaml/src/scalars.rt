@@ -13,9 +13,8 @@ use crate::rows::Row;
 use crate::starts::starts_scalar;
 use std::alloc::Global;
 use wf_tree::Tree;
-use wf_yaml_line::{
-    Fault, Kind, YamlFault, before_comment, may_start_plain, noting_after, one_line,
-};
+use wf_yaml_flow::one_line;
+use wf_yaml_line::{Fault, Kind, YamlFault, before_comment, may_start_plain, noting_after};
 
 fn goes_on(floor: usize, behind: &[Row]) -> bool
     ensures { result ≡ blocks.goes_on floor (lines.counting (see_all behind.now)) }

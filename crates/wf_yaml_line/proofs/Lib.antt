@@ -2,11 +2,4 @@ pub mod Faults
 pub mod Ends
 pub mod Numbers
 pub mod Sets
-pub mod Shallow
-pub mod FlowLengths
-pub mod FlowFronts
-pub mod FlowSteps
-pub mod FlowBounds
-pub mod FlowJoins
-pub mod FlowTurns
-pub mod FlowWhole
+pub mod Quotes

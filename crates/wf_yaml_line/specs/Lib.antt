@@ -5,8 +5,4 @@ pub mod Words
 pub mod Scalars
 pub mod Quoted
 pub mod Keys
-pub mod Pairs
-pub mod Flow
-pub mod Line
 pub mod Views
-pub mod FlowWalk

@@ -1,7 +1,7 @@
 -- Plain scalars: which texts are one, and the tree of each.
 use Rattle.std.specs.Prelude.{ℕ, ◌-◌, List, [], ◌∷◌, length, Bool, false, cond, not, ◌&&◌, nat_lt, nat_le, Result, Ok, codes}
 use Rattle.std.specs.Str.{encode_utf8_all}
-use Rattle.wf_yaml_line.specs.Marks.{is_digit, behind_first, skip, is_reserved, is_guarded, ends_word}
+use Rattle.wf_yaml_line.specs.Marks.{is_digit, is_one_of, behind_first, skip, is_reserved, is_guarded, ends_word}
 use Rattle.wf_yaml_line.specs.Fault.{Fault, refuse}
 use Rattle.wf_yaml_line.specs.declared.fault.Kind.TheVariants as kinds
 use Rattle.wf_yaml_line.specs.declared.scalars.Plain.{Plain}
@@ -23,6 +23,9 @@ is_delay s =
 -- `initial_delay`, `max_delay`, `multiplier`: the keys whose value may be a decimal
 abbrev pub delay_keys : List (List ℕ)
 delay_keys = codes "initial_delay" ∷ codes "max_delay" ∷ codes "multiplier" ∷ []
+
+abbrev pub is_delay_key : List ℕ → Bool
+is_delay_key key = is_one_of delay_keys key
 
 -- the tree of a plain scalar in line n, by what it is; the flag says that it is the value of such a key
 abbrev pub plain_tree_by : Plain → Bool → ℕ → List ℕ → Result Tree Fault

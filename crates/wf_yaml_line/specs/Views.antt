@@ -3,13 +3,7 @@ use Rattle.std.specs.Prelude.{◌≡◌, ℕ, List, ◌++◌, Bool, ◌&&◌, Re
 use Rattle.wf_yaml_line.specs.Fault.{Fault}
 use Rattle.wf_yaml_line.specs.Quoted as quotes
 use Rattle.wf_yaml_line.specs.Keys as keys
-use Rattle.wf_yaml_line.specs.Flow as flows
-use Rattle.wf_tree.specs.Trees as trees
-use Rattle.wf_tree.specs.Plain.{plain_tree}
-use Rattle.wf_tree.specs.declared.tree.Tree.{Tree}
 use Rattle.wf_yaml_line.specs.declared.key_set.KeySet.{KeySet}
-use Rattle.wf_yaml_line.specs.declared.flow.Seen.{Seen}
-use Rattle.wf_yaml_line.specs.declared.flow.Seen.TheVariants as seen
 use Rattle.wf_yaml_line.specs.declared.fault.YamlFault.{YamlFault}
 use Rattle.wf_yaml_line.specs.declared.fault.YamlFault.TheVariants as faults
 use Rattle.wf_yaml_line.specs.declared.quoted.Quoted.{Quoted}
@@ -30,16 +24,6 @@ key_view k = record { text = k.text; fault = k.fault; rest = k.rest.now }
 -- the keys of a set
 abbrev pub keys_of : KeySet → List (List ℕ)
 keys_of s = map string_bytes s.keys.keys
-
--- a tree, or its refusal
-abbrev pub seen_tree : Result Tree Fault → Result trees.Tree Fault
-seen_tree (Ok t) = Ok (plain_tree t)
-seen_tree (Err f) = Err f
-
--- what was read of the front of a text
-abbrev pub seen_view : Seen → flows.Seen trees.Tree
-seen_view (seen.Goes r rest) = flows.goes (seen_tree r) rest.now
-seen_view (seen.Stops f) = flows.stops f
 
 -- A function's error is the refusal that reading gives, unless memory ran out.
 abbrev pub Fails : {Y : Type 0} → YamlFault → Result Y Fault → Type 0

@@ -7,7 +7,7 @@ use std::alloc::AllocError;
 use wf_value::OutOfMemory;
 
 /// Why a line is refused. In one line the first of them in this order speaks.
-#[derive(Debug, Clone, Copy, PartialEq, Eq, Drop)]
+#[derive(Clone, Copy, Drop)]
 pub enum Kind {
     /// A tab stands in the indentation of a line that isn't blank.
     Tab,
@@ -32,7 +32,7 @@ pub enum Kind {
 }
 
 /// A refusal.
-#[derive(Debug, Clone, Copy, PartialEq, Eq, Drop)]
+#[derive(Clone, Copy, Drop)]
 pub struct Fault {
     /// The line's number, from 1.
     pub line: u32,
@@ -41,7 +41,7 @@ pub struct Fault {
 }
 
 /// Why there is no tree.
-#[derive(Debug, Clone, Copy, Drop)]
+#[derive(Clone, Copy, Drop)]
 pub enum YamlFault {
     /// The source is refused.
     Refused(Fault),

@@ -4,7 +4,6 @@ ghost use Rattle.wf_yaml_line.specs.Marks as texts;
 ghost use Rattle.wf_yaml_line.specs.Quoted as quotes;
 ghost use Rattle.wf_yaml_line.specs.Scalars as scalars;
 ghost use Rattle.wf_yaml_line.specs.Keys as keys;
-ghost use Rattle.wf_yaml_line.specs.Flow as flows;
 ghost use Rattle.wf_yaml_line.specs.Fault.{noted};
 ghost use Rattle.wf_yaml_line.specs.Views.{key_view};
 
@@ -50,8 +49,8 @@ pub fn may_start_plain(s: &[char]) -> bool
     }
 }
 
-// Whether a text starts with a quote.
-pub(crate) fn starts_quote(s: &[char]) -> bool
+/// Whether a text starts with a quote.
+pub fn starts_quote(s: &[char]) -> bool
     ensures { result ≡ texts.starts texts.is_quote s.now }
 {
     matches!(s, ['\'' | '"', ..])
@@ -136,7 +135,7 @@ pub fn read_key(alloc: Global, s: &[char]) -> Result<Option<Key<'_>>, OutOfMemor
 
 /// Whether the value of a key may be a decimal: those of a retry's backoff.
 pub fn is_delay_key(key: &str) -> bool
-    ensures { result ≡ flows.is_delay_key key.now }
+    ensures { result ≡ scalars.is_delay_key key.now }
 {
     matches!(key, "initial_delay" | "max_delay" | "multiplier")
 }

@@ -146,9 +146,9 @@ pub fn trimmed(s: &[char]) -> &[char]
     &s[..n]
 }
 
-// Whether the last character is a `:`.
+/// Whether the last character is a `:`.
 #[tactic(auto, using(crate::proofs::Ends::last_colon))]
-pub(crate) fn ends_with_colon(s: &[char]) -> bool
+pub fn ends_with_colon(s: &[char]) -> bool
     ensures { result ≡ texts.ends_with_colon s.now }
 {
     match s {

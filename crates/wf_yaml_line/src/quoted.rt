@@ -8,13 +8,15 @@ use crate::scalars::{all_digits, number};
 use std::alloc::Global;
 use wf_value::OutOfMemory;
 
-// What was read of a quoted scalar: its characters, what stands behind the closing quote, where it
-// is closed, and whether each escape is good.
+/// What was read of a quoted scalar.
 #[derive(Drop)]
-pub(crate) struct Quoted<'a> {
-    pub(crate) chars: Vec<char>,
-    pub(crate) rest: Option<&'a [char]>,
-    pub(crate) good: bool,
+pub struct Quoted<'a> {
+    /// Its characters.
+    pub chars: Vec<char>,
+    /// What stands behind the closing quote, where it is closed.
+    pub rest: Option<&'a [char]>,
+    /// Whether each escape is good.
+    pub good: bool,
 }
 
 // Adds a character at the end.
@@ -169,8 +171,8 @@ fn double(alloc: Global, s: &[char]) -> Result<Quoted<'_>, OutOfMemory>
     })
 }
 
-// The quoted scalar at the start of a text.
-pub(crate) fn read_quoted(alloc: Global, s: &[char]) -> Result<Quoted<'_>, OutOfMemory>
+/// The quoted scalar at the start of a text.
+pub fn read_quoted(alloc: Global, s: &[char]) -> Result<Quoted<'_>, OutOfMemory>
     ensures { IfOk result (λ q. view q ≡ texts.quoted s.now) }
 {
     match s {

@@ -7,7 +7,7 @@ ghost use Rattle.wf_yaml_line.specs.Words as words;
 use crate::marks::{behind_first, is_digit, skip_digits};
 
 /// What a plain scalar is.
-#[derive(Debug, Clone, Copy, PartialEq, Eq, Drop)]
+#[derive(Clone, Copy, Drop)]
 pub enum Plain {
     /// Nothing at all, `~`, or a word for null.
     Null,

@@ -26,15 +26,15 @@ pub fn text_of(alloc: Global, chars: &[char]) -> Result<Text, OutOfMemory>
     Text::new(alloc, text.as_str())
 }
 
-// A text as a tree.
-pub(crate) fn text_tree(alloc: Global, chars: &[char]) -> Result<Tree, YamlFault>
+/// A text as a tree.
+pub fn text_tree(alloc: Global, chars: &[char]) -> Result<Tree, YamlFault>
     ensures { Gives plain_tree result (Ok (trees.text (encode_utf8_all chars.now))) }
 {
     Ok(Tree::Text(text_of(alloc, chars)?))
 }
 
-// No tree, but a refusal.
-pub(crate) fn refused(line: u32, kind: Kind) -> Result<Tree, YamlFault>
+/// No tree, but a refusal.
+pub fn refused(line: u32, kind: Kind) -> Result<Tree, YamlFault>
     ensures { Gives plain_tree result (refuse line kind) }
 {
     Err(YamlFault::Refused(Fault { line, kind }))
@@ -71,13 +71,8 @@ pub fn noting_after(tree: Result<Tree, YamlFault>, fault: Option<Fault>) -> Resu
     }
 }
 
-// The tree of a plain scalar; `delay` tells that it is the value of a key that may have a decimal.
-pub(crate) fn plain_scalar(
-    alloc: Global,
-    delay: bool,
-    line: u32,
-    s: &[char],
-) -> Result<Tree, YamlFault>
+/// The tree of a plain scalar; `delay` tells that it is the value of a key that may have a decimal.
+pub fn plain_scalar(alloc: Global, delay: bool, line: u32, s: &[char]) -> Result<Tree, YamlFault>
     ensures { Gives plain_tree result (scalars.plain_tree delay line s.now) }
 {
     match plain_kind(s) {

@@ -7,7 +7,7 @@ use Rattle.std.proofs.lemmas.Bool.Decides.{nat_tests}
 use Rattle.wf_tree.specs.Trees.{decimal}
 use Rattle.wf_yaml_line.specs.Marks.{hash, colon, is_digit, is_one_of, starts, behind_first, skip}
 use Rattle.wf_yaml_line.specs.Fault.{both, kept, refuse}
-use Rattle.wf_yaml_line.specs.Line.{one_line}
+use Rattle.wf_yaml_flow.specs.Line.{one_line}
 use Rattle.wf_yaml_line.specs.Scalars.{is_delay, is_short, plain_tree_by}
 use Rattle.wf_yaml_line.specs.Words.{digit_of, all_digits, unsigned, is_number, starts_with, null_words, true_words, false_words, is_decimal_whole, is_octal, is_hexadecimal, is_float, is_unsigned_float, is_exponent, plain_kind, behind_prefix, infinity_words, nan_words}
 use Rattle.wf_yaml_line.specs.declared.fault.Kind.TheVariants as kinds

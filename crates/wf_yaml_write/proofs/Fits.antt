@@ -2,7 +2,7 @@
 use Rattle.std.proofs.Common.{Bool, true, false, ◌≡◌}
 use Rattle.std.specs.Str.{IsUtf8}
 use Rattle.wf_tree.specs.Trees.{Tree, null, boolean, integer, decimal, text, list, map, Items, no_items, item, Pairs, no_pairs, pair}
-use Rattle.wf_yaml_line.specs.Flow.{is_delay_key}
+use Rattle.wf_yaml_line.specs.Scalars.{is_delay_key}
 use Rattle.wf_yaml_line.specs.Scalars.{is_delay}
 use Rattle.wf_yaml_write.specs.Back.{Is64}
 use Rattle.wf_yaml_write.specs.Whole.{IsBelow, KeysRise, IsInMemory, AreInMemory, ArePairsInMemory, DecimalsFit, DecimalsFitItems, DecimalsFitPairs}

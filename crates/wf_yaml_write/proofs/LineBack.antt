@@ -9,7 +9,7 @@ use Rattle.std.proofs.lemmas.Str.Parse.{digit_from_value}
 use Rattle.wf_tree.specs.Trees.{Tree, null, boolean, integer, decimal, text, list, map, no_items, item, no_pairs, pair, depth}
 use Rattle.wf_yaml_line.specs.Marks.{among, is_digit, around_colon}
 use Rattle.wf_yaml_line.specs.Keys.{key_of, plain_key, quoted_key}
-use Rattle.wf_yaml_line.specs.Line.{one_line}
+use Rattle.wf_yaml_flow.specs.Line.{one_line}
 use Rattle.wf_yaml_line.specs.Quoted.{Quoted, quoted}
 use Rattle.wf_yaml_line.specs.Scalars.{is_delay, may_start_plain}
 use Rattle.wf_yaml_line.specs.Words.{digit_of, all_digits}

@@ -11,7 +11,7 @@ use Rattle.std.proofs.lemmas.Str.Parse.{digit_from_value}
 use Rattle.wf_tree.specs.Trees.{integer}
 use Rattle.wf_yaml_line.specs.Marks.{hash, colon, is_digit, is_same, is_one_of, starts, ends_word}
 use Rattle.wf_yaml_line.specs.Fault.{both, kept}
-use Rattle.wf_yaml_line.specs.Line.{one_line}
+use Rattle.wf_yaml_flow.specs.Line.{one_line}
 use Rattle.wf_yaml_line.specs.Scalars.{plain_tree_by}
 use Rattle.wf_yaml_line.specs.Words.{digit_of, all_digits, is_number, number_from, is_sign, unsigned, is_negative, negative_of, whole_of, whole_or_decimal, null_words, true_words, false_words, is_decimal_whole, plain_kind}
 use Rattle.wf_yaml_line.specs.declared.scalars.Plain.TheVariants as kind

@@ -7,9 +7,9 @@ use Rattle.wf_tree.specs.Trees.{Tree, depth}
 use Rattle.wf_yaml_line.specs.declared.fault.Kind.TheVariants as kinds
 use Rattle.wf_yaml_line.specs.Marks.{is_blank_line, is_one_of, ends_line, ends_word}
 use Rattle.wf_yaml_line.specs.Fault.{both, kept, refuse, refuse_if}
-use Rattle.wf_yaml_line.specs.Flow.{is_delay_key}
+use Rattle.wf_yaml_line.specs.Scalars.{is_delay_key}
 use Rattle.wf_yaml_line.specs.Keys.{Key, key_of}
-use Rattle.wf_yaml_line.specs.Line.{one_line}
+use Rattle.wf_yaml_flow.specs.Line.{one_line}
 use Rattle.wf_yaml.specs.Rows.{has_tab, no_more}
 use Rattle.wf_yaml.specs.Starts.{is_item, starts_scalar}
 use Rattle.wf_yaml.specs.Cuts.{heads, is_list_head}

@@ -5,10 +5,10 @@ use Rattle.std.proofs.lemmas.Bool.{and_parts, not-true, ne_eqb, true≢false}
 use Rattle.wf_tree.specs.Trees.{text}
 use Rattle.wf_yaml_line.specs.Marks.{among, colon, bang, starts, ends_word, is_quote, is_bracket, is_guarded, trimmed, before_comment, around_colon}
 use Rattle.wf_yaml_line.specs.Fault.{both, kept, refuse_if}
-use Rattle.wf_yaml_line.specs.Flow.{is_property}
+use Rattle.wf_yaml_flow.specs.Flow.{is_property}
 use Rattle.wf_yaml_line.specs.Keys.{key_of, plain_fault, plain_key, quoted_key}
 use Rattle.wf_yaml_line.specs.Quoted.{quoted}
-use Rattle.wf_yaml_line.specs.Line.{one_line, plain_line}
+use Rattle.wf_yaml_flow.specs.Line.{one_line, plain_line}
 use Rattle.wf_yaml_line.specs.Scalars.{plain_tree, plain_tree_by, may_start_plain}
 use Rattle.wf_yaml_line.specs.Words.{plain_kind}
 use Rattle.wf_yaml_line.specs.declared.fault.Kind.TheVariants as kinds

@@ -7,7 +7,7 @@ use Rattle.std.proofs.lemmas.Bool.Decides.{nat_tests}
 use Rattle.wf_tree.specs.Trees.{text}
 use Rattle.wf_yaml_line.specs.Marks.{double_quote, backslash, colon, ends_word}
 use Rattle.wf_yaml_line.specs.Keys.{key_of, quoted_key, key_with}
-use Rattle.wf_yaml_line.specs.Line.{one_line, quoted_tree}
+use Rattle.wf_yaml_flow.specs.Line.{one_line, quoted_tree}
 use Rattle.wf_yaml_line.specs.Words.{digit_of, all_digits, number_from}
 use Rattle.wf_yaml_line.specs.Quoted.{Quoted, quoted, double, closed, with_char, with_escape, escape, escape_tail, is_character}
 use Rattle.wf_yaml_write.proofs.EscapeCases.{by_escape}

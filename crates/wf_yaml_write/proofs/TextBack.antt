@@ -10,7 +10,7 @@ use Rattle.std.proofs.lemmas.Str.{inside_one, encode_ascii, encodes-append, leng
 use Rattle.wf_tree.specs.Trees.{text}
 use Rattle.wf_yaml_line.specs.Marks.{colon, double_quote, ends_word}
 use Rattle.wf_yaml_line.specs.Keys.{key_of}
-use Rattle.wf_yaml_line.specs.Line.{one_line}
+use Rattle.wf_yaml_flow.specs.Line.{one_line}
 use Rattle.wf_yaml_write.specs.Layout.{is_plain, is_printable, escaped, all_escaped, hex_digits, in_quotes, written_text}
 use Rattle.wf_yaml_write.proofs.Escapes.{IsOwn, own, own_escape, escaped_append}
 use Rattle.wf_yaml_write.proofs.EscapeCases.{by_escape}

@@ -4,7 +4,8 @@ use Rattle.std.specs.Str.{encode_utf8_all, IsUtf8}
 use Rattle.std.proofs.lemmas.Bool.{cases_Bool, true≢false}
 use Rattle.wf_tree.specs.Trees.{Tree, null, boolean, integer, decimal, text, list, map, Items, no_items, item, Pairs, no_pairs, pair, depth, items_depth, pairs_depth}
 use Rattle.wf_yaml_line.specs.Fault.{both, kept}
-use Rattle.wf_yaml_line.specs.Flow.{max_depth, is_delay_key}
+use Rattle.wf_yaml_flow.specs.Flow.{max_depth}
+use Rattle.wf_yaml_line.specs.Scalars.{is_delay_key}
 use Rattle.wf_yaml_line.specs.Keys.{key_of}
 use Rattle.wf_yaml.specs.Rows.{has_tab, counting, behind_start, before_mark}
 use Rattle.wf_yaml.specs.Starts.{is_item}

@@ -3,8 +3,8 @@ use Rattle.std.proofs.Common.{◌≡◌, ℕ, ◌≤◌, [], Bool, codes, Ok, re
 use Rattle.std.proofs.lemmas.Bool.{le-ltb}
 use Rattle.wf_tree.specs.Trees.{list, map, no_items, no_pairs}
 use Rattle.wf_yaml_line.specs.Fault.{refuse_if}
-use Rattle.wf_yaml_line.specs.Flow.{goes, joined}
-use Rattle.wf_yaml_line.specs.Line.{one_line, flow_tree}
+use Rattle.wf_yaml_flow.specs.Flow.{goes, joined}
+use Rattle.wf_yaml_flow.specs.Line.{one_line, flow_tree}
 use Rattle.wf_yaml_line.specs.declared.fault.Kind.TheVariants as kinds
 use Rattle.wf_yaml_write.specs.Back.{WordsComeBack}
 

@@ -5,7 +5,7 @@ use Rattle.std.specs.Str.{encode_utf8_all, IsUtf8}
 use Rattle.wf_tree.specs.Trees.{Tree, null, boolean, integer, decimal, text, list, map, no_items, item, no_pairs, pair}
 use Rattle.wf_yaml_line.specs.Marks.{ends_word}
 use Rattle.wf_yaml_line.specs.Keys.{key_of}
-use Rattle.wf_yaml_line.specs.Line.{one_line}
+use Rattle.wf_yaml_flow.specs.Line.{one_line}
 use Rattle.wf_yaml_line.specs.Scalars.{is_delay}
 use Rattle.wf_yaml_write.specs.Layout.{layout, written_text}
 

@@ -5,7 +5,7 @@ use Rattle.std.specs.declared.cmp.Ordering.TheVariants.{Less}
 use Rattle.wf_tree.specs.Trees.{Tree, null, boolean, integer, decimal, text, list, map, Items, no_items, item, Pairs, no_pairs, pair, depth}
 use Rattle.wf_value.specs.Maps.{key_cmp}
 use Rattle.wf_yaml.specs.Reading.{reading}
-use Rattle.wf_yaml_line.specs.Flow.{is_delay_key}
+use Rattle.wf_yaml_line.specs.Scalars.{is_delay_key}
 use Rattle.wf_yaml_line.specs.Scalars.{is_delay}
 use Rattle.wf_yaml_write.specs.Layout.{written}
 use Rattle.wf_yaml_write.specs.Back.{Is64}

@@ -3,10 +3,6 @@
 
 mod laws;
 mod layout;
-#[cfg(test)]
-mod round_trips;
-#[cfg(test)]
-mod tests;
 mod texts;
 
 pub use laws::{lines_come_back, scalars_come_back, texts_come_back, trees_come_back};

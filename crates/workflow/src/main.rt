@@ -2,9 +2,14 @@
 //! JOURNAL` goes on with it, wherever it was stopped.
 #![tactic(auto)]
 
+mod complaint;
+mod descriptors;
+
+use complaint::complain;
+use descriptors::take_standard_descriptors;
 use std::env;
-use std::fs::{self, File, Files};
-use std::io::{ErrorKind, Input, Print};
+use std::fs::{File, Files};
+use std::io::{Eprint, ErrorKind, Input, Print};
 use std::process::ExitCode;
 use std::rt::Env;
 use std::time::Clock;
@@ -13,51 +18,52 @@ use wf_host::{FileHost, FileSource};
 use wf_line::{journal_of, source_of};
 
 fn main(rt: HostRuntime) -> ExitCode {
-    ExitCode::from(run(rt))
+    // held to the end, so that no file of ours gets a standard descriptor
+    let _taken = take_standard_descriptors(&rt);
+    let code = match run(rt) {
+        Ok(code) => code,
+        Err(code) => code,
+    };
+    ExitCode::from(code)
 }
 
-/// Runs the line of the program's words, and returns the exit status: 2 where a word isn't UTF-8, 14 where there is no
-/// memory for the words, else what [`run_line`] says.
-fn run<R>(rt: R) -> u8
+/// Runs the line of the program's words, and returns the exit status that [`run_line`] says. The status is an error where it ends before
+/// that: 2 where a word isn't UTF-8, 14 where there is no memory for the words or the paths.
+fn run<R>(rt: R) -> Result<u8, u8>
 where
-    R: Env + Files<File = File> + Clock + Input + Print + AllocGlobal + Copy + Drop,
+    R: Env + Files<File = File> + Clock + Input + Print + Eprint + AllocGlobal + Copy + Drop,
 {
-    let words = match words_of(&rt) {
-        Ok(words) => words,
-        Err(code) => return code,
-    };
+    let alloc = rt.alloc();
+    let words = words_of(&rt)?;
     let mut host = match journal_of(&words) {
-        Some(path) => FileHost::with_journal(rt, path),
-        None => FileHost::in_memory(rt.alloc(), rt),
+        Some(path) => FileHost::with_journal(alloc, rt, path).map_err(|_| NO_MEMORY)?,
+        None => FileHost::in_memory(alloc, rt),
     };
     let status = match source_of(&words) {
-        Some(path) => run_line(
-            rt.alloc(),
-            &words,
-            &mut FileSource::new(fs::open(&rt, path).ok()),
-            &mut host,
-        ),
-        None => run_line(
-            rt.alloc(),
-            &words,
-            &mut FileSource::new(Some(rt.reader())),
-            &mut host,
-        ),
+        Some(path) => {
+            let mut source = FileSource::at(alloc, rt, path).map_err(|_| NO_MEMORY)?;
+            run_line(alloc, &words, &mut source, &mut host)
+        }
+        None => run_line(alloc, &words, &mut FileSource::new(rt.reader()), &mut host),
     };
-    status.code()
+    complain(&rt, &words, &status, host.is_held());
+    Ok(status.code())
 }
+
+/// The status where there is no memory.
+const NO_MEMORY: u8 = 14;
 
 /// The words behind the program's name, or the status where they can't be had.
 fn words_of(rt: &(impl Env + AllocGlobal)) -> Result<Vec<String>, u8> {
     let args = match env::args(rt) {
         Ok(args) => args,
-        Err(e) if e.kind() == ErrorKind::OutOfMemory => return Err(14),
+        Err(e) if e.kind() == ErrorKind::OutOfMemory => return Err(NO_MEMORY),
         Err(_) => return Err(2),
     };
     let mut words = Vec::new(rt.alloc());
     for word in args.skip(1) {
         if words.push(word).is_err() {
-            return Err(14);
+            return Err(NO_MEMORY);
         }
     }
     Ok(words)

@@ -8,8 +8,9 @@ use Rattle.wf_host.specs.declared.data.Deed.TheVariants.{Now}
 use Rattle.wf_journal.specs.Records.{records}
 use Rattle.wf_cli.specs.Top.{IsLineOf}
 use Rattle.wf_line.specs.declared.command.Command.TheVariants.{Run}
-use Rattle.wf_engine.specs.Kept as kept
+use Rattle.wf_deeds.specs.Kept as kept
 use Rattle.wf_engine.specs.Safe.{scene}
+use Rattle.wf_engine.specs.TheLanguage.{the_language}
 use Rattle.wf_events.specs.Records.{Started}
 use Rattle.wf_events.specs.Spelling.{HasSpelling, record_bytes}
 use Rattle.wf_events.specs.View.{start_view}
@@ -57,11 +58,11 @@ returns-clause-opening g c = λ told words rest is first.
     opening_by_run s old mid new t (record_bytes (Started (start_view c.in_ok-start.start))) line refl (λ i d left. g.met.H.Host.only_now c.args.host.now i d told left)
     (λ u i le now. g.met.H.Host.counts_now c.now.new.self u i told2 le now) (c.in_ok-reading.ensures.time told) (c.now.ensures.seen told)
     (subst (λ st. StartOfLine s t (record_bytes (Started st))) (sym the_start)
-    (start_of_line s l c.args.source.now (program_view c.args.program) t is c.requires.command first c.requires.program (subst (λ st. HasSpelling (Started st)) the_start c.in_ok-start.ensures.spelled) c.one_spelling.ensures.again
+    (start_of_line c.each_source_is_one.ensures s l c.args.source.now (program_view c.args.program) t is c.requires.command first c.requires.program (subst (λ st. HasSpelling (Started st)) the_start c.in_ok-start.ensures.spelled) c.one_spelling.ensures.again
     c.laws_of_histories.ensures.start))
     c.laws_of_rules.ensures.only_readings c.begin.result (c.begin.ensures.refused_reads told2)
     (record {
-      stands = λ L language. subst (λ u. IfOk c.begin.result (λ e. StandsFor L kept.Run (memory e) (records new.seen) (Now u ∷ []))) (ap (λ st. st.reading) the_start) (c.begin.ensures.stands L language told2);
+      stands = subst (λ u. IfOk c.begin.result (λ e. StandsFor the_language kept.Run (memory e) (records new.seen) (Now u ∷ []))) (ap (λ st. st.reading) the_start) (c.begin.ensures.stands told2);
       session = c.begin.ensures.session;
       started = c.begin.ensures.started told2;
       any_moment = c.begin.ensures.any_moment told2;

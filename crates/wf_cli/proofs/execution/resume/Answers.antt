@@ -7,8 +7,9 @@ use Rattle.wf_cli.specs.Said.{Opening, Worked}
 use Rattle.wf_cli.specs.Top.{IsLineOf}
 use Rattle.wf_host.specs.Source.{Rest}
 use Rattle.wf_line.specs.declared.command.Command.TheVariants.{Resume}
-use Rattle.wf_engine.specs.Kept as kept
+use Rattle.wf_deeds.specs.Kept as kept
 use Rattle.wf_engine.specs.Safe.{scene}
+use Rattle.wf_engine.specs.TheLanguage.{the_language}
 use Rattle.wf_cli.proofs.execution.resume.Goals as goal
 
 pub returns-in-Ok : goal.returns-in-Ok
@@ -18,29 +19,29 @@ returns-in-Ok g c =
     let new = g.H.Host.world c.to_outcome.new.host in
     let k = c.open.ensures in
     let opening : (told : IsTrue old.tells) (words : List (List ℕ)) (rest : Rest) (line : IsLineOf (scene words rest old) (λ k. k ≡ Resume)) → Opening kept.Resume (scene words rest old) old mid (Ok c.in-Ok.engine) = λ told words rest line. subst (λ r. Opening kept.Resume (scene words rest old) old mid r) c.in-Ok.is (opening_by_resume (scene words rest old) old mid line refl c.open.result (record {
-      opened = λ L language. k.opened L language told;
-      session = λ L language. k.session L language told;
+      opened = k.opened told;
+      session = k.session told;
       begins = k.begins told;
       seen = k.seen told;
       any_moment = k.any_moment told;
       not_a_journal = k.not_a_journal told;
       not_started = k.not_started told;
-      not_a_history = λ L language. k.not_a_history L language told;
+      not_a_history = k.not_a_history told;
       only = k.only;
       deeds = k.deeds told;
-      finished = λ L language. k.finished L language told;
+      finished = k.finished told;
     })) in
     let work : (told : IsTrue old.tells) (words : List (List ℕ)) (rest : Rest) (line : IsLineOf (scene words rest old) (λ k. k ≡ Resume)) → Worked (scene words rest old) old new c.to_outcome.result = λ told words rest line.
     worked_going (scene words rest old) kept.Resume old mid new c.in-Ok.engine c.to_outcome.result (resume_executes (scene words rest old) line) (λ _. refl) refl
     (λ t i le now. g.met.H.Host.counts_now c.open.new.host t i (k.tells ∙ told) le now) (opening told words rest line)
-    (λ L language. c.to_outcome.ensures.going L language (k.tells ∙ told) kept.Resume (opening told words rest line).little.done ((opening told words rest line).opened L language).stands) (c.to_outcome.ensures.deeds (k.tells ∙ told)) in
+    (c.to_outcome.ensures.going (k.tells ∙ told) kept.Resume (opening told words rest line).little.done (opening told words rest line).opened.stands) (c.to_outcome.ensures.deeds (k.tells ∙ told)) in
     record {
       end = λ words rest reads reads2 line.
           end_going (scene words rest old) old new reads reads2 (g.H.Host.faults c.args.host.now) (g.H.Host.faults c.open.new.host) (g.H.Host.faults c.to_outcome.new.host) c.to_outcome.result c.to_outcome.ensures.says
           (resume_executes (scene words rest old) line) (resume_accepted (scene words rest old) line)
-          (λ told L language. (
-            ((opening told words rest line).opened L language).causes,
-            given_seen L (scene words rest old) new c.to_outcome.result ((work told words rest line).gives L language) (g.met.H.Host.reads_back c.to_outcome.new.host (c.to_outcome.ensures.tells ∙ k.tells ∙ told)),
+          (λ told. (
+            (opening told words rest line).opened.causes,
+            given_seen the_language (scene words rest old) new c.to_outcome.result (work told words rest line).gives (g.met.H.Host.reads_back c.to_outcome.new.host (c.to_outcome.ensures.tells ∙ k.tells ∙ told)),
           ))
           (λ rose. rose_from (g.H.Host.faults c.args.host.now).disk (g.H.Host.faults c.open.new.host).disk (g.H.Host.faults c.to_outcome.new.host).disk k.counts.disk rose);
       worked = work;
@@ -54,17 +55,17 @@ returns-in-Err g c =
     let new = g.H.Host.world c.open.new.host in
     let k = c.open.ensures in
     let opening : (told : IsTrue old.tells) (words : List (List ℕ)) (rest : Rest) (line : IsLineOf (scene words rest old) (λ k. k ≡ Resume)) → Opening kept.Resume (scene words rest old) old new (Err c.in-Err.fault) = λ told words rest line. subst (λ r. Opening kept.Resume (scene words rest old) old new r) c.in-Err.is (opening_by_resume (scene words rest old) old new line refl c.open.result (record {
-      opened = λ L language. k.opened L language told;
-      session = λ L language. k.session L language told;
+      opened = k.opened told;
+      session = k.session told;
       begins = k.begins told;
       seen = k.seen told;
       any_moment = k.any_moment told;
       not_a_journal = k.not_a_journal told;
       not_started = k.not_started told;
-      not_a_history = λ L language. k.not_a_history L language told;
+      not_a_history = k.not_a_history told;
       only = k.only;
       deeds = k.deeds told;
-      finished = λ L language. k.finished L language told;
+      finished = k.finished told;
     })) in
     record {
       end = λ words rest reads reads2 line.

@@ -6,9 +6,10 @@ use Rattle.wf_cli.proofs.Works.{end_fault, worked_fault, worked_going, end_going
 use Rattle.wf_cli.specs.Said.{Opening, Worked}
 use Rattle.wf_host.specs.Source.{Rest, IsFirst}
 use Rattle.wf_line.specs.Lines.{line_of}
-use Rattle.wf_engine.specs.Kept as kept
+use Rattle.wf_deeds.specs.Kept as kept
 use Rattle.wf_engine.specs.Printed.{uses_source}
 use Rattle.wf_engine.specs.Safe.{scene}
+use Rattle.wf_engine.specs.TheLanguage.{the_language}
 use Rattle.wf_line.specs.Plain.{plain_line}
 use Rattle.wf_cli.proofs.execution.run_program.Goals as goal
 
@@ -23,14 +24,14 @@ returns-in-Ok g c =
     let work : (told : IsTrue old.tells) (words : List (List ℕ)) (rest : Rest) (is : line_of words ≡ Ok l) (first : IsFirst 131073 rest c.args.source.now) → Worked (scene words rest old) old new c.to_outcome.result = λ told words rest is first.
     worked_going (scene words rest old) kept.Run old mid new c.in-Ok.engine c.to_outcome.result (run_executes (scene words rest old) (l, is, c.requires.command))
     (λ line. absurd (not_run_and_resume (scene words rest old) (l, is, c.requires.command) line)) refl (λ t i le now. g.met.H.Host.counts_now c.begin.new.host t i (k.tells ∙ told) le now) (opening told words rest is first)
-    (λ L language. c.to_outcome.ensures.going L language (k.tells ∙ told) kept.Run (opening told words rest is first).little.done ((opening told words rest is first).opened L language).stands) (c.to_outcome.ensures.deeds (k.tells ∙ told)) in
+    (c.to_outcome.ensures.going (k.tells ∙ told) kept.Run (opening told words rest is first).little.done (opening told words rest is first).opened.stands) (c.to_outcome.ensures.deeds (k.tells ∙ told)) in
     record {
       end = λ words rest reads reads2 is first.
           end_going (scene words rest old) old new reads reads2 (g.H.Host.faults c.args.host.now) (g.H.Host.faults c.begin.new.host) (g.H.Host.faults c.to_outcome.new.host) c.to_outcome.result c.to_outcome.ensures.says
           (run_executes (scene words rest old) (l, is, c.requires.command)) (is_accepted c.laws_of_sources.ensures.not_both (scene words rest old) l c.args.source.now (program_view c.args.program) (is, ap uses_source c.requires.command, first) c.requires.command c.requires.program)
-          (λ told L language. (
-            ((opening told words rest is first).opened L language).causes,
-            given_seen L (scene words rest old) new c.to_outcome.result ((work told words rest is first).gives L language) (g.met.H.Host.reads_back c.to_outcome.new.host (c.to_outcome.ensures.tells ∙ k.tells ∙ told)),
+          (λ told. (
+            (opening told words rest is first).opened.causes,
+            given_seen the_language (scene words rest old) new c.to_outcome.result (work told words rest is first).gives (g.met.H.Host.reads_back c.to_outcome.new.host (c.to_outcome.ensures.tells ∙ k.tells ∙ told)),
           ))
           (λ rose. rose_from (g.H.Host.faults c.args.host.now).disk (g.H.Host.faults c.begin.new.host).disk (g.H.Host.faults c.to_outcome.new.host).disk k.counts.disk rose);
       worked = work;

@@ -1,5 +1,6 @@
-use Rattle.std.proofs.Common.{sym}
-use Rattle.wf_cli.proofs.Works.{layout_end, layout_worked, report_end, report_worked, help_reported, version_reported}
+use Rattle.std.proofs.Common.{sym, ap}
+use Rattle.wf_cli.proofs.Works.{layout_end, layout_worked, report_end, report_worked, no_layout, help_reported, version_reported}
+use Rattle.wf_engine.specs.Printed.{uses_source}
 use Rattle.wf_engine.specs.Safe.{scene}
 use Rattle.wf_line.specs.Plain.{plain_line}
 use Rattle.wf_cli.proofs.top.execute.Goals as goal
@@ -26,7 +27,7 @@ pub returns-in-Help-clause-end : goal.returns-in-Help-clause-end
 returns-in-Help-clause-end g c = λ words is.
     let old = g.H.Host.world c.args.host.now in
     report_end (scene words (g.S.Source.left c.args.source.now) old) old (g.S.Source.faults c.args.source.now) (g.S.Source.faults c.args.source.now) (g.H.Host.faults c.args.host.now) (g.H.Host.faults c.args.host.now) c.help_text.result.now c.report.result
-    (help_reported (scene words (g.S.Source.left c.args.source.now) old) (plain_line c.args.line.now) c.help_text.result.now is (sym c.in-Help.ensures.command) c.help_text.ensures.text) c.report.ensures
+    (help_reported (scene words (g.S.Source.left c.args.source.now) old) (plain_line c.args.line.now) c.help_text.result.now is (sym c.in-Help.ensures.command) c.help_text.ensures.text) (no_layout (scene words (g.S.Source.left c.args.source.now) old) (plain_line c.args.line.now) c.help_text.result.now is (ap uses_source (sym c.in-Help.ensures.command))) c.report.ensures
 
 pub returns-in-Help-clause-worked : goal.returns-in-Help-clause-worked
 returns-in-Help-clause-worked g c = λ told words is.
@@ -39,7 +40,7 @@ pub returns-in-Version-clause-end : goal.returns-in-Version-clause-end
 returns-in-Version-clause-end g c = λ words is.
     let old = g.H.Host.world c.args.host.now in
     report_end (scene words (g.S.Source.left c.args.source.now) old) old (g.S.Source.faults c.args.source.now) (g.S.Source.faults c.args.source.now) (g.H.Host.faults c.args.host.now) (g.H.Host.faults c.args.host.now) c.version_text.result.now c.report-in-Version.result
-    (version_reported (scene words (g.S.Source.left c.args.source.now) old) (plain_line c.args.line.now) c.version_text.result.now is (sym c.in-Version.ensures.command) c.version_text.ensures) c.report-in-Version.ensures
+    (version_reported (scene words (g.S.Source.left c.args.source.now) old) (plain_line c.args.line.now) c.version_text.result.now is (sym c.in-Version.ensures.command) c.version_text.ensures) (no_layout (scene words (g.S.Source.left c.args.source.now) old) (plain_line c.args.line.now) c.version_text.result.now is (ap uses_source (sym c.in-Version.ensures.command))) c.report-in-Version.ensures
 
 pub returns-in-Version-clause-worked : goal.returns-in-Version-clause-worked
 returns-in-Version-clause-worked g c = λ told words is.

@@ -24,16 +24,17 @@ returns-in-Ok g c =
       not_a_journal = λ told. p.not_a_journal told words is;
       already_started = λ told. p.already_started told words is;
       not_started = λ told. p.not_started told words is;
-      not_a_history = λ L language told. p.not_a_history L language told words is;
-      outcome = λ L language told. p.outcome L language told words is;
+      not_a_history = λ told. p.not_a_history told words is;
+      outcome = λ told. p.outcome told words is;
       done = p.done words is;
+      comes_back = p.comes_back words is;
       print_fault = p.print_fault words is;
       only = p.only words is;
-      finished_stays = λ L language told. p.finished_stays L language told words is;
-      refused_stays = λ L language told. p.refused_stays L language told words is;
+      finished_stays = λ told. p.finished_stays told words is;
+      refused_stays = λ told. p.refused_stays told words is;
       reports_stay = λ told. p.reports_stay told words is;
-      safe = λ L language told. p.safe L language told words is;
-      safe_end = λ L language told. p.safe_end L language told words is;
+      safe = λ told. p.safe told words is;
+      safe_end = λ told. p.safe_end told words is;
       tells = p.tells;
       reads = p.reads;
       counts = p.counts;
@@ -51,7 +52,7 @@ returns-in-Err g c =
     (bad_line_end s old reads reads faults faults c.in-Err.fault c.bad_line.result c.bad_line.ensures (λ n why. (c.in-Err.ensures.bad_line n).1 (ap Err why)))
     (λ told. bad_line_worked s old c.in-Err.fault c.bad_line.result c.bad_line.ensures (λ n why. (c.in-Err.ensures.bad_line n).1 (ap Err why)) (λ i d left. g.met.H.Host.only_now c.args.host.now i d told left))
     c.tell.ensures.ends c.tell.ensures.printing refl (le_refl reads) (fell_refl faults) c.tell.ensures.counts
-    (λ told t i le now. g.met.H.Host.counts_now c.args.host.now t i told le now) (λ told t i le now. g.met.H.Host.counts_now c.tell.new.host t i (c.tell.ensures.tells ∙ told) le now) c.laws_of_rules.ensures.only_readings c.laws_of_sources.ensures.one_refusal c.law_of_languages.ensures in
+    (λ told t i le now. g.met.H.Host.counts_now c.args.host.now t i told le now) (λ told t i le now. g.met.H.Host.counts_now c.tell.new.host t i (c.tell.ensures.tells ∙ told) le now) c.laws_of_rules.ensures.only_readings c.laws_of_sources.ensures.one_refusal in
     record {
       ends = all.ends;
       bad_line = all.bad_line;
@@ -61,16 +62,17 @@ returns-in-Err g c =
       not_a_journal = λ told. all.not_a_journal told;
       already_started = λ told. all.already_started told;
       not_started = λ told. all.not_started told;
-      not_a_history = λ L language told. all.not_a_history L language told;
-      outcome = λ L language told. all.outcome L language told;
+      not_a_history = λ told. all.not_a_history told;
+      outcome = λ told. all.outcome told;
       done = all.done;
+      comes_back = all.comes_back;
       print_fault = all.print_fault;
       only = all.only;
-      finished_stays = λ L language told. all.finished_stays L language told;
-      refused_stays = λ L language told. all.refused_stays L language told;
+      finished_stays = λ told. all.finished_stays told;
+      refused_stays = λ told. all.refused_stays told;
       reports_stay = λ told. all.reports_stay told;
-      safe = λ L language told. all.safe L language told;
-      safe_end = λ L language told. all.safe_end L language told;
+      safe = λ told. all.safe told;
+      safe_end = λ told. all.safe_end told;
       tells = c.tell.ensures.tells;
       reads = le_refl reads;
       counts = c.tell.ensures.counts;

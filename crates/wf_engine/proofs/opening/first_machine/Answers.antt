@@ -4,6 +4,7 @@ use Rattle.std.specs.Prelude.{MatchOption, suc}
 use Rattle.wf_engine.proofs.FirstRecords.{at_bad_record, at_no_start, behind_first, on_ok}
 use Rattle.wf_engine.proofs.StillOpen.{some_first}
 use Rattle.wf_engine.proofs.opening.first_machine.Goals as goal
+use Rattle.wf_engine.specs.TheLanguage.{the_language}
 use Rattle.wf_events.specs.Reading.{meaning}
 use Rattle.wf_events.specs.View.{record_view}
 use Rattle.wf_history.specs.Stands.{ahead, last, last_after, place}
@@ -12,25 +13,25 @@ use Rattle.wf_replay.specs.History.{first_standing}
 use Rattle.wf_replay.specs.Standing.{standing, stands_at}
 
 pub returns-in_err-record-clause-not_a_history : goal.returns-in_err-record-clause-not_a_history
-returns-in_err-record-clause-not_a_history g c = λ L language told.
-    at_bad_record L (ahead c.args.history.now (g.H.Host.world c.args.host.now).seen) (place c.args.history.now) c.from_residual.result c.in_err-record.field-0.0 c.from_residual.ensures c.requires.first (c.in_err-record.ensures.bad_record told)
+returns-in_err-record-clause-not_a_history g c = λ told.
+    at_bad_record the_language (ahead c.args.history.now (g.H.Host.world c.args.host.now).seen) (place c.args.history.now) c.from_residual.result c.in_err-record.field-0.0 c.from_residual.ensures c.requires.first (c.in_err-record.ensures.bad_record told)
 
 pub returns-clause-leads : goal.returns-clause-leads
-returns-clause-leads g c = λ L language told.
+returns-clause-leads g c = λ told.
     let w = g.H.Host.world c.args.host.now in
     let found = subst (λ o. MatchOption o (ahead c.args.history.now w.seen ≡ []) (λ r. (payload : List ℕ) × (ahead c.args.history.now w.seen ≡ payload ∷ ahead c.next.new.self w.seen) × (meaning payload ≡ Some (record_view r)))) c.in-Some.is (c.in_ok-record.ensures.record told) in
     let at = subst (λ o. MatchOption o (place c.next.new.self ≡ place c.args.history.now) (λ _. place c.next.new.self ≡ suc (place c.args.history.now))) c.in-Some.is (c.in_ok-record.ensures.place told) in
     let behind = subst (λ o. MatchOption o (last c.next.new.self ≡ last c.args.history.now) (λ r. last c.next.new.self ≡ last_after (last c.args.history.now) (record_view r))) c.in-Some.is c.in_ok-record.ensures.last in
     IfOk-weaker c.machine_of.result
-    (λ (m : Machine). first_standing L (Some (record_view c.in-Some.record)) ≡ Some (stands_at 1 None m))
-    (λ (m : Machine). (payload : List ℕ) × (ahead c.args.history.now w.seen ≡ payload ∷ ahead c.next.new.self w.seen) × (first_standing L (meaning payload) ≡ Some (standing c.next.new.self m)))
+    (λ (m : Machine). first_standing the_language (Some (record_view c.in-Some.record)) ≡ Some (stands_at 1 None m))
+    (λ (m : Machine). (payload : List ℕ) × (ahead c.args.history.now w.seen ≡ payload ∷ ahead c.next.new.self w.seen) × (first_standing the_language (meaning payload) ≡ Some (standing c.next.new.self m)))
     (λ m leads. (
       found.0,
       found.1,
-      ap (λ o. first_standing L o) found.2
-          ∙ behind_first L (place c.next.new.self) (last c.next.new.self) (record_view c.in-Some.record) m (at ∙ ap suc c.requires.first) (behind ∙ ap (λ l. last_after l (record_view c.in-Some.record)) c.requires.none_read) leads,
+      ap (λ o. first_standing the_language o) found.2
+          ∙ behind_first the_language (place c.next.new.self) (last c.next.new.self) (record_view c.in-Some.record) m (at ∙ ap suc c.requires.first) (behind ∙ ap (λ l. last_after l (record_view c.in-Some.record)) c.requires.none_read) leads,
     ))
-    (c.machine_of.ensures.starts L language)
+    c.machine_of.ensures.starts
 
 pub returns-clause-some : goal.returns-clause-some
 returns-clause-some g c = λ told.
@@ -39,7 +40,7 @@ returns-clause-some g c = λ told.
     on_ok c.machine_of.result (some_first (ahead c.args.history.now w.seen) (ahead c.next.new.self w.seen) found.0 found.1)
 
 pub returns-clause-not_a_history : goal.returns-clause-not_a_history
-returns-clause-not_a_history g c = λ L language told.
+returns-clause-not_a_history g c = λ told.
     let w = g.H.Host.world c.args.host.now in
     let found = subst (λ o. MatchOption o (ahead c.args.history.now w.seen ≡ []) (λ r. (payload : List ℕ) × (ahead c.args.history.now w.seen ≡ payload ∷ ahead c.next.new.self w.seen) × (meaning payload ≡ Some (record_view r)))) c.in-Some.is (c.in_ok-record.ensures.record told) in
-    at_no_start L (ahead c.args.history.now w.seen) (ahead c.next.new.self w.seen) found.0 (record_view c.in-Some.record) c.machine_of.result found.1 found.2 (c.machine_of.ensures.none L language) c.machine_of.ensures.only
+    at_no_start the_language (ahead c.args.history.now w.seen) (ahead c.next.new.self w.seen) found.0 (record_view c.in-Some.record) c.machine_of.result found.1 found.2 c.machine_of.ensures.none c.machine_of.ensures.only

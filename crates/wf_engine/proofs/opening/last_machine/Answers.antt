@@ -2,23 +2,24 @@ use Rattle.std.proofs.Common.{◌∙◌, ap, sym, Ok}
 use Rattle.wf_engine.proofs.FirstRecords.{at_first_record, at_later_record, records_lead}
 use Rattle.wf_engine.proofs.StillOpen.{still_open, tells_still}
 use Rattle.wf_engine.proofs.opening.last_machine.Goals as goal
+use Rattle.wf_engine.specs.TheLanguage.{the_language}
 use Rattle.wf_history.specs.Stands.{ahead, is_closed}
 use Rattle.wf_replay.specs.History.{goes_to}
 use Rattle.wf_replay.specs.Standing.{standing}
 use Rattle.wf_replay.specs.declared.fault.ReplayFault.TheVariants as fault
 
 pub returns-in_err-machine-clause-not_a_history : goal.returns-in_err-machine-clause-not_a_history
-returns-in_err-machine-clause-not_a_history g c = λ L language told.
-    at_first_record L (ahead c.args.history.now (g.H.Host.world c.args.host.now).seen) c.from_residual.result c.in_err-machine.field-0.0 c.from_residual.ensures (c.in_err-machine.ensures.not_a_history L language told)
+returns-in_err-machine-clause-not_a_history g c = λ told.
+    at_first_record the_language (ahead c.args.history.now (g.H.Host.world c.args.host.now).seen) c.from_residual.result c.in_err-machine.field-0.0 c.from_residual.ensures (c.in_err-machine.ensures.not_a_history told)
 
 pub returns-in_err-replay-clause-not_a_history : goal.returns-in_err-replay-clause-not_a_history
-returns-in_err-replay-clause-not_a_history g c = λ L language told.
+returns-in_err-replay-clause-not_a_history g c = λ told.
     let w = g.H.Host.world c.args.host.now in
     let mid = g.H.Host.world c.first_machine.new.host in
     let h = c.first_machine.new.history in
     let s = standing h c.in_ok-machine.machine in
-    let (payload, next, first) = c.in_ok-machine.ensures.leads L language told in
-    at_later_record L (ahead c.args.history.now w.seen) (ahead h w.seen) s c.from_residual-in_err-replay.result c.in_err-replay.field-0.0 c.from_residual-in_err-replay.ensures
+    let (payload, next, first) = c.in_ok-machine.ensures.leads told in
+    at_later_record the_language (ahead c.args.history.now w.seen) (ahead h w.seen) s c.from_residual-in_err-replay.result c.in_err-replay.field-0.0 c.from_residual-in_err-replay.ensures
     (record { payload = payload; next = next; first = first })
     (λ n is. ap (λ l. goes_to s (ahead h l)) (sym (c.first_machine.ensures.seen told)) ∙ c.in_err-replay.ensures.bad_event (tells_still w mid c.first_machine.ensures.tells told) n is)
 
@@ -28,11 +29,11 @@ returns-clause-stands g c = λ told.
     (tells_still (g.H.Host.world c.args.host.now) (g.H.Host.world c.first_machine.new.host) c.first_machine.ensures.tells told)
 
 pub returns-clause-leads : goal.returns-clause-leads
-returns-clause-leads g c = λ L language told.
+returns-clause-leads g c = λ told.
     let w = g.H.Host.world c.args.host.now in
     let mid = g.H.Host.world c.first_machine.new.host in
     let h = c.first_machine.new.history in
     let s = standing h c.in_ok-machine.machine in
-    let (payload, next, first) = c.in_ok-machine.ensures.leads L language told in
-    records_lead L (ahead c.args.history.now w.seen) payload (ahead h w.seen) s (Ok (standing c.replay.new.history c.in_ok-replay.field-0)) next first
+    let (payload, next, first) = c.in_ok-machine.ensures.leads told in
+    records_lead the_language (ahead c.args.history.now w.seen) payload (ahead h w.seen) s (Ok (standing c.replay.new.history c.in_ok-replay.field-0)) next first
     (ap (λ l. goes_to s (ahead h l)) (sym (c.first_machine.ensures.seen told)) ∙ c.in_ok-replay.ensures.replayed (tells_still w mid c.first_machine.ensures.tells told))

@@ -10,4 +10,5 @@ loop-machine-init g c = record {
   whole = c.requires.whole;
   tells = refl;
   counts = none_fell (g.H.Host.faults c.args.host.now);
+  idle = λ _. (refl, refl);
 }

@@ -1,4 +1,3 @@
-use Rattle.wf_source.proofs.Bytes as bytes
 use Rattle.wf_source.proofs.Programs as programs
 use Rattle.wf_source.proofs.laws.laws_of_sources.Goals as goal
 
@@ -13,6 +12,3 @@ returns-clause-not_both c = programs.not_both c.one_program.ensures.one c.one_pr
 
 pub returns-clause-short : goal.returns-clause-short
 returns-clause-short c = programs.short
-
-pub returns-clause-bytes : goal.returns-clause-bytes
-returns-clause-bytes c = bytes.bytes

@@ -10,7 +10,7 @@ use Rattle.wf_syntax.proofs.Depths.{field_deep, list_item_deep}
 use Rattle.wf_syntax.proofs.Levels.{arms_are, branches_are, steps_are}
 use Rattle.wf_syntax.proofs.Loops.{block_given, except_given, loop_given, parallel_given, tried_given, work_given}
 use Rattle.wf_syntax.proofs.Nodes.{all_items, each_more, field_fails, item_at, item_fails, items_sound, list_fails, list_sound, map_fails, within}
-use Rattle.wf_syntax.proofs.Rows.{body_keys, except_keys, loop_keys, parallel_keys, row_fails, row_sound, told, try_keys}
+use Rattle.wf_syntax.proofs.Rows.{body_keys, except_keys, handed_on, loop_keys, parallel_keys, row_fails, row_sound, told, try_keys}
 use Rattle.wf_syntax.proofs.Singles.{branch_built, branch_fails, step_fails, step_given}
 use Rattle.wf_syntax.proofs.steps.+steps.Goals as goal
 use Rattle.wf_syntax.specs.Forms.{AreArms, AreBranches, IsArm, IsBranch}
@@ -174,77 +174,77 @@ except_at-returns-in-Err t c = field_fails (codes "except") Except (pairs_of c.a
 
 pub parts-returns-in_err-arguments_at : goal.parts-returns-in_err-arguments_at
 parts-returns-in_err-arguments_at t c =
-    let is : c.from_residual.result ≡ Err c.in_err-arguments_at.field-0.0 = search rules in
+    let is = handed_on c.from_residual.result c.in_err-arguments_at.field-0.0 c.from_residual.ensures in
     told _ _ _ c.in_err-arguments_at.field-0.0 is (row_fails (pairs_of c.args.fields.now) body_keys 0 c.in_err-arguments_at.field-0.0 c.in_err-arguments_at.ensures)
 
 pub parts-returns-in_err-entries_at : goal.parts-returns-in_err-entries_at
 parts-returns-in_err-entries_at t c =
-    let is : c.from_residual-in_err-entries_at.result ≡ Err c.in_err-entries_at.field-0.0 = search rules in
+    let is = handed_on c.from_residual-in_err-entries_at.result c.in_err-entries_at.field-0.0 c.from_residual-in_err-entries_at.ensures in
     told _ _ _ c.in_err-entries_at.field-0.0 is (row_fails (pairs_of c.args.fields.now) body_keys 1 c.in_err-entries_at.field-0.0 (c.in_ok-arguments_at.ensures.0, c.in_err-entries_at.ensures))
 
 pub parts-returns-in_err-text_at : goal.parts-returns-in_err-text_at
 parts-returns-in_err-text_at t c =
-    let is : c.from_residual-in_err-text_at.result ≡ Err c.in_err-text_at.field-0.0 = search rules in
+    let is = handed_on c.from_residual-in_err-text_at.result c.in_err-text_at.field-0.0 c.from_residual-in_err-text_at.ensures in
     told _ _ _ c.in_err-text_at.field-0.0 is (row_fails (pairs_of c.args.fields.now) body_keys 2 c.in_err-text_at.field-0.0 (c.in_ok-arguments_at.ensures.0, (c.in_ok-entries_at.ensures.0, c.in_err-text_at.ensures)))
 
 pub parts-returns-in_err-value_at : goal.parts-returns-in_err-value_at
 parts-returns-in_err-value_at t c =
-    let is : c.from_residual-in_err-value_at.result ≡ Err c.in_err-value_at.field-0.0 = search rules in
+    let is = handed_on c.from_residual-in_err-value_at.result c.in_err-value_at.field-0.0 c.from_residual-in_err-value_at.ensures in
     told _ _ _ c.in_err-value_at.field-0.0 is (row_fails (pairs_of c.args.fields.now) body_keys 3 c.in_err-value_at.field-0.0 (c.in_ok-arguments_at.ensures.0, (c.in_ok-entries_at.ensures.0, (c.in_ok-text_at.ensures.0, c.in_err-value_at.ensures))))
 
 pub parts-returns-in_err-except_at : goal.parts-returns-in_err-except_at
 parts-returns-in_err-except_at t c =
-    let is : c.from_residual-in_err-except_at.result ≡ Err c.in_err-except_at.field-0.0 = search rules in
+    let is = handed_on c.from_residual-in_err-except_at.result c.in_err-except_at.field-0.0 c.from_residual-in_err-except_at.ensures in
     told _ _ _ c.in_err-except_at.field-0.0 is (row_fails (pairs_of c.args.fields.now) body_keys 4 c.in_err-except_at.field-0.0 (c.in_ok-arguments_at.ensures.0, (c.in_ok-entries_at.ensures.0, (c.in_ok-text_at.ensures.0, (c.in_ok-value_at.ensures.0, c.in_err-except_at.ensures)))))
 
 pub parts-returns-in_err-loop_at : goal.parts-returns-in_err-loop_at
 parts-returns-in_err-loop_at t c =
-    let is : c.from_residual-in_err-loop_at.result ≡ Err c.in_err-loop_at.field-0.0 = search rules in
+    let is = handed_on c.from_residual-in_err-loop_at.result c.in_err-loop_at.field-0.0 c.from_residual-in_err-loop_at.ensures in
     told _ _ _ c.in_err-loop_at.field-0.0 is (row_fails (pairs_of c.args.fields.now) body_keys 5 c.in_err-loop_at.field-0.0 (c.in_ok-arguments_at.ensures.0, (c.in_ok-entries_at.ensures.0, (c.in_ok-text_at.ensures.0, (c.in_ok-value_at.ensures.0, (c.in_ok-except_at.ensures.0, c.in_err-loop_at.ensures))))))
 
 pub parts-returns-in_err-text_at-2 : goal.parts-returns-in_err-text_at-2
 parts-returns-in_err-text_at-2 t c =
-    let is : c.from_residual-in_err-text_at-2.result ≡ Err c.in_err-text_at-2.field-0.0 = search rules in
+    let is = handed_on c.from_residual-in_err-text_at-2.result c.in_err-text_at-2.field-0.0 c.from_residual-in_err-text_at-2.ensures in
     told _ _ _ c.in_err-text_at-2.field-0.0 is (row_fails (pairs_of c.args.fields.now) body_keys 6 c.in_err-text_at-2.field-0.0 (c.in_ok-arguments_at.ensures.0, (c.in_ok-entries_at.ensures.0, (c.in_ok-text_at.ensures.0, (c.in_ok-value_at.ensures.0, (c.in_ok-except_at.ensures.0, (c.in_ok-loop_at.ensures.0, c.in_err-text_at-2.ensures)))))))
 
 pub parts-returns-in_err-parallel_at : goal.parts-returns-in_err-parallel_at
 parts-returns-in_err-parallel_at t c =
-    let is : c.from_residual-in_err-parallel_at.result ≡ Err c.in_err-parallel_at.field-0.0 = search rules in
+    let is = handed_on c.from_residual-in_err-parallel_at.result c.in_err-parallel_at.field-0.0 c.from_residual-in_err-parallel_at.ensures in
     told _ _ _ c.in_err-parallel_at.field-0.0 is (row_fails (pairs_of c.args.fields.now) body_keys 7 c.in_err-parallel_at.field-0.0 (c.in_ok-arguments_at.ensures.0, (c.in_ok-entries_at.ensures.0, (c.in_ok-text_at.ensures.0, (c.in_ok-value_at.ensures.0, (c.in_ok-except_at.ensures.0, (c.in_ok-loop_at.ensures.0, (c.in_ok-text_at-2.ensures.0, c.in_err-parallel_at.ensures))))))))
 
 pub parts-returns-in_err-value_at-2 : goal.parts-returns-in_err-value_at-2
 parts-returns-in_err-value_at-2 t c =
-    let is : c.from_residual-in_err-value_at-2.result ≡ Err c.in_err-value_at-2.field-0.0 = search rules in
+    let is = handed_on c.from_residual-in_err-value_at-2.result c.in_err-value_at-2.field-0.0 c.from_residual-in_err-value_at-2.ensures in
     told _ _ _ c.in_err-value_at-2.field-0.0 is (row_fails (pairs_of c.args.fields.now) body_keys 8 c.in_err-value_at-2.field-0.0 (c.in_ok-arguments_at.ensures.0, (c.in_ok-entries_at.ensures.0, (c.in_ok-text_at.ensures.0, (c.in_ok-value_at.ensures.0, (c.in_ok-except_at.ensures.0, (c.in_ok-loop_at.ensures.0, (c.in_ok-text_at-2.ensures.0, (c.in_ok-parallel_at.ensures.0, c.in_err-value_at-2.ensures)))))))))
 
 pub parts-returns-in_err-name_at : goal.parts-returns-in_err-name_at
 parts-returns-in_err-name_at t c =
-    let is : c.from_residual-in_err-name_at.result ≡ Err c.in_err-name_at.field-0.0 = search rules in
+    let is = handed_on c.from_residual-in_err-name_at.result c.in_err-name_at.field-0.0 c.from_residual-in_err-name_at.ensures in
     told _ _ _ c.in_err-name_at.field-0.0 is (row_fails (pairs_of c.args.fields.now) body_keys 9 c.in_err-name_at.field-0.0 (c.in_ok-arguments_at.ensures.0, (c.in_ok-entries_at.ensures.0, (c.in_ok-text_at.ensures.0, (c.in_ok-value_at.ensures.0, (c.in_ok-except_at.ensures.0, (c.in_ok-loop_at.ensures.0, (c.in_ok-text_at-2.ensures.0, (c.in_ok-parallel_at.ensures.0, (c.in_ok-value_at-2.ensures.0, c.in_err-name_at.ensures))))))))))
 
 pub parts-returns-in_err-policy_at : goal.parts-returns-in_err-policy_at
 parts-returns-in_err-policy_at t c =
-    let is : c.from_residual-in_err-policy_at.result ≡ Err c.in_err-policy_at.field-0.0 = search rules in
+    let is = handed_on c.from_residual-in_err-policy_at.result c.in_err-policy_at.field-0.0 c.from_residual-in_err-policy_at.ensures in
     told _ _ _ c.in_err-policy_at.field-0.0 is (row_fails (pairs_of c.args.fields.now) body_keys 10 c.in_err-policy_at.field-0.0 (c.in_ok-arguments_at.ensures.0, (c.in_ok-entries_at.ensures.0, (c.in_ok-text_at.ensures.0, (c.in_ok-value_at.ensures.0, (c.in_ok-except_at.ensures.0, (c.in_ok-loop_at.ensures.0, (c.in_ok-text_at-2.ensures.0, (c.in_ok-parallel_at.ensures.0, (c.in_ok-value_at-2.ensures.0, (c.in_ok-name_at.ensures.0, c.in_err-policy_at.ensures)))))))))))
 
 pub parts-returns-in_err-value_at-3 : goal.parts-returns-in_err-value_at-3
 parts-returns-in_err-value_at-3 t c =
-    let is : c.from_residual-in_err-value_at-3.result ≡ Err c.in_err-value_at-3.field-0.0 = search rules in
+    let is = handed_on c.from_residual-in_err-value_at-3.result c.in_err-value_at-3.field-0.0 c.from_residual-in_err-value_at-3.ensures in
     told _ _ _ c.in_err-value_at-3.field-0.0 is (row_fails (pairs_of c.args.fields.now) body_keys 11 c.in_err-value_at-3.field-0.0 (c.in_ok-arguments_at.ensures.0, (c.in_ok-entries_at.ensures.0, (c.in_ok-text_at.ensures.0, (c.in_ok-value_at.ensures.0, (c.in_ok-except_at.ensures.0, (c.in_ok-loop_at.ensures.0, (c.in_ok-text_at-2.ensures.0, (c.in_ok-parallel_at.ensures.0, (c.in_ok-value_at-2.ensures.0, (c.in_ok-name_at.ensures.0, (c.in_ok-policy_at.ensures.0, c.in_err-value_at-3.ensures))))))))))))
 
 pub parts-returns-in_err-steps_at : goal.parts-returns-in_err-steps_at
 parts-returns-in_err-steps_at t c =
-    let is : c.from_residual-in_err-steps_at.result ≡ Err c.in_err-steps_at.field-0.0 = search rules in
+    let is = handed_on c.from_residual-in_err-steps_at.result c.in_err-steps_at.field-0.0 c.from_residual-in_err-steps_at.ensures in
     told _ _ _ c.in_err-steps_at.field-0.0 is (row_fails (pairs_of c.args.fields.now) body_keys 12 c.in_err-steps_at.field-0.0 (c.in_ok-arguments_at.ensures.0, (c.in_ok-entries_at.ensures.0, (c.in_ok-text_at.ensures.0, (c.in_ok-value_at.ensures.0, (c.in_ok-except_at.ensures.0, (c.in_ok-loop_at.ensures.0, (c.in_ok-text_at-2.ensures.0, (c.in_ok-parallel_at.ensures.0, (c.in_ok-value_at-2.ensures.0, (c.in_ok-name_at.ensures.0, (c.in_ok-policy_at.ensures.0, (c.in_ok-value_at-3.ensures.0, c.in_err-steps_at.ensures)))))))))))))
 
 pub parts-returns-in_err-arms_at : goal.parts-returns-in_err-arms_at
 parts-returns-in_err-arms_at t c =
-    let is : c.from_residual-in_err-arms_at.result ≡ Err c.in_err-arms_at.field-0.0 = search rules in
+    let is = handed_on c.from_residual-in_err-arms_at.result c.in_err-arms_at.field-0.0 c.from_residual-in_err-arms_at.ensures in
     told _ _ _ c.in_err-arms_at.field-0.0 is (row_fails (pairs_of c.args.fields.now) body_keys 13 c.in_err-arms_at.field-0.0 (c.in_ok-arguments_at.ensures.0, (c.in_ok-entries_at.ensures.0, (c.in_ok-text_at.ensures.0, (c.in_ok-value_at.ensures.0, (c.in_ok-except_at.ensures.0, (c.in_ok-loop_at.ensures.0, (c.in_ok-text_at-2.ensures.0, (c.in_ok-parallel_at.ensures.0, (c.in_ok-value_at-2.ensures.0, (c.in_ok-name_at.ensures.0, (c.in_ok-policy_at.ensures.0, (c.in_ok-value_at-3.ensures.0, (c.in_ok-steps_at.ensures.0, c.in_err-arms_at.ensures))))))))))))))
 
 pub parts-returns-in_err-try_at : goal.parts-returns-in_err-try_at
 parts-returns-in_err-try_at t c =
-    let is : c.from_residual-in_err-try_at.result ≡ Err c.in_err-try_at.field-0.0 = search rules in
+    let is = handed_on c.from_residual-in_err-try_at.result c.in_err-try_at.field-0.0 c.from_residual-in_err-try_at.ensures in
     told _ _ _ c.in_err-try_at.field-0.0 is (row_fails (pairs_of c.args.fields.now) body_keys 14 c.in_err-try_at.field-0.0 (c.in_ok-arguments_at.ensures.0, (c.in_ok-entries_at.ensures.0, (c.in_ok-text_at.ensures.0, (c.in_ok-value_at.ensures.0, (c.in_ok-except_at.ensures.0, (c.in_ok-loop_at.ensures.0, (c.in_ok-text_at-2.ensures.0, (c.in_ok-parallel_at.ensures.0, (c.in_ok-value_at-2.ensures.0, (c.in_ok-name_at.ensures.0, (c.in_ok-policy_at.ensures.0, (c.in_ok-value_at-3.ensures.0, (c.in_ok-steps_at.ensures.0, (c.in_ok-arms_at.ensures.0, c.in_err-try_at.ensures)))))))))))))))
 
 pub parts-returns : goal.parts-returns
@@ -271,112 +271,112 @@ parts-returns t c = (
 
 pub loop_body-returns-in_err-list : goal.loop_body-returns-in_err-list
 loop_body-returns-in_err-list t c =
-    let is : c.from_residual.result ≡ Err c.in_err-list.field-0.0 = search rules in
+    let is = handed_on c.from_residual.result c.in_err-list.field-0.0 c.from_residual.ensures in
     let fs = pairs_of c.in-Map.fields in
     let sound : loop_fault (pairs_of c.in-Map.fields) ≡ None = search rules in
     told _ _ _ c.in_err-list.field-0.0 is (map_fails Loop _ fs c.in_err-list.field-0.0 (ap plain_tree c.in-Map.is) sound (row_fails fs loop_keys 0 c.in_err-list.field-0.0 c.in_err-list.ensures))
 
 pub loop_body-returns-in_err-index : goal.loop_body-returns-in_err-index
 loop_body-returns-in_err-index t c =
-    let is : c.from_residual-in_err-index.result ≡ Err c.in_err-index.field-0.0 = search rules in
+    let is = handed_on c.from_residual-in_err-index.result c.in_err-index.field-0.0 c.from_residual-in_err-index.ensures in
     let fs = pairs_of c.in-Map.fields in
     let sound : loop_fault (pairs_of c.in-Map.fields) ≡ None = search rules in
     told _ _ _ c.in_err-index.field-0.0 is (map_fails Loop _ fs c.in_err-index.field-0.0 (ap plain_tree c.in-Map.is) sound (row_fails fs loop_keys 1 c.in_err-index.field-0.0 (c.in_ok-list.ensures.0, c.in_err-index.ensures)))
 
 pub loop_body-returns-in_err-range : goal.loop_body-returns-in_err-range
 loop_body-returns-in_err-range t c =
-    let is : c.from_residual-in_err-range.result ≡ Err c.in_err-range.field-0.0 = search rules in
+    let is = handed_on c.from_residual-in_err-range.result c.in_err-range.field-0.0 c.from_residual-in_err-range.ensures in
     let fs = pairs_of c.in-Map.fields in
     let sound : loop_fault (pairs_of c.in-Map.fields) ≡ None = search rules in
     told _ _ _ c.in_err-range.field-0.0 is (map_fails Loop _ fs c.in_err-range.field-0.0 (ap plain_tree c.in-Map.is) sound (row_fails fs loop_keys 2 c.in_err-range.field-0.0 (c.in_ok-list.ensures.0, (c.in_ok-index.ensures.0, c.in_err-range.ensures))))
 
 pub loop_body-returns-in_err-steps : goal.loop_body-returns-in_err-steps
 loop_body-returns-in_err-steps t c =
-    let is : c.from_residual-in_err-steps.result ≡ Err c.in_err-steps.field-0.0 = search rules in
+    let is = handed_on c.from_residual-in_err-steps.result c.in_err-steps.field-0.0 c.from_residual-in_err-steps.ensures in
     let fs = pairs_of c.in-Map.fields in
     let sound : loop_fault (pairs_of c.in-Map.fields) ≡ None = search rules in
     told _ _ _ c.in_err-steps.field-0.0 is (map_fails Loop _ fs c.in_err-steps.field-0.0 (ap plain_tree c.in-Map.is) sound (row_fails fs loop_keys 3 c.in_err-steps.field-0.0 (c.in_ok-list.ensures.0, (c.in_ok-index.ensures.0, (c.in_ok-range.ensures.0, c.in_err-steps.ensures)))))
 
 pub loop_body-returns-in_err-value : goal.loop_body-returns-in_err-value
 loop_body-returns-in_err-value t c =
-    let is : c.from_residual-in_err-value.result ≡ Err c.in_err-value.field-0.0 = search rules in
+    let is = handed_on c.from_residual-in_err-value.result c.in_err-value.field-0.0 c.from_residual-in_err-value.ensures in
     let fs = pairs_of c.in-Map.fields in
     let sound : loop_fault (pairs_of c.in-Map.fields) ≡ None = search rules in
     told _ _ _ c.in_err-value.field-0.0 is (map_fails Loop _ fs c.in_err-value.field-0.0 (ap plain_tree c.in-Map.is) sound (row_fails fs loop_keys 4 c.in_err-value.field-0.0 (c.in_ok-list.ensures.0, (c.in_ok-index.ensures.0, (c.in_ok-range.ensures.0, (c.in_ok-steps.ensures.0, c.in_err-value.ensures))))))
 
 pub parallel-returns-in_err-branches : goal.parallel-returns-in_err-branches
 parallel-returns-in_err-branches t c =
-    let is : c.from_residual.result ≡ Err c.in_err-branches.field-0.0 = search rules in
+    let is = handed_on c.from_residual.result c.in_err-branches.field-0.0 c.from_residual.ensures in
     let fs = pairs_of c.in-Map.fields in
     let sound : parallel_fault (pairs_of c.in-Map.fields) ≡ None = search rules in
     told _ _ _ c.in_err-branches.field-0.0 is (map_fails Parallel _ fs c.in_err-branches.field-0.0 (ap plain_tree c.in-Map.is) sound (row_fails fs parallel_keys 0 c.in_err-branches.field-0.0 c.in_err-branches.ensures))
 
 pub parallel-returns-in_err-limit : goal.parallel-returns-in_err-limit
 parallel-returns-in_err-limit t c =
-    let is : c.from_residual-in_err-limit.result ≡ Err c.in_err-limit.field-0.0 = search rules in
+    let is = handed_on c.from_residual-in_err-limit.result c.in_err-limit.field-0.0 c.from_residual-in_err-limit.ensures in
     let fs = pairs_of c.in-Map.fields in
     let sound : parallel_fault (pairs_of c.in-Map.fields) ≡ None = search rules in
     told _ _ _ c.in_err-limit.field-0.0 is (map_fails Parallel _ fs c.in_err-limit.field-0.0 (ap plain_tree c.in-Map.is) sound (row_fails fs parallel_keys 1 c.in_err-limit.field-0.0 (c.in_ok-branches.ensures.0, c.in_err-limit.ensures)))
 
 pub parallel-returns-in_err-policy_word_at : goal.parallel-returns-in_err-policy_word_at
 parallel-returns-in_err-policy_word_at t c =
-    let is : c.from_residual-in_err-policy_word_at.result ≡ Err c.in_err-policy_word_at.field-0.0 = search rules in
+    let is = handed_on c.from_residual-in_err-policy_word_at.result c.in_err-policy_word_at.field-0.0 c.from_residual-in_err-policy_word_at.ensures in
     let fs = pairs_of c.in-Map.fields in
     let sound : parallel_fault (pairs_of c.in-Map.fields) ≡ None = search rules in
     told _ _ _ c.in_err-policy_word_at.field-0.0 is (map_fails Parallel _ fs c.in_err-policy_word_at.field-0.0 (ap plain_tree c.in-Map.is) sound (row_fails fs parallel_keys 2 c.in_err-policy_word_at.field-0.0 (c.in_ok-branches.ensures.0, (c.in_ok-limit.ensures.0, c.in_err-policy_word_at.ensures))))
 
 pub parallel-returns-in_err-repeated : goal.parallel-returns-in_err-repeated
 parallel-returns-in_err-repeated t c =
-    let is : c.from_residual-in_err-repeated.result ≡ Err c.in_err-repeated.field-0.0 = search rules in
+    let is = handed_on c.from_residual-in_err-repeated.result c.in_err-repeated.field-0.0 c.from_residual-in_err-repeated.ensures in
     let fs = pairs_of c.in-Map.fields in
     let sound : parallel_fault (pairs_of c.in-Map.fields) ≡ None = search rules in
     told _ _ _ c.in_err-repeated.field-0.0 is (map_fails Parallel _ fs c.in_err-repeated.field-0.0 (ap plain_tree c.in-Map.is) sound (row_fails fs parallel_keys 3 c.in_err-repeated.field-0.0 (c.in_ok-branches.ensures.0, (c.in_ok-limit.ensures.0, (c.in_ok-policy_word_at.ensures, c.in_err-repeated.ensures)))))
 
 pub parallel-returns-in_err-shared : goal.parallel-returns-in_err-shared
 parallel-returns-in_err-shared t c =
-    let is : c.from_residual-in_err-shared.result ≡ Err c.in_err-shared.field-0.0 = search rules in
+    let is = handed_on c.from_residual-in_err-shared.result c.in_err-shared.field-0.0 c.from_residual-in_err-shared.ensures in
     let fs = pairs_of c.in-Map.fields in
     let sound : parallel_fault (pairs_of c.in-Map.fields) ≡ None = search rules in
     told _ _ _ c.in_err-shared.field-0.0 is (map_fails Parallel _ fs c.in_err-shared.field-0.0 (ap plain_tree c.in-Map.is) sound (row_fails fs parallel_keys 4 c.in_err-shared.field-0.0 (c.in_ok-branches.ensures.0, (c.in_ok-limit.ensures.0, (c.in_ok-policy_word_at.ensures, (c.in_ok-repeated.ensures.0, c.in_err-shared.ensures))))))
 
 pub tried-returns-in_err-args : goal.tried-returns-in_err-args
 tried-returns-in_err-args t c =
-    let is : c.from_residual.result ≡ Err c.in_err-args.field-0.0 = search rules in
+    let is = handed_on c.from_residual.result c.in_err-args.field-0.0 c.from_residual.ensures in
     let fs = pairs_of c.in-Map.fields in
     let sound : try_fault (pairs_of c.in-Map.fields) ≡ None = search rules in
     told _ _ _ c.in_err-args.field-0.0 is (map_fails Try _ fs c.in_err-args.field-0.0 (ap plain_tree c.in-Map.is) sound (row_fails fs try_keys 0 c.in_err-args.field-0.0 c.in_err-args.ensures))
 
 pub tried-returns-in_err-call : goal.tried-returns-in_err-call
 tried-returns-in_err-call t c =
-    let is : c.from_residual-in_err-call.result ≡ Err c.in_err-call.field-0.0 = search rules in
+    let is = handed_on c.from_residual-in_err-call.result c.in_err-call.field-0.0 c.from_residual-in_err-call.ensures in
     let fs = pairs_of c.in-Map.fields in
     let sound : try_fault (pairs_of c.in-Map.fields) ≡ None = search rules in
     told _ _ _ c.in_err-call.field-0.0 is (map_fails Try _ fs c.in_err-call.field-0.0 (ap plain_tree c.in-Map.is) sound (row_fails fs try_keys 1 c.in_err-call.field-0.0 (c.in_ok-args.ensures.0, c.in_err-call.ensures)))
 
 pub tried-returns-in_err-result : goal.tried-returns-in_err-result
 tried-returns-in_err-result t c =
-    let is : c.from_residual-in_err-result.result ≡ Err c.in_err-result.field-0.0 = search rules in
+    let is = handed_on c.from_residual-in_err-result.result c.in_err-result.field-0.0 c.from_residual-in_err-result.ensures in
     let fs = pairs_of c.in-Map.fields in
     let sound : try_fault (pairs_of c.in-Map.fields) ≡ None = search rules in
     told _ _ _ c.in_err-result.field-0.0 is (map_fails Try _ fs c.in_err-result.field-0.0 (ap plain_tree c.in-Map.is) sound (row_fails fs try_keys 2 c.in_err-result.field-0.0 (c.in_ok-args.ensures.0, (c.in_ok-call.ensures.0, c.in_err-result.ensures))))
 
 pub tried-returns-in_err-steps : goal.tried-returns-in_err-steps
 tried-returns-in_err-steps t c =
-    let is : c.from_residual-in_err-steps.result ≡ Err c.in_err-steps.field-0.0 = search rules in
+    let is = handed_on c.from_residual-in_err-steps.result c.in_err-steps.field-0.0 c.from_residual-in_err-steps.ensures in
     let fs = pairs_of c.in-Map.fields in
     let sound : try_fault (pairs_of c.in-Map.fields) ≡ None = search rules in
     told _ _ _ c.in_err-steps.field-0.0 is (map_fails Try _ fs c.in_err-steps.field-0.0 (ap plain_tree c.in-Map.is) sound (row_fails fs try_keys 3 c.in_err-steps.field-0.0 (c.in_ok-args.ensures.0, (c.in_ok-call.ensures.0, (c.in_ok-result.ensures.0, c.in_err-steps.ensures)))))
 
 pub except-returns-in_err-name : goal.except-returns-in_err-name
 except-returns-in_err-name t c =
-    let is : c.from_residual.result ≡ Err c.in_err-name.field-0.0 = search rules in
+    let is = handed_on c.from_residual.result c.in_err-name.field-0.0 c.from_residual.ensures in
     let fs = pairs_of c.in-Map.fields in
     let sound : map_fault (codes "as" ∷ codes "steps" ∷ []) [] (pairs_of c.in-Map.fields) ≡ None = search rules in
     told _ _ _ c.in_err-name.field-0.0 is (map_fails Except _ fs c.in_err-name.field-0.0 (ap plain_tree c.in-Map.is) sound (row_fails fs except_keys 0 c.in_err-name.field-0.0 c.in_err-name.ensures))
 
 pub except-returns-in_err-steps : goal.except-returns-in_err-steps
 except-returns-in_err-steps t c =
-    let is : c.from_residual-in_err-steps.result ≡ Err c.in_err-steps.field-0.0 = search rules in
+    let is = handed_on c.from_residual-in_err-steps.result c.in_err-steps.field-0.0 c.from_residual-in_err-steps.ensures in
     let fs = pairs_of c.in-Map.fields in
     let sound : map_fault (codes "as" ∷ codes "steps" ∷ []) [] (pairs_of c.in-Map.fields) ≡ None = search rules in
     told _ _ _ c.in_err-steps.field-0.0 is (map_fails Except _ fs c.in_err-steps.field-0.0 (ap plain_tree c.in-Map.is) sound (row_fails fs except_keys 1 c.in_err-steps.field-0.0 (c.in_ok-name.ensures.0, c.in_err-steps.ensures)))
@@ -384,8 +384,8 @@ except-returns-in_err-steps t c =
 pub step-returns-in-Err : goal.step-returns-in-Err
 step-returns-in-Err t c = step_fails _ _ _ c.in-Err.stop c.at_key.result c.in-Some.ensures (search rules) c.in-Err.ensures c.at_key.ensures
 
-pub step-returns-in_ok-owned-in-Ok : goal.step-returns-in_ok-owned-in-Ok
-step-returns-in_ok-owned-in-Ok t c = step_given _ _ _ _ _ _ c.in-Some.ensures (search rules) c.in_ok-owned-in-Ok.ensures c.in-Ok.ensures
+pub step-returns-in-Ok : goal.step-returns-in-Ok
+step-returns-in-Ok t c = step_given _ _ _ _ _ _ c.in-Some.ensures (search rules) c.in_ok-held.ensures c.in-Ok.ensures
 
 pub branch-returns-in-Err : goal.branch-returns-in-Err
 branch-returns-in-Err t c = branch_fails _ _ _ c.in-Err.stop c.at_key.result c.in-Some.ensures c.in-Err.ensures c.at_key.ensures

@@ -8,7 +8,7 @@ use Rattle.wf_yaml.specs.Rows as lines
 use Rattle.wf_yaml.specs.Cuts.{cut, heads, entries_of}
 use Rattle.wf_yaml.specs.Blocks as blocks
 use Rattle.wf_yaml.specs.Views.{see, see_all, see_head}
-use Rattle.wf_yaml_line.specs.Flow.{is_delay_key}
+use Rattle.wf_yaml_line.specs.Scalars.{is_delay_key}
 use Rattle.wf_yaml_line.specs.Marks.{ends_line}
 use Rattle.wf_yaml.proofs.Steps.{no, block_none, block_some, first_line, holds_first, item_goes_on, list_next, map_next}
 use Rattle.wf_yaml.proofs.blocks.+node.Goals as goal

@@ -2,7 +2,7 @@ use Rattle.std.proofs.Common.{Result, subst, sym, ap, ◌∙◌}
 use Rattle.wf_tree.specs.Plain.{plain_tree}
 use Rattle.wf_tree.specs.Trees.{Tree}
 use Rattle.wf_yaml_line.specs.declared.fault.Fault.{Fault}
-use Rattle.wf_yaml_line.specs.Flow.{is_delay_key}
+use Rattle.wf_yaml_line.specs.Scalars.{is_delay_key}
 use Rattle.wf_yaml_line.specs.Views.{Gives}
 use Rattle.wf_yaml.specs.Blocks.{line_alone}
 use Rattle.wf_yaml.proofs.Steps.{no}

@@ -4,6 +4,7 @@ use Rattle.wf_engine.proofs.Beginning.{opens_quietly, quiet_stays, then_reads}
 use Rattle.wf_engine.proofs.Reopened.{deeds_on, has_ended, next_number, no_history_told, opened, still_stands}
 use Rattle.wf_engine.proofs.StillOpen.{tells_still}
 use Rattle.wf_engine.proofs.engine.Engine.open.Goals as goal
+use Rattle.wf_engine.specs.TheLanguage.{the_language}
 use Rattle.wf_history.specs.Stands.{ahead}
 use Rattle.wf_journal.specs.Records.{records}
 use Rattle.wf_journal.specs.Standing.{new_none}
@@ -28,11 +29,11 @@ returns-in_err-machine-clause-any_moment g c = λ told.
     opens_quietly w late quiet
 
 pub returns-in_err-machine-clause-not_a_history : goal.returns-in_err-machine-clause-not_a_history
-returns-in_err-machine-clause-not_a_history g c = λ L language told.
+returns-in_err-machine-clause-not_a_history g c = λ told.
     let w = g.H.Host.world c.args.host.now in
     let mid = g.H.Host.world c.open.new.host in
-    no_history_told L w.seen (ahead c.in_ok-history.history mid.seen) c.from_residual-in_err-machine.result c.in_err-machine.field-0.0 c.from_residual-in_err-machine.ensures
-    (c.in_ok-history.ensures.first told ∙ ap records (c.open.ensures.seen told)) (c.in_ok-history.ensures.a_journal told) (c.in_err-machine.ensures.not_a_history L language (tells_still w mid c.open.ensures.tells told))
+    no_history_told the_language w.seen (ahead c.in_ok-history.history mid.seen) c.from_residual-in_err-machine.result c.in_err-machine.field-0.0 c.from_residual-in_err-machine.ensures
+    (c.in_ok-history.ensures.first told ∙ ap records (c.open.ensures.seen told)) (c.in_ok-history.ensures.a_journal told) (c.in_err-machine.ensures.not_a_history (tells_still w mid c.open.ensures.tells told))
 
 pub returns-in_err-reading-clause-any_moment : goal.returns-in_err-reading-clause-any_moment
 returns-in_err-reading-clause-any_moment g c = λ told.
@@ -60,7 +61,7 @@ returns-in_err-reading-clause-deeds g c = λ told.
     deeds_on w late new deeds (c.session_reading.ensures.deeds told_late)
 
 pub returns-in_err-reading-clause-finished : goal.returns-in_err-reading-clause-finished
-returns-in_err-reading-clause-finished g c = λ L language told s is ended.
+returns-in_err-reading-clause-finished g c = λ told s is ended.
     let w = g.H.Host.world c.args.host.now in
     let mid = g.H.Host.world c.open.new.host in
     let late = g.H.Host.world c.last_machine.new.host in
@@ -71,9 +72,9 @@ returns-in_err-reading-clause-finished g c = λ L language told s is ended.
     let deeds = c.last_machine.ensures.deeds told_mid ∙ c.open.ensures.deeds told in
     let h = c.last_machine.new.history in
     let m = c.in_ok-machine.machine in
-    let led : history L (records w.seen) ≡ Ok (standing h m) =
-    ap (λ l. history L (records l)) (sym (c.open.ensures.seen told)) ∙ ap (λ J. history L J) (sym (c.in_ok-history.ensures.first told)) ∙ c.in_ok-machine.ensures.leads L language told_mid in
-    ap (λ x. (g.H.Host.world x).deeds) (c.session_reading.ensures.finished (has_ended L (records w.seen) h m s led is ended)) ∙ deeds
+    let led : history the_language (records w.seen) ≡ Ok (standing h m) =
+    ap (λ l. history the_language (records l)) (sym (c.open.ensures.seen told)) ∙ ap (λ J. history the_language J) (sym (c.in_ok-history.ensures.first told)) ∙ c.in_ok-machine.ensures.leads told_mid in
+    ap (λ x. (g.H.Host.world x).deeds) (c.session_reading.ensures.finished (has_ended the_language (records w.seen) h m s led is ended)) ∙ deeds
 
 pub returns-clause-holds : goal.returns-clause-holds
 returns-clause-holds g c = λ told.
@@ -91,7 +92,7 @@ returns-clause-holds g c = λ told.
     )
 
 pub returns-clause-opened : goal.returns-clause-opened
-returns-clause-opened g c = λ L language told.
+returns-clause-opened g c = λ told.
     let w = g.H.Host.world c.args.host.now in
     let mid = g.H.Host.world c.open.new.host in
     let late = g.H.Host.world c.last_machine.new.host in
@@ -102,16 +103,16 @@ returns-clause-opened g c = λ L language told.
     let deeds = c.last_machine.ensures.deeds told_mid ∙ c.open.ensures.deeds told in
     let h = c.last_machine.new.history in
     let m = c.in_ok-machine.machine in
-    let led : history L (records w.seen) ≡ Ok (standing h m) =
-    ap (λ l. history L (records l)) (sym (c.open.ensures.seen told)) ∙ ap (λ J. history L J) (sym (c.in_ok-history.ensures.first told)) ∙ c.in_ok-machine.ensures.leads L language told_mid in
-    let next = next_number L c.laws_of_moments.ensures.number_is_count c.laws_of_moments.ensures.session_is_numbered w.seen h m c.saturating_add.result c.unwrap_or-last.result.0 led (g.met.H.Host.fits c.args.host.now told)
+    let led : history the_language (records w.seen) ≡ Ok (standing h m) =
+    ap (λ l. history the_language (records l)) (sym (c.open.ensures.seen told)) ∙ ap (λ J. history the_language J) (sym (c.in_ok-history.ensures.first told)) ∙ c.in_ok-machine.ensures.leads told_mid in
+    let next = next_number the_language c.laws_of_moments.ensures.number_is_count c.laws_of_moments.ensures.session_is_numbered w.seen h m c.saturating_add.result c.unwrap_or-last.result.0 led (g.met.H.Host.fits c.args.host.now told)
     (ap (λ (p : ℕ × ℕ). p.0) (c.unwrap_or-last.ensures ∙ ap (λ o. unwrap_or o (0, 0)) c.last.ensures)) c.saturating_add.ensures in
     let laws = c.laws_of_moments.ensures in
-    opened L c.laws_of_rules.ensures.only_readings laws.stands_before laws.no_turns_behind laws.session_is_numbered w late new h m c.saturating_add.result c.in_ok-reading.reading led (c.session_reading.ensures.seen told_late ∙ seen) deeds next
+    opened the_language c.laws_of_rules.ensures.only_readings laws.stands_before laws.no_turns_behind laws.session_is_numbered w late new h m c.saturating_add.result c.in_ok-reading.reading led (c.session_reading.ensures.seen told_late ∙ seen) deeds next
     (c.in_ok-reading.ensures.clock told_late)
 
 pub returns-clause-session : goal.returns-clause-session
-returns-clause-session g c = λ L language told.
+returns-clause-session g c = λ told.
     let w = g.H.Host.world c.args.host.now in
     let mid = g.H.Host.world c.open.new.host in
     let late = g.H.Host.world c.last_machine.new.host in
@@ -122,11 +123,11 @@ returns-clause-session g c = λ L language told.
     let deeds = c.last_machine.ensures.deeds told_mid ∙ c.open.ensures.deeds told in
     let h = c.last_machine.new.history in
     let m = c.in_ok-machine.machine in
-    let led : history L (records w.seen) ≡ Ok (standing h m) =
-    ap (λ l. history L (records l)) (sym (c.open.ensures.seen told)) ∙ ap (λ J. history L J) (sym (c.in_ok-history.ensures.first told)) ∙ c.in_ok-machine.ensures.leads L language told_mid in
-    let next = next_number L c.laws_of_moments.ensures.number_is_count c.laws_of_moments.ensures.session_is_numbered w.seen h m c.saturating_add.result c.unwrap_or-last.result.0 led (g.met.H.Host.fits c.args.host.now told)
+    let led : history the_language (records w.seen) ≡ Ok (standing h m) =
+    ap (λ l. history the_language (records l)) (sym (c.open.ensures.seen told)) ∙ ap (λ J. history the_language J) (sym (c.in_ok-history.ensures.first told)) ∙ c.in_ok-machine.ensures.leads told_mid in
+    let next = next_number the_language c.laws_of_moments.ensures.number_is_count c.laws_of_moments.ensures.session_is_numbered w.seen h m c.saturating_add.result c.unwrap_or-last.result.0 led (g.met.H.Host.fits c.args.host.now told)
     (ap (λ (p : ℕ × ℕ). p.0) (c.unwrap_or-last.ensures ∙ ap (λ o. unwrap_or o (0, 0)) c.last.ensures)) c.saturating_add.ensures in
-    next ∙ sym (c.laws_of_moments.ensures.next_behind_history L (records w.seen) (standing h m) led)
+    next ∙ sym (c.laws_of_moments.ensures.next_behind_history the_language (records w.seen) (standing h m) led)
 
 pub returns-clause-any_moment : goal.returns-clause-any_moment
 returns-clause-any_moment g c = λ told.
@@ -142,7 +143,7 @@ returns-clause-any_moment g c = λ told.
     then_reads w late new quiet (c.session_reading.ensures.any_moment told_late) seen deeds (c.in_ok-machine.ensures.stands told_mid).journal.settled (g.met.H.Host.reads_back c.args.host.now told)
 
 pub returns-clause-finished : goal.returns-clause-finished
-returns-clause-finished g c = λ L language told s is ended.
+returns-clause-finished g c = λ told s is ended.
     let w = g.H.Host.world c.args.host.now in
     let mid = g.H.Host.world c.open.new.host in
     let late = g.H.Host.world c.last_machine.new.host in
@@ -153,6 +154,6 @@ returns-clause-finished g c = λ L language told s is ended.
     let deeds = c.last_machine.ensures.deeds told_mid ∙ c.open.ensures.deeds told in
     let h = c.last_machine.new.history in
     let m = c.in_ok-machine.machine in
-    let led : history L (records w.seen) ≡ Ok (standing h m) =
-    ap (λ l. history L (records l)) (sym (c.open.ensures.seen told)) ∙ ap (λ J. history L J) (sym (c.in_ok-history.ensures.first told)) ∙ c.in_ok-machine.ensures.leads L language told_mid in
-    ap (λ x. (g.H.Host.world x).deeds) (c.session_reading.ensures.finished (has_ended L (records w.seen) h m s led is ended)) ∙ deeds
+    let led : history the_language (records w.seen) ≡ Ok (standing h m) =
+    ap (λ l. history the_language (records l)) (sym (c.open.ensures.seen told)) ∙ ap (λ J. history the_language J) (sym (c.in_ok-history.ensures.first told)) ∙ c.in_ok-machine.ensures.leads told_mid in
+    ap (λ x. (g.H.Host.world x).deeds) (c.session_reading.ensures.finished (has_ended the_language (records w.seen) h m s led is ended)) ∙ deeds

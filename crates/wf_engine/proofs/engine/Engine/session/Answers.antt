@@ -2,7 +2,8 @@ use Rattle.std.proofs.Common.{None, inl, inr, ⊎_elim, refl, sym, ◌∙◌, ap
 use Rattle.wf_engine.proofs.Sessions.{at_first, ends, falls_none, goes_far, lent_active, moments_on, none_fell, not_both, passed_on, rose_later, told_on}
 use Rattle.wf_engine.proofs.engine.Engine.session.Goals as goal
 use Rattle.wf_engine.specs.Engine.{is_closed, memory, turn_records}
-use Rattle.wf_engine.specs.Turns.{turn_of}
+use Rattle.wf_engine.specs.TheLanguage.{the_language}
+use Rattle.wf_deeds.specs.Turns.{turn_of}
 use Rattle.wf_engine.specs.declared.fault.EngineFault.TheVariants as fault
 
 pub loop-self-init : goal.loop-self-init
@@ -10,8 +11,8 @@ loop-self-init g c = record {
   not_closed = c.if-self.false;
   holds = λ told. c.requires.kept c.if-self.false told;
   number = refl;
-  so_far = λ L language told command D s.
-      at_first L c.args.self.now.history (g.H.Host.world c.args.host.now) command (memory c.args.self.now) D (λ i d left. g.met.H.Host.only_now c.args.host.now i d told left) (c.requires.kept c.if-self.false told).0 (c.args.self.now.ready c.if-self.false).begun s;
+  so_far = λ told command D s.
+      at_first the_language c.args.self.now.history (g.H.Host.world c.args.host.now) command (memory c.args.self.now) D (λ i d left. g.met.H.Host.only_now c.args.host.now i d told left) (c.requires.kept c.if-self.false told).0 (c.args.self.now.ready c.if-self.false).begun s;
   deeds = λ told. refl;
   tells = refl;
   counts = falls_none (g.H.Host.faults c.args.host.now);
@@ -40,12 +41,12 @@ loop-self-preserved g c =
       not_closed = c.in_ok-turn.ensures.open;
       holds = λ told. c.turn.ensures.holds c.in_ok-turn.ensures.open (told_on w mid so.tells told);
       number = c.turn.ensures.session ∙ so.number;
-      so_far = λ L language told command D s.
+      so_far = λ told command D s.
           let told1 = told_on w mid so.tells told in
-          let far = so.so_far L language told command D s in
+          let far = so.so_far told command D s in
           let n = memory c.loop-self.self in
-          goes_far L c.turn.new.self.history command (memory c.args.self.now) n (memory c.turn.new.self) w mid new D (turn_records n.session (turn_of n.program n.config n.reading None)) far so.number
-          (c.turn.ensures.any_moment L language so.not_closed told1 command D far.stands) (c.in_ok-turn.ensures.turn told1) (c.in_ok-turn.ensures.stands L language told1 command D far.stands) (c.turn.ensures.deeds told1)
+          goes_far the_language c.turn.new.self.history command (memory c.args.self.now) n (memory c.turn.new.self) w mid new D (turn_records n.session (turn_of n.program n.config n.reading None)) far so.number
+          (c.turn.ensures.any_moment so.not_closed told1 command D far.stands) (c.in_ok-turn.ensures.turn told1) (c.in_ok-turn.ensures.stands told1 command D far.stands) (c.turn.ensures.deeds told1)
           (c.turn.ensures.holds c.in_ok-turn.ensures.open told1).0 (c.turn.new.self.ready c.in_ok-turn.ensures.open).begun;
       deeds = λ told. c.turn.ensures.deeds (told_on w mid so.tells told) ∙ so.deeds told;
       tells = c.turn.ensures.tells ∙ so.tells;
@@ -54,12 +55,12 @@ loop-self-preserved g c =
     }
 
 pub returns-in_err-turn-clause-any_moment : goal.returns-in_err-turn-clause-any_moment
-returns-in_err-turn-clause-any_moment g c = λ L language open_now told command D s.
+returns-in_err-turn-clause-any_moment g c = λ open_now told command D s.
     let w = g.H.Host.world c.args.host.now in
     let mid = g.H.Host.world c.loop-self.host in
     let so = c.loop-self.invariant in
-    let far = so.so_far L language told command D s in
-    moments_on L command (memory c.args.self.now) (memory c.loop-self.self) w mid (g.H.Host.world c.turn.new.host) D far so.number (c.turn.ensures.any_moment L language so.not_closed (told_on w mid so.tells told) command D far.stands)
+    let far = so.so_far told command D s in
+    moments_on the_language command (memory c.args.self.now) (memory c.loop-self.self) w mid (g.H.Host.world c.turn.new.host) D far so.number (c.turn.ensures.any_moment so.not_closed (told_on w mid so.tells told) command D far.stands)
 
 pub returns-in_err-turn-clause-finished : goal.returns-in_err-turn-clause-finished
 returns-in_err-turn-clause-finished g c = λ told ended.
@@ -95,9 +96,9 @@ returns g c =
     let so = c.loop-self.invariant in
     record {
       holds = λ open_now told. so.holds told;
-      stands = λ L language told command D s. (so.so_far L language told command D s).stands;
+      stands = λ told command D s. (so.so_far told command D s).stands;
       ended = ends c.outcome.result (memory c.loop-self.self).config.outcome c.outcome.ensures.outcome (λ is. c.in_default.not-Active is);
-      any_moment = λ L language open_now told command D s. (so.so_far L language told command D s).begun.moments;
+      any_moment = λ open_now told command D s. (so.so_far told command D s).begun.moments;
       finished = λ told ended. ⊎_elim (λ same. same.0) (λ was. absurd (ended was)) so.rest;
       session = so.number;
       disk_fault = λ is. absurd (cc is);

@@ -1,0 +1,158 @@
+#!/usr/bin/env python3
+"""Tries the built program at the edges that no clause speaks of: closed descriptors, two processes on one journal, files that must not be made, a
+journal that can only be read, and the folder of a new journal.
+
+Nothing here rests on time. Every process ends by itself or is ended by its own handle.
+"""
+
+import fcntl
+import os
+import shutil
+import subprocess
+import sys
+import tempfile
+
+PROGRAM = os.path.abspath(sys.argv[1] if len(sys.argv) > 1 else "crates/workflow/out/workflow")
+SOURCE = b'[{"a":{"assign":[{"t":"${sys.now()}"}]}},{"b":{"return":"${t}"}}]'
+SEVEN = b'[{"a":{"return":7}}]'
+ROUNDS = 60
+NOBODY = 65534
+
+
+def call(folder, *words, redirect="", source=None, **how):
+    """Runs the program to its end in a shell with this redirection, and returns its status, what it printed and what it complained of."""
+    shell = ["sh", "-c", f'exec "$0" "$@" {redirect}', PROGRAM, *words]
+    given = {"input": source} if source is not None else {"stdin": subprocess.DEVNULL}
+    ended = subprocess.run(shell, cwd=folder, stdout=subprocess.PIPE, stderr=subprocess.PIPE, timeout=60, **given, **how)
+    return ended.returncode, ended.stdout, ended.stderr
+
+
+def is_there(folder, name):
+    return os.path.lexists(f"{folder}/{name}")
+
+
+def write(folder, name, data):
+    with open(f"{folder}/{name}", "wb") as file:
+        file.write(data)
+
+
+def read(folder, name):
+    with open(f"{folder}/{name}", "rb") as file:
+        return file.read()
+
+
+def closed_descriptors(folder):
+    """A closed output gets no journal: the print fails, and the journal stays whole. A closed input can't be read."""
+    write(folder, "s.json", SEVEN)
+    status, _, said = call(folder, "run", "--source", "s.json", "--journal", "j", redirect=">&-")
+    assert status == 8 and said == b"workflow: cannot print the whole result\n", (status, said)
+    assert read(folder, "j").startswith(b"WFJ1")
+    assert call(folder, "resume", "--journal", "j") == (0, b"7\n", b"")
+    status, printed, said = call(folder, "run", "--journal", "k", redirect="<&-")
+    assert (status, printed, said) == (7, b"", b"workflow: cannot read standard input\n"), (status, printed, said)
+    assert not is_there(folder, "k")
+    status, printed, _ = call(folder, "run", "--source", "s.json", "--journal", "l", redirect="2>&-")
+    assert (status, printed) == (0, b"7\n"), (status, printed)
+    assert call(folder, "resume", "--journal", "l") == (0, b"7\n", b"")
+    status, _, _ = call(folder, "run", "--source", "s.json", "--journal", "m", redirect="<&- >&- 2>&-")
+    assert status == 8, status
+    assert call(folder, "resume", "--journal", "m") == (0, b"7\n", b"")
+
+
+def held_journal(folder):
+    """A journal that another process holds is left alone."""
+    write(folder, "s.json", SEVEN)
+    assert call(folder, "run", "--source", "s.json", "--journal", "j")[:2] == (0, b"7\n")
+    before = read(folder, "j")
+    with open(f"{folder}/j", "rb") as file:
+        fcntl.flock(file, fcntl.LOCK_EX)
+        for words in (("resume", "--journal", "j"), ("run", "--source", "s.json", "--journal", "j")):
+            status, printed, said = call(folder, *words)
+            assert (status, printed, said) == (9, b"", b"workflow: another process uses j\n"), (status, printed, said)
+    assert read(folder, "j") == before
+    assert call(folder, "resume", "--journal", "j") == (0, b"7\n", b"")
+
+
+def two_at_once(folder):
+    """Of two processes that begin one journal at the same time, the journal is one history with one answer."""
+    write(folder, "s.json", SOURCE)
+    for round in range(ROUNDS):
+        name = f"j{round}"
+        words = [PROGRAM, "run", "--source", "s.json", "--journal", name]
+        both = [subprocess.Popen(words, cwd=folder, stdin=subprocess.DEVNULL, stdout=subprocess.PIPE, stderr=subprocess.DEVNULL) for _ in range(2)]
+        ended = [(it.communicate(timeout=60)[0], it.returncode) for it in both]
+        assert all(code in (0, 5, 9) for _, code in ended), ended
+        status, printed, _ = call(folder, "resume", "--journal", name)
+        if status == 6:
+            # (neither came as far as the first record)
+            assert all(code == 9 for _, code in ended), ended
+            continue
+        assert status == 0, (status, ended)
+        assert all(text == printed for text, code in ended if code == 0), (printed, ended)
+
+
+def no_file_is_made(folder):
+    """A command that has nothing to write makes no file, and opens no source that it doesn't read."""
+    write(folder, "s.json", SEVEN)
+    write(folder, "bad.json", b"[")
+    rows = [
+        (("run", "--source", "bad.json", "--journal", "j"), 3),
+        (("run", "--source", "missing.json", "--journal", "j"), 7),
+        (("run", "--source", "s.json", "--jurnal", "j"), 2),
+        (("run", "--journal", "j", "x"), 2),
+        (("resume", "--journal", "j"), 6),
+    ]
+    for words, wanted in rows:
+        status, _, _ = call(folder, *words)
+        assert status == wanted, (words, status)
+        assert not is_there(folder, "j"), words
+    # (no one writes into it, so a program that opens it waits)
+    os.mkfifo(f"{folder}/fifo")
+    assert call(folder, "run", "--source", "fifo", "x")[0] == 2
+    assert call(folder, "run", "--source", "s.json", "--journal", "no_such_folder/j")[0] == 9
+
+
+def read_only(folder):
+    """A finished journal that can only be read is resumed; one that isn't finished can't be gone on with, and stays as it is."""
+    write(folder, "s.json", SEVEN)
+    assert call(folder, "run", "--source", "s.json", "--journal", "j")[:2] == (0, b"7\n")
+    whole = read(folder, "j")
+    write(folder, "k", whole[: whole.rindex(b"\x02") - 4 - 1] + b"\x00")
+    shutil.copy(PROGRAM, f"{folder}/program")
+    for name in ("j", "k"):
+        os.chmod(f"{folder}/{name}", 0o444)
+    os.chmod(folder, 0o755)
+    how = {"user": NOBODY} if os.geteuid() == 0 else {}
+    words = [f"{folder}/program", "resume", "--journal"]
+    ended = subprocess.run([*words, "j"], cwd=folder, stdin=subprocess.DEVNULL, stdout=subprocess.PIPE, timeout=60, **how)
+    assert (ended.returncode, ended.stdout) == (0, b"7\n"), ended
+    before = read(folder, "k")
+    ended = subprocess.run([*words, "k"], cwd=folder, stdin=subprocess.DEVNULL, stdout=subprocess.PIPE, timeout=60, **how)
+    assert (ended.returncode, ended.stdout) == (9, b""), ended
+    assert read(folder, "k") == before and read(folder, "j") == whole
+
+
+def synced_folder(folder):
+    """The entry of a new journal in its folder is synced, by what the system was asked, where strace is there."""
+    if not shutil.which("strace"):
+        print("edge: strace isn't there, so the sync of a folder isn't looked at")
+        return
+    os.mkdir(f"{folder}/inner")
+    write(folder, "s.json", SEVEN)
+    words = ["strace", "-y", "-e", "trace=fsync", "-o", "trace", PROGRAM, "run", "--source", "s.json", "--journal", "inner/j"]
+    assert subprocess.run(words, cwd=folder, stdin=subprocess.DEVNULL, stdout=subprocess.PIPE, timeout=60).returncode == 0
+    synced = read(folder, "trace").decode()
+    assert f"/inner>" in synced and "/inner/j>" in synced, synced
+    assert call(folder, "resume", "--journal", "inner/j")[:2] == (0, b"7\n")
+
+
+def main():
+    tries = [closed_descriptors, held_journal, two_at_once, no_file_is_made, read_only, synced_folder]
+    for it in tries:
+        with tempfile.TemporaryDirectory() as folder:
+            it(folder)
+    print(f"edge: {len(tries)} tries of the built program passed")
+
+
+if __name__ == "__main__":
+    main()

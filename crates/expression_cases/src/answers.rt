@@ -1,0 +1,54 @@
+// What is printed of values, faults and errors.
+use std::alloc::Global;
+use wf_cases::CaseFault;
+use wf_expr::ExprFault;
+use wf_span::LexFault;
+use wf_value::{Raise, Text, Value, to_json};
+
+// Values of a greater size are told by it.
+const MOST_SHOWN: u64 = 100_000;
+
+/// A value as JSON, or the size of a large one.
+pub(crate) fn value_text(alloc: Global, value: &Value) -> Result<String, CaseFault> {
+    let size = value.size();
+    if size > MOST_SHOWN {
+        return Ok(format!(in alloc; "size {size}")?);
+    }
+    if value.depth() > 100 {
+        return Err(CaseFault::NoCase);
+    }
+    match String::from_utf8(to_json(alloc, value)?) {
+        Ok(text) => Ok(text),
+        Err(_) => Err(CaseFault::NoCase),
+    }
+}
+
+/// A text as JSON.
+pub(crate) fn quoted(alloc: Global, text: &str) -> Result<String, CaseFault> {
+    value_text(alloc, &Value::Text(Text::new(alloc, text)?))
+}
+
+/// What an evaluation comes to.
+pub(crate) fn outcome(alloc: Global, made: Result<Value, Raise>) -> Result<String, CaseFault> {
+    match made {
+        Ok(value) => value_text(alloc, &value),
+        Err(Raise::Error(tag)) => Ok(String::from_str(alloc, tag.name())?),
+        Err(Raise::OutOfMemory) => Err(CaseFault::OutOfMemory),
+    }
+}
+
+/// The fault of an expression.
+pub(crate) fn fault_text(alloc: Global, fault: ExprFault) -> Result<String, CaseFault> {
+    Ok(match fault {
+        ExprFault::TooLong => String::from_str(alloc, "TooLong")?,
+        ExprFault::Lex(LexFault::BadCharacter(at)) => format!(in alloc; "BadCharacter at {at}")?,
+        ExprFault::Lex(LexFault::OpenText(at)) => format!(in alloc; "OpenText at {at}")?,
+        ExprFault::Syntax(at) => format!(in alloc; "Syntax at {at}")?,
+        ExprFault::Decimal(at) => format!(in alloc; "Decimal at {at}")?,
+        ExprFault::UnknownFunction(at) => format!(in alloc; "UnknownFunction at {at}")?,
+        ExprFault::Arity(at) => format!(in alloc; "Arity at {at}")?,
+        ExprFault::Lex(LexFault::OutOfMemory) | ExprFault::OutOfMemory => {
+            return Err(CaseFault::OutOfMemory);
+        }
+    })
+}

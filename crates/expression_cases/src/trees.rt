@@ -1,0 +1,152 @@
+// Trees in prefix form, as JSON. An expression is
+//
+// - a literal as it stands, or `["value", v]`, which a list or a map has to be;
+// - `["name", x]`, `["neg", a]`, `["not", a]`, `["and", a, b]`, `["or", a, b]`, `["key", a, k]` for `a.k` and
+//   `["index", a, b]` for `a[b]`;
+// - `[sign, a, b]` for an operator, and `["call", function, a ..]`.
+//
+// A template is `["literal", v]`, `["expression", e]`, `["join", part ..]` with a text or an expression
+// `["expression", e]` as each part, `["list", t ..]` or `["map", [key, t] ..]`.
+use crate::signs::{function, operator};
+use std::alloc::Global;
+use wf_ast::{Expr, Exprs, NamedTemplate, NamedTemplates, Part, Parts, Template, Templates};
+use wf_cases::CaseFault;
+use wf_value::{Text, Value};
+
+/// The items of a list.
+pub(crate) fn items(value: &Value) -> Result<&[Value], CaseFault> {
+    match value {
+        Value::List(list) => Ok(list.items()),
+        _ => Err(CaseFault::NoCase),
+    }
+}
+
+/// A text of its own.
+pub(crate) fn text(alloc: Global, value: &Value) -> Result<Text, CaseFault> {
+    match value {
+        Value::Text(text) => Ok(Text::new(alloc, text.as_str())?),
+        _ => Err(CaseFault::NoCase),
+    }
+}
+
+/// Trees are at most so deep.
+pub(crate) const DEEPEST: u32 = 100;
+
+/// The expression of a tree.
+pub(crate) fn expression(alloc: Global, tree: &Value, depth: u32) -> Result<Expr, CaseFault> {
+    if depth == 0 {
+        return Err(CaseFault::NoCase);
+    }
+    let Value::List(parts) = tree else {
+        return Ok(Expr::Lit(tree.copy(alloc)?));
+    };
+    let [Value::Text(head), rest @ ..] = parts.items() else {
+        return Err(CaseFault::NoCase);
+    };
+    match (head.as_str(), rest) {
+        ("value", [value]) => Ok(Expr::Lit(value.copy(alloc)?)),
+        ("name", [name]) => Ok(Expr::Name(text(alloc, name)?)),
+        ("key", [a, key]) => {
+            let a = expression(alloc, a, depth - 1)?;
+            Ok(Expr::Key(boxed(alloc, a)?, text(alloc, key)?))
+        }
+        ("call", [func, args @ ..]) => {
+            let mut all = Exprs::new(alloc)?;
+            for arg in args {
+                all.push(expression(alloc, arg, depth - 1)?)?;
+            }
+            match function(text(alloc, func)?.as_str()) {
+                Some(func) => Ok(Expr::Call(func, all)),
+                None => Err(CaseFault::NoCase),
+            }
+        }
+        (head, [a]) => on_one(alloc, head, expression(alloc, a, depth - 1)?),
+        (head, [a, b]) => {
+            let a = expression(alloc, a, depth - 1)?;
+            on_two(alloc, head, a, expression(alloc, b, depth - 1)?)
+        }
+        _ => Err(CaseFault::NoCase),
+    }
+}
+
+fn boxed(alloc: Global, e: Expr) -> Result<Box<Expr>, CaseFault> {
+    match Box::new(alloc, e) {
+        Ok(e) => Ok(e),
+        Err(_) => Err(CaseFault::OutOfMemory),
+    }
+}
+
+// An operator on one value.
+fn on_one(alloc: Global, head: &str, a: Expr) -> Result<Expr, CaseFault> {
+    let a = boxed(alloc, a)?;
+    match head {
+        "neg" => Ok(Expr::Neg(a)),
+        "not" => Ok(Expr::Not(a)),
+        _ => Err(CaseFault::NoCase),
+    }
+}
+
+// An operator on two values.
+fn on_two(alloc: Global, head: &str, a: Expr, b: Expr) -> Result<Expr, CaseFault> {
+    let a = boxed(alloc, a)?;
+    let b = boxed(alloc, b)?;
+    match head {
+        "and" => Ok(Expr::And(a, b)),
+        "or" => Ok(Expr::Or(a, b)),
+        "index" => Ok(Expr::Index(a, b)),
+        _ => match operator(head) {
+            Some(op) => Ok(Expr::Bin(op, a, b)),
+            None => Err(CaseFault::NoCase),
+        },
+    }
+}
+
+/// The template of a tree.
+pub(crate) fn template(alloc: Global, tree: &Value, depth: u32) -> Result<Template, CaseFault> {
+    if depth == 0 {
+        return Err(CaseFault::NoCase);
+    }
+    let [Value::Text(head), rest @ ..] = items(tree)? else {
+        return Err(CaseFault::NoCase);
+    };
+    match (head.as_str(), rest) {
+        ("literal", [value]) => Ok(Template::Lit(value.copy(alloc)?)),
+        ("expression", [e]) => Ok(Template::Expr(expression(alloc, e, DEEPEST)?)),
+        ("join", parts) => joined(alloc, parts),
+        ("list", trees) => {
+            let mut all = Templates::new(alloc)?;
+            for tree in trees {
+                all.push(template(alloc, tree, depth - 1)?)?;
+            }
+            Ok(Template::List(all))
+        }
+        ("map", pairs) => {
+            let mut all = NamedTemplates::new(alloc)?;
+            for pair in pairs {
+                let [key, tree] = items(pair)? else {
+                    return Err(CaseFault::NoCase);
+                };
+                let name = text(alloc, key)?;
+                let template = template(alloc, tree, depth - 1)?;
+                all.push(NamedTemplate { name, template })?;
+            }
+            Ok(Template::Map(all))
+        }
+        _ => Err(CaseFault::NoCase),
+    }
+}
+
+// The template of texts and expressions in a row.
+fn joined(alloc: Global, parts: &[Value]) -> Result<Template, CaseFault> {
+    let mut all = Parts::new(alloc)?;
+    for part in parts {
+        match part {
+            Value::Text(text) => all.push(Part::Text(Text::new(alloc, text.as_str())?))?,
+            _ => match items(part)? {
+                [_, e] => all.push(Part::Expr(expression(alloc, e, DEEPEST)?))?,
+                _ => return Err(CaseFault::NoCase),
+            },
+        }
+    }
+    Ok(Template::Join(all))
+}

@@ -1,0 +1,110 @@
+// The values of expressions and of templates.
+use crate::answers::{fault_text, outcome};
+use crate::names::{Names, names_of};
+use crate::trees::{DEEPEST, expression, template};
+use std::alloc::Global;
+use wf_ast::{Expr, NamedTemplate, NamedTemplates, Template, Templates};
+use wf_cases::{Case, CaseFault};
+use wf_eval::{are_calls_built, eval, fill, is_template_built};
+use wf_expr::parse;
+use wf_postfix::compile;
+use wf_template::parse_template;
+use wf_value::{Text, Value};
+
+// The clock's reading, where a case has one.
+fn reading(case: &Case<'_>) -> Result<u64, CaseFault> {
+    match case.items().get(2) {
+        None => Ok(0),
+        Some(Value::Int(now)) => match u64::try_from(*now) {
+            Ok(now) => Ok(now),
+            Err(_) => Err(CaseFault::NoCase),
+        },
+        Some(_) => Err(CaseFault::NoCase),
+    }
+}
+
+// What an expression comes to.
+fn evaluated(alloc: Global, case: &Case<'_>, e: &Expr) -> Result<String, CaseFault> {
+    let code = compile(alloc, e)?;
+    if !are_calls_built(&code) {
+        return Ok(String::from_str(alloc, "not built")?);
+    }
+    let names = names_of(alloc, case)?;
+    outcome(alloc, eval(alloc, &code, &names, reading(case)?))
+}
+
+// What a template comes to.
+fn filled(alloc: Global, case: &Case<'_>, t: &Template) -> Result<String, CaseFault> {
+    if !is_template_built(t) {
+        return Ok(String::from_str(alloc, "not built")?);
+    }
+    let names = names_of(alloc, case)?;
+    outcome(alloc, fill(alloc, t, &names, reading(case)?))
+}
+
+/// What an expression comes to.
+pub(crate) fn of_expression(alloc: Global, case: &Case<'_>) -> Result<String, CaseFault> {
+    match parse(alloc, case.text(0)?) {
+        Ok(e) => evaluated(alloc, case, &e),
+        Err(fault) => fault_text(alloc, fault),
+    }
+}
+
+/// What the tree of an expression comes to.
+pub(crate) fn of_tree(alloc: Global, case: &Case<'_>) -> Result<String, CaseFault> {
+    let e = expression(alloc, case.item(0)?, DEEPEST)?;
+    evaluated(alloc, case, &e)
+}
+
+/// What a text of a source comes to.
+pub(crate) fn of_text(alloc: Global, case: &Case<'_>) -> Result<String, CaseFault> {
+    match parse_template(alloc, case.text(0)?) {
+        Ok(t) => filled(alloc, case, &t),
+        Err(fault) => fault_text(alloc, fault),
+    }
+}
+
+/// What the tree of a template comes to.
+pub(crate) fn of_template(alloc: Global, case: &Case<'_>) -> Result<String, CaseFault> {
+    let t = template(alloc, case.item(0)?, DEEPEST)?;
+    filled(alloc, case, &t)
+}
+
+/// What a value of a source comes to.
+pub(crate) fn of_value(alloc: Global, case: &Case<'_>) -> Result<String, CaseFault> {
+    let t = source_value(alloc, case.item(0)?, DEEPEST + 1)?;
+    filled(alloc, case, &t)
+}
+
+// A value of a source, whose texts are read.
+fn source_value(alloc: Global, value: &Value, depth: u32) -> Result<Template, CaseFault> {
+    if depth == 0 {
+        return Err(CaseFault::NoCase);
+    }
+    match value {
+        Value::Text(text) => match parse_template(alloc, text.as_str()) {
+            Ok(template) => Ok(template),
+            Err(_) => Err(CaseFault::NoCase),
+        },
+        Value::List(list) => {
+            let mut all = Templates::new(alloc)?;
+            for item in list.items() {
+                all.push(source_value(alloc, item, depth - 1)?)?;
+            }
+            Ok(Template::List(all))
+        }
+        Value::Map(map) => {
+            let mut all = NamedTemplates::new(alloc)?;
+            for i in 0..usize::MAX {
+                let Some((key, item)) = map.entry(i) else {
+                    break;
+                };
+                let name = Text::new(alloc, key)?;
+                let template = source_value(alloc, item, depth - 1)?;
+                all.push(NamedTemplate { name, template })?;
+            }
+            Ok(Template::Map(all))
+        }
+        _ => Ok(Template::Lit(value.copy(alloc)?)),
+    }
+}

@@ -1,0 +1,42 @@
+//! Cases of hosts, sources, journals and histories: a line of standard input is a table's name and a case, and the line that is printed
+//! for it is what came.
+#![tactic(auto)]
+
+mod histories;
+mod hosts;
+mod journals;
+
+use anyhow::Result;
+use std::fs::{File, Files};
+use std::io::Print;
+use std::time::Clock;
+use wf_cases::{Case, CaseFault, case_of};
+
+/// What is printed for a case.
+fn answer<R>(rt: R, case: &Case<'_>) -> Result<String, CaseFault>
+where
+    R: Files<File = File> + Clock + Print + AllocGlobal + Copy + Drop,
+{
+    let alloc = rt.alloc();
+    match case.table {
+        "hosts" => hosts::calls(alloc, case),
+        "sources" => hosts::reads(alloc, case),
+        "prints" => hosts::print(alloc, case),
+        "file_hosts" => hosts::file_calls(rt, case),
+        "file_sources" => hosts::file_reads(rt, case),
+        "journals" => journals::calls(alloc, case),
+        "file_journals" => journals::in_a_file(rt, case),
+        "histories" => histories::calls(alloc, case),
+        "fault_texts" => journals::fault_texts(alloc),
+        _ => Err(CaseFault::NoCase),
+    }
+}
+
+fn main(rt: HostRuntime) -> Result<()> {
+    for line in rt.lines(rt.alloc()) {
+        let line = line?;
+        let text = answer(rt, &case_of(rt.alloc(), line.as_str())?)?;
+        println!(rt; "{text}")?;
+    }
+    Ok(())
+}

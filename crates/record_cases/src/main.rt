@@ -1,0 +1,31 @@
+//! Cases of records: a line of standard input is a table's name and a case, and the line that is printed for it is what came.
+#![tactic(auto)]
+
+mod records;
+
+use anyhow::Result;
+use std::alloc::Global;
+use wf_cases::{Case, CaseFault, case_of};
+
+/// What is printed for a case.
+fn answer(alloc: Global, case: &Case<'_>) -> Result<String, CaseFault> {
+    match case.table {
+        "records" => records::kind(alloc, case),
+        "spellings" => records::spelling(alloc, case),
+        "fronts" => records::fronts(alloc, case),
+        "arguments" => records::argument(alloc, case),
+        "routes" => records::routes(alloc, case),
+        "fault_texts" => records::fault_texts(alloc),
+        _ => Err(CaseFault::NoCase),
+    }
+}
+
+fn main(rt: HostRuntime) -> Result<()> {
+    let alloc = rt.alloc();
+    for line in rt.lines(alloc) {
+        let line = line?;
+        let text = answer(alloc, &case_of(alloc, line.as_str())?)?;
+        println!(rt; "{text}")?;
+    }
+    Ok(())
+}

@@ -1,0 +1,57 @@
+//! Whole runs of the top call over a source and a host in memory: each line is a case, and a line tells what it comes to.
+//!
+//! The tables `runs_control`, `runs_errors`, `runs_calls`, `runs_retry`, `stops` and `reports` have the case `[words, source, plan]` and the
+//! answer `STATUS "printed" Nr Me`, with the counts of the records and of the events in the journal left. The others are our own:
+//!
+//! - `commands`: the same case, and behind the same answer the count of readings with an `n`, that of the deeds that are neither readings nor
+//!   prints with a `d`, whether the journal was `kept` or `changed`, and whether what was written of it is `synced` or `unsynced`.
+//! - `journal_left`: the same case, and the journal left in hex.
+//! - `series`: commands that follow each other on one journal (see `series`).
+//! - `lines` and `options`: words, and what line they are, and where paths and addresses are found in them (see `lines`).
+//! - `statuses`: a status, and its number and text (see `statuses`).
+#![tactic(auto)]
+
+mod command;
+mod ended;
+mod lines;
+mod plan;
+mod records;
+mod series;
+mod statuses;
+
+use command::Command;
+use std::alloc::Global;
+use wf_cases::{Case, CaseFault, case_of, hex_of};
+
+/// The command that a case is.
+fn command_of(alloc: Global, case: &Case<'_>) -> Result<Command, CaseFault> {
+    Command::new(alloc, case.item(0)?, case.item(1)?, case.item(2)?)
+}
+
+/// What is printed of a line.
+fn answer(alloc: Global, line: &str) -> Result<String, CaseFault> {
+    let case = case_of(alloc, line)?;
+    match case.table {
+        "runs_control" | "runs_errors" | "runs_calls" | "runs_retry" | "stops" | "reports" => {
+            command_of(alloc, &case)?.run(alloc)?.line(alloc)
+        }
+        "commands" => command_of(alloc, &case)?.run(alloc)?.full_line(alloc),
+        "journal_left" => hex_of(
+            alloc,
+            command_of(alloc, &case)?.run(alloc)?.journal.as_slice(),
+        ),
+        "series" => series::answer(alloc, case.items()),
+        "lines" => lines::line(alloc, case.items()),
+        "options" => lines::options(alloc, case.items()),
+        "statuses" => statuses::answer(alloc, &case),
+        _ => Err(CaseFault::NoCase),
+    }
+}
+
+fn main(rt: HostRuntime) -> anyhow::Result<()> {
+    for line in rt.lines(rt.alloc()) {
+        let text = answer(rt.alloc(), line?.as_str())?;
+        println!(rt; "{text}")?;
+    }
+    Ok(())
+}

@@ -1,0 +1,51 @@
+// What stands in a journal.
+use crate::plan::quiet;
+use std::alloc::Global;
+use wf_cases::CaseFault;
+use wf_events::{Record, RecordFault, decode};
+use wf_host::MemHost;
+use wf_journal::{Journal, JournalFault};
+
+/// How many records a journal has, and how many events these have.
+#[derive(Clone, Copy, Drop)]
+pub struct Counts {
+    pub records: u64,
+    pub events: u64,
+}
+
+impl Counts {
+    /// What stands in a journal, from its first record to the last behind an open gate. What is no journal has none.
+    pub fn of(alloc: Global, image: &[u8]) -> Result<Counts, CaseFault> {
+        let mut counts = Counts {
+            records: 0,
+            events: 0,
+        };
+        let mut host = MemHost::new(alloc, quiet(alloc, Vec::from_slice(alloc, image)?))?;
+        let mut journal = match Journal::open(&mut host) {
+            Ok(journal) => journal,
+            Err(JournalFault::NotAJournal) => return Ok(counts),
+            Err(_) => return Err(CaseFault::OutOfMemory),
+        };
+        let mut room = Vec::new(alloc);
+        for _ in 0..image.len() {
+            let Ok(payload) = journal.next(alloc, &mut host, &mut room) else {
+                return Err(CaseFault::OutOfMemory);
+            };
+            let Some(payload) = payload else {
+                break;
+            };
+            counts.records = counts.records.saturating_add(1);
+            counts.events = counts.events.saturating_add(events_in(alloc, payload)?);
+        }
+        Ok(counts)
+    }
+}
+
+/// How many events a payload has. One that is no record has none.
+fn events_in(alloc: Global, payload: &[u8]) -> Result<u64, CaseFault> {
+    match decode(alloc, payload) {
+        Ok(Record::Turn(turn)) => Ok(turn.events.items().len() as u64),
+        Ok(_) | Err(RecordFault::BadRecord(_)) => Ok(0),
+        Err(RecordFault::OutOfMemory) => Err(CaseFault::OutOfMemory),
+    }
+}

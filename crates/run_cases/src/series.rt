@@ -1,0 +1,154 @@
+// Series of commands on one journal.
+//
+// A case of the table `series` is a list of commands `[words, source, plan]` or `[words, source, plan, how]`. The first one has the journal of
+// its plan, each later one that which the one before left. `how` is a map with those of these keys that are wanted:
+//
+// - `stops`: the command is made so many times, stopped after 0 writes and syncs, after 1 and so on.
+// - `failing_calls`: it is made so many times, where the first call of the host fails, the second and so on.
+// - `left`: `synced` where it leaves what was synced alone.
+// - `after`: it is made only where the one before had this status.
+//
+// The answer has a part for each way through the commands: what each of them came to as `commands` tells it, with commas between them. There
+// is ` | ` between the parts. Where several in a row are the same, the first stands, with a count behind it as ` x20`.
+use crate::command::Command;
+use crate::ended::Ended;
+use crate::plan::{number_of, push};
+use std::alloc::Global;
+use wf_cases::CaseFault;
+use wf_value::{Map, Value};
+
+/// One command of a series.
+#[derive(Clone, Copy)]
+struct Step<'a> {
+    words: &'a Value,
+    source: &'a Value,
+    plan: &'a Value,
+    how: Option<&'a Map>,
+}
+
+/// What was done so far.
+#[derive(Drop)]
+struct Way {
+    told: String,
+    /// The last command's status, where there was one.
+    status: Option<u8>,
+    /// The journal that it left.
+    journal: Vec<u8>,
+}
+
+/// What a series comes to.
+pub fn answer(alloc: Global, commands: &[Value]) -> Result<String, CaseFault> {
+    let mut ways = Vec::new(alloc);
+    let first = Way {
+        told: String::new(alloc),
+        status: None,
+        journal: Vec::new(alloc),
+    };
+    push(&mut ways, first)?;
+    for command in commands {
+        let step = Step::new(command)?;
+        let mut further = Vec::new(alloc);
+        for way in ways {
+            step.go_on(alloc, way, &mut further)?;
+        }
+        ways = further;
+    }
+    joined(alloc, ways.as_slice())
+}
+
+impl<'a> Step<'a> {
+    fn new(command: &'a Value) -> Result<Step<'a>, CaseFault> {
+        let Value::List(command) = command else {
+            return Err(CaseFault::NoCase);
+        };
+        let (words, source, plan, how) = match command.items() {
+            [words, source, plan] => (words, source, plan, None),
+            [words, source, plan, Value::Map(how)] => (words, source, plan, Some(how)),
+            _ => return Err(CaseFault::NoCase),
+        };
+        Ok(Step {
+            words,
+            source,
+            plan,
+            how,
+        })
+    }
+
+    fn value(&self, key: &str) -> Option<&Value> {
+        self.how?.get(key)
+    }
+
+    fn number(&self, key: &str) -> Result<Option<u64>, CaseFault> {
+        match self.value(key) {
+            Some(value) => Ok(Some(number_of(value)?)),
+            None => Ok(None),
+        }
+    }
+
+    /// Adds each way on which a way goes on.
+    fn go_on(&self, alloc: Global, way: Way, further: &mut Vec<Way>) -> Result<(), CaseFault> {
+        if let (Some(after), Some(status)) = (self.number("after")?, way.status)
+            && after != u64::from(status)
+        {
+            return push(further, way);
+        }
+        let stops = self.number("stops")?;
+        let calls = self.number("failing_calls")?;
+        for number in 0..stops.or(calls).unwrap_or(1) {
+            let mut command = Command::new(alloc, self.words, self.source, self.plan)?;
+            let plan = &mut command.outside.plan;
+            if stops.is_some() {
+                plan.stop = Some(number);
+            }
+            if calls.is_some() {
+                push(&mut plan.fail, number.saturating_add(1))?;
+            }
+            if way.status.is_some() {
+                plan.image = Vec::from_slice(alloc, way.journal.as_slice())?;
+            }
+            push(further, self.behind(alloc, &way, command.run(alloc)?)?)?;
+        }
+        Ok(())
+    }
+
+    /// The way with a further command, which ended so.
+    fn behind(&self, alloc: Global, way: &Way, ended: Ended) -> Result<Way, CaseFault> {
+        let line = ended.full_line(alloc)?;
+        Ok(Way {
+            told: match way.status {
+                Some(_) => format!(in alloc; "{}, {}", way.told.as_str(), line.as_str())?,
+                None => line,
+            },
+            status: Some(ended.status),
+            journal: match self.value("left") {
+                Some(_) => ended.synced,
+                None => ended.journal,
+            },
+        })
+    }
+}
+
+/// The parts, where equal ones in a row stand once.
+fn joined(alloc: Global, ways: &[Way]) -> Result<String, CaseFault> {
+    let mut text = String::new(alloc);
+    let mut count = 0u64;
+    for i in 0..ways.len() {
+        count = count.saturating_add(1);
+        let told = ways[i].told.as_str();
+        if let Some(next) = ways.get(i + 1)
+            && next.told.as_str() == told
+        {
+            continue;
+        }
+        if !text.is_empty() {
+            text.push_str(" | ")?;
+        }
+        text.push_str(told)?;
+        if count > 1 {
+            let times = format!(in alloc; " x{count}")?;
+            text.push_str(times.as_str())?;
+        }
+        count = 0;
+    }
+    Ok(text)
+}

@@ -1,0 +1,96 @@
+// Statuses.
+//
+// A case of the table `statuses` is the name of a status and what it has: the number of `BadLine` and of `NotAHistory`; of `Refused` a kind,
+// and then nothing for the source, a number for a line, or a path as a list, where a number behind it is an offset. The answer is the number of
+// the status and, where it has one, its text as a JSON text.
+use crate::ended::json_of;
+use crate::plan::number_of;
+use std::alloc::Global;
+use wf_cases::{Case, CaseFault};
+use wf_status::{Place, Refusal, RefusalKind, Status};
+use wf_value::{Path, PathPart, Value};
+
+/// The number of a status, and its text.
+pub fn answer(alloc: Global, case: &Case<'_>) -> Result<String, CaseFault> {
+    let status = status_of(alloc, case)?;
+    let code = status.code();
+    match status.text(alloc)? {
+        Some(text) => {
+            let json = json_of(alloc, text.as_str())?;
+            Ok(format!(in alloc; "{code} {}", json.as_str())?)
+        }
+        None => Ok(format!(in alloc; "{code}")?),
+    }
+}
+
+fn status_of(alloc: Global, case: &Case<'_>) -> Result<Status, CaseFault> {
+    Ok(match case.text(0)? {
+        "Done" => Status::Done,
+        "Raised" => Status::Raised,
+        "BadLine" => Status::BadLine(small(case, 1)?),
+        "Refused" => Status::Refused(Refusal {
+            kind: kind_of(case.text(1)?)?,
+            place: place_of(alloc, case)?,
+        }),
+        "BadArgument" => Status::BadArgument,
+        "AlreadyStarted" => Status::AlreadyStarted,
+        "NotStarted" => Status::NotStarted,
+        "ReadFault" => Status::ReadFault,
+        "PrintFault" => Status::PrintFault,
+        "DiskFault" => Status::DiskFault,
+        "PollFault" => Status::PollFault,
+        "NotAJournal" => Status::NotAJournal,
+        "NotAHistory" => Status::NotAHistory(small(case, 1)?),
+        "Suspended" => Status::Suspended,
+        "OutOfMemory" => Status::OutOfMemory,
+        _ => return Err(CaseFault::NoCase),
+    })
+}
+
+fn kind_of(name: &str) -> Result<RefusalKind, CaseFault> {
+    let kinds = [
+        RefusalKind::NotJson,
+        RefusalKind::DoubleKey,
+        RefusalKind::UnknownStep,
+        RefusalKind::Syntax,
+    ];
+    for kind in kinds {
+        if kind.name() == name {
+            return Ok(kind);
+        }
+    }
+    Err(CaseFault::NoCase)
+}
+
+fn place_of(alloc: Global, case: &Case<'_>) -> Result<Place, CaseFault> {
+    match case.items().get(2) {
+        None => Ok(Place::Source),
+        Some(Value::List(parts)) => {
+            let path = path_of(alloc, parts.items())?;
+            match case.items().get(3) {
+                None => Ok(Place::Path(path)),
+                Some(_) => Ok(Place::Within(path, small(case, 3)?)),
+            }
+        }
+        Some(_) => Ok(Place::Line(small(case, 2)?)),
+    }
+}
+
+fn path_of(alloc: Global, parts: &[Value]) -> Result<Path, CaseFault> {
+    let mut path = Path::new(alloc)?;
+    for part in parts {
+        path.push(match part {
+            Value::Text(key) => PathPart::Key(key.copy()?),
+            _ => PathPart::Index(number_of(part)?),
+        })?;
+    }
+    Ok(path)
+}
+
+/// The number that stands as an item.
+fn small(case: &Case<'_>, i: usize) -> Result<u32, CaseFault> {
+    match u32::try_from(number_of(case.item(i)?)?) {
+        Ok(number) => Ok(number),
+        Err(_) => Err(CaseFault::NoCase),
+    }
+}

@@ -1,0 +1,38 @@
+// Texts as they are printed, and sources as they are told.
+use std::alloc::Global;
+use wf_cases::CaseFault;
+use wf_value::{Text, Value, to_json};
+
+/// More than any source has here.
+pub(crate) const TOO_LONG: usize = 1_000_000;
+
+/// A text as a JSON text.
+pub(crate) fn quoted(alloc: Global, text: &str) -> Result<String, CaseFault> {
+    let bytes = to_json(alloc, &Value::Text(Text::new(alloc, text)?))?;
+    match String::from_utf8(bytes) {
+        Ok(text) => Ok(text),
+        Err(_) => Err(CaseFault::NoCase),
+    }
+}
+
+/// The characters of a text.
+pub(crate) fn chars_of(alloc: Global, text: &str) -> Result<Vec<char>, CaseFault> {
+    let mut chars = Vec::new(alloc);
+    for c in text.chars() {
+        if chars.push(c).is_err() {
+            return Err(CaseFault::OutOfMemory);
+        }
+    }
+    Ok(chars)
+}
+
+/// Characters as a JSON text.
+pub(crate) fn quoted_chars(alloc: Global, chars: &[char]) -> Result<String, CaseFault> {
+    let text = wf_yaml_line::text_of(alloc, chars)?;
+    quoted(alloc, text.as_str())
+}
+
+/// A word.
+pub(crate) fn word(alloc: Global, text: &str) -> Result<String, CaseFault> {
+    Ok(String::from_str(alloc, text)?)
+}

@@ -1,0 +1,17 @@
+mod Moves
+mod Quiet
+mod Readings
+mod Splits
+mod Lists
+mod Carried
+mod DeedMore
+mod TurnMore
+mod Telling
+mod Visits
+mod Sending
+mod Hearing
+mod Turned
+mod Choosing
+mod Ends
+mod Moments
+mod Handed

@@ -1,0 +1,9 @@
+pub mod Outside
+pub mod Deeds
+pub mod Kept
+pub mod Rules
+pub mod Memory
+pub mod Turns
+pub mod Steps
+pub mod Clauses
+pub mod Laws

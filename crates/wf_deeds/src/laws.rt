@@ -1,0 +1,51 @@
+// Laws of the rules on deeds.
+ghost use Rattle.wf_deeds.specs.Clauses.{StandsIsKept};
+ghost use Rattle.wf_deeds.specs.Rules.{DeedKeepsRules, EndKeepsRules, HandedKeepsRules, TurnKeepsRules};
+ghost use Rattle.wf_deeds.specs.Steps.{DropGoesOn, EndIsKept, FreshStands, HandedStands, HearingGoesOn, PollIsKept, ReplyGoesOn, StartGoesOn, TurnGoesOn, TurnIsChosen};
+ghost use Rattle.wf_deeds.specs.Laws.{OnlyReadings, TurnKeepsReadings};
+
+use wf_model::{laws_of_calls, laws_of_choice, laws_of_readings, laws_of_runs};
+use wf_replay::{laws_of_histories, laws_of_moments};
+
+/// Carries laws: where nothing was sent or awaited, only the rule on readings asks something; and a turn more with the readings that
+/// were read keeps that rule.
+pub fn laws_of_rules()
+    ensures only_readings { OnlyReadings }
+    ensures turn_keeps_readings { TurnKeepsReadings }
+{
+    laws_of_moments();
+}
+
+/// Carries laws of the rules: they are kept with one deed more, one turn more, and an end.
+pub fn laws_of_deeds()
+    ensures deed { DeedKeepsRules }
+    ensures turn { TurnKeepsRules }
+    ensures end { EndKeepsRules }
+    ensures handed { HandedKeepsRules }
+{
+    laws_of_moments();
+}
+
+/// Carries laws of what an engine stands for: at first, with a call started or dropped, with what was heard, with a turn, with a reply,
+/// and at an end.
+pub fn laws_of_steps()
+    ensures fresh { FreshStands }
+    ensures start { StartGoesOn }
+    ensures drop { DropGoesOn }
+    ensures poll { PollIsKept }
+    ensures hearing { HearingGoesOn }
+    ensures turn { TurnGoesOn }
+    ensures chosen { TurnIsChosen }
+    ensures reply { ReplyGoesOn }
+    ensures end { EndIsKept }
+    ensures handed { HandedStands }
+    ensures moment { StandsIsKept }
+{
+    laws_of_deeds();
+    laws_of_moments();
+    laws_of_histories();
+    laws_of_runs();
+    laws_of_calls();
+    laws_of_choice();
+    laws_of_readings();
+}

@@ -1,4 +1,0 @@
-use Rattle.wf_syntax.proofs.tests.+with_decimals.Given as goal
-
-abbrev pub decreases-with_decimals : goal.decreases-with_decimals
-decreases-with_decimals l = l.levels
