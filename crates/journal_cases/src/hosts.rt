@@ -8,10 +8,9 @@ use std::io::Print;
 use std::time::Clock;
 use wf_cases::{Case, CaseFault, bytes_of};
 use wf_host::{
-    Deed, FileHost, FileSource, Host, MemHost, MemSource, ReadFault, Source, read_up_to,
+    Deed, FileHost, FileSource, Host, MemHost, MemSource, ReadFault, Source, print_all, read_up_to,
 };
 use wf_host_cases::{gap, host_of, items_of, number_of, numbers_of, write_bytes, write_left};
-use wf_printing::print_all;
 use wf_value::Value;
 
 /// No file is longer.

@@ -13,10 +13,11 @@ use wf_host_cases::{host_of, items_of, write_bytes, write_left};
 use wf_journal::{Journal, JournalFault};
 use wf_value::Value;
 
-/// The next record in hex, or `end`.
+/// The next record in hex, or `end`; and how many bytes the room holds, where these are others than the record's.
 fn write_next<H: Host>(
     journal: &mut Journal,
     host: &mut H,
+    room: &mut Vec<u8>,
     alloc: Global,
     out: &mut String,
 ) -> Result<(), CaseFault>
@@ -24,12 +25,18 @@ fn write_next<H: Host>(
     ensures stands { is_closed journal.new ≡ false → Told (H.world host.old) (Stands journal.new (H.world host.new)) }
     ensures tells { (H.world host.new).tells ≡ (H.world host.old).tells }
 {
-    let mut room = Vec::new(alloc);
-    match journal.next(alloc, host, &mut room) {
-        Ok(Some(payload)) => write_bytes(out, alloc, payload),
-        Ok(None) => Ok(out.push_str("end")?),
-        Err(fault) => Ok(write!(out, "{fault}")?),
+    let lent = match journal.next(alloc, host, room) {
+        Ok(Some(payload)) => {
+            write_bytes(out, alloc, payload)?;
+            payload.len()
+        }
+        Ok(None) => return Ok(out.push_str("end")?),
+        Err(fault) => return Ok(write!(out, "{fault}")?),
+    };
+    if room.len() != lent {
+        write!(out, " of {}", room.len())?;
     }
+    Ok(())
 }
 
 /// Begins the journal, where it is new. Says whether it was.
@@ -75,6 +82,7 @@ fn write_made(out: &mut String, made: Result<bool, JournalFault>) -> Result<(), 
 fn make<H: Host>(
     journal: &mut Journal,
     host: &mut H,
+    room: &mut Vec<u8>,
     call: &Value,
     alloc: Global,
     out: &mut String,
@@ -85,7 +93,9 @@ fn make<H: Host>(
 {
     out.push_str(", ")?;
     match call {
-        Value::Text(name) if name.as_str() == "next" => write_next(journal, host, alloc, out),
+        Value::Text(name) if name.as_str() == "next" => {
+            write_next(journal, host, room, alloc, out)
+        }
         Value::Text(name) if name.as_str() == "begin" => write_made(out, begin(journal, host)),
         Value::List(pair) => match pair.items() {
             [Value::Text(name), payload] if name.as_str() == "append" => {
@@ -98,7 +108,8 @@ fn make<H: Host>(
     }
 }
 
-/// Opens a journal on a host and makes calls on it: whether it is new, or why it isn't opened, and then what each call gave.
+/// Opens a journal on a host and makes calls on it, all with one room: whether it is new, or why it isn't opened, and then what each call
+/// gave.
 fn make_all<H: Host>(
     host: &mut H,
     calls: &[Value],
@@ -110,8 +121,9 @@ fn make_all<H: Host>(
         Err(fault) => return Ok(write!(out, "{fault}")?),
     };
     out.push_str(if journal.is_new() { "new" } else { "old" })?;
+    let mut room = Vec::new(alloc);
     for call in calls {
-        make(&mut journal, host, call, alloc, out)?;
+        make(&mut journal, host, &mut room, call, alloc, out)?;
     }
     Ok(())
 }

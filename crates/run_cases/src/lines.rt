@@ -6,8 +6,8 @@
 use crate::command::words_of;
 use crate::ended::json_of;
 use std::alloc::Global;
+use wf_args::{Line, LineFault, OptionName, journal_of, listen_of, read_line, source_of};
 use wf_cases::CaseFault;
-use wf_line::{Line, LineFault, OptionName, journal_of, listen_of, read_line, source_of};
 use wf_value::Value;
 
 /// What line the words are.

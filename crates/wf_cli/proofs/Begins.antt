@@ -1,10 +1,10 @@
 -- The beginning of an execution for a line.
 use Rattle.std.proofs.Common.{◌≡◌, ◌≤◌, ◌⊎◌, ◌≢◌, inl, inr, ⊎_elim, ℕ, List, [], ◌∷◌, ◌++◌, length, take, None, Result, Ok, Err, IfOk, IfErr, OnOk, IsErrOf, refl, sym, ◌∙◌, ap, subst, arith}
 use Rattle.wf_ast.specs.Tree.{Program}
-use Rattle.wf_cli.proofs.Moments.{early_nothing, early_now, StartOfLine, late_start}
+use Rattle.wf_cli.proofs.Moments.{early_nothing, early_now, no_turn_of_start, no_turns_next, kept_now, StartOfLine, late_start, late_found}
 use Rattle.wf_cli.proofs.Opens.{MayBegin, no_magic, not_resumed_by_run, no_history_by_run, passed_magic, passed_started, run_uses, run_command, little_nothing, little_now}
 use Rattle.wf_cli.specs.Reports.{the_reports}
-use Rattle.wf_cli.specs.Said.{DidLittle, IsOpened, FaultHolds, Opening}
+use Rattle.wf_cli.specs.Said.{DidLittle, IsOpened, FaultHolds, LateNow, Opening}
 use Rattle.wf_cli.specs.Top.{IsLineOf, HasOtherMagic, IsStarted, IsNotStarted, IsNoHistory}
 use Rattle.wf_cli.proofs.Causes.{not_run_and_resume}
 use Rattle.wf_engine.specs.Engine.{memory, StandsFor, OpeningMoment}
@@ -19,10 +19,11 @@ use Rattle.wf_events.specs.Laws.{MeaningOfSpelling}
 use Rattle.wf_events.specs.Records.{Started}
 use Rattle.wf_events.specs.Spelling.{record_bytes, HasSpelling}
 use Rattle.wf_host.specs.Source.{IsFirst}
-use Rattle.wf_line.specs.Lines.{PlainLine, line_of}
+use Rattle.wf_args.specs.Lines.{PlainLine, line_of}
 use Rattle.wf_machine.proofs.Places.{initial_is}
 use Rattle.wf_replay.specs.Language.{Language}
 use Rattle.wf_replay.specs.Laws.{StartIsAHistory}
+use Rattle.wf_replay.specs.Moments.{NoTurnsBehind, NextBehindHistory}
 use Rattle.wf_engine.specs.Safe.{SafeAt}
 use Rattle.wf_engine.specs.TheLanguage.{the_language}
 use Rattle.wf_source.specs.Function.{SourceIsIt}
@@ -32,11 +33,11 @@ use Rattle.wf_engine.specs.declared.fault.EngineFault.{EngineFault}
 use Rattle.wf_engine.specs.declared.fault.EngineFault.TheVariants as engine
 use Rattle.wf_history.specs.Stands.{HasNoneOrThis}
 use Rattle.wf_host.specs.Moments.{CountsNow, started, goes_on, goes_on_same, same_deeds, joined, weaker}
-use Rattle.wf_host.specs.World.{World, LeavesOnly, Elapses, Same}
+use Rattle.wf_host.specs.World.{World, LeavesOnly, Only, Elapses, Same}
 use Rattle.wf_host.specs.declared.data.Deed.{Deed}
 use Rattle.wf_host.specs.declared.data.Deed.TheVariants.{Now}
 use Rattle.wf_journal.specs.Records.{magic, records}
-use Rattle.wf_line.specs.declared.command.Command.TheVariants.{Run}
+use Rattle.wf_args.specs.declared.command.Command.TheVariants.{Run}
 use Rattle.wf_replay.specs.At.{journal, next_session}
 
 -- ## The first reading of the clock
@@ -66,6 +67,7 @@ module _ (s : Scene) (old : World) (line : IsLineOf s (λ c. c ≡ Run)) where
     safe = λ fit O. weaker old new (OpeningMoment old) (SafeAt the_language O the_reports s None old) moments (λ c d now. moment_safe O c d now);
     opened = tt;
     fault = subst (FaultHolds the_language s) (sym is) tt;
+    late = λ which. absurd (⊎_elim (λ other. let no : engine.OutOfMemory ≡ engine.AlreadyStarted = sym is ∙ other in cc no) (λ other. let no : engine.OutOfMemory ≡ engine.NotStarted = sym is ∙ other in cc no) which);
     refused = λ why. (weaker old new (OpeningMoment old) (λ c d. old.may_leave c) moments (λ c d now. now.0), seen);
     resumed = λ no. absurd (cc no);
     finished = λ st line2 h ended. absurd (not_run_and_resume s line line2);
@@ -93,6 +95,7 @@ pub record Clauses (old new : World) (t : ℕ) (payload : List ℕ) (r : Result 
   pub not_a_journal : IsErrOf r engine.NotAJournal → (5 ≤ length old.seen) × (take 4 old.seen ≢ magic)
   pub a_journal : OnOk r (MayBegin old.seen)
   pub already_started : IsErrOf r engine.AlreadyStarted → (records old.seen ≢ []) × MayBegin old.seen
+  pub settled : IsErrOf r engine.AlreadyStarted → Only new.seen new.may_leave
   pub fresh : OnOk r (records old.seen ≡ [])
   pub only : IfErr r (λ e. (e ≡ engine.DiskFault) ⊎ (e ≡ engine.NotAJournal) ⊎ (e ≡ engine.AlreadyStarted) ⊎ (e ≡ engine.OutOfMemory))
   pub deeds : new.deeds ≡ old.deeds
@@ -117,6 +120,7 @@ module _ (s : Scene) (old mid new : World) (t : ℕ) (payload : List ℕ) (line 
         stands = k.stands;
         number = k.session ∙ ap (λ J. next_session (journal the_language J)) (sym none);
         added = payload ∷ [];
+        own = (no_turn_of_start payload start.line start.bytes t (memory e).session start.means, tt);
         keeps = k.started ∙ ap (λ J. J ++ payload ∷ []) (sym none);
         start = λ is. (start.line, start.bytes, start.reads, (t, (0, omega arith, refl), k.started ∙ ap (λ p. p ∷ []) start.is_start));
         is_of = start.command;
@@ -161,20 +165,36 @@ module _ (s : Scene) (old mid new : World) (t : ℕ) (payload : List ℕ) (line 
   fault_if (Ok e) k = tt
   fault_if (Err f) k = fault_of f k
 
+  -- a file that was begun before is there as it was found
+  late_of : NoTurnsBehind → NextBehindHistory → (f : EngineFault) → (refused_seen : ((5 ≤ length mid.seen) × (take 4 mid.seen ≢ magic)) ⊎ (records mid.seen ≢ []) → new.seen ≡ mid.seen) → Clauses mid new t payload (Err f)
+      → (f ≡ engine.AlreadyStarted) ⊎ (f ≡ engine.NotStarted) → LateNow the_language s old new
+  late_of turns next f seen k (inl is) = λ fit O image may.
+      let some : records mid.seen ≢ [] = (k.already_started (ap Err is)).0 in
+      let there : records s.found ≢ [] = subst (λ i. records i ≢ []) found_is some in
+      late_found the_language O s old kept.Run (Now t ∷ []) image new.deeds (run_command s line) fit (k.settled (ap Err is) image may ∙ seen (inr some) ∙ found_is) (k.deeds ∙ time.deeds) refl
+      (kept_now the_language O kept.Run (records s.found) (next_session (journal the_language (records s.found))) t law (no_turns_next turns next the_language s.found fit there) (λ c resumes was ended. absurd (cc resumes)))
+  late_of turns next f seen k (inr is) = absurd (not_resumed_by_run s line (fault_of engine.NotStarted (subst (λ x. Clauses mid new t payload (Err x)) is k)).0)
+
+  late_if : NoTurnsBehind → NextBehindHistory → (r : Result Engine EngineFault) → (refused_seen : ((5 ≤ length mid.seen) × (take 4 mid.seen ≢ magic)) ⊎ (records mid.seen ≢ []) → new.seen ≡ mid.seen) → Clauses mid new t payload r
+      → IfErr r (λ f. (f ≡ engine.AlreadyStarted) ⊎ (f ≡ engine.NotStarted) → LateNow the_language s old new)
+  late_if turns next (Ok e) seen k = tt
+  late_if turns next (Err f) seen k = late_of turns next f seen k
+
   stays_where : (L : Language) → HasOtherMagic s ⊎ IsStarted s ⊎ IsNotStarted s ⊎ ((n : ℕ) × IsNoHistory L s n) → ((5 ≤ length s.found) × (take 4 s.found ≢ magic)) ⊎ (records s.found ≢ [])
   stays_where L (inl why) = inl (why.1, why.2)
   stays_where L (inr (inl why)) = inr why.1
   stays_where L (inr (inr (inl why))) = absurd (not_resumed_by_run s line why)
   stays_where L (inr (inr (inr (n, why)))) = absurd (no_history_by_run L s n line why)
 
-  pub opening_by_run : (r : Result Engine EngineFault) → (refused_seen : ((5 ≤ length mid.seen) × (take 4 mid.seen ≢ magic)) ⊎ (records mid.seen ≢ []) → new.seen ≡ mid.seen) → Clauses mid new t payload r → Opening kept.Run s old new r
-  opening_by_run r seen k = record {
+  pub opening_by_run : NoTurnsBehind → NextBehindHistory → (r : Result Engine EngineFault) → (refused_seen : ((5 ≤ length mid.seen) × (take 4 mid.seen ≢ magic)) ⊎ (records mid.seen ≢ []) → new.seen ≡ mid.seen) → Clauses mid new t payload r → Opening kept.Run s old new r
+  opening_by_run turns next r seen k = record {
     little = little_now old new t (k.deeds ∙ time.deeds);
     safe = λ fit O.
         joined old mid new (SafeAt the_language O the_reports s None old) _ (weaker old mid (OpeningMoment old) (SafeAt the_language O the_reports s None old) (now_moments old mid t only_now time) (λ c d now. safe_now the_language O c d now)) k.any_moment
         (λ c d now. safe_begin O c d now);
     opened = opened_if r k;
     fault = fault_if r k;
+    late = late_if turns next r seen k;
     refused = λ why.
         let stays = subst (λ f. ((5 ≤ length f) × (take 4 f ≢ magic)) ⊎ (records f ≢ [])) (sym found_is) (stays_where the_language why) in (
           joined old mid new (λ c d. old.may_leave c) (λ c d. mid.may_leave c × (d ≡ mid.deeds)) (weaker old mid (OpeningMoment old) (λ c d. old.may_leave c) (now_moments old mid t only_now time) (λ c d now. now.0)) (k.refused_stays stays)

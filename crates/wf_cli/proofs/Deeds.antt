@@ -6,7 +6,7 @@ use Rattle.wf_cli.specs.Top.{IsPrint}
 use Rattle.wf_deeds.specs.Deeds.{polls, nows, poll_readings, starts_or_polls, printed, IsSmall}
 use Rattle.wf_host.specs.declared.data.Deed.{Deed}
 use Rattle.wf_host.specs.declared.data.Deed.TheVariants.{Start, Poll, Now, Reply, Drop, Print}
-use Rattle.wf_printing.specs.Printing as printing
+use Rattle.wf_host.specs.Printing as printing
 
 -- ## Prints behind
 pub nows_behind : (D P : List Deed) → AllByRecursion IsPrint P → nows (D ++ P) ≡ nows D

@@ -5,29 +5,31 @@ use Rattle.std.proofs.lemmas.List.Elements.{Contains-append_right}
 use Rattle.std.specs.Prelude.{IfOk}
 use Rattle.std.specs.List.{AllByRecursion}
 use Rattle.wf_cli.proofs.Deeds.{printed_both, printed_same, all_prints}
-use Rattle.wf_cli.proofs.Causes.{same_some}
+use Rattle.wf_cli.proofs.Causes.{same_some, no_bad_line, executing}
 use Rattle.wf_cli.proofs.Rows.{is_own}
-use Rattle.wf_cli.proofs.Safe.{safe_behind}
+use Rattle.wf_cli.proofs.Safe.{late_behind, safe_behind}
+use Rattle.wf_cli.proofs.Together.{where_told, when_told}
 use Rattle.wf_cli.specs.Reports.{the_reports}
-use Rattle.wf_cli.specs.Said.{IsEnd, Worked, DidLittle, Unwritten, Tells, Printing, text_of}
-use Rattle.wf_cli.specs.Top.{Call, IsPrint, Gives, Says, bad_line, refused, reported, of_file, Ends, said, cut, unread, failed, no_memory, Prints, PrintsSome, TookNothing, FinishedStays, RefusedStays, ReportsStay, SafeThroughout, SafeAtEnd, WritesNothing}
+use Rattle.wf_cli.specs.Said.{IsEnd, Worked, DidLittle, LateNow, Unwritten, Tells, Printing, silent_status, text_of}
+use Rattle.wf_cli.specs.Top.{Call, IsRefused, IsBehindSync, IsPrint, Gives, Says, bad_line, refused, reported, of_file, Ends, said, cut, unread, failed, no_memory, Prints, PrintsSome, TookNothing, FinishedStays, RefusedStays, ReportsStay, SilentStays, SafeThroughout, SafeAtEnd, LateAtEnd, WritesNothing}
 use Rattle.wf_cli.specs.declared.end.Said.{Said}
 use Rattle.wf_cli.specs.declared.end.Silence.{Silence}
 use Rattle.wf_cli.specs.declared.end.Silence.TheVariants as silence
 use Rattle.wf_deeds.specs.Deeds.{printed, IsSmall}
 use Rattle.wf_deeds.specs.Laws.{OnlyReadings}
 use Rattle.wf_deeds.specs.Outside.{Outside}
-use Rattle.wf_engine.specs.Printed.{Scene}
-use Rattle.wf_engine.specs.Safe.{PrintedIsOutcome, SafeAt}
+use Rattle.wf_engine.specs.Printed.{Scene, executes}
+use Rattle.wf_engine.specs.Safe.{PrintedIsOutcome, SafeAt, LateAt}
 use Rattle.wf_engine.specs.TheLanguage.{the_language}
 use Rattle.wf_host.specs.Moments.{CountsNow, joined}
 use Rattle.wf_host.specs.World.{World, Faults, Told, LeavesOnly, NoneFell, Rose}
 use Rattle.wf_host.specs.declared.data.Deed.{Deed}
 use Rattle.wf_host.specs.declared.data.Deed.TheVariants.{Print}
-use Rattle.wf_printing.specs.Printing as printing
-use Rattle.wf_printing.specs.Printing.{PrintFront, PrintsFront, PrintedSoFar}
+use Rattle.wf_host.specs.Printing as printing
+use Rattle.wf_host.specs.Printing.{PrintFront, PrintsFront, PrintedSoFar}
 use Rattle.wf_replay.specs.Language.{Language}
 use Rattle.wf_status.specs.Statuses.{status_code}
+use Rattle.wf_status.specs.declared.Refusal.{Refusal}
 use Rattle.wf_status.specs.declared.Status.{Status}
 use Rattle.wf_status.specs.declared.Status.TheVariants as status
 
@@ -164,6 +166,35 @@ module _ (x : Call) (mid : World) (r : Result Said Silence) (w : Worked x.scene 
       let so_far = w.safe fit O in
       safe_print O (Some x.status) image x.new.deeds (not_suspended x.status is) so_far (p.moments.each image x.new.deeds (counts_new mid.moment image p.moments.later may))
 
+  -- ## Behind the opening's sync
+  silent_early : (e : Silence) → ¬ IsBehindSync x.scene (silent_status e)
+  silent_early silence.Unread behind = behind
+  silent_early silence.DiskFault behind = behind
+  silent_early silence.OutOfMemory behind = behind
+
+  late_of : (q : Result Said Silence) (f g : Faults) → IfOk q (λ it. IsBehindSync x.scene it.status → LateNow the_language x.scene x.old mid) → Tells q mid x.new f g x.status → IsBehindSync x.scene x.status → LateNow the_language x.scene x.old mid
+  late_of (Ok it) f g late (inl (same, prints)) behind = late (subst (IsBehindSync x.scene) same behind)
+  late_of (Ok it) f g late (inr (same, why, prints)) behind = absurd (subst (IsBehindSync x.scene) same behind)
+  late_of (Err e) f g late (same, none) behind = absurd (silent_early e (subst (IsBehindSync x.scene) same behind))
+
+  late_print : (O : Outside) (e : Option Status) (c : List ℕ) (d : List Deed) → option_map status_code e ≢ Some 13 → (mid.may_leave c → LateAt the_language O the_reports x.scene None x.old c mid.deeds) → PrintedSoFar mid (text_of r) c d
+      → LateAt the_language O the_reports x.scene e x.old c d
+  late_print O e c d done late (may, (P, is, (all, (rest, parts)))) = by (late may)
+    where
+      by : LateAt the_language O the_reports x.scene None x.old c mid.deeds → LateAt the_language O the_reports x.scene e x.old c d
+      by (D, was, facts) =
+          let little = w.little in
+          let equal : little.done ≡ D = append_cancel_left x.old.deeds little.done D (sym little.deeds ∙ was) in (
+            D ++ P,
+            is ∙ ap (λ l. l ++ P) was ∙ append_assoc x.old.deeds D P,
+            late_behind the_language O the_reports x.scene e c D P only done (subst (λ l. AllByRecursion IsSmall l) equal little.small) (ap printed (sym equal) ∙ little.silent) (all_prints P all)
+                (front the_language O e c [] P r (given the_language r c w.gives may) rest parts) facts,
+          )
+
+  pub late_at_end : (f g : Faults) → is_own x.status ≡ true → Tells r mid x.new f g x.status → LateAtEnd the_language x
+  late_at_end f g is tells behind fit O image may =
+      late_print O (Some x.status) image x.new.deeds (not_suspended x.status is) (late_of r f g w.late tells behind fit O image) (p.moments.each image x.new.deeds (counts_new mid.moment image p.moments.later may))
+
   -- ## What isn't written
   unwritten : Unwritten x.old mid → WritesNothing x
   unwritten (moments, seen) = (
@@ -182,5 +213,12 @@ module _ (x : Call) (mid : World) (r : Result Said Silence) (w : Worked x.scene 
   pub refused_stays : RefusedStays the_language x
   refused_stays why = unwritten (w.refused why)
 
+  -- a line that may write, and why none may
   pub reports_stay : ReportsStay x
-  reports_stay line = unwritten (w.reports line)
+  reports_stay line = ⊎_elim unwritten (λ may. absurd (executing x.scene may.0 line)) w.writes
+
+  pub silent_stays : SilentStays x
+  silent_stays = record {
+    bad_line = λ n bad. ⊎_elim unwritten (λ may. absurd (no_bad_line x.scene (λ c. executes c ≡ true) n may.0 bad)) w.writes;
+    refused = where_told x.scene.source _ (λ left told q why. ⊎_elim unwritten (λ may. absurd (when_told x.scene.source left ((z : Refusal) → ¬ IsRefused x.scene z) told may.1 q why)) w.writes);
+  }

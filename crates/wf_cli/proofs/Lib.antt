@@ -1,5 +1,6 @@
 mod Begins
 mod Causes
+mod Completes
 mod Deeds
 mod Finish
 mod Fits

@@ -2,12 +2,16 @@
 use Rattle.std.proofs.Common.{◌≡◌, ◌≤◌, ◌⊎◌, ◌≢◌, inl, inr, ℕ, true, List, [], ◌∷◌, ◌++◌, length, take, None, Result, Ok, Err, IfOk, IfErr, OnOk, IsErrOf, refl, sym, ◌∙◌, ap, subst, arith}
 use Rattle.std.proofs.lemmas.List.{append-nil, append_cancel_left}
 use Rattle.wf_cli.proofs.Causes.{not_both, not_run_and_resume}
-use Rattle.wf_cli.proofs.Moments.{early_nothing, early_now}
+use Rattle.wf_cli.proofs.Moments.{early_nothing, early_now, kept_now, kept_still, late_found, no_turns_of_none, reads_none_of_none}
+use Rattle.wf_cli.proofs.Safe.{of_command}
 use Rattle.wf_cli.specs.Reports.{the_reports}
-use Rattle.wf_cli.specs.Said.{DidLittle, HasNoCause, IsOpened, FaultHolds, Opening, Unwritten}
-use Rattle.wf_cli.specs.Top.{IsLineOf, HasOtherMagic, IsStarted, IsNotStarted, IsNoHistory, IsPassed}
+use Rattle.wf_cli.specs.Said.{DidLittle, IsOpened, FaultHolds, LateNow, Opening, Unwritten}
+use Rattle.wf_cli.specs.Top.{IsLineOf, HasOtherMagic, IsStarted, IsNotStarted, IsNoHistory, IsPassed, HasNoCauseInFile}
 use Rattle.wf_engine.specs.Engine.{memory, StandsFor, Opened, OpeningMoment}
+use Rattle.wf_deeds.specs.Deeds.{printed}
 use Rattle.wf_deeds.specs.Kept as kept
+use Rattle.wf_deeds.specs.Kept.{Kept}
+use Rattle.wf_deeds.specs.Laws.{OnlyReadings}
 use Rattle.wf_deeds.specs.Outside.{Outside}
 use Rattle.wf_engine.specs.Printed.{Scene, uses_journal}
 use Rattle.wf_engine.specs.Safe.{SafeAt, command_of, command_by}
@@ -16,12 +20,12 @@ use Rattle.wf_engine.specs.declared.engine.Engine.{Engine}
 use Rattle.wf_engine.specs.declared.fault.EngineFault.{EngineFault}
 use Rattle.wf_engine.specs.declared.fault.EngineFault.TheVariants as engine
 use Rattle.wf_host.specs.Moments.{weaker}
-use Rattle.wf_host.specs.World.{World, LeavesOnly}
+use Rattle.wf_host.specs.World.{World, LeavesOnly, Only}
 use Rattle.wf_host.specs.declared.data.Deed.{Deed}
 use Rattle.wf_host.specs.declared.data.Deed.TheVariants.{Now}
 use Rattle.wf_journal.specs.Records.{magic, records}
-use Rattle.wf_line.specs.Lines.{line_of}
-use Rattle.wf_line.specs.declared.command.Command.TheVariants.{Run, Resume}
+use Rattle.wf_args.specs.Lines.{line_of}
+use Rattle.wf_args.specs.declared.command.Command.TheVariants.{Run, Resume}
 use Rattle.wf_model.specs.Config.{Active}
 use Rattle.wf_replay.specs.At.{journal, next_session}
 use Rattle.wf_replay.specs.History.{Standing, history}
@@ -79,7 +83,7 @@ passed_history L s m none none2 none3 = record {
   history = λ n low. absurd (let no : ⊥ = omega (arith, low) in no);
 }
 
-pub passed_all : (L : Language) (s : Scene) (st : Status) → HasNoCause L s → IsPassed L s st
+pub passed_all : (L : Language) (s : Scene) (st : Status) → HasNoCauseInFile L s → IsPassed L s st
 passed_all L s st none = record { magic = λ low. none.magic; started = λ low. none.started; not_started = λ low. none.not_started; history = λ n low. none.history n }
 
 pub resume_uses : (s : Scene) → IsLineOf s (λ c. c ≡ Resume) → IsLineOf s (λ c. uses_journal c ≡ true)
@@ -116,6 +120,7 @@ pub record Clauses (old new : World) (r : Result Engine EngineFault) : Type 0 wh
   pub any_moment : LeavesOnly old new (OpeningMoment old)
   pub not_a_journal : IsErrOf r engine.NotAJournal → (5 ≤ length old.seen) × (take 4 old.seen ≢ magic)
   pub not_started : IsErrOf r engine.NotStarted → (records old.seen ≡ []) × MayBegin old.seen
+  pub settled : IsErrOf r engine.NotStarted → Only new.seen new.may_leave
   pub not_a_history : IfErr r (λ e. (n : ℕ) → e ≡ engine.NotAHistory n → (history the_language (records old.seen) ≡ Err n) × (records old.seen ≢ []) × (take 4 old.seen ≡ magic))
   pub only : IfErr r (λ e. (e ≡ engine.DiskFault) ⊎ (e ≡ engine.NotAJournal) ⊎ (e ≡ engine.NotStarted) ⊎ ((n : ℕ) × (e ≡ engine.NotAHistory n)) ⊎ (e ≡ engine.OutOfMemory))
   pub deeds : (new.deeds ≡ old.deeds) ⊎ ((t : ℕ) × (new.deeds ≡ old.deeds ++ Now t ∷ []))
@@ -130,7 +135,7 @@ module _ (s : Scene) (old new : World) (line : IsLineOf s (λ c. c ≡ Resume)) 
   little_of (inl is) = little_nothing old new is
   little_of (inr (t, is)) = little_now old new t is
 
-  causes_of : (L : Language) → take 4 s.found ≡ magic → (st : Standing) → history L (records s.found) ≡ Ok st → HasNoCause L s
+  causes_of : (L : Language) → take 4 s.found ≡ magic → (st : Standing) → history L (records s.found) ≡ Ok st → HasNoCauseInFile L s
   causes_of L begins st is = record {
     magic = no_magic s (inr begins);
     started = not_started_by_resume s line;
@@ -148,6 +153,7 @@ module _ (s : Scene) (old new : World) (line : IsLineOf s (λ c. c ≡ Resume)) 
         stands = subst (λ D. StandsFor the_language kept.Resume (memory e) (records new.seen) D) same o.stands;
         number = k.session ∙ ap (λ f. next_session (journal the_language (records f))) found;
         added = [];
+        own = tt;
         keeps = stays ∙ sym (append-nil (records s.found));
         start = λ none. absurd (no_record_no_history the_language (records s.found) o.stands.leads.standing is none);
         is_of = resume_command s line;
@@ -184,8 +190,35 @@ module _ (s : Scene) (old new : World) (line : IsLineOf s (λ c. c ≡ Resume)) 
   fault_if (Ok e) k = tt
   fault_if (Err f) k = fault_of f k
 
-  pub opening_by_resume : (r : Result Engine EngineFault) → Clauses old new r → Opening kept.Resume s old new r
-  opening_by_resume r k =
+  -- a file without a record is there as it was found
+  one_reading : (L : Language) (O : Outside) (D : List Deed) → OnlyReadings → records s.found ≡ [] → (new.deeds ≡ old.deeds) ⊎ ((t : ℕ) × (new.deeds ≡ old.deeds ++ Now t ∷ [])) → new.deeds ≡ old.deeds ++ D
+      → (printed D ≡ []) × Kept L O (of_command (records s.found) (next_session (journal L (records s.found))) D kept.Resume None)
+  one_reading L O D only none (inl is) deeds =
+      let number = next_session (journal L (records s.found)) in
+      let same : [] ≡ D = append_cancel_left old.deeds [] D (append-nil old.deeds ∙ sym is ∙ deeds) in
+      (ap printed (sym same), subst (λ E. Kept L O (of_command (records s.found) number E kept.Resume None)) same (kept_still L O kept.Resume (records s.found) number only (no_turns_of_none L (records s.found) number none)))
+  one_reading L O D only none (inr (t, is)) deeds =
+      let number = next_session (journal L (records s.found)) in
+      let same : Now t ∷ [] ≡ D = append_cancel_left old.deeds (Now t ∷ []) D (sym is ∙ deeds) in (
+        ap printed (sym same),
+        subst (λ E. Kept L O (of_command (records s.found) number E kept.Resume None)) same
+            (kept_now L O kept.Resume (records s.found) number t only (no_turns_of_none L (records s.found) number none) (reads_none_of_none L kept.Resume (records s.found) number (Now t ∷ []) none)),
+      )
+
+  late_of : OnlyReadings → (f : EngineFault) → Clauses old new (Err f) → (f ≡ engine.AlreadyStarted) ⊎ (f ≡ engine.NotStarted) → LateNow the_language s old new
+  late_of only f k (inl is) = absurd (not_started_by_resume s line (fault_of engine.AlreadyStarted (subst (λ x. Clauses old new (Err x)) is k)).0)
+  late_of only f k (inr is) = λ fit O image may.
+      let little = little_of k.deeds in
+      let none : records s.found ≡ [] = ap records (sym found) ∙ (k.not_started (ap Err is)).0 in
+      let rules = one_reading the_language O little.done only none k.deeds little.deeds in
+      late_found the_language O s old kept.Resume little.done image new.deeds (resume_command s line) fit (k.settled (ap Err is) image may ∙ k.seen ∙ found) little.deeds rules.0 rules.1
+
+  late_if : OnlyReadings → (r : Result Engine EngineFault) → Clauses old new r → IfErr r (λ f. (f ≡ engine.AlreadyStarted) ⊎ (f ≡ engine.NotStarted) → LateNow the_language s old new)
+  late_if only (Ok e) k = tt
+  late_if only (Err f) k = late_of only f k
+
+  pub opening_by_resume : OnlyReadings → (r : Result Engine EngineFault) → Clauses old new r → Opening kept.Resume s old new r
+  opening_by_resume only r k =
       let little = little_of k.deeds in
       let unwritten : Unwritten old new = (weaker old new (OpeningMoment old) (λ c d. old.may_leave c) k.any_moment (λ c d now. now.0), k.seen) in
       record {
@@ -193,6 +226,7 @@ module _ (s : Scene) (old new : World) (line : IsLineOf s (λ c. c ≡ Resume)) 
         safe = λ fit O. weaker old new (OpeningMoment old) (SafeAt the_language O the_reports s None old) k.any_moment (λ c d now. moment_safe the_language O c d now);
         opened = opened_if r little.done little.deeds k;
         fault = fault_if r k;
+        late = late_if only r k;
         refused = λ why. unwritten;
         resumed = λ is. unwritten;
         finished = λ st line2 is ended. k.finished st (subst (λ f. history the_language (records f) ≡ Ok st) (sym found) is) ended;

@@ -1,37 +1,17 @@
--- What the top call promises of a call, all together.
+-- All rows of a call together.
 use Rattle.std.proofs.Common.{◌≡◌, ◌≤◌, ℕ, Result, ◌∙◌}
-use Rattle.wf_cli.proofs.Finish.{ends, safe_throughout, safe_at_end, finished_stays, refused_stays, reports_stay}
+use Rattle.wf_cli.proofs.Completes.{completes}
+use Rattle.wf_cli.proofs.Finish.{ends, safe_throughout, safe_at_end, late_at_end, finished_stays, refused_stays, reports_stay, silent_stays}
 use Rattle.wf_cli.proofs.Rows.{bad_line_row, read_fault_row, refused_row, disk_fault_row, not_a_journal_row, already_started_row, not_started_row, not_a_history_row, outcome_row, done_row, comes_back_row, print_fault_row, only_these, own_status}
+use Rattle.wf_cli.specs.Promises.{Promised}
 use Rattle.wf_cli.specs.Said.{IsEnd, Worked, Tells, Printing, text_of}
-use Rattle.wf_cli.specs.Top.{Call, Ends, BadLineRow, ReadFaultRow, RefusedRow, DiskFaultRow, NotAJournalRow, AlreadyStartedRow, NotStartedRow, NotAHistoryRow, OutcomeRow, DoneRow, ComesBackRow, PrintFaultRow, OnlyThese, FinishedStays, RefusedStays, ReportsStay, SafeThroughout, SafeAtEnd}
+use Rattle.wf_cli.specs.Top.{Call, Ends}
 use Rattle.wf_cli.specs.declared.end.Said.{Said}
 use Rattle.wf_cli.specs.declared.end.Silence.{Silence}
 use Rattle.wf_deeds.specs.Laws.{OnlyReadings}
-use Rattle.wf_engine.specs.TheLanguage.{the_language}
 use Rattle.wf_host.specs.Moments.{CountsNow}
 use Rattle.wf_host.specs.World.{World, Faults, Told, NoneFell}
 use Rattle.wf_source.specs.Laws.{OneRefusal}
-
-pub record Promised (x : Call) : Type 0 where
-  pub ends : Ends x
-  pub bad_line : BadLineRow x
-  pub read_fault : ReadFaultRow x
-  pub refused : RefusedRow x
-  pub disk_fault : DiskFaultRow x
-  pub not_a_journal : Told x.old (NotAJournalRow x)
-  pub already_started : Told x.old (AlreadyStartedRow x)
-  pub not_started : Told x.old (NotStartedRow x)
-  pub not_a_history : Told x.old (NotAHistoryRow the_language x)
-  pub outcome : Told x.old (OutcomeRow the_language x)
-  pub done : DoneRow x
-  pub comes_back : ComesBackRow x
-  pub print_fault : PrintFaultRow x
-  pub only : OnlyThese x
-  pub finished_stays : Told x.old (FinishedStays the_language x)
-  pub refused_stays : Told x.old (RefusedStays the_language x)
-  pub reports_stay : Told x.old (ReportsStay x)
-  pub safe : Told x.old (SafeThroughout the_language x)
-  pub safe_end : Told x.old (SafeAtEnd the_language x)
 
 -- from the work of the command and the printing of what it says
 pub promised : (x : Call) (mid : World) (reads2 : ℕ) (faults2 : Faults) (r : Result Said Silence) → IsEnd x.scene x.old mid x.reads_old reads2 x.faults_old faults2 r → Told x.old (Worked x.scene x.old mid r)
@@ -54,9 +34,12 @@ promised x mid reads2 faults2 r is worked tells printing same reads before after
       comes_back = comes_back_row x all;
       print_fault = print_fault_row x all;
       only = only_these x all;
+      completes = λ told. completes x told all;
       finished_stays = λ told. finished_stays x mid r (worked told) (printing (same ∙ told)) (counts_mid told) (counts_new told) law;
       refused_stays = λ told. refused_stays x mid r (worked told) (printing (same ∙ told)) (counts_mid told) (counts_new told) law;
       reports_stay = λ told. reports_stay x mid r (worked told) (printing (same ∙ told)) (counts_mid told) (counts_new told) law;
+      silent_stays = λ told. silent_stays x mid r (worked told) (printing (same ∙ told)) (counts_mid told) (counts_new told) law;
       safe = λ told. safe_throughout x mid r (worked told) (printing (same ∙ told)) (counts_mid told) (counts_new told) law;
       safe_end = λ told. safe_at_end x mid r (worked told) (printing (same ∙ told)) (counts_mid told) (counts_new told) law (own_status x all);
+      late_end = λ told. late_at_end x mid r (worked told) (printing (same ∙ told)) (counts_mid told) (counts_new told) law faults2 x.faults_new (own_status x all) tells;
     }

@@ -9,7 +9,7 @@ use Rattle.wf_engine.specs.Printed.{Scene, uses_source, uses_journal, executes, 
 use Rattle.wf_engine.specs.TheLanguage.{the_language}
 use Rattle.wf_host.specs.World.{World}
 use Rattle.wf_journal.specs.Records.{records}
-use Rattle.wf_line.specs.declared.command.Command.TheVariants.{Format}
+use Rattle.wf_args.specs.declared.command.Command.TheVariants.{Format}
 use Rattle.wf_model.specs.Config.{Outcome, Active, Returned, Raised, Cancelled}
 use Rattle.wf_replay.specs.History.{Standing, history}
 use Rattle.wf_replay.specs.Language.{Language}

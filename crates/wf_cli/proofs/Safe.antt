@@ -8,13 +8,13 @@ use Rattle.wf_deeds.specs.Kept.{Command, Session, ReadingsAreOfTheClock, own}
 use Rattle.wf_deeds.specs.Laws.{OnlyReadings}
 use Rattle.wf_deeds.specs.Outside.{Outside}
 use Rattle.wf_engine.specs.Printed.{Scene, Reports, Reads, Gives}
-use Rattle.wf_engine.specs.Safe.{IsPrefix, session, StartIsOfTheLine, PrintedIsOutcome, Safe}
+use Rattle.wf_engine.specs.Safe.{IsPrefix, session, StartIsOfTheLine, PrintedIsOutcome, IsLate, Safe}
 use Rattle.wf_engine.specs.Starts.{start_of}
 use Rattle.wf_events.specs.Records.{Started}
 use Rattle.wf_events.specs.Spelling.{record_bytes}
 use Rattle.wf_host.specs.declared.data.Deed.{Deed}
 use Rattle.wf_host.specs.declared.data.Deed.TheVariants.{Start, Poll, Now, Reply, Drop, Print}
-use Rattle.wf_line.specs.Lines.{PlainLine}
+use Rattle.wf_args.specs.Lines.{PlainLine}
 use Rattle.wf_replay.specs.Language.{Language}
 use Rattle.wf_shared.specs.Events.{Turn}
 use Rattle.wf_status.specs.Statuses.{status_code}
@@ -62,19 +62,25 @@ module _ (L : Language) (O : Outside) (R : Reports) (s : Scene) (e : Option Stat
           → (l : PlainLine) × (bytes : List ℕ) × Reads s l bytes × ((t : ℕ) × Contains (nows (D ++ P)) t × (first ≡ record_bytes (Started (start_of l bytes t))))
       again first (l, bytes, reads, (t, among, at)) = (l, bytes, reads, (t, subst (λ ts. Contains ts t) (sym (nows_behind D P prints)) among, at))
 
-  pub safe_behind : (entry : List ℕ → Type 0) (image : List ℕ) (D P : List Deed) → OnlyReadings → option_map status_code e ≢ Some 13 → AllByRecursion IsSmall D → printed D ≡ [] → AllByRecursion IsPrint P
-      → PrintedIsOutcome L O R s e image P → Safe L O R s None entry image D → Safe L O R s e entry image (D ++ P)
-  safe_behind entry image D P only done small silent prints is (inl early) = inl (record {
-    small = all_both IsSmall D P small (prints_small P prints);
-    at_entry = early.at_entry;
-    printed = printed_behind image D P silent is;
-  })
-  safe_behind entry image D P only done small silent prints is (inr late) = inr (record {
+  pub late_behind : (image : List ℕ) (D P : List Deed) → OnlyReadings → option_map status_code e ≢ Some 13 → AllByRecursion IsSmall D → printed D ≡ [] → AllByRecursion IsPrint P
+      → PrintedIsOutcome L O R s e image P → IsLate L O R s None image D → IsLate L O R s e image (D ++ P)
+  late_behind image D P only done small silent prints is late = record {
     history = late.history;
     keeps = late.keeps;
+    own = late.own;
     start = start_behind image D P prints late.start;
     deeds =
         let all = all_both IsSmall D P small (prints_small P prints) in
         only L O (session L O R s e image (D ++ P)) all done (readings_behind L O _ _ D P _ None (option_map status_code e) all prints late.deeds.readings);
     printed = printed_behind image D P silent is;
+  }
+
+  pub safe_behind : (entry : List ℕ → Type 0) (image : List ℕ) (D P : List Deed) → OnlyReadings → option_map status_code e ≢ Some 13 → AllByRecursion IsSmall D → printed D ≡ [] → AllByRecursion IsPrint P
+      → PrintedIsOutcome L O R s e image P → Safe L O R s None entry image D → Safe L O R s e entry image (D ++ P)
+  safe_behind entry image D P only done small silent prints is (inl early) = inl (record {
+    small = all_both IsSmall D P small (prints_small P prints);
+    clock = subst (λ n. n ≤ 1) (sym (ap length (nows_behind D P prints))) early.clock;
+    at_entry = early.at_entry;
+    printed = printed_behind image D P silent is;
   })
+  safe_behind entry image D P only done small silent prints is (inr late) = inr (late_behind image D P only done small silent prints is late)

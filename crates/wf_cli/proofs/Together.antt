@@ -10,9 +10,9 @@ use Rattle.wf_engine.specs.TheLanguage.{the_language}
 use Rattle.wf_host.specs.Source.{Rest, IsFirst, WhereTold}
 use Rattle.wf_host.specs.World.{World}
 use Rattle.wf_journal.specs.Records.{records}
-use Rattle.wf_line.specs.Lines.{PlainLine, line_of}
-use Rattle.wf_line.specs.declared.command.Command.{Command}
-use Rattle.wf_line.specs.declared.command.Command.TheVariants.{Format, Run, Resume, Help, Version}
+use Rattle.wf_args.specs.Lines.{PlainLine, line_of}
+use Rattle.wf_args.specs.declared.command.Command.{Command}
+use Rattle.wf_args.specs.declared.command.Command.TheVariants.{Format, Run, Resume, Help, Version}
 use Rattle.wf_replay.specs.History.{history}
 use Rattle.wf_replay.specs.Language.{Language}
 use Rattle.wf_status.specs.Statuses.{rank}

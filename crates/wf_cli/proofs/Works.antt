@@ -1,15 +1,15 @@
 -- What a command has done, from the opening of its file and the way to the outcome.
-use Rattle.std.proofs.Common.{◌≡◌, ◌⊎◌, ◌≢◌, inl, inr, ⊎_elim, ℕ, true, false, List, [], ◌++◌, None, Some, Result, Ok, Err, IfOk, IsErr, IsErrAnd, refl, sym, ◌∙◌, ap, subst}
+use Rattle.std.proofs.Common.{◌≡◌, ◌⊎◌, ◌≢◌, inl, inr, ⊎_elim, ℕ, true, false, List, [], ◌++◌, None, Some, Result, Ok, Err, IfOk, IsErr, IsErrAnd, refl, sym, ◌∙◌, ap, subst, arith}
 use Rattle.std.specs.Prelude.{codes, decimal}
 use Rattle.std.proofs.lemmas.List.{append-nil}
 use Rattle.wf_ast.specs.Tree.{Program}
-use Rattle.wf_cli.proofs.Causes.{same_ok, same_err, same_some, both, executing}
+use Rattle.wf_cli.proofs.Causes.{same_ok, same_err, same_some, both, not_both, executing, reported_line}
 use Rattle.wf_cli.proofs.Together.{where_told, same_bytes}
-use Rattle.wf_cli.proofs.Moments.{early_nothing, late_going}
+use Rattle.wf_cli.proofs.Moments.{early_nothing, late_going, safe_late}
 use Rattle.wf_cli.proofs.Opens.{passed_all}
 use Rattle.wf_cli.specs.Reports.{layout_of, the_reports}
-use Rattle.wf_cli.specs.Said.{SaysStatus, SaysFault, SaysReport, SaysBadLine, SaysSource, SaysTree, SaysLayout, DidLittle, SafeSince, Unwritten, HasNoCause, FaultHolds, Opening, SaysResult, SaysHistory, Going, IsEnd, Worked}
-use Rattle.wf_cli.specs.Top.{IsLineOf, IsBadLine, IsRefused, HasOtherMagic, IsStarted, IsNotStarted, IsNoHistory, Reported, IsAccepted, IsOfFile, IsPassed, Gives, ReadsBack, Says, bad_line, refused, reported, of_file}
+use Rattle.wf_cli.specs.Said.{SaysStatus, SaysFault, SaysReport, SaysBadLine, SaysSource, SaysTree, SaysLayout, DidLittle, SafeSince, LateNow, Unwritten, FaultHolds, Opening, SaysResult, SaysHistory, Going, IsEnd, Worked}
+use Rattle.wf_cli.specs.Top.{IsLineOf, IsBadLine, IsRefused, HasOtherMagic, IsStarted, IsNotStarted, IsNoHistory, Reported, IsAccepted, IsOfFile, IsPassed, HasNoCauseInFile, IsBehindSync, Gives, ReadsBack, Says, bad_line, refused, reported, of_file}
 use Rattle.wf_cli.specs.declared.end.Said.{Said}
 use Rattle.wf_cli.specs.declared.end.Silence.{Silence}
 use Rattle.wf_cli.specs.declared.end.Silence.TheVariants as silence
@@ -17,7 +17,7 @@ use Rattle.wf_engine.specs.Engine.{memory, KeptAt}
 use Rattle.wf_deeds.specs.Kept as kept
 use Rattle.wf_engine.specs.Printed as end
 use Rattle.wf_engine.specs.Printed.{Scene, uses_source, executes, status_of, outcome_text}
-use Rattle.wf_engine.specs.Safe.{SafeAt}
+use Rattle.wf_engine.specs.Safe.{IsFit, SafeAt}
 use Rattle.wf_engine.specs.TheLanguage.{the_language}
 use Rattle.wf_engine.specs.declared.engine.Engine.{Engine}
 use Rattle.wf_engine.specs.declared.fault.EngineFault.{EngineFault}
@@ -26,13 +26,14 @@ use Rattle.wf_host.specs.Moments.{CountsNow, started, joined}
 use Rattle.wf_host.specs.World.{World, Faults, Told, Rose}
 use Rattle.wf_host.specs.declared.data.Deed.{Deed}
 use Rattle.wf_journal.specs.Records.{records}
+use Rattle.wf_journal.specs.Standing.{new_none}
 use Rattle.wf_journal.specs.Steps.{Moment}
-use Rattle.wf_line.specs.Help.{help, version}
-use Rattle.wf_line.specs.Lines.{PlainLine, line_of}
-use Rattle.wf_line.specs.declared.command.Command.{Command}
-use Rattle.wf_line.specs.declared.command.Command.TheVariants.{Format, Run, Resume, Help, Version}
-use Rattle.wf_line.specs.declared.read.LineFault.{LineFault}
-use Rattle.wf_line.specs.declared.read.LineFault.TheVariants as words
+use Rattle.wf_args.specs.Help.{help, version}
+use Rattle.wf_args.specs.Lines.{PlainLine, line_of}
+use Rattle.wf_args.specs.declared.command.Command.{Command}
+use Rattle.wf_args.specs.declared.command.Command.TheVariants.{Format, Run, Resume, Help, Version}
+use Rattle.wf_args.specs.declared.read.LineFault.{LineFault}
+use Rattle.wf_args.specs.declared.read.LineFault.TheVariants as words
 use Rattle.wf_model.specs.Config.{Outcome, Active, Returned, Raised, Cancelled}
 use Rattle.wf_replay.specs.History.{Standing, history}
 use Rattle.wf_replay.specs.Language.{Language}
@@ -67,19 +68,24 @@ pub still_unwritten : (w : World) → ((c : List ℕ) (d : List Deed) → w.left
 still_unwritten w only = (started w (λ c d. w.may_leave c) only (λ c may. may), refl)
 
 pub worked_nothing : (s : Scene) (w : World) (r : Result Said Silence) (little : DidLittle w w) → ((c : List ℕ) (d : List Deed) → w.left_since w.moment c d → w.may_leave c × (d ≡ w.deeds))
-    → IfOk r (λ it. (image : List ℕ) → Gives the_language s image it.status it.text.items) → Worked s w w r
-worked_nothing s w r little only gives = record {
+    → IfOk r (λ it. (image : List ℕ) → Gives the_language s image it.status it.text.items) → IfOk r (λ it. ¬ IsBehindSync s it.status) → Worked s w w r
+worked_nothing s w r little only gives early = record {
   little = little;
   safe = nothing_done s w only;
   gives = every r gives;
+  late = none_late r early;
   finished = λ st line is ended. (still_unwritten w only, refl);
   refused = λ why. still_unwritten w only;
-  reports = λ line. still_unwritten w only;
+  writes = inl (still_unwritten w only);
 }
   where
     every : (q : Result Said Silence) → IfOk q (λ it. (image : List ℕ) → Gives the_language s image it.status it.text.items) → IfOk q (λ it. (image : List ℕ) → w.may_leave image → Gives the_language s image it.status it.text.items)
     every (Ok it) gives = λ image may. gives image
     every (Err e) gives = tt
+
+    none_late : (q : Result Said Silence) → IfOk q (λ it. ¬ IsBehindSync s it.status) → IfOk q (λ it. IsBehindSync s it.status → LateNow the_language s w w)
+    none_late (Ok it) early = λ behind. absurd (early behind)
+    none_late (Err e) early = tt
 
 -- words that are no line
 pub gives_bad_line : (L : Language) (s : Scene) (n : ℕ) (r : Result Said Silence) → IsBadLine s n → IfOk r (SaysStatus (status.BadLine n)) → IfOk r (λ it. (image : List ℕ) → Gives L s image it.status it.text.items)
@@ -118,6 +124,22 @@ fault_gives L s engine.NotStarted it holds says =
 fault_gives L s engine.Closed it holds says = absurd (cc says)
 fault_gives L s engine.OutOfMemory it holds says = absurd (cc says)
 
+-- records that are no history aren't those of a fit file
+no_fit : (L : Language) (s : Scene) (n : ℕ) → IsNoHistory L s n → IsPassed L s (status.NotAHistory n) → IsFit L s.found → ⊥
+no_fit L s n why passed (inl short) = passed.not_started (omega arith) (why.0, new_none s.found short)
+no_fit L s n why passed (inr (inl (begins, none))) = passed.not_started (omega arith) (why.0, none)
+no_fit L s n why passed (inr (inr (begins, (st, is)))) = not_both (history L (records s.found)) st n is why.1
+
+-- what a status behind the opening's sync tells
+fault_late : (s : Scene) (old new : World) (f : EngineFault) (it : Said) → FaultHolds the_language s f → ((f ≡ engine.AlreadyStarted) ⊎ (f ≡ engine.NotStarted) → LateNow the_language s old new) → SaysFault f (Ok it) → IsBehindSync s it.status → LateNow the_language s old new
+fault_late s old new engine.DiskFault it holds late says behind = absurd (cc says)
+fault_late s old new engine.NotAJournal it holds late says behind = absurd (subst (IsBehindSync s) says.status behind)
+fault_late s old new (engine.NotAHistory n) it holds late says behind = λ fit. absurd (no_fit the_language s n holds.0 holds.1 fit)
+fault_late s old new engine.AlreadyStarted it holds late says behind = late (inl refl)
+fault_late s old new engine.NotStarted it holds late says behind = late (inr refl)
+fault_late s old new engine.Closed it holds late says behind = absurd (cc says)
+fault_late s old new engine.OutOfMemory it holds late says behind = absurd (cc says)
+
 -- a fault is of the file, whether or not the host tells
 fault_of_file : (f : EngineFault) (it : Said) → SaysFault f (Ok it) → IsOfFile it.status
 fault_of_file engine.DiskFault it says = absurd (cc says)
@@ -152,19 +174,24 @@ end_fault s old new a b f g why (Err e) says line accepted holds rose =
     ⊎_elim (λ disk. subst (λ x. IsEnd s old new a b f g (Err x)) (sym disk.1) (line, accepted, rose disk.0)) (λ lack. subst (λ x. IsEnd s old new a b f g (Err x)) (sym lack) tt) (fault_silence why e says)
 
 pub worked_fault : (s : Scene) (command : kept.Command) (old new : World) (why : EngineFault) (r : Result Said Silence) → Opening command s old new (Err why) → SaysFault why r → IsLineOf s (λ c. executes c ≡ true)
-    → (IsLineOf s (λ c. c ≡ Resume) → command ≡ kept.Resume) → Worked s old new r
-worked_fault s command old new why r o says line which = record {
+    → IsAccepted s → (IsLineOf s (λ c. c ≡ Resume) → command ≡ kept.Resume) → Worked s old new r
+worked_fault s command old new why r o says line accepted which = record {
   little = o.little;
   safe = o.safe;
   gives = given r says;
+  late = late_if r says;
   finished = λ st line2 is ended. (o.resumed (which line2), o.finished st line2 is ended);
   refused = o.refused;
-  reports = λ other. absurd (executing s line other);
+  writes = inr (line, accepted);
 }
   where
     given : (q : Result Said Silence) → SaysFault why q → IfOk q (λ it. (image : List ℕ) → new.may_leave image → Gives the_language s image it.status it.text.items)
     given (Ok it) says = λ image may. (fault_gives the_language s why it o.fault says).0 image
     given (Err e) says = tt
+
+    late_if : (q : Result Said Silence) → SaysFault why q → IfOk q (λ it. IsBehindSync s it.status → LateNow the_language s old new)
+    late_if (Ok it) says = λ behind. fault_late s old new why it o.fault o.late says behind
+    late_if (Err e) says = tt
 
 -- ## The outcome
 -- a status that is said of an outcome is of the file
@@ -180,11 +207,15 @@ history_gives L s new it line says image may =
     subst (λ t. Gives L s image it.status t) (sym says.says.text)
     (end.ended says.standing.config.outcome it.status (line, (says.standing, subst (λ f. history L (records f) ≡ Ok says.standing) (sym (says.settled image may)) says.history, refl)) says.says.status)
 
-module _ (s : Scene) (command : kept.Command) (old mid new : World) (e : Engine) (r : Result Said Silence) (line : IsLineOf s (λ c. executes c ≡ true)) (which : IsLineOf s (λ c. c ≡ Resume) → command ≡ kept.Resume) (found : old.seen ≡ s.found)
-    (counts : CountsNow mid) (o : Opening command s old mid (Ok e)) (g : Going the_language command (memory e) o.little.done mid new r) (deeds : new.deeds ≡ mid.deeds) where
+module _ (s : Scene) (command : kept.Command) (old mid new : World) (e : Engine) (r : Result Said Silence) (line : IsLineOf s (λ c. executes c ≡ true)) (accepted : IsAccepted s) (which : IsLineOf s (λ c. c ≡ Resume) → command ≡ kept.Resume) (found : old.seen ≡ s.found)
+    (counts : CountsNow mid) (counts_new : CountsNow new) (o : Opening command s old mid (Ok e)) (g : Going the_language command (memory e) o.little.done mid new r) (deeds : new.deeds ≡ mid.deeds) where
   given : (L : Language) (q : Result Said Silence) → IfOk q (SaysHistory L new) → IfOk q (λ it. (image : List ℕ) → new.may_leave image → Gives L s image it.status it.text.items)
   given L (Ok it) says = history_gives L s new it line says
   given L (Err x) says = tt
+
+  late_now : (q : Result Said Silence) → IfOk q (λ it. IsBehindSync s it.status → LateNow the_language s old new)
+  late_now (Ok it) = λ behind fit O image may. late_going the_language O s command old mid o.little.done e image new.deeds o.opened o.little.deeds o.little.silent (g.moments.each image new.deeds (counts_new mid.moment image g.moments.later may))
+  late_now (Err x) = tt
 
   no_cause : HasOtherMagic s ⊎ IsStarted s ⊎ IsNotStarted s ⊎ ((n : ℕ) × IsNoHistory the_language s n) → ⊥
   no_cause (inl why) = o.opened.causes.magic why
@@ -210,17 +241,18 @@ module _ (s : Scene) (command : kept.Command) (old mid new : World) (e : Engine)
     little = record { done = o.little.done; deeds = deeds ∙ o.little.deeds; small = o.little.small; silent = o.little.silent };
     safe = λ fit O.
         joined old mid new (SafeAt the_language O the_reports s None old) (Moment mid (KeptAt the_language command (memory e) (records mid.seen) o.little.done)) (o.safe fit O) g.moments
-        (λ c d now. late_going the_language O s command old mid o.little.done e c d o.opened o.little.deeds o.little.silent now);
+        (λ c d now. safe_late the_language O s old c d (late_going the_language O s command old mid o.little.done e c d o.opened o.little.deeds o.little.silent now));
     gives = given the_language r g.said;
+    late = late_now r;
     finished = λ st line2 is ended.
         let stays = o.resumed (which line2) in
         (both_unwritten stays (g.finished (had_outcome st is ended stays)), deeds ∙ o.finished st line2 is ended);
     refused = λ why. absurd (no_cause why);
-    reports = λ other. absurd (executing s line other);
+    writes = inr (line, accepted);
   }
 
 pub end_going : (s : Scene) (old new : World) (a b : ℕ) (f g h : Faults) (r : Result Said Silence) → SaysResult g h r → IsLineOf s (λ c. executes c ≡ true) → IsAccepted s
-    → Told old (HasNoCause the_language s × IfOk r (λ it. Gives the_language s new.seen it.status it.text.items)) → (Rose g.disk h.disk → Rose f.disk h.disk) → IsEnd s old new a b f h r
+    → Told old (HasNoCauseInFile the_language s × IfOk r (λ it. Gives the_language s new.seen it.status it.text.items)) → (Rose g.disk h.disk → Rose f.disk h.disk) → IsEnd s old new a b f h r
 end_going s old new a b f g h (Ok it) (o, result, says) line accepted gives rose =
     of_file it.status it.text.items (outcome_of_file o it.status says.status) line accepted (λ told. let x = gives told in (x.1, passed_all the_language s it.status x.0))
 end_going s old new a b f g h (Err silence.Unread) says line accepted gives rose = absurd says
@@ -238,7 +270,7 @@ lack_end : (s : Scene) (w : World) (a b : ℕ) (f g : Faults) (e : Silence) → 
 lack_end s w a b f g e is = subst (λ x. IsEnd s w w a b f g (Err x)) (sym is) tt
 
 lack_worked : (s : Scene) (w : World) (e : Silence) → OnlyNow w → Worked s w w (Err e)
-lack_worked s w e only = worked_nothing s w (Err e) (little_still w) only tt
+lack_worked s w e only = worked_nothing s w (Err e) (little_still w) only tt tt
 
 -- a report
 pub report_end : (s : Scene) (w : World) (a b : ℕ) (f g : Faults) (text : List ℕ) (r : Result Said Silence) → Reported s text → ReadsBack s text → SaysReport text r → IsEnd s w w a b f g r
@@ -246,7 +278,8 @@ report_end s w a b f g text (Ok it) report back says = end_report s w w a b f g 
 report_end s w a b f g text (Err e) report back says = lack_end s w a b f g e says
 
 pub report_worked : (s : Scene) (w : World) (text : List ℕ) (r : Result Said Silence) → Reported s text → SaysReport text r → OnlyNow w → Worked s w w r
-report_worked s w text (Ok it) report says only = worked_nothing s w (Ok it) (little_still w) only (gives_report the_language s text it report says)
+report_worked s w text (Ok it) report says only =
+    worked_nothing s w (Ok it) (little_still w) only (gives_report the_language s text it report says) (λ behind. executing s (subst (IsBehindSync s) says.0 behind) (reported_line s text report))
 report_worked s w text (Err e) report says only = lack_worked s w e only
 
 -- words that are no line
@@ -256,13 +289,13 @@ bad_line_end s w a b f g (words.BadLine n) (Err e) says bad = lack_end s w a b f
 bad_line_end s w a b f g words.OutOfMemory r says bad = subst (λ q. IsEnd s w w a b f g q) (sym says) tt
 
 pub bad_line_worked : (s : Scene) (w : World) (why : LineFault) (r : Result Said Silence) → SaysBadLine why r → ((n : ℕ) → why ≡ words.BadLine n → IsBadLine s n) → OnlyNow w → Worked s w w r
-bad_line_worked s w (words.BadLine n) (Ok it) says bad only = worked_nothing s w (Ok it) (little_still w) only (gives_bad_line the_language s n (Ok it) (bad n refl) says)
+bad_line_worked s w (words.BadLine n) (Ok it) says bad only = worked_nothing s w (Ok it) (little_still w) only (gives_bad_line the_language s n (Ok it) (bad n refl) says) (λ behind. subst (IsBehindSync s) says.status behind)
 bad_line_worked s w (words.BadLine n) (Err e) says bad only = lack_worked s w e only
 bad_line_worked s w words.OutOfMemory r says bad only = subst (λ q. Worked s w w q) (sym says) (lack_worked s w silence.OutOfMemory only)
 
 -- a source that is refused, and one that isn't read
 pub refused_worked : (s : Scene) (w : World) (why : Refusal) (it : Said) → IsRefused s why → SaysStatus (status.Refused why) it → OnlyNow w → Worked s w w (Ok it)
-refused_worked s w why it is says only = worked_nothing s w (Ok it) (little_still w) only (gives_refused the_language s why it is says)
+refused_worked s w why it is says only = worked_nothing s w (Ok it) (little_still w) only (gives_refused the_language s why it is says) (λ behind. subst (IsBehindSync s) says.status behind)
 
 pub silent_worked : (s : Scene) (w : World) (e : Silence) → OnlyNow w → Worked s w w (Err e)
 silent_worked s w e only = lack_worked s w e only

@@ -1,7 +1,7 @@
 -- What the program tells of trees and of itself.
 use Rattle.std.specs.Prelude.{ℕ, List, Option, Some, None, Result, Ok, Err}
 use Rattle.wf_engine.specs.Printed.{Reports}
-use Rattle.wf_line.specs.Help.{help, version}
+use Rattle.wf_args.specs.Help.{help, version}
 use Rattle.wf_source.specs.Sources.{read_tree}
 use Rattle.wf_status.specs.declared.Refusal.{Refusal}
 use Rattle.wf_tree.specs.Trees.{Tree}

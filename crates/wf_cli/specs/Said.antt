@@ -1,18 +1,19 @@
 -- What the code of a command has found out before it prints.
-use Rattle.std.specs.Prelude.{◌≡◌, ◌≢◌, ◌⊎◌, ℕ, true, false, List, [], ◌∷◌, ◌++◌, Contains, Some, None, Result, Ok, Err, IfOk, IfErr}
+use Rattle.std.specs.Prelude.{◌≡◌, ◌≢◌, ◌⊎◌, ℕ, true, List, [], ◌∷◌, ◌++◌, Contains, Some, None, Result, Ok, Err, IfOk, IfErr}
 use Rattle.std.specs.List.{AllByRecursion}
 use Rattle.wf_cli.specs.Reports.{the_reports}
-use Rattle.wf_cli.specs.Top.{IsAccepted, IsLineOf, HasOtherMagic, IsStarted, IsNotStarted, IsNoHistory, IsPassed, Gives, Says}
+use Rattle.wf_cli.specs.Top.{IsAccepted, IsLineOf, HasOtherMagic, IsStarted, IsNotStarted, IsNoHistory, IsPassed, HasNoCauseInFile, IsBehindSync, Gives, Says}
 use Rattle.wf_cli.specs.declared.end.Said.{Said}
 use Rattle.wf_cli.specs.declared.end.Silence.{Silence}
 use Rattle.wf_cli.specs.declared.end.Silence.TheVariants as silence
+use Rattle.wf_deeds.specs.Clauses.{IsOfSession}
 use Rattle.wf_deeds.specs.Deeds.{printed, nows, IsSmall}
 use Rattle.wf_engine.specs.Engine.{Memory, memory, StandsFor, KeptAt}
 use Rattle.wf_deeds.specs.Kept as kept
 use Rattle.wf_deeds.specs.Outside.{Outside}
 use Rattle.wf_engine.specs.Printed as end
 use Rattle.wf_engine.specs.Printed.{Scene, uses_source, executes, status_of, outcome_text}
-use Rattle.wf_engine.specs.Safe.{IsFit, SafeAt, command_by}
+use Rattle.wf_engine.specs.Safe.{IsFit, SafeAt, LateAt, command_by}
 use Rattle.wf_engine.specs.Starts.{start_of}
 use Rattle.wf_engine.specs.TheLanguage.{the_language}
 use Rattle.wf_engine.specs.declared.engine.Engine.{Engine}
@@ -27,13 +28,13 @@ use Rattle.wf_host.specs.declared.ReadFault.TheVariants as fault
 use Rattle.wf_host.specs.declared.data.Deed.{Deed}
 use Rattle.wf_journal.specs.Records.{records}
 use Rattle.wf_journal.specs.Steps.{Moment}
-use Rattle.wf_line.specs.Lines.{PlainLine, line_of}
-use Rattle.wf_line.specs.declared.command.Command.TheVariants.{Resume}
-use Rattle.wf_line.specs.declared.read.LineFault.{LineFault}
-use Rattle.wf_line.specs.declared.read.LineFault.TheVariants as words
+use Rattle.wf_args.specs.Lines.{PlainLine, line_of}
+use Rattle.wf_args.specs.declared.command.Command.TheVariants.{Resume}
+use Rattle.wf_args.specs.declared.read.LineFault.{LineFault}
+use Rattle.wf_args.specs.declared.read.LineFault.TheVariants as words
 use Rattle.wf_machine.specs.Outcome.{IsResult}
 use Rattle.wf_model.specs.Config.{Outcome, Active}
-use Rattle.wf_printing.specs.Printing.{PrintsFront, PrintsWhole, LeavesSome, TookNothing, PrintedSoFar}
+use Rattle.wf_host.specs.Printing.{PrintsFront, PrintsWhole, LeavesSome, TookNothing, PrintedSoFar}
 use Rattle.wf_replay.specs.At.{journal, next_session}
 use Rattle.wf_replay.specs.History.{Standing, history}
 use Rattle.wf_replay.specs.Language.{Language}
@@ -121,17 +122,14 @@ pub record DidLittle (old new : World) : Type 0 where
 abbrev pub SafeSince : Language → Scene → World → World → Type 0
 SafeSince L s old new = IsFit L s.found → (O : Outside) → LeavesOnly old new (SafeAt L O the_reports s None old)
 
+-- what a crash leaves now is safe as it is behind the opening's sync
+abbrev pub LateNow : Language → Scene → World → World → Type 0
+LateNow L s old new = IsFit L s.found → (O : Outside) (image : List ℕ) → new.may_leave image → LateAt L O the_reports s None old image new.deeds
+
 -- where none was found, the records are the start of the line, of the source that was read and of the clock
 abbrev pub HasStartOfLine : Scene → List Deed → List (List ℕ) → Type 0
 HasStartOfLine s done J = records s.found ≡ [] → (l : PlainLine) × (bytes : List ℕ) × end.Reads s l bytes
     × ((t : ℕ) × Contains (nows done) t × (J ≡ record_bytes (Started (start_of l bytes t)) ∷ []))
-
--- no cause of the file holds
-pub record HasNoCause (L : Language) (s : Scene) : Type 0 where
-  pub magic : ¬ HasOtherMagic s
-  pub started : ¬ IsStarted s
-  pub not_started : ¬ IsNotStarted s
-  pub history : (n : ℕ) → ¬ IsNoHistory L s n
 
 -- an engine that stands for what was found, and for the start of the line where it was begun
 pub record IsOpened (L : Language) (command : kept.Command) (s : Scene) (done : List Deed) (new : World) (e : Engine) : Type 0 where
@@ -139,9 +137,10 @@ pub record IsOpened (L : Language) (command : kept.Command) (s : Scene) (done : 
   pub number : (memory e).session ≡ next_session (journal L (records s.found))
   pub added : List (List ℕ)
   pub keeps : records new.seen ≡ records s.found ++ added
+  pub own : AllByRecursion (IsOfSession (memory e).session) added
   pub start : HasStartOfLine s done (records new.seen)
   pub is_of : command_by (line_of s.words) ≡ command
-  pub causes : HasNoCause L s
+  pub causes : HasNoCauseInFile L s
 
 -- why a file isn't opened
 abbrev pub FaultHolds : Language → Scene → EngineFault → Type 0
@@ -159,6 +158,7 @@ pub record Opening (command : kept.Command) (s : Scene) (old new : World) (r : R
   pub safe : SafeSince the_language s old new
   pub opened : IfOk r (IsOpened the_language command s little.done new)
   pub fault : IfErr r (FaultHolds the_language s)
+  pub late : IfErr r (λ f. (f ≡ engine.AlreadyStarted) ⊎ (f ≡ engine.NotStarted) → LateNow the_language s old new)
   -- what is refused or only gone on with isn't written by this
   pub refused : HasOtherMagic s ⊎ IsStarted s ⊎ IsNotStarted s ⊎ ((n : ℕ) × IsNoHistory the_language s n) → Unwritten old new
   pub resumed : command ≡ kept.Resume → Unwritten old new
@@ -194,15 +194,20 @@ IsEnd s old new reads reads2 faults faults2 (Err silence.Unread) = IsLineOf s (�
 IsEnd s old new reads reads2 faults faults2 (Err silence.DiskFault) = IsLineOf s (λ c. executes c ≡ true) × IsAccepted s × Rose faults.disk faults2.disk
 IsEnd s old new reads reads2 faults faults2 (Err silence.OutOfMemory) = Unit {0}
 
+-- the line executes, and its source isn't refused
+abbrev pub MayWrite : Scene → Type 0
+MayWrite s = IsLineOf s (λ c. executes c ≡ true) × IsAccepted s
+
 -- The work of a command, where the host tells: what a crash by then may leave is safe, the text is given for each file that one may leave now,
 -- and where nothing is to be written nothing was.
 pub record Worked (s : Scene) (old new : World) (r : Result Said Silence) : Type 0 where
   pub little : DidLittle old new
   pub safe : SafeSince the_language s old new
   pub gives : IfOk r (λ said. (image : List ℕ) → new.may_leave image → Gives the_language s image said.status said.text.items)
+  pub late : IfOk r (λ said. IsBehindSync s said.status → LateNow the_language s old new)
   pub finished : (st : Standing) → IsLineOf s (λ c. c ≡ Resume) → history the_language (records s.found) ≡ Ok st → st.config.outcome ≢ Active → Unwritten old new × (new.deeds ≡ old.deeds)
   pub refused : HasOtherMagic s ⊎ IsStarted s ⊎ IsNotStarted s ⊎ ((n : ℕ) × IsNoHistory the_language s n) → Unwritten old new
-  pub reports : IsLineOf s (λ c. executes c ≡ false) → Unwritten old new
+  pub writes : Unwritten old new ⊎ MayWrite s
 
 -- ## Printing
 -- what is printed of it

@@ -9,14 +9,15 @@ use Rattle.wf_deeds.specs.Outside.{Outside}
 use Rattle.wf_engine.specs.Printed as end
 use Rattle.wf_engine.specs.Printed.{Scene, uses_source, executes, status_of, outcome_text}
 pub use Rattle.wf_engine.specs.Printed.{IsLine, IsBadLine, IsLineOf, IsRefused, HasOtherMagic, IsStarted, IsNotStarted}
-use Rattle.wf_engine.specs.Safe.{IsFit, SafeAt}
+use Rattle.wf_engine.specs.Safe.{IsFit, SafeAt, LateAt}
 use Rattle.wf_engine.specs.TheLanguage.{the_language}
 use Rattle.wf_host.specs.Source.{IsFirst, WhereTold}
 use Rattle.wf_host.specs.World.{World, Faults, Told, LeavesOnly, Rose}
 use Rattle.wf_host.specs.declared.data.Deed.{Deed}
 use Rattle.wf_host.specs.declared.data.Deed.TheVariants.{Print}
 use Rattle.wf_journal.specs.Records.{records}
-use Rattle.wf_line.specs.declared.command.Command.TheVariants.{Format, Resume}
+use Rattle.wf_args.specs.Lines.{PlainLine}
+use Rattle.wf_args.specs.declared.command.Command.TheVariants.{Format, Resume}
 use Rattle.wf_model.specs.Config.{Outcome, Active}
 use Rattle.wf_replay.specs.History.{Standing, history}
 use Rattle.wf_replay.specs.Language.{Language}
@@ -87,12 +88,28 @@ pub record IsPassed (L : Language) (s : Scene) (st : Status) : Type 0 where
   pub not_started : rank status.NotStarted < rank st → ¬ IsNotStarted s
   pub history : (n : ℕ) → rank (status.NotAHistory n) < rank st → ¬ IsNoHistory L s n
 
+-- no cause of the file holds
+pub record HasNoCauseInFile (L : Language) (s : Scene) : Type 0 where
+  pub magic : ¬ HasOtherMagic s
+  pub started : ¬ IsStarted s
+  pub not_started : ¬ IsNotStarted s
+  pub history : (n : ℕ) → ¬ IsNoHistory L s n
+
 -- a status and its text; one that the file decides is told in the language, of the file that the call leaves
 pub data Says (s : Scene) (old new : World) : Status → List ℕ → Type 0 where
   bad_line : (n : ℕ) → IsBadLine s n → Says s old new (status.BadLine n) (line_end (codes "bad line at word " ++ decimal n))
   refused : (r : Refusal) → IsRefused s r → Says s old new (status.Refused r) (line_end (refusal_text r))
   reported : (text : List ℕ) → Reported s text → ReadsBack s text → Says s old new status.Done text
   of_file : (st : Status) (text : List ℕ) → IsOfFile st → IsLineOf s (λ c. executes c ≡ true) → IsAccepted s → Told old (Gives the_language s new.seen st text × IsPassed the_language s st) → Says s old new st text
+
+-- what the status tells was read behind the opening's sync
+abbrev pub IsBehindSync : Scene → Status → Type 0
+IsBehindSync s status.Done = IsLineOf s (λ c. executes c ≡ true)
+IsBehindSync s status.Raised = IsLineOf s (λ c. executes c ≡ true)
+IsBehindSync s status.AlreadyStarted = Unit {0}
+IsBehindSync s status.NotStarted = Unit {0}
+IsBehindSync s (status.NotAHistory n) = Unit {0}
+IsBehindSync s st = ⊥
 
 -- ## How the call ends
 module _ (x : Call) where
@@ -180,6 +197,27 @@ module _ (x : Call) where
   abbrev pub OnlyThese : Type 0
   OnlyThese = (x.status ≢ status.BadArgument) × (x.status ≢ status.PollFault) × (x.status ≢ status.Suspended)
 
+-- ## Completeness
+module _ (L : Language) (x : Call) where
+  -- no status has a cause but Done, Raised and OutOfMemory
+  pub record HasNoCause : Type 0 where
+    -- the words are a line
+    pub line : (l : PlainLine) × IsLine x.scene l
+    -- no call of the source or of the host failed, and no print took nothing
+    pub reads : ¬ Rose x.reads_old x.reads_new
+    pub disk : ¬ Rose x.faults_old.disk x.faults_new.disk
+    pub prints : ¬ Rose x.faults_old.print x.faults_new.print
+    pub took : ¬ TookNothing x
+    -- the command takes no source, or one that isn't refused
+    pub source : (r : Refusal) → ¬ IsRefused x.scene r
+    pub file : HasNoCauseInFile L x.scene
+
+  -- then the command does its work, or there is no memory
+  pub record Completes : Type 0 where
+    pub any : HasNoCause → (x.status ≡ status.Done) ⊎ (x.status ≡ status.Raised) ⊎ (x.status ≡ status.OutOfMemory)
+    pub report : HasNoCause → IsLineOf x.scene (λ c. executes c ≡ false) → (x.status ≡ status.Done) ⊎ (x.status ≡ status.OutOfMemory)
+
+module _ (x : Call) where
   -- ## What isn't written
   -- a crash leaves what one at entry may, and the file reads as it did
   abbrev pub WritesNothing : Type 0
@@ -188,6 +226,11 @@ module _ (x : Call) where
   -- a command that executes nothing doesn't write
   abbrev pub ReportsStay : Type 0
   ReportsStay = IsLineOf x.scene (λ c. executes c ≡ false) → WritesNothing
+
+  -- where the words are no line, or the source is refused, nothing is written
+  pub record SilentStays : Type 0 where
+    pub bad_line : (n : ℕ) → IsBadLine x.scene n → WritesNothing
+    pub refused : WhereTold x.scene.source ((r : Refusal) → IsRefused x.scene r → WritesNothing)
 
 module _ (L : Language) (x : Call) where
   -- a finished journal isn't written, and nothing but prints is done
@@ -207,3 +250,8 @@ module _ (L : Language) (x : Call) where
   -- and so does one behind its end
   abbrev pub SafeAtEnd : Type 0
   SafeAtEnd = IsFit L x.scene.found → (O : Outside) (image : List ℕ) → x.new.may_leave image → SafeAt L O the_reports x.scene (Some x.status) x.old image x.new.deeds
+
+  -- one of these statuses comes behind the opening's sync, and what is safe then is safe as from then on
+  abbrev pub LateAtEnd : Type 0
+  LateAtEnd = IsBehindSync x.scene x.status → IsFit L x.scene.found → (O : Outside) (image : List ℕ) → x.new.may_leave image
+      → LateAt L O the_reports x.scene (Some x.status) x.old image x.new.deeds

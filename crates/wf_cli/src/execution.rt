@@ -15,21 +15,21 @@ ghost use Rattle.wf_host.specs.Source.{Rest, IsFirst};
 ghost use Rattle.wf_host.specs.World.{NoneFell, Rose, Told};
 ghost use Rattle.wf_host.specs.declared.data.Deed.{Deed};
 ghost use Rattle.wf_journal.specs.Records.{records};
-ghost use Rattle.wf_line.specs.Lines.{line_of, word_of};
-ghost use Rattle.wf_line.specs.Plain.{plain_line};
-ghost use Rattle.wf_line.specs.declared.command.Command.TheVariants.{Run, Resume};
-ghost use Rattle.wf_line.specs.declared.option.OptionName.TheVariants.{Id};
+ghost use Rattle.wf_args.specs.Lines.{line_of, word_of};
+ghost use Rattle.wf_args.specs.Plain.{plain_line};
+ghost use Rattle.wf_args.specs.declared.command.Command.TheVariants.{Run, Resume};
+ghost use Rattle.wf_args.specs.declared.option.OptionName.TheVariants.{Id};
 ghost use Rattle.wf_source.specs.Programs.{IsSourceOf};
 
 use crate::end::{Said, Silence};
 use std::alloc::Global;
+use wf_args::Line;
 use wf_ast::Program;
 use wf_deeds::laws_of_rules;
 use wf_engine::{Engine, EngineFault};
 use wf_events::{Pairs, Start, one_spelling};
 use wf_host::{Host, Routes, Source, read_up_to};
-use wf_line::Line;
-use wf_replay::laws_of_histories;
+use wf_replay::{laws_of_histories, laws_of_moments};
 use wf_source::{SOURCE_LIMIT, each_source_is_one, laws_of_sources, read_source};
 use wf_value::{Bytes, OutOfMemory, Text};
 
@@ -100,6 +100,7 @@ fn begin<H: Host>(
 {
     each_source_is_one();
     laws_of_histories();
+    laws_of_moments();
     laws_of_rules();
     laws_of_sources();
     one_spelling();
@@ -182,6 +183,7 @@ pub(crate) fn resume<H: Host>(alloc: Global, host: &mut H) -> Result<Said, Silen
     ensures tells { (H.world host.new).tells ≡ (H.world host.old).tells }
     ensures counts { NoneFell (H.faults host.old) (H.faults host.new) }
 {
+    laws_of_rules();
     match Engine::open(alloc, host) {
         Ok(engine) => to_outcome(alloc, engine, host),
         Err(fault) => Said::of_fault(alloc, fault),

@@ -1,22 +1,20 @@
 // The top call.
 ghost use Rattle.std.specs.Prelude.{◌≡◌, ◌≤◌, ℕ, List, Ok};
 ghost use Rattle.wf_cli.specs.Calls.{called};
+ghost use Rattle.wf_cli.specs.Promises.{Promised};
 ghost use Rattle.wf_cli.specs.Said.{IsEnd, Printing, SaysBadLine, SaysReport, Tells, Worked, text_of};
-ghost use Rattle.wf_cli.specs.Top.{Ends, BadLineRow, ReadFaultRow, RefusedRow, DiskFaultRow, NotAJournalRow, AlreadyStartedRow, NotStartedRow, NotAHistoryRow, OutcomeRow, DoneRow, ComesBackRow, PrintFaultRow, OnlyThese, FinishedStays, RefusedStays, ReportsStay, SafeThroughout, SafeAtEnd};
 ghost use Rattle.wf_engine.specs.Safe.{scene};
-ghost use Rattle.wf_engine.specs.TheLanguage.{the_language};
 ghost use Rattle.wf_host.specs.World.{NoneFell, Told};
-ghost use Rattle.wf_line.specs.Lines.{line_of, words_view};
-ghost use Rattle.wf_line.specs.Plain.{plain_line};
+ghost use Rattle.wf_args.specs.Lines.{line_of, words_view};
+ghost use Rattle.wf_args.specs.Plain.{plain_line};
 
 use crate::end::{Said, Silence};
 use crate::execution::{resume, run};
 use crate::formatting::format;
 use std::alloc::Global;
+use wf_args::{Command, Line, LineFault, help_text, read_line, version_text};
 use wf_deeds::laws_of_rules;
-use wf_host::{Host, Source};
-use wf_line::{Command, Line, LineFault, help_text, read_line, version_text};
-use wf_printing::print_all;
+use wf_host::{Host, Source, print_all};
 use wf_source::laws_of_sources;
 use wf_status::Status;
 
@@ -89,46 +87,9 @@ pub fn perform<S: Source, H: Host>(
     source: &mut S,
     host: &mut H,
 ) -> Status
-    // it ends in one of these ways, and exactly that was printed
-    ensures ends { (words : List (List ℕ)) → line_of words ≡ Ok (plain_line line.now) → Ends (called words (S.left source.old) (H.world host.old) (H.world host.new)
-        (S.faults source.old) (S.faults source.new) (H.faults host.old) (H.faults host.new) result) }
-    // each status comes exactly where its cause holds, and then its line was printed whole
-    ensures read_fault { (words : List (List ℕ)) → line_of words ≡ Ok (plain_line line.now) → ReadFaultRow (called words (S.left source.old) (H.world host.old) (H.world host.new)
-        (S.faults source.old) (S.faults source.new) (H.faults host.old) (H.faults host.new) result) }
-    ensures refused { (words : List (List ℕ)) → line_of words ≡ Ok (plain_line line.now) → RefusedRow (called words (S.left source.old) (H.world host.old) (H.world host.new)
-        (S.faults source.old) (S.faults source.new) (H.faults host.old) (H.faults host.new) result) }
-    ensures disk_fault { (words : List (List ℕ)) → line_of words ≡ Ok (plain_line line.now) → DiskFaultRow (called words (S.left source.old) (H.world host.old) (H.world host.new)
-        (S.faults source.old) (S.faults source.new) (H.faults host.old) (H.faults host.new) result) }
-    ensures not_a_journal { Told (H.world host.old) ((words : List (List ℕ)) → line_of words ≡ Ok (plain_line line.now) → NotAJournalRow (called words (S.left source.old) (H.world host.old) (H.world host.new)
-        (S.faults source.old) (S.faults source.new) (H.faults host.old) (H.faults host.new) result)) }
-    ensures already_started { Told (H.world host.old) ((words : List (List ℕ)) → line_of words ≡ Ok (plain_line line.now) → AlreadyStartedRow (called words (S.left source.old) (H.world host.old) (H.world host.new)
-        (S.faults source.old) (S.faults source.new) (H.faults host.old) (H.faults host.new) result)) }
-    ensures not_started { Told (H.world host.old) ((words : List (List ℕ)) → line_of words ≡ Ok (plain_line line.now) → NotStartedRow (called words (S.left source.old) (H.world host.old) (H.world host.new)
-        (S.faults source.old) (S.faults source.new) (H.faults host.old) (H.faults host.new) result)) }
-    ensures not_a_history { Told (H.world host.old) ((words : List (List ℕ)) → line_of words ≡ Ok (plain_line line.now) → NotAHistoryRow the_language (called words (S.left source.old) (H.world host.old) (H.world host.new)
-        (S.faults source.old) (S.faults source.new) (H.faults host.old) (H.faults host.new) result)) }
-    ensures outcome { Told (H.world host.old) ((words : List (List ℕ)) → line_of words ≡ Ok (plain_line line.now) → OutcomeRow the_language (called words (S.left source.old) (H.world host.old) (H.world host.new)
-        (S.faults source.old) (S.faults source.new) (H.faults host.old) (H.faults host.new) result)) }
-    ensures done { (words : List (List ℕ)) → line_of words ≡ Ok (plain_line line.now) → DoneRow (called words (S.left source.old) (H.world host.old) (H.world host.new)
-        (S.faults source.old) (S.faults source.new) (H.faults host.old) (H.faults host.new) result) }
-    ensures comes_back { (words : List (List ℕ)) → line_of words ≡ Ok (plain_line line.now) → ComesBackRow (called words (S.left source.old) (H.world host.old) (H.world host.new)
-        (S.faults source.old) (S.faults source.new) (H.faults host.old) (H.faults host.new) result) }
-    ensures print_fault { (words : List (List ℕ)) → line_of words ≡ Ok (plain_line line.now) → PrintFaultRow (called words (S.left source.old) (H.world host.old) (H.world host.new)
-        (S.faults source.old) (S.faults source.new) (H.faults host.old) (H.faults host.new) result) }
-    ensures only { (words : List (List ℕ)) → line_of words ≡ Ok (plain_line line.now) → OnlyThese (called words (S.left source.old) (H.world host.old) (H.world host.new)
-        (S.faults source.old) (S.faults source.new) (H.faults host.old) (H.faults host.new) result) }
-    // what isn't written
-    ensures finished_stays { Told (H.world host.old) ((words : List (List ℕ)) → line_of words ≡ Ok (plain_line line.now) → FinishedStays the_language (called words (S.left source.old) (H.world host.old) (H.world host.new)
-        (S.faults source.old) (S.faults source.new) (H.faults host.old) (H.faults host.new) result)) }
-    ensures refused_stays { Told (H.world host.old) ((words : List (List ℕ)) → line_of words ≡ Ok (plain_line line.now) → RefusedStays the_language (called words (S.left source.old) (H.world host.old) (H.world host.new)
-        (S.faults source.old) (S.faults source.new) (H.faults host.old) (H.faults host.new) result)) }
-    ensures reports_stay { Told (H.world host.old) ((words : List (List ℕ)) → line_of words ≡ Ok (plain_line line.now) → ReportsStay (called words (S.left source.old) (H.world host.old) (H.world host.new)
-        (S.faults source.old) (S.faults source.new) (H.faults host.old) (H.faults host.new) result)) }
-    // killed at any moment: what a crash may leave is safe with what was done by then
-    ensures safe { Told (H.world host.old) ((words : List (List ℕ)) → line_of words ≡ Ok (plain_line line.now) → SafeThroughout the_language (called words (S.left source.old) (H.world host.old) (H.world host.new)
-        (S.faults source.old) (S.faults source.new) (H.faults host.old) (H.faults host.new) result)) }
-    ensures safe_end { Told (H.world host.old) ((words : List (List ℕ)) → line_of words ≡ Ok (plain_line line.now) → SafeAtEnd the_language (called words (S.left source.old) (H.world host.old) (H.world host.new)
-        (S.faults source.old) (S.faults source.new) (H.faults host.old) (H.faults host.new) result)) }
+    ensures promised { (words : List (List ℕ)) → line_of words ≡ Ok (plain_line line.now)
+        → Promised (called words (S.left source.old) (H.world host.old) (H.world host.new) (S.faults source.old) (S.faults source.new)
+        (H.faults host.old) (H.faults host.new) result) }
     ensures tells { (H.world host.new).tells ≡ (H.world host.old).tells }
     ensures reads { S.faults source.old ≤ S.faults source.new }
     ensures counts { NoneFell (H.faults host.old) (H.faults host.new) }
@@ -165,48 +126,8 @@ pub fn run_line<S: Source, H: Host>(
     source: &mut S,
     host: &mut H,
 ) -> Status
-    // it ends in one of these ways, and exactly that was printed
-    ensures ends { Ends (called (words_view words.now) (S.left source.old) (H.world host.old) (H.world host.new)
+    ensures promised { Promised (called (words_view words.now) (S.left source.old) (H.world host.old) (H.world host.new)
         (S.faults source.old) (S.faults source.new) (H.faults host.old) (H.faults host.new) result) }
-    // each status comes exactly where its cause holds, and then its line was printed whole
-    ensures bad_line { BadLineRow (called (words_view words.now) (S.left source.old) (H.world host.old) (H.world host.new)
-        (S.faults source.old) (S.faults source.new) (H.faults host.old) (H.faults host.new) result) }
-    ensures read_fault { ReadFaultRow (called (words_view words.now) (S.left source.old) (H.world host.old) (H.world host.new)
-        (S.faults source.old) (S.faults source.new) (H.faults host.old) (H.faults host.new) result) }
-    ensures refused { RefusedRow (called (words_view words.now) (S.left source.old) (H.world host.old) (H.world host.new)
-        (S.faults source.old) (S.faults source.new) (H.faults host.old) (H.faults host.new) result) }
-    ensures disk_fault { DiskFaultRow (called (words_view words.now) (S.left source.old) (H.world host.old) (H.world host.new)
-        (S.faults source.old) (S.faults source.new) (H.faults host.old) (H.faults host.new) result) }
-    ensures not_a_journal { Told (H.world host.old) (NotAJournalRow (called (words_view words.now) (S.left source.old) (H.world host.old) (H.world host.new)
-        (S.faults source.old) (S.faults source.new) (H.faults host.old) (H.faults host.new) result)) }
-    ensures already_started { Told (H.world host.old) (AlreadyStartedRow (called (words_view words.now) (S.left source.old) (H.world host.old) (H.world host.new)
-        (S.faults source.old) (S.faults source.new) (H.faults host.old) (H.faults host.new) result)) }
-    ensures not_started { Told (H.world host.old) (NotStartedRow (called (words_view words.now) (S.left source.old) (H.world host.old) (H.world host.new)
-        (S.faults source.old) (S.faults source.new) (H.faults host.old) (H.faults host.new) result)) }
-    ensures not_a_history { Told (H.world host.old) (NotAHistoryRow the_language (called (words_view words.now) (S.left source.old) (H.world host.old) (H.world host.new)
-        (S.faults source.old) (S.faults source.new) (H.faults host.old) (H.faults host.new) result)) }
-    ensures outcome { Told (H.world host.old) (OutcomeRow the_language (called (words_view words.now) (S.left source.old) (H.world host.old) (H.world host.new)
-        (S.faults source.old) (S.faults source.new) (H.faults host.old) (H.faults host.new) result)) }
-    ensures done { DoneRow (called (words_view words.now) (S.left source.old) (H.world host.old) (H.world host.new)
-        (S.faults source.old) (S.faults source.new) (H.faults host.old) (H.faults host.new) result) }
-    ensures comes_back { ComesBackRow (called (words_view words.now) (S.left source.old) (H.world host.old) (H.world host.new)
-        (S.faults source.old) (S.faults source.new) (H.faults host.old) (H.faults host.new) result) }
-    ensures print_fault { PrintFaultRow (called (words_view words.now) (S.left source.old) (H.world host.old) (H.world host.new)
-        (S.faults source.old) (S.faults source.new) (H.faults host.old) (H.faults host.new) result) }
-    ensures only { OnlyThese (called (words_view words.now) (S.left source.old) (H.world host.old) (H.world host.new)
-        (S.faults source.old) (S.faults source.new) (H.faults host.old) (H.faults host.new) result) }
-    // what isn't written
-    ensures finished_stays { Told (H.world host.old) (FinishedStays the_language (called (words_view words.now) (S.left source.old) (H.world host.old) (H.world host.new)
-        (S.faults source.old) (S.faults source.new) (H.faults host.old) (H.faults host.new) result)) }
-    ensures refused_stays { Told (H.world host.old) (RefusedStays the_language (called (words_view words.now) (S.left source.old) (H.world host.old) (H.world host.new)
-        (S.faults source.old) (S.faults source.new) (H.faults host.old) (H.faults host.new) result)) }
-    ensures reports_stay { Told (H.world host.old) (ReportsStay (called (words_view words.now) (S.left source.old) (H.world host.old) (H.world host.new)
-        (S.faults source.old) (S.faults source.new) (H.faults host.old) (H.faults host.new) result)) }
-    // killed at any moment: what a crash may leave is safe with what was done by then
-    ensures safe { Told (H.world host.old) (SafeThroughout the_language (called (words_view words.now) (S.left source.old) (H.world host.old) (H.world host.new)
-        (S.faults source.old) (S.faults source.new) (H.faults host.old) (H.faults host.new) result)) }
-    ensures safe_end { Told (H.world host.old) (SafeAtEnd the_language (called (words_view words.now) (S.left source.old) (H.world host.old) (H.world host.new)
-        (S.faults source.old) (S.faults source.new) (H.faults host.old) (H.faults host.new) result)) }
     ensures tells { (H.world host.new).tells ≡ (H.world host.old).tells }
     ensures reads { S.faults source.old ≤ S.faults source.new }
     ensures counts { NoneFell (H.faults host.old) (H.faults host.new) }

@@ -1,16 +1,15 @@
 -- The rules for what was handed over.
-use Rattle.std.specs.Prelude.{◌≡◌, ◌<◌, ℕ, Bool, true, false, List, [], ◌∷◌, ◌++◌, Option, Some, None}
-use Rattle.std.proofs.Common.{refl, sym, ap, arith}
+use Rattle.std.specs.Prelude.{◌≡◌, ℕ, true, false, [], ◌++◌}
+use Rattle.std.proofs.Common.{refl, sym}
 use Rattle.std.proofs.lemmas.List.{append-nil}
 use Rattle.wf_deeds.proofs.Carried.{SameAt, quiet_carried, start_carried, answers_carried, decides_carried, reply_carried, answered_carried, decided_carried}
 use Rattle.wf_deeds.proofs.Turned.{sent_too}
 use Rattle.wf_deeds.specs.Deeds.{polls}
-use Rattle.wf_deeds.specs.Kept.{Session, Kept}
-use Rattle.wf_deeds.specs.Memory.{Memory, Owed, StandsFor, session}
+use Rattle.wf_deeds.specs.Kept.{Session}
+use Rattle.wf_deeds.specs.Memory.{session}
 use Rattle.wf_deeds.specs.Outside.{Outside, Arrives}
 use Rattle.wf_deeds.specs.Rules.{HandedKeepsRules, IsBrought, with_handed}
 use Rattle.wf_deeds.specs.Steps.{HandedStands}
-use Rattle.wf_host.specs.declared.data.Deed.{Deed}
 use Rattle.wf_host.specs.declared.data.Deed.TheVariants.{Poll}
 use Rattle.wf_replay.specs.Language.{Language}
 use Rattle.wf_shared.specs.Events as plain

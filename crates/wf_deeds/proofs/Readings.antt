@@ -5,7 +5,8 @@ use Rattle.std.proofs.lemmas.List.Elements.{All-append, All-cons, All-nil}
 use Rattle.wf_deeds.proofs.Splits.{split_of_more}
 use Rattle.wf_deeds.specs.Deeds.{polls, reading_by}
 use Rattle.wf_deeds.specs.Kept.{Place, own, reading, last_of}
-use Rattle.wf_deeds.specs.Laws.{with_record, TurnKeepsReadings}
+use Rattle.wf_deeds.specs.Laws.{TurnKeepsReadings}
+use Rattle.wf_deeds.specs.Rules.{with_record}
 use Rattle.wf_replay.specs.At.{journal, config_before, session_turns}
 use Rattle.wf_replay.specs.Moments.{with_turn_more, TurnIsAdded, SessionBeforeStays, TurnIsOfItsSession}
 use Rattle.wf_shared.specs.Events.{Event, Turn}

@@ -98,22 +98,12 @@ brought_at L O x (g ∷ es) (f ∷ front) back e brought is = inr (own_at L O x 
 pub turn_keeps_rules : Journals → TurnKeepsRules
 turn_keeps_rules laws L O x payload j t kept none is_j means may =
     let y = with_record x payload in
-    let added = laws.added L x.payloads payload j t is_j means in
-    let own_is : own L O y ≡ own L O x ++ t ∷ [] =
-    ap (λ o. session_turns o x.number) added
-    ∙ ap (λ n. session_turns (Some (with_turn_more j t)) n) (sym may.session)
-    ∙ laws.of_its j t
-    ∙ ap (λ n. session_turns (Some j) n ++ t ∷ []) may.session
-    ∙ ap (λ o. session_turns o x.number ++ t ∷ []) (sym is_j) in
-    let before_is : config_before (journal L y.payloads) x.number ≡ config_before (journal L x.payloads) x.number =
-    ap (λ o. config_before o x.number) added ∙ laws.before j t x.number (omega (arith, may.session)) ∙ ap (λ o. config_before o x.number) (sym is_j) in
+    let own_is : own L O y ≡ own L O x ++ t ∷ [] = own_more laws L O x payload j t is_j means may.session may.waits in
+    let before_is : config_before (journal L y.payloads) x.number ≡ config_before (journal L x.payloads) x.number = before_stays laws L O x payload j t is_j means may.session may.waits in
     let reading_is : (w : ℕ) → reading L O y w ≡ reading L O x w = λ w. ap (λ c. reading_by (last_of c) x.deeds w) before_is in
-    let config_is : (w : ℕ) → w < polls x.deeds → config L O y w ≡ config L O x w = λ w lt.
-    ap (λ o. config_at o x.number w) added
-    ∙ laws.moment j t x.number w (stands_behind x.number w t may.session (omega (arith, lt, may.waits)))
-    ∙ ap (λ o. config_at o x.number w) (sym is_j) in
+    let config_is : (w : ℕ) → w < polls x.deeds → config L O y w ≡ config L O x w = config_stays laws L O x payload j t is_j means may.session may.waits in
     let same : (w : ℕ) → w < polls x.deeds → SameAt L O x y w = λ w lt. record { config = config_is w lt; reading = reading_is w } in
-    let stand : (w : ℕ) (e : Event) → StandsFirst (own L O x) w e → StandsFirst (own L O y) w e = λ w e s. subst (λ ts. StandsFirst ts w e) (sym own_is) (first_more (own L O x) (t ∷ []) w e s) in
+    let stand : (w : ℕ) (e : Event) → StandsFirst (own L O x) w e → StandsFirst (own L O y) w e = first_stays laws L O x payload j t is_j means may.session may.waits in
     let ahead : (before behind : List Deed) (until : ℕ) (h : Heard) → Comes L O x before (Poll until h) behind → polls before < polls x.deeds = λ before behind until h comes. omega (arith, ap polls comes, polls-append before (Poll until h ∷ behind)) in
     let nil : x.deeds ≡ x.deeds ++ [] = sym (append-nil x.deeds) in
     record {

@@ -1,14 +1,17 @@
 -- The clauses of an engine's calls, over its memory and the host before and behind a call.
 --     Went            the engine stands for each list for which it stood, with the call's own deeds
+--     IsOfSession     a record that is no turn of another session
 --     KeptAt          a moment of a call: a history under the rules
 --     AddsTurn, SendsOpen, Takes, Sessions    what the calls do besides
 use Rattle.std.specs.Prelude.{◌≡◌, ◌≢◌, ◌⊎◌, ◌≤◌, ◌&&◌, ℕ, zero, suc, Bool, true, false, not, IsTrue, is_some, if◌then◌else◌, List, [], ◌∷◌, ◌++◌, length, Option, Some, None}
+use Rattle.std.specs.List.{AllByRecursion}
 use Rattle.wf_deeds.specs.Deeds.{polls, printed}
 use Rattle.wf_deeds.specs.Kept.{Command, Kept, Resume}
 use Rattle.wf_deeds.specs.Memory.{Owed, Memory, IsSettled, AllIsSent, StandsFor, session}
 use Rattle.wf_deeds.specs.Outside.{Outside, code_of}
 use Rattle.wf_deeds.specs.Steps.{MayWait}
 use Rattle.wf_deeds.specs.Turns.{turn_of}
+use Rattle.wf_events.specs.Reading.{meaning}
 use Rattle.wf_events.specs.Records.{Turned}
 use Rattle.wf_events.specs.Spelling.{record_bytes}
 use Rattle.wf_host.specs.World.{World, LeavesOnly}
@@ -22,14 +25,19 @@ use Rattle.wf_model.specs.Config.{Call, TimedOut, Active}
 use Rattle.wf_model.specs.Ready.{call, quiet, request_of}
 use Rattle.wf_replay.specs.Language.{Language}
 use Rattle.wf_replay.specs.Laws.{IsHistory}
-use Rattle.wf_shared.specs.Events.{Event}
+use Rattle.wf_shared.specs.Events.{Event, Turn}
 use Rattle.wf_shared.specs.HttpText.{reply_bytes}
 
 -- ## Moments
+-- a turn that the record means is of this session
+abbrev pub IsOfSession : ℕ → List ℕ → Type 0
+IsOfSession number payload = (t : Turn) → meaning payload ≡ Some (Turned t) → t.session ≡ number
+
 -- at a moment of a call: a history that goes on from the records before, under the rules, with the deeds of the call behind those before
 pub record KeptAt (L : Language) (O : Outside) (command : Command) (handed : Bool) (m : Memory) (before : List (List ℕ)) (D : List Deed) (J : List (List ℕ)) (E : List Deed) : Type 0 where
   pub added : List (List ℕ)
   pub records : J ≡ before ++ added
+  pub own : AllByRecursion (IsOfSession m.session) added
   pub history : IsHistory L J
   pub kept : Kept L O (session command handed m J (D ++ E))
   -- nothing was printed
@@ -125,7 +133,8 @@ pub record Opened (L : Language) (O : Outside) (m : Memory) (old new : World) : 
   pub clock : ((m.config.outcome ≢ Active) × (done ≡ [])) ⊎ ((m.config.outcome ≡ Active) × ((t : ℕ) × (done ≡ Now t ∷ [])))
 
 -- ## The law of moments
--- with deeds that print nothing, behind the records before, what an engine stands for is kept
+-- with turns of the session and deeds that print nothing, behind the records before, what an engine stands for is kept
 abbrev pub StandsIsKept : Type 0
 StandsIsKept = (L : Language) (O : Outside) (command : Command) (handed : Bool) (m n : Memory) (before added : List (List ℕ)) (D E : List Deed)
-    → StandsFor L O command handed n (before ++ added) (D ++ E) → n.session ≡ m.session → printed E ≡ [] → KeptAt L O command handed m before D (before ++ added) E
+    → StandsFor L O command handed n (before ++ added) (D ++ E) → n.session ≡ m.session → AllByRecursion (IsOfSession m.session) added → printed E ≡ []
+    → KeptAt L O command handed m before D (before ++ added) E

@@ -1,9 +1,10 @@
 -- Laws of the rules on deeds, as they stand in the contract of `laws_of_rules`.
-use Rattle.std.specs.Prelude.{◌≡◌, ◌≢◌, ◌≤◌, ℕ, List, [], ◌∷◌, ◌++◌, length, Some}
+use Rattle.std.specs.Prelude.{◌≡◌, ◌≢◌, ◌≤◌, ℕ, List, ◌∷◌, ◌++◌, length, Some}
 use Rattle.std.specs.List.{AllByRecursion}
 use Rattle.wf_deeds.specs.Deeds.{polls, nows, IsSmall}
 use Rattle.wf_deeds.specs.Kept.{Session, Kept, ReadingsAreOfTheClock, reading, reading_of}
 use Rattle.wf_deeds.specs.Outside.{Outside}
+use Rattle.wf_deeds.specs.Rules.{with_record}
 use Rattle.wf_events.specs.Reading.{meaning}
 use Rattle.wf_events.specs.Records.{Turned}
 use Rattle.wf_replay.specs.At.{Journal, journal}
@@ -13,10 +14,6 @@ use Rattle.wf_shared.specs.Events.{Event, Turn}
 -- where nothing was sent or awaited, only the rule on readings asks something
 abbrev pub OnlyReadings : Type 0
 OnlyReadings = (L : Language) (O : Outside) (x : Session) → AllByRecursion IsSmall x.deeds → x.end ≢ Some 13 → ReadingsAreOfTheClock L O x → Kept L O x
-
--- a session with a record more
-abbrev pub with_record : Session → List ℕ → Session
-with_record x payload = record { payloads = x.payloads ++ payload ∷ []; number = x.number; deeds = x.deeds; command = x.command; end = x.end; handed = x.handed }
 
 -- each reading of the turn is the greatest that was read by its waits
 abbrev pub TakesReadings : Language → Outside → Session → Turn → Type 0

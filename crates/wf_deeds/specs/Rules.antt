@@ -21,19 +21,19 @@ use Rattle.wf_shared.specs.Events.{Event, Turn}
 
 -- a session with a deed more
 abbrev pub with_deed : Session → Deed → Session
-with_deed x d = record { payloads = x.payloads; number = x.number; deeds = x.deeds ++ d ∷ []; command = x.command; end = x.end; handed = x.handed }
+with_deed x d = record x { deeds = x.deeds ++ d ∷ [] }
 
 -- with a record more
 abbrev pub with_record : Session → List ℕ → Session
-with_record x payload = record { payloads = x.payloads ++ payload ∷ []; number = x.number; deeds = x.deeds; command = x.command; end = x.end; handed = x.handed }
+with_record x payload = record x { payloads = x.payloads ++ payload ∷ [] }
 
 -- and ended
 abbrev pub with_end : Session → ℕ → Session
-with_end x status = record { payloads = x.payloads; number = x.number; deeds = x.deeds; command = x.command; end = Some status; handed = x.handed }
+with_end x status = record x { end = Some status }
 
 -- to which what it heard was handed
 abbrev pub with_handed : Session → Session
-with_handed x = record { payloads = x.payloads; number = x.number; deeds = x.deeds; command = x.command; end = x.end; handed = true }
+with_handed x = record x { handed = true }
 
 module _ (L : Language) (O : Outside) (x : Session) where
   -- ## What is to be done before the session goes on

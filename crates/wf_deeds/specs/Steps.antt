@@ -13,7 +13,7 @@ use Rattle.wf_events.specs.Records.{Turned}
 use Rattle.wf_events.specs.View.{address_view}
 use Rattle.wf_host.specs.declared.data.Address.{Address}
 use Rattle.wf_host.specs.declared.data.Deed.{Deed}
-use Rattle.wf_host.specs.declared.data.Deed.TheVariants.{Start, Poll, Now, Reply, Drop, Print}
+use Rattle.wf_host.specs.declared.data.Deed.TheVariants.{Start, Poll, Reply, Drop}
 use Rattle.wf_host.specs.declared.data.Heard.{Heard}
 use Rattle.wf_model.specs.Config.{TimedOut, Config, Active, To}
 use Rattle.wf_model.specs.Ready.{call, least_due, quiet, request_of}

@@ -5,6 +5,7 @@ use Rattle.std.proofs.Common.{◌*◌, refl, sym, ◌∙◌, ap, subst, arith, l
 use Rattle.std.proofs.lemmas.Bool.{and_from, eq-eqb, eqb-true, le-leb, or_right}
 use Rattle.std.proofs.lemmas.List.{append-nil, length-map, nil_from_length}
 use Rattle.std.proofs.lemmas.List.Concat.{flat_map-cons}
+use Rattle.wf_deeds.specs.Clauses.{IsOfSession}
 use Rattle.wf_deeds.specs.Deeds.{nows, reading_by}
 use Rattle.wf_engine.specs.Engine.{Memory, LeadsTo, StandsFor, KeptAt, session, turn_records}
 use Rattle.wf_deeds.specs.Kept.{Command, Kept, last_of}
@@ -164,14 +165,23 @@ same_program L command m n J D program s number reading =
     (subst (λ r. StandsFor L command (record { program = m.program; config = n.config; session = m.session; reading = r }) J D) (sym reading) s))
 
 -- ## Moments
-pub kept_now : (L : Language) (command : Command) (m : Memory) (J K added : List (List ℕ)) (D : List Deed) (c : Config) → StandsFor L command (after m c) K D → K ≡ J ++ added → KeptAt L command m J D K []
-kept_now L command m J K added D c s is = record {
+pub kept_now : (L : Language) (command : Command) (m : Memory) (J K added : List (List ℕ)) (D : List Deed) (c : Config) → StandsFor L command (after m c) K D → K ≡ J ++ added → AllByRecursion (IsOfSession m.session) added
+    → KeptAt L command m J D K []
+kept_now L command m J K added D c s is own = record {
   added = added;
   records = is;
+  own = own;
   history = (s.leads.standing, s.leads.history);
   kept = λ O. subst (λ E. Kept L O (session command m K E)) (sym (append-nil D)) (s.kept O);
   silent = refl;
 }
+
+-- the record of a turn of the session
+pub turn_is_own : Laws → (number : ℕ) (es : List Event) → HasSpelling (Turned (turn_by number es)) → AllByRecursion IsMove es → IsOfSession number (payload_by number es)
+turn_is_own laws number es spelled moves u means =
+    let two : Some (Turned (turn_by number es)) ≡ Some (Turned u) = sym (laws.again (Turned (turn_by number es)) spelled moves) ∙ means in
+    let same : turn_by number es ≡ u = cc two in
+    ap (λ (t : Turn). t.session) (sym same)
 
 -- records that a session stands on aren't none
 pub some_records : (L : Language) (J : List (List ℕ)) (m : Memory) → LeadsTo L J m → J ≢ []

@@ -5,6 +5,7 @@
 use Rattle.std.specs.Prelude.{◌≡◌, ◌≢◌, ◌⊎◌, ◌≤◌, ℕ, Bool, IsTrue, List, [], ◌∷◌, ◌++◌, length, None, Ok, false}
 use Rattle.std.specs.List.{AllByRecursion}
 use Rattle.wf_ast.specs.Tree.{Program}
+use Rattle.wf_deeds.specs.Clauses.{IsOfSession}
 use Rattle.wf_deeds.specs.Deeds.{nows, printed, reading_by, IsSmall}
 use Rattle.wf_deeds.specs.Kept.{Command, Resume, Session, Kept, last_of}
 use Rattle.wf_deeds.specs.Outside.{Outside}
@@ -76,6 +77,8 @@ pub record StandsFor (L : Language) (command : Command) (m : Memory) (J : List (
 pub record KeptAt (L : Language) (command : Command) (m : Memory) (before : List (List ℕ)) (D : List Deed) (J : List (List ℕ)) (E : List Deed) : Type 0 where
   pub added : List (List ℕ)
   pub records : J ≡ before ++ added
+  -- each turn among them is of the session
+  pub own : AllByRecursion (IsOfSession m.session) added
   pub history : IsHistory L J
   pub kept : (O : Outside) → Kept L O (session command m J (D ++ E))
   -- nothing was printed

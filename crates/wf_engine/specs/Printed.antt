@@ -4,9 +4,9 @@
 use Rattle.std.specs.Prelude.{◌≡◌, ◌≢◌, ◌≤◌, ℕ, Bool, true, false, List, [], ◌++◌, length, take, Option, Some, None, Ok, Err, codes, decimal}
 use Rattle.wf_host.specs.Source.{Rest, IsFirst}
 use Rattle.wf_journal.specs.Records.{magic, records}
-use Rattle.wf_line.specs.Lines.{PlainLine, line_of}
-use Rattle.wf_line.specs.declared.command.Command.{Command}
-use Rattle.wf_line.specs.declared.command.Command.TheVariants.{Format, Run, Resume, Help, Version}
+use Rattle.wf_args.specs.Lines.{PlainLine, line_of}
+use Rattle.wf_args.specs.declared.command.Command.{Command}
+use Rattle.wf_args.specs.declared.command.Command.TheVariants.{Format, Run, Resume, Help, Version}
 use Rattle.wf_model.specs.Config.{Outcome, Active, Returned, Raised, Cancelled}
 use Rattle.wf_replay.specs.History.{Standing, history}
 use Rattle.wf_replay.specs.Language.{Language}

@@ -1,8 +1,10 @@
 -- What a crash at a moment of a command may leave, and what was done by then.
---     Safe      five facts of a pair of an image and the deeds of the command
+--     Safe      six facts of a pair of an image and the deeds of the command
 --     SafeAt    the same over a host
+--     LateAt    behind the opening's sync
 use Rattle.std.specs.Prelude.{◌≡◌, ◌⊎◌, ◌≤◌, ℕ, List, [], ◌∷◌, ◌++◌, length, take, Contains, Option, option_map, Result, Ok, Err, false}
 use Rattle.std.specs.List.{AllByRecursion}
+use Rattle.wf_deeds.specs.Clauses.{IsOfSession}
 use Rattle.wf_deeds.specs.Deeds.{printed, nows, IsSmall}
 use Rattle.wf_deeds.specs.Kept as kept
 use Rattle.wf_deeds.specs.Kept.{Session, Kept}
@@ -15,9 +17,9 @@ use Rattle.wf_host.specs.Source.{Rest}
 use Rattle.wf_host.specs.World.{World}
 use Rattle.wf_host.specs.declared.data.Deed.{Deed}
 use Rattle.wf_journal.specs.Records.{magic, records}
-use Rattle.wf_line.specs.Lines.{PlainLine, line_of}
-use Rattle.wf_line.specs.declared.command.Command as line
-use Rattle.wf_line.specs.declared.command.Command.TheVariants.{Run}
+use Rattle.wf_args.specs.Lines.{PlainLine, line_of}
+use Rattle.wf_args.specs.declared.command.Command as line
+use Rattle.wf_args.specs.declared.command.Command.TheVariants.{Run}
 use Rattle.wf_replay.specs.At.{journal, next_session}
 use Rattle.wf_replay.specs.History.{Standing, history}
 use Rattle.wf_replay.specs.Language.{Language}
@@ -57,6 +59,11 @@ module _ (L : Language) (O : Outside) (R : Reports) (s : Scene) (end : Option St
   abbrev pub ImageKeepsRecords : List ℕ → Type 0
   ImageKeepsRecords image = (added : List (List ℕ)) × (records image ≡ records s.found ++ added)
 
+  -- each turn behind them is of this command's session
+  abbrev pub AddedTurnsAreOwn : List ℕ → Type 0
+  AddedTurnsAreOwn image = (added : List (List ℕ)) → records image ≡ records s.found ++ added
+      → AllByRecursion (IsOfSession (next_session (journal L (records s.found)))) added
+
   -- a first record that this command added is the start of its line, of the source and of the clock
   abbrev pub StartIsOfTheLine : List ℕ → List Deed → Type 0
   StartIsOfTheLine image D = (first : List ℕ) (rest : List (List ℕ)) → records s.found ≡ [] → records image ≡ first ∷ rest
@@ -66,9 +73,10 @@ module _ (L : Language) (O : Outside) (R : Reports) (s : Scene) (end : Option St
   abbrev pub PrintedIsOutcome : List ℕ → List Deed → Type 0
   PrintedIsOutcome image D = (printed D ≡ []) ⊎ ((st : Status) × (text : List ℕ) × Gives L R s image st text × IsPrefix (printed D) text)
 
-  -- before the opening's sync: nothing is sent, and the image is one that a crash at entry might leave
+  -- before the opening's sync: nothing is sent, the clock is read at most once, and the image is one that a crash at entry might leave
   pub record IsEarly (entry : List ℕ → Type 0) (image : List ℕ) (D : List Deed) : Type 0 where
     pub small : AllByRecursion IsSmall D
+    pub clock : length (nows D) ≤ 1
     pub at_entry : entry image
     pub printed : PrintedIsOutcome image D
 
@@ -76,6 +84,7 @@ module _ (L : Language) (O : Outside) (R : Reports) (s : Scene) (end : Option St
   pub record IsLate (image : List ℕ) (D : List Deed) : Type 0 where
     pub history : IsFit L image
     pub keeps : ImageKeepsRecords image
+    pub own : AddedTurnsAreOwn image
     pub start : StartIsOfTheLine image D
     pub deeds : Kept L O (session image D)
     pub printed : PrintedIsOutcome image D
@@ -95,3 +104,7 @@ Since old all P = (D : List Deed) × (all ≡ old.deeds ++ D) × P D
 -- a pair of an image and the deeds by then, of a moment of a command, is safe
 abbrev pub SafeAt : Language → Outside → Reports → Scene → Option Status → World → List ℕ → List Deed → Type 0
 SafeAt L O R s end old image all = Since old all (λ D. Safe L O R s end old.may_leave image D)
+
+-- and it is one behind the opening's sync
+abbrev pub LateAt : Language → Outside → Reports → Scene → Option Status → World → List ℕ → List Deed → Type 0
+LateAt L O R s end old image all = Since old all (λ D. IsLate L O R s end image D)

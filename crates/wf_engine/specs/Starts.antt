@@ -1,7 +1,7 @@
 -- What a `run` starts an execution with.
 use Rattle.std.specs.Prelude.{ℕ, List, [], ◌∷◌, unwrap_or, codes, decimal}
-use Rattle.wf_line.specs.Lines.{PlainLine, word_of}
-use Rattle.wf_line.specs.declared.option.OptionName.TheVariants.{Id}
+use Rattle.wf_args.specs.Lines.{PlainLine, word_of}
+use Rattle.wf_args.specs.declared.option.OptionName.TheVariants.{Id}
 use Rattle.wf_shared.specs.Events.{Start}
 
 -- the line's id, or else `w` and the first reading; no argument, and no routes, environment and address for callbacks yet

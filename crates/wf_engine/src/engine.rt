@@ -45,7 +45,7 @@ impl Engine {
     ghost use Rattle.wf_events.specs.View.{start_view};
     ghost use Rattle.wf_history.specs.Stands as history;
     ghost use Rattle.wf_history.specs.Stands.{HasNoneOrThis};
-    ghost use Rattle.wf_host.specs.World.{World, Told, LeavesOnly, NoneFell, Rose};
+    ghost use Rattle.wf_host.specs.World.{World, Told, LeavesOnly, NoneFell, Only, Rose};
     ghost use Rattle.wf_host.specs.declared.data.Deed.{Deed};
     ghost use Rattle.wf_host.specs.declared.data.Deed.TheVariants.{Now};
     ghost use Rattle.wf_journal.specs.Records.{magic, records};
@@ -88,6 +88,8 @@ impl Engine {
         ensures a_journal { Told (H.world host.old) (OnOk result ((length (H.world host.old).seen ≤ 4) ⊎ (take 4 (H.world host.old).seen ≡ magic))) }
         ensures already_started { Told (H.world host.old) (IsErrOf result EngineFault.AlreadyStarted
             → (records (H.world host.old).seen ≢ []) × ((length (H.world host.old).seen ≤ 4) ⊎ (take 4 (H.world host.old).seen ≡ magic))) }
+        // what was found was read behind the opening's sync
+        ensures settled { Told (H.world host.old) (IsErrOf result EngineFault.AlreadyStarted → Only (H.world host.new).seen (H.world host.new).may_leave) }
         ensures fresh { Told (H.world host.old) (OnOk result (records (H.world host.old).seen ≡ [])) }
         ensures only { IfErr result (λ e. (e ≡ EngineFault.DiskFault) ⊎ (e ≡ EngineFault.NotAJournal) ⊎ (e ≡ EngineFault.AlreadyStarted) ⊎ (e ≡ EngineFault.OutOfMemory)) }
         ensures deeds { Told (H.world host.old) ((H.world host.new).deeds ≡ (H.world host.old).deeds) }
@@ -130,6 +132,8 @@ impl Engine {
         ensures not_a_journal { Told (H.world host.old) (IsErrOf result EngineFault.NotAJournal → (5 ≤ length (H.world host.old).seen) × (take 4 (H.world host.old).seen ≢ magic)) }
         ensures not_started { Told (H.world host.old) (IsErrOf result EngineFault.NotStarted
             → (records (H.world host.old).seen ≡ []) × ((length (H.world host.old).seen ≤ 4) ⊎ (take 4 (H.world host.old).seen ≡ magic))) }
+        // what was found was read behind the opening's sync
+        ensures settled { Told (H.world host.old) (IsErrOf result EngineFault.NotStarted → Only (H.world host.new).seen (H.world host.new).may_leave) }
         ensures not_a_history { Told (H.world host.old) (IfErr result (λ e. (n : ℕ) → e ≡ EngineFault.NotAHistory n
             → (history_of the_language (records (H.world host.old).seen) ≡ Err n) × (records (H.world host.old).seen ≢ []) × (take 4 (H.world host.old).seen ≡ magic))) }
         ensures only { IfErr result (λ e. (e ≡ EngineFault.DiskFault) ⊎ (e ≡ EngineFault.NotAJournal) ⊎ (e ≡ EngineFault.NotStarted) ⊎ ((n : ℕ) × (e ≡ EngineFault.NotAHistory n)) ⊎ (e ≡ EngineFault.OutOfMemory)) }
@@ -177,6 +181,7 @@ impl Engine {
         ensures disk_fault { IsErrOf result EngineFault.DiskFault → Rose (H.faults host.old).disk (H.faults host.new).disk }
         ensures closed { IsErrOf result EngineFault.Closed ↔ (is_closed self.old ≡ true) }
         ensures closes { OnErr result (is_closed self.new ≡ true) }
+        ensures idle { IsErrOf result EngineFault.Closed → (self.new ≡ self.old) × (host.new ≡ host.old) }
         ensures open { OnOk result (is_closed self.new ≡ false) }
         ensures only { IfErr result (λ e. (e ≡ EngineFault.DiskFault) ⊎ (e ≡ EngineFault.Closed) ⊎ (e ≡ EngineFault.OutOfMemory)) }
         ensures deeds { Told (H.world host.old) ((H.world host.new).deeds ≡ (H.world host.old).deeds) }
@@ -222,6 +227,7 @@ impl Engine {
         ensures disk_fault { IsErrOf result EngineFault.DiskFault → Rose (H.faults host.old).disk (H.faults host.new).disk }
         ensures closed { IsErrOf result EngineFault.Closed ↔ (is_closed self.old ≡ true) }
         ensures closes { OnErr result (is_closed self.new ≡ true) }
+        ensures idle { IsErrOf result EngineFault.Closed → (self.new ≡ self.old) × (host.new ≡ host.old) }
         ensures open { OnOk result (is_closed self.new ≡ false) }
         ensures only { IfErr result (λ e. (e ≡ EngineFault.DiskFault) ⊎ (e ≡ EngineFault.Closed) ⊎ (e ≡ EngineFault.OutOfMemory)) }
         ensures deeds { Told (H.world host.old) ((H.world host.new).deeds ≡ (H.world host.old).deeds) }

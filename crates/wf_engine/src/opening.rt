@@ -39,6 +39,7 @@ pub(crate) fn empty_history<H: Host>(alloc: Global, host: &mut H) -> Result<Hist
     ensures not_a_journal { Told (H.world host.old) (IsErrOf result EngineFault.NotAJournal → (5 ≤ length (H.world host.old).seen) × (take 4 (H.world host.old).seen ≢ magic)) }
     ensures a_journal { Told (H.world host.old) (OnOk result (IsJournal (H.world host.old).seen)) }
     ensures already_started { Told (H.world host.old) (IsErrOf result EngineFault.AlreadyStarted → (records (H.world host.old).seen ≢ []) × IsJournal (H.world host.old).seen) }
+    ensures settled { Told (H.world host.old) (IsErrOf result EngineFault.AlreadyStarted → Only (H.world host.new).seen (H.world host.new).may_leave) }
     ensures only { IfErr result (λ e. (e ≡ EngineFault.DiskFault) ⊎ (e ≡ EngineFault.NotAJournal) ⊎ (e ≡ EngineFault.AlreadyStarted) ⊎ (e ≡ EngineFault.OutOfMemory)) }
     ensures deeds { Told (H.world host.old) ((H.world host.new).deeds ≡ (H.world host.old).deeds) }
     ensures tells { (H.world host.new).tells ≡ (H.world host.old).tells }

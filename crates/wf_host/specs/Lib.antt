@@ -1,5 +1,6 @@
 pub mod World
 pub mod Moments
+pub mod Printing
 pub mod Source
 pub mod MemSource
 pub mod FileSource

@@ -54,7 +54,6 @@ pub enum What {
 }
 
 /// What was done outside the disk, in the order in which it was begun.
-#[derive(Drop)]
 pub enum Deed {
     /// A call of this number was started, to this address and with these bytes.
     Start(u64, Address, Bytes),
@@ -68,6 +67,16 @@ pub enum Deed {
     Drop(u64),
     /// These bytes were taken for printing.
     Print(Bytes),
+}
+
+// Written, and not derived: it is one call wherever a deed is let go.
+impl Drop for Deed {
+    fn drop(self) {
+        match self {
+            Deed::Start(_, _, _) | Deed::Poll(_, _) | Deed::Now(_) => {}
+            Deed::Reply(_, _) | Deed::Drop(_) | Deed::Print(_) => {}
+        }
+    }
 }
 
 /// Where calls are sent in place of the hosts that they name: pairs of a host's text and an address, in the order in

@@ -17,7 +17,6 @@ pub(crate) struct JournalFile {
 }
 
 /// How far a journal is opened.
-#[derive(Drop)]
 enum State {
     /// No call came yet.
     Unopened,
@@ -31,6 +30,16 @@ enum State {
     Held,
     /// The file can't be opened.
     Broken,
+}
+
+// Written, and not derived: it is one call wherever a state is let go.
+impl Drop for State {
+    fn drop(self) {
+        match self {
+            State::Open(_) | State::ReadOnly(_) => {}
+            State::Unopened | State::Missing | State::Held | State::Broken => {}
+        }
+    }
 }
 
 impl JournalFile {

@@ -107,7 +107,8 @@ impl Journal {
         self.closed
     }
 
-    /// Lends the next payload from the room, which grows as needed and loses what it held, or nothing at the first gate that isn't open.
+    /// Lends the next payload from the room, or nothing at the first gate that isn't open. The room loses what it held, grows a piece at a
+    /// time as the payload is read, and holds just the payload that is lent.
     ///
     /// The error is `DiskFault` where a disk call failed, and then the journal is closed; `Closed` exactly where it was closed before; or
     /// `OutOfMemory` where the room couldn't grow, and then the same payload still comes next. Reading ends over any host: `unread` falls.

@@ -1,5 +1,5 @@
 // The reads of the journal.
-ghost use Rattle.std.specs.Prelude.{◌≡◌, ◌≤◌, ◌<◌, ◌+◌, [], true, false, length, take, drop, IfOk, OnOk, OnErr, IsErrOf};
+ghost use Rattle.std.specs.Prelude.{◌≡◌, ◌≤◌, ◌<◌, ◌+◌, ◌++◌, ◌^◌, [], true, false, length, vec_len, take, drop, IfOk, OnOk, OnErr, IsErrOf};
 ghost use Rattle.wf_host.specs.World.{longest, Told, Same, Only, Elapses, LeavesOnly, NoneFell, Rose};
 ghost use Rattle.wf_journal.specs.Journal.{Stays};
 ghost use Rattle.wf_journal.specs.Reading.{IsBlock, BlockFits, IsHead, SaysHead, FitsIn};
@@ -7,6 +7,9 @@ ghost use Rattle.wf_journal.specs.Reading.{IsBlock, BlockFits, IsHead, SaysHead,
 use crate::JournalFault;
 use std::alloc::AllocError;
 use wf_host::{Failed, Host};
+
+/// A payload is read in pieces of at most this many bytes.
+const PIECE: usize = 65_536;
 
 /// What stands at a gate.
 #[derive(Clone, Copy)]
@@ -50,14 +53,45 @@ pub(crate) fn read_head<H: Host>(host: &mut H, gate: u64, size: u64) -> Result<H
     Ok(head_of(&bytes, gate, size))
 }
 
-/// Reads a payload. False is told only by a host that doesn't tell its meanings.
+/// Reads this many bytes behind those that the room holds. False is told only by a host that doesn't tell its meanings.
+fn read_piece<H: Host>(
+    host: &mut H,
+    at: u64,
+    count: usize,
+    room: &mut Vec<u8>,
+) -> Result<bool, JournalFault>
+    requires most { at ≤ longest }
+    requires short { vec_len room.old + count < 2 ^ 32 }
+    requires inside { Told (H.world host.old) (at + count ≤ length (H.world host.old).seen) }
+    requires settled { Told (H.world host.old) (Only (H.world host.old).seen (H.world host.old).may_leave) }
+    ensures piece { Told (H.world host.old) (IfOk result (λ b. (b ≡ true) × (room.new.items ≡ room.old.items ++ take count (drop at (H.world host.old).seen)))) }
+    ensures longer { OnOk result (vec_len room.new ≡ vec_len room.old + count) }
+    ensures seen { Told (H.world host.old) ((H.world host.new).seen ≡ (H.world host.old).seen) }
+    ensures settled { Told (H.world host.old) (Only (H.world host.old).seen (H.world host.new).may_leave) }
+    ensures any_moment { Told (H.world host.old) (LeavesOnly (H.world host.old) (H.world host.new) (Stays (H.world host.old))) }
+    ensures deeds { Told (H.world host.old) ((H.world host.new).deeds ≡ (H.world host.old).deeds) }
+    ensures tells { (H.world host.new).tells ≡ (H.world host.old).tells }
+    ensures counts { NoneFell (H.faults host.old) (H.faults host.new) }
+    ensures disk_fault { IsErrOf result JournalFault.DiskFault → Rose (H.faults host.old).disk (H.faults host.new).disk }
+    ensures not_asked { ¬ IsErrOf result JournalFault.NotAJournal }
+    ensures too_long { ¬ IsErrOf result JournalFault.TooLong }
+    ensures closed { ¬ IsErrOf result JournalFault.Closed }
+{
+    let held = room.len();
+    room.resize(held + count, 0)?;
+    let read = host.read_at(at, &mut room[held..])?;
+    Ok(read == count)
+}
+
+/// Reads a payload, a piece at a time, so that the room grows only with what the file has. False is told only by a host that doesn't
+/// tell its meanings.
 pub(crate) fn read_payload<H: Host>(
     host: &mut H,
     at: u64,
     len: u32,
     room: &mut Vec<u8>,
 ) -> Result<bool, JournalFault>
-    requires most { at ≤ longest }
+    requires most { at + len ≤ longest }
     requires inside { Told (H.world host.old) (at + len < length (H.world host.old).seen) }
     requires settled { Told (H.world host.old) (Only (H.world host.old).seen (H.world host.old).may_leave) }
     ensures payload { Told (H.world host.old) (IfOk result (λ b. (b ≡ true) × (room.new.items ≡ take len (drop at (H.world host.old).seen)))) }
@@ -72,10 +106,15 @@ pub(crate) fn read_payload<H: Host>(
     ensures too_long { ¬ IsErrOf result JournalFault.TooLong }
     ensures closed { ¬ IsErrOf result JournalFault.Closed }
 {
+    let len = len as usize;
     room.clear();
-    room.resize(len as usize, 0)?;
-    let count = host.read_at(at, room.as_mut_slice())?;
-    Ok(count == len as usize)
+    while room.len() < len {
+        let held = room.len();
+        if !read_piece(host, at + held as u64, PIECE.min(len - held), room)? {
+            return Ok(false);
+        }
+    }
+    Ok(true)
 }
 
 /// What is read of a block.

@@ -1,13 +1,14 @@
 -- Calls are awaited by their tasks, at each step.
 use Rattle.std.specs.Prelude.{◌≡◌, ◌≢◌, ◌⊎◌, ℕ, zero, suc, ◌+◌, ◌<◌, ◌≤◌, ◌&&◌, ◌||◌, not, min, length, Bool, true, false, List, [], ◌∷◌, ◌++◌, if◌then◌else◌, nat_eq, nat_lt, nat_le, slice_get, slice_set, Some, None, Ok, Err, Option, option_map, unwrap_or}
 use Rattle.std.proofs.Common.{inl, inr, ⊎_elim, refl, sym, ◌∙◌, ap, subst, arith}
-use Rattle.std.proofs.lemmas.Bool.{eq-eqb, eqb-true}
+use Rattle.std.proofs.lemmas.Bool.{eq-eqb}
 use Rattle.wf_ast.specs.Tree.{Steps, LoopBody, ParallelBody, parallel, OfBranches, OfLoop, branch, no_branches, Program}
 use Rattle.wf_model.proofs.After.{Leads, led_to}
 use Rattle.wf_model.proofs.LocalWaits.{NotCalling, IsFree, Plain, goes_plain, move_plain, resumed_plain, due_plain, SendsOne, issue_issued}
-use Rattle.wf_model.proofs.Numbers.{some_case, higher, put_rises, drop_rises, known}
+use Rattle.wf_model.proofs.Numbers.{some_case}
+use Rattle.wf_model.proofs.TaskLists.{same_or, apart, higher, put_rises, drop_rises, known, put_same, put_other, drop_other, drop_same}
 use Rattle.wf_model.proofs.Walk.{bool_case, when_leads}
-use Rattle.wf_model.specs.Config.{Left, WorkLeft, BranchesLeft, ValuesLeft, Item, Do, Wait, Awake, Sleep, Delay, Calling, Await, Task, Call, Open, Answered, TimedOut, Outcome, Active, Returned, Raised, Cancelled, Config, After, To, Wrong, NotNow, body_limit, move_limit, task, task_in, with_task, put_in, drop_in, next_of}
+use Rattle.wf_model.specs.Config.{Left, WorkLeft, BranchesLeft, ValuesLeft, Item, Do, Wait, Awake, Sleep, Delay, Calling, Await, Task, Call, Open, Answered, TimedOut, Outcome, Active, Returned, Raised, Cancelled, Config, After, To, Wrong, NotNow, body_limit, move_limit, task, task_in, with_task, next_of}
 use Rattle.wf_model.specs.Kinds.{NextKind, Plainly, ByClock, ByCall, next_kind}
 use Rattle.wf_model.specs.Local.{Outer, Local, Scene, End, Gives, Fails, Sends, Creates, Takes, Logs, Moved, Goes, Ends, Does, Breaks, Not, goes}
 use Rattle.wf_model.specs.Move.{loop_steps, move, issue, due, resumed}
@@ -25,61 +26,6 @@ use Rattle.wf_value.specs.Data.{Data, null, Pairs, no_pairs}
 use Rattle.wf_value.specs.Decode.{json_value}
 use Rattle.wf_value.specs.Errors.{error_map, Answer}
 use Rattle.wf_value.specs.Pairs.{Text}
-
--- ## Numbers
-pub same_or : (a b : ℕ) → (a ≡ b) ⊎ (a ≡ b → ⊥)
-same_or a b = split (nat_eq a b) refl
-  where
-    split : (v : Bool) → nat_eq a b ≡ v → (a ≡ b) ⊎ (a ≡ b → ⊥)
-    split true is = inl (eqb-true a b is)
-    split false is = inr (λ same. let f : true ≡ false = sym (eq-eqb a b same) ∙ is in cc f)
-
-pub apart : (a b : ℕ) → (a ≡ b → ⊥) → nat_eq a b ≡ false
-apart a b differ = split (nat_eq a b) refl
-  where
-    split : (v : Bool) → nat_eq a b ≡ v → nat_eq a b ≡ false
-    split true is = absurd (differ (eqb-true a b is))
-    split false is = is
-
--- ## Tasks by their numbers
-pub put_same : (b : ℕ) (t : Task) (ts : List (ℕ × Task)) → task_in (put_in b t ts) b ≡ Some t
-put_same b t [] = ap (λ v. if v then Some t else None) (eq-eqb b b refl)
-put_same b t (u ∷ us) =
-    bool_case (λ l. task_in l b ≡ Some t) (nat_eq u.0 b) ((b, t) ∷ us) (if nat_lt b u.0 then (b, t) ∷ u ∷ us else u ∷ put_in b t us)
-    (λ _. ap (λ v. if v then Some t else task_in us b) (eq-eqb b b refl))
-    (λ off. bool_case (λ l. task_in l b ≡ Some t) (nat_lt b u.0) ((b, t) ∷ u ∷ us) (u ∷ put_in b t us)
-    (λ _. ap (λ v. if v then Some t else task_in (u ∷ us) b) (eq-eqb b b refl))
-    (λ _. ap (λ v. if v then Some u.1 else task_in (put_in b t us) b) off ∙ put_same b t us))
-
-pub put_other : (b i : ℕ) (t : Task) (ts : List (ℕ × Task)) → (i ≡ b → ⊥) → task_in (put_in b t ts) i ≡ task_in ts i
-put_other b i t [] differ = ap (λ v. if v then Some t else None) (apart b i (λ same. differ (sym same)))
-put_other b i t (u ∷ us) differ =
-    bool_case (λ l. task_in l i ≡ task_in (u ∷ us) i) (nat_eq u.0 b) ((b, t) ∷ us) (if nat_lt b u.0 then (b, t) ∷ u ∷ us else u ∷ put_in b t us)
-    (λ on. ap (λ v. if v then Some t else task_in us i) (apart b i (λ same. differ (sym same)))
-    ∙ sym (ap (λ v. if v then Some u.1 else task_in us i) (apart u.0 i (λ same. differ (sym same ∙ eqb-true u.0 b on)))))
-    (λ off. bool_case (λ l. task_in l i ≡ task_in (u ∷ us) i) (nat_lt b u.0) ((b, t) ∷ u ∷ us) (u ∷ put_in b t us)
-    (λ _. ap (λ v. if v then Some t else task_in (u ∷ us) i) (apart b i (λ same. differ (sym same))))
-    (λ _. ap (λ o. if nat_eq u.0 i then Some u.1 else o) (put_other b i t us differ)))
-
-pub drop_other : (b i : ℕ) (ts : List (ℕ × Task)) → (i ≡ b → ⊥) → task_in (drop_in b ts) i ≡ task_in ts i
-drop_other b i [] differ = refl
-drop_other b i (u ∷ us) differ =
-    bool_case (λ l. task_in l i ≡ task_in (u ∷ us) i) (nat_eq u.0 b) us (u ∷ drop_in b us)
-    (λ on. sym (ap (λ v. if v then Some u.1 else task_in us i) (apart u.0 i (λ same. differ (sym same ∙ eqb-true u.0 b on)))))
-    (λ _. ap (λ o. if nat_eq u.0 i then Some u.1 else o) (drop_other b i us differ))
-
-pub none_below : (low made b : ℕ) (ts : List (ℕ × Task)) → RisesFrom low made ts → b < low → task_in ts b ≡ None
-none_below low made b [] h lt = refl
-none_below low made b (u ∷ us) h lt =
-    ap (λ v. if v then Some u.1 else task_in us b) (apart u.0 b (λ same. let le = h.0 in omega (arith, le, same, lt)))
-    ∙ none_below (suc u.0) made b us h.2 (let le = h.0 in omega (arith, le, lt))
-
-drop_same : (low made b : ℕ) (ts : List (ℕ × Task)) → RisesFrom low made ts → task_in (drop_in b ts) b ≡ None
-drop_same low made b [] h = refl
-drop_same low made b (u ∷ us) h =
-    bool_case (λ l. task_in l b ≡ None) (nat_eq u.0 b) us (u ∷ drop_in b us)
-    (λ on. none_below (suc u.0) made b us h.2 (let same = eqb-true u.0 b on in omega (arith, same)))
-    (λ off. ap (λ v. if v then Some u.1 else task_in (drop_in b us) b) off ∙ drop_same (suc u.0) made b us h.2)
 
 -- ## Configurations
 -- the same but for task b, which has no open call

@@ -1,12 +1,12 @@
 -- The numbers of live tasks.
-use Rattle.std.specs.Prelude.{◌≡◌, ℕ, zero, suc, ◌+◌, ◌<◌, ◌≤◌, length, Bool, List, [], ◌∷◌, ◌++◌, if◌then◌else◌, nat_eq, nat_lt, nat_le, Some, None, Ok, Err, Option, unwrap_or}
+use Rattle.std.specs.Prelude.{◌≡◌, ℕ, zero, suc, ◌+◌, ◌<◌, ◌≤◌, length, Bool, List, [], ◌∷◌, ◌++◌, nat_lt, nat_le, Some, None, Ok, Err, Option, unwrap_or}
 use Rattle.std.proofs.Common.{arith}
-use Rattle.std.proofs.lemmas.Bool.{eqb-true, eqb-false, ltb-true, ltb-false}
 use mathlib.Core.Path.{refl, sym, subst}
 use Rattle.wf_ast.specs.Tree.{Steps, LoopBody, ParallelBody, parallel, OfBranches, OfLoop, branch, no_branches, Program}
 use Rattle.wf_model.proofs.After.{Leads, led_to}
+use Rattle.wf_model.proofs.TaskLists.{higher, put_rises, drop_rises, known}
 use Rattle.wf_model.proofs.Walk.{bool_case, leads_on, when_leads}
-use Rattle.wf_model.specs.Config.{Left, WorkLeft, BranchesLeft, ValuesLeft, Item, Do, Wait, Calling, Task, Call, Open, Answered, TimedOut, Outcome, Active, Returned, Raised, Cancelled, Config, After, To, Wrong, NotNow, body_limit, move_limit, task, task_in, with_task, put_in, drop_in, next_of}
+use Rattle.wf_model.specs.Config.{Left, WorkLeft, BranchesLeft, ValuesLeft, Item, Do, Wait, Calling, Task, Call, Open, Answered, TimedOut, Outcome, Active, Returned, Raised, Cancelled, Config, After, To, Wrong, NotNow, body_limit, move_limit, task, with_task, next_of}
 use Rattle.wf_model.specs.Kinds.{Plainly, ByClock, ByCall}
 use Rattle.wf_model.specs.Local.{Outer, Local, Scene, End, Effect, Sends, Creates, Takes, Logs, Moved, Goes, Ends, Does, Breaks, Not, goes}
 use Rattle.wf_model.specs.Move.{loop_steps, move, issue, due, resumed}
@@ -25,36 +25,6 @@ use Rattle.wf_shared.specs.Queues.{ArriveFault, arrive_fault}
 pub some_case : {A B : Type 0} (P : B → Type 0) (o : Option A) (x : B) (f : A → B) → P x → ((t : A) → o ≡ Some t → P (f t)) → P (elim o [ None ↦ x | Some t ↦ f t ])
 some_case P None x f h k = h
 some_case P (Some t) x f h k = k t refl
-
--- ## Lists of tasks
-pub lower : (low from made : ℕ) (ts : List (ℕ × Task)) → low ≤ from → RisesFrom from made ts → RisesFrom low made ts
-lower low from made [] le h = tt
-lower low from made (t ∷ ts) le h = (omega (arith, le, h.0), h.1, h.2)
-
-pub higher : (low made more : ℕ) (ts : List (ℕ × Task)) → made ≤ more → RisesFrom low made ts → RisesFrom low more ts
-higher low made more [] le h = tt
-higher low made more (t ∷ ts) le h = (h.0, omega (arith, le, h.1), higher (suc t.0) made more ts le h.2)
-
-pub put_rises : (low made b : ℕ) (t : Task) (ts : List (ℕ × Task)) → low ≤ b → b < made → RisesFrom low made ts → RisesFrom low made (put_in b t ts)
-put_rises low made b t [] le less h = (le, less, tt)
-put_rises low made b t (u ∷ us) le less h =
-    bool_case (RisesFrom low made) (nat_eq u.0 b) ((b, t) ∷ us) (if nat_lt b u.0 then (b, t) ∷ u ∷ us else u ∷ put_in b t us)
-    (λ e. (le, less, subst (λ n. RisesFrom (suc n) made us) (eqb-true u.0 b e) h.2))
-    (λ e. bool_case (RisesFrom low made) (nat_lt b u.0) ((b, t) ∷ u ∷ us) (u ∷ put_in b t us)
-    (λ i. (le, less, (ltb-true b u.0 i, h.1, h.2)))
-    (λ i. (h.0, h.1, put_rises (suc u.0) made b t us (omega (arith, eqb-false u.0 b e, ltb-false b u.0 i)) less h.2)))
-
-pub drop_rises : (low made b : ℕ) (ts : List (ℕ × Task)) → RisesFrom low made ts → RisesFrom low made (drop_in b ts)
-drop_rises low made b [] h = tt
-drop_rises low made b (u ∷ us) h =
-    bool_case (RisesFrom low made) (nat_eq u.0 b) us (u ∷ drop_in b us)
-    (λ e. lower low (suc u.0) made us (omega (arith, h.0)) h.2) (λ e. (h.0, h.1, drop_rises (suc u.0) made b us h.2))
-
-pub known : (low made b : ℕ) (ts : List (ℕ × Task)) (t : Task) → RisesFrom low made ts → task_in ts b ≡ Some t → b < made
-known low made b [] t h = λ e. cc e
-known low made b (u ∷ us) t h =
-    bool_case (λ o. o ≡ Some t → b < made) (nat_eq u.0 b) (Some u.1) (task_in us b)
-    (λ i e. omega (arith, eqb-true u.0 b i, h.1)) (λ i e. known (suc u.0) made b us t h.2 e)
 
 -- ## With so many tasks made, and so many moves
 abbrev With : ℕ → ℕ → Config → Type 0

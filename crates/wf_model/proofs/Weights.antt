@@ -5,9 +5,10 @@ use Rattle.std.proofs.lemmas.Bool.{eq-eqb, ltb-true}
 use Rattle.wf_ast.specs.Flows.{flow}
 use Rattle.wf_ast.specs.Tree.{Steps, Param, Flow, LoopBody, ParallelBody, parallel, OfBranches, OfLoop, branch, no_branches, Program, TryBody, try, no_except, except}
 use Rattle.wf_model.proofs.After.{Leads, led_to}
-use Rattle.wf_model.proofs.Awaited.{Same, apart, close_tasks, drop_other, gone_case, none_below, put_other, put_outer_same, put_same, task_of, waiting_from}
+use Rattle.wf_model.proofs.Awaited.{Same, close_tasks, gone_case, put_outer_same, task_of, waiting_from}
+use Rattle.wf_model.proofs.TaskLists.{apart, higher, put_rises, drop_rises, known, drop_other, none_below, put_other, put_same}
 use Rattle.wf_model.proofs.Counts.{Same as Same_of, same_stays}
-use Rattle.wf_model.proofs.Numbers.{some_case, higher, put_rises, drop_rises, known}
+use Rattle.wf_model.proofs.Numbers.{some_case}
 use Rattle.wf_model.proofs.Walk.{bool_case, leads_on, when_leads, by_itself_stays, begins_stays, timed_out_stays}
 use Rattle.wf_model.specs.Config.{Left, WorkLeft, BranchesLeft, ValuesLeft, Item, Do, Entries, Try, Judge, Mark, Back, Wait, Awake, Sleep, Delay, Calling, Await, Task, Call, Open, Answered, TimedOut, Outcome, Active, Returned, Raised, Cancelled, Config, After, To, Wrong, NotNow, move_limit, body_limit, call_limit, task, task_in, with_task, put_in, drop_in, next_of}
 use Rattle.wf_model.specs.CountLaws.{weight, weigh, EventsAreCounted, IsFromOutside, TakenWeighsNothing, TasksWeighLittle}

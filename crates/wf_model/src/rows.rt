@@ -8,7 +8,7 @@ ghost use Rattle.wf_model.specs.RowsBranches.{BothReadAndThenBothWrite, OneBranc
 ghost use Rattle.wf_model.specs.RowsLimits.{TenThousandMoves, MoveBeforeTheLimit, MoveAtTheLimit, LimitPassesEachTry, NothingFollowsTheLimit, TwentyCallsInEachOther, TwentyFirstCallRaises, PredicateCountsTheCallsOutside, SecondParallelStepRuns, SecondRaisesUnderTheFirstRules, ThirdParallelStepRaises, RulesNameTheLimits, FirstRulesHold65536, OneMoreRaises, LaterRulesHoldMore, BeginPastTheLimitKeepsItsError};
 ghost use Rattle.wf_model.specs.RowsCalls.{RequestOfTheFirstCall, AnswerGoesIntoTheResult, CallIsAnsweredOnce, BrokenAnswerRaises, LongAnswerRaises, CallTimesOut, CallDoesNotTimeOutEarly, BadCallUsesNoNumber, NoRouteRaises, BodiesPastTheLimitEndIt, CallStaysOpenAtTheLimit, RequestOfAPost, TwoNamesAreCollected};
 ghost use Rattle.wf_model.specs.RowsWaits.{LogHasTheLastReading, UnknownSeverityRaises, SleepEndsWhenDue, SleepDoesNotEndEarly, SleepTakesAReading, PassedTimeIsDueAtOnce, BadTimeRaises, EndpointHasAUrl, NoEndpointWithoutListening, EarlyCallbackIsTakenAtOnce, LateCallbackEndsTheWait, OtherMethodsDoNotArrive, UnknownEndpointTakesNothing, HundredCallbacksWait, OneMoreHasNoRoom, AwaitTimesOut};
-ghost use Rattle.wf_model.specs.RowsChecks.{CollectingIsAccepted, FetchingIsAccepted, AskingIsAccepted, ParallelLoopIsAccepted, UnknownNameIsAFault, LogOfTwoIsAFault, NoStepsAreAFault, UndeclaredWriteIsAFault, SharedWriteIsAccepted, NewNameIsAccepted};
+ghost use Rattle.wf_model.specs.RowsChecks.{CollectingIsAccepted, FetchingIsAccepted, AskingIsAccepted, ParallelLoopIsAccepted, UnknownNameIsAFault, LogOfTwoIsAFault, NoStepsAreAFault, UndeclaredWriteIsAFault, SharedWriteIsAccepted, NewNameIsAccepted, DoubleStepIsAFault, UnknownStepIsAFault, JumpOutOfALoopIsAFault, BreakOutsideALoopIsAFault, ReturnInABranchIsAFault, UnknownSharedIsAFault, UnknownCallIsAFault, FiftyEntriesAreAccepted, OneEntryMoreIsAFault};
 
 /// Runs of small programs: returns, loops, jumps, places, workflows, and which event a step wants.
 pub fn worked_runs()
@@ -160,4 +160,13 @@ pub fn worked_checks()
     ensures undeclared_write_is_a_fault { UndeclaredWriteIsAFault }
     ensures shared_write_is_accepted { SharedWriteIsAccepted }
     ensures new_name_is_accepted { NewNameIsAccepted }
+    ensures double_step_is_a_fault { DoubleStepIsAFault }
+    ensures unknown_step_is_a_fault { UnknownStepIsAFault }
+    ensures jump_out_of_a_loop_is_a_fault { JumpOutOfALoopIsAFault }
+    ensures break_outside_a_loop_is_a_fault { BreakOutsideALoopIsAFault }
+    ensures return_in_a_branch_is_a_fault { ReturnInABranchIsAFault }
+    ensures unknown_shared_is_a_fault { UnknownSharedIsAFault }
+    ensures unknown_call_is_a_fault { UnknownCallIsAFault }
+    ensures fifty_entries_are_accepted { FiftyEntriesAreAccepted }
+    ensures one_entry_more_is_a_fault { OneEntryMoreIsAFault }
 {}

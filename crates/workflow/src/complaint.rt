@@ -1,6 +1,6 @@
 // What is said on standard error where nothing was printed.
 use std::io::Eprint;
-use wf_line::{journal_of, source_of};
+use wf_args::{journal_of, source_of};
 use wf_status::Status;
 
 /// Says on standard error why nothing, or not all, was printed. A failure to say so changes nothing.

@@ -13,9 +13,9 @@ use std::io::{Eprint, ErrorKind, Input, Print};
 use std::process::ExitCode;
 use std::rt::Env;
 use std::time::Clock;
+use wf_args::{journal_of, source_of};
 use wf_cli::run_line;
 use wf_host::{FileHost, FileSource};
-use wf_line::{journal_of, source_of};
 
 fn main(rt: HostRuntime) -> ExitCode {
     // held to the end, so that no file of ours gets a standard descriptor

@@ -7,14 +7,14 @@ use Rattle.wf_engine.specs.Engine.{memory, StandsFor}
 use Rattle.wf_host.specs.declared.data.Deed.TheVariants.{Now}
 use Rattle.wf_journal.specs.Records.{records}
 use Rattle.wf_cli.specs.Top.{IsLineOf}
-use Rattle.wf_line.specs.declared.command.Command.TheVariants.{Run}
+use Rattle.wf_args.specs.declared.command.Command.TheVariants.{Run}
 use Rattle.wf_deeds.specs.Kept as kept
 use Rattle.wf_engine.specs.Safe.{scene}
 use Rattle.wf_engine.specs.TheLanguage.{the_language}
 use Rattle.wf_events.specs.Records.{Started}
 use Rattle.wf_events.specs.Spelling.{HasSpelling, record_bytes}
 use Rattle.wf_events.specs.View.{start_view}
-use Rattle.wf_line.specs.Plain.{plain_line}
+use Rattle.wf_args.specs.Plain.{plain_line}
 use Rattle.wf_shared.specs.Events.{Start}
 use Rattle.wf_source.specs.Programs.{IsSourceOf}
 use Rattle.wf_cli.proofs.execution.begin.Goals as goal
@@ -60,7 +60,7 @@ returns-clause-opening g c = λ told words rest is first.
     (subst (λ st. StartOfLine s t (record_bytes (Started st))) (sym the_start)
     (start_of_line c.each_source_is_one.ensures s l c.args.source.now (program_view c.args.program) t is c.requires.command first c.requires.program (subst (λ st. HasSpelling (Started st)) the_start c.in_ok-start.ensures.spelled) c.one_spelling.ensures.again
     c.laws_of_histories.ensures.start))
-    c.laws_of_rules.ensures.only_readings c.begin.result (c.begin.ensures.refused_reads told2)
+    c.laws_of_rules.ensures.only_readings c.laws_of_moments.ensures.no_turns_behind c.laws_of_moments.ensures.next_behind_history c.begin.result (c.begin.ensures.refused_reads told2)
     (record {
       stands = subst (λ u. IfOk c.begin.result (λ e. StandsFor the_language kept.Run (memory e) (records new.seen) (Now u ∷ []))) (ap (λ st. st.reading) the_start) (c.begin.ensures.stands told2);
       session = c.begin.ensures.session;
@@ -70,6 +70,7 @@ returns-clause-opening g c = λ told words rest is first.
       not_a_journal = c.begin.ensures.not_a_journal told2;
       a_journal = c.begin.ensures.a_journal told2;
       already_started = c.begin.ensures.already_started told2;
+      settled = c.begin.ensures.settled told2;
       fresh = c.begin.ensures.fresh told2;
       only = c.begin.ensures.only;
       deeds = c.begin.ensures.deeds told2;

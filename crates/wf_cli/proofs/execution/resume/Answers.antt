@@ -6,7 +6,7 @@ use Rattle.wf_cli.proofs.Works.{end_fault, worked_fault, worked_going, end_going
 use Rattle.wf_cli.specs.Said.{Opening, Worked}
 use Rattle.wf_cli.specs.Top.{IsLineOf}
 use Rattle.wf_host.specs.Source.{Rest}
-use Rattle.wf_line.specs.declared.command.Command.TheVariants.{Resume}
+use Rattle.wf_args.specs.declared.command.Command.TheVariants.{Resume}
 use Rattle.wf_deeds.specs.Kept as kept
 use Rattle.wf_engine.specs.Safe.{scene}
 use Rattle.wf_engine.specs.TheLanguage.{the_language}
@@ -18,7 +18,7 @@ returns-in-Ok g c =
     let mid = g.H.Host.world c.open.new.host in
     let new = g.H.Host.world c.to_outcome.new.host in
     let k = c.open.ensures in
-    let opening : (told : IsTrue old.tells) (words : List (List ℕ)) (rest : Rest) (line : IsLineOf (scene words rest old) (λ k. k ≡ Resume)) → Opening kept.Resume (scene words rest old) old mid (Ok c.in-Ok.engine) = λ told words rest line. subst (λ r. Opening kept.Resume (scene words rest old) old mid r) c.in-Ok.is (opening_by_resume (scene words rest old) old mid line refl c.open.result (record {
+    let opening : (told : IsTrue old.tells) (words : List (List ℕ)) (rest : Rest) (line : IsLineOf (scene words rest old) (λ k. k ≡ Resume)) → Opening kept.Resume (scene words rest old) old mid (Ok c.in-Ok.engine) = λ told words rest line. subst (λ r. Opening kept.Resume (scene words rest old) old mid r) c.in-Ok.is (opening_by_resume (scene words rest old) old mid line refl c.laws_of_rules.ensures.only_readings c.open.result (record {
       opened = k.opened told;
       session = k.session told;
       begins = k.begins told;
@@ -26,14 +26,16 @@ returns-in-Ok g c =
       any_moment = k.any_moment told;
       not_a_journal = k.not_a_journal told;
       not_started = k.not_started told;
+      settled = k.settled told;
       not_a_history = k.not_a_history told;
       only = k.only;
       deeds = k.deeds told;
       finished = k.finished told;
     })) in
     let work : (told : IsTrue old.tells) (words : List (List ℕ)) (rest : Rest) (line : IsLineOf (scene words rest old) (λ k. k ≡ Resume)) → Worked (scene words rest old) old new c.to_outcome.result = λ told words rest line.
-    worked_going (scene words rest old) kept.Resume old mid new c.in-Ok.engine c.to_outcome.result (resume_executes (scene words rest old) line) (λ _. refl) refl
-    (λ t i le now. g.met.H.Host.counts_now c.open.new.host t i (k.tells ∙ told) le now) (opening told words rest line)
+    worked_going (scene words rest old) kept.Resume old mid new c.in-Ok.engine c.to_outcome.result (resume_executes (scene words rest old) line) (resume_accepted (scene words rest old) line) (λ _. refl) refl
+    (λ t i le now. g.met.H.Host.counts_now c.open.new.host t i (k.tells ∙ told) le now)
+    (λ t i le now. g.met.H.Host.counts_now c.to_outcome.new.host t i (c.to_outcome.ensures.tells ∙ k.tells ∙ told) le now) (opening told words rest line)
     (c.to_outcome.ensures.going (k.tells ∙ told) kept.Resume (opening told words rest line).little.done (opening told words rest line).opened.stands) (c.to_outcome.ensures.deeds (k.tells ∙ told)) in
     record {
       end = λ words rest reads reads2 line.
@@ -54,7 +56,7 @@ returns-in-Err g c =
     let old = g.H.Host.world c.args.host.now in
     let new = g.H.Host.world c.open.new.host in
     let k = c.open.ensures in
-    let opening : (told : IsTrue old.tells) (words : List (List ℕ)) (rest : Rest) (line : IsLineOf (scene words rest old) (λ k. k ≡ Resume)) → Opening kept.Resume (scene words rest old) old new (Err c.in-Err.fault) = λ told words rest line. subst (λ r. Opening kept.Resume (scene words rest old) old new r) c.in-Err.is (opening_by_resume (scene words rest old) old new line refl c.open.result (record {
+    let opening : (told : IsTrue old.tells) (words : List (List ℕ)) (rest : Rest) (line : IsLineOf (scene words rest old) (λ k. k ≡ Resume)) → Opening kept.Resume (scene words rest old) old new (Err c.in-Err.fault) = λ told words rest line. subst (λ r. Opening kept.Resume (scene words rest old) old new r) c.in-Err.is (opening_by_resume (scene words rest old) old new line refl c.laws_of_rules.ensures.only_readings c.open.result (record {
       opened = k.opened told;
       session = k.session told;
       begins = k.begins told;
@@ -62,6 +64,7 @@ returns-in-Err g c =
       any_moment = k.any_moment told;
       not_a_journal = k.not_a_journal told;
       not_started = k.not_started told;
+      settled = k.settled told;
       not_a_history = k.not_a_history told;
       only = k.only;
       deeds = k.deeds told;
@@ -71,7 +74,7 @@ returns-in-Err g c =
       end = λ words rest reads reads2 line.
           end_fault (scene words rest old) old new reads reads2 (g.H.Host.faults c.args.host.now) (g.H.Host.faults c.open.new.host) c.in-Err.fault c.of_fault.result c.of_fault.ensures (resume_executes (scene words rest old) line)
           (resume_accepted (scene words rest old) line) (λ told. (opening told words rest line).fault) (λ is. k.disk_fault (c.in-Err.is ∙ ap Err is));
-      worked = λ told words rest line. worked_fault (scene words rest old) kept.Resume old new c.in-Err.fault c.of_fault.result (opening told words rest line) c.of_fault.ensures (resume_executes (scene words rest old) line) (λ _. refl);
+      worked = λ told words rest line. worked_fault (scene words rest old) kept.Resume old new c.in-Err.fault c.of_fault.result (opening told words rest line) c.of_fault.ensures (resume_executes (scene words rest old) line) (resume_accepted (scene words rest old) line) (λ _. refl);
       tells = k.tells;
       counts = k.counts;
     }

@@ -3,7 +3,7 @@ use Rattle.wf_cli.proofs.Works.{source_end, source_worked}
 use Rattle.wf_engine.specs.Printed.{uses_source}
 use Rattle.wf_engine.specs.Safe.{scene}
 use Rattle.wf_host.specs.Source.{IsFirst}
-use Rattle.wf_line.specs.Plain.{plain_line}
+use Rattle.wf_args.specs.Plain.{plain_line}
 use Rattle.wf_source.specs.Programs.{IsRefusalOf}
 use Rattle.wf_source.specs.Views.{TellsOf}
 use Rattle.wf_cli.proofs.execution.run.Goals as goal

@@ -2,7 +2,7 @@ use Rattle.std.proofs.Common.{sym, ap}
 use Rattle.wf_cli.proofs.Works.{layout_end, layout_worked, report_end, report_worked, no_layout, help_reported, version_reported}
 use Rattle.wf_engine.specs.Printed.{uses_source}
 use Rattle.wf_engine.specs.Safe.{scene}
-use Rattle.wf_line.specs.Plain.{plain_line}
+use Rattle.wf_args.specs.Plain.{plain_line}
 use Rattle.wf_cli.proofs.top.execute.Goals as goal
 
 pub returns-in-Format-clause-end : goal.returns-in-Format-clause-end

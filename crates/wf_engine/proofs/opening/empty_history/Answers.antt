@@ -1,5 +1,6 @@
 use Rattle.std.proofs.Common.{◌≡◌, ◌∙◌, ap, sym, subst, List, ℕ, [], ◌∷◌, Some}
 use Rattle.std.specs.Prelude.{MatchOption}
+use Rattle.wf_engine.proofs.Beginning.{settled_behind}
 use Rattle.wf_engine.proofs.StillOpen.{some_first, still_open, tells_still}
 use Rattle.wf_engine.proofs.opening.empty_history.Goals as goal
 use Rattle.wf_events.specs.Reading.{meaning}
@@ -23,6 +24,20 @@ returns-in-Ok-Some-clause-already_started g c = λ told _.
       some_first (records w.seen) (ahead c.next.new.self mid.seen) found.0 (ap records (sym (c.open.ensures.seen told)) ∙ sym (c.in_ok-history.ensures.first told) ∙ found.1),
       c.in_ok-history.ensures.a_journal told,
     )
+
+pub returns-in-Ok-Some-clause-settled : goal.returns-in-Ok-Some-clause-settled
+returns-in-Ok-Some-clause-settled g c = λ told _.
+    let mid = g.H.Host.world c.open.new.host in
+    let new = g.H.Host.world c.next.new.host in
+    let told_mid = tells_still (g.H.Host.world c.args.host.now) mid c.open.ensures.tells told in
+    settled_behind mid new (c.next.ensures.any_moment c.in_ok-history.ensures.open told_mid) (λ t i le now. g.met.H.Host.counts_now c.next.new.host t i (tells_still mid new c.next.ensures.tells told_mid) le now) (c.next.ensures.seen told_mid)
+
+pub returns-in-Err-BadRecord-clause-settled : goal.returns-in-Err-BadRecord-clause-settled
+returns-in-Err-BadRecord-clause-settled g c = λ told _.
+    let mid = g.H.Host.world c.open.new.host in
+    let new = g.H.Host.world c.next.new.host in
+    let told_mid = tells_still (g.H.Host.world c.args.host.now) mid c.open.ensures.tells told in
+    settled_behind mid new (c.next.ensures.any_moment c.in_ok-history.ensures.open told_mid) (λ t i le now. g.met.H.Host.counts_now c.next.new.host t i (tells_still mid new c.next.ensures.tells told_mid) le now) (c.next.ensures.seen told_mid)
 
 pub returns-in-Err-BadRecord-clause-already_started : goal.returns-in-Err-BadRecord-clause-already_started
 returns-in-Err-BadRecord-clause-already_started g c = λ told _.

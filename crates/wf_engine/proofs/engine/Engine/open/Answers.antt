@@ -1,6 +1,6 @@
 use Rattle.std.proofs.Common.{◌≡◌, ◌∙◌, ap, inl, sym, subst, ℕ, length, ◌≤◌, Ok}
 use Rattle.std.specs.Prelude.{unwrap_or}
-use Rattle.wf_engine.proofs.Beginning.{opens_quietly, quiet_stays, then_reads}
+use Rattle.wf_engine.proofs.Beginning.{opens_quietly, quiet_stays, settled_behind, then_reads}
 use Rattle.wf_engine.proofs.Reopened.{deeds_on, has_ended, next_number, no_history_told, opened, still_stands}
 use Rattle.wf_engine.proofs.StillOpen.{tells_still}
 use Rattle.wf_engine.proofs.engine.Engine.open.Goals as goal
@@ -16,6 +16,17 @@ returns-then-at_end-clause-not_started g c = λ told _.
     let w = g.H.Host.world c.args.host.now in
     let short : length w.seen ≤ 4 = subst (λ l. length l ≤ 4) (c.open.ensures.seen told) ((c.in_ok-history.ensures.fresh told).0 (sym c.in_ok-history.ensures.fresh_end ∙ sym c.if-at_end.ensures)) in
     (new_none w.seen short, inl short)
+
+pub returns-then-at_end-clause-settled : goal.returns-then-at_end-clause-settled
+returns-then-at_end-clause-settled g c = λ told _. (c.in_ok-history.ensures.stands told).journal.settled
+
+pub returns-in_err-machine-clause-settled : goal.returns-in_err-machine-clause-settled
+returns-in_err-machine-clause-settled g c = λ told _.
+    let w = g.H.Host.world c.args.host.now in
+    let mid = g.H.Host.world c.open.new.host in
+    let late = g.H.Host.world c.last_machine.new.host in
+    let told_mid = tells_still w mid c.open.ensures.tells told in
+    settled_behind mid late (c.last_machine.ensures.any_moment told_mid) (λ t i le now. g.met.H.Host.counts_now c.last_machine.new.host t i (tells_still mid late c.last_machine.ensures.tells told_mid) le now) (c.last_machine.ensures.seen told_mid)
 
 pub returns-in_err-machine-clause-any_moment : goal.returns-in_err-machine-clause-any_moment
 returns-in_err-machine-clause-any_moment g c = λ told.

@@ -1,9 +1,8 @@
-use Rattle.std.proofs.Common.{None, inl, inr, ⊎_elim, refl, sym, ◌∙◌, ap, arith}
+use Rattle.std.proofs.Common.{inl, inr, ⊎_elim, refl, sym, ◌∙◌, ap, arith}
 use Rattle.wf_engine.proofs.Sessions.{at_first, ends, falls_none, goes_far, lent_active, moments_on, none_fell, not_both, passed_on, rose_later, told_on}
 use Rattle.wf_engine.proofs.engine.Engine.session.Goals as goal
-use Rattle.wf_engine.specs.Engine.{is_closed, memory, turn_records}
+use Rattle.wf_engine.specs.Engine.{is_closed, memory}
 use Rattle.wf_engine.specs.TheLanguage.{the_language}
-use Rattle.wf_deeds.specs.Turns.{turn_of}
 use Rattle.wf_engine.specs.declared.fault.EngineFault.TheVariants as fault
 
 pub loop-self-init : goal.loop-self-init
@@ -44,9 +43,9 @@ loop-self-preserved g c =
       so_far = λ told command D s.
           let told1 = told_on w mid so.tells told in
           let far = so.so_far told command D s in
-          let n = memory c.loop-self.self in
-          goes_far the_language c.turn.new.self.history command (memory c.args.self.now) n (memory c.turn.new.self) w mid new D (turn_records n.session (turn_of n.program n.config n.reading None)) far so.number
-          (c.turn.ensures.any_moment so.not_closed told1 command D far.stands) (c.in_ok-turn.ensures.turn told1) (c.in_ok-turn.ensures.stands told1 command D far.stands) (c.turn.ensures.deeds told1)
+          goes_far the_language c.turn.new.self.history command (memory c.args.self.now) (memory c.loop-self.self) (memory c.turn.new.self) w mid new D far so.number
+          (c.turn.ensures.any_moment so.not_closed told1 command D far.stands) (λ t i le now. g.met.H.Host.counts_now c.turn.new.host t i (told_on mid new c.turn.ensures.tells told1) le now)
+          (g.met.H.Host.reads_back c.turn.new.host (told_on mid new c.turn.ensures.tells told1)) (c.in_ok-turn.ensures.stands told1 command D far.stands) (c.turn.ensures.deeds told1)
           (c.turn.ensures.holds c.in_ok-turn.ensures.open told1).0 (c.turn.new.self.ready c.in_ok-turn.ensures.open).begun;
       deeds = λ told. c.turn.ensures.deeds (told_on w mid so.tells told) ∙ so.deeds told;
       tells = c.turn.ensures.tells ∙ so.tells;
@@ -81,6 +80,9 @@ returns-in_err-turn-clause-closed g c = (
   λ shut. absurd (not_both (is_closed c.args.self.now) c.if-self.false shut),
 )
 
+pub returns-in_err-turn-clause-idle : goal.returns-in_err-turn-clause-idle
+returns-in_err-turn-clause-idle g c = λ is. absurd (not_both (is_closed c.loop-self.self) c.loop-self.invariant.not_closed (c.in_err-turn.ensures.closed.0 (passed_on c.from_residual.result c.in_err-turn.field-0.0 fault.Closed c.from_residual.ensures is)))
+
 pub returns-in_err-turn-clause-deeds : goal.returns-in_err-turn-clause-deeds
 returns-in_err-turn-clause-deeds g c = λ told.
     c.turn.ensures.deeds (told_on (g.H.Host.world c.args.host.now) (g.H.Host.world c.loop-self.host) c.loop-self.invariant.tells told) ∙ c.loop-self.invariant.deeds told
@@ -104,6 +106,7 @@ returns g c =
       disk_fault = λ is. absurd (cc is);
       closed = (λ is. absurd (cc is), λ shut. absurd (not_both (is_closed c.args.self.now) c.if-self.false shut));
       closes = tt;
+      idle = λ is. absurd (cc is);
       «open» = so.not_closed;
       only = tt;
       deeds = λ told. so.deeds told;

@@ -1,0 +1,71 @@
+#!/usr/bin/env python3
+"""Runs the examples and each source of docs/REFUSALS.md on the built program, and compares what it prints.
+
+An example is examples/NAME.yaml with what `run` prints in NAME.out and its exit status in NAME.status (0 where there is none). It is run with
+a journal, and then resumed: that prints the same. Its layout by `format` is run too, and gives the same.
+"""
+
+import glob
+import os
+import re
+import subprocess
+import sys
+import tempfile
+
+PROGRAM = os.path.abspath(sys.argv[1] if len(sys.argv) > 1 else "crates/workflow/out/workflow")
+PAIR = re.compile(
+    r"```(?:yaml|json)\n(?P<bad>.*?)```\n\n    (?P<refusal>refused .*?)\n.*?```(?:yaml|json)\n(?P<good>.*?)```\n\n    (?P<line>.*?)\n", re.S
+)
+
+
+def call(source, *words):
+    """Runs the program to its end, and returns its status and what it printed."""
+    ended = subprocess.run([PROGRAM, *words], input=source, stdout=subprocess.PIPE, stderr=subprocess.PIPE, timeout=60)
+    return ended.returncode, ended.stdout
+
+
+def examples(folder):
+    """Tries each example, and returns how many there are."""
+    sources = sorted(glob.glob("examples/*.yaml"))
+    for path in sources:
+        name = path[: -len(".yaml")]
+        with open(f"{name}.out", "rb") as file:
+            printed = file.read()
+        status = int(open(f"{name}.status").read()) if os.path.exists(f"{name}.status") else 0
+        with open(path, "rb") as file:
+            source = file.read()
+        journal = f"{folder}/{os.path.basename(name)}.journal"
+        said = call(source, "run", "--source", path, "--journal", journal)
+        assert said == (status, printed), (path, said)
+        said = call(b"", "resume", "--journal", journal)
+        assert said == (status, printed), (path, "resumed", said)
+        laid_out = call(source, "format")
+        assert laid_out[0] == 0, (path, "format", laid_out)
+        said = call(laid_out[1], "run")
+        assert said == (status, printed), (path, "behind format", said)
+    return len(sources)
+
+
+def refusals():
+    """Tries each pair of sources of docs/REFUSALS.md, and returns how many there are."""
+    with open("docs/REFUSALS.md", encoding="utf-8") as file:
+        pairs = [pair for section in re.split(r"^##+ ", file.read(), flags=re.M) for pair in PAIR.finditer(section)]
+    for pair in pairs:
+        said = call(pair["bad"].encode(), "run")
+        assert said == (3, pair["refusal"].encode() + b"\n"), (pair["bad"], said)
+        said = call(pair["good"].encode(), "run")
+        assert said == (0, pair["line"].encode() + b"\n"), (pair["good"], said)
+    return len(pairs)
+
+
+def main():
+    with tempfile.TemporaryDirectory() as folder:
+        tried = examples(folder)
+    pairs = refusals()
+    assert tried and pairs
+    print(f"examples: {tried} examples and {pairs} pairs of refusals passed")
+    return 0
+
+
+if __name__ == "__main__":
+    sys.exit(main())

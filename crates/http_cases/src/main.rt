@@ -1,0 +1,33 @@
+//! Cases of HTTP: each line is a table's name, a blank and a case, and a line of answer is printed
+//! for it.
+#![tactic(auto)]
+
+mod arguments;
+mod requests;
+mod urls;
+mod visits;
+
+use std::alloc::Global;
+use wf_cases::{CaseFault, case_of};
+
+/// What is printed of a line.
+fn answer(alloc: Global, line: &str) -> Result<String, CaseFault> {
+    let case = case_of(alloc, line)?;
+    match case.table {
+        "urls" | "urls_at_edges" => urls::leads(alloc, &case),
+        "requests" | "requests_at_edges" => requests::sends(alloc, &case),
+        "refused_requests" => requests::refuses(alloc, &case),
+        "visits" | "visits_at_edges" => visits::knows(alloc, &case),
+        "visits_of_fronts" => visits::knows_of_fronts(alloc, &case),
+        "replies" => visits::replies(alloc, &case),
+        _ => Err(CaseFault::NoCase),
+    }
+}
+
+fn main(rt: HostRuntime) -> anyhow::Result<()> {
+    for line in rt.lines(rt.alloc()) {
+        let text = answer(rt.alloc(), line?.as_str())?;
+        println!(rt; "{text}")?;
+    }
+    Ok(())
+}

@@ -1,0 +1,139 @@
+// Machines, event by event.
+use crate::programs::program_of;
+use crate::records::{start_of, write_event};
+use std::alloc::Global;
+use wf_cases::{Case, CaseFault, bytes_of, text_of};
+use wf_events::Event;
+use wf_host_cases::{items_of, number_of};
+use wf_machine::{ApplyFault, Machine, Outcome};
+use wf_value::{Value, to_json};
+
+/// The text of a source: a text, or a list of its pieces.
+pub fn source_of(alloc: Global, value: &Value) -> Result<String, CaseFault> {
+    match value {
+        Value::Text(text) => Ok(String::from_str(alloc, text.as_str())?),
+        pieces => text_of(alloc, items_of(pieces)?),
+    }
+}
+
+/// Writes how an execution has ended. A value that JSON can't have, since it nests too deep, is no case.
+pub fn write_outcome(
+    out: &mut String,
+    alloc: Global,
+    outcome: Outcome<'_>,
+) -> Result<(), CaseFault> {
+    let (word, value) = match outcome {
+        Outcome::Active => return Ok(out.push_str("active")?),
+        Outcome::Returned(value) => ("returned", value),
+        Outcome::Raised(error) => ("raised", error),
+    };
+    if value.depth() > 100 {
+        return Err(CaseFault::NoCase);
+    }
+    let json = to_json(alloc, value)?;
+    match str::from_utf8(&json) {
+        Ok(text) => Ok(write!(out, "{word} {text}")?),
+        Err(_) => Err(CaseFault::NoCase),
+    }
+}
+
+/// Writes all that a machine shows, at a reading of the clock.
+fn write_state(
+    out: &mut String,
+    alloc: Global,
+    machine: &Machine,
+    reading: u64,
+) -> Result<(), CaseFault> {
+    write!(out, "{} steps, ", machine.program().step_count())?;
+    write!(
+        out,
+        "{} moves, {} calls, ",
+        machine.moves(),
+        machine.calls()
+    )?;
+    write!(out, "last {}, ", machine.last_reading())?;
+    if machine.is_quiet(reading) {
+        out.push_str("quiet, ")?;
+    }
+    if let Some(due) = machine.least_due() {
+        write!(out, "due {due}, ")?;
+    }
+    write_outcome(out, alloc, machine.outcome())
+}
+
+/// Writes whether an event was applied.
+fn write_applied(out: &mut String, applied: Result<(), ApplyFault>) -> Result<(), CaseFault> {
+    match applied {
+        Ok(()) => Ok(out.push('+')?),
+        Err(ApplyFault::NotEnabled) => Ok(out.push_str("not enabled")?),
+        Err(ApplyFault::OutOfMemory) => Err(CaseFault::OutOfMemory),
+    }
+}
+
+/// The task of a move.
+fn task_of(value: &Value) -> Result<u32, CaseFault> {
+    u32::try_from(number_of(value)?).map_err(|_| CaseFault::NoCase)
+}
+
+/// Makes a call on a machine: `["choose", reading]`, `["move", task]`, `["move", task, reading]`, `["run", reading]`, which applies what
+/// is chosen at the reading until nothing is, or `["state", reading]`.
+fn make(
+    machine: &mut Machine,
+    call: &Value,
+    alloc: Global,
+    out: &mut String,
+) -> Result<(), CaseFault> {
+    match items_of(call)? {
+        [Value::Text(name), task, reading] if name.as_str() == "move" => {
+            let event = Event::MoveAt(task_of(task)?, number_of(reading)?);
+            write_applied(out, machine.apply(&event))
+        }
+        [Value::Text(name), task] if name.as_str() == "move" => {
+            write_applied(out, machine.apply(&Event::Move(task_of(task)?)))
+        }
+        [Value::Text(name), reading] if name.as_str() == "state" => {
+            write_state(out, alloc, machine, number_of(reading)?)
+        }
+        [Value::Text(name), reading] if name.as_str() == "choose" => {
+            match machine.choose(number_of(reading)?) {
+                Some(event) => write_event(out, &event),
+                None => Ok(out.push_str("none")?),
+            }
+        }
+        [Value::Text(name), reading] if name.as_str() == "run" => {
+            out.push_str("ran")?;
+            run(machine, number_of(reading)?, out)
+        }
+        _ => Err(CaseFault::NoCase),
+    }
+}
+
+/// Applies what is chosen at a reading, until nothing is or there were ten events.
+fn run(machine: &mut Machine, reading: u64, out: &mut String) -> Result<(), CaseFault> {
+    for _ in 0..10 {
+        let Some(event) = machine.choose(reading) else {
+            break;
+        };
+        out.push(' ')?;
+        write_event(out, &event)?;
+        if machine.apply(&event).is_err() {
+            return Err(CaseFault::OutOfMemory);
+        }
+    }
+    Ok(())
+}
+
+/// What calls on the machine of a source give, which is begun with the start of a payload.
+pub fn calls(alloc: Global, case: &Case<'_>) -> Result<String, CaseFault> {
+    let source = source_of(alloc, case.item(0)?)?;
+    let start = start_of(alloc, &bytes_of(alloc, case.item(1)?)?)?;
+    let mut machine = Machine::new(alloc, &start, program_of(alloc, source.as_str())?)?;
+    let mut out = String::new(alloc);
+    for (i, call) in items_of(case.item(2)?)?.iter().enumerate() {
+        if i > 0 {
+            out.push_str("; ")?;
+        }
+        make(&mut machine, call, alloc, &mut out)?;
+    }
+    Ok(out)
+}

@@ -1,0 +1,41 @@
+// The starts and the events of machines.
+ghost use Rattle.std.specs.Prelude.{◌≤◌, length, IfOk};
+ghost use Rattle.wf_events.specs.Records.{Started};
+ghost use Rattle.wf_events.specs.Spelling.{record_bytes, HasSpelling};
+ghost use Rattle.wf_events.specs.View.{start_view};
+
+use std::alloc::Global;
+use wf_cases::CaseFault;
+use wf_events::{Event, Events, Record, Start, decode};
+
+/// No record is longer.
+const LONGEST: usize = 16_777_215;
+
+/// The start that a payload spells.
+pub fn start_of(alloc: Global, payload: &[u8]) -> Result<Start, CaseFault>
+    ensures spelled { IfOk result (λ s. HasSpelling (Started (start_view s))) }
+    ensures short { IfOk result (λ s. length (record_bytes (Started (start_view s))) ≤ 16777215) }
+{
+    match decode(alloc, payload) {
+        Ok(Record::Start(start)) if payload.len() <= LONGEST => Ok(start),
+        _ => Err(CaseFault::NoCase),
+    }
+}
+
+/// The task of each move, with its reading where it has one.
+pub fn write_events(out: &mut String, events: &Events) -> Result<(), CaseFault> {
+    for event in events.items() {
+        out.push(' ')?;
+        write_event(out, event)?;
+    }
+    Ok(())
+}
+
+/// The task of a move, with its reading where it has one.
+pub fn write_event(out: &mut String, event: &Event) -> Result<(), CaseFault> {
+    match event {
+        Event::Move(task) => write!(out, "{task}")?,
+        Event::MoveAt(task, reading) => write!(out, "{task}@{reading}")?,
+    }
+    Ok(())
+}

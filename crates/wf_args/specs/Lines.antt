@@ -1,0 +1,140 @@
+-- Command lines: the line that some words are, and the number of the word at which they begin none.
+use Rattle.std.specs.Prelude.{ℕ, suc, Bool, ◌&&◌, ◌||◌, nat_lt, nat_le, ◌==◌, if◌then◌else◌, List, [], ◌∷◌, ◌++◌, length, map, find, count_by, Option, Some, None, Result, Ok, Err, codes, option_and_then, String, string_bytes, bytes_eq}
+use Rattle.std.specs.List.{list_all, list_any, cons_option}
+use Rattle.std.specs.Option.{option_map_or}
+use Rattle.std.specs.declared.alloc.Global.{Global}
+use Rattle.wf_args.specs.declared.command.Command.{Command}
+use Rattle.wf_args.specs.declared.command.Command.TheVariants.{Format, Run, Resume, Help, Version}
+use Rattle.wf_args.specs.declared.option.OptionName.{OptionName}
+use Rattle.wf_args.specs.declared.option.OptionName.TheVariants.{Source, Journal, Id}
+
+-- words as their bytes
+abbrev pub words_view : List (String Global) → List (List ℕ)
+words_view words = map string_bytes words
+
+-- a line as contracts see it: its command, and its options with their words, in order
+pub record PlainLine : Type 0 where
+  pub command : Command
+  pub options : List (OptionName × List ℕ)
+
+-- ## The tables
+
+-- the commands, and the word of each
+abbrev pub commands : List Command
+commands = Format ∷ Run ∷ Resume ∷ Help ∷ Version ∷ []
+
+abbrev pub command_word : Command → List ℕ
+command_word Format = codes "format"
+command_word Run = codes "run"
+command_word Resume = codes "resume"
+command_word Help = codes "--help"
+command_word Version = codes "--version"
+
+-- the options, and the name of each
+abbrev pub names : List OptionName
+names = Source ∷ Journal ∷ Id ∷ []
+
+abbrev pub name_word : OptionName → List ℕ
+name_word Source = codes "--source"
+name_word Journal = codes "--journal"
+name_word Id = codes "--id"
+
+-- the options that a command takes
+abbrev pub options_of : Command → List OptionName
+options_of Format = Source ∷ []
+options_of Run = Source ∷ Journal ∷ Id ∷ []
+options_of Resume = Journal ∷ []
+options_of Help = []
+options_of Version = []
+
+-- the options that it can't do without
+abbrev pub required : Command → List OptionName
+required c = []
+
+-- how often an option may stand
+abbrev pub most : OptionName → ℕ
+most n = 1
+
+-- a letter, a digit, `.`, `_` or `-`
+abbrev pub is_id_byte : ℕ → Bool
+is_id_byte b = (nat_le 48 b && nat_le b 57) || (nat_le 65 b && nat_le b 90) || (nat_le 97 b && nat_le b 122) || b == 46 || b == 95 || b == 45
+
+-- the most bytes of a path
+abbrev pub longest_path : ℕ
+longest_path = 65536
+
+-- a path
+abbrev pub is_path : List ℕ → Bool
+is_path word = nat_lt 0 (length word) && nat_le (length word) longest_path
+
+-- the words that may stand behind an option's name
+abbrev pub is_word : OptionName → List ℕ → Bool
+is_word Source word = is_path word
+is_word Journal word = is_path word
+is_word Id word = nat_lt 0 (length word) && nat_le (length word) 64 && list_all is_id_byte word
+
+-- ## Reading
+
+-- the command that a word names, and the option
+abbrev pub command_of : List ℕ → Option Command
+command_of word = find (λ c. bytes_eq word (command_word c)) commands
+
+abbrev pub name_of : List ℕ → Option OptionName
+name_of word = find (λ n. bytes_eq word (name_word n)) names
+
+abbrev pub same_name : OptionName → OptionName → Bool
+same_name m n = bytes_eq (name_word m) (name_word n)
+
+-- how often an option stands among these
+abbrev pub count : OptionName → List (OptionName × List ℕ) → ℕ
+count n options = count_by (λ o. same_name o.0 n) options
+
+-- an option of the command that doesn't stand as often as it may yet
+abbrev pub may_stand : Command → List (OptionName × List ℕ) → OptionName → Bool
+may_stand c options n = list_any (same_name n) (options_of c) && nat_lt (count n options) (most n)
+
+-- none of those that the command can't do without is missing
+abbrev pub is_complete : Command → List (OptionName × List ℕ) → Bool
+is_complete c options = list_all (λ n. nat_lt 0 (count n options)) (required c)
+
+-- the option that a word names, where it may stand behind these
+abbrev pub next_name : Command → List (OptionName × List ℕ) → List ℕ → Option OptionName
+next_name c options word = option_and_then (λ n. if may_stand c options n then Some n else None) (name_of word)
+
+-- the line of a command and the options so far, going on with these words, of which the first has number n
+abbrev pub options_at : Command → ℕ → List (OptionName × List ℕ) → List (List ℕ) → Result PlainLine ℕ
+options_at c n options [] = if is_complete c options then Ok (record { command = c; options = options }) else Err n
+options_at c n options (name ∷ []) = option_map_or (λ o. Err (suc n)) (next_name c options name) (Err n)
+options_at c n options (name ∷ word ∷ words) =
+    option_map_or (λ o. if is_word o word then options_at c (suc (suc n)) (options ++ (o, word) ∷ []) words else Err (suc n)) (next_name c options name) (Err n)
+
+-- the line that some words are, or the number of the word at which they begin none
+unfoldable pub line_of : List (List ℕ) → Result PlainLine ℕ
+line_of [] = Err 0
+line_of (word ∷ words) = option_map_or (λ c. options_at c 1 [] words) (command_of word) (Err 0)
+
+-- ## The words of options
+
+-- the word of the first option of this name
+abbrev pub first_word : OptionName → List (OptionName × List ℕ) → Option (List ℕ)
+first_word n options = option_and_then (λ o. Some o.1) (find (λ o. same_name o.0 n) options)
+
+abbrev pub word_of : OptionName → PlainLine → Option (List ℕ)
+word_of n l = first_word n l.options
+
+-- the options of words that stand in pairs, a name and its word
+abbrev pub options_in : List (List ℕ) → List (OptionName × List ℕ)
+options_in [] = []
+options_in (name ∷ []) = []
+options_in (name ∷ word ∷ words) = cons_option (option_and_then (λ n. Some (n, word)) (name_of name)) (options_in words)
+
+-- of words that stand in pairs, the second of the first pair whose first word is this one
+abbrev pub word_after : List ℕ → List (List ℕ) → Option (List ℕ)
+word_after name [] = None
+word_after name (option ∷ []) = None
+word_after name (option ∷ word ∷ words) = if bytes_eq option name then Some word else word_after name words
+
+-- the same of the words behind a command
+abbrev pub word_behind : List ℕ → List (List ℕ) → Option (List ℕ)
+word_behind name [] = None
+word_behind name (command ∷ words) = word_after name words

@@ -1,0 +1,8 @@
+// Worked examples.
+ghost use Rattle.wf_args.specs.Rows.{WorkedLines};
+
+/// Carries worked examples: some words, and what line they are or where they are bad.
+#[tactic(auto, unfolding(crate::specs::Lines::line_of))]
+pub fn worked_lines()
+    ensures { WorkedLines }
+{}

@@ -1,0 +1,57 @@
+-- Where no cause holds, the command does its work, or there is no memory.
+use Rattle.std.proofs.Common.{◌≡◌, ◌⊎◌, inl, inr, IsTrue, ℕ, false, List, refl, subst}
+use Rattle.wf_cli.proofs.Causes.{not_both, executing, Cause, gives_cause}
+use Rattle.wf_cli.specs.Top.{Call, IsLineOf, IsOfFile, Says, bad_line, refused, reported, of_file, Ends, said, cut, unread, failed, no_memory, HasNoCause, Completes}
+use Rattle.wf_engine.specs.Printed.{executes}
+use Rattle.wf_engine.specs.TheLanguage.{the_language}
+use Rattle.wf_args.specs.Lines.{line_of}
+use Rattle.wf_status.specs.declared.Status.{Status}
+use Rattle.wf_status.specs.declared.Status.TheVariants as status
+
+module _ (x : Call) (none : HasNoCause the_language x) where
+  abbrev IsWork : Status → Type 0
+  IsWork st = (st ≡ status.Done) ⊎ (st ≡ status.Raised)
+
+  -- a status of the file that has its cause
+  of_the_file : (st : Status) → IsOfFile st → Cause the_language x.scene st → IsWork st
+  of_the_file st (inl is) cause = absurd (none.file.magic (subst (Cause the_language x.scene) is cause))
+  of_the_file st (inr (inl is)) cause = absurd (none.file.started (subst (Cause the_language x.scene) is cause))
+  of_the_file st (inr (inr (inl is))) cause = absurd (none.file.not_started (subst (Cause the_language x.scene) is cause))
+  of_the_file st (inr (inr (inr (inl (n, is))))) cause = absurd (none.file.history n (subst (Cause the_language x.scene) is cause))
+  of_the_file st (inr (inr (inr (inr (inl is))))) cause = inl is
+  of_the_file st (inr (inr (inr (inr (inr is))))) cause = inr is
+
+  says_work : (st : Status) (text : List ℕ) → IsTrue x.old.tells → Says x.scene x.old x.new st text → IsWork st
+  says_work _ _ told (bad_line n bad) = absurd (not_both (line_of x.scene.words) none.line.0 n none.line.1 bad)
+  says_work _ _ told (refused r why) = absurd (none.source r why)
+  says_work _ _ told (reported text report back) = inl refl
+  says_work _ _ told (of_file st text is line accepted gives) = of_the_file st is (gives_cause the_language x.scene x.new.seen st text (gives told).0)
+
+  says_done : (st : Status) (text : List ℕ) → IsLineOf x.scene (λ c. executes c ≡ false) → Says x.scene x.old x.new st text → st ≡ status.Done
+  says_done _ _ report (bad_line n bad) = absurd (not_both (line_of x.scene.words) none.line.0 n none.line.1 bad)
+  says_done _ _ report (refused r why) = absurd (none.source r why)
+  says_done _ _ report (reported text shown back) = refl
+  says_done _ _ report (of_file st text is line accepted gives) = absurd (executing x.scene line report)
+
+  abbrev IsOrLacks : Type 0 → Type 0
+  IsOrLacks P = P ⊎ (x.status ≡ status.OutOfMemory)
+
+  -- every end but these two has a cause
+  said_or_lacks : (P : Type 0) → ((text : List ℕ) → Says x.scene x.old x.new x.status text → P) → Ends x → IsOrLacks P
+  said_or_lacks P so (said text says prints) = inl (so text says)
+  said_or_lacks P so (cut st text is says (inl rose) some) = absurd (none.prints rose)
+  said_or_lacks P so (cut st text is says (inr took) some) = absurd (none.took took)
+  said_or_lacks P so (unread is line rose prints) = absurd (none.reads rose)
+  said_or_lacks P so (failed is line accepted rose prints) = absurd (none.disk rose)
+  said_or_lacks P so (no_memory is prints) = inr is
+
+three : {A B C : Type 0} → (A ⊎ B) ⊎ C → A ⊎ B ⊎ C
+three (inl (inl a)) = inl a
+three (inl (inr b)) = inr (inl b)
+three (inr c) = inr (inr c)
+
+pub completes : (x : Call) → IsTrue x.old.tells → Ends x → Completes the_language x
+completes x told ends = record {
+  any = λ none. three (said_or_lacks x none ((x.status ≡ status.Done) ⊎ (x.status ≡ status.Raised)) (λ text says. says_work x none x.status text told says) ends);
+  report = λ none line. said_or_lacks x none (x.status ≡ status.Done) (λ text says. says_done x none x.status text line says) ends;
+}

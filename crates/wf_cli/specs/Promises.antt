@@ -1,0 +1,53 @@
+-- What the top call promises of a call: each row by its name.
+use Rattle.wf_cli.specs.Top.{Call, Ends, BadLineRow, ReadFaultRow, RefusedRow, DiskFaultRow, NotAJournalRow, AlreadyStartedRow, NotStartedRow, NotAHistoryRow, OutcomeRow, DoneRow, ComesBackRow, PrintFaultRow, OnlyThese, Completes, FinishedStays, RefusedStays, ReportsStay, SilentStays, SafeThroughout, SafeAtEnd, LateAtEnd}
+use Rattle.wf_engine.specs.TheLanguage.{the_language}
+use Rattle.wf_host.specs.World.{Told}
+
+pub record Promised (x : Call) : Type 0 where
+  -- it ends in one of these ways, and exactly that was printed
+  pub ends : Ends x
+  -- ## Each status comes exactly where its cause holds, and then its line was printed whole
+  -- the words are no line
+  pub bad_line : BadLineRow x
+  -- only where the count of failed reads rose
+  pub read_fault : ReadFaultRow x
+  -- the source is refused
+  pub refused : RefusedRow x
+  -- only where the count of failed disk calls rose
+  pub disk_fault : DiskFaultRow x
+  -- the file has another magic
+  pub not_a_journal : Told x.old (NotAJournalRow x)
+  -- `run` finds a first record
+  pub already_started : Told x.old (AlreadyStartedRow x)
+  -- `resume` finds none
+  pub not_started : Told x.old (NotStartedRow x)
+  -- `resume` finds records that are no history
+  pub not_a_history : Told x.old (NotAHistoryRow the_language x)
+  -- Done and Raised of a command that executes: the outcome that the journal has at the end
+  pub outcome : Told x.old (OutcomeRow the_language x)
+  -- Done of another command: its report
+  pub done : DoneRow x
+  -- the tree is read back from the layout that `format` printed
+  pub comes_back : ComesBackRow x
+  -- only where the count of failed prints rose or a print took no byte
+  pub print_fault : PrintFaultRow x
+  -- a status of another part never comes
+  pub only : OnlyThese x
+  -- where no cause holds, the command does its work, or there is no memory
+  pub completes : Told x.old (Completes the_language x)
+  -- ## What isn't written
+  -- a journal with an outcome
+  pub finished_stays : Told x.old (FinishedStays the_language x)
+  -- a journal that is refused
+  pub refused_stays : Told x.old (RefusedStays the_language x)
+  -- the file of a command that executes nothing
+  pub reports_stay : Told x.old (ReportsStay x)
+  -- the file where the words are no line or the source is refused
+  pub silent_stays : Told x.old (SilentStays x)
+  -- ## Killed at any moment
+  -- what a crash may leave is safe with what was done by then
+  pub safe : Told x.old (SafeThroughout the_language x)
+  -- and so is what one behind the end may leave
+  pub safe_end : Told x.old (SafeAtEnd the_language x)
+  -- behind the opening's sync, where the status tells what was read then
+  pub late_end : Told x.old (LateAtEnd the_language x)

@@ -1,0 +1,6 @@
+use Rattle.std.proofs.Common.{refl, rules}
+use Rattle.wf_http_serve.proofs.Coming.{fresh}
+use Rattle.wf_http_serve.proofs.visit.Visit.new.Goals as goal
+
+pub returns : goal.returns
+returns c = record { stage = fresh _ _ (search rules) (search rules); close_is = refl }

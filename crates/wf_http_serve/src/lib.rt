@@ -1,0 +1,20 @@
+//! Requests that come to callbacks: what of one was heard so far, and what it is told.
+#![tactic(auto)]
+
+mod asker;
+mod body;
+mod chunk;
+mod fields;
+mod first_line;
+mod framing;
+mod head;
+mod number;
+mod reply;
+mod request;
+mod stage;
+mod trailer;
+mod visit;
+
+pub use asker::{Asker, VisitState};
+pub use reply::{ReplyCode, reply_bytes};
+pub use visit::Visit;

@@ -1,0 +1,57 @@
+// Lists with one item more.
+ghost use Rattle.std.specs.Prelude.{◌≡◌, ◌∷◌, IfOk};
+ghost use Rattle.wf_lib_data.specs.Gives.{Gives};
+ghost use Rattle.wf_shared.specs.LibData.{list_concat, list_prepend};
+ghost use Rattle.wf_value.specs.Plain.{plain, plain_items};
+
+use crate::answers::sized;
+use std::alloc::Global;
+use wf_value::{List, OutOfMemory, Raise, Tag, Value};
+
+/// `list.concat`: the list with a value at its end.
+///
+/// A TypeError where `objs` is no list; a ResourceLimitError where the answer is past the limit on
+/// size, 4,194,304. The list is copied, its items are shared.
+pub fn list_concat(alloc: Global, objs: &Value, val: &Value) -> Result<Value, Raise>
+    ensures { Gives result (list_concat (plain objs.now) (plain val.now)) }
+{
+    let (Ok(mut longer), Ok(last)) = (objs.copy(alloc), val.copy(alloc)) else {
+        return Err(Raise::OutOfMemory);
+    };
+    match &mut longer {
+        Value::List(items) => match items.push(last) {
+            Ok(()) => {}
+            Err(_) => return Err(Raise::OutOfMemory),
+        },
+        _ => return Err(Raise::Error(Tag::TypeError)),
+    }
+    sized(longer)
+}
+
+/// `list.prepend`: the list with a value at its front.
+///
+/// A TypeError where `objs` is no list; a ResourceLimitError where the answer is past the limit on
+/// size, 4,194,304. The list is copied, its items are shared.
+pub fn list_prepend(alloc: Global, objs: &Value, val: &Value) -> Result<Value, Raise>
+    ensures { Gives result (list_prepend (plain objs.now) (plain val.now)) }
+{
+    match objs {
+        Value::List(list) => match behind(alloc, val, list.items()) {
+            Ok(longer) => sized(Value::List(longer)),
+            Err(_) => Err(Raise::OutOfMemory),
+        },
+        _ => Err(Raise::Error(Tag::TypeError)),
+    }
+}
+
+// The list of a value and of some items behind it.
+fn behind(alloc: Global, first: &Value, items: &[Value]) -> Result<List, OutOfMemory>
+    ensures { IfOk result (λ l. l ≡ plain first.now ∷ plain_items items.now) }
+{
+    let mut list = List::new(alloc)?;
+    list.push(first.copy(alloc)?)?;
+    for item in items {
+        list.push(item.copy(alloc)?)?;
+    }
+    Ok(list)
+}

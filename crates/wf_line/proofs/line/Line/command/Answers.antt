@@ -1,6 +1,0 @@
-use Rattle.wf_line.specs.Lines.{words_view}
-use Rattle.wf_line.proofs.Spelled.{reads_line}
-use Rattle.wf_line.proofs.line.Line.command.Goals as goal
-
-pub returns-clause-proper : goal.returns-clause-proper
-returns-clause-proper c = reads_line c.args.self.now.command (words_view c.args.self.now.options.now) c.args.self.now.reads

@@ -1,8 +1,0 @@
-use Rattle.std.proofs.Common.{◌∙◌}
-use Rattle.wf_line.specs.declared.option.OptionName.TheVariants.{Source}
-use Rattle.wf_line.specs.Lines.{words_view}
-use Rattle.wf_line.proofs.Lookups.{found_in_lines}
-use Rattle.wf_line.proofs.lookup.source_of.Goals as goal
-
-pub returns-clause-line : goal.returns-clause-line
-returns-clause-line c l is = c.find_behind.ensures ∙ found_in_lines (words_view c.args.words.now) l Source is

@@ -1,8 +1,0 @@
-// Worked examples.
-ghost use Rattle.wf_line.specs.Rows.{WorkedLines};
-
-/// Carries worked examples: some words, and what line they are or where they are bad.
-#[tactic(auto, unfolding(crate::specs::Lines::line_of))]
-pub fn worked_lines()
-    ensures { WorkedLines }
-{}

@@ -1,2 +1,0 @@
--- The lemmas of printing.
-pub mod Printings

@@ -1,2 +1,0 @@
--- The definitions of printing.
-pub mod Printing
