@@ -60,7 +60,7 @@ fn pairs_of(alloc: Global, value: &Value, with_truth: bool) -> Result<Pairs, Sto
     let Value::Map(map) = value else {
         return Err(Stop::Raised(Tag::TypeError));
     };
-    let mut pairs = Pairs::new(alloc)?;
+    let mut pairs = Pairs::new(alloc);
     for i in 0..usize::MAX {
         let Some((key, value)) = map.entry(i) else {
             break;

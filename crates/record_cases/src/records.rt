@@ -2,12 +2,12 @@
 use std::alloc::Global;
 use wf_cases::{Case, CaseFault, bytes_of, text_of};
 use wf_events::{
-    Event, Events, Pairs, Record, RecordFault, Start, Turn, copy_routes, decode, encode,
-    encode_start, encode_turn, is_argument,
+    Event, Events, Record, RecordFault, Start, Turn, copy_routes, decode, encode, encode_start,
+    encode_turn, is_argument,
 };
 use wf_host::{Address, Routes};
 use wf_host_cases::write_bytes;
-use wf_value::{Text, Value};
+use wf_value::{Pairs, Text, Value};
 
 /// Which kind of record a payload is.
 pub fn kind(alloc: Global, case: &Case<'_>) -> Result<String, CaseFault> {

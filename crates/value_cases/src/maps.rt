@@ -79,7 +79,7 @@ pub(crate) fn copied(alloc: Global, items: &[Value]) -> Result<String, CaseFault
 
 /// A list of pairs of texts: how many there are, and each as `KEY=VALUE`.
 pub(crate) fn pairs(alloc: Global, items: &[Value]) -> Result<String, CaseFault> {
-    let mut pairs = Pairs::new(alloc)?;
+    let mut pairs = Pairs::new(alloc);
     for item in items {
         let Value::List(pair) = item else {
             return Err(CaseFault::NoCase);

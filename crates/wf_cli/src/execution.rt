@@ -27,11 +27,11 @@ use wf_args::Line;
 use wf_ast::Program;
 use wf_deeds::laws_of_rules;
 use wf_engine::{Engine, EngineFault};
-use wf_events::{Pairs, Start, one_spelling};
+use wf_events::{Start, one_spelling};
 use wf_host::{Host, Routes, Source, read_up_to};
 use wf_replay::{laws_of_histories, laws_of_moments};
 use wf_source::{SOURCE_LIMIT, each_source_is_one, laws_of_sources, read_source};
-use wf_value::{Bytes, OutOfMemory, Text};
+use wf_value::{Bytes, OutOfMemory, Pairs, Text};
 
 /// A text of these characters, which are told to be UTF-8.
 fn utf8_text(alloc: Global, text: &str) -> Result<Text, OutOfMemory>

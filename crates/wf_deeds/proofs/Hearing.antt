@@ -15,7 +15,7 @@ use Rattle.wf_deeds.proofs.Visits.{bool_case, decision_is, find_put, undecided_p
 use Rattle.wf_deeds.specs.Deeds.{polls, nows, poll_readings, greatest, reading_by, was_started, was_dropped, was_replied, before_poll, Told, tells, told_of, answer_told, call_of, Visit, Decision, decision, visit_of, visits_after, hears_visit, put_visit, find_visit, undecided as undecided_in, poll_at}
 use Rattle.wf_deeds.specs.Kept.{IsOpen, Decides, own, reading_of, last_of}
 use Rattle.wf_deeds.specs.Memory.{Owed, Memory, IsAnswerTo, IsOfOutside, session, forgotten, answer_by, decided_by, owes_by, arrival_by, taken_of, visit_by, decision_by}
-use Rattle.wf_deeds.specs.Outside.{Ended, Failed, Outside, Verdict, Arrives, Refuses}
+use Rattle.wf_deeds.specs.Outside.{Outside, Verdict, Arrives, Refuses}
 use Rattle.wf_deeds.specs.Rules.{IsSent, IsBrought, NoTurnYet, DeedKeepsRules, with_deed}
 use Rattle.wf_deeds.specs.Steps.{weight, VisitsAre, PollIsKept, HearingGoesOn}
 use Rattle.wf_host.specs.declared.data.Deed.{Deed}
@@ -29,6 +29,7 @@ use Rattle.wf_replay.specs.History.{Standing}
 use Rattle.wf_replay.specs.Moments.{HistoryStandsThere, is_by}
 use Rattle.wf_shared.specs.Events as plain
 use Rattle.wf_shared.specs.Events.{Event, Turn}
+use Rattle.wf_shared.specs.HttpBody.{Ended, Broke}
 use Rattle.wf_shared.specs.HttpRequest.{Request}
 
 -- ## Cases
@@ -43,7 +44,7 @@ same_call j k same = ap (λ i. Some i) (eqb-true j k same)
 tells_of : (w : What) (k : ℕ) → (call_of w ≡ Some k) ⊎ ((t : Told) → tells k w t ≡ t)
 tells_of (what.Bytes j b) k = bool_case (λ v. (call_of (what.Bytes j b) ≡ Some k) ⊎ ((t : Told) → (if v then record { bytes = t.bytes ++ b; close = t.close } else t) ≡ t)) (nat_eq j k) (λ same. inl (same_call j k same)) (λ _. inr (λ t. refl))
 tells_of (what.End j) k = bool_case (λ v. (call_of (what.End j) ≡ Some k) ⊎ ((t : Told) → (if v then record { bytes = t.bytes; close = Ended } else t) ≡ t)) (nat_eq j k) (λ same. inl (same_call j k same)) (λ _. inr (λ t. refl))
-tells_of (what.Broken j) k = bool_case (λ v. (call_of (what.Broken j) ≡ Some k) ⊎ ((t : Told) → (if v then record { bytes = t.bytes; close = Failed } else t) ≡ t)) (nat_eq j k) (λ same. inl (same_call j k same)) (λ _. inr (λ t. refl))
+tells_of (what.Broken j) k = bool_case (λ v. (call_of (what.Broken j) ≡ Some k) ⊎ ((t : Told) → (if v then record { bytes = t.bytes; close = Broke } else t) ≡ t)) (nat_eq j k) (λ same. inl (same_call j k same)) (λ _. inr (λ t. refl))
 tells_of what.Nothing k = inr (λ t. refl)
 tells_of (what.Visit n b) k = inr (λ t. refl)
 tells_of (what.VisitEnd n) k = inr (λ t. refl)

@@ -3,12 +3,13 @@
 --     told_of, answer_told            what was told of a call since its start, and the answer that it comes to
 --     visits_after, decision          the visits so far, and the visit that a poll decides
 use Rattle.std.specs.Prelude.{ℕ, zero, suc, max, Bool, true, false, ◌||◌, nat_eq, nat_le, if◌then◌else◌, is_some, List, [], ◌∷◌, ◌++◌, take, Option, Some, None, option_and_then}
-use Rattle.wf_deeds.specs.Outside.{Close, Going, Ended, Failed, Outside}
+use Rattle.wf_deeds.specs.Outside.{Outside}
 use Rattle.wf_host.specs.declared.data.Deed.{Deed}
 use Rattle.wf_host.specs.declared.data.Deed.TheVariants.{Start, Poll, Now, Reply, Drop, Print}
 use Rattle.wf_host.specs.declared.data.What.{What}
 use Rattle.wf_host.specs.declared.data.What.TheVariants as what
 use Rattle.wf_shared.specs.Events as plain
+use Rattle.wf_shared.specs.HttpBody.{Close, Open, Ended, Broke}
 
 -- ## Counts and readings
 abbrev pub polls : List Deed → ℕ
@@ -94,12 +95,12 @@ pub record Told : Type 0 where
   pub close : Close
 
 abbrev pub nothing_told : Told
-nothing_told = record { bytes = []; close = Going }
+nothing_told = record { bytes = []; close = Open }
 
 abbrev pub tells : ℕ → What → Told → Told
 tells k (what.Bytes j b) t = if nat_eq j k then record { bytes = t.bytes ++ b; close = t.close } else t
 tells k (what.End j) t = if nat_eq j k then record { bytes = t.bytes; close = Ended } else t
-tells k (what.Broken j) t = if nat_eq j k then record { bytes = t.bytes; close = Failed } else t
+tells k (what.Broken j) t = if nat_eq j k then record { bytes = t.bytes; close = Broke } else t
 tells k w t = t
 
 abbrev pub told_on : ℕ → Told → List Deed → Told

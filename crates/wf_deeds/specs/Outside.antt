@@ -2,13 +2,8 @@
 use Rattle.std.specs.Prelude.{ℕ, Bool, List, Option}
 use Rattle.wf_model.specs.Config.{Config}
 use Rattle.wf_shared.specs.Events.{Reply, Visitor}
+use Rattle.wf_shared.specs.HttpBody.{Close}
 use Rattle.wf_shared.specs.HttpText.{ReplyCode, Accepted}
-
--- how a connection stands
-pub data Close : Type 0 where
-  Going : Close
-  Ended : Close
-  Failed : Close
 
 -- what a visit gets: it arrives at an endpoint, or is told why not
 pub data Verdict : Type 0 where

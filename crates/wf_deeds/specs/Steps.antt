@@ -5,7 +5,7 @@ use Rattle.wf_ast.specs.Tree.{Program}
 use Rattle.wf_deeds.specs.Deeds.{nows, reading_by, Told, nothing_told, tells, Visit, visit_of, IsSmall}
 use Rattle.wf_deeds.specs.Kept.{Command, Session, Kept, IsOpen, last_of}
 use Rattle.wf_deeds.specs.Memory.{Owed, Memory, session, LeadsTo, IsSettled, AllIsSent, StandsFor, taken_by, owes_by, decided_by, visit_by}
-use Rattle.wf_deeds.specs.Outside.{Going, Outside, code_of}
+use Rattle.wf_deeds.specs.Outside.{Outside, code_of}
 use Rattle.wf_deeds.specs.Rules.{IsOwn, with_end}
 use Rattle.wf_deeds.specs.Turns.{TakeReading, turn_of}
 use Rattle.wf_events.specs.Reading.{meaning}
@@ -21,6 +21,7 @@ use Rattle.wf_model.specs.Run.{run_on}
 use Rattle.wf_replay.specs.At.{journal, config_before}
 use Rattle.wf_replay.specs.Language.{Language}
 use Rattle.wf_shared.specs.Events.{Event, Turn}
+use Rattle.wf_shared.specs.HttpBody.{Open}
 use Rattle.wf_shared.specs.HttpText.{reply_bytes}
 
 -- ## Memories
@@ -49,7 +50,7 @@ pub record Starts (m : Memory) (k : ℕ) (started : ℕ → Bool) (told : ℕ �
 
 -- nothing heard is no answer
 abbrev pub WaitsToHear : Outside → Type 0
-WaitsToHear O = O.answer_of [] Going ≡ None
+WaitsToHear O = O.answer_of [] Open ≡ None
 
 abbrev pub StartGoesOn : Type 0
 StartGoesOn = (L : Language) (O : Outside) (command : Command) (handed : Bool) (m : Memory) (J : List (List ℕ)) (D : List Deed) (k : ℕ) (to : Address) (bytes : List ℕ) (started : ℕ → Bool) (told : ℕ → Told)

@@ -5,7 +5,7 @@ ghost use Rattle.wf_events.specs.View.{event_view, events_view, event_list};
 use std::alloc::Global;
 use std::marker::Model;
 use wf_host::Routes;
-use wf_value::{Bytes, OutOfMemory, Text};
+use wf_value::{Bytes, OutOfMemory, Pairs, Text};
 
 /// An atomic step of an execution: one change of its configuration. The reading of the clock that an event takes is in
 /// milliseconds since 1970.
@@ -62,60 +62,6 @@ pub struct Turn {
     pub waits: u64,
     /// What happened, in order.
     pub events: Events,
-}
-
-/// Pairs of a key and a value, in the order in which they were pushed.
-#[derive(Drop)]
-pub struct Pairs {
-    items: Vec<(Text, Text)>,
-}
-
-impl Model for Pairs {
-    ghost use Rattle.std.specs.Prelude.{List, ℕ};
-
-    ghost Value = { List (List ℕ × List ℕ) };
-
-    ghost view = { λ p. p.items.items };
-}
-
-impl Pairs {
-    /// No pairs.
-    pub fn new(alloc: Global) -> Pairs
-        ensures { result ≡ [] }
-    {
-        Pairs {
-            items: Vec::new(alloc),
-        }
-    }
-
-    /// Adds a pair at the end. Without memory for it the pairs stay as they are.
-    pub fn push(&mut self, key: Text, value: Text) -> Result<(), OutOfMemory>
-        ensures ok { OnOk result (self.new ≡ self.old ++ (key, value) ∷ []) }
-        ensures err { OnErr result (self.new ≡ self.old) }
-    {
-        match self.items.push((key, value)) {
-            Ok(()) => Ok(()),
-            Err(_) => Err(OutOfMemory),
-        }
-    }
-
-    /// A copy, with the same pairs.
-    pub fn copy(&self, alloc: Global) -> Result<Pairs, OutOfMemory>
-        ensures { IfOk result (λ copy. copy ≡ self.now) }
-    {
-        let mut copy = Pairs::new(alloc);
-        for pair in &self.items {
-            copy.push(pair.0.copy()?, pair.1.copy()?)?;
-        }
-        Ok(copy)
-    }
-
-    /// The pairs.
-    pub fn items(&self) -> &[(Text, Text)]
-        ensures { result.now ≡ self.now }
-    {
-        &self.items
-    }
 }
 
 /// What an execution is started with, under the first rules.

@@ -11,7 +11,7 @@ mod rows;
 mod writing;
 
 pub use argument::is_argument;
-pub use data::{Event, Events, Pairs, Record, Start, Turn};
+pub use data::{Event, Events, Record, Start, Turn};
 pub use fault::RecordFault;
 pub use laws::one_spelling;
 pub use reading::decode;

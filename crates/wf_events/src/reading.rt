@@ -7,11 +7,11 @@ ghost use Rattle.wf_events.specs.Spelling.{Spells};
 ghost use Rattle.wf_events.specs.View.{route_view, start_view, event_view, events_view, turn_view, record_view};
 
 use crate::argument::is_argument;
-use crate::data::{Event, Events, Pairs, Record, Start, Turn};
+use crate::data::{Event, Events, Record, Start, Turn};
 use crate::fault::{ReadFault, RecordFault};
 use std::alloc::Global;
 use wf_host::{Address, Routes};
-use wf_value::{Bytes, Text};
+use wf_value::{Bytes, Pairs, Text};
 
 /// The bytes of a record that are still to read. Each of its calls takes a part from the front, or says how many bytes were
 /// left where no such part stands.

@@ -5,10 +5,10 @@ ghost use Rattle.wf_events.specs.Spelling as spelling;
 ghost use Rattle.wf_events.specs.Spelling.{record_bytes, HasSpelling, Each, IsPair, IsRoute, IsString, IsStart, IsTurn, IsOld};
 ghost use Rattle.wf_events.specs.View.{record_view, route_view, start_view, turn_view, event_view, events_view};
 
-use crate::data::{Event, Events, Pairs, Record, Start, Turn};
+use crate::data::{Event, Events, Record, Start, Turn};
 use std::alloc::{AllocError, Global};
 use wf_host::{Address, Routes};
-use wf_value::{OutOfMemory, Text};
+use wf_value::{OutOfMemory, Pairs, Text};
 
 /// The bytes of a record so far.
 #[derive(Drop)]

@@ -4,9 +4,9 @@ ghost use Rattle.wf_events.specs.View.{start_view};
 ghost use Rattle.wf_machine.specs.Facts.{facts_of, facts_view};
 
 use std::alloc::Global;
-use wf_events::{Pairs, Start, copy_routes};
+use wf_events::{Start, copy_routes};
 use wf_host::Routes;
-use wf_value::{OutOfMemory, Text};
+use wf_value::{OutOfMemory, Pairs, Text};
 
 /// What no event of an execution changes. These programs can see none of it yet.
 #[derive(Drop)]

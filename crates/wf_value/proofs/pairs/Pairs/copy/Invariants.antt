@@ -1,5 +1,5 @@
 use Rattle.std.proofs.Common.{◌≡◌, take}
-use Rattle.wf_events.proofs.data.Pairs.copy.Given as goal
+use Rattle.wf_value.proofs.pairs.Pairs.copy.Given as goal
 
 -- so far the first pairs
 abbrev pub invariant-loop-pair : goal.invariant-loop-pair
