@@ -6,6 +6,7 @@ mod FirstRecords
 pub mod Forms
 pub mod Language
 mod LivesKept
+mod LivesPrinted
 mod LivesRuns
 mod NewSessions
 mod Reopened

@@ -24,7 +24,7 @@ use Rattle.wf_shared.specs.HttpRequest.{Request}
 
 -- ## Places in a life
 module _ (L : Language) (O : Outside) (R : Reports) where
-  stay_at : (image : List ℕ) (xs : List Stay) (x : Stay) (k : ℕ) → IsLifeFrom L O R image xs → k < length xs → get_or xs k x ≡ x → IsStay L O R x
+  pub stay_at : (image : List ℕ) (xs : List Stay) (x : Stay) (k : ℕ) → IsLifeFrom L O R image xs → k < length xs → get_or xs k x ≡ x → IsStay L O R x
   stay_at image [] x k chain lt is = absurd (omega (arith, lt))
   stay_at image (z ∷ zs) x zero chain lt is = subst (λ s. IsStay L O R s) is chain.1
   stay_at image (z ∷ zs) x (suc k) chain lt is = stay_at z.left zs x k chain.2 (omega (arith, lt)) is

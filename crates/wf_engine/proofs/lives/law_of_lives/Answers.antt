@@ -1,4 +1,5 @@
 use Rattle.wf_engine.proofs.LivesKept as lives
+use Rattle.wf_engine.proofs.LivesPrinted as printed
 use Rattle.wf_engine.proofs.lives.law_of_lives.Goals as goal
 
 pub returns-clause-files_stay_fit : goal.returns-clause-files_stay_fit
@@ -15,3 +16,13 @@ returns-clause-one_request c = lives.one_request c.laws_of_runs.ensures.requests
 
 pub returns-clause-closed : goal.returns-clause-closed
 returns-clause-closed c = lives.closed c.laws_of_runs.ensures.requests_stay c.laws_of_histories.ensures.computed
+
+pub returns-clause-pair_is_a_stay : goal.returns-clause-pair_is_a_stay
+returns-clause-pair_is_a_stay c = printed.pair_is_a_stay
+
+pub returns-clause-prints_by_a_cause : goal.returns-clause-prints_by_a_cause
+returns-clause-prints_by_a_cause c = printed.prints_by_a_cause
+
+pub returns-clause-prints_one_line : goal.returns-clause-prints_one_line
+returns-clause-prints_one_line c =
+    printed.prints_one_line (lives.one_line c.laws_of_runs.ensures.front_is_a_run c.laws_of_runs.ensures.runs_agree c.laws_of_runs.ensures.nothing_follows_an_outcome c.laws_of_histories.ensures.computed)
