@@ -25,13 +25,8 @@ impl Bytes {
     pub fn new(alloc: Global, b: &[u8]) -> Result<Bytes, OutOfMemory>
         ensures { IfOk result (λ t. t ≡ b.now) }
     {
-        let Ok(owned) = Vec::from_slice(alloc, b) else {
-            return Err(OutOfMemory);
-        };
-        match Rc::new(alloc, owned) {
-            Ok(bytes) => Ok(Bytes { bytes }),
-            Err(_) => Err(OutOfMemory),
-        }
+        let bytes = Rc::new(alloc, Vec::from_slice(alloc, b)?)?;
+        Ok(Bytes { bytes })
     }
 
     /// The bytes.
@@ -45,9 +40,8 @@ impl Bytes {
     pub fn copy(&self) -> Result<Bytes, OutOfMemory>
         ensures { IfOk result (λ t. t ≡ self.now) }
     {
-        match self.bytes.clone() {
-            Ok(bytes) => Ok(Bytes { bytes }),
-            Err(_) => Err(OutOfMemory),
-        }
+        Ok(Bytes {
+            bytes: self.bytes.clone()?,
+        })
     }
 }

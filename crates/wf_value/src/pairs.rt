@@ -34,10 +34,8 @@ impl Pairs {
         ensures ok { OnOk result (self.new ≡ self.old ++ (key, value) ∷ []) }
         ensures err { OnErr result (self.new ≡ self.old) }
     {
-        match self.pairs.push((key, value)) {
-            Ok(()) => Ok(()),
-            Err(_) => Err(OutOfMemory),
-        }
+        self.pairs.push((key, value))?;
+        Ok(())
     }
 
     /// A copy, with the same pairs, which shares their texts.

@@ -44,10 +44,8 @@ impl Path {
     pub fn push(&mut self, part: PathPart) -> Result<(), OutOfMemory>
         ensures { self.new ≡ (if is_ok result then self.old ++ part ∷ [] else self.old) }
     {
-        match self.parts.push(part) {
-            Ok(()) => Ok(()),
-            Err(_) => Err(OutOfMemory),
-        }
+        self.parts.push(part)?;
+        Ok(())
     }
 
     /// The steps, the outermost first.
@@ -62,10 +60,8 @@ impl Path {
     pub fn print(&self, alloc: Global) -> Result<Text, OutOfMemory>
         ensures { IfOk result (λ t. t ≡ path_text self.now) }
     {
-        match printed(alloc, self.parts.as_slice()) {
-            Ok(text) => Text::new(alloc, text.as_str()),
-            Err(_) => Err(OutOfMemory),
-        }
+        let text = printed(alloc, self.parts.as_slice())?;
+        Text::new(alloc, text.as_str())
     }
 }
 

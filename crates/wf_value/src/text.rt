@@ -25,13 +25,8 @@ impl Text {
     pub fn new(alloc: Global, s: &str) -> Result<Text, OutOfMemory>
         ensures { IfOk result (λ t. t ≡ s.now) }
     {
-        let Ok(owned) = String::from_str(alloc, s) else {
-            return Err(OutOfMemory);
-        };
-        match Rc::new(alloc, owned) {
-            Ok(text) => Ok(Text { text }),
-            Err(_) => Err(OutOfMemory),
-        }
+        let text = Rc::new(alloc, String::from_str(alloc, s)?)?;
+        Ok(Text { text })
     }
 
     /// The characters.
@@ -45,9 +40,8 @@ impl Text {
     pub fn copy(&self) -> Result<Text, OutOfMemory>
         ensures { IfOk result (λ t. t ≡ self.now) }
     {
-        match self.text.clone() {
-            Ok(text) => Ok(Text { text }),
-            Err(_) => Err(OutOfMemory),
-        }
+        Ok(Text {
+            text: self.text.clone()?,
+        })
     }
 }
