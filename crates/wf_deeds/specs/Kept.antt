@@ -16,7 +16,7 @@ use Rattle.wf_model.specs.Ready.{call, least_due, quiet, request_of}
 use Rattle.wf_replay.specs.At.{Journal, journal, config_at, config_before, session_turns}
 use Rattle.wf_replay.specs.Language.{Language}
 use Rattle.wf_shared.specs.Events as plain
-use Rattle.wf_shared.specs.Events.{Event, Turn, Visitor}
+use Rattle.wf_shared.specs.Events.{Event, Arrive, Turn, Visitor}
 use Rattle.wf_shared.specs.HttpRequest.{Request}
 use Rattle.wf_shared.specs.HttpText.{reply_bytes}
 
