@@ -1,6 +1,7 @@
 pub mod Order
 pub mod Laws
 pub mod Depths
+pub mod Measured
 pub mod Seeks
 pub mod PairTrees
 pub mod Unplain

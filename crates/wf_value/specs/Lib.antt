@@ -1,5 +1,6 @@
 pub mod Data
 pub mod Code
+pub mod Measures
 pub mod Plain
 pub mod Falls
 pub mod Maps

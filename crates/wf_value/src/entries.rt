@@ -3,9 +3,14 @@ ghost use Rattle.std.specs.Prelude.{◌≡◌, IfOk, is_ok, length, if◌then◌
 ghost use Rattle.std.specs.List.Sorted.{IsSearchInRange};
 ghost use Rattle.std.specs.Option.{option_copied};
 ghost use Rattle.std_collections.specs.Layout.BTreeMap.{seek};
+ghost use Rattle.wf_value.specs.Data.{map, pairs_of};
 ghost use Rattle.wf_value.specs.Maps.{IsInOrder, key_cmp, value_at, with_value, without};
+ghost use Rattle.wf_value.specs.Measures.{IsMeasure};
+ghost use Rattle.wf_value.specs.Plain.{plain_pairs};
 
-use crate::sharing::own_pairs;
+use crate::measure::Measure;
+use crate::sharing::own_entries;
+use crate::value::Entries;
 use crate::{OutOfMemory, Text, Value};
 use std::mem;
 use std::rc::Rc;
@@ -23,38 +28,83 @@ pub(crate) fn find<'a>(pairs: &'a [(Text, Value)], key: &str) -> Option<&'a Valu
 
 // Puts the value at the key, and gives what was there.
 pub(crate) fn insert_pair(
-    pairs: &mut Rc<Vec<(Text, Value)>>,
+    entries: &mut Rc<Entries>,
     key: Text,
     value: Value,
 ) -> Result<Option<Value>, OutOfMemory>
-    requires { IsInOrder pairs.old.value.items }
-    ensures after { pairs.new.value.items ≡ (if is_ok result then with_value key value pairs.old.value.items else pairs.old.value.items) }
-    ensures old { IfOk result (λ v. v ≡ value_at key pairs.old.value.items) }
+    requires order { IsInOrder entries.old.value.pairs.items }
+    requires measured { IsMeasure entries.old.value.measure (map (pairs_of (plain_pairs entries.old.value.pairs.items))) }
+    ensures after { entries.new.value.pairs.items ≡ (if is_ok result then with_value key value entries.old.value.pairs.items else entries.old.value.pairs.items) }
+    ensures old { IfOk result (λ v. v ≡ value_at key entries.old.value.pairs.items) }
+    ensures measure { IsMeasure entries.new.value.measure (map (pairs_of (plain_pairs entries.new.value.pairs.items))) }
 {
-    own_pairs(pairs)?;
-    match Rc::get_mut(pairs) {
-        Some(own) => put(own, key, value),
+    own_entries(entries)?;
+    match Rc::get_mut(entries) {
+        Some(own) => put_measured(own, key, value),
         None => Err(OutOfMemory),
     }
 }
 
 // Takes the key and its value away.
 pub(crate) fn remove_pair(
-    pairs: &mut Rc<Vec<(Text, Value)>>,
+    entries: &mut Rc<Entries>,
     key: &str,
 ) -> Result<Option<Value>, OutOfMemory>
-    requires { IsInOrder pairs.old.value.items }
-    ensures after { pairs.new.value.items ≡ (if is_ok result then without key.now pairs.old.value.items else pairs.old.value.items) }
-    ensures old { IfOk result (λ v. v ≡ value_at key.now pairs.old.value.items) }
+    requires order { IsInOrder entries.old.value.pairs.items }
+    requires measured { IsMeasure entries.old.value.measure (map (pairs_of (plain_pairs entries.old.value.pairs.items))) }
+    ensures after { entries.new.value.pairs.items ≡ (if is_ok result then without key.now entries.old.value.pairs.items else entries.old.value.pairs.items) }
+    ensures old { IfOk result (λ v. v ≡ value_at key.now entries.old.value.pairs.items) }
+    ensures measure { IsMeasure entries.new.value.measure (map (pairs_of (plain_pairs entries.new.value.pairs.items))) }
 {
-    if find(pairs.as_slice(), key).is_none() {
+    if find(entries.pairs.as_slice(), key).is_none() {
         return Ok(None);
     }
-    own_pairs(pairs)?;
-    match Rc::get_mut(pairs) {
-        Some(own) => Ok(take(own, key)),
+    own_entries(entries)?;
+    match Rc::get_mut(entries) {
+        Some(own) => Ok(take_measured(own, key)),
         None => Err(OutOfMemory),
     }
+}
+
+fn put_measured(
+    entries: &mut Entries,
+    key: Text,
+    value: Value,
+) -> Result<Option<Value>, OutOfMemory>
+    requires order { IsInOrder entries.old.pairs.items }
+    requires measured { IsMeasure entries.old.measure (map (pairs_of (plain_pairs entries.old.pairs.items))) }
+    ensures after { entries.new.pairs.items ≡ (if is_ok result then with_value key value entries.old.pairs.items else entries.old.pairs.items) }
+    ensures old { IfOk result (λ v. v ≡ value_at key entries.old.pairs.items) }
+    ensures measure { IsMeasure entries.new.measure (map (pairs_of (plain_pairs entries.new.pairs.items))) }
+{
+    let new = Measure::of_value(&value);
+    let with_pair = entries.measure.with_pair(&key, new);
+    match put(&mut entries.pairs, key, value)? {
+        None => {
+            entries.measure = with_pair;
+            Ok(None)
+        }
+        Some(replaced) => {
+            let old = Measure::of_value(&replaced);
+            let Some(measure) = entries.measure.with_new(old, new) else {
+                entries.measure = Measure::of_pairs(entries.pairs.as_slice());
+                return Ok(Some(replaced));
+            };
+            entries.measure = measure;
+            Ok(Some(replaced))
+        }
+    }
+}
+
+fn take_measured(entries: &mut Entries, key: &str) -> Option<Value>
+    requires order { IsInOrder entries.old.pairs.items }
+    ensures after { entries.new.pairs.items ≡ without key.now entries.old.pairs.items }
+    ensures old { result ≡ value_at key.now entries.old.pairs.items }
+    ensures measure { IsMeasure entries.new.measure (map (pairs_of (plain_pairs entries.new.pairs.items))) }
+{
+    let taken = take(&mut entries.pairs, key);
+    entries.measure = Measure::of_pairs(entries.pairs.as_slice());
+    taken
 }
 
 // Where the key stands, or where it belongs.

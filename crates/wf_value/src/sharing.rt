@@ -1,20 +1,23 @@
 // Contents that several values share: a write makes its own copy first.
 ghost use Rattle.std.specs.Prelude.{◌≡◌, IfOk};
 
+use crate::value::{Entries, Items};
 use crate::{OutOfMemory, Text, Value};
 use std::alloc::Global;
 use std::rc::Rc;
 
 // Makes this the only owner of the items, which stay the same.
-pub(crate) fn own_items(items: &mut Rc<Vec<Value>>) -> Result<(), OutOfMemory>
-    ensures { items.new.value.items ≡ items.old.value.items }
+pub(crate) fn own_items(items: &mut Rc<Items>) -> Result<(), OutOfMemory>
+    ensures items { items.new.value.values.items ≡ items.old.value.values.items }
+    ensures measure { items.new.value.measure ≡ items.old.value.measure }
 {
     if Rc::strong_count(items) == 1 {
         return Ok(());
     }
-    let alloc = *items.allocator();
-    let copies = copy_items(alloc, items.as_slice())?;
-    match Rc::new(alloc, copies) {
+    let alloc = *items.values.allocator();
+    let values = copy_items(alloc, items.values.as_slice())?;
+    let measure = items.measure;
+    match Rc::new(alloc, Items { values, measure }) {
         Ok(own) => {
             *items = own;
             Ok(())
@@ -38,17 +41,19 @@ fn copy_items(alloc: Global, items: &[Value]) -> Result<Vec<Value>, OutOfMemory>
 }
 
 // Makes this the only owner of the pairs, which stay the same.
-pub(crate) fn own_pairs(pairs: &mut Rc<Vec<(Text, Value)>>) -> Result<(), OutOfMemory>
-    ensures { pairs.new.value.items ≡ pairs.old.value.items }
+pub(crate) fn own_entries(entries: &mut Rc<Entries>) -> Result<(), OutOfMemory>
+    ensures pairs { entries.new.value.pairs.items ≡ entries.old.value.pairs.items }
+    ensures measure { entries.new.value.measure ≡ entries.old.value.measure }
 {
-    if Rc::strong_count(pairs) == 1 {
+    if Rc::strong_count(entries) == 1 {
         return Ok(());
     }
-    let alloc = *pairs.allocator();
-    let copies = copy_pairs(alloc, pairs.as_slice())?;
-    match Rc::new(alloc, copies) {
+    let alloc = *entries.pairs.allocator();
+    let pairs = copy_pairs(alloc, entries.pairs.as_slice())?;
+    let measure = entries.measure;
+    match Rc::new(alloc, Entries { pairs, measure }) {
         Ok(own) => {
-            *pairs = own;
+            *entries = own;
             Ok(())
         }
         Err(_) => Err(OutOfMemory),

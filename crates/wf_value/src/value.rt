@@ -1,11 +1,14 @@
 // Values: their types, and how lists and maps are built and read.
 ghost use Rattle.std.specs.Prelude.{◌≡◌, [], ◌∷◌, ◌++◌, IfOk, is_ok, option_map, if◌then◌else◌};
 ghost use Rattle.std.specs.List.{slice_get};
+ghost use Rattle.wf_value.specs.Data.{items_of, list, map, pairs_of};
 ghost use Rattle.wf_value.specs.Maps.{IsInOrder, value_at, with_value, without};
+ghost use Rattle.wf_value.specs.Measures.{IsMeasure};
 ghost use Rattle.wf_value.specs.Plain.{plain, plain_items, plain_pairs};
 
 use crate::entries::{find, insert_pair, remove_pair};
-use crate::sharing::own_items;
+use crate::items::push_item;
+use crate::measure::Measure;
 use crate::{Bytes, OutOfMemory, Text};
 use std::alloc::Global;
 use std::marker::Model;
@@ -46,7 +49,7 @@ impl Drop for Value {
 #[cycle(value)]
 #[derive(Drop)]
 pub struct List {
-    items: Rc<Vec<Value>>,
+    items: Rc<Items>,
 }
 
 /// Values by key, which contracts see as the list of the pairs in the order of the keys' bytes.
@@ -54,12 +57,28 @@ pub struct List {
 #[cycle(value)]
 #[derive(Drop)]
 pub struct Map {
-    pairs: Rc<Vec<(Text, Value)>>,
+    entries: Rc<Entries>,
+}
+
+// What a list holds, and its measure.
+#[cycle(value)]
+#[derive(Drop)]
+pub(crate) struct Items {
+    pub(crate) values: Vec<Value>,
+    pub(crate) measure: Measure,
+}
+
+// What a map holds, and its measure.
+#[cycle(value)]
+#[derive(Drop)]
+pub(crate) struct Entries {
+    pub(crate) pairs: Vec<(Text, Value)>,
+    pub(crate) measure: Measure,
 }
 
 impl Model for List {
     ghost use Rattle.std.specs.Prelude.{List as Seq};
-    ghost use Rattle.wf_value.specs.Data.{Data, items_depth, items_of};
+    ghost use Rattle.wf_value.specs.Data.{Data, items_depth, items_of, list};
     ghost use Rattle.wf_value.specs.Code.{coded_items};
 
     ghost Value = { Seq Data };
@@ -68,19 +87,23 @@ impl Model for List {
 
     ghost use Rattle.wf_value.specs.Plain.{plain_items};
 
-    ghost view = { λ a. plain_items a.items.value.items };
+    ghost view = { λ a. plain_items a.items.value.values.items };
+
+    ghost use Rattle.wf_value.specs.Measures.{IsMeasure};
+
+    ghost invariant = { λ a. IsMeasure a.items.value.measure (list (items_of (plain_items a.items.value.values.items))) };
 
     ghost size = { λ ds. items_depth (items_of ds) };
 
     ghost use Rattle.wf_value.specs.Falls.{most_items};
 
-    ghost size_decreases = { λ a h. most_items a.items.value.items };
+    ghost size_decreases = { λ a h. most_items a.items.value.values.items };
 }
 
 impl Model for Map {
     ghost use Rattle.std.specs.Prelude.{List as Seq, ℕ};
     ghost use Rattle.wf_value.specs.Maps.{IsInOrder};
-    ghost use Rattle.wf_value.specs.Data.{Data, pairs_depth, pairs_of};
+    ghost use Rattle.wf_value.specs.Data.{Data, map, pairs_depth, pairs_of};
     ghost use Rattle.wf_value.specs.Code.{coded_pairs};
 
     ghost Value = { Seq (Seq ℕ × Data) };
@@ -89,15 +112,17 @@ impl Model for Map {
 
     ghost use Rattle.wf_value.specs.Plain.{plain_pairs};
 
-    ghost view = { λ a. plain_pairs a.pairs.value.items };
+    ghost view = { λ a. plain_pairs a.entries.value.pairs.items };
 
-    ghost invariant = { λ a. IsInOrder a.pairs.value.items };
+    ghost use Rattle.wf_value.specs.Measures.{IsMeasure};
+
+    ghost invariant = { λ a. IsInOrder a.entries.value.pairs.items × IsMeasure a.entries.value.measure (map (pairs_of (plain_pairs a.entries.value.pairs.items))) };
 
     ghost size = { λ ps. pairs_depth (pairs_of ps) };
 
     ghost use Rattle.wf_value.specs.Falls.{most_pairs};
 
-    ghost size_decreases = { λ a h. most_pairs a.pairs.value.items };
+    ghost size_decreases = { λ a h. most_pairs a.entries.value.pairs.items };
 }
 
 impl List {
@@ -105,7 +130,9 @@ impl List {
     pub fn new(alloc: Global) -> Result<List, OutOfMemory>
         ensures { IfOk result (λ l. l ≡ []) }
     {
-        match Rc::new(alloc, Vec::new(alloc)) {
+        let values = Vec::new(alloc);
+        let measure = Measure::of_nothing();
+        match Rc::new(alloc, Items { values, measure }) {
             Ok(items) => Ok(List { items }),
             Err(_) => Err(OutOfMemory),
         }
@@ -115,21 +142,21 @@ impl List {
     pub fn push(&mut self, item: Value) -> Result<(), OutOfMemory>
         ensures { self.new ≡ (if is_ok result then self.old ++ plain item ∷ [] else self.old) }
     {
-        own_items(&mut self.items)?;
-        match Rc::get_mut(&mut self.items) {
-            Some(items) => match items.push(item) {
-                Ok(()) => Ok(()),
-                Err(_) => Err(OutOfMemory),
-            },
-            None => Err(OutOfMemory),
-        }
+        push_item(&mut self.items, item)
     }
 
     /// The items, the first one first.
     pub fn items(&self) -> &[Value]
         ensures { plain_items result.now ≡ self.now }
     {
-        self.items.as_slice()
+        self.items.values.as_slice()
+    }
+
+    // What the list counts for, and how deep it nests.
+    pub(crate) fn measure(&self) -> Measure
+        ensures { IsMeasure result (list (items_of self.now)) }
+    {
+        self.items.measure
     }
 
     // An equal list, which shares the items.
@@ -149,8 +176,10 @@ impl Map {
     pub fn new(alloc: Global) -> Result<Map, OutOfMemory>
         ensures { IfOk result (λ m. m ≡ []) }
     {
-        match Rc::new(alloc, Vec::new(alloc)) {
-            Ok(pairs) => Ok(Map { pairs }),
+        let pairs = Vec::new(alloc);
+        let measure = Measure::of_nothing();
+        match Rc::new(alloc, Entries { pairs, measure }) {
+            Ok(entries) => Ok(Map { entries }),
             Err(_) => Err(OutOfMemory),
         }
     }
@@ -160,8 +189,9 @@ impl Map {
         requires { IsInOrder pairs.items }
         ensures { IfOk result (λ m. m ≡ plain_pairs pairs.items) }
     {
-        match Rc::new(alloc, pairs) {
-            Ok(pairs) => Ok(Map { pairs }),
+        let measure = Measure::of_pairs(pairs.as_slice());
+        match Rc::new(alloc, Entries { pairs, measure }) {
+            Ok(entries) => Ok(Map { entries }),
             Err(_) => Err(OutOfMemory),
         }
     }
@@ -171,14 +201,14 @@ impl Map {
         ensures value { option_map (λ v. plain v.now) result ≡ value_at key.now self.now }
         ensures order { IsInOrder self.now }
     {
-        find(self.pairs.as_slice(), key)
+        find(self.entries.pairs.as_slice(), key)
     }
 
     /// The pair at an index, from 0 on in the order of the keys' bytes; none past the end.
     pub fn entry(&self, i: usize) -> Option<(&str, &Value)>
         ensures { option_map (λ p. (p.0.now, plain p.1.now)) result ≡ slice_get self.now i }
     {
-        let pairs = self.pairs.as_slice();
+        let pairs = self.entries.pairs.as_slice();
         if i < pairs.len() {
             Some((pairs[i].0.as_str(), &pairs[i].1))
         } else {
@@ -192,7 +222,7 @@ impl Map {
         ensures after { self.new ≡ (if is_ok result then with_value key (plain value) self.old else self.old) }
         ensures old { IfOk result (λ v. option_map plain v ≡ value_at key self.old) }
     {
-        insert_pair(&mut self.pairs, key, value)
+        insert_pair(&mut self.entries, key, value)
     }
 
     /// Takes a key and its value away, and gives the value. Without memory the map stays.
@@ -200,7 +230,7 @@ impl Map {
         ensures after { self.new ≡ (if is_ok result then without key.now self.old else self.old) }
         ensures old { IfOk result (λ v. option_map plain v ≡ value_at key.now self.old) }
     {
-        remove_pair(&mut self.pairs, key)
+        remove_pair(&mut self.entries, key)
     }
 
     // The pairs in order.
@@ -208,15 +238,22 @@ impl Map {
         ensures pairs { plain_pairs result.now ≡ self.now }
         ensures order { IsInOrder result.now }
     {
-        self.pairs.as_slice()
+        self.entries.pairs.as_slice()
+    }
+
+    // What the map counts for, and how deep it nests.
+    pub(crate) fn measure(&self) -> Measure
+        ensures { IsMeasure result (map (pairs_of self.now)) }
+    {
+        self.entries.measure
     }
 
     // An equal map, which shares the pairs.
     fn copy(&self) -> Result<Map, OutOfMemory>
         ensures { IfOk result (λ m. m ≡ self.now) }
     {
-        match self.pairs.clone() {
-            Ok(pairs) => Ok(Map { pairs }),
+        match self.entries.clone() {
+            Ok(entries) => Ok(Map { entries }),
             Err(_) => Err(OutOfMemory),
         }
     }
