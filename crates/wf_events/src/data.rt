@@ -65,7 +65,6 @@ pub struct Turn {
 }
 
 /// What an execution is started with, under the first rules.
-#[derive(Drop)]
 pub struct Start {
     /// Its id: 1 to 64 letters, digits, `.`, `_` and `-`. Nothing checks it here.
     pub id: Text,
@@ -81,6 +80,21 @@ pub struct Start {
     pub base: Text,
     /// The first reading of the clock, in milliseconds since 1970.
     pub reading: u64,
+}
+
+// Written, and not derived: it is one call wherever a start is let go.
+impl Drop for Start {
+    fn drop(self) {
+        let Start {
+            id: _,
+            source: _,
+            argument: _,
+            routes: _,
+            env: _,
+            base: _,
+            reading: _,
+        } = self;
+    }
 }
 
 /// A record of a journal.

@@ -11,7 +11,6 @@ use std::alloc::{AllocError, Global};
 use wf_value::OutOfMemory;
 
 /// A host in memory. It tells what it stands for from a record of its calls.
-#[derive(Drop)]
 pub struct MemHost {
     alloc: Global,
     log: CallRecord,
@@ -24,6 +23,24 @@ pub struct MemHost {
     print_faults: u64,
     short: u64,
     ghost shown: { printed.items ≡ prints log.deeds.items },
+}
+
+// Written, and not derived: it is one call wherever a host is let go.
+impl Drop for MemHost {
+    fn drop(self) {
+        let MemHost {
+            alloc: _,
+            log: _,
+            printed: _,
+            progress: _,
+            services: _,
+            visits: _,
+            disk_faults: _,
+            poll_faults: _,
+            print_faults: _,
+            short: _,
+        } = self;
+    }
 }
 
 impl MemHost {
@@ -94,10 +111,12 @@ impl MemHost {
         ensures written { IfOk result (λ v. all_written ≡ true → v.items ≡ (mem_world self).seen) }
         ensures synced { IfOk result (λ v. all_written ≡ false → v.items ≡ mem_stable self) }
     {
-        if all_written {
-            return Ok(self.log.written());
-        }
-        match self.log.synced(alloc) {
+        let left = if all_written {
+            self.log.written(alloc)
+        } else {
+            self.log.synced(alloc)
+        };
+        match left {
             Ok(image) => Ok(image),
             Err(AllocError) => Err(OutOfMemory),
         }

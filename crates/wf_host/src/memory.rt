@@ -134,11 +134,11 @@ impl CallRecord {
     }
 
     /// The file as it reads, which a crash may leave too.
-    pub(crate) fn written(self) -> Vec<u8>
-        ensures left { (record_world self).may_leave result.items }
-        ensures seen { result.items ≡ (record_world self).seen }
+    pub(crate) fn written(&self, alloc: Global) -> Result<Vec<u8>, AllocError>
+        ensures left { IfOk result (λ v. (record_world self.now).may_leave v.items) }
+        ensures seen { IfOk result (λ v. v.items ≡ (record_world self.now).seen) }
     {
-        self.image
+        self.image.to_vec(alloc)
     }
 
     /// The file as it reads.
