@@ -1,5 +1,8 @@
 // A source's tree as a program.
-ghost use Rattle.std.specs.Prelude.{◌≡◌, IfOk, IfErr, reverse};
+ghost use Rattle.std.specs.Prelude.{◌≡◌, IfOk, IfErr, IsTrue, reverse};
+ghost use Rattle.std.specs.List.{list_all};
+ghost use Rattle.wf_ast.specs.Accept.{small_backoff};
+ghost use Rattle.wf_ast.specs.Nodes.{nodes};
 ghost use Rattle.wf_ast.specs.View.{program_view};
 ghost use Rattle.wf_rules.specs.Meaning.{Builds};
 ghost use Rattle.wf_syntax.specs.Answers.{IsSyntaxFault, IsToldOf};
@@ -16,8 +19,11 @@ use wf_value::Path;
 /// The program that a source's tree is: a list is the steps of `main`, a map has a block for each workflow. It is an
 /// error when the tree breaks a rule of the syntax: the first one is told, in preorder, with the path of its node. It
 /// is an error too when memory is missing.
+///
+/// No number of a program's backoffs is over a year in milliseconds.
 pub fn build(alloc: Global, tree: &Tree) -> Result<Program, SyntaxFault>
     ensures program { IfOk result (λ p. Builds (plain_tree tree.now) (program_view p)) }
+    ensures small { IfOk result (λ p. IsTrue (list_all small_backoff (nodes (program_view p).flows))) }
     ensures fault { IfErr result (IsSyntaxFault (plain_tree tree.now)) }
 {
     let built = match tree {
