@@ -1,5 +1,5 @@
 -- The backoffs of a program that the rules build are small.
-use Rattle.std.proofs.Common.{◌≡◌, ◌&&◌, ◌++◌, ℕ, suc, Bool, true, false, List, [], ◌∷◌, Option, Some, None, if◌then◌else◌, is_some, nat_le, IsTrue, codes, refl, sym, ◌∙◌, subst, arith}
+use Rattle.std.proofs.Common.{◌≡◌, ◌++◌, ℕ, suc, Bool, true, false, List, [], ◌∷◌, Option, Some, None, if◌then◌else◌, is_some, nat_le, IsTrue, codes, refl, sym, ◌∙◌, subst, arith}
 use Rattle.std.proofs.lemmas.Bool.{and_from, le-leb, leb-true}
 use Rattle.std.proofs.lemmas.List.Folds.{list_all-append}
 use Rattle.std.specs.List.{list_all}
@@ -13,9 +13,9 @@ use Rattle.wf_rules.proofs.ProgramsMade.{flow_sound, others_sound}
 use Rattle.wf_rules.proofs.Soundness.{some_none, sound_own, sound_parts, AllSound, row_all, given}
 use Rattle.wf_rules.specs.Faults.{AreSound, IsSound, rooted}
 use Rattle.wf_rules.specs.Laws.{SmallBackoffs}
-use Rattle.wf_rules.specs.Meaning.{default_backoff, others, ArmsIn, At, BranchesIn, Else, ElseBy, FlowsIn, IsBackoff, IsBody, IsExcept, IsFlow, IsLoop, IsParallel, IsPolicy, IsProgram, IsStep, IsText, IsThousandths, IsTried, IsTry, IsWork, Maybe, OfList, OfMap, StepsIn}
+use Rattle.wf_rules.specs.Meaning.{default_backoff, others, ArmsIn, At, BranchesIn, ElseBy, FlowsIn, IsBackoff, IsBody, IsExcept, IsFlow, IsLoop, IsParallel, IsPolicy, IsProgram, IsStep, IsText, IsThousandths, IsTried, IsTry, IsWork, Maybe, OfList, OfMap, StepsIn}
 use Rattle.wf_rules.specs.Numbers.{at_most, thousandths}
-use Rattle.wf_rules.specs.Rules.{Role, body_parts, demand, each, every, there, at, own, parts}
+use Rattle.wf_rules.specs.Rules.{Role, body_parts, demand, each, every, there, at, parts}
 use Rattle.wf_rules.specs.Rules as r
 use Rattle.wf_rules.specs.declared.fault.SyntaxKind.TheVariants.{WrongKind}
 use Rattle.wf_tree.specs.Trees.{Tree, text, list, map, Items, no_items, item, Pairs, no_pairs, pair}

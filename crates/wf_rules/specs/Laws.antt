@@ -33,5 +33,9 @@ abbrev pub OneFault : Type 0
 OneFault = (t : Tree) (k j : SyntaxKind) (ps qs : List PathPart) → IsFirstFault t k ps → IsFirstFault t j qs → (k ≡ j) × (ps ≡ qs)
 
 -- no number of a backoff in a program is over a year in milliseconds
+abbrev pub HasSmallBackoffs : Program → Type 0
+HasSmallBackoffs p = IsTrue (list_all small_backoff (nodes p.flows))
+
+-- a source's program has no greater one
 abbrev pub SmallBackoffs : Type 0
-SmallBackoffs = (t : Tree) (p : Program) → Builds t p → IsTrue (list_all small_backoff (nodes p.flows))
+SmallBackoffs = (t : Tree) (p : Program) → Builds t p → HasSmallBackoffs p

@@ -1,9 +1,7 @@
 // A source's tree as a program.
-ghost use Rattle.std.specs.Prelude.{◌≡◌, IfOk, IfErr, IsTrue, reverse};
-ghost use Rattle.std.specs.List.{list_all};
-ghost use Rattle.wf_ast.specs.Accept.{small_backoff};
-ghost use Rattle.wf_ast.specs.Nodes.{nodes};
+ghost use Rattle.std.specs.Prelude.{◌≡◌, IfOk, IfErr, reverse};
 ghost use Rattle.wf_ast.specs.View.{program_view};
+ghost use Rattle.wf_rules.specs.Laws.{HasSmallBackoffs};
 ghost use Rattle.wf_rules.specs.Meaning.{Builds};
 ghost use Rattle.wf_syntax.specs.Answers.{IsSyntaxFault, IsToldOf};
 ghost use Rattle.wf_tree.specs.Plain.{plain_tree};
@@ -23,7 +21,7 @@ use wf_value::Path;
 /// No number of a program's backoffs is over a year in milliseconds.
 pub fn build(alloc: Global, tree: &Tree) -> Result<Program, SyntaxFault>
     ensures program { IfOk result (λ p. Builds (plain_tree tree.now) (program_view p)) }
-    ensures small { IfOk result (λ p. IsTrue (list_all small_backoff (nodes (program_view p).flows))) }
+    ensures small { IfOk result (λ p. HasSmallBackoffs (program_view p)) }
     ensures fault { IfErr result (IsSyntaxFault (plain_tree tree.now)) }
 {
     let built = match tree {
