@@ -165,7 +165,7 @@ mutual
   arms_small t.no_arms no_items j h s a path i = refl
   arms_small (t.arm c b next rest) (item (map fs) xs) j h s a path i =
       both_small (node (BodyPart b) a (nth path i) ∷ n.body_nodes b a (nth path i)) (n.arms_nodes rest a path (suc i))
-          (body_small b fs h.0.1 (sound_parts r.Arm (map fs) s.0) a (nth path i)) (arms_small rest xs (suc j) h.1 s.1 a path (suc i))
+      (body_small b fs h.0.1 (sound_parts r.Arm (map fs) s.0) a (nth path i)) (arms_small rest xs (suc j) h.1 s.1 a path (suc i))
   arms_small (t.arm c b next rest) (item x xs) j h s a path i = absurd h.0
   arms_small arms xs j h s a path i = absurd h
 
@@ -196,8 +196,8 @@ mutual
       let block = map_by r.Block (λ fs. At (codes "steps") fs (λ z. OfList z (StepsIn ss))) y h.0.1 (sound_parts r.Branch (map (pair m y no_pairs)) s.0).0 in
       let u = list_at (codes "steps") r.Steps (StepsIn ss) block.0 block.1 (row_all block.0 ((codes "steps", r.Steps) ∷ []) block.2).0 in
       both_small (n.steps_nodes ss (in_task shared [] NoLoop ss a) (below (below (nth path i) k) (codes "steps")) 0) (n.branches_nodes bs shared (k ∷ before) a path (suc i))
-          (steps_small ss u.0 0 u.1 u.2 (in_task shared [] NoLoop ss a) (below (below (nth path i) k) (codes "steps")) 0)
-          (branches_small bs xs (suc j) h.1 s.1 shared (k ∷ before) a path (suc i))
+      (steps_small ss u.0 0 u.1 u.2 (in_task shared [] NoLoop ss a) (below (below (nth path i) k) (codes "steps")) 0)
+      (branches_small bs xs (suc j) h.1 s.1 shared (k ∷ before) a path (suc i))
   branches_small (t.branch k ss bs) (item x xs) j h s shared before a path i = absurd h.0
   branches_small bs xs j h s shared before a path i = absurd h
 
@@ -205,8 +205,8 @@ mutual
   try_small (t.try b policy x) fs h s a path =
       let u = map_at (codes "try") r.Try (IsTried b) fs h.0 s.tried in
       and_from (is_small_backoff policy) _ (retry_small policy fs s.retry h.1)
-          (both_small (node (BodyPart b) a (below path (codes "try")) ∷ n.body_nodes b a (below path (codes "try"))) (n.except_nodes x a (below path (codes "except")))
-              (tried_small b u.0 u.1 u.2 a (below path (codes "try"))) (except_small x fs h.2 s.handler a (below path (codes "except"))))
+      (both_small (node (BodyPart b) a (below path (codes "try")) ∷ n.body_nodes b a (below path (codes "try"))) (n.except_nodes x a (below path (codes "except")))
+      (tried_small b u.0 u.1 u.2 a (below path (codes "try"))) (except_small x fs h.2 s.handler a (below path (codes "except"))))
 
   tried_small : (b : t.Body) (fs : Pairs) → IsTried b fs → AreSound (parts r.Try (map fs)) → (a : Around) (path : Path) → BodySmall b a path
   tried_small (t.Body.Call c) fs h s a path = refl
