@@ -29,17 +29,17 @@ has_none : (k : Text) (fs : Pairs) → field k fs ≡ None → has k fs ≡ fals
 has_none k fs e = ap is_some e
 
 -- a loop has a list where it has no range
-abbrev loop_keys : List (Text × Role)
+abbrev pub loop_keys : List (Text × Role)
 loop_keys = (codes "in", r.Value) ∷ (codes "index", r.VariableName) ∷ (codes "range", r.Range) ∷ (codes "steps", r.Steps) ∷ (codes "value", r.VariableName) ∷ []
 
-abbrev parallel_keys : List (Text × Role)
+abbrev pub parallel_keys : List (Text × Role)
 parallel_keys =
     (codes "branches", r.Branches) ∷ (codes "concurrency_limit", r.Limit) ∷ (codes "exception_policy", r.Policy) ∷ (codes "for", r.Loop) ∷ (codes "shared", r.Shared) ∷ []
 
-abbrev try_keys : List (Text × Role)
+abbrev pub try_keys : List (Text × Role)
 try_keys = (codes "args", r.Arguments) ∷ (codes "call", r.AnyText) ∷ (codes "result", r.VariableName) ∷ (codes "steps", r.Steps) ∷ []
 
-abbrev except_keys : List (Text × Role)
+abbrev pub except_keys : List (Text × Role)
 except_keys = (codes "as", r.VariableName) ∷ (codes "steps", r.Steps) ∷ []
 
 -- ## Ranges

@@ -16,3 +16,4 @@ pub mod BodiesMade
 pub mod ProgramsMade
 pub mod BuiltTrees
 pub mod Computed
+pub mod SmallBackoffs

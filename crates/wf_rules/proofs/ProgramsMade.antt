@@ -46,7 +46,7 @@ others_by : (b : Bool) (k : Text) (x : Tree) (more : Pairs) → IsSound (r.Flow 
 others_by true k x more h s = s
 others_by false k x more h s = (h, s)
 
-others_sound : (ps : Pairs) → AreSound (every r.Flow ps) → AreSound (every r.Flow (others ps))
+pub others_sound : (ps : Pairs) → AreSound (every r.Flow ps) → AreSound (every r.Flow (others ps))
 others_sound no_pairs h = tt
 others_sound (pair k x ps) h = others_by (bytes_eq k (codes "main")) k x (others ps) h.0 (others_sound ps h.1)
 
@@ -57,7 +57,7 @@ at_key true k j x y more e h rest is =
     subst (λ (z : Tree). IsSound (r.Flow k) z) same (subst (λ (n : Text). IsSound (r.Flow n) x) (sym ((bytes_eq-Decides k j).0 e)) h)
 at_key false k j x y more e h rest is = rest is
 
-flow_sound : (k : Text) (ps : Pairs) (y : Tree) → AreSound (every r.Flow ps) → field k ps ≡ Some y → IsSound (r.Flow k) y
+pub flow_sound : (k : Text) (ps : Pairs) (y : Tree) → AreSound (every r.Flow ps) → field k ps ≡ Some y → IsSound (r.Flow k) y
 flow_sound k no_pairs y h e = absurd (some_none y (sym e))
 flow_sound k (pair j x ps) y h e = at_key (bytes_eq k j) k j x y (field k ps) refl h.0 (flow_sound k ps y h.1) e
 

@@ -1,5 +1,8 @@
 -- Laws of the rules.
-use Rattle.std.specs.Prelude.{◌≡◌, List, None}
+use Rattle.std.specs.Prelude.{◌≡◌, List, None, IsTrue}
+use Rattle.std.specs.List.{list_all}
+use Rattle.wf_ast.specs.Accept.{small_backoff}
+use Rattle.wf_ast.specs.Nodes.{nodes}
 use Rattle.wf_ast.specs.Tree.{Program}
 use Rattle.wf_expr.specs.declared.fault.ExprFault.{ExprFault}
 use Rattle.wf_rules.specs.Faults.{AreSound, FaultAt, FirstAt, IsFirstFault, IsSound, IsTextFault}
@@ -28,3 +31,11 @@ NotBothBuilt = (t : Tree) (p : Program) (k : SyntaxKind) (ps : List PathPart) �
 -- a source is refused in one way at most: its first fault is one, at one place
 abbrev pub OneFault : Type 0
 OneFault = (t : Tree) (k j : SyntaxKind) (ps qs : List PathPart) → IsFirstFault t k ps → IsFirstFault t j qs → (k ≡ j) × (ps ≡ qs)
+
+-- no number of a backoff in a program is over a year in milliseconds
+abbrev pub HasSmallBackoffs : Program → Type 0
+HasSmallBackoffs p = IsTrue (list_all small_backoff (nodes p.flows))
+
+-- a source's program has no greater one
+abbrev pub SmallBackoffs : Type 0
+SmallBackoffs = (t : Tree) (p : Program) → Builds t p → HasSmallBackoffs p

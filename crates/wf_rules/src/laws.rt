@@ -1,7 +1,7 @@
 //! Laws of the rules.
 ghost use Rattle.wf_rules.specs.Built.{BuiltIsIt};
 ghost use Rattle.wf_rules.specs.First.{FirstFaultIsIt};
-ghost use Rattle.wf_rules.specs.Laws.{FirstIsAFault, NodeIsSound, NotBothBuilt, OneFault, OneProgram};
+ghost use Rattle.wf_rules.specs.Laws.{FirstIsAFault, NodeIsSound, NotBothBuilt, OneFault, OneProgram, SmallBackoffs};
 
 use wf_expr::one_target;
 use wf_template::one_template;
@@ -34,4 +34,9 @@ pub fn first_fault_is_it()
 /// Each tree is a program or has a first fault, and the definitions' function gives it.
 pub fn each_tree_is_one()
     ensures { BuiltIsIt }
+{}
+
+/// No number of a backoff in a tree's program is over a year in milliseconds.
+pub fn small_backoffs()
+    ensures { SmallBackoffs }
 {}

@@ -9,5 +9,6 @@ mod rows;
 pub use fault::{SyntaxFault, SyntaxKind};
 pub use laws::{
     each_tree_is_one, first_fault_is_a_fault, first_fault_is_it, one_fault, one_program,
+    small_backoffs,
 };
 pub use rows::worked_faults;

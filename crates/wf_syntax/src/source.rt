@@ -1,6 +1,7 @@
 // A source's tree as a program.
 ghost use Rattle.std.specs.Prelude.{◌≡◌, IfOk, IfErr, reverse};
 ghost use Rattle.wf_ast.specs.View.{program_view};
+ghost use Rattle.wf_rules.specs.Laws.{HasSmallBackoffs};
 ghost use Rattle.wf_rules.specs.Meaning.{Builds};
 ghost use Rattle.wf_syntax.specs.Answers.{IsSyntaxFault, IsToldOf};
 ghost use Rattle.wf_tree.specs.Plain.{plain_tree};
@@ -16,8 +17,11 @@ use wf_value::Path;
 /// The program that a source's tree is: a list is the steps of `main`, a map has a block for each workflow. It is an
 /// error when the tree breaks a rule of the syntax: the first one is told, in preorder, with the path of its node. It
 /// is an error too when memory is missing.
+///
+/// No number of a program's backoffs is over a year in milliseconds.
 pub fn build(alloc: Global, tree: &Tree) -> Result<Program, SyntaxFault>
     ensures program { IfOk result (λ p. Builds (plain_tree tree.now) (program_view p)) }
+    ensures small { IfOk result (λ p. HasSmallBackoffs (program_view p)) }
     ensures fault { IfErr result (IsSyntaxFault (plain_tree tree.now)) }
 {
     let built = match tree {
