@@ -1,12 +1,14 @@
 #!/usr/bin/env python3
 """Tries the built program at the edges that no clause speaks of: closed descriptors, two processes on one journal, files that must not be made, a
-journal that can only be read, and the folder of a new journal.
+journal that can only be read, the folder of a new journal, and what it costs to read a large value.
 
 Nothing here rests on time. Every process ends by itself or is ended by its own handle.
 """
 
 import fcntl
+import json
 import os
+import re
 import shutil
 import subprocess
 import sys
@@ -146,8 +148,29 @@ def synced_folder(folder):
     assert call(folder, "resume", "--journal", "inner/j")[:2] == (0, b"7\n")
 
 
+def instructions(folder, items, reads):
+    """How many instructions a run takes that reads the first item of a list of so many items so many times."""
+    steps = [{"x": {"assign": [{"x": [1] * items}]}}]
+    steps += [{f"s{i}": {"assign": [{"y": "${x[0]}"}] * 50}} for i in range(reads // 50)]
+    write(folder, "s.json", json.dumps(steps, separators=(",", ":")).encode())
+    words = ["valgrind", "--tool=callgrind", "--callgrind-out-file=/dev/null", PROGRAM, "run", "--source", "s.json", "--journal", f"j{items}_{reads}"]
+    ended = subprocess.run(words, cwd=folder, stdin=subprocess.DEVNULL, stdout=subprocess.PIPE, stderr=subprocess.PIPE, timeout=300)
+    assert (ended.returncode, ended.stdout) == (0, b"null\n"), ended
+    return int(re.search(rb"Collected : (\d+)", ended.stderr).group(1))
+
+
+def large_value(folder):
+    """Reading a part of a large value costs what reading a part of a small one does, by counted instructions, where valgrind is there."""
+    if not shutil.which("valgrind"):
+        print("edge: valgrind isn't there, so the cost of reading a large value isn't looked at")
+        return
+    small = instructions(folder, 15, 800) - instructions(folder, 15, 400)
+    large = instructions(folder, 15000, 800) - instructions(folder, 15000, 400)
+    assert large <= 2 * small, f"400 reads of a large value take {large} instructions, of a small one {small}"
+
+
 def main():
-    tries = [closed_descriptors, held_journal, two_at_once, no_file_is_made, read_only, synced_folder]
+    tries = [closed_descriptors, held_journal, two_at_once, no_file_is_made, read_only, synced_folder, large_value]
     for it in tries:
         with tempfile.TemporaryDirectory() as folder:
             it(folder)
