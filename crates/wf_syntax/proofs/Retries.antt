@@ -1,5 +1,6 @@
 -- Policies: predefined ones and those by their fields.
-use Rattle.std.proofs.Common.{◌≡◌, ◌||◌, ◌++◌, Bool, true, false, List, None, Result, Err, MatchResult, bytes_eq, codes, if◌then◌else◌, refl, sym, ap, ◌∙◌, subst}
+use Rattle.std.proofs.Common.{◌≡◌, ◌||◌, ◌++◌, Bool, true, false, List, None, Result, MatchResult, bytes_eq, codes, if◌then◌else◌, refl, sym, ap, ◌∙◌, subst}
+use Rattle.std.specs.Result.{IsErr, IsErrAnd}
 use Rattle.wf_ast.specs.Tree as t
 use Rattle.wf_rules.specs.Faults.{AreSound}
 use Rattle.wf_rules.specs.Meaning.{Else, IsAttempts, IsBackoff, IsPolicy, IsPredicate, IsThousandths, default_backoff, most_retries, policy_kind, predicate_of}
@@ -8,6 +9,7 @@ use Rattle.wf_rules.specs.Rules.{Attempts, Backoff, Factor, Predicate, Retry, Ro
 use Rattle.wf_rules.specs.declared.fault.SyntaxKind.TheVariants.{WrongKind}
 use Rattle.wf_shared.specs.HttpRequest.{is_among}
 use Rattle.wf_syntax.proofs.Nodes.{both_sound, fails_first, fails_then, leaf_sound, map_fails, map_sound}
+use Rattle.wf_syntax.proofs.Rows.{told}
 use Rattle.wf_syntax.specs.Answers.{Fails, FailsAmong, Gives, GivesAll}
 use Rattle.wf_syntax.specs.declared.stop.Stop.{Stop}
 use Rattle.wf_tree.specs.Trees.{Pairs, Tree, map, text}
@@ -88,8 +90,8 @@ backoff_given x fs b is e i m f =
     (map_sound Backoff (map fs) fs refl e (λ z k. k) (both_sound (firsts fs ++ mosts fs) (factors fs) (both_sound (firsts fs) (mosts fs) i.0 m.0) f.0), (i.1, m.1, f.1))
 
 -- ## A stop that is passed on
-pub passed : {A : Type 0} (made : Result A Stop) (P : A → Type 0) (r : Role) (x : Tree) (s : Stop) → made ≡ Err s → Fails r x s → MatchResult made P (λ e. Fails r x e)
-passed made P r x s is h = subst (λ m. MatchResult m P (λ e. Fails r x e)) (sym is) h
+pub passed : {A : Type 0} (made : Result A Stop) (P : A → Type 0) (r : Role) (x : Tree) (s : Stop) → IsErr made × IsErrAnd made (λ e. e ≡ s) → Fails r x s → MatchResult made P (λ e. Fails r x e)
+passed made P r x s gives h = told P (λ e. Fails r x e) made s gives h
 
 -- ## The word of a workflow
 unlike : (a b : Text) → (a ≡ b → ⊥) → bytes_eq a b ≡ false

@@ -5,17 +5,15 @@ ghost use Rattle.wf_rules.specs.Meaning.{AreSteps, IsExcept, IsStep, Maybe};
 ghost use Rattle.wf_rules.specs.Rules as rules;
 ghost use Rattle.wf_rules.specs.Rules.{at};
 ghost use Rattle.wf_syntax.specs.Answers.{Fails, FailsAmong, Gives, GivesAll};
-ghost use Rattle.wf_syntax.specs.Forms.{AreArms, AreBranches, ArePartsOf, IsArm, IsBlock, IsBranch, IsHandler, IsLoopMap, IsParallelMap, IsStepBody, IsTriedMap, ends_view, loop_of, over_of, parallel_view, work_of};
+ghost use Rattle.wf_syntax.specs.Forms.{AreArms, AreBlockParts, AreBranches, AreLoopParts, ArePartsOf, IsArm, IsBlock, IsBranch, IsHandler, IsLoopMap, IsParallelMap, IsStepBody, IsTriedMap, block_part_keys, ends_view, loop_of, loop_part_keys, over_of, parallel_view, row, work_of};
 ghost use Rattle.wf_tree.specs.Plain.{plain_tree};
 ghost use Rattle.wf_tree.specs.Trees.{pairs_of};
 
-use crate::entries::entries_at;
 use crate::fields::{
     arm_fault, field, loop_fault, map_fault, parallel_fault, single, step_fault, try_fault,
 };
 use crate::names::is_step_name;
-use crate::parts::Parts;
-use crate::policies::policy_at;
+use crate::parts::{BlockParts, LoopParts, Parts, call_parts, value_parts};
 use crate::stop::Stop;
 use crate::values::{Ends, arguments_at, range_at, value_at};
 use crate::words::{limit_at, name_at, names_at, owned, policy_word_at, text_at};
@@ -165,18 +163,36 @@ fn parts(alloc: Global, fields: &TreeMap) -> Result<Parts, Stop>
         (λ stop. FailsAmong (rules.body_parts (pairs_of fields.now)) stop) }
 {
     Ok(Parts {
-        args: arguments_at(alloc, fields, "args")?,
-        assign: entries_at(alloc, fields, "assign")?,
-        call: text_at(alloc, fields, "call")?,
-        condition: value_at(alloc, fields, "condition")?,
+        calls: call_parts(alloc, fields)?,
+        loops: loop_parts(alloc, fields)?,
+        values: value_parts(alloc, fields)?,
+        blocks: block_parts(alloc, fields)?,
+    })
+}
+
+// What stands in the fields from `except` to `parallel`.
+#[cycle(steps)]
+fn loop_parts(alloc: Global, fields: &TreeMap) -> Result<LoopParts, Stop>
+    ensures { MatchResult result
+        (λ p. GivesAll (row (pairs_of fields.now) loop_part_keys) (AreLoopParts p (pairs_of fields.now)))
+        (λ stop. FailsAmong (row (pairs_of fields.now) loop_part_keys) stop) }
+{
+    Ok(LoopParts {
         except: except_at(alloc, fields)?,
         repeated: loop_at(alloc, fields, "for")?,
         next: text_at(alloc, fields, "next")?,
         parallel: parallel_at(alloc, fields, "parallel")?,
-        raised: value_at(alloc, fields, "raise")?,
-        result: name_at(alloc, fields, "result")?,
-        retry: policy_at(alloc, fields, "retry")?,
-        returned: value_at(alloc, fields, "return")?,
+    })
+}
+
+// What stands in the fields from `steps` to `try`.
+#[cycle(steps)]
+fn block_parts(alloc: Global, fields: &TreeMap) -> Result<BlockParts, Stop>
+    ensures { MatchResult result
+        (λ p. GivesAll (row (pairs_of fields.now) block_part_keys) (AreBlockParts p (pairs_of fields.now)))
+        (λ stop. FailsAmong (row (pairs_of fields.now) block_part_keys) stop) }
+{
+    Ok(BlockParts {
         steps: steps_at(alloc, fields, "steps")?,
         switch: arms_at(alloc, fields, "switch")?,
         tried: try_at(alloc, fields, "try")?,

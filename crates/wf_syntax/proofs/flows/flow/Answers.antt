@@ -1,4 +1,4 @@
-use Rattle.std.proofs.Common.{rules, sym, ap, ◌∙◌}
+use Rattle.std.proofs.Common.{sym, ap, ◌∙◌}
 use Rattle.wf_ast.specs.Tree.{steps}
 use Rattle.wf_ast.specs.View.{params_view, steps_view}
 use Rattle.wf_rules.specs.Rules.{Flow}
@@ -17,12 +17,12 @@ returns-then-not-is_name c =
 
 pub returns-in_err-params : goal.returns-in_err-params
 returns-in_err-params c =
-    passed c.from_residual.result _ (Flow c.args.name.now) _ c.in_err-params.field-0.0 (search rules)
+    passed c.from_residual.result _ (Flow c.args.name.now) _ c.in_err-params.field-0.0 c.from_residual.ensures
     (params_fail c.args.name.now _ (pairs_of c.in-Map.fields) c.in_err-params.field-0.0 (ap plain_tree c.in-Map.is) (sym c.in_default-map_fault.ensures) (sym c.is_name.ensures ∙ c.if-not-is_name.false) c.in_err-params.ensures)
 
 pub returns-in_err-steps : goal.returns-in_err-steps
 returns-in_err-steps c =
-    passed c.from_residual-in_err-steps.result _ (Flow c.args.name.now) _ c.in_err-steps.field-0.0 (search rules)
+    passed c.from_residual-in_err-steps.result _ (Flow c.args.name.now) _ c.in_err-steps.field-0.0 c.from_residual-in_err-steps.ensures
     (steps_fail c.args.name.now _ (pairs_of c.in-Map.fields) c.in_err-steps.field-0.0 (ap plain_tree c.in-Map.is) (sym c.in_default-map_fault.ensures) (sym c.is_name.ensures ∙ c.if-not-is_name.false) c.in_ok-params.ensures.0 c.in_err-steps.ensures)
 
 pub returns-in_ok-owned-in-Some-2 : goal.returns-in_ok-owned-in-Some-2

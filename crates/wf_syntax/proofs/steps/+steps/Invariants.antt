@@ -39,7 +39,13 @@ abbrev pub decreases-step_body : goal.decreases-step_body
 decreases-step_body l = 4 * depth (plain_tree l.tree.now)
 
 abbrev pub decreases-parts : goal.decreases-parts
-decreases-parts l = 4 * pairs_depth (pairs_of l.fields.now) + 2
+decreases-parts l = 4 * pairs_depth (pairs_of l.fields.now) + 3
+
+abbrev pub decreases-loop_parts : goal.decreases-loop_parts
+decreases-loop_parts l = 4 * pairs_depth (pairs_of l.fields.now) + 2
+
+abbrev pub decreases-block_parts : goal.decreases-block_parts
+decreases-block_parts l = 4 * pairs_depth (pairs_of l.fields.now) + 2
 
 abbrev pub decreases-arms : goal.decreases-arms
 decreases-arms l = 4 * depth (plain_tree l.tree.now)
