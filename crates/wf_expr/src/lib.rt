@@ -2,12 +2,14 @@
 #![tactic(auto)]
 
 mod callee;
+mod chain;
 mod fault;
 mod functions;
 mod kind;
 mod laws;
 mod leaves;
 mod lexed;
+mod nodes;
 mod parser;
 mod role;
 mod said;
