@@ -1,6 +1,6 @@
 -- How many events records have.
 use Rattle.std.specs.Prelude.{◌≡◌, ◌+◌, ℕ, List, ◌∷◌, length, Option, Some}
-use Rattle.std.proofs.Common.{refl, sym, ◌∙◌, ap, arith, length-append}
+use Rattle.std.proofs.Common.{refl, ◌∙◌, ap, arith, length-append}
 use Rattle.wf_events.specs.Reading.{meaning}
 use Rattle.wf_events.specs.Records.{Record, Started, Turned, Kept, Upgrade, Packed, StartedTwo}
 use Rattle.wf_replay.specs.At.{applied_by, events_of, turns_in, with_turn}
