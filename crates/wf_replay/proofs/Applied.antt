@@ -1,6 +1,6 @@
 -- How many events records have.
 use Rattle.std.specs.Prelude.{◌≡◌, ◌+◌, ℕ, List, ◌∷◌, length, Option, Some}
-use Rattle.std.proofs.Common.{refl, ◌∙◌, ap, arith, length-append}
+use Rattle.std.proofs.Common.{◌∙◌, ap, arith, length-append}
 use Rattle.wf_events.specs.Reading.{meaning}
 use Rattle.wf_events.specs.Records.{Record, Started, Turned, Kept, Upgrade, Packed, StartedTwo}
 use Rattle.wf_replay.specs.At.{applied_by, events_of, turns_in, with_turn}
@@ -10,11 +10,11 @@ use Rattle.wf_shared.specs.Events.{Turn}
 -- those of the first, and those of the others
 with_first : (r : Record) (ts : List Turn) → length (events (with_turn (Some r) ts)) ≡ length (events_of r) + length (events ts)
 with_first (Turned t) ts = length-append t.events (events ts)
-with_first (Started s) ts = refl
-with_first (Kept k) ts = refl
-with_first Upgrade ts = refl
-with_first (Packed t) ts = refl
-with_first (StartedTwo s) ts = refl
+with_first (Started s) ts = omega arith
+with_first (Kept k) ts = omega arith
+with_first Upgrade ts = omega arith
+with_first (Packed t) ts = omega arith
+with_first (StartedTwo s) ts = omega arith
 
 -- where a record is passed and its events are counted, those that are left are fewer by as many
 pub passed : (r : Record) (b : List ℕ) (rest ahead : List (List ℕ)) (before after : ℕ) → ahead ≡ b ∷ rest → meaning b ≡ Some r → after ≡ before + length (events_of r) → after + applied_by rest ≡ before + applied_by ahead
