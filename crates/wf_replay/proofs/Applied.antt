@@ -20,5 +20,5 @@ with_first (StartedTwo s) ts = omega arith
 pub passed : (r : Record) (b : List ℕ) (rest ahead : List (List ℕ)) (before after : ℕ) → ahead ≡ b ∷ rest → meaning b ≡ Some r → after ≡ before + length (events_of r) → after + applied_by rest ≡ before + applied_by ahead
 passed r b rest ahead before after next meant counted =
     let all : applied_by ahead ≡ length (events_of r) + applied_by rest =
-        ap applied_by next ∙ ap (λ (m : Option Record). length (events (with_turn m (turns_in rest)))) meant ∙ with_first r (turns_in rest) in
+    ap applied_by next ∙ ap (λ (m : Option Record). length (events (with_turn m (turns_in rest)))) meant ∙ with_first r (turns_in rest) in
     omega (arith, all, counted)

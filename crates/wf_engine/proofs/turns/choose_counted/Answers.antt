@@ -23,12 +23,12 @@ loop-machine-preserved g c =
     let is = sym c.choose.ensures.choice ∙ ap (λ o. option_map event_view o) c.in-Some.is in
     let longer = c.in_ok-push.ensures.ok ∙ ap (λ e. events_view c.loop-machine.events ++ e ∷ []) c.spelled.ensures.same in (
       tells_on c.laws_of_choice.ensures.choice_takes_the_reading (state_of c.args.machine.now) (state_of c.loop-machine.machine) (state_of c.apply.new.self) c.args.reading (events_view c.loop-machine.events) (events_view c.push.new.self) (event_view c.in-Some.event)
-      c.loop-machine.invariant.0
-      (turns_on (state_of c.args.machine.now) (state_of c.loop-machine.machine) (state_of c.apply.new.self) c.args.reading (events_view c.loop-machine.events) (events_view c.push.new.self) (event_view c.in-Some.event) c.loop-machine.invariant.0.turning
-      (omega (arith, c.loop-machine-test.true, ap length c.items.ensures.view, length-map c.items.result.now event_view))
-      is c.in-Ok.ensures.applied
-      (whole_after c.apply.new.self.broken c.apply.result c.in-Ok.field-0 fault.OutOfMemory c.in-Ok.is c.apply.ensures.broken.0) c.apply.ensures.program longer)
-      is c.spelled.ensures.old (c.in-Ok.ensures.counted ∙ ap (λ n. (state_of c.loop-machine.machine).config.moves + n) (counts_one c.in-Some.event)) c.apply.ensures.most c.in-Ok.ensures.last longer,
+          c.loop-machine.invariant.0
+          (turns_on (state_of c.args.machine.now) (state_of c.loop-machine.machine) (state_of c.apply.new.self) c.args.reading (events_view c.loop-machine.events) (events_view c.push.new.self) (event_view c.in-Some.event) c.loop-machine.invariant.0.turning
+          (omega (arith, c.loop-machine-test.true, ap length c.items.ensures.view, length-map c.items.result.now event_view))
+          is c.in-Ok.ensures.applied
+          (whole_after c.apply.new.self.broken c.apply.result c.in-Ok.field-0 fault.OutOfMemory c.in-Ok.is c.apply.ensures.broken.0) c.apply.ensures.program longer)
+          is c.spelled.ensures.old (c.in-Ok.ensures.counted ∙ ap (λ n. (state_of c.loop-machine.machine).config.moves + n) (counts_one c.in-Some.event)) c.apply.ensures.most c.in-Ok.ensures.last longer,
       omega (arith, c.loop-machine.invariant.1, c.in-Ok.ensures.steps, ap length longer, length-append (events_view c.loop-machine.events) (event_view c.in-Some.event ∷ [])),
     )
 
