@@ -1,5 +1,5 @@
 // Turns and sessions of engines.
-ghost use Rattle.std.specs.Prelude.{◌≡◌, false, IfOk, OnOk};
+ghost use Rattle.std.specs.Prelude.{◌≡◌, ◌<◌, false, IfOk, OnOk};
 ghost use Rattle.wf_engine.specs.Engine.{Holds};
 ghost use Rattle.wf_host.specs.MemHost.{mem_world};
 ghost use Rattle.wf_host.specs.World.{Told};
@@ -9,11 +9,13 @@ use crate::machines::{source_of, write_outcome};
 use crate::programs::program_of;
 use crate::records::{start_of, write_events};
 use std::alloc::Global;
+use std::marker::Brand;
+use std::sync::ledger::{Blank, Ledger};
 use wf_cases::{Case, CaseFault, bytes_of};
 use wf_engine::{Engine, EngineFault, choose_turn};
 use wf_host::MemHost;
 use wf_host_cases::{host_of, number_of, write_left};
-use wf_machine::Machine;
+use wf_machine::{Machine, Steps};
 use wf_source::read_source;
 use wf_value::Value;
 
@@ -45,6 +47,20 @@ pub fn turns(alloc: Global, case: &Case<'_>) -> Result<String, CaseFault> {
     Ok(out)
 }
 
+/// The engine that goes on from the host's file, counting its events on a ledger of its own.
+fn reopened<L: Ledger>(
+    alloc: Global,
+    host: &mut MemHost,
+    blank: Blank,
+) -> Result<Engine, EngineFault>
+    requires name { blank.name ≡ L.name }
+    requires parts { blank.parts ≡ L.parts }
+    requires some { 0 < blank.parts }
+    ensures { Told (mem_world host.old) (IfOk result (λ e. Holds e (mem_world host.new))) }
+{
+    Engine::open(alloc, host, &mut Steps::<L>::new(blank))
+}
+
 /// The engine that begins with the start of a payload, or goes on from the host's file where there is none.
 fn opened(
     alloc: Global,
@@ -54,7 +70,7 @@ fn opened(
     ensures { IfOk result (λ opened. Told (mem_world host.old) (IfOk opened (λ e. Holds e (mem_world host.new)))) }
 {
     if let Value::Null = payload {
-        return Ok(Engine::open(alloc, host));
+        return Ok(reopened::<Brand>(alloc, host, Blank::new(1)));
     }
     let start = start_of(alloc, &bytes_of(alloc, payload)?)?;
     match read_source(alloc, start.source.as_slice()) {

@@ -1,11 +1,15 @@
 // Machines, event by event.
+ghost use Rattle.std.specs.Prelude.{◌≡◌, ◌<◌};
+
 use crate::programs::program_of;
 use crate::records::{start_of, write_event};
 use std::alloc::Global;
+use std::marker::Brand;
+use std::sync::ledger::{Blank, Ledger};
 use wf_cases::{Case, CaseFault, bytes_of, text_of};
 use wf_events::Event;
 use wf_host_cases::{items_of, number_of};
-use wf_machine::{ApplyFault, Machine, Outcome};
+use wf_machine::{ApplyFault, Machine, Outcome, Steps};
 use wf_value::{Value, to_json};
 
 /// The text of a source: a text, or a list of its pieces.
@@ -77,19 +81,20 @@ fn task_of(value: &Value) -> Result<u32, CaseFault> {
 
 /// Makes a call on a machine: `["choose", reading]`, `["move", task]`, `["move", task, reading]`, `["run", reading]`, which applies what
 /// is chosen at the reading until nothing is, or `["state", reading]`.
-fn make(
+fn make<L: Ledger>(
     machine: &mut Machine,
     call: &Value,
     alloc: Global,
     out: &mut String,
+    steps: &mut Steps<L>,
 ) -> Result<(), CaseFault> {
     match items_of(call)? {
         [Value::Text(name), task, reading] if name.as_str() == "move" => {
             let event = Event::MoveAt(task_of(task)?, number_of(reading)?);
-            write_applied(out, machine.apply(&event))
+            write_applied(out, machine.apply(&event, steps))
         }
         [Value::Text(name), task] if name.as_str() == "move" => {
-            write_applied(out, machine.apply(&Event::Move(task_of(task)?)))
+            write_applied(out, machine.apply(&Event::Move(task_of(task)?), steps))
         }
         [Value::Text(name), reading] if name.as_str() == "state" => {
             write_state(out, alloc, machine, number_of(reading)?)
@@ -102,21 +107,26 @@ fn make(
         }
         [Value::Text(name), reading] if name.as_str() == "run" => {
             out.push_str("ran")?;
-            run(machine, number_of(reading)?, out)
+            run(machine, number_of(reading)?, out, steps)
         }
         _ => Err(CaseFault::NoCase),
     }
 }
 
 /// Applies what is chosen at a reading, until nothing is or there were ten events.
-fn run(machine: &mut Machine, reading: u64, out: &mut String) -> Result<(), CaseFault> {
+fn run<L: Ledger>(
+    machine: &mut Machine,
+    reading: u64,
+    out: &mut String,
+    steps: &mut Steps<L>,
+) -> Result<(), CaseFault> {
     for _ in 0..10 {
         let Some(event) = machine.choose(reading) else {
             break;
         };
         out.push(' ')?;
         write_event(out, &event)?;
-        if machine.apply(&event).is_err() {
+        if machine.apply(&event, steps).is_err() {
             return Err(CaseFault::OutOfMemory);
         }
     }
@@ -125,6 +135,20 @@ fn run(machine: &mut Machine, reading: u64, out: &mut String) -> Result<(), Case
 
 /// What calls on the machine of a source give, which is begun with the start of a payload.
 pub fn calls(alloc: Global, case: &Case<'_>) -> Result<String, CaseFault> {
+    calls_counted::<Brand>(alloc, case, Blank::new(1))
+}
+
+/// The same, counting the events on a ledger of its own.
+fn calls_counted<L: Ledger>(
+    alloc: Global,
+    case: &Case<'_>,
+    blank: Blank,
+) -> Result<String, CaseFault>
+    requires name { blank.name ≡ L.name }
+    requires parts { blank.parts ≡ L.parts }
+    requires some { 0 < blank.parts }
+{
+    let mut steps = Steps::<L>::new(blank);
     let source = source_of(alloc, case.item(0)?)?;
     let start = start_of(alloc, &bytes_of(alloc, case.item(1)?)?)?;
     let mut machine = Machine::new(alloc, &start, program_of(alloc, source.as_str())?)?;
@@ -133,7 +157,7 @@ pub fn calls(alloc: Global, case: &Case<'_>) -> Result<String, CaseFault> {
         if i > 0 {
             out.push_str("; ")?;
         }
-        make(&mut machine, call, alloc, &mut out)?;
+        make(&mut machine, call, alloc, &mut out, &mut steps)?;
     }
     Ok(out)
 }

@@ -1,13 +1,17 @@
 // Replays of histories.
+ghost use Rattle.std.specs.Prelude.{◌≡◌, ◌<◌};
+
 use crate::machines::write_outcome;
 use crate::programs::program_of;
 use std::alloc::Global;
+use std::marker::Brand;
+use std::sync::ledger::{Blank, Ledger};
 use wf_cases::{Case, CaseFault};
 use wf_events::Record;
 use wf_history::History;
 use wf_host::MemHost;
 use wf_host_cases::host_of;
-use wf_machine::Machine;
+use wf_machine::{Machine, Steps};
 use wf_replay::{ReplayFault, replay};
 
 /// Writes what a replay gave: how many moves were made, and the outcome; or the fault.
@@ -26,12 +30,19 @@ fn write_replayed(
 }
 
 /// Replays the history of a host's file on the machine of a source, and then again on the same history, which is at its end or closed.
-fn replay_twice(
+/// The events are counted on a ledger of its own.
+fn replay_twice<L: Ledger>(
     alloc: Global,
     host: &mut MemHost,
     source: &str,
     out: &mut String,
-) -> Result<(), CaseFault> {
+    blank: Blank,
+) -> Result<(), CaseFault>
+    requires name { blank.name ≡ L.name }
+    requires parts { blank.parts ≡ L.parts }
+    requires some { 0 < blank.parts }
+{
+    let mut steps = Steps::<L>::new(blank);
     let mut history = match History::open(host) {
         Ok(history) => history,
         Err(fault) => return Ok(write!(out, "{}", ReplayFault::from(fault))?),
@@ -42,17 +53,19 @@ fn replay_twice(
         Err(fault) => return Ok(write!(out, "{}", ReplayFault::from(fault))?),
     };
     let machine = Machine::new(alloc, &start, program_of(alloc, source)?)?;
-    write_replayed(out, alloc, replay(alloc, &mut history, host, machine))?;
+    let replayed = replay(alloc, &mut history, host, machine, &mut steps);
+    write_replayed(out, alloc, replayed)?;
     out.push_str("; again ")?;
     let machine = Machine::new(alloc, &start, program_of(alloc, source)?)?;
-    write_replayed(out, alloc, replay(alloc, &mut history, host, machine))
+    let replayed = replay(alloc, &mut history, host, machine, &mut steps);
+    write_replayed(out, alloc, replayed)
 }
 
 /// What two replays of the history in a host's file give, one after the other.
 pub fn twice(alloc: Global, case: &Case<'_>) -> Result<String, CaseFault> {
     let mut host = host_of(alloc, case.item(1)?)?;
     let mut out = String::new(alloc);
-    replay_twice(alloc, &mut host, case.text(0)?, &mut out)?;
+    replay_twice::<Brand>(alloc, &mut host, case.text(0)?, &mut out, Blank::new(1))?;
     Ok(out)
 }
 

@@ -1,5 +1,5 @@
 // Executions, from their start or from what stands in a journal, to their outcome.
-ghost use Rattle.std.specs.Prelude.{◌≡◌, ◌≤◌, ◌∷◌, false, ℕ, List, Ok, IfOk, IsErrOf, IsUtf8, codes, decimal, length, unwrap_or};
+ghost use Rattle.std.specs.Prelude.{◌≡◌, ◌≤◌, ◌<◌, ◌∷◌, false, ℕ, List, Ok, IfOk, IsErrOf, IsUtf8, codes, decimal, length, unwrap_or};
 ghost use Rattle.wf_ast.specs.View.{program_view};
 ghost use Rattle.wf_cli.specs.Said.{Going, IsEnd, Opening, SaysResult, Worked};
 ghost use Rattle.wf_cli.specs.Top.{IsLineOf};
@@ -23,12 +23,15 @@ ghost use Rattle.wf_source.specs.Programs.{IsSourceOf};
 
 use crate::end::{Said, Silence};
 use std::alloc::Global;
+use std::marker::Brand;
+use std::sync::ledger::{Blank, Ledger};
 use wf_args::Line;
 use wf_ast::Program;
 use wf_deeds::laws_of_rules;
 use wf_engine::{Engine, EngineFault};
 use wf_events::{Start, one_spelling};
 use wf_host::{Host, Routes, Source, read_up_to};
+use wf_machine::Steps;
 use wf_replay::{laws_of_histories, laws_of_moments};
 use wf_source::{SOURCE_LIMIT, each_source_is_one, laws_of_sources, read_source};
 use wf_value::{Bytes, OutOfMemory, Pairs, Text};
@@ -183,8 +186,27 @@ pub(crate) fn resume<H: Host>(alloc: Global, host: &mut H) -> Result<Said, Silen
     ensures tells { (H.world host.new).tells ≡ (H.world host.old).tells }
     ensures counts { NoneFell (H.faults host.old) (H.faults host.new) }
 {
+    resume_counted::<H, Brand>(alloc, host, Blank::new(1))
+}
+
+/// The same, counting the events of the journal on a ledger of its own.
+fn resume_counted<H: Host, L: Ledger>(
+    alloc: Global,
+    host: &mut H,
+    blank: Blank,
+) -> Result<Said, Silence>
+    requires name { blank.name ≡ L.name }
+    requires parts { blank.parts ≡ L.parts }
+    requires some { 0 < blank.parts }
+    ensures end { (words : List (List ℕ)) (rest : Rest) (reads reads2 : ℕ) → IsLineOf (scene words rest (H.world host.old)) (λ c. c ≡ Resume)
+        → IsEnd (scene words rest (H.world host.old)) (H.world host.old) (H.world host.new) reads reads2 (H.faults host.old) (H.faults host.new) result }
+    ensures worked { Told (H.world host.old) ((words : List (List ℕ)) (rest : Rest) → IsLineOf (scene words rest (H.world host.old)) (λ c. c ≡ Resume)
+        → Worked (scene words rest (H.world host.old)) (H.world host.old) (H.world host.new) result) }
+    ensures tells { (H.world host.new).tells ≡ (H.world host.old).tells }
+    ensures counts { NoneFell (H.faults host.old) (H.faults host.new) }
+{
     laws_of_rules();
-    match Engine::open(alloc, host) {
+    match Engine::open(alloc, host, &mut Steps::<L>::new(blank)) {
         Ok(engine) => to_outcome(alloc, engine, host),
         Err(fault) => Said::of_fault(alloc, fault),
     }

@@ -1,5 +1,5 @@
 -- Where a first record leads, and the records behind it.
-use Rattle.std.specs.Prelude.{◌≡◌, ◌≢◌, ◌⊎◌, ℕ, List, [], ◌∷◌, Option, Some, None, Result, Ok, Err, IfErr, OnOk, IsErr, IsErrAnd, IsErrOf, option_and_then}
+use Rattle.std.specs.Prelude.{◌≡◌, ◌≢◌, ◌⊎◌, ◌+◌, ℕ, length, List, [], ◌∷◌, Option, Some, None, Result, Ok, Err, IfErr, OnOk, IsErr, IsErrAnd, IsErrOf, option_and_then}
 use Rattle.std.proofs.Common.{inl, inr, refl, sym, ◌∙◌, ap, subst}
 use Rattle.wf_ast.specs.Tree.{Program}
 use Rattle.wf_engine.specs.Faults.{fault_of, replay_fault}
@@ -7,7 +7,7 @@ use Rattle.wf_engine.specs.Openings.{NoFirst}
 use Rattle.wf_engine.specs.declared.fault.EngineFault.{EngineFault}
 use Rattle.wf_engine.specs.declared.fault.EngineFault.TheVariants.{NotAHistory, OutOfMemory}
 use Rattle.wf_events.specs.Reading.{meaning}
-use Rattle.wf_events.specs.Records.{Record, Started}
+use Rattle.wf_events.specs.Records.{Record, Started, Turned, Kept, Upgrade, Packed, StartedTwo}
 use Rattle.wf_history.specs.Faults.{told}
 use Rattle.wf_history.specs.Stands.{IsBadAt, last_after}
 use Rattle.wf_history.specs.declared.fault.HistoryFault.{HistoryFault}
@@ -16,12 +16,13 @@ use Rattle.wf_machine.specs.Seen.{state_of}
 use Rattle.wf_machine.specs.declared.machine.Machine.{Machine}
 use Rattle.wf_model.specs.Config.{To}
 use Rattle.wf_model.specs.Run.{initial}
-use Rattle.wf_replay.specs.History.{Standing, first_standing, goes_to, history, history_from, started}
+use Rattle.wf_replay.specs.At.{applied_by, turns_in, with_turn}
+use Rattle.wf_replay.specs.History.{Standing, events, first_standing, goes_to, history, history_from, started}
 use Rattle.wf_replay.specs.Language.{Language}
 use Rattle.wf_replay.specs.Standing.{stands_at}
 use Rattle.wf_replay.specs.declared.fault.ReplayFault.{ReplayFault}
 use Rattle.wf_replay.specs.declared.fault.ReplayFault.TheVariants as replay_fault_of
-use Rattle.wf_shared.specs.Events.{Start}
+use Rattle.wf_shared.specs.Events.{Start, Turn}
 
 -- ## A first record
 at_first : (m : Machine) → stands_at 1 None m ≡ record { program = (state_of m).program; config = (state_of m).config; number = 1; session = 0; waits = 0 }
@@ -77,6 +78,21 @@ behind_first L place last found m at none leads = leads ∙ ap (λ n. Some (stan
     no_turn : (r : Record) → first_standing L (Some r) ≡ Some (stands_at 1 None m) → last_after None r ≡ None
     no_turn (Started s) is = refl
     no_turn r is = absurd (cc is)
+
+-- the first one has no events
+no_turn_first : (L : Language) (m : Option Record) (ts : List Turn) (s : Standing) → first_standing L m ≡ Some s → with_turn m ts ≡ ts
+no_turn_first L (Some (Started t)) ts s is = refl
+no_turn_first L (Some (Turned t)) ts s is = absurd cc
+no_turn_first L (Some (Kept k)) ts s is = refl
+no_turn_first L (Some Upgrade) ts s is = refl
+no_turn_first L (Some (Packed t)) ts s is = refl
+no_turn_first L (Some (StartedTwo t)) ts s is = refl
+no_turn_first L None ts s is = refl
+
+-- so as many were applied as stand in all of them
+pub applied_in_all : (L : Language) (J : List (List ℕ)) (b : List ℕ) (bs : List (List ℕ)) (s : Standing) (before after : ℕ) → J ≡ b ∷ bs → first_standing L (meaning b) ≡ Some s → after ≡ before + applied_by bs → after ≡ before + applied_by J
+applied_in_all L J b bs s before after is first counted =
+    counted ∙ ap (λ ts. before + length (events ts)) (sym (no_turn_first L (meaning b) (turns_in bs) s first)) ∙ ap (λ l. before + applied_by l) (sym is)
 
 -- what holds anyway holds where it answered Ok
 pub on_ok : {A E P : Type 0} (r : Result A E) → P → OnOk r P

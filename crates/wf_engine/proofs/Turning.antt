@@ -1,12 +1,18 @@
 -- What is known of the events of a turn, one after another.
-use Rattle.std.specs.Prelude.{◌≡◌, ◌≢◌, ◌⊎◌, ◌≤◌, ◌+◌, max, unwrap_or, ℕ, suc, List, [], ◌∷◌, ◌++◌, length, Option, Some, None}
+use Rattle.std.specs.Prelude.{◌≡◌, ◌≢◌, ◌⊎◌, ◌≤◌, ◌<◌, ◌+◌, max, unwrap_or, ℕ, suc, List, [], ◌∷◌, ◌++◌, length, Option, Some, None}
 use Rattle.std.specs.List.{AllByRecursion}
 use Rattle.std.proofs.Common.{inl, inr, refl, sym, ◌∙◌, ap, subst, arith, length-append}
 use Rattle.wf_ast.specs.Tree.{Program}
 use Rattle.wf_engine.proofs.Chosen.{Turning}
 use Rattle.wf_deeds.specs.Kept.{reading_of}
-use Rattle.wf_deeds.specs.Turns.{chosen, TakeReading}
+use Rattle.wf_deeds.specs.Turns.{chosen, turn_of, TakeReading}
+use Rattle.wf_engine.specs.Turn.{IsTurn}
 use Rattle.wf_events.specs.Spelling.{IsOld}
+use Rattle.wf_events.specs.View.{event_view}
+use Rattle.wf_events.specs.declared.data.Event as code
+use Rattle.wf_events.specs.declared.data.Event.TheVariants as event
+use Rattle.wf_machine.specs.Counts.{counts}
+use Rattle.wf_machine.specs.Outcome.{IsResult}
 use Rattle.wf_machine.specs.State.{State}
 use Rattle.wf_model.specs.ChoiceLaws as choice
 use Rattle.wf_model.specs.ChoiceLaws.{ChoiceTakesTheReading, NothingIsChosenBehindAnOutcome}
@@ -56,6 +62,11 @@ still_last reading last new e le (inl none) is = omega (arith, le, is ∙ ap (λ
 still_last reading last new e le (inr some) is = omega (arith, le, is ∙ ap (λ o. unwrap_or o last) some)
 
 -- ## Of a machine
+-- its events are moves, and count
+pub counts_one : (e : code.Event) → counts (event_view e) ≡ 1
+counts_one (event.Move b) = refl
+counts_one (event.MoveAt b t) = refl
+
 pub record Telling (first now : State) (reading : ℕ) (es : List Event) : Type 0 where
   pub turning : Turning first now reading es
   pub counted : now.config.moves ≡ first.config.moves + length es
@@ -89,3 +100,21 @@ tells_on law first mid new reading es fs e t turning is old more most last added
 pub none_behind : NothingIsChosenBehindAnOutcome → (p : Program) (c : Config) (reading n : ℕ) (es : List Event) → es ≡ chosen (suc n) p (To c) reading → c.outcome ≢ Active → es ≡ []
 unfolding chosen
 none_behind law p c reading n es is ended = is ∙ ap (λ (o : Option Event). elim o [ None ↦ [] | Some e ↦ e ∷ chosen n p (next p c e) reading ]) (law p c reading ended)
+
+-- where the turn is whole
+pub is_turn : NothingIsChosenBehindAnOutcome → (first now : State) (reading : ℕ) (es : List Event) → Telling first now reading es → es ≡ turn_of first.program first.config reading None
+    → (length es < 4096 → IsResult now.config.outcome) → IsTurn first now reading es
+is_turn law first now reading es t whole ended = record {
+  turn = whole;
+  leads = t.turning.so_far.leads;
+  short = t.turning.so_far.short;
+  ended = ended;
+  active = λ over. none_behind law first.program first.config reading 4095 es whole over;
+  counted = t.counted;
+  most = t.most;
+  spelled = t.spelled;
+  readings = λ le. take_reading reading es (t.readings le);
+  last = t.last;
+  program = t.turning.program;
+  whole = t.turning.whole;
+}

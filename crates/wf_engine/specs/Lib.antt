@@ -8,3 +8,4 @@ pub mod Engine
 pub mod Faults
 pub mod Openings
 pub mod Rows
+pub mod Turn

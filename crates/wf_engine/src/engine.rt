@@ -6,12 +6,13 @@ use crate::choose_turn;
 use crate::fault::EngineFault;
 use crate::opening::{empty_history, last_machine, session_reading};
 use std::alloc::Global;
+use std::sync::ledger::Ledger;
 use wf_ast::Program;
 use wf_deeds::laws_of_rules;
 use wf_events::{Start, Turn, one_spelling};
 use wf_history::History;
 use wf_host::Host;
-use wf_machine::{Machine, Outcome};
+use wf_machine::{Machine, Outcome, Steps};
 use wf_model::laws_of_runs;
 use wf_replay::{laws_of_histories, laws_of_moments};
 use wf_source::each_source_is_one;
@@ -34,7 +35,7 @@ pub struct Engine {
 }
 
 impl Engine {
-    ghost use Rattle.std.specs.Prelude.{◌≢◌, ◌⊎◌, ◌↔◌, ◌≤◌, ◌<◌, ◌++◌, [], ◌∷◌, true, List, ℕ, length, take, None, Ok, Err, OnOk, OnErr, IfOk, IfErr, IsErrOf};
+    ghost use Rattle.std.specs.Prelude.{◌≢◌, ◌⊎◌, ◌↔◌, ◌≤◌, ◌<◌, ◌+◌, ◌++◌, [], ◌∷◌, true, List, ℕ, length, take, None, Ok, Err, OnOk, OnErr, IfOk, IfErr, IsErrOf};
     ghost use Rattle.wf_ast.specs.View.{program_view};
     ghost use Rattle.wf_engine.specs.Engine.{memory, is_closed, Holds, StandsFor, KeptAt, Opened, OpeningMoment, turn_records};
     ghost use Rattle.wf_deeds.specs.Kept.{Command, Run};
@@ -53,7 +54,7 @@ impl Engine {
     ghost use Rattle.wf_machine.specs.Outcome.{IsResult};
     ghost use Rattle.wf_machine.specs.Seen.{state_of};
     ghost use Rattle.wf_model.specs.Config.{Active};
-    ghost use Rattle.wf_replay.specs.At.{journal, next_session};
+    ghost use Rattle.wf_replay.specs.At.{applied_by, journal, next_session};
     ghost use Rattle.wf_replay.specs.History.{Standing, history as history_of};
     ghost use Rattle.wf_source.specs.Programs.{IsSourceOf};
 
@@ -116,13 +117,19 @@ impl Engine {
     }
 
     /// Goes on from what stands in a file: replays its history, and reads the clock once where that has no outcome. Nothing is written.
+    /// Each event of the history is applied once, and is a step.
     ///
     /// The error is `DiskFault` where a disk call failed; `NotAJournal` exactly where the file has at least 5 bytes and another magic;
     /// `NotStarted` exactly where it has no record; `NotAHistory` exactly where its records are no history, with the number of the first
     /// one against it; or `OutOfMemory`.
-    pub fn open<H: Host>(alloc: Global, host: &mut H) -> Result<Engine, EngineFault>
+    pub fn open<H: Host, L: Ledger>(
+        alloc: Global,
+        host: &mut H,
+        steps: &mut Steps<L>,
+    ) -> Result<Engine, EngineFault>
         ensures holds { Told (H.world host.old) (IfOk result (λ e. Holds e (H.world host.new))) }
         ensures opened { Told (H.world host.old) (IfOk result (λ e. Opened the_language (memory e) (H.world host.old) (H.world host.new))) }
+        ensures steps { Told (H.world host.old) (OnOk result (steps.new ≡ steps.old + applied_by (records (H.world host.old).seen))) }
         ensures open { IfOk result (λ e. is_closed e ≡ false) }
         ensures session { Told (H.world host.old) (IfOk result (λ e. (memory e).session ≡ next_session (journal the_language (records (H.world host.old).seen)))) }
         ensures begins { Told (H.world host.old) (OnOk result (take 4 (H.world host.old).seen ≡ magic)) }
@@ -148,7 +155,7 @@ impl Engine {
         if history.at_end() {
             return Err(EngineFault::NotStarted);
         }
-        let machine = last_machine(alloc, &mut history, host)?;
+        let machine = last_machine(alloc, &mut history, host, steps)?;
         let (last, _) = history.last().unwrap_or((0, 0));
         let reading = session_reading(&machine, host)?;
         Ok(Engine {

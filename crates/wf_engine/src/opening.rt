@@ -1,5 +1,5 @@
 // What stands in a file before a session goes on from it.
-ghost use Rattle.std.specs.Prelude.{◌≡◌, ◌≢◌, ◌⊎◌, ◌≤◌, ◌++◌, [], ◌∷◌, true, false, List, ℕ, length, take, option_map, Some, None, Ok, Err, OnOk, IfOk, IfErr, IsErrOf};
+ghost use Rattle.std.specs.Prelude.{◌≡◌, ◌≢◌, ◌⊎◌, ◌≤◌, ◌+◌, ◌++◌, [], ◌∷◌, true, false, List, ℕ, length, take, option_map, Some, None, Ok, Err, OnOk, IfOk, IfErr, IsErrOf};
 ghost use Rattle.wf_ast.specs.View.{program_view};
 ghost use Rattle.wf_engine.specs.Engine.{OpeningMoment};
 ghost use Rattle.wf_engine.specs.Openings.{Accepts, NoFirst, ReadsClock};
@@ -13,16 +13,18 @@ ghost use Rattle.wf_journal.specs.Journal.{IsJournal, Stays};
 ghost use Rattle.wf_journal.specs.Records.{magic, records};
 ghost use Rattle.wf_machine.specs.Seen.{state_of};
 ghost use Rattle.wf_model.specs.Config.{Active};
+ghost use Rattle.wf_replay.specs.At.{applied_by};
 ghost use Rattle.wf_replay.specs.History.{first_standing, history as history_of};
 ghost use Rattle.wf_replay.specs.Standing.{standing, stands_at};
 
 use crate::fault::EngineFault;
 use std::alloc::Global;
+use std::sync::ledger::Ledger;
 use wf_ast::Program;
 use wf_events::Record;
 use wf_history::{History, HistoryFault};
 use wf_host::Host;
-use wf_machine::{Machine, Outcome};
+use wf_machine::{Machine, Outcome, Steps};
 use wf_replay::replay;
 use wf_source::{SourceFault, each_source_is_one, read_source};
 use wf_value::OutOfMemory;
@@ -54,11 +56,12 @@ pub(crate) fn empty_history<H: Host>(alloc: Global, host: &mut H) -> Result<Hist
     }
 }
 
-/// The machine to which all records of a history lead. The history is read to its end.
-pub(crate) fn last_machine<H: Host>(
+/// The machine to which all records of a history lead. The history is read to its end, and each of its events is a step.
+pub(crate) fn last_machine<H: Host, L: Ledger>(
     alloc: Global,
     history: &mut History,
     host: &mut H,
+    steps: &mut Steps<L>,
 ) -> Result<Machine, EngineFault>
     requires open { is_closed history.old ≡ false }
     requires first { place history.old ≡ 0 }
@@ -66,6 +69,7 @@ pub(crate) fn last_machine<H: Host>(
     requires kept { Told (H.world host.old) (Stands history.old (H.world host.old)) }
     ensures stands { Told (H.world host.old) (OnOk result (Stands history.new (H.world host.new))) }
     ensures leads { Told (H.world host.old) (IfOk result (λ m. history_of the_language (ahead history.old (H.world host.old).seen) ≡ Ok (standing history.new m))) }
+    ensures steps { Told (H.world host.old) (OnOk result (steps.new ≡ steps.old + applied_by (ahead history.old (H.world host.old).seen))) }
     ensures some { Told (H.world host.old) (OnOk result (ahead history.old (H.world host.old).seen ≢ [])) }
     ensures whole { IfOk result (λ m. (state_of m).broken ≡ false) }
     ensures ended { OnOk result (at_end history.new ≡ true) }
@@ -83,7 +87,7 @@ pub(crate) fn last_machine<H: Host>(
     ensures counts { NoneFell (H.faults host.old) (H.faults host.new) }
 {
     let machine = first_machine(alloc, history, host)?;
-    Ok(replay(alloc, history, host, machine)?)
+    Ok(replay(alloc, history, host, machine, steps)?)
 }
 
 /// The machine of a history's first record, which is read.

@@ -2,6 +2,7 @@
 ghost use Rattle.std.specs.List.{AllByRecursion};
 ghost use Rattle.std.specs.Prelude.{◌≡◌, ◌≢◌, ◌≤◌, ◌<◌, ◌+◌, [], false, length, None, IfOk, OnOk};
 ghost use Rattle.wf_deeds.specs.Turns.{turn_of, TakeReading};
+ghost use Rattle.wf_engine.specs.Turn.{IsTurn};
 ghost use Rattle.wf_events.specs.Spelling.{IsOld};
 ghost use Rattle.wf_events.specs.View.{event_view, events_view};
 ghost use Rattle.wf_machine.specs.Outcome.{IsResult};
@@ -10,8 +11,10 @@ ghost use Rattle.wf_model.specs.Config.{Active, To};
 ghost use Rattle.wf_model.specs.Run.{run_on};
 
 use std::alloc::Global;
+use std::marker::Brand;
+use std::sync::ledger::{Blank, Ledger};
 use wf_events::{Event, Events};
-use wf_machine::{ApplyFault, Machine};
+use wf_machine::{ApplyFault, Machine, Steps};
 use wf_model::laws_of_choice;
 use wf_value::OutOfMemory;
 
@@ -40,13 +43,44 @@ pub fn choose_turn(
     ensures program { OnOk result ((state_of machine.new).program ≡ (state_of machine.old).program) }
     ensures whole { OnOk result ((state_of machine.new).broken ≡ false) }
 {
+    let events = choose_from_blank::<Brand>(alloc, machine, reading, Blank::new(1))?;
+    Ok(events)
+}
+
+/// The same, counting the events on a ledger of its own.
+fn choose_from_blank<L: Ledger>(
+    alloc: Global,
+    machine: &mut Machine,
+    reading: u64,
+    blank: Blank,
+) -> Result<Events, OutOfMemory>
+    requires whole { (state_of machine.old).broken ≡ false }
+    requires name { blank.name ≡ L.name }
+    requires parts { blank.parts ≡ L.parts }
+    requires some { 0 < blank.parts }
+    ensures { IfOk result (λ events. IsTurn (state_of machine.old) (state_of machine.new) reading (events_view events)) }
+{
+    choose_counted(alloc, machine, reading, &mut Steps::<L>::new(blank))
+}
+
+/// The same, counting as many events as the turn has.
+fn choose_counted<L: Ledger>(
+    alloc: Global,
+    machine: &mut Machine,
+    reading: u64,
+    steps: &mut Steps<L>,
+) -> Result<Events, OutOfMemory>
+    requires whole { (state_of machine.old).broken ≡ false }
+    ensures turn { IfOk result (λ events. IsTurn (state_of machine.old) (state_of machine.new) reading (events_view events)) }
+    ensures steps { IfOk result (λ events. steps.new ≡ steps.old + length (events_view events)) }
+{
     laws_of_choice();
     let mut events = Events::new(alloc);
     while events.items().len() < MOST_EVENTS {
         let Some(event) = machine.choose(reading) else {
             return Ok(events);
         };
-        match machine.apply(&event) {
+        match machine.apply(&event, steps) {
             Ok(()) => {}
             Err(ApplyFault::OutOfMemory) => return Err(OutOfMemory),
             Err(ApplyFault::NotEnabled) => unreachable!(),

@@ -12,3 +12,4 @@ pub mod Clocks
 pub mod Stands
 pub mod Ends
 pub mod Machines
+pub mod Counts

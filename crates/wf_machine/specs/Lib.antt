@@ -9,3 +9,4 @@ pub mod State
 pub mod Lent
 pub mod Seen
 pub mod Laws
+pub mod Counts

@@ -22,7 +22,9 @@ mod facts;
 mod laws;
 mod machine;
 mod moves;
+mod steps;
 mod store;
 
 pub use laws::one_outcome;
 pub use machine::{ApplyFault, Machine, Outcome};
+pub use steps::Steps;

@@ -1,5 +1,5 @@
 // The machine: an execution of a program, event by event.
-ghost use Rattle.std.specs.Prelude.{◌≡◌, ◌≤◌, ◌<◌, ◌↔◌, ◌+◌, ℕ, List, true, false, length, map, IfOk, OnOk, IsErrOf, IfSome, IsSome, IsNone, IsTrue, max, option_map, unwrap_or};
+ghost use Rattle.std.specs.Prelude.{◌≡◌, ◌≤◌, ◌<◌, ◌↔◌, ◌+◌, ℕ, List, true, false, length, map, IfOk, OnOk, OnErr, IsErrOf, IfSome, IsSome, IsNone, IsTrue, max, option_map, unwrap_or};
 ghost use Rattle.wf_ast.specs.View.{program_view, step_view};
 ghost use Rattle.wf_machine.specs.Moves.{IsFine, IsPlace, clock_at, config_after, main_event};
 ghost use Rattle.wf_machine.specs.State.{RunsOn, IsWithinStep, config_at, is_running, main_steps_view, outcome_by, outcome_depth};
@@ -10,7 +10,9 @@ ghost use Rattle.wf_value.specs.Data.{Pairs};
 
 use crate::facts::Facts;
 use crate::moves::{Next, advance, reads_clock};
+use crate::steps::Steps;
 use std::alloc::Global;
+use std::sync::ledger::Ledger;
 use wf_ast::{Program, Step};
 use wf_events::{Event, Start};
 use wf_value::{Map, OutOfMemory, Tag, Value, error_map};
@@ -94,6 +96,7 @@ impl Machine {
     ghost use Rattle.wf_machine.specs.Seen.{state_of};
     ghost use Rattle.wf_events.specs.View.{event_view, start_view};
     ghost use Rattle.wf_machine.specs.Outcome.{IsAlone, IsResult, IsShallow};
+    ghost use Rattle.wf_machine.specs.Counts.{counts};
     ghost use Rattle.wf_machine.specs.Lent.{outcome_view};
     ghost use Rattle.wf_model.specs.ChoiceLaws.{reading_of};
     ghost use Rattle.wf_model.specs.Choose.{choose};
@@ -135,18 +138,25 @@ impl Machine {
         })
     }
 
-    /// Applies the event, if it can come now, and counts it. The event with the number 100,000 ends the execution with a
-    /// `ResourceLimitError` and isn't carried out. Raising an error of the program is no fault: it is an outcome.
+    /// Applies the event, if it can come now, and counts it as a step. A move also counts against the limit: the one with the number
+    /// 100,000 ends the execution with a `ResourceLimitError` and isn't carried out. Raising an error of the program is no fault: it is
+    /// an outcome.
     ///
     /// It answers `NotEnabled` where the event can't come, and the machine stays as it was. It answers `OutOfMemory` where memory ran
-    /// out, now or earlier: the machine is broken then, and can't be used further.
-    pub fn apply(&mut self, event: &Event) -> Result<(), ApplyFault>
+    /// out, now or earlier: the machine is broken then, and can't be used further. Neither is a step.
+    pub fn apply<L: Ledger>(
+        &mut self,
+        event: &Event,
+        steps: &mut Steps<L>,
+    ) -> Result<(), ApplyFault>
         ensures applied { OnOk result (next (state_of self.old).program (state_of self.old).config (event_view event.now) ≡ To (state_of self.new).config) }
         ensures whole { OnOk result ((state_of self.old).broken ≡ false) }
         ensures not_enabled { IsErrOf result ApplyFault.NotEnabled → (d : Config) → next (state_of self.old).program (state_of self.old).config (event_view event.now) ≡ To d → ⊥ }
         ensures stays { IsErrOf result ApplyFault.NotEnabled → state_of self.new ≡ state_of self.old }
         ensures program { (state_of self.new).program ≡ (state_of self.old).program }
-        ensures counted { OnOk result ((state_of self.new).config.moves ≡ (state_of self.old).config.moves + 1) }
+        ensures counted { OnOk result ((state_of self.new).config.moves ≡ (state_of self.old).config.moves + counts (event_view event.now)) }
+        ensures steps { OnOk result (steps.new ≡ steps.old + 1) }
+        ensures no_step { OnErr result (steps.new ≡ steps.old) }
         // The event's reading, if it has one, becomes the last one.
         ensures last { OnOk result ((state_of self.new).config.last ≡ unwrap_or (reading_of (event_view event.now)) (state_of self.old).config.last) }
         ensures most { (state_of self.new).config.moves ≤ 100000 }
@@ -161,7 +171,10 @@ impl Machine {
             return Err(ApplyFault::NotEnabled);
         };
         match self.make_move(readings) {
-            Ok(()) => Ok(()),
+            Ok(()) => {
+                steps.tick();
+                Ok(())
+            }
             Err(_) => {
                 self.broken = true;
                 Err(ApplyFault::OutOfMemory)

@@ -1,3 +1,4 @@
+mod Applied
 mod Events
 mod Faults
 mod Histories

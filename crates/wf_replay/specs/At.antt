@@ -2,12 +2,14 @@
 --     Journal        the start, the program and the turns of some records
 --     config_at      after the turns of earlier sessions, and those of a session up to a count of waits
 --     config_before  after the turns of earlier sessions alone
-use Rattle.std.specs.Prelude.{ℕ, suc, nat_eq, nat_lt, if◌then◌else◌, List, [], ◌∷◌, ◌++◌, Option, Some, None, option_map}
+--     applied_by     how many events the turns among some payloads have
+use Rattle.std.specs.Prelude.{ℕ, suc, nat_eq, nat_lt, if◌then◌else◌, List, [], ◌∷◌, ◌++◌, length, Option, Some, None, option_map}
 use Rattle.wf_ast.specs.Tree.{Program}
 use Rattle.wf_events.specs.Reading.{meaning}
 use Rattle.wf_events.specs.Records.{Record, Started, Turned}
 use Rattle.wf_model.specs.Config.{Config, After, To, Wrong, NotNow}
 use Rattle.wf_model.specs.Run as run
+use Rattle.wf_replay.specs.History.{events}
 use Rattle.wf_replay.specs.Language.{Language}
 use Rattle.wf_shared.specs.Events.{Event, Start, Turn}
 
@@ -24,6 +26,15 @@ with_turn r ts = ts
 abbrev pub turns_in : List (List ℕ) → List Turn
 turns_in [] = []
 turns_in (b ∷ bs) = with_turn (meaning b) (turns_in bs)
+
+-- the events of a record: those of its turn
+abbrev pub events_of : Record → List Event
+events_of (Turned t) = t.events
+events_of r = []
+
+-- how many events the turns among some payloads have
+abbrev pub applied_by : List (List ℕ) → ℕ
+applied_by bs = length (events (turns_in bs))
 
 abbrev pub begins : Language → Option Record → List Turn → Option Journal
 begins L (Some (Started s)) ts = option_map (λ p. record { start = s; program = p; turns = ts }) (L.source s.source)

@@ -1,5 +1,5 @@
 // Replaying a history.
-ghost use Rattle.std.specs.Prelude.{◌≡◌, ◌⊎◌, ◌↔◌, ◌&&◌, ◌<◌, [], true, false, ℕ, suc, Some, None, Ok, Err, IfOk, IfErr, OnOk, IsErrOf};
+ghost use Rattle.std.specs.Prelude.{◌≡◌, ◌⊎◌, ◌↔◌, ◌&&◌, ◌<◌, ◌+◌, [], true, false, ℕ, suc, length, Some, None, Ok, Err, IfOk, IfErr, OnOk, IsErrOf};
 ghost use Rattle.wf_events.specs.View.{events_view, record_view, turn_view};
 ghost use Rattle.wf_history.specs.Stands.{ahead, at_end, is_closed, is_new, last_after, unread, Stands};
 ghost use Rattle.wf_host.specs.World.{Told, LeavesOnly, NoneFell, Rose};
@@ -7,33 +7,38 @@ ghost use Rattle.wf_journal.specs.Journal.{Stays};
 ghost use Rattle.wf_machine.specs.Seen.{state_of};
 ghost use Rattle.wf_model.specs.Config.{Config, To};
 ghost use Rattle.wf_model.specs.Run.{run_on};
+ghost use Rattle.wf_replay.specs.At.{applied_by, events_of};
 ghost use Rattle.wf_replay.specs.History.{goes_on, goes_on_at, goes_to, is_numbered, told};
 ghost use Rattle.wf_replay.specs.Standing.{session_of, standing, stands_at, waits_of};
 
 use crate::ReplayFault;
 use std::alloc::Global;
+use std::sync::ledger::Ledger;
 use wf_events::{Record, Turn};
 use wf_history::History;
 use wf_host::Host;
-use wf_machine::{ApplyFault, Machine};
+use wf_machine::{ApplyFault, Machine, Steps};
 
 /// Applies the turns that a history has left to the machine, which stands where the records that were read so far lead. Then the
-/// history is at its end, and the machine stands where all of its records lead.
+/// history is at its end, and the machine stands where all of its records lead. Each event of these turns is applied once, and counts
+/// one step.
 ///
 /// `BadEvent` tells the number of the first record that doesn't go on: one that is no turn, a session that is 0 or over the record's
 /// number, a session or waits below those of the turn before, or an event that can't come. `DiskFault` comes only where the count of
 /// disk faults rose, and closes the history; `Closed` where it was closed before. On each fault the machine is gone. The file isn't
 /// written, and nothing is done outside.
-pub fn replay<H: Host>(
+pub fn replay<H: Host, L: Ledger>(
     alloc: Global,
     history: &mut History,
     host: &mut H,
     machine: Machine,
+    steps: &mut Steps<L>,
 ) -> Result<Machine, ReplayFault>
     requires whole { (state_of machine).broken ≡ false }
     requires kept { is_closed history.old ≡ false → Told (H.world host.old) (Stands history.old (H.world host.old)) }
     ensures stands { is_closed history.new ≡ false → Told (H.world host.old) (Stands history.new (H.world host.new)) }
     ensures replayed { Told (H.world host.old) (IfOk result (λ m. goes_to (standing history.old machine) (ahead history.old (H.world host.old).seen) ≡ Ok (standing history.new m))) }
+    ensures steps { Told (H.world host.old) (OnOk result (steps.new ≡ steps.old + applied_by (ahead history.old (H.world host.old).seen))) }
     ensures whole { IfOk result (λ m. (state_of m).broken ≡ false) }
     ensures ended { OnOk result (at_end history.new ≡ true) }
     ensures bad_event { Told (H.world host.old) (IfErr result (λ e. (n : ℕ) → e ≡ ReplayFault.BadEvent n → goes_to (standing history.old machine) (ahead history.old (H.world host.old).seen) ≡ Err n)) }
@@ -49,21 +54,23 @@ pub fn replay<H: Host>(
     ensures counts { NoneFell (H.faults host.old) (H.faults host.new) }
 {
     let mut machine = machine;
-    while replay_next(alloc, history, host, &mut machine)? {}
+    while replay_next(alloc, history, host, &mut machine, steps)? {}
     Ok(machine)
 }
 
 /// Applies the next turn, if there is one.
-fn replay_next<H: Host>(
+fn replay_next<H: Host, L: Ledger>(
     alloc: Global,
     history: &mut History,
     host: &mut H,
     machine: &mut Machine,
+    steps: &mut Steps<L>,
 ) -> Result<bool, ReplayFault>
     requires whole { (state_of machine.old).broken ≡ false }
     requires kept { is_closed history.old ≡ false → Told (H.world host.old) (Stands history.old (H.world host.old)) }
     ensures stands { is_closed history.new ≡ false → Told (H.world host.old) (Stands history.new (H.world host.new)) }
     ensures leads { Told (H.world host.old) (OnOk result (goes_to (standing history.old machine.old) (ahead history.old (H.world host.old).seen) ≡ goes_to (standing history.new machine.new) (ahead history.new (H.world host.old).seen))) }
+    ensures steps { Told (H.world host.old) (OnOk result (steps.new + applied_by (ahead history.new (H.world host.old).seen) ≡ steps.old + applied_by (ahead history.old (H.world host.old).seen))) }
     ensures last { Told (H.world host.old) (IfOk result (λ more. more ≡ false → ahead history.new (H.world host.old).seen ≡ [])) }
     ensures whole { OnOk result ((state_of machine.new).broken ≡ false) }
     ensures ended { IfOk result (λ more. more ≡ false → at_end history.new ≡ true) }
@@ -85,20 +92,22 @@ fn replay_next<H: Host>(
     let Some(record) = history.next(alloc, host)? else {
         return Ok(false);
     };
-    replay_record(number, last, &record, machine)?;
+    replay_record(number, last, &record, machine, steps)?;
     Ok(true)
 }
 
 /// Applies the record with this number, if it is a turn that goes on behind the last one.
 #[tactic(auto, unfolding(crate::specs::Standing::stands_at))]
-fn replay_record(
+fn replay_record<L: Ledger>(
     number: u64,
     last: Option<(u64, u64)>,
     next: &Record,
     machine: &mut Machine,
+    steps: &mut Steps<L>,
 ) -> Result<(), ReplayFault>
     requires whole { (state_of machine.old).broken ≡ false }
     ensures goes_on { OnOk result (goes_on (stands_at number last machine.old) (Some (record_view next.now)) ≡ Some (stands_at (suc number) (last_after last (record_view next.now)) machine.new)) }
+    ensures steps { OnOk result (steps.new ≡ steps.old + length (events_of (record_view next.now))) }
     ensures whole { OnOk result ((state_of machine.new).broken ≡ false) }
     ensures bad_event { IfErr result (λ e. (n : ℕ) → e ≡ ReplayFault.BadEvent n → (goes_on (stands_at number last machine.old) (Some (record_view next.now)) ≡ None) × (n ≡ told number)) }
     ensures only { IfErr result (λ e. (e ≡ ReplayFault.OutOfMemory) ⊎ (e ≡ ReplayFault.BadEvent (told number))) }
@@ -109,7 +118,7 @@ fn replay_record(
     if !is_in_place(number, last, turn) {
         return Err(bad_event(number));
     }
-    match apply_turn(machine, turn) {
+    match apply_turn(machine, turn, steps) {
         Ok(()) => Ok(()),
         Err(ApplyFault::NotEnabled) => Err(bad_event(number)),
         Err(ApplyFault::OutOfMemory) => Err(ReplayFault::OutOfMemory),
@@ -126,16 +135,21 @@ fn is_in_place(number: u64, last: Option<(u64, u64)>, turn: &Turn) -> bool
 }
 
 /// Applies the events of a turn. It answers `NotEnabled` where one of them can't come: then they lead nowhere.
-fn apply_turn(machine: &mut Machine, turn: &Turn) -> Result<(), ApplyFault>
+fn apply_turn<L: Ledger>(
+    machine: &mut Machine,
+    turn: &Turn,
+    steps: &mut Steps<L>,
+) -> Result<(), ApplyFault>
     requires whole { (state_of machine.old).broken ≡ false }
     ensures applied { OnOk result (run_on (state_of machine.old).program (To (state_of machine.old).config) (events_view turn.now.events) ≡ To (state_of machine.new).config) }
     ensures whole { OnOk result ((state_of machine.new).broken ≡ false) }
     ensures program { OnOk result ((state_of machine.new).program ≡ (state_of machine.old).program) }
+    ensures steps { OnOk result (steps.new ≡ steps.old + length (events_view turn.now.events)) }
     ensures not_enabled { IsErrOf result ApplyFault.NotEnabled → (c : Config) → run_on (state_of machine.old).program (To (state_of machine.old).config) (events_view turn.now.events) ≡ To c → ⊥ }
 {
     let events = turn.events.items();
     for event in events {
-        machine.apply(event)?;
+        machine.apply(event, steps)?;
     }
     Ok(())
 }

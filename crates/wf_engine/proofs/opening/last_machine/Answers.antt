@@ -1,9 +1,10 @@
-use Rattle.std.proofs.Common.{◌∙◌, ap, sym, Ok}
-use Rattle.wf_engine.proofs.FirstRecords.{at_first_record, at_later_record, records_lead}
+use Rattle.std.proofs.Common.{◌∙◌, ◌+◌, ap, sym, Ok}
+use Rattle.wf_engine.proofs.FirstRecords.{applied_in_all, at_first_record, at_later_record, records_lead}
 use Rattle.wf_engine.proofs.StillOpen.{still_open, tells_still}
 use Rattle.wf_engine.proofs.opening.last_machine.Goals as goal
 use Rattle.wf_engine.specs.TheLanguage.{the_language}
 use Rattle.wf_history.specs.Stands.{ahead, is_closed}
+use Rattle.wf_replay.specs.At.{applied_by}
 use Rattle.wf_replay.specs.History.{goes_to}
 use Rattle.wf_replay.specs.Standing.{standing}
 use Rattle.wf_replay.specs.declared.fault.ReplayFault.TheVariants as fault
@@ -37,3 +38,12 @@ returns-clause-leads g c = λ told.
     let (payload, next, first) = c.in_ok-machine.ensures.leads told in
     records_lead the_language (ahead c.args.history.now w.seen) payload (ahead h w.seen) s (Ok (standing c.replay.new.history c.in_ok-replay.field-0)) next first
     (ap (λ l. goes_to s (ahead h l)) (sym (c.first_machine.ensures.seen told)) ∙ c.in_ok-replay.ensures.replayed (tells_still w mid c.first_machine.ensures.tells told))
+
+pub returns-clause-steps : goal.returns-clause-steps
+returns-clause-steps g c = λ told.
+    let w = g.H.Host.world c.args.host.now in
+    let mid = g.H.Host.world c.first_machine.new.host in
+    let h = c.first_machine.new.history in
+    let (payload, next, first) = c.in_ok-machine.ensures.leads told in
+    applied_in_all the_language (ahead c.args.history.now w.seen) payload (ahead h w.seen) (standing h c.in_ok-machine.machine) c.args.steps.now c.replay.new.steps next first
+    (c.in_ok-replay.ensures.steps (tells_still w mid c.first_machine.ensures.tells told) ∙ ap (λ l. c.args.steps.now + applied_by (ahead h l)) (c.first_machine.ensures.seen told))

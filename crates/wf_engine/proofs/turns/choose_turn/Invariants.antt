@@ -1,11 +1,5 @@
-use Rattle.std.proofs.Common.{◌-◌, length}
-use Rattle.wf_engine.proofs.Turning.{Telling}
 use Rattle.wf_engine.proofs.turns.choose_turn.Given as goal
-use Rattle.wf_events.specs.View.{events_view}
-use Rattle.wf_machine.specs.Seen.{state_of}
 
-abbrev pub invariant-loop-machine : goal.invariant-loop-machine
-invariant-loop-machine l = Telling (state_of l.fn.machine) (state_of l.machine) l.fn.reading (events_view l.events)
-
-abbrev pub decreases-loop-machine : goal.decreases-loop-machine
-decreases-loop-machine l = 4096 - length (events_view l.events)
+-- a ledger of its own
+abbrev pub ghosts-choose_from_blank : goal.ghosts-choose_from_blank
+ghosts-choose_from_blank a = record { name = a.blank.name; parts = a.blank.parts }

@@ -4,7 +4,7 @@ use Rattle.wf_replay.proofs.replaying.replay.Goals as goal
 
 pub loop-machine-init : goal.loop-machine-init
 loop-machine-init g c = record {
-  so_far = λ told. starts (g.H.Host.world c.args.host.now) c.args.history.now c.args.machine (λ i d left. g.met.H.Host.only_now c.args.host.now i d told left) (λ open_now. c.requires.kept open_now told);
+  so_far = λ told. starts (g.H.Host.world c.args.host.now) c.args.history.now c.args.machine c.args.steps.now (λ i d left. g.met.H.Host.only_now c.args.host.now i d told left) (λ open_now. c.requires.kept open_now told);
   closed = refl;
   new = refl;
   whole = c.requires.whole;

@@ -3,6 +3,7 @@ use Rattle.std.specs.Prelude.{MatchOption}
 use Rattle.wf_events.specs.Reading.{meaning}
 use Rattle.wf_events.specs.View.{record_view}
 use Rattle.wf_history.specs.Stands.{ahead, last, place}
+use Rattle.wf_replay.proofs.Applied.{passed}
 use Rattle.wf_replay.proofs.Faults.{IsToldAt, at_no_record, at_record}
 use Rattle.wf_replay.proofs.replaying.replay_next.Goals as goal
 
@@ -19,3 +20,9 @@ returns-in_err-replay_record-clause-bad_event g c = λ told.
     at_record (place c.args.history.now) (last c.args.history.now) c.args.machine.now found.0 (ahead c.next.new.self w.seen) (ahead c.args.history.now w.seen) (record_view c.in-Some.record) c.from_residual-in_err-replay_record.result c.in_err-replay_record.field-0.0
     c.from_residual-in_err-replay_record.ensures found.1 found.2
     (subst₂ (λ p l. IsToldAt c.in_err-replay_record.field-0.0 (record_view c.in-Some.record) c.args.machine.now p l) c.place-number.ensures c.last-last.ensures c.in_err-replay_record.ensures.bad_event)
+
+pub returns-clause-steps : goal.returns-clause-steps
+returns-clause-steps g c = λ told.
+    let w = g.H.Host.world c.args.host.now in
+    let found = subst (λ o. MatchOption o (ahead c.args.history.now w.seen ≡ []) (λ r. (payload : List ℕ) × (ahead c.args.history.now w.seen ≡ payload ∷ ahead c.next.new.self w.seen) × (meaning payload ≡ Some (record_view r)))) c.in-Some.is (c.in_ok-record.ensures.record told) in
+    passed (record_view c.in-Some.record) found.0 (ahead c.next.new.self w.seen) (ahead c.args.history.now w.seen) c.args.steps.now c.replay_record.new.steps found.1 found.2 c.in_ok-replay_record.ensures.steps

@@ -1,4 +1,4 @@
-use Rattle.std.proofs.Common.{◌≡◌, ◌∙◌, ap, inl, sym, subst, ℕ, length, ◌≤◌, Ok}
+use Rattle.std.proofs.Common.{◌≡◌, ◌∙◌, ◌+◌, ap, inl, sym, subst, ℕ, length, ◌≤◌, Ok}
 use Rattle.std.specs.Prelude.{unwrap_or}
 use Rattle.wf_engine.proofs.Beginning.{opens_quietly, quiet_stays, settled_behind, then_reads}
 use Rattle.wf_engine.proofs.Reopened.{deeds_on, has_ended, next_number, no_history_told, opened, still_stands}
@@ -8,6 +8,7 @@ use Rattle.wf_engine.specs.TheLanguage.{the_language}
 use Rattle.wf_history.specs.Stands.{ahead}
 use Rattle.wf_journal.specs.Records.{records}
 use Rattle.wf_journal.specs.Standing.{new_none}
+use Rattle.wf_replay.specs.At.{applied_by}
 use Rattle.wf_replay.specs.History.{history}
 use Rattle.wf_replay.specs.Standing.{standing}
 
@@ -168,3 +169,10 @@ returns-clause-finished g c = λ told s is ended.
     let led : history the_language (records w.seen) ≡ Ok (standing h m) =
     ap (λ l. history the_language (records l)) (sym (c.open.ensures.seen told)) ∙ ap (λ J. history the_language J) (sym (c.in_ok-history.ensures.first told)) ∙ c.in_ok-machine.ensures.leads told_mid in
     ap (λ x. (g.H.Host.world x).deeds) (c.session_reading.ensures.finished (has_ended the_language (records w.seen) h m s led is ended)) ∙ deeds
+
+pub returns-clause-steps : goal.returns-clause-steps
+returns-clause-steps g c = λ told.
+    let w = g.H.Host.world c.args.host.now in
+    let mid = g.H.Host.world c.open.new.host in
+    c.in_ok-machine.ensures.steps (tells_still w mid c.open.ensures.tells told)
+    ∙ ap (λ J. c.args.steps.now + applied_by J) (c.in_ok-history.ensures.first told ∙ ap records (c.open.ensures.seen told))

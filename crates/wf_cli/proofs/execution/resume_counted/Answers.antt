@@ -10,7 +10,7 @@ use Rattle.wf_args.specs.declared.command.Command.TheVariants.{Resume}
 use Rattle.wf_deeds.specs.Kept as kept
 use Rattle.wf_engine.specs.Safe.{scene}
 use Rattle.wf_engine.specs.TheLanguage.{the_language}
-use Rattle.wf_cli.proofs.execution.resume.Goals as goal
+use Rattle.wf_cli.proofs.execution.resume_counted.Goals as goal
 
 pub returns-in-Ok : goal.returns-in-Ok
 returns-in-Ok g c =

@@ -1,0 +1,5 @@
+use Rattle.machine_cases.proofs.engines.opened.Given as goal
+
+-- a ledger of its own
+abbrev pub ghosts-reopened : goal.ghosts-reopened
+ghosts-reopened a = record { name = a.blank.name; parts = a.blank.parts }
