@@ -1,10 +1,15 @@
 // Replays of histories.
-use crate::machines::write_outcome;
-use crate::programs::program_of;
+ghost use Rattle.std.specs.Prelude.{◌≡◌, false};
+ghost use Rattle.wf_history.specs.Stands.{is_closed, Stands};
+ghost use Rattle.wf_host.specs.MemHost.{mem_world};
+ghost use Rattle.wf_host.specs.World.{Told};
+ghost use Rattle.wf_machine.specs.Seen.{state_of};
+
+use crate::machines::{started, write_outcome};
 use std::alloc::Global;
 use wf_cases::{Case, CaseFault};
-use wf_events::Record;
-use wf_history::History;
+use wf_events::{Record, Start};
+use wf_history::{History, HistoryFault};
 use wf_host::MemHost;
 use wf_host_cases::host_of;
 use wf_machine::Machine;
@@ -36,23 +41,66 @@ fn replay_twice(
         Ok(history) => history,
         Err(fault) => return Ok(write!(out, "{}", ReplayFault::from(fault))?),
     };
-    let start = match history.next(alloc, host) {
-        Ok(Some(Record::Start(start))) => start,
-        Ok(_) => return Err(CaseFault::NoCase),
-        Err(fault) => return Ok(write!(out, "{}", ReplayFault::from(fault))?),
-    };
-    let machine = Machine::new(alloc, &start, program_of(alloc, source)?)?;
-    write_replayed(out, alloc, replay(alloc, &mut history, host, machine))?;
+    match first_start(alloc, &mut history, host)? {
+        Ok(start) => replay_both(alloc, &mut history, host, source, &start, out),
+        Err(fault) => Ok(write!(out, "{}", ReplayFault::from(fault))?),
+    }
+}
+
+/// The start that a history's next record is, or the fault.
+fn first_start(
+    alloc: Global,
+    history: &mut History,
+    host: &mut MemHost,
+) -> Result<Result<Start, HistoryFault>, CaseFault>
+    requires kept { is_closed history.old ≡ false → Told (mem_world host.old) (Stands history.old (mem_world host.old)) }
+    ensures stands { is_closed history.new ≡ false → Told (mem_world host.new) (Stands history.new (mem_world host.new)) }
+{
+    match history.next(alloc, host) {
+        Ok(Some(Record::Start(start))) => Ok(Ok(start)),
+        Ok(_) => Err(CaseFault::NoCase),
+        Err(fault) => Ok(Err(fault)),
+    }
+}
+
+/// Replays a history on the machine of a source and a start, and then again.
+fn replay_both(
+    alloc: Global,
+    history: &mut History,
+    host: &mut MemHost,
+    source: &str,
+    start: &Start,
+    out: &mut String,
+) -> Result<(), CaseFault>
+    requires kept { is_closed history.old ≡ false → Told (mem_world host.old) (Stands history.old (mem_world host.old)) }
+{
+    write_replay(alloc, history, host, started(alloc, source, start)?, out)?;
     out.push_str("; again ")?;
-    let machine = Machine::new(alloc, &start, program_of(alloc, source)?)?;
-    write_replayed(out, alloc, replay(alloc, &mut history, host, machine))
+    write_replay(alloc, history, host, started(alloc, source, start)?, out)
+}
+
+/// Replays a history on a machine, and writes what that gave.
+fn write_replay(
+    alloc: Global,
+    history: &mut History,
+    host: &mut MemHost,
+    machine: Machine,
+    out: &mut String,
+) -> Result<(), CaseFault>
+    requires whole { (state_of machine).broken ≡ false }
+    requires kept { is_closed history.old ≡ false → Told (mem_world host.old) (Stands history.old (mem_world host.old)) }
+    ensures stands { is_closed history.new ≡ false → Told (mem_world host.new) (Stands history.new (mem_world host.new)) }
+{
+    let replayed = replay(alloc, history, host, machine);
+    write_replayed(out, alloc, replayed)
 }
 
 /// What two replays of the history in a host's file give, one after the other.
 pub fn twice(alloc: Global, case: &Case<'_>) -> Result<String, CaseFault> {
-    let mut host = host_of(alloc, case.item(1)?)?;
+    let source = case.text(0)?;
     let mut out = String::new(alloc);
-    replay_twice(alloc, &mut host, case.text(0)?, &mut out)?;
+    let mut host = host_of(alloc, case.item(1)?)?;
+    replay_twice(alloc, &mut host, source, &mut out)?;
     Ok(out)
 }
 
