@@ -71,7 +71,11 @@ enum Found {
 }
 
 /// Reads the next record.
-fn read_next(alloc: Global, history: &mut History, host: &mut MemHost) -> Result<Found, HistoryFault>
+fn read_next(
+    alloc: Global,
+    history: &mut History,
+    host: &mut MemHost,
+) -> Result<Found, HistoryFault>
     requires kept { is_closed history.old ≡ false → Told (mem_world host.old) (Stands history.old (mem_world host.old)) }
     ensures stands { is_closed history.new ≡ false → Told (mem_world host.old) (Stands history.new (mem_world host.new)) }
     ensures tells { (mem_world host.new).tells ≡ (mem_world host.old).tells }
