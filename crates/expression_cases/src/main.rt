@@ -29,6 +29,7 @@ mod values;
 
 use std::alloc::Global;
 use wf_cases::{CaseFault, case_of, text_of};
+use wf_value::Value;
 
 /// What is printed of a line.
 fn answer(alloc: Global, line: &str) -> Result<String, CaseFault> {
@@ -39,8 +40,14 @@ fn answer(alloc: Global, line: &str) -> Result<String, CaseFault> {
         "texts" => values::of_text(alloc, &case),
         "evaluations" => values::of_tree(alloc, &case),
         "fillings" => values::of_template(alloc, &case),
-        table => sources::answer(alloc, table, text_of(alloc, case.items())?.as_str()),
+        table => of_source(alloc, table, case.items()),
     }
+}
+
+/// What a table wants of a source of these pieces.
+fn of_source(alloc: Global, table: &str, pieces: &[Value]) -> Result<String, CaseFault> {
+    let source = text_of(alloc, pieces)?;
+    sources::answer(alloc, table, source.as_str())
 }
 
 fn main(rt: HostRuntime) -> anyhow::Result<()> {

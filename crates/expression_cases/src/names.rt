@@ -35,13 +35,7 @@ impl Look for Names {
 pub(crate) fn names_of(alloc: Global, case: &Case<'_>) -> Result<Names, CaseFault> {
     let mut map = copied(alloc, case.item(1)?)?;
     if case.table != "facts" && case.items().len() > 3 {
-        let Value::List(made) = case.item(3)? else {
-            return Err(CaseFault::NoCase);
-        };
-        for one in made.items() {
-            let (name, value) = made_value(alloc, one)?;
-            map.insert(name, value)?;
-        }
+        add_made(alloc, &mut map, case.item(3)?)?;
     }
     Ok(Names { map })
 }
@@ -56,40 +50,73 @@ fn copied(alloc: Global, told: &Value) -> Result<Map, CaseFault> {
         let Some((name, value)) = told.entry(i) else {
             break;
         };
-        map.insert(Text::new(alloc, name)?, value.copy(alloc)?)?;
+        put(alloc, &mut map, name, value.copy(alloc)?)?;
     }
     Ok(map)
 }
 
-fn made_value(alloc: Global, one: &Value) -> Result<(Text, Value), CaseFault> {
+/// Puts a value at a name.
+fn put(alloc: Global, map: &mut Map, name: &str, value: Value) -> Result<(), CaseFault> {
+    let name = Text::new(alloc, name)?;
+    map.insert(name, value)?;
+    Ok(())
+}
+
+/// Adds further names.
+fn add_made(alloc: Global, map: &mut Map, made: &Value) -> Result<(), CaseFault> {
+    let Value::List(made) = made else {
+        return Err(CaseFault::NoCase);
+    };
+    for one in made.items() {
+        add_one(alloc, map, one)?;
+    }
+    Ok(())
+}
+
+fn add_one(alloc: Global, map: &mut Map, one: &Value) -> Result<(), CaseFault> {
     let Value::List(parts) = one else {
         return Err(CaseFault::NoCase);
     };
-    let [Value::Text(name), Value::Text(kind), first, ..] = parts.items() else {
-        return Err(CaseFault::NoCase);
-    };
-    let value = match (kind.as_str(), first) {
-        ("bytes", hex) => {
-            let bytes = bytes_of(alloc, hex)?;
-            Value::Bytes(Bytes::new(alloc, bytes.as_slice())?)
+    match parts.items() {
+        [Value::Text(name), Value::Text(kind), first, ..] => {
+            let value = made_value(alloc, kind.as_str(), first)?;
+            put(alloc, map, name.as_str(), value)
         }
-        ("text", Value::List(pieces)) => {
-            let text = text_of(alloc, pieces.items())?;
-            Value::Text(Text::new(alloc, text.as_str())?)
-        }
-        ("nested", Value::Int(depth)) => nested(alloc, *depth)?,
-        _ => return Err(CaseFault::NoCase),
-    };
-    Ok((Text::new(alloc, name.as_str())?, value))
+        _ => Err(CaseFault::NoCase),
+    }
+}
+
+fn made_value(alloc: Global, kind: &str, first: &Value) -> Result<Value, CaseFault> {
+    match (kind, first) {
+        ("bytes", hex) => made_bytes(alloc, hex),
+        ("text", Value::List(pieces)) => made_text(alloc, pieces.items()),
+        ("nested", Value::Int(depth)) => nested(alloc, *depth),
+        _ => Err(CaseFault::NoCase),
+    }
+}
+
+fn made_bytes(alloc: Global, hex: &Value) -> Result<Value, CaseFault> {
+    let bytes = bytes_of(alloc, hex)?;
+    Ok(Value::Bytes(Bytes::new(alloc, bytes.as_slice())?))
+}
+
+fn made_text(alloc: Global, pieces: &[Value]) -> Result<Value, CaseFault> {
+    let text = text_of(alloc, pieces)?;
+    Ok(Value::Text(Text::new(alloc, text.as_str())?))
 }
 
 // So many lists in each other.
 fn nested(alloc: Global, depth: i64) -> Result<Value, CaseFault> {
     let mut value = Value::Null;
     for _ in 0..depth {
-        let mut list = List::new(alloc)?;
-        list.push(value)?;
-        value = Value::List(list);
+        value = one_in(alloc, value)?;
     }
     Ok(value)
+}
+
+// A list with this one value.
+fn one_in(alloc: Global, value: Value) -> Result<Value, CaseFault> {
+    let mut list = List::new(alloc)?;
+    list.push(value)?;
+    Ok(Value::List(list))
 }

@@ -4,6 +4,7 @@ use crate::signs::{name, sign};
 use std::alloc::Global;
 use wf_ast::{Expr, Part, Target, Template};
 use wf_cases::CaseFault;
+use wf_value::Value;
 
 // What stands at the head of an expression, behind its bracket.
 fn head(e: &Expr) -> &'static str {
@@ -28,18 +29,29 @@ pub(crate) fn shown(alloc: Global, e: &Expr) -> Result<String, CaseFault> {
     Ok(out)
 }
 
+// Writes a value.
+fn push_value(alloc: Global, out: &mut String, value: &Value) -> Result<(), CaseFault> {
+    let text = value_text(alloc, value)?;
+    Ok(out.push_str(text.as_str())?)
+}
+
+// Writes a text as JSON.
+fn push_quoted(alloc: Global, out: &mut String, text: &str) -> Result<(), CaseFault> {
+    let text = quoted(alloc, text)?;
+    Ok(out.push_str(text.as_str())?)
+}
+
 // Writes an expression.
 fn show(alloc: Global, out: &mut String, e: &Expr) -> Result<(), CaseFault> {
     if let Expr::Lit(value) = e {
-        out.push_str(value_text(alloc, value)?.as_str())?;
-        return Ok(());
+        return push_value(alloc, out, value);
     }
     out.push_str("[\"")?;
     out.push_str(head(e))?;
     out.push_str("\",")?;
     match e {
         Expr::Lit(_) => {}
-        Expr::Name(name) => out.push_str(quoted(alloc, name.as_str())?.as_str())?,
+        Expr::Name(name) => push_quoted(alloc, out, name.as_str())?,
         Expr::Neg(a) | Expr::Not(a) => show(alloc, out, a)?,
         Expr::And(a, b) | Expr::Or(a, b) | Expr::Bin(_, a, b) | Expr::Index(a, b) => {
             show(alloc, out, a)?;
@@ -49,10 +61,10 @@ fn show(alloc: Global, out: &mut String, e: &Expr) -> Result<(), CaseFault> {
         Expr::Key(a, key) => {
             show(alloc, out, a)?;
             out.push_str(",")?;
-            out.push_str(quoted(alloc, key.as_str())?.as_str())?;
+            push_quoted(alloc, out, key.as_str())?;
         }
         Expr::Call(func, args) => {
-            out.push_str(quoted(alloc, name(*func))?.as_str())?;
+            push_quoted(alloc, out, name(*func))?;
             for arg in args.items() {
                 out.push_str(",")?;
                 show(alloc, out, arg)?;
@@ -65,47 +77,58 @@ fn show(alloc: Global, out: &mut String, e: &Expr) -> Result<(), CaseFault> {
 
 /// A target: the key as it stands in the source, the variable, and the places below it.
 pub(crate) fn shown_target(alloc: Global, target: &Target) -> Result<String, CaseFault> {
-    let mut out = String::from_str(alloc, "[")?;
-    out.push_str(quoted(alloc, target.text.as_str())?.as_str())?;
+    let mut out = String::new(alloc);
+    show_target(alloc, &mut out, target)?;
+    Ok(out)
+}
+
+fn show_target(alloc: Global, out: &mut String, target: &Target) -> Result<(), CaseFault> {
+    out.push_str("[")?;
+    push_quoted(alloc, out, target.text.as_str())?;
     out.push_str(",")?;
-    out.push_str(quoted(alloc, target.name.as_str())?.as_str())?;
+    push_quoted(alloc, out, target.name.as_str())?;
     for place in target.places.items() {
         out.push_str(",")?;
-        show(alloc, &mut out, place)?;
+        show(alloc, out, place)?;
     }
-    out.push_str("]")?;
-    Ok(out)
+    Ok(out.push_str("]")?)
 }
 
 /// The template that a text of a source is.
 pub(crate) fn shown_template(alloc: Global, template: &Template) -> Result<String, CaseFault> {
+    let mut out = String::new(alloc);
+    show_template(alloc, &mut out, template)?;
+    Ok(out)
+}
+
+fn show_template(alloc: Global, out: &mut String, template: &Template) -> Result<(), CaseFault> {
     match template {
         Template::Lit(value) => {
-            let text = value_text(alloc, value)?;
-            Ok(format!(in alloc; "[\"literal\",{text}]")?)
+            out.push_str("[\"literal\",")?;
+            push_value(alloc, out, value)?;
         }
-        Template::Expr(e) => shown_alone(alloc, e),
+        Template::Expr(e) => return show_alone(alloc, out, e),
         Template::Join(parts) => {
-            let mut out = String::from_str(alloc, "[\"join\"")?;
+            out.push_str("[\"join\"")?;
             for part in parts.items() {
                 out.push_str(",")?;
-                out.push_str(shown_part(alloc, part)?.as_str())?;
+                show_part(alloc, out, part)?;
             }
-            out.push_str("]")?;
-            Ok(out)
         }
-        Template::List(_) | Template::Map(_) => Err(CaseFault::NoCase),
+        Template::List(_) | Template::Map(_) => return Err(CaseFault::NoCase),
     }
+    Ok(out.push_str("]")?)
 }
 
-fn shown_part(alloc: Global, part: &Part) -> Result<String, CaseFault> {
+fn show_part(alloc: Global, out: &mut String, part: &Part) -> Result<(), CaseFault> {
     match part {
-        Part::Text(text) => quoted(alloc, text.as_str()),
-        Part::Expr(e) => shown_alone(alloc, e),
+        Part::Text(text) => push_quoted(alloc, out, text.as_str()),
+        Part::Expr(e) => show_alone(alloc, out, e),
     }
 }
 
-fn shown_alone(alloc: Global, e: &Expr) -> Result<String, CaseFault> {
-    let text = shown(alloc, e)?;
-    Ok(format!(in alloc; "[\"expression\",{text}]")?)
+fn show_alone(alloc: Global, out: &mut String, e: &Expr) -> Result<(), CaseFault> {
+    out.push_str("[\"expression\",")?;
+    show(alloc, out, e)?;
+    Ok(out.push_str("]")?)
 }

@@ -1,59 +1,59 @@
 // How operators and functions are written.
 use wf_ast::{Func, Op};
 
-const OPERATORS: [(&str, Op); 13] = [
-    ("+", Op::Add),
-    ("-", Op::Sub),
-    ("*", Op::Mul),
-    ("/", Op::Div),
-    ("//", Op::TruncDiv),
-    ("%", Op::Rem),
-    ("==", Op::Eq),
-    ("!=", Op::Ne),
-    ("<", Op::Lt),
-    ("<=", Op::Le),
-    (">", Op::Gt),
-    (">=", Op::Ge),
-    ("in", Op::In),
+const OPERATORS: [Op; 13] = [
+    Op::Add,
+    Op::Sub,
+    Op::Mul,
+    Op::Div,
+    Op::TruncDiv,
+    Op::Rem,
+    Op::Eq,
+    Op::Ne,
+    Op::Lt,
+    Op::Le,
+    Op::Gt,
+    Op::Ge,
+    Op::In,
 ];
 
-const FUNCTIONS: [(&str, Func); 31] = [
-    ("default", Func::Default),
-    ("keys", Func::Keys),
-    ("len", Func::Len),
-    ("get_type", Func::GetType),
-    ("int", Func::Int),
-    ("string", Func::String),
-    ("if", Func::If),
-    ("text.split", Func::TextSplit),
-    ("text.replace_all", Func::TextReplaceAll),
-    ("text.substring", Func::TextSubstring),
-    ("text.find_all", Func::TextFindAll),
-    ("text.to_upper", Func::TextToUpper),
-    ("text.to_lower", Func::TextToLower),
-    ("text.url_encode", Func::TextUrlEncode),
-    ("text.url_decode", Func::TextUrlDecode),
-    ("text.encode", Func::TextEncode),
-    ("text.decode", Func::TextDecode),
-    ("list.concat", Func::ListConcat),
-    ("list.prepend", Func::ListPrepend),
-    ("map.get", Func::MapGet),
-    ("map.delete", Func::MapDelete),
-    ("map.merge", Func::MapMerge),
-    ("json.encode", Func::JsonEncode),
-    ("json.encode_to_string", Func::JsonEncodeToString),
-    ("json.decode", Func::JsonDecode),
-    ("base64.encode", Func::Base64Encode),
-    ("base64.decode", Func::Base64Decode),
-    ("time.format", Func::TimeFormat),
-    ("time.parse", Func::TimeParse),
-    ("sys.now", Func::SysNow),
-    ("sys.get_env", Func::SysGetEnv),
+const FUNCTIONS: [Func; 31] = [
+    Func::Default,
+    Func::Keys,
+    Func::Len,
+    Func::GetType,
+    Func::Int,
+    Func::String,
+    Func::If,
+    Func::TextSplit,
+    Func::TextReplaceAll,
+    Func::TextSubstring,
+    Func::TextFindAll,
+    Func::TextToUpper,
+    Func::TextToLower,
+    Func::TextUrlEncode,
+    Func::TextUrlDecode,
+    Func::TextEncode,
+    Func::TextDecode,
+    Func::ListConcat,
+    Func::ListPrepend,
+    Func::MapGet,
+    Func::MapDelete,
+    Func::MapMerge,
+    Func::JsonEncode,
+    Func::JsonEncodeToString,
+    Func::JsonDecode,
+    Func::Base64Encode,
+    Func::Base64Decode,
+    Func::TimeFormat,
+    Func::TimeParse,
+    Func::SysNow,
+    Func::SysGetEnv,
 ];
 
-pub(crate) fn operator(sign: &str) -> Option<Op> {
-    for (text, op) in OPERATORS {
-        if text == sign {
+pub(crate) fn operator(text: &str) -> Option<Op> {
+    for op in OPERATORS {
+        if sign(op) == text {
             return Some(op);
         }
     }
@@ -61,17 +61,26 @@ pub(crate) fn operator(sign: &str) -> Option<Op> {
 }
 
 pub(crate) fn sign(op: Op) -> &'static str {
-    for (text, one) in OPERATORS {
-        if one == op {
-            return text;
-        }
+    match op {
+        Op::Add => "+",
+        Op::Sub => "-",
+        Op::Mul => "*",
+        Op::Div => "/",
+        Op::TruncDiv => "//",
+        Op::Rem => "%",
+        Op::Eq => "==",
+        Op::Ne => "!=",
+        Op::Lt => "<",
+        Op::Le => "<=",
+        Op::Gt => ">",
+        Op::Ge => ">=",
+        Op::In => "in",
     }
-    ""
 }
 
-pub(crate) fn function(name: &str) -> Option<Func> {
-    for (text, func) in FUNCTIONS {
-        if text == name {
+pub(crate) fn function(text: &str) -> Option<Func> {
+    for func in FUNCTIONS {
+        if name(func) == text {
             return Some(func);
         }
     }
@@ -79,10 +88,37 @@ pub(crate) fn function(name: &str) -> Option<Func> {
 }
 
 pub(crate) fn name(func: Func) -> &'static str {
-    for (text, one) in FUNCTIONS {
-        if one == func {
-            return text;
-        }
+    match func {
+        Func::Default => "default",
+        Func::Keys => "keys",
+        Func::Len => "len",
+        Func::GetType => "get_type",
+        Func::Int => "int",
+        Func::String => "string",
+        Func::If => "if",
+        Func::TextSplit => "text.split",
+        Func::TextReplaceAll => "text.replace_all",
+        Func::TextSubstring => "text.substring",
+        Func::TextFindAll => "text.find_all",
+        Func::TextToUpper => "text.to_upper",
+        Func::TextToLower => "text.to_lower",
+        Func::TextUrlEncode => "text.url_encode",
+        Func::TextUrlDecode => "text.url_decode",
+        Func::TextEncode => "text.encode",
+        Func::TextDecode => "text.decode",
+        Func::ListConcat => "list.concat",
+        Func::ListPrepend => "list.prepend",
+        Func::MapGet => "map.get",
+        Func::MapDelete => "map.delete",
+        Func::MapMerge => "map.merge",
+        Func::JsonEncode => "json.encode",
+        Func::JsonEncodeToString => "json.encode_to_string",
+        Func::JsonDecode => "json.decode",
+        Func::Base64Encode => "base64.encode",
+        Func::Base64Decode => "base64.decode",
+        Func::TimeFormat => "time.format",
+        Func::TimeParse => "time.parse",
+        Func::SysNow => "sys.now",
+        Func::SysGetEnv => "sys.get_env",
     }
-    ""
 }

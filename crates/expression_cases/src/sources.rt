@@ -11,26 +11,58 @@ use wf_value::{List, Text, Value};
 /// What a table wants of a source.
 pub(crate) fn answer(alloc: Global, table: &str, source: &str) -> Result<String, CaseFault> {
     match table {
-        "faults" | "expressions" => match parse(alloc, source) {
-            Ok(_) if table == "faults" => Ok(String::from_str(alloc, "ok")?),
-            Ok(e) => shown(alloc, &e),
-            Err(fault) => fault_text(alloc, fault),
-        },
-        "targets" | "target_trees" => match parse_target(alloc, source) {
-            Ok(_) if table == "targets" => Ok(String::from_str(alloc, "ok")?),
-            Ok(target) => shown_target(alloc, &target),
-            Err(fault) => fault_text(alloc, fault),
-        },
-        "template_trees" => match parse_template(alloc, source) {
-            Ok(template) => shown_template(alloc, &template),
-            Err(fault) => fault_text(alloc, fault),
-        },
+        "faults" => expression_fault(alloc, source),
+        "expressions" => expression(alloc, source),
+        "targets" => target_fault(alloc, source),
+        "target_trees" => target(alloc, source),
+        "template_trees" => template(alloc, source),
         "has_expressions" => {
             let has = has_expressions(source);
             Ok(format!(in alloc; "{has}")?)
         }
         "tokens" | "token_counts" => lexed(alloc, table, source),
         _ => Err(CaseFault::NoCase),
+    }
+}
+
+fn expression_fault(alloc: Global, source: &str) -> Result<String, CaseFault> {
+    let fault = match parse(alloc, source) {
+        Ok(_) => return ok(alloc),
+        Err(fault) => fault,
+    };
+    fault_text(alloc, fault)
+}
+
+fn target_fault(alloc: Global, source: &str) -> Result<String, CaseFault> {
+    let fault = match parse_target(alloc, source) {
+        Ok(_) => return ok(alloc),
+        Err(fault) => fault,
+    };
+    fault_text(alloc, fault)
+}
+
+fn ok(alloc: Global) -> Result<String, CaseFault> {
+    Ok(String::from_str(alloc, "ok")?)
+}
+
+fn expression(alloc: Global, source: &str) -> Result<String, CaseFault> {
+    match parse(alloc, source) {
+        Ok(e) => shown(alloc, &e),
+        Err(fault) => fault_text(alloc, fault),
+    }
+}
+
+fn target(alloc: Global, source: &str) -> Result<String, CaseFault> {
+    match parse_target(alloc, source) {
+        Ok(target) => shown_target(alloc, &target),
+        Err(fault) => fault_text(alloc, fault),
+    }
+}
+
+fn template(alloc: Global, source: &str) -> Result<String, CaseFault> {
+    match parse_template(alloc, source) {
+        Ok(template) => shown_template(alloc, &template),
+        Err(fault) => fault_text(alloc, fault),
     }
 }
 
@@ -66,31 +98,44 @@ fn listed(alloc: Global, tokens: &Tokens<'_>) -> Result<String, CaseFault> {
         let Some(token) = tokens.get(i) else {
             break;
         };
-        let mut one = List::new(alloc)?;
-        one.push(Value::Text(Text::new(alloc, kind_name(token.kind))?))?;
-        one.push(Value::Text(Text::new(alloc, token.text)?))?;
-        one.push(Value::Int(i64::from(token.at)))?;
-        all.push(Value::List(one))?;
+        all.push(token_value(alloc, token)?)?;
     }
     value_text(alloc, &Value::List(all))
 }
 
+fn token_value(alloc: Global, token: Token<'_>) -> Result<Value, CaseFault> {
+    let mut one = List::new(alloc)?;
+    push_text(alloc, &mut one, kind_name(token.kind))?;
+    push_text(alloc, &mut one, token.text)?;
+    one.push(Value::Int(i64::from(token.at)))?;
+    Ok(Value::List(one))
+}
+
+fn push_text(alloc: Global, list: &mut List, text: &str) -> Result<(), CaseFault> {
+    let text = Text::new(alloc, text)?;
+    Ok(list.push(Value::Text(text))?)
+}
+
 // How many tokens there are, and the last.
 fn counted(alloc: Global, tokens: &Tokens<'_>) -> Result<String, CaseFault> {
+    let (count, last) = count_and_last(tokens);
+    match last {
+        None => Ok(format!(in alloc; "{count}")?),
+        Some(token) => {
+            let kind = kind_name(token.kind);
+            let (at, length) = (token.at, token.text.len());
+            Ok(format!(in alloc; "{count} {kind} {at} {length}")?)
+        }
+    }
+}
+
+fn count_and_last<'a>(tokens: &Tokens<'a>) -> (usize, Option<Token<'a>>) {
     let mut last: Option<Token<'_>> = None;
     for i in 0..usize::MAX {
         match tokens.get(i) {
             Some(token) => last = Some(token),
-            None => {
-                return Ok(match last {
-                    None => format!(in alloc; "{i}")?,
-                    Some(token) => {
-                        let kind = kind_name(token.kind);
-                        format!(in alloc; "{i} {kind} {} {}", token.at, token.text.len())?
-                    }
-                });
-            }
+            None => return (i, last),
         }
     }
-    Err(CaseFault::NoCase)
+    (usize::MAX, last)
 }

@@ -46,19 +46,13 @@ pub(crate) fn expression(alloc: Global, tree: &Value, depth: u32) -> Result<Expr
     match (head.as_str(), rest) {
         ("value", [value]) => Ok(Expr::Lit(value.copy(alloc)?)),
         ("name", [name]) => Ok(Expr::Name(text(alloc, name)?)),
-        ("key", [a, key]) => {
-            let a = expression(alloc, a, depth - 1)?;
-            Ok(Expr::Key(boxed(alloc, a)?, text(alloc, key)?))
-        }
+        ("key", [a, key]) => on_key(alloc, expression(alloc, a, depth - 1)?, key),
         ("call", [func, args @ ..]) => {
             let mut all = Exprs::new(alloc)?;
             for arg in args {
                 all.push(expression(alloc, arg, depth - 1)?)?;
             }
-            match function(text(alloc, func)?.as_str()) {
-                Some(func) => Ok(Expr::Call(func, all)),
-                None => Err(CaseFault::NoCase),
-            }
+            on_all(func, all)
         }
         (head, [a]) => on_one(alloc, head, expression(alloc, a, depth - 1)?),
         (head, [a, b]) => {
@@ -73,6 +67,23 @@ fn boxed(alloc: Global, e: Expr) -> Result<Box<Expr>, CaseFault> {
     match Box::new(alloc, e) {
         Ok(e) => Ok(e),
         Err(_) => Err(CaseFault::OutOfMemory),
+    }
+}
+
+// What stands at a key of a value.
+fn on_key(alloc: Global, a: Expr, key: &Value) -> Result<Expr, CaseFault> {
+    let a = boxed(alloc, a)?;
+    Ok(Expr::Key(a, text(alloc, key)?))
+}
+
+// A function on some values.
+fn on_all(func: &Value, all: Exprs) -> Result<Expr, CaseFault> {
+    let Value::Text(name) = func else {
+        return Err(CaseFault::NoCase);
+    };
+    match function(name.as_str()) {
+        Some(func) => Ok(Expr::Call(func, all)),
+        None => Err(CaseFault::NoCase),
     }
 }
 
@@ -126,9 +137,8 @@ pub(crate) fn template(alloc: Global, tree: &Value, depth: u32) -> Result<Templa
                 let [key, tree] = items(pair)? else {
                     return Err(CaseFault::NoCase);
                 };
-                let name = text(alloc, key)?;
                 let template = template(alloc, tree, depth - 1)?;
-                all.push(NamedTemplate { name, template })?;
+                push_named(alloc, &mut all, key, template)?;
             }
             Ok(Template::Map(all))
         }
@@ -136,17 +146,32 @@ pub(crate) fn template(alloc: Global, tree: &Value, depth: u32) -> Result<Templa
     }
 }
 
+// Adds a template with the name that a value is.
+fn push_named(
+    alloc: Global,
+    all: &mut NamedTemplates,
+    key: &Value,
+    template: Template,
+) -> Result<(), CaseFault> {
+    let name = text(alloc, key)?;
+    Ok(all.push(NamedTemplate { name, template })?)
+}
+
 // The template of texts and expressions in a row.
 fn joined(alloc: Global, parts: &[Value]) -> Result<Template, CaseFault> {
     let mut all = Parts::new(alloc)?;
     for part in parts {
-        match part {
-            Value::Text(text) => all.push(Part::Text(Text::new(alloc, text.as_str())?))?,
-            _ => match items(part)? {
-                [_, e] => all.push(Part::Expr(expression(alloc, e, DEEPEST)?))?,
-                _ => return Err(CaseFault::NoCase),
-            },
-        }
+        all.push(part_of(alloc, part)?)?;
     }
     Ok(Template::Join(all))
+}
+
+fn part_of(alloc: Global, part: &Value) -> Result<Part, CaseFault> {
+    if let Value::Text(text) = part {
+        return Ok(Part::Text(Text::new(alloc, text.as_str())?));
+    }
+    match items(part)? {
+        [_, e] => Ok(Part::Expr(expression(alloc, e, DEEPEST)?)),
+        _ => Err(CaseFault::NoCase),
+    }
 }

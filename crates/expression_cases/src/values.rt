@@ -7,7 +7,7 @@ use wf_ast::{Expr, NamedTemplate, NamedTemplates, Template, Templates};
 use wf_cases::{Case, CaseFault};
 use wf_eval::{are_calls_built, eval, fill, is_template_built};
 use wf_expr::parse;
-use wf_postfix::compile;
+use wf_postfix::{Postfix, compile};
 use wf_template::parse_template;
 use wf_value::{Text, Value};
 
@@ -25,12 +25,17 @@ fn reading(case: &Case<'_>) -> Result<u64, CaseFault> {
 
 // What an expression comes to.
 fn evaluated(alloc: Global, case: &Case<'_>, e: &Expr) -> Result<String, CaseFault> {
-    let code = compile(alloc, e)?;
-    if !are_calls_built(&code) {
+    run(alloc, case, &compile(alloc, e)?)
+}
+
+// What a compiled expression comes to.
+fn run(alloc: Global, case: &Case<'_>, code: &Postfix) -> Result<String, CaseFault> {
+    if !are_calls_built(code) {
         return Ok(String::from_str(alloc, "not built")?);
     }
+    let now = reading(case)?;
     let names = names_of(alloc, case)?;
-    outcome(alloc, eval(alloc, &code, &names, reading(case)?))
+    outcome(alloc, eval(alloc, code, &names, now))
 }
 
 // What a template comes to.
@@ -38,8 +43,9 @@ fn filled(alloc: Global, case: &Case<'_>, t: &Template) -> Result<String, CaseFa
     if !is_template_built(t) {
         return Ok(String::from_str(alloc, "not built")?);
     }
+    let now = reading(case)?;
     let names = names_of(alloc, case)?;
-    outcome(alloc, fill(alloc, t, &names, reading(case)?))
+    outcome(alloc, fill(alloc, t, &names, now))
 }
 
 /// What an expression comes to.
@@ -76,16 +82,31 @@ pub(crate) fn of_value(alloc: Global, case: &Case<'_>) -> Result<String, CaseFau
     filled(alloc, case, &t)
 }
 
+fn parsed(alloc: Global, text: &str) -> Result<Template, CaseFault> {
+    match parse_template(alloc, text) {
+        Ok(template) => Ok(template),
+        Err(_) => Err(CaseFault::NoCase),
+    }
+}
+
+// Adds a template with a name.
+fn push_named(
+    alloc: Global,
+    all: &mut NamedTemplates,
+    name: &str,
+    template: Template,
+) -> Result<(), CaseFault> {
+    let name = Text::new(alloc, name)?;
+    Ok(all.push(NamedTemplate { name, template })?)
+}
+
 // A value of a source, whose texts are read.
 fn source_value(alloc: Global, value: &Value, depth: u32) -> Result<Template, CaseFault> {
     if depth == 0 {
         return Err(CaseFault::NoCase);
     }
     match value {
-        Value::Text(text) => match parse_template(alloc, text.as_str()) {
-            Ok(template) => Ok(template),
-            Err(_) => Err(CaseFault::NoCase),
-        },
+        Value::Text(text) => parsed(alloc, text.as_str()),
         Value::List(list) => {
             let mut all = Templates::new(alloc)?;
             for item in list.items() {
@@ -99,9 +120,8 @@ fn source_value(alloc: Global, value: &Value, depth: u32) -> Result<Template, Ca
                 let Some((key, item)) = map.entry(i) else {
                     break;
                 };
-                let name = Text::new(alloc, key)?;
                 let template = source_value(alloc, item, depth - 1)?;
-                all.push(NamedTemplate { name, template })?;
+                push_named(alloc, &mut all, key, template)?;
             }
             Ok(Template::Map(all))
         }

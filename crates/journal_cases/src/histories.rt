@@ -24,8 +24,11 @@ fn start_of(alloc: Global, payload: &[u8]) -> Result<Start, CaseFault>
     ensures spelled { IfOk result (λ s. HasSpelling (Started (start_view s))) }
     ensures short { IfOk result (λ s. length (record_bytes (Started (start_view s))) ≤ 16777215) }
 {
+    if payload.len() > LONGEST {
+        return Err(CaseFault::NoCase);
+    }
     match decode(alloc, payload) {
-        Ok(Record::Start(start)) if payload.len() <= LONGEST => Ok(start),
+        Ok(Record::Start(start)) => Ok(start),
         _ => Err(CaseFault::NoCase),
     }
 }
@@ -35,8 +38,11 @@ fn turn_of(alloc: Global, payload: &[u8]) -> Result<Turn, CaseFault>
     ensures spelled { IfOk result (λ t. HasSpelling (Turned (turn_view t))) }
     ensures short { IfOk result (λ t. length (record_bytes (Turned (turn_view t))) ≤ 16777215) }
 {
+    if payload.len() > LONGEST {
+        return Err(CaseFault::NoCase);
+    }
     match decode(alloc, payload) {
-        Ok(Record::Turn(turn)) if payload.len() <= LONGEST => Ok(turn),
+        Ok(Record::Turn(turn)) => Ok(turn),
         _ => Err(CaseFault::NoCase),
     }
 }
@@ -53,6 +59,38 @@ fn write_place(out: &mut String, history: &History) -> Result<(), CaseFault> {
     Ok(())
 }
 
+/// What comes next in a history.
+#[derive(Clone, Copy)]
+enum Found {
+    /// A start, with its reading.
+    Start(u64),
+    /// A turn, with its session, its waits and its count of events.
+    Turn(u64, u64, usize),
+    /// Nothing, behind the last record.
+    None,
+}
+
+/// Reads the next record.
+fn read_next(
+    alloc: Global,
+    history: &mut History,
+    host: &mut MemHost,
+) -> Result<Found, HistoryFault>
+    requires kept { is_closed history.old ≡ false → Told (mem_world host.old) (Stands history.old (mem_world host.old)) }
+    ensures stands { is_closed history.new ≡ false → Told (mem_world host.old) (Stands history.new (mem_world host.new)) }
+    ensures tells { (mem_world host.new).tells ≡ (mem_world host.old).tells }
+{
+    match history.next(alloc, host) {
+        Ok(Some(Record::Start(start))) => Ok(Found::Start(start.reading)),
+        Ok(Some(Record::Turn(turn))) => {
+            let count = turn.events.items().len();
+            Ok(Found::Turn(turn.session, turn.waits, count))
+        }
+        Ok(None) => Ok(Found::None),
+        Err(fault) => Err(fault),
+    }
+}
+
 /// Writes the next record: a start's reading, or a turn's session, waits and count of events; `none` behind the last, or the fault.
 fn write_next(
     alloc: Global,
@@ -64,17 +102,20 @@ fn write_next(
     ensures stands { is_closed history.new ≡ false → Told (mem_world host.old) (Stands history.new (mem_world host.new)) }
     ensures tells { (mem_world host.new).tells ≡ (mem_world host.old).tells }
 {
+    let read = read_next(alloc, history, host);
+    write_read(out, read)?;
+    write_place(out, history)
+}
+
+fn write_read(out: &mut String, read: Result<Found, HistoryFault>) -> Result<(), CaseFault> {
     out.push_str(", ")?;
-    match history.next(alloc, host) {
-        Ok(Some(Record::Start(start))) => write!(out, "start {}", start.reading)?,
-        Ok(Some(Record::Turn(turn))) => {
-            let count = turn.events.items().len();
-            write!(out, "turn {} {} {count}", turn.session, turn.waits)?;
-        }
-        Ok(None) => out.push_str("none")?,
+    match read {
+        Ok(Found::Start(reading)) => write!(out, "start {reading}")?,
+        Ok(Found::Turn(session, waits, count)) => write!(out, "turn {session} {waits} {count}")?,
+        Ok(Found::None) => out.push_str("none")?,
         Err(fault) => write!(out, "{fault}")?,
     }
-    write_place(out, history)
+    Ok(())
 }
 
 /// Opens the history of a host's file, and reads so many records.
@@ -156,19 +197,37 @@ fn write_all(
 /// What a history gives, and what the host leaves: of a number of records it reads so many, of a start's payload and those of turns it
 /// begins with the start and adds the turns until one fails.
 pub fn calls(alloc: Global, case: &Case<'_>) -> Result<String, CaseFault> {
-    let mut host = host_of(alloc, case.item(0)?)?;
     let mut out = String::new(alloc);
+    write_history(&mut out, alloc, host_of(alloc, case.item(0)?)?, case)?;
+    Ok(out)
+}
+
+fn write_history(
+    out: &mut String,
+    alloc: Global,
+    host: MemHost,
+    case: &Case<'_>,
+) -> Result<(), CaseFault> {
+    let mut host = host;
     match case.items() {
-        [_, count] => read_all(alloc, &mut host, number_of(count)?, &mut out)?,
-        [_, payload, turns] => {
-            let start = start_of(alloc, &bytes_of(alloc, payload)?)?;
-            let written = write_all(alloc, &mut host, &start, items_of(turns)?, &mut out)?;
-            if let Err(fault) = written {
-                write!(out, "{fault}")?;
-            }
-        }
+        [_, count] => read_all(alloc, &mut host, number_of(count)?, out)?,
+        [_, payload, turns] => start_and_add(alloc, &mut host, payload, turns, out)?,
         _ => return Err(CaseFault::NoCase),
     }
-    write_left(&mut out, alloc, host)?;
-    Ok(out)
+    write_left(out, alloc, host)
+}
+
+/// Begins a history with the start of a payload, adds the turns of payloads, and writes the fault of what fails.
+fn start_and_add(
+    alloc: Global,
+    host: &mut MemHost,
+    payload: &Value,
+    turns: &Value,
+    out: &mut String,
+) -> Result<(), CaseFault> {
+    let start = start_of(alloc, &bytes_of(alloc, payload)?)?;
+    match write_all(alloc, host, &start, items_of(turns)?, out)? {
+        Ok(()) => Ok(()),
+        Err(fault) => Ok(write!(out, "{fault}")?),
+    }
 }

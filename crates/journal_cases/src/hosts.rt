@@ -1,6 +1,6 @@
 // Hosts, sources and prints, in memory and with real files.
 ghost use Rattle.std.specs.Prelude.{◌≤◌, length};
-ghost use Rattle.wf_host.specs.World.{Told};
+ghost use Rattle.wf_host.specs.World.{longest, Told};
 
 use std::alloc::Global;
 use std::fs::{self, File, Files};
@@ -17,7 +17,6 @@ use wf_value::Value;
 const LONGEST: u64 = 9_223_372_036_854_775_807;
 
 /// A call of a host.
-#[derive(Drop)]
 enum Call {
     Size,
     Read(u64, usize),
@@ -25,6 +24,16 @@ enum Call {
     Sync,
     Now,
     Print(Vec<u8>),
+}
+
+// Written, and not derived: it is one call wherever a call is let go.
+impl Drop for Call {
+    fn drop(self) {
+        match self {
+            Call::Write(_, _) | Call::Print(_) => {}
+            Call::Size | Call::Read(_, _) | Call::Sync | Call::Now => {}
+        }
+    }
 }
 
 /// The call that a value tells: `"size"`, `["read", at, room]`, `["write", at, bytes]`, `"sync"`, `"now"` or `["print", bytes]`.
@@ -64,47 +73,87 @@ fn make<H: Host>(
     requires { Told (H.world host.old) (end ≤ length (H.world host.old).seen) }
 {
     gap(out)?;
-    let done = match call {
-        Call::Size => match host.size() {
-            Ok(size) => return Ok(write!(out, "{size}")?),
-            Err(_) => false,
-        },
-        Call::Read(at, room) => {
-            let mut room = vec![in alloc; 0u8; *room]?;
-            match host.read_at((*at).min(LONGEST), room.as_mut_slice()) {
-                Ok(count) => {
-                    write!(out, "{count} ")?;
-                    return write_bytes(out, alloc, &room);
-                }
-                Err(_) => false,
-            }
+    match call {
+        Call::Size => write_number(out, host.size().ok()),
+        Call::Read(at, room) => read(host, (*at).min(LONGEST), *room, alloc, out),
+        Call::Write(at, bytes) => {
+            let is_made = *at <= end && *at <= LONGEST && host.write_at(*at, bytes).is_ok();
+            write_made(out, is_made)
         }
-        Call::Write(at, bytes) => *at <= end && *at <= LONGEST && host.write_at(*at, bytes).is_ok(),
-        Call::Sync => host.sync().is_ok(),
-        Call::Now => match host.now() {
-            Ok(reading) => return Ok(write!(out, "{reading}")?),
-            Err(_) => false,
-        },
-        Call::Print(bytes) if bytes.is_empty() => return Err(CaseFault::NoCase),
+        Call::Sync => write_made(out, host.sync().is_ok()),
+        Call::Now => write_number(out, host.now().ok()),
+        Call::Print(bytes) if bytes.is_empty() => Err(CaseFault::NoCase),
         Call::Print(bytes) => match host.print(bytes) {
-            Ok(count) => return Ok(write!(out, "{count}")?),
-            Err(_) => false,
+            Ok(count) => write_number(out, Some(count as u64)),
+            Err(_) => write_made(out, false),
         },
-    };
-    Ok(out.push_str(if done { "+" } else { "-" })?)
+    }
+}
+
+fn write_made(out: &mut String, is_made: bool) -> Result<(), CaseFault> {
+    Ok(out.push_str(if is_made { "+" } else { "-" })?)
+}
+
+fn write_number(out: &mut String, number: Option<u64>) -> Result<(), CaseFault> {
+    match number {
+        Some(number) => Ok(write!(out, "{number}")?),
+        None => write_made(out, false),
+    }
+}
+
+/// Reads from a host, and writes how many bytes came and the room, or `-`.
+fn read<H: Host>(
+    host: &mut H,
+    at: u64,
+    room: usize,
+    alloc: Global,
+    out: &mut String,
+) -> Result<(), CaseFault>
+    requires { at ≤ longest }
+{
+    let mut room = vec![in alloc; 0u8; room]?;
+    match host.read_at(at, room.as_mut_slice()) {
+        Ok(count) => write_room(out, alloc, count, &room),
+        Err(_) => write_made(out, false),
+    }
+}
+
+fn write_room(out: &mut String, alloc: Global, count: usize, room: &[u8]) -> Result<(), CaseFault> {
+    write!(out, "{count} ")?;
+    write_bytes(out, alloc, room)
 }
 
 /// What a host in memory answers to calls, what it has printed, its deeds, how often it ran short, and what it leaves.
 pub fn calls(alloc: Global, case: &Case<'_>) -> Result<String, CaseFault> {
-    let mut host = host_of(alloc, case.item(0)?)?;
+    let items = items_of(case.item(1)?)?;
     let mut out = String::new(alloc);
-    for item in items_of(case.item(1)?)? {
-        let end = host.image().len() as u64;
-        make(&mut host, end, &call_of(alloc, item)?, alloc, &mut out)?;
-    }
-    write_deeds(&mut out, alloc, &host)?;
-    write_left(&mut out, alloc, host)?;
+    write_host(&mut out, alloc, host_of(alloc, case.item(0)?)?, items)?;
     Ok(out)
+}
+
+fn write_host(
+    out: &mut String,
+    alloc: Global,
+    host: MemHost,
+    calls: &[Value],
+) -> Result<(), CaseFault> {
+    let mut host = host;
+    make_all(&mut host, calls, alloc, out)?;
+    write_left(out, alloc, host)
+}
+
+/// Makes calls on a host in memory, and writes what came of them, what was printed, and the deeds.
+fn make_all(
+    host: &mut MemHost,
+    calls: &[Value],
+    alloc: Global,
+    out: &mut String,
+) -> Result<(), CaseFault> {
+    for call in calls {
+        let end = host.image().len() as u64;
+        make(host, end, &call_of(alloc, call)?, alloc, out)?;
+    }
+    write_deeds(out, alloc, host)
 }
 
 /// What was printed and the deeds.
@@ -154,12 +203,22 @@ fn write_read<S: Source>(
 
 /// Whether all bytes of a text are printed by a plan, what was printed, and the deeds.
 pub fn print(alloc: Global, case: &Case<'_>) -> Result<String, CaseFault> {
-    let mut host = host_of(alloc, case.item(0)?)?;
     let text = bytes_of(alloc, case.item(1)?)?;
-    let whole = print_all(&mut host, &text);
-    let mut out = format!(in alloc; "{whole}")?;
-    write_deeds(&mut out, alloc, &host)?;
+    let mut out = String::new(alloc);
+    let mut host = host_of(alloc, case.item(0)?)?;
+    write_print(&mut out, alloc, &mut host, &text)?;
     Ok(out)
+}
+
+fn write_print(
+    out: &mut String,
+    alloc: Global,
+    host: &mut MemHost,
+    text: &[u8],
+) -> Result<(), CaseFault> {
+    let whole = print_all(host, text);
+    write!(out, "{whole}")?;
+    write_deeds(out, alloc, host)
 }
 
 /// What the real host answers to calls, with the journal at a path or, where there is none, in memory; and the file then, which goes. Of
@@ -168,32 +227,66 @@ pub fn file_calls<R>(rt: R, case: &Case<'_>) -> Result<String, CaseFault>
 where
     R: Files<File = File> + Clock + Print + AllocGlobal + Copy + Drop,
 {
-    let alloc = rt.alloc();
-    let mut out = String::new(alloc);
     let path = case.text(0)?;
+    let items = items_of(case.item(1)?)?;
+    let mut out = String::new(rt.alloc());
+    call_real(rt, path, items, &mut out)?;
+    write_file(&mut out, rt, path)?;
+    let _ = fs::remove_file(&rt, path);
+    Ok(out)
+}
+
+/// Makes calls on the real host, with the journal at a path or in memory.
+fn call_real<R>(rt: R, path: &str, calls: &[Value], out: &mut String) -> Result<(), CaseFault>
+where
+    R: Files<File = File> + Clock + Print + AllocGlobal + Copy + Drop,
+{
+    let alloc = rt.alloc();
     let mut host = match path {
         "" => FileHost::in_memory(alloc, rt),
         _ => FileHost::with_journal(alloc, rt, path)?,
     };
+    make_real(&mut host, calls, alloc, out)
+}
+
+fn make_real<R>(
+    host: &mut FileHost<R>,
+    calls: &[Value],
+    alloc: Global,
+    out: &mut String,
+) -> Result<(), CaseFault>
+where
+    R: Files<File = File> + Clock + Print + Drop,
+{
     let mut last = 1_700_000_000_000;
-    for item in items_of(case.item(1)?)? {
-        match call_of(alloc, item)? {
-            Call::Now => {
-                gap(&mut out)?;
-                let reading = host.now()?;
-                out.push_str(if reading < last { "earlier" } else { "later" })?;
-                last = reading;
-            }
-            call => make(&mut host, LONGEST, &call, alloc, &mut out)?,
+    for item in calls {
+        let call = call_of(alloc, item)?;
+        if let Call::Now = &call {
+            last = write_later(out, host.now()?, last)?;
+        } else {
+            make(host, LONGEST, &call, alloc, out)?;
         }
     }
+    Ok(())
+}
+
+/// Writes whether a reading isn't behind the last one, and gives it.
+fn write_later(out: &mut String, reading: u64, last: u64) -> Result<u64, CaseFault> {
+    gap(out)?;
+    out.push_str(if reading < last { "earlier" } else { "later" })?;
+    Ok(reading)
+}
+
+/// Writes the file at a path.
+pub fn write_file<R>(out: &mut String, rt: R, path: &str) -> Result<(), CaseFault>
+where
+    R: Files<File = File> + AllocGlobal + Copy + Drop,
+{
     out.push_str(" | ")?;
     match fs::read(&rt, path) {
-        Ok(bytes) => write_bytes(&mut out, alloc, &bytes)?,
-        Err(_) => out.push_str("none")?,
+        Ok(bytes) => write_bytes(out, rt.alloc(), &bytes),
+        Err(_) => Ok(out.push_str("none")?),
     }
-    let _ = fs::remove_file(&rt, path);
-    Ok(out)
 }
 
 /// What a read of a file up to a length gives: of a file with these bytes, and then of none at that path.
@@ -201,17 +294,30 @@ pub fn file_reads<R>(rt: R, case: &Case<'_>) -> Result<String, CaseFault>
 where
     R: Files<File = File> + AllocGlobal + Copy + Drop,
 {
-    let alloc = rt.alloc();
-    let bytes = bytes_of(alloc, case.item(0)?)?;
     let limit = number_of(case.item(1)?)?;
-    let mut out = String::new(alloc);
-    if fs::write(&rt, "source.bin", &bytes).is_err() {
-        return Err(CaseFault::NoCase);
-    }
-    let mut source = FileSource::at(alloc, rt, "source.bin")?;
-    write_read(&mut out, alloc, &mut source, limit)?;
+    make_file(rt, case.item(0)?)?;
+    let mut out = String::new(rt.alloc());
+    write_file_read(&mut out, rt, limit)?;
     let _ = fs::remove_file(&rt, "source.bin");
-    let mut missing = FileSource::at(alloc, rt, "source.bin")?;
-    write_read(&mut out, alloc, &mut missing, limit)?;
+    write_file_read(&mut out, rt, limit)?;
     Ok(out)
+}
+
+fn make_file<R>(rt: R, bytes: &Value) -> Result<(), CaseFault>
+where
+    R: Files<File = File> + AllocGlobal + Copy + Drop,
+{
+    let bytes = bytes_of(rt.alloc(), bytes)?;
+    match fs::write(&rt, "source.bin", &bytes) {
+        Ok(()) => Ok(()),
+        Err(_) => Err(CaseFault::NoCase),
+    }
+}
+
+fn write_file_read<R>(out: &mut String, rt: R, limit: u64) -> Result<(), CaseFault>
+where
+    R: Files<File = File> + AllocGlobal + Copy + Drop,
+{
+    let mut source = FileSource::at(rt.alloc(), rt, "source.bin")?;
+    write_read(out, rt.alloc(), &mut source, limit)
 }

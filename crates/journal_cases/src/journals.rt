@@ -3,12 +3,13 @@ ghost use Rattle.std.specs.Prelude.{◌≡◌, false};
 ghost use Rattle.wf_host.specs.World.{Told};
 ghost use Rattle.wf_journal.specs.Stands.{is_closed, Stands};
 
+use crate::hosts::write_file;
 use std::alloc::Global;
-use std::fs::{self, File, Files};
+use std::fs::{File, Files};
 use std::io::Print;
 use std::time::Clock;
 use wf_cases::{Case, CaseFault, bytes_of};
-use wf_host::{FileHost, Host};
+use wf_host::{FileHost, Host, MemHost};
 use wf_host_cases::{host_of, items_of, write_bytes, write_left};
 use wf_journal::{Journal, JournalFault};
 use wf_value::Value;
@@ -130,11 +131,21 @@ fn make_all<H: Host>(
 
 /// What calls on a journal give on a host in memory, and what it leaves.
 pub fn calls(alloc: Global, case: &Case<'_>) -> Result<String, CaseFault> {
-    let mut host = host_of(alloc, case.item(0)?)?;
+    let items = items_of(case.item(1)?)?;
     let mut out = String::new(alloc);
-    make_all(&mut host, items_of(case.item(1)?)?, alloc, &mut out)?;
-    write_left(&mut out, alloc, host)?;
+    write_host(&mut out, alloc, host_of(alloc, case.item(0)?)?, items)?;
     Ok(out)
+}
+
+fn write_host(
+    out: &mut String,
+    alloc: Global,
+    host: MemHost,
+    calls: &[Value],
+) -> Result<(), CaseFault> {
+    let mut host = host;
+    make_all(&mut host, calls, alloc, out)?;
+    write_left(out, alloc, host)
 }
 
 /// The same with the real host, in a file at a path, and the file at the end, which stays for the next case.
@@ -142,17 +153,20 @@ pub fn in_a_file<R>(rt: R, case: &Case<'_>) -> Result<String, CaseFault>
 where
     R: Files<File = File> + Clock + Print + AllocGlobal + Copy + Drop,
 {
-    let alloc = rt.alloc();
     let path = case.text(0)?;
-    let mut host = FileHost::with_journal(alloc, rt, path)?;
-    let mut out = String::new(alloc);
-    make_all(&mut host, items_of(case.item(1)?)?, alloc, &mut out)?;
-    out.push_str(" | ")?;
-    match fs::read(&rt, path) {
-        Ok(bytes) => write_bytes(&mut out, alloc, &bytes)?,
-        Err(_) => out.push_str("none")?,
-    }
+    let items = items_of(case.item(1)?)?;
+    let mut out = String::new(rt.alloc());
+    make_in_file(rt, path, items, &mut out)?;
+    write_file(&mut out, rt, path)?;
     Ok(out)
+}
+
+fn make_in_file<R>(rt: R, path: &str, calls: &[Value], out: &mut String) -> Result<(), CaseFault>
+where
+    R: Files<File = File> + Clock + Print + AllocGlobal + Copy + Drop,
+{
+    let mut host = FileHost::with_journal(rt.alloc(), rt, path)?;
+    make_all(&mut host, calls, rt.alloc(), out)
 }
 
 /// What each fault of a journal says.

@@ -32,10 +32,17 @@ where
     }
 }
 
+/// What is printed for a line.
+fn line_answer<R>(rt: R, line: &str) -> Result<String, CaseFault>
+where
+    R: Files<File = File> + Clock + Print + AllocGlobal + Copy + Drop,
+{
+    answer(rt, &case_of(rt.alloc(), line)?)
+}
+
 fn main(rt: HostRuntime) -> Result<()> {
     for line in rt.lines(rt.alloc()) {
-        let line = line?;
-        let text = answer(rt, &case_of(rt.alloc(), line.as_str())?)?;
+        let text = line_answer(rt, line?.as_str())?;
         println!(rt; "{text}")?;
     }
     Ok(())

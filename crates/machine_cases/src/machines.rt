@@ -1,19 +1,20 @@
 // Machines, event by event.
-ghost use Rattle.std.specs.Prelude.{◌≡◌, ◌<◌};
+ghost use Rattle.std.specs.Prelude.{◌≡◌, ◌<◌, false, IfOk};
+ghost use Rattle.wf_machine.specs.Seen.{state_of};
 
 use crate::programs::program_of;
 use crate::records::{start_of, write_event};
 use std::alloc::Global;
 use std::marker::Brand;
 use std::sync::ledger::{Blank, Ledger};
-use wf_cases::{Case, CaseFault, bytes_of, text_of};
-use wf_events::Event;
+use wf_cases::{Case, CaseFault, text_of};
+use wf_events::{Event, Start};
 use wf_host_cases::{items_of, number_of};
 use wf_machine::{ApplyFault, Machine, Outcome, Steps};
 use wf_value::{Value, to_json};
 
 /// The text of a source: a text, or a list of its pieces.
-pub fn source_of(alloc: Global, value: &Value) -> Result<String, CaseFault> {
+fn source_of(alloc: Global, value: &Value) -> Result<String, CaseFault> {
     match value {
         Value::Text(text) => Ok(String::from_str(alloc, text.as_str())?),
         pieces => text_of(alloc, items_of(pieces)?),
@@ -133,31 +134,52 @@ fn run<L: Ledger>(
     Ok(())
 }
 
-/// What calls on the machine of a source give, which is begun with the start of a payload.
-pub fn calls(alloc: Global, case: &Case<'_>) -> Result<String, CaseFault> {
-    calls_counted::<Brand>(alloc, case, Blank::new(1))
+/// The machine of a source and of a start, which a payload in hex spells.
+pub fn machine_of(alloc: Global, source: &Value, payload: &Value) -> Result<Machine, CaseFault>
+    ensures { IfOk result (λ m. (state_of m).broken ≡ false) }
+{
+    let source = source_of(alloc, source)?;
+    let start = start_of(alloc, payload)?;
+    started(alloc, source.as_str(), &start)
 }
 
-/// The same, counting the events on a ledger of its own.
-fn calls_counted<L: Ledger>(
+/// The machine of a source and of a start.
+pub fn started(alloc: Global, source: &str, start: &Start) -> Result<Machine, CaseFault>
+    ensures { IfOk result (λ m. (state_of m).broken ≡ false) }
+{
+    match Machine::new(alloc, start, program_of(alloc, source)?) {
+        Ok(machine) => Ok(machine),
+        Err(_) => Err(CaseFault::OutOfMemory),
+    }
+}
+
+/// What calls on the machine of a source give, which is begun with the start of a payload.
+pub fn calls(alloc: Global, case: &Case<'_>) -> Result<String, CaseFault> {
+    let calls = items_of(case.item(2)?)?;
+    let mut out = String::new(alloc);
+    let mut machine = machine_of(alloc, case.item(0)?, case.item(1)?)?;
+    make_all::<Brand>(&mut machine, calls, alloc, &mut out, Blank::new(1))?;
+    Ok(out)
+}
+
+/// Makes the calls, counting the events on a ledger of its own.
+fn make_all<L: Ledger>(
+    machine: &mut Machine,
+    calls: &[Value],
     alloc: Global,
-    case: &Case<'_>,
+    out: &mut String,
     blank: Blank,
-) -> Result<String, CaseFault>
+) -> Result<(), CaseFault>
     requires name { blank.name ≡ L.name }
     requires parts { blank.parts ≡ L.parts }
     requires some { 0 < blank.parts }
 {
     let mut steps = Steps::<L>::new(blank);
-    let source = source_of(alloc, case.item(0)?)?;
-    let start = start_of(alloc, &bytes_of(alloc, case.item(1)?)?)?;
-    let mut machine = Machine::new(alloc, &start, program_of(alloc, source.as_str())?)?;
-    let mut out = String::new(alloc);
-    for (i, call) in items_of(case.item(2)?)?.iter().enumerate() {
+    for (i, call) in calls.iter().enumerate() {
         if i > 0 {
             out.push_str("; ")?;
         }
-        make(&mut machine, call, alloc, &mut out, &mut steps)?;
+        make(machine, call, alloc, out, &mut steps)?;
     }
-    Ok(out)
+    Ok(())
 }

@@ -24,11 +24,14 @@ fn answer(alloc: Global, case: &Case<'_>) -> Result<String, CaseFault> {
     }
 }
 
+/// What is printed for a line.
+fn line_answer(alloc: Global, line: &str) -> Result<String, CaseFault> {
+    answer(alloc, &case_of(alloc, line)?)
+}
+
 fn main(rt: HostRuntime) -> Result<()> {
-    let alloc = rt.alloc();
-    for line in rt.lines(alloc) {
-        let line = line?;
-        let text = answer(alloc, &case_of(alloc, line.as_str())?)?;
+    for line in rt.lines(rt.alloc()) {
+        let text = line_answer(rt.alloc(), line?.as_str())?;
         println!(rt; "{text}")?;
     }
     Ok(())

@@ -16,16 +16,21 @@ use wf_syntax::build;
 pub fn program_of(alloc: Global, source: &str) -> Result<Program, CaseFault>
     ensures { IfOk result (λ p. is_straight (program_view p) ≡ true) }
 {
-    let Ok(tree) = read_tree(alloc, source.as_bytes()) else {
-        return Err(CaseFault::NoCase);
-    };
-    let Ok(program) = build(alloc, &tree) else {
-        return Err(CaseFault::NoCase);
-    };
+    let program = built(alloc, source)?;
     if is_straight(&program) {
         Ok(program)
     } else {
         Err(CaseFault::NoCase)
+    }
+}
+
+fn built(alloc: Global, source: &str) -> Result<Program, CaseFault> {
+    let Ok(tree) = read_tree(alloc, source.as_bytes()) else {
+        return Err(CaseFault::NoCase);
+    };
+    match build(alloc, &tree) {
+        Ok(program) => Ok(program),
+        Err(_) => Err(CaseFault::NoCase),
     }
 }
 

@@ -5,19 +5,31 @@ ghost use Rattle.wf_events.specs.Spelling.{record_bytes, HasSpelling};
 ghost use Rattle.wf_events.specs.View.{start_view};
 
 use std::alloc::Global;
-use wf_cases::CaseFault;
+use wf_cases::{CaseFault, bytes_of};
 use wf_events::{Event, Events, Record, Start, decode};
+use wf_value::Value;
 
 /// No record is longer.
 const LONGEST: usize = 16_777_215;
 
-/// The start that a payload spells.
-pub fn start_of(alloc: Global, payload: &[u8]) -> Result<Start, CaseFault>
+/// The start that a payload in hex spells.
+pub fn start_of(alloc: Global, payload: &Value) -> Result<Start, CaseFault>
     ensures spelled { IfOk result (λ s. HasSpelling (Started (start_view s))) }
     ensures short { IfOk result (λ s. length (record_bytes (Started (start_view s))) ≤ 16777215) }
 {
+    let payload = bytes_of(alloc, payload)?;
+    start_in(alloc, &payload)
+}
+
+fn start_in(alloc: Global, payload: &[u8]) -> Result<Start, CaseFault>
+    ensures spelled { IfOk result (λ s. HasSpelling (Started (start_view s))) }
+    ensures short { IfOk result (λ s. length (record_bytes (Started (start_view s))) ≤ 16777215) }
+{
+    if payload.len() > LONGEST {
+        return Err(CaseFault::NoCase);
+    }
     match decode(alloc, payload) {
-        Ok(Record::Start(start)) if payload.len() <= LONGEST => Ok(start),
+        Ok(Record::Start(start)) => Ok(start),
         _ => Err(CaseFault::NoCase),
     }
 }

@@ -1,14 +1,17 @@
 // Replays of histories.
-ghost use Rattle.std.specs.Prelude.{◌≡◌, ◌<◌};
+ghost use Rattle.std.specs.Prelude.{◌≡◌, ◌<◌, false};
+ghost use Rattle.wf_history.specs.Stands.{is_closed, Stands};
+ghost use Rattle.wf_host.specs.MemHost.{mem_world};
+ghost use Rattle.wf_host.specs.World.{Told};
+ghost use Rattle.wf_machine.specs.Seen.{state_of};
 
-use crate::machines::write_outcome;
-use crate::programs::program_of;
+use crate::machines::{started, write_outcome};
 use std::alloc::Global;
 use std::marker::Brand;
 use std::sync::ledger::{Blank, Ledger};
 use wf_cases::{Case, CaseFault};
-use wf_events::Record;
-use wf_history::History;
+use wf_events::{Record, Start};
+use wf_history::{History, HistoryFault};
 use wf_host::MemHost;
 use wf_host_cases::host_of;
 use wf_machine::{Machine, Steps};
@@ -30,42 +33,92 @@ fn write_replayed(
 }
 
 /// Replays the history of a host's file on the machine of a source, and then again on the same history, which is at its end or closed.
-/// The events are counted on a ledger of its own.
-fn replay_twice<L: Ledger>(
+fn replay_twice(
     alloc: Global,
     host: &mut MemHost,
     source: &str,
+    out: &mut String,
+) -> Result<(), CaseFault> {
+    let mut history = match History::open(host) {
+        Ok(history) => history,
+        Err(fault) => return Ok(write!(out, "{}", ReplayFault::from(fault))?),
+    };
+    match first_start(alloc, &mut history, host)? {
+        Ok(start) => replay_both::<Brand>(
+            alloc,
+            &mut history,
+            host,
+            source,
+            &start,
+            out,
+            Blank::new(1),
+        ),
+        Err(fault) => Ok(write!(out, "{}", ReplayFault::from(fault))?),
+    }
+}
+
+/// The start that a history's next record is, or the fault.
+fn first_start(
+    alloc: Global,
+    history: &mut History,
+    host: &mut MemHost,
+) -> Result<Result<Start, HistoryFault>, CaseFault>
+    requires kept { is_closed history.old ≡ false → Told (mem_world host.old) (Stands history.old (mem_world host.old)) }
+    ensures stands { is_closed history.new ≡ false → Told (mem_world host.new) (Stands history.new (mem_world host.new)) }
+{
+    match history.next(alloc, host) {
+        Ok(Some(Record::Start(start))) => Ok(Ok(start)),
+        Ok(_) => Err(CaseFault::NoCase),
+        Err(fault) => Ok(Err(fault)),
+    }
+}
+
+/// Replays a history on the machine of a source and a start, and then again, counting the events on a ledger of its own.
+fn replay_both<L: Ledger>(
+    alloc: Global,
+    history: &mut History,
+    host: &mut MemHost,
+    source: &str,
+    start: &Start,
     out: &mut String,
     blank: Blank,
 ) -> Result<(), CaseFault>
     requires name { blank.name ≡ L.name }
     requires parts { blank.parts ≡ L.parts }
     requires some { 0 < blank.parts }
+    requires kept { is_closed history.old ≡ false → Told (mem_world host.old) (Stands history.old (mem_world host.old)) }
 {
     let mut steps = Steps::<L>::new(blank);
-    let mut history = match History::open(host) {
-        Ok(history) => history,
-        Err(fault) => return Ok(write!(out, "{}", ReplayFault::from(fault))?),
-    };
-    let start = match history.next(alloc, host) {
-        Ok(Some(Record::Start(start))) => start,
-        Ok(_) => return Err(CaseFault::NoCase),
-        Err(fault) => return Ok(write!(out, "{}", ReplayFault::from(fault))?),
-    };
-    let machine = Machine::new(alloc, &start, program_of(alloc, source)?)?;
-    let replayed = replay(alloc, &mut history, host, machine, &mut steps);
-    write_replayed(out, alloc, replayed)?;
+    let machine = started(alloc, source, start)?;
+    write_replay(alloc, history, host, machine, out, &mut steps)?;
     out.push_str("; again ")?;
-    let machine = Machine::new(alloc, &start, program_of(alloc, source)?)?;
-    let replayed = replay(alloc, &mut history, host, machine, &mut steps);
+    let machine = started(alloc, source, start)?;
+    write_replay(alloc, history, host, machine, out, &mut steps)
+}
+
+/// Replays a history on a machine, and writes what that gave.
+fn write_replay<L: Ledger>(
+    alloc: Global,
+    history: &mut History,
+    host: &mut MemHost,
+    machine: Machine,
+    out: &mut String,
+    steps: &mut Steps<L>,
+) -> Result<(), CaseFault>
+    requires whole { (state_of machine).broken ≡ false }
+    requires kept { is_closed history.old ≡ false → Told (mem_world host.old) (Stands history.old (mem_world host.old)) }
+    ensures stands { is_closed history.new ≡ false → Told (mem_world host.new) (Stands history.new (mem_world host.new)) }
+{
+    let replayed = replay(alloc, history, host, machine, steps);
     write_replayed(out, alloc, replayed)
 }
 
 /// What two replays of the history in a host's file give, one after the other.
 pub fn twice(alloc: Global, case: &Case<'_>) -> Result<String, CaseFault> {
-    let mut host = host_of(alloc, case.item(1)?)?;
+    let source = case.text(0)?;
     let mut out = String::new(alloc);
-    replay_twice::<Brand>(alloc, &mut host, case.text(0)?, &mut out, Blank::new(1))?;
+    let mut host = host_of(alloc, case.item(1)?)?;
+    replay_twice(alloc, &mut host, source, &mut out)?;
     Ok(out)
 }
 

@@ -1,4 +1,7 @@
 // Records, the bytes that spell them, and what other bytes are told.
+ghost use Rattle.wf_events.specs.Spelling.{HasSpelling};
+ghost use Rattle.wf_events.specs.View.{record_view};
+
 use std::alloc::Global;
 use wf_cases::{Case, CaseFault, bytes_of, text_of};
 use wf_events::{
@@ -9,17 +12,31 @@ use wf_host::{Address, Routes};
 use wf_host_cases::write_bytes;
 use wf_value::{Pairs, Text, Value};
 
+/// A kind of payload.
+#[derive(Clone, Copy)]
+enum Payload {
+    Start,
+    /// With so many events.
+    Turn(usize),
+    None,
+}
+
+fn kind_of(alloc: Global, payload: &[u8]) -> Result<Payload, CaseFault> {
+    match decode(alloc, payload) {
+        Ok(Record::Start(_)) => Ok(Payload::Start),
+        Ok(Record::Turn(turn)) => Ok(Payload::Turn(turn.events.items().len())),
+        Err(RecordFault::BadRecord(_)) => Ok(Payload::None),
+        Err(RecordFault::OutOfMemory) => Err(CaseFault::OutOfMemory),
+    }
+}
+
 /// Which kind of record a payload is.
 pub fn kind(alloc: Global, case: &Case<'_>) -> Result<String, CaseFault> {
     let bytes = bytes_of(alloc, case.item(0)?)?;
-    match decode(alloc, &bytes) {
-        Ok(Record::Start(_)) => Ok(String::from_str(alloc, "start")?),
-        Ok(Record::Turn(turn)) => {
-            let count = turn.events.items().len();
-            Ok(format!(in alloc; "turn {count} events")?)
-        }
-        Err(RecordFault::BadRecord(_)) => Ok(String::from_str(alloc, "none")?),
-        Err(RecordFault::OutOfMemory) => Err(CaseFault::OutOfMemory),
+    match kind_of(alloc, &bytes)? {
+        Payload::Start => Ok(String::from_str(alloc, "start")?),
+        Payload::Turn(count) => Ok(format!(in alloc; "turn {count} events")?),
+        Payload::None => Ok(String::from_str(alloc, "none")?),
     }
 }
 
@@ -27,22 +44,33 @@ pub fn kind(alloc: Global, case: &Case<'_>) -> Result<String, CaseFault> {
 pub fn spelling(alloc: Global, case: &Case<'_>) -> Result<String, CaseFault> {
     let bytes = bytes_of(alloc, case.item(0)?)?;
     let mut out = String::new(alloc);
-    match decode(alloc, &bytes) {
-        Ok(record) => {
-            let again = encode(alloc, &record)?;
-            let part = match &record {
-                Record::Start(start) => encode_start(alloc, start)?,
-                Record::Turn(turn) => encode_turn(alloc, turn)?,
-            };
-            write_record(&mut out, alloc, &record)?;
-            for bytes in [again, part] {
-                out.push(' ')?;
-                write_bytes(&mut out, alloc, &bytes)?;
-            }
-        }
-        Err(fault) => write!(out, "{fault}")?,
-    }
+    write_decoded(&mut out, alloc, &bytes)?;
     Ok(out)
+}
+
+fn write_decoded(out: &mut String, alloc: Global, bytes: &[u8]) -> Result<(), CaseFault> {
+    match decode(alloc, bytes) {
+        Ok(record) => write_all(out, alloc, &record),
+        Err(fault) => Ok(write!(out, "{fault}")?),
+    }
+}
+
+/// Writes a record, and its bytes as all of it and as its part are written again.
+fn write_all(out: &mut String, alloc: Global, found: &Record) -> Result<(), CaseFault>
+    requires { HasSpelling (record_view found.now) }
+{
+    write_record(out, alloc, found)?;
+    write_bytes_behind(out, alloc, encode(alloc, found)?)?;
+    let part = match found {
+        Record::Start(start) => encode_start(alloc, start)?,
+        Record::Turn(turn) => encode_turn(alloc, turn)?,
+    };
+    write_bytes_behind(out, alloc, part)
+}
+
+fn write_bytes_behind(out: &mut String, alloc: Global, bytes: Vec<u8>) -> Result<(), CaseFault> {
+    out.push(' ')?;
+    write_bytes(out, alloc, &bytes)
 }
 
 /// Writes what a record says. Its pairs and routes are copied first, and its events pushed anew.
@@ -59,10 +87,18 @@ fn write_start(out: &mut String, alloc: Global, start: &Start) -> Result<(), Cas
     write_bytes(out, alloc, start.source.as_slice())?;
     out.push(' ')?;
     write_bytes(out, alloc, start.argument.as_slice())?;
-    write_routes(out, &copy_routes(alloc, &start.routes)?)?;
-    write_pairs(out, &start.env.copy(alloc)?)?;
+    write_route_copies(out, alloc, &start.routes)?;
+    write_pair_copies(out, alloc, &start.env)?;
     write!(out, " [{}] {}", start.base.as_str(), start.reading)?;
     Ok(())
+}
+
+fn write_route_copies(out: &mut String, alloc: Global, routes: &Routes) -> Result<(), CaseFault> {
+    write_routes(out, &copy_routes(alloc, routes)?)
+}
+
+fn write_pair_copies(out: &mut String, alloc: Global, pairs: &Pairs) -> Result<(), CaseFault> {
+    write_pairs(out, &pairs.copy(alloc)?)
 }
 
 fn write_routes(out: &mut String, routes: &Routes) -> Result<(), CaseFault> {
@@ -81,15 +117,19 @@ fn write_pairs(out: &mut String, pairs: &Pairs) -> Result<(), CaseFault> {
 
 /// A turn: its session and its waits, and then the task of each move, with its reading where it has one.
 fn write_turn(out: &mut String, alloc: Global, turn: &Turn) -> Result<(), CaseFault> {
-    let mut events = Events::new(alloc);
-    for event in turn.events.items() {
-        events.push(match *event {
+    write!(out, "{} {}", turn.session, turn.waits)?;
+    write_events(out, &pushed_anew(alloc, &turn.events)?)
+}
+
+fn pushed_anew(alloc: Global, events: &Events) -> Result<Events, CaseFault> {
+    let mut anew = Events::new(alloc);
+    for event in events.items() {
+        anew.push(match *event {
             Event::Move(task) => Event::Move(task),
             Event::MoveAt(task, reading) => Event::MoveAt(task, reading),
         })?;
     }
-    write!(out, "{} {}", turn.session, turn.waits)?;
-    write_events(out, &events)
+    Ok(anew)
 }
 
 /// The task of each move, with its reading where it has one.
@@ -118,49 +158,86 @@ pub fn fronts(alloc: Global, case: &Case<'_>) -> Result<String, CaseFault> {
         if end > 0 {
             out.push(' ')?;
         }
-        match decode(alloc, bytes.split_at(end).0) {
-            Ok(_) => out.push_str("ok")?,
-            Err(RecordFault::BadRecord(at)) => write!(out, "{at}")?,
-            Err(RecordFault::OutOfMemory) => return Err(CaseFault::OutOfMemory),
-        }
+        write_front(&mut out, alloc, bytes.split_at(end).0)?;
     }
     Ok(out)
+}
+
+fn write_front(out: &mut String, alloc: Global, front: &[u8]) -> Result<(), CaseFault> {
+    match fault_of(alloc, front) {
+        None => Ok(out.push_str("ok")?),
+        Some(RecordFault::BadRecord(at)) => Ok(write!(out, "{at}")?),
+        Some(RecordFault::OutOfMemory) => Err(CaseFault::OutOfMemory),
+    }
+}
+
+/// Why a payload is no record.
+fn fault_of(alloc: Global, payload: &[u8]) -> Option<RecordFault> {
+    match decode(alloc, payload) {
+        Ok(_) => None,
+        Err(fault) => Some(fault),
+    }
 }
 
 /// Whether a text is an argument; and what is told of a start whose source is the byte ff, and whose argument it is.
 pub fn argument(alloc: Global, case: &Case<'_>) -> Result<String, CaseFault> {
     let text = text_of(alloc, case.items())?;
-    let length = u32::try_from(text.len()).map_err(|_| CaseFault::NoCase)?;
+    let is_one = is_argument(alloc, text.as_bytes())?;
+    match fault_with(alloc, text.as_bytes())? {
+        None => Ok(format!(in alloc; "{is_one} taken")?),
+        Some(fault) => Ok(format!(in alloc; "{is_one} {fault}")?),
+    }
+}
+
+/// Why the start with this argument is no record.
+fn fault_with(alloc: Global, argument: &[u8]) -> Result<Option<RecordFault>, CaseFault> {
+    let Ok(length) = u32::try_from(argument.len()) else {
+        return Err(CaseFault::NoCase);
+    };
     let mut bytes = Vec::from_slice(alloc, b"\x01\0\0\0\x01x\0\0\0\x01\xff")?;
     bytes.extend_from_slice(&length.to_be_bytes())?;
-    bytes.extend_from_slice(text.as_bytes())?;
+    bytes.extend_from_slice(argument)?;
     bytes.extend_from_slice(&[0; 20])?;
-    let is_one = is_argument(alloc, text.as_bytes())?;
-    match decode(alloc, &bytes) {
-        Ok(_) => Ok(format!(in alloc; "{is_one} taken")?),
-        Err(fault) => Ok(format!(in alloc; "{is_one} {fault}")?),
-    }
+    Ok(fault_of(alloc, &bytes))
 }
 
 /// Routes that are pushed one after another, as they stand then, and as a copy has them.
 pub fn routes(alloc: Global, case: &Case<'_>) -> Result<String, CaseFault> {
-    let mut routes = Routes::new(alloc);
-    for item in case.items() {
-        let Value::List(route) = item else {
-            return Err(CaseFault::NoCase);
-        };
-        let [Value::Text(host), Value::Text(name), Value::Int(port)] = route.items() else {
-            return Err(CaseFault::NoCase);
-        };
-        let port = u16::try_from(*port).map_err(|_| CaseFault::NoCase)?;
-        let name = Text::new(alloc, name.as_str())?;
-        routes.push(host.copy()?, Address { name, port })?;
-    }
-    let mut out = format!(in alloc; "{}", routes.items().len())?;
-    write_routes(&mut out, &routes)?;
-    out.push_str(" and")?;
-    write_routes(&mut out, &copy_routes(alloc, &routes)?)?;
+    let routes = pushed_routes(alloc, case.items())?;
+    let mut out = String::new(alloc);
+    write_both(&mut out, alloc, &routes)?;
     Ok(out)
+}
+
+fn pushed_routes(alloc: Global, items: &[Value]) -> Result<Routes, CaseFault> {
+    let mut routes = Routes::new(alloc);
+    for item in items {
+        push_route(&mut routes, item)?;
+    }
+    Ok(routes)
+}
+
+/// Adds a route: the host's name, the address' name, and its port.
+fn push_route(routes: &mut Routes, route: &Value) -> Result<(), CaseFault> {
+    let Value::List(route) = route else {
+        return Err(CaseFault::NoCase);
+    };
+    let [Value::Text(host), Value::Text(name), Value::Int(port)] = route.items() else {
+        return Err(CaseFault::NoCase);
+    };
+    let Ok(port) = u16::try_from(*port) else {
+        return Err(CaseFault::NoCase);
+    };
+    let host = host.copy()?;
+    let name = name.copy()?;
+    Ok(routes.push(host, Address { name, port })?)
+}
+
+fn write_both(out: &mut String, alloc: Global, routes: &Routes) -> Result<(), CaseFault> {
+    write!(out, "{}", routes.items().len())?;
+    write_routes(out, routes)?;
+    out.push_str(" and")?;
+    write_route_copies(out, alloc, routes)
 }
 
 /// What each fault of a record says.

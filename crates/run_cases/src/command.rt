@@ -23,16 +23,13 @@ impl Command {
         source: &Value,
         plan: &Value,
     ) -> Result<Command, CaseFault> {
+        let outside = Outside::new(alloc, plan)?;
+        let words = words_in(alloc, words)?;
+        let source = source_in(alloc, source)?;
         Ok(Command {
-            words: match words {
-                Value::List(words) => words_of(alloc, words.items())?,
-                _ => return Err(CaseFault::NoCase),
-            },
-            source: match source {
-                Value::Text(text) => Vec::from_slice(alloc, text.as_str().as_bytes())?,
-                _ => bytes_of(alloc, source)?,
-            },
-            outside: Outside::new(alloc, plan)?,
+            words,
+            source,
+            outside,
         })
     }
 
@@ -47,11 +44,48 @@ impl Command {
             plan,
             failing_reads,
         } = outside;
-        let before = Vec::from_slice(alloc, plan.image.as_slice())?;
-        let mut source = MemSource::new(alloc, source.as_slice(), failing_reads.as_slice())?;
-        let mut host = MemHost::new(alloc, plan)?;
-        let status = run_line(alloc, words.as_slice(), &mut source, &mut host);
-        Ended::new(alloc, status.code(), before.as_slice(), host)
+        let host = MemHost::new(alloc, plan)?;
+        ended(alloc, &words, &source, &failing_reads, host)
+    }
+}
+
+/// What a command comes to on a host.
+fn ended(
+    alloc: Global,
+    words: &[String],
+    source: &[u8],
+    failing_reads: &[u64],
+    host: MemHost,
+) -> Result<Ended, CaseFault> {
+    let mut host = host;
+    let before = Vec::from_slice(alloc, host.image())?;
+    let status = status_of(alloc, words, source, failing_reads, &mut host)?;
+    Ended::new(alloc, status, &before, host)
+}
+
+/// The number of a command's status.
+fn status_of(
+    alloc: Global,
+    words: &[String],
+    source: &[u8],
+    failing_reads: &[u64],
+    host: &mut MemHost,
+) -> Result<u8, CaseFault> {
+    let mut source = MemSource::new(alloc, source, failing_reads)?;
+    Ok(run_line(alloc, words, &mut source, host).code())
+}
+
+fn words_in(alloc: Global, words: &Value) -> Result<Vec<String>, CaseFault> {
+    match words {
+        Value::List(words) => words_of(alloc, words.items()),
+        _ => Err(CaseFault::NoCase),
+    }
+}
+
+fn source_in(alloc: Global, source: &Value) -> Result<Vec<u8>, CaseFault> {
+    match source {
+        Value::Text(text) => Ok(Vec::from_slice(alloc, text.as_str().as_bytes())?),
+        _ => bytes_of(alloc, source),
     }
 }
 

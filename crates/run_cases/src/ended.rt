@@ -31,25 +31,21 @@ impl Ended {
         before: &[u8],
         host: MemHost,
     ) -> Result<Ended, CaseFault> {
+        let counts = Counts::of(alloc, host.image())?;
+        let printed = printed(alloc, host.printed())?;
+        let (readings, others) = counted(host.deeds());
+        let kept = host.image() == before;
         let journal = Vec::from_slice(alloc, host.image())?;
-        let mut readings = 0u64;
-        let mut others = 0u64;
-        for deed in host.deeds() {
-            match deed {
-                Deed::Now(_) => readings = readings.saturating_add(1),
-                Deed::Print(_) => {}
-                _ => others = others.saturating_add(1),
-            }
-        }
+        let synced = host.crash(alloc, false)?;
         Ok(Ended {
             status,
-            printed: printed(alloc, host.printed())?,
-            counts: Counts::of(alloc, journal.as_slice())?,
+            printed,
+            counts,
             readings,
             others,
-            kept: journal.as_slice() == before,
+            kept,
             journal,
-            synced: host.crash(alloc, false)?,
+            synced,
         })
     }
 
@@ -81,6 +77,20 @@ impl Ended {
         );
         Ok(full?)
     }
+}
+
+/// How many deeds were readings, and how many neither readings nor prints.
+fn counted(deeds: &[Deed]) -> (u64, u64) {
+    let mut readings = 0u64;
+    let mut others = 0u64;
+    for deed in deeds {
+        match deed {
+            Deed::Now(_) => readings = readings.saturating_add(1),
+            Deed::Print(_) => {}
+            _ => others = others.saturating_add(1),
+        }
+    }
+    (readings, others)
 }
 
 /// Printed bytes as a JSON text, or in hex where they are no UTF-8.

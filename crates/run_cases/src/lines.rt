@@ -22,35 +22,41 @@ pub fn line(alloc: Global, items: &[Value]) -> Result<String, CaseFault> {
 
 fn told(alloc: Global, line: Line<'_>) -> Result<String, CaseFault> {
     let mut told = format!(in alloc; "{:?}", line.command())?;
-    let options = [
-        (OptionName::Source, line.source()),
-        (OptionName::Journal, line.journal()),
-        (OptionName::Id, line.id()),
-    ];
-    for (name, word) in options {
-        if let Some(word) = word {
-            let json = json_of(alloc, word)?;
-            let option = format!(in alloc; " {} {}", name.word(), json.as_str())?;
-            told.push_str(option.as_str())?;
-        }
-    }
+    push_option(alloc, &mut told, OptionName::Source, line.source())?;
+    push_option(alloc, &mut told, OptionName::Journal, line.journal())?;
+    push_option(alloc, &mut told, OptionName::Id, line.id())?;
     Ok(told)
+}
+
+fn push_option(
+    alloc: Global,
+    told: &mut String,
+    name: OptionName,
+    word: Option<&str>,
+) -> Result<(), CaseFault> {
+    if let Some(word) = word {
+        let json = json_of(alloc, word)?;
+        write!(told, " {} {}", name.word(), json.as_str())?;
+    }
+    Ok(())
 }
 
 /// What the look-ups find in the words.
 pub fn options(alloc: Global, items: &[Value]) -> Result<String, CaseFault> {
     let words = words_of(alloc, items)?;
     let words = words.as_slice();
-    let journal = found(alloc, journal_of(words))?;
-    let source = found(alloc, source_of(words))?;
-    let listen = found(alloc, listen_of(words))?;
-    let line = format!(in alloc;
-        "{} {} {}",
-        journal.as_str(),
-        source.as_str(),
-        listen.as_str()
-    );
-    Ok(line?)
+    let mut line = String::new(alloc);
+    push_found(alloc, &mut line, journal_of(words))?;
+    line.push(' ')?;
+    push_found(alloc, &mut line, source_of(words))?;
+    line.push(' ')?;
+    push_found(alloc, &mut line, listen_of(words))?;
+    Ok(line)
+}
+
+fn push_found(alloc: Global, line: &mut String, word: Option<&str>) -> Result<(), CaseFault> {
+    let found = found(alloc, word)?;
+    Ok(line.push_str(found.as_str())?)
 }
 
 fn found(alloc: Global, word: Option<&str>) -> Result<String, CaseFault> {

@@ -20,37 +20,53 @@ mod series;
 mod statuses;
 
 use command::Command;
+use ended::Ended;
 use std::alloc::Global;
 use wf_cases::{Case, CaseFault, case_of, hex_of};
 
-/// The command that a case is.
-fn command_of(alloc: Global, case: &Case<'_>) -> Result<Command, CaseFault> {
-    Command::new(alloc, case.item(0)?, case.item(1)?, case.item(2)?)
+/// What the command that a case is comes to.
+fn made(alloc: Global, case: &Case<'_>) -> Result<Ended, CaseFault> {
+    let command = Command::new(alloc, case.item(0)?, case.item(1)?, case.item(2)?)?;
+    command.run(alloc)
 }
 
-/// What is printed of a line.
-fn answer(alloc: Global, line: &str) -> Result<String, CaseFault> {
-    let case = case_of(alloc, line)?;
+fn line_of(alloc: Global, case: &Case<'_>) -> Result<String, CaseFault> {
+    made(alloc, case)?.line(alloc)
+}
+
+fn full_line_of(alloc: Global, case: &Case<'_>) -> Result<String, CaseFault> {
+    made(alloc, case)?.full_line(alloc)
+}
+
+fn journal_left(alloc: Global, case: &Case<'_>) -> Result<String, CaseFault> {
+    let ended = made(alloc, case)?;
+    hex_of(alloc, ended.journal.as_slice())
+}
+
+/// What is printed of a case.
+fn answer(alloc: Global, case: &Case<'_>) -> Result<String, CaseFault> {
     match case.table {
         "runs_control" | "runs_errors" | "runs_calls" | "runs_retry" | "stops" | "reports" => {
-            command_of(alloc, &case)?.run(alloc)?.line(alloc)
+            line_of(alloc, case)
         }
-        "commands" => command_of(alloc, &case)?.run(alloc)?.full_line(alloc),
-        "journal_left" => hex_of(
-            alloc,
-            command_of(alloc, &case)?.run(alloc)?.journal.as_slice(),
-        ),
+        "commands" => full_line_of(alloc, case),
+        "journal_left" => journal_left(alloc, case),
         "series" => series::answer(alloc, case.items()),
         "lines" => lines::line(alloc, case.items()),
         "options" => lines::options(alloc, case.items()),
-        "statuses" => statuses::answer(alloc, &case),
+        "statuses" => statuses::answer(alloc, case),
         _ => Err(CaseFault::NoCase),
     }
 }
 
+/// What is printed of a line.
+fn line_answer(alloc: Global, line: &str) -> Result<String, CaseFault> {
+    answer(alloc, &case_of(alloc, line)?)
+}
+
 fn main(rt: HostRuntime) -> anyhow::Result<()> {
     for line in rt.lines(rt.alloc()) {
-        let text = answer(rt.alloc(), line?.as_str())?;
+        let text = line_answer(rt.alloc(), line?.as_str())?;
         println!(rt; "{text}")?;
     }
     Ok(())

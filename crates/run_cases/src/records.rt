@@ -16,29 +16,35 @@ pub struct Counts {
 impl Counts {
     /// What stands in a journal, from its first record to the last behind an open gate. What is no journal has none.
     pub fn of(alloc: Global, image: &[u8]) -> Result<Counts, CaseFault> {
-        let mut counts = Counts {
-            records: 0,
-            events: 0,
-        };
-        let mut host = MemHost::new(alloc, quiet(alloc, Vec::from_slice(alloc, image)?))?;
-        let mut journal = match Journal::open(&mut host) {
-            Ok(journal) => journal,
-            Err(JournalFault::NotAJournal) => return Ok(counts),
-            Err(_) => return Err(CaseFault::OutOfMemory),
-        };
-        let mut room = Vec::new(alloc);
-        for _ in 0..image.len() {
-            let Ok(payload) = journal.next(alloc, &mut host, &mut room) else {
-                return Err(CaseFault::OutOfMemory);
-            };
-            let Some(payload) = payload else {
-                break;
-            };
-            counts.records = counts.records.saturating_add(1);
-            counts.events = counts.events.saturating_add(events_in(alloc, payload)?);
-        }
-        Ok(counts)
+        let plan = quiet(alloc, Vec::from_slice(alloc, image)?);
+        let mut host = MemHost::new(alloc, plan)?;
+        counts_in(alloc, &mut host, image.len())
     }
+}
+
+/// What stands in a host's file, of at most so many records.
+fn counts_in(alloc: Global, host: &mut MemHost, most: usize) -> Result<Counts, CaseFault> {
+    let mut counts = Counts {
+        records: 0,
+        events: 0,
+    };
+    let mut journal = match Journal::open(host) {
+        Ok(journal) => journal,
+        Err(JournalFault::NotAJournal) => return Ok(counts),
+        Err(_) => return Err(CaseFault::OutOfMemory),
+    };
+    let mut room = Vec::new(alloc);
+    for _ in 0..most {
+        let Ok(payload) = journal.next(alloc, host, &mut room) else {
+            return Err(CaseFault::OutOfMemory);
+        };
+        let Some(payload) = payload else {
+            break;
+        };
+        counts.records = counts.records.saturating_add(1);
+        counts.events = counts.events.saturating_add(events_in(alloc, payload)?);
+    }
+    Ok(counts)
 }
 
 /// How many events a payload has. One that is no record has none.

@@ -46,12 +46,7 @@ pub fn answer(alloc: Global, commands: &[Value]) -> Result<String, CaseFault> {
     };
     push(&mut ways, first)?;
     for command in commands {
-        let step = Step::new(command)?;
-        let mut further = Vec::new(alloc);
-        for way in ways {
-            step.go_on(alloc, way, &mut further)?;
-        }
-        ways = further;
+        ways = Step::new(command)?.all_on(alloc, ways)?;
     }
     joined(alloc, ways.as_slice())
 }
@@ -85,46 +80,86 @@ impl<'a> Step<'a> {
         }
     }
 
+    /// All ways on which these ways go on.
+    fn all_on(&self, alloc: Global, ways: Vec<Way>) -> Result<Vec<Way>, CaseFault> {
+        let mut further = Vec::new(alloc);
+        for way in ways {
+            self.go_on(alloc, way, &mut further)?;
+        }
+        Ok(further)
+    }
+
     /// Adds each way on which a way goes on.
     fn go_on(&self, alloc: Global, way: Way, further: &mut Vec<Way>) -> Result<(), CaseFault> {
-        if let (Some(after), Some(status)) = (self.number("after")?, way.status)
-            && after != u64::from(status)
-        {
+        if self.is_left_out(&way)? {
             return push(further, way);
         }
+        self.add_all(alloc, &way, further)
+    }
+
+    /// Whether it isn't made behind a way.
+    fn is_left_out(&self, way: &Way) -> Result<bool, CaseFault> {
+        match (self.number("after")?, way.status) {
+            (Some(after), Some(status)) => Ok(after != u64::from(status)),
+            _ => Ok(false),
+        }
+    }
+
+    fn add_all(&self, alloc: Global, way: &Way, further: &mut Vec<Way>) -> Result<(), CaseFault> {
         let stops = self.number("stops")?;
         let calls = self.number("failing_calls")?;
         for number in 0..stops.or(calls).unwrap_or(1) {
-            let mut command = Command::new(alloc, self.words, self.source, self.plan)?;
-            let plan = &mut command.outside.plan;
-            if stops.is_some() {
-                plan.stop = Some(number);
-            }
-            if calls.is_some() {
-                push(&mut plan.fail, number.saturating_add(1))?;
-            }
-            if way.status.is_some() {
-                plan.image = Vec::from_slice(alloc, way.journal.as_slice())?;
-            }
-            push(further, self.behind(alloc, &way, command.run(alloc)?)?)?;
+            let ended = self.made(alloc, way, stops.is_some(), calls.is_some(), number)?;
+            push(further, self.behind(alloc, way, ended)?)?;
         }
         Ok(())
+    }
+
+    /// What the command comes to behind a way, where it is stopped after so many writes and syncs, or the call of the next number fails.
+    fn made(
+        &self,
+        alloc: Global,
+        way: &Way,
+        is_stopped: bool,
+        has_failing_call: bool,
+        number: u64,
+    ) -> Result<Ended, CaseFault> {
+        let mut command = Command::new(alloc, self.words, self.source, self.plan)?;
+        let plan = &mut command.outside.plan;
+        if is_stopped {
+            plan.stop = Some(number);
+        }
+        if has_failing_call {
+            push(&mut plan.fail, number.saturating_add(1))?;
+        }
+        if way.status.is_some() {
+            plan.image = Vec::from_slice(alloc, way.journal.as_slice())?;
+        }
+        command.run(alloc)
     }
 
     /// The way with a further command, which ended so.
     fn behind(&self, alloc: Global, way: &Way, ended: Ended) -> Result<Way, CaseFault> {
         let line = ended.full_line(alloc)?;
+        let told = told_behind(alloc, way, line)?;
+        let status = Some(ended.status);
+        let journal = match self.value("left") {
+            Some(_) => ended.synced,
+            None => ended.journal,
+        };
         Ok(Way {
-            told: match way.status {
-                Some(_) => format!(in alloc; "{}, {}", way.told.as_str(), line.as_str())?,
-                None => line,
-            },
-            status: Some(ended.status),
-            journal: match self.value("left") {
-                Some(_) => ended.synced,
-                None => ended.journal,
-            },
+            told,
+            status,
+            journal,
         })
+    }
+}
+
+/// What was told of a way, and a line behind it.
+fn told_behind(alloc: Global, way: &Way, line: String) -> Result<String, CaseFault> {
+    match way.status {
+        Some(_) => Ok(format!(in alloc; "{}, {}", way.told.as_str(), line.as_str())?),
+        None => Ok(line),
     }
 }
 

@@ -8,19 +8,26 @@ use crate::plan::number_of;
 use std::alloc::Global;
 use wf_cases::{Case, CaseFault};
 use wf_status::{Place, Refusal, RefusalKind, Status};
-use wf_value::{Path, PathPart, Value};
+use wf_value::{Path, PathPart, Text, Value};
 
 /// The number of a status, and its text.
 pub fn answer(alloc: Global, case: &Case<'_>) -> Result<String, CaseFault> {
-    let status = status_of(alloc, case)?;
-    let code = status.code();
-    match status.text(alloc)? {
-        Some(text) => {
-            let json = json_of(alloc, text.as_str())?;
-            Ok(format!(in alloc; "{code} {}", json.as_str())?)
-        }
+    let (code, text) = code_and_text(alloc, case)?;
+    match text {
+        Some(text) => told(alloc, code, text.as_str()),
         None => Ok(format!(in alloc; "{code}")?),
     }
+}
+
+fn code_and_text(alloc: Global, case: &Case<'_>) -> Result<(u8, Option<Text>), CaseFault> {
+    let status = status_of(alloc, case)?;
+    let text = status.text(alloc)?;
+    Ok((status.code(), text))
+}
+
+fn told(alloc: Global, code: u8, text: &str) -> Result<String, CaseFault> {
+    let json = json_of(alloc, text)?;
+    Ok(format!(in alloc; "{code} {}", json.as_str())?)
 }
 
 fn status_of(alloc: Global, case: &Case<'_>) -> Result<Status, CaseFault> {

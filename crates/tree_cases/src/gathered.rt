@@ -1,6 +1,6 @@
 // Pairs that are gathered into a map, and lists that are built.
 use crate::scalars::scalar;
-use crate::texts::{quoted, word};
+use crate::texts::push_quoted;
 use std::alloc::Global;
 use wf_cases::CaseFault;
 use wf_tree::{PairsSoFar, Tree, TreeList, TreeMap};
@@ -13,24 +13,28 @@ pub(crate) fn gathered(alloc: Global, pairs: &Value, asked: &Value) -> Result<St
         return Err(CaseFault::NoCase);
     };
     let mut shown = String::new(alloc);
-    let mut so_far = PairsSoFar::new(alloc)?;
-    for pair in pairs.items() {
-        if let Some(old) = put(alloc, &mut so_far, pair)? {
-            shown.push_str(tree_text(alloc, &old)?.as_str())?;
-            shown.push(' ')?;
-        }
-    }
-    let map = so_far.into_map()?;
-    shown.push_str(map_text(alloc, &map)?.as_str())?;
-    for item in asked.items() {
-        shown.push(' ')?;
-        shown.push_str(found(alloc, &map, item)?.as_str())?;
-    }
+    let map = map_of(alloc, &mut shown, pairs.items())?;
+    show_map(alloc, &mut shown, &map)?;
+    show_found(alloc, &mut shown, &map, asked.items())?;
     Ok(shown)
 }
 
-/// Puts a pair of a key and a tree, and gives the tree that was there.
-fn put(alloc: Global, pairs: &mut PairsSoFar, pair: &Value) -> Result<Option<Tree>, CaseFault> {
+/// Gathers pairs, and shows the trees that were replaced.
+fn map_of(alloc: Global, shown: &mut String, pairs: &[Value]) -> Result<TreeMap, CaseFault> {
+    let mut so_far = PairsSoFar::new(alloc)?;
+    for pair in pairs {
+        put(alloc, shown, &mut so_far, pair)?;
+    }
+    Ok(so_far.into_map()?)
+}
+
+/// Puts a pair of a key and a tree, and shows the tree that was there.
+fn put(
+    alloc: Global,
+    shown: &mut String,
+    pairs: &mut PairsSoFar,
+    pair: &Value,
+) -> Result<(), CaseFault> {
     let Value::List(pair) = pair else {
         return Err(CaseFault::NoCase);
     };
@@ -38,7 +42,13 @@ fn put(alloc: Global, pairs: &mut PairsSoFar, pair: &Value) -> Result<Option<Tre
         return Err(CaseFault::NoCase);
     };
     let tree = tree_of(alloc, item)?;
-    Ok(pairs.insert(key.copy()?, tree)?)
+    match pairs.insert(key.copy()?, tree)? {
+        Some(old) => {
+            show_tree(alloc, shown, &old)?;
+            Ok(shown.push(' ')?)
+        }
+        None => Ok(()),
+    }
 }
 
 /// A number, or the list of some scalars.
@@ -63,50 +73,72 @@ fn scalar_of(item: &Value) -> Result<Tree, CaseFault> {
     }
 }
 
-/// A scalar, or the list of some scalars.
-fn tree_text(alloc: Global, tree: &Tree) -> Result<String, CaseFault> {
+/// Shows a scalar, or the list of some scalars.
+fn show_tree(alloc: Global, shown: &mut String, tree: &Tree) -> Result<(), CaseFault> {
     let Tree::List(list) = tree else {
-        return scalar(alloc, tree);
+        return show_scalar(alloc, shown, tree);
     };
-    let mut text = word(alloc, "[")?;
+    shown.push('[')?;
     for item in list.items() {
-        text.push_str(scalar(alloc, item)?.as_str())?;
-        text.push(',')?;
+        show_scalar(alloc, shown, item)?;
+        shown.push(',')?;
     }
-    text.push(']')?;
-    Ok(text)
+    Ok(shown.push(']')?)
 }
 
-fn pair_text(alloc: Global, key: &str, tree: &Tree) -> Result<String, CaseFault> {
-    let key = quoted(alloc, key)?;
-    let tree = tree_text(alloc, tree)?;
-    Ok(format!(in alloc; "{key}:{tree}")?)
+fn show_scalar(alloc: Global, shown: &mut String, tree: &Tree) -> Result<(), CaseFault> {
+    let text = scalar(alloc, tree)?;
+    Ok(shown.push_str(text.as_str())?)
 }
 
-fn map_text(alloc: Global, map: &TreeMap) -> Result<String, CaseFault> {
-    let mut text = word(alloc, "{")?;
+fn show_pair(alloc: Global, shown: &mut String, key: &str, tree: &Tree) -> Result<(), CaseFault> {
+    push_quoted(alloc, shown, key)?;
+    shown.push(':')?;
+    show_tree(alloc, shown, tree)
+}
+
+fn show_map(alloc: Global, shown: &mut String, map: &TreeMap) -> Result<(), CaseFault> {
+    shown.push('{')?;
     for pair in map.pairs() {
-        text.push_str(pair_text(alloc, pair.0.as_str(), &pair.1)?.as_str())?;
-        text.push(',')?;
+        show_pair(alloc, shown, pair.0.as_str(), &pair.1)?;
+        shown.push(',')?;
     }
-    text.push('}')?;
-    Ok(text)
+    Ok(shown.push('}')?)
 }
 
-/// What stands at a key, or the pair of a number.
-fn found(alloc: Global, map: &TreeMap, asked: &Value) -> Result<String, CaseFault> {
+/// Shows what stands at each key, or the pair of each number.
+fn show_found(
+    alloc: Global,
+    shown: &mut String,
+    map: &TreeMap,
+    asked: &[Value],
+) -> Result<(), CaseFault> {
+    for item in asked {
+        shown.push(' ')?;
+        show_one(alloc, shown, map, item)?;
+    }
+    Ok(())
+}
+
+/// Shows what stands at a key, or the pair of a number.
+fn show_one(
+    alloc: Global,
+    shown: &mut String,
+    map: &TreeMap,
+    asked: &Value,
+) -> Result<(), CaseFault> {
     match asked {
         Value::Text(key) => match map.get(key.as_str()) {
-            Some(tree) => tree_text(alloc, tree),
-            None => word(alloc, "none"),
+            Some(tree) => show_tree(alloc, shown, tree),
+            None => Ok(shown.push_str("none")?),
         },
         Value::Int(number) => {
             let Ok(number) = usize::try_from(*number) else {
                 return Err(CaseFault::NoCase);
             };
             match map.entry(number) {
-                Some((key, tree)) => pair_text(alloc, key, tree),
-                None => word(alloc, "none"),
+                Some((key, tree)) => show_pair(alloc, shown, key, tree),
+                None => Ok(shown.push_str("none")?),
             }
         }
         _ => Err(CaseFault::NoCase),

@@ -1,5 +1,5 @@
 // Sources in JSON.
-use crate::texts::{quoted, word};
+use crate::texts::{push_quoted, quoted, word};
 use std::alloc::Global;
 use wf_cases::{CaseFault, text_of};
 use wf_tree::{TreeFault, read_json};
@@ -42,19 +42,26 @@ fn told(alloc: Global, fault: TreeFault) -> Result<String, CaseFault> {
 /// The steps that lead to the first decimal: how many there are, then each key and each index.
 pub(crate) fn decimal(alloc: Global, items: &[Value]) -> Result<String, CaseFault> {
     let source = text_of(alloc, items)?;
-    let Err(TreeFault::Decimal(path)) = read_json(alloc, source.as_str()) else {
-        return Err(CaseFault::NoCase);
-    };
-    let mut shown = format!(in alloc; "{}", path.items().len())?;
-    for step in path.items() {
-        let text = match step {
-            PathPart::Key(key) => {
-                let key = quoted(alloc, key.as_str())?;
-                format!(in alloc; " {key}")?
-            }
-            PathPart::Index(index) => format!(in alloc; " {index}")?,
-        };
-        shown.push_str(text.as_str())?;
-    }
+    let mut shown = String::new(alloc);
+    show_decimal(alloc, &mut shown, source.as_str())?;
     Ok(shown)
+}
+
+fn show_decimal(alloc: Global, shown: &mut String, source: &str) -> Result<(), CaseFault> {
+    match read_json(alloc, source) {
+        Err(TreeFault::Decimal(path)) => show_steps(alloc, shown, path.items()),
+        _ => Err(CaseFault::NoCase),
+    }
+}
+
+fn show_steps(alloc: Global, shown: &mut String, steps: &[PathPart]) -> Result<(), CaseFault> {
+    write!(shown, "{}", steps.len())?;
+    for step in steps {
+        shown.push(' ')?;
+        match step {
+            PathPart::Key(key) => push_quoted(alloc, shown, key.as_str())?,
+            PathPart::Index(index) => write!(shown, "{index}")?,
+        }
+    }
+    Ok(())
 }

@@ -1,24 +1,33 @@
 // Keys of pairs.
 use crate::kinds::name_of;
-use crate::texts::{chars_of, quoted, quoted_chars, word};
+use crate::texts::{chars_of, push_chars, push_quoted};
 use std::alloc::Global;
 use wf_cases::CaseFault;
 use wf_value::Value;
-use wf_yaml_line::{KeySet, is_delay_key, read_key};
+use wf_yaml_line::{Key, KeySet, is_delay_key, read_key};
 
 /// The key at the start of a text, the key's own fault in line 7, and what stands behind it.
 pub(crate) fn key(alloc: Global, text: &str) -> Result<String, CaseFault> {
     let chars = chars_of(alloc, text)?;
-    let Some(key) = read_key(alloc, chars.as_slice())? else {
-        return word(alloc, "none");
-    };
-    let fault = match key.refusal(7) {
-        Some(fault) => format!(in alloc; "{} at {}", name_of(fault.kind), fault.line)?,
-        None => word(alloc, "good")?,
-    };
-    let rest = quoted_chars(alloc, key.rest)?;
-    let text = quoted(alloc, key.text.as_str())?;
-    Ok(format!(in alloc; "{text} {fault} {rest}")?)
+    let mut out = String::new(alloc);
+    write_read(alloc, &mut out, chars.as_slice())?;
+    Ok(out)
+}
+
+fn write_read(alloc: Global, out: &mut String, chars: &[char]) -> Result<(), CaseFault> {
+    match read_key(alloc, chars)? {
+        Some(key) => write_key(alloc, out, &key),
+        None => Ok(out.push_str("none")?),
+    }
+}
+
+fn write_key(alloc: Global, out: &mut String, key: &Key<'_>) -> Result<(), CaseFault> {
+    push_quoted(alloc, out, key.text.as_str())?;
+    match key.refusal(7) {
+        Some(fault) => write!(out, " {} at {} ", name_of(fault.kind), fault.line)?,
+        None => out.push_str(" good ")?,
+    }
+    push_chars(alloc, out, key.rest)
 }
 
 /// Whether a key's value may be a decimal.
@@ -31,12 +40,21 @@ pub(crate) fn held(alloc: Global, keys: &Value, key: &str) -> Result<String, Cas
     let Value::List(keys) = keys else {
         return Err(CaseFault::NoCase);
     };
-    let mut held = KeySet::new(alloc)?;
-    for item in keys.items() {
-        let Value::Text(text) = item else {
-            return Err(CaseFault::NoCase);
-        };
-        held.add(text.copy()?)?;
+    let holds = set_of(alloc, keys.items())?.holds(key);
+    Ok(format!(in alloc; "{holds}")?)
+}
+
+fn set_of(alloc: Global, keys: &[Value]) -> Result<KeySet, CaseFault> {
+    let mut set = KeySet::new(alloc)?;
+    for item in keys {
+        add(&mut set, item)?;
     }
-    Ok(format!(in alloc; "{}", held.holds(key))?)
+    Ok(set)
+}
+
+fn add(set: &mut KeySet, key: &Value) -> Result<(), CaseFault> {
+    match key {
+        Value::Text(text) => Ok(set.add(text.copy()?)?),
+        _ => Err(CaseFault::NoCase),
+    }
 }

@@ -1,5 +1,5 @@
 // Long sources in YAML: how much is read of them.
-use crate::texts::{TOO_LONG, word};
+use crate::texts::TOO_LONG;
 use crate::yaml::told;
 use std::alloc::Global;
 use wf_cases::{Case, CaseFault, text_of};
@@ -17,14 +17,18 @@ fn measured(alloc: Global, source: &str) -> Result<String, CaseFault> {
     if source.len() > TOO_LONG {
         return Err(CaseFault::NoCase);
     }
-    let tree = match read_yaml(alloc, source) {
-        Ok(tree) => tree,
-        Err(fault) => return told(alloc, fault),
-    };
-    let mut text = measure(alloc, &tree)?;
-    if let Some(last) = last_of(&tree) {
+    match read_yaml(alloc, source) {
+        Ok(tree) => measured_tree(alloc, &tree),
+        Err(fault) => told(alloc, fault),
+    }
+}
+
+fn measured_tree(alloc: Global, tree: &Tree) -> Result<String, CaseFault> {
+    let mut text = String::new(alloc);
+    measure(&mut text, tree)?;
+    if let Some(last) = last_of(tree) {
         text.push_str(", the last one ")?;
-        text.push_str(measure(alloc, last)?.as_str())?;
+        measure(&mut text, last)?;
     }
     Ok(text)
 }
@@ -40,31 +44,42 @@ fn last_of(tree: &Tree) -> Option<&Tree> {
     }
 }
 
-fn measure(alloc: Global, tree: &Tree) -> Result<String, CaseFault> {
+fn measure(out: &mut String, tree: &Tree) -> Result<(), CaseFault> {
     match tree {
-        Tree::Null => word(alloc, "null"),
-        Tree::Text(text) => Ok(format!(in alloc; "a text of {}", text.as_str().len())?),
-        Tree::List(list) => Ok(format!(in alloc; "a list of {}", list.items().len())?),
-        Tree::Map(map) => Ok(format!(in alloc; "a map of {}", map.pairs().len())?),
-        _ => word(alloc, "another scalar"),
+        Tree::Null => Ok(out.push_str("null")?),
+        Tree::Text(text) => Ok(write!(out, "a text of {}", text.as_str().len())?),
+        Tree::List(list) => Ok(write!(out, "a list of {}", list.items().len())?),
+        Tree::Map(map) => Ok(write!(out, "a map of {}", map.pairs().len())?),
+        _ => Ok(out.push_str("another scalar")?),
     }
 }
 
 /// A source of many keys, measured: a text, then numbers in a base and with so many digits, from one on and so many of them, each by a
 /// step from the one before it and with a text behind it, and a last text.
 pub(crate) fn counted(alloc: Global, case: &Case<'_>) -> Result<String, CaseFault> {
-    let mut source = word(alloc, case.text(0)?)?;
+    let mut source = String::new(alloc);
+    write_source(&mut source, case)?;
+    let mut shown = String::new(alloc);
+    show_source(alloc, &mut shown, source.as_str())?;
+    Ok(shown)
+}
+
+fn show_source(alloc: Global, shown: &mut String, source: &str) -> Result<(), CaseFault> {
+    let text = measured(alloc, source)?;
+    Ok(write!(shown, "{} bytes: {text}", source.len())?)
+}
+
+fn write_source(source: &mut String, case: &Case<'_>) -> Result<(), CaseFault> {
+    source.push_str(case.text(0)?)?;
     let base = small(case.number(1)?)?;
     let width = small(case.number(2)?)?;
     let (start, count, step) = (case.number(3)?, case.number(4)?, case.number(5)?);
     for i in 0..count {
         let number = small(start.saturating_add(i.saturating_mul(step)))?;
-        push_digits(&mut source, base, width, number)?;
+        push_digits(source, base, width, number)?;
         source.push_str(case.text(6)?)?;
     }
-    source.push_str(case.text(7)?)?;
-    let shown = measured(alloc, source.as_str())?;
-    Ok(format!(in alloc; "{} bytes: {shown}", source.len())?)
+    Ok(source.push_str(case.text(7)?)?)
 }
 
 fn small(number: i64) -> Result<u32, CaseFault> {

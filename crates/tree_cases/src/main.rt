@@ -14,11 +14,10 @@ mod texts;
 mod yaml;
 
 use std::alloc::Global;
-use wf_cases::{CaseFault, case_of};
+use wf_cases::{Case, CaseFault, case_of};
 
-/// What is printed of a line.
-fn answer(alloc: Global, line: &str) -> Result<String, CaseFault> {
-    let case = case_of(alloc, line)?;
+/// What is printed of a case.
+fn answer(alloc: Global, case: &Case<'_>) -> Result<String, CaseFault> {
     let items = case.items();
     match case.table {
         "trees" | "tree_examples" => json::tree(alloc, items),
@@ -30,10 +29,10 @@ fn answer(alloc: Global, line: &str) -> Result<String, CaseFault> {
         "programs" => sources::program(alloc, items),
         "round_trips" => yaml::round_trip(alloc, items),
         "written_texts" => yaml::written_text(alloc, case.text(0)?),
-        "written_delays" => yaml::written_delays(alloc, &case),
+        "written_delays" => yaml::written_delays(alloc, case),
         "long_sources" => long::long(alloc, items),
-        "counted_keys" => long::counted(alloc, &case),
-        "lines" => lines::line(alloc, &case),
+        "counted_keys" => long::counted(alloc, case),
+        "lines" => lines::line(alloc, case),
         "last_lines" => lines::last(alloc, items),
         "plain_scalars" => scalars::plain(alloc, case.text(0)?),
         "scalars_of_lines" => scalars::one_line(alloc, case.item(0)?, case.text(1)?),
@@ -43,13 +42,18 @@ fn answer(alloc: Global, line: &str) -> Result<String, CaseFault> {
         "parts" => scalars::parts(alloc, case.text(0)?),
         "ends" => scalars::ends(alloc, case.text(0)?),
         "blanks" => scalars::blank(alloc, case.text(0)?),
-        _ => faults::fault(alloc, &case),
+        _ => faults::fault(alloc, case),
     }
+}
+
+/// What is printed of a line.
+fn line_answer(alloc: Global, line: &str) -> Result<String, CaseFault> {
+    answer(alloc, &case_of(alloc, line)?)
 }
 
 fn main(rt: HostRuntime) -> anyhow::Result<()> {
     for line in rt.lines(rt.alloc()) {
-        let text = answer(rt.alloc(), line?.as_str())?;
+        let text = line_answer(rt.alloc(), line?.as_str())?;
         println!(rt; "{text}")?;
     }
     Ok(())

@@ -1,6 +1,6 @@
 // Scalars that stand on one line, and the marks around them.
 use crate::kinds::name_of;
-use crate::texts::{chars_of, quoted, quoted_chars, word};
+use crate::texts::{chars_of, push_chars, quoted, word};
 use std::alloc::Global;
 use wf_cases::CaseFault;
 use wf_tree::Tree;
@@ -59,11 +59,19 @@ pub(crate) fn scalar(alloc: Global, tree: &Tree) -> Result<String, CaseFault> {
 /// What stands behind a text's blanks, behind its first character and before its comment, and whether it has one.
 pub(crate) fn parts(alloc: Global, text: &str) -> Result<String, CaseFault> {
     let chars = chars_of(alloc, text)?;
-    let no_blanks = quoted_chars(alloc, skip_blanks(chars.as_slice()))?;
-    let no_first = quoted_chars(alloc, behind_first(chars.as_slice()))?;
-    let (before, has_comment) = before_comment(chars.as_slice());
-    let before = quoted_chars(alloc, before)?;
-    Ok(format!(in alloc; "{no_blanks} {no_first} {before} {has_comment}")?)
+    let mut out = String::new(alloc);
+    write_parts(alloc, &mut out, chars.as_slice())?;
+    Ok(out)
+}
+
+fn write_parts(alloc: Global, out: &mut String, chars: &[char]) -> Result<(), CaseFault> {
+    let (before, has_comment) = before_comment(chars);
+    push_chars(alloc, out, skip_blanks(chars))?;
+    out.push(' ')?;
+    push_chars(alloc, out, behind_first(chars))?;
+    out.push(' ')?;
+    push_chars(alloc, out, before)?;
+    Ok(write!(out, " {has_comment}")?)
 }
 
 /// Whether a text is a blank line, ends a line, ends a word, and may start a plain scalar.

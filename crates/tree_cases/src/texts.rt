@@ -26,10 +26,16 @@ pub(crate) fn chars_of(alloc: Global, text: &str) -> Result<Vec<char>, CaseFault
     Ok(chars)
 }
 
-/// Characters as a JSON text.
-pub(crate) fn quoted_chars(alloc: Global, chars: &[char]) -> Result<String, CaseFault> {
+/// Adds a text as a JSON text.
+pub(crate) fn push_quoted(alloc: Global, out: &mut String, text: &str) -> Result<(), CaseFault> {
+    let text = quoted(alloc, text)?;
+    Ok(out.push_str(text.as_str())?)
+}
+
+/// Adds characters as a JSON text.
+pub(crate) fn push_chars(alloc: Global, out: &mut String, chars: &[char]) -> Result<(), CaseFault> {
     let text = wf_yaml_line::text_of(alloc, chars)?;
-    quoted(alloc, text.as_str())
+    push_quoted(alloc, out, text.as_str())
 }
 
 /// A word.

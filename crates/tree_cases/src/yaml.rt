@@ -1,4 +1,8 @@
 // Sources in YAML, and what trees are written as.
+ghost use Rattle.std.specs.Prelude.{◌≡◌, OnOk};
+ghost use Rattle.wf_tree.specs.Plain.{plain_tree};
+ghost use Rattle.wf_value.specs.Maps.{with_value};
+
 use crate::kinds::name_of;
 use crate::texts::{TOO_LONG, quoted};
 use std::alloc::Global;
@@ -32,8 +36,8 @@ pub(crate) fn told(alloc: Global, fault: YamlFault) -> Result<String, CaseFault>
     }
 }
 
-/// The tree of a source that has one.
-fn tree_of(alloc: Global, source: &str) -> Result<Text, CaseFault> {
+/// What the tree of a source that has one is written as.
+fn rewritten(alloc: Global, source: &str) -> Result<Text, CaseFault> {
     if source.len() > TOO_LONG {
         return Err(CaseFault::NoCase);
     }
@@ -47,34 +51,61 @@ fn tree_of(alloc: Global, source: &str) -> Result<Text, CaseFault> {
 /// The layout of a source's tree, and whether the tree that is read from this layout has the same layout.
 pub(crate) fn round_trip(alloc: Global, items: &[Value]) -> Result<String, CaseFault> {
     let source = text_of(alloc, items)?;
-    let first = tree_of(alloc, source.as_str())?;
-    let second = tree_of(alloc, first.as_str())?;
-    let same = first.as_str() == second.as_str();
-    let shown = quoted(alloc, first.as_str())?;
-    Ok(format!(in alloc; "{shown} {same}")?)
+    let first = rewritten(alloc, source.as_str())?;
+    compared(alloc, first.as_str())
+}
+
+/// A layout, and whether the tree that is read from it has the same.
+fn compared(alloc: Global, first: &str) -> Result<String, CaseFault> {
+    let second = rewritten(alloc, first)?;
+    let same = first == second.as_str();
+    let mut shown = quoted(alloc, first)?;
+    write!(shown, " {same}")?;
+    Ok(shown)
 }
 
 /// A text as a tree, and as the key of one pair: what each of the two is written as.
 pub(crate) fn written_text(alloc: Global, text: &str) -> Result<String, CaseFault> {
-    let alone = write_yaml(alloc, &Tree::Text(Text::new(alloc, text)?))?;
-    let mut pairs = PairsSoFar::new(alloc)?;
-    pairs.insert(Text::new(alloc, text)?, Tree::Null)?;
-    let key = write_yaml(alloc, &Tree::Map(pairs.into_map()?))?;
-    let alone = quoted(alloc, alone.as_str())?;
-    let key = quoted(alloc, key.as_str())?;
+    let alone = written_alone(alloc, text)?;
+    let key = written_key(alloc, text)?;
     Ok(format!(in alloc; "{alone} {key}")?)
+}
+
+fn written_alone(alloc: Global, text: &str) -> Result<String, CaseFault> {
+    let tree = Tree::Text(Text::new(alloc, text)?);
+    let text = write_yaml(alloc, &tree)?;
+    quoted(alloc, text.as_str())
+}
+
+fn written_key(alloc: Global, text: &str) -> Result<String, CaseFault> {
+    let mut pairs = PairsSoFar::new(alloc)?;
+    put(alloc, &mut pairs, text, Tree::Null)?;
+    let text = write_yaml(alloc, &Tree::Map(pairs.into_map()?))?;
+    quoted(alloc, text.as_str())
+}
+
+/// Puts a tree at a key.
+fn put(alloc: Global, pairs: &mut PairsSoFar, key: &str, tree: Tree) -> Result<(), CaseFault>
+    ensures { OnOk result (pairs.new ≡ with_value key.now (plain_tree tree) pairs.old) }
+{
+    let key = Text::new(alloc, key)?;
+    match pairs.insert(key, tree) {
+        Ok(_) => Ok(()),
+        Err(_) => Err(CaseFault::OutOfMemory),
+    }
 }
 
 /// A backoff whose first delay and multiplier are decimals: what it is written as.
 pub(crate) fn written_delays(alloc: Global, case: &Case<'_>) -> Result<String, CaseFault> {
+    let (delay, most, factor) = (case.text(0)?, case.number(1)?, case.text(2)?);
+    let delay = Text::new(alloc, delay)?;
+    let factor = Text::new(alloc, factor)?;
     let mut backoff = PairsSoFar::new(alloc)?;
-    let delay = Tree::Decimal(Text::new(alloc, case.text(0)?)?);
-    backoff.insert(Text::new(alloc, "initial_delay")?, delay)?;
-    backoff.insert(Text::new(alloc, "max_delay")?, Tree::Int(case.number(1)?))?;
-    let factor = Tree::Decimal(Text::new(alloc, case.text(2)?)?);
-    backoff.insert(Text::new(alloc, "multiplier")?, factor)?;
+    put(alloc, &mut backoff, "initial_delay", Tree::Decimal(delay))?;
+    put(alloc, &mut backoff, "max_delay", Tree::Int(most))?;
+    put(alloc, &mut backoff, "multiplier", Tree::Decimal(factor))?;
     let mut retry = PairsSoFar::new(alloc)?;
-    retry.insert(Text::new(alloc, "backoff")?, Tree::Map(backoff.into_map()?))?;
+    put(alloc, &mut retry, "backoff", Tree::Map(backoff.into_map()?))?;
     let text = write_yaml(alloc, &Tree::Map(retry.into_map()?))?;
     quoted(alloc, text.as_str())
 }

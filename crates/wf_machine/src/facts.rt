@@ -9,12 +9,23 @@ use wf_host::Routes;
 use wf_value::{OutOfMemory, Pairs, Text};
 
 /// What no event of an execution changes. These programs can see none of it yet.
-#[derive(Drop)]
 pub(crate) struct Facts {
     id: Text,
     routes: Routes,
     env: Pairs,
     base: Text,
+}
+
+// Written, and not derived: it is one call wherever facts are let go.
+impl Drop for Facts {
+    fn drop(self) {
+        let Facts {
+            id: _,
+            routes: _,
+            env: _,
+            base: _,
+        } = self;
+    }
 }
 
 impl Facts {

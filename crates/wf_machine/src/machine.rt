@@ -42,11 +42,19 @@ pub enum Outcome<'a> {
 }
 
 /// How an execution has ended, with the value that it holds.
-#[derive(Drop)]
 pub(crate) enum Ending {
     Running,
     Returned(Value),
     Raised(Value),
+}
+
+// Written, and not derived: it is one call wherever an ending is let go.
+impl Drop for Ending {
+    fn drop(self) {
+        match self {
+            Ending::Running | Ending::Returned(_) | Ending::Raised(_) => {}
+        }
+    }
 }
 
 /// The reading of the clock that a move sees, and the last reading behind it, both in milliseconds since 1970. A move without a reading
@@ -71,7 +79,6 @@ fn main_steps(program: &Program) -> &[Step]
 ///
 /// It holds the program, what it was started with, where `main` is, its variables, the count of events, the last reading, and its outcome.
 /// It never counts more than 100,000 events, and its outcome nests at most 100 deep.
-#[derive(Drop)]
 pub struct Machine {
     alloc: Global,
     program: Program,
@@ -90,6 +97,25 @@ pub struct Machine {
     ghost running: { ending ≡ Running → (live ≡ true) × (step < length (main_steps_view program)) × (moves < 100000) },
     ghost shallow: { outcome_depth (outcome_by ending) ≤ 100 },
     ghost most: { moves ≤ 100000 },
+}
+
+// Written, and not derived: it is one call wherever a machine is let go.
+impl Drop for Machine {
+    fn drop(self) {
+        let Machine {
+            alloc: _,
+            program: _,
+            facts: _,
+            last: _,
+            step: _,
+            entry: _,
+            variables: _,
+            moves: _,
+            live: _,
+            ending: _,
+            broken: _,
+        } = self;
+    }
 }
 
 impl Machine {

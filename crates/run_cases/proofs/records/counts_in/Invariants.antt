@@ -1,4 +1,4 @@
-use Rattle.run_cases.proofs.records.Counts.of.Given as goal
+use Rattle.run_cases.proofs.records.counts_in.Given as goal
 use Rattle.std.proofs.Common.{◌≡◌, false}
 use Rattle.wf_host.specs.MemHost.{mem_world}
 use Rattle.wf_host.specs.World.{Told}

@@ -1,4 +1,4 @@
-use Rattle.machine_cases.proofs.engines.opened.Given as goal
+use Rattle.machine_cases.proofs.engines.make_session.Given as goal
 
 -- a ledger of its own
 abbrev pub ghosts-reopened : goal.ghosts-reopened
