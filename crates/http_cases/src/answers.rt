@@ -66,20 +66,20 @@ fn heard(alloc: Global, bytes: &[u8], close: Close) -> Result<String, CaseFault>
     Ok(format!(in alloc; "whole {} cut {}", whole.as_str(), cut.as_str())?)
 }
 
-/// A reading that heard the bytes cut after each byte, behind the first thousand after each
-/// thousand, and after each of the last hundred again.
+/// A reading that heard the bytes one by one; of many bytes all but the last came in long pieces.
 fn fed_in_pieces(alloc: Global, bytes: &[u8]) -> Result<Reading, CaseFault> {
     let mut reading = Reading::new(alloc)?;
     let mut rest = bytes;
     while !rest.is_empty() {
-        let heard = bytes.len() - rest.len();
-        let length = if heard >= 1000 && rest.len() > 200 {
-            (rest.len() - 100).min(1000)
+        let length = if rest.len() > 3000 { 2500 } else { 1 };
+        let length = if bytes.len() > 3000 && rest.len() > 40 && rest.len() <= 3000 {
+            rest.len() - 40
         } else {
-            1
+            length
         };
-        reading.feed(&rest[..length])?;
-        rest = &rest[length..];
+        let (piece, behind) = rest.split_at(length);
+        reading.feed(piece)?;
+        rest = behind;
     }
     Ok(reading)
 }
@@ -117,7 +117,7 @@ fn response(alloc: Global, head: &Head, body: &[u8]) -> Result<String, CaseFault
     Ok(text)
 }
 
-/// Bytes in hex; over 64 of them are told by their number and their SHA-256.
+/// Bytes in hex; over 64 of them are told by their number and their SHA-256 (FIPS 180-4).
 fn shown(alloc: Global, bytes: &[u8]) -> Result<String, CaseFault> {
     if bytes.len() <= 64 {
         return hex_of(alloc, bytes);
