@@ -1,5 +1,5 @@
 -- What the first bytes say of all of them.
-use Rattle.std.proofs.Common.{◌≡◌, ℕ, ◌+◌, ◌-◌, ◌<◌, ◌≤◌, List, false, [], ◌++◌, length, take, drop, sym, ap, ◌∙◌, subst, arith, inl, inr, ◌⊎◌, append-nil, length-append, take-append-drop, length-take}
+use Rattle.std.proofs.Common.{◌≡◌, ℕ, ◌-◌, ◌<◌, ◌≤◌, List, false, [], ◌++◌, length, take, drop, sym, ap, ◌∙◌, subst, arith, inl, inr, ◌⊎◌, append-nil, length-append, take-append-drop, length-take}
 use Rattle.std.proofs.lemmas.List.{drop-append-le}
 use Rattle.std.proofs.lemmas.Bool.{false≢true}
 use Rattle.httparse.specs.Grammar.{RequestHead, print_request, ReadsRequest, HasNoRequest, NeverHasRequest, MayBecomeRequest}
