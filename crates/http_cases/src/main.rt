@@ -2,6 +2,7 @@
 //! for it.
 #![tactic(auto)]
 
+mod answers;
 mod arguments;
 mod requests;
 mod urls;
@@ -14,6 +15,8 @@ use wf_cases::{CaseFault, case_of};
 fn answer(alloc: Global, line: &str) -> Result<String, CaseFault> {
     let case = case_of(alloc, line)?;
     match case.table {
+        "answers" => answers::answers(alloc, &case),
+        "answers_of_fronts" => answers::answers_of_fronts(alloc, &case),
         "urls" | "urls_at_edges" => urls::leads(alloc, &case),
         "requests" | "requests_at_edges" => requests::sends(alloc, &case),
         "refused_requests" => requests::refuses(alloc, &case),

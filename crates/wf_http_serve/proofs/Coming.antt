@@ -1,14 +1,14 @@
 -- From what was read to what is known of a visit.
-use Rattle.std.proofs.Common.{◌≡◌, ℕ, ◌+◌, ◌-◌, List, [], ◌∷◌, ◌++◌, length, take, drop, slice_range, Result, Ok, Err, if◌then◌else◌, Bool, true, false, refl, sym, ap, ◌∙◌, subst, arith, inl, append-nil, length-take}
+use Rattle.std.proofs.Common.{◌≡◌, ℕ, ◌+◌, List, [], ◌++◌, drop, Result, Ok, Err, if◌then◌else◌, Bool, true, false, refl, sym, ap, ◌∙◌, subst, arith, inl, append-nil}
 use Rattle.std.proofs.lemmas.Bool.{false≢true}
-use Rattle.std.proofs.lemmas.List.{drop-drop, take-append-le}
+use Rattle.std.proofs.lemmas.List.{drop-drop}
 use Rattle.std.proofs.lemmas.List.Elements.{All-nil}
 use Rattle.std.specs.Prelude.{IfOk, OnOk, is_ok}
 use Rattle.wf_shared.specs.HttpBody as plain
-use Rattle.wf_shared.specs.HttpBody.{Close, Open, Ended, Complete, Waiting, Malformed, Oversize, BodyState, Chunk, IsChunk, HasChunks, content_of, headers_of, IsWholeChunked}
-use Rattle.wf_http_serve.specs.declared.body.End.{End}
-use Rattle.wf_http_serve.specs.declared.body.End.TheVariants as end
-use Rattle.wf_http_serve.specs.declared.body.Read.{Read}
+use Rattle.wf_shared.specs.HttpBody.{Close, Complete, Malformed, Oversize, BodyState, IsChunk, headers_of}
+use Rattle.wf_http_body.specs.declared.body.End.{End}
+use Rattle.wf_http_body.specs.declared.body.End.TheVariants as end
+use Rattle.wf_http_body.specs.declared.body.Read.{Read}
 use Rattle.wf_http_serve.specs.declared.head.Heading.{Heading}
 use Rattle.wf_http_serve.specs.declared.head.Heading.TheVariants as heading
 use Rattle.wf_http_serve.specs.declared.visit.Visit.{Visit}
@@ -17,16 +17,14 @@ use Rattle.wf_http_serve.specs.declared.framing.Framing.TheVariants as framing
 use Rattle.wf_http_serve.specs.declared.request.Request.{Request}
 use Rattle.wf_http_serve.specs.declared.stage.Stage.{Stage}
 use Rattle.wf_http_serve.specs.declared.stage.Stage.TheVariants as stage
-use Rattle.wf_http_serve.specs.declared.chunk.Found.{Found}
-use Rattle.wf_http_serve.specs.declared.chunk.Found.TheVariants as at_rest
-use Rattle.wf_http_serve.specs.Chunks.{visit_limit}
-use Rattle.wf_http_serve.specs.Found.{IsFound, IsChunkAt, IsHeading}
 use Rattle.wf_http_serve.specs.Plain.{IsFramed, close_of}
 use Rattle.wf_http_serve.specs.Stages.{IsPartOf, IsOpenPart, IsRead, StaysBody, Stays, IsBehind, IsAt, IsStage, is_decided, settled, HasHeard}
 use Rattle.wf_http_serve.specs.Visits as visits
-use Rattle.wf_http_serve.specs.Visits.{VisitOf, HasBody, HasSomeBody, IsVisitBody, IsHeadless, HasHead}
-use Rattle.wf_http_serve.proofs.Chunking.{one_more, content_more}
-use Rattle.wf_http_serve.proofs.Lasting.{head_stays, chunks_stay, again, whole_chunked, over_chunked, bad_chunked, bad_heads}
+use Rattle.wf_http_serve.specs.Visits.{visit_limit, VisitOf, HasBody, IsVisitBody, HasHead}
+use Rattle.wf_http_serve.proofs.Lasting.{head_stays, again, bad_heads}
+use Rattle.wf_http_serve.specs.Found.{IsHeading}
+use Rattle.wf_http_body.specs.Parts as parts
+use Rattle.wf_http_body.proofs.Lasting.{chunks_stay}
 use Rattle.wf_http_serve.proofs.Sizes.{nothing_is_no_head}
 
 -- ## More is heard
@@ -42,7 +40,7 @@ part_grows : (f : Framing) (all unread content piece : List ℕ) → IsOpenPart 
 part_grows framing.Empty all unread content piece x = absurd x
 part_grows (framing.OfLength n) all unread content piece x = (ap (λ (s : List ℕ). s ++ piece) x.0, x.1)
 part_grows framing.TooLarge all unread content piece x = absurd x
-part_grows framing.InChunks all unread content piece (cs, has, is, rest) = (cs, chunks_stay all piece unread cs has, is)
+part_grows framing.InChunks all unread content piece (cs, has, is, rest) = (cs, chunks_stay visit_limit all piece unread cs has, is)
 part_grows framing.Bad all unread content piece x = absurd x
 
 behind_grows : (heard : List ℕ) (r : Request) (f : Framing) (all piece : List ℕ) → IsBehind heard r f all → IsBehind (heard ++ piece) r f (all ++ piece)
@@ -80,54 +78,6 @@ nothing_read framing.TooLarge all = (refl, refl)
 nothing_read framing.InChunks all = ([], record { chunks = All-nil IsChunk; bytes = refl; within = omega arith }, refl)
 nothing_read framing.Bad all = (refl, refl)
 
--- ## Chunks
--- one chunk more
-pub step : (all heard content : List ℕ) (used start size : ℕ) → IsPartOf framing.InChunks all (drop used heard) content
-    → ((cs : List Chunk) → length (content_of cs) + (262144 - length content) ≡ 262144 → IsChunkAt cs (drop used heard) start size)
-    → IsPartOf framing.InChunks all (drop (used + (start + size + 2)) heard) (content ++ slice_range (drop used heard) start (start + size))
-step all heard content used start size (cs, has, is) found =
-    let within = has.within in
-    let same = ap length is in
-    let at = found cs (omega arith) in
-    let more = one_more all (drop used heard) (drop (start + size + 2) (drop used heard)) cs at.chunk has at.is at.bytes at.within in (
-      cs ++ at.chunk ∷ [],
-      subst (λ (r : List ℕ). HasChunks visit_limit all (cs ++ at.chunk ∷ []) r) (drop-drop (start + size + 2) used heard) more,
-      ap (λ (s : List ℕ). s ++ slice_range (drop used heard) start (start + size)) is ∙ ap (λ (s : List ℕ). content_of cs ++ s) (sym at.content) ∙ sym (content_more cs at.chunk),
-    )
-
--- what stands behind the last whole chunk that was read
-abbrev pub FindsIn : List ℕ → List ℕ → Found → Type 0
-FindsIn rest content f = (cs : List Chunk) → length (content_of cs) + (262144 - length content) ≡ 262144 → IsFound cs rest f
-
--- by what the code says
-pub finds : (rest behind content : List ℕ) (room : ℕ) (f g : Found) → rest ≡ behind → f ≡ g → room ≡ 262144 - length content
-    → ((cs : List Chunk) → length (content_of cs) + room ≡ 262144 → IsFound cs rest f) → FindsIn behind content g
-finds rest behind content room f g same is left found cs sum =
-    subst (λ (h : Found). IsFound cs behind h) is (subst (λ (b : List ℕ). IsFound cs b f) same (found cs (omega arith)))
-
--- content grows at its end
-pub grown_more : (old content x new : List ℕ) → take (length old) content ≡ old → new ≡ content ++ x → take (length old) new ≡ old
-grown_more old content x new grown is =
-    let size = ap length grown in
-    let short = length-take (length old) content in
-    ap (take (length old)) is ∙ take-append-le (length old) content x (omega arith) ∙ grown
-
-found_in : (rest content all : List ℕ) (f : Found) (cs : List Chunk) → HasChunks visit_limit all cs rest → content ≡ content_of cs → FindsIn rest content f → IsFound cs rest f
-found_in rest content all f cs has is found = let within = has.within in let same = ap length is in found cs (omega arith)
-
-pub last_read : (all rest content : List ℕ) → IsPartOf framing.InChunks all rest content → FindsIn rest content at_rest.Last → StaysBody plain.InChunks all (Complete content)
-last_read all rest content (cs, has, is) found more close =
-    subst (IsWholeChunked visit_limit (all ++ more)) (sym is) (whole_chunked all rest more cs has (found_in rest content all at_rest.Last cs has is found))
-
-pub over_read : (all rest content : List ℕ) → IsPartOf framing.InChunks all rest content → FindsIn rest content at_rest.TooLarge → StaysBody plain.InChunks all Oversize
-over_read all rest content (cs, has, is) found more close = over_chunked all rest more cs has (found_in rest content all at_rest.TooLarge cs has is found)
-
-pub bad_read : (all rest content : List ℕ) → IsPartOf framing.InChunks all rest content → FindsIn rest content at_rest.Bad → StaysBody plain.InChunks all Malformed
-bad_read all rest content (cs, has, is) found more close = inl (bad_chunked all rest more cs has (found_in rest content all at_rest.Bad cs has is found))
-
-pub open_read : (all rest content : List ℕ) → IsPartOf framing.InChunks all rest content → FindsIn rest content at_rest.NotYet → IsOpenPart framing.InChunks all rest content
-open_read all rest content (cs, has, is) found = (cs, has, is, found_in rest content all at_rest.NotYet cs has is found)
-
 -- ## What is known
 -- now, and whatever comes
 known : (heard : List ℕ) (close : Close) (s : visits.VisitState) → Stays heard s → VisitOf heard close s
@@ -147,13 +97,19 @@ pub fresh : (unread content : List ℕ) → unread ≡ [] → content ≡ [] →
 fresh unread content none empty = (none, empty, record { none = nothing_is_no_head; possible = λ line. absurd (false≢true line); short = omega arith })
 
 -- ## One feed
+-- a body in chunks
+in_chunks : (f : plain.Framing) (all unread content : List ℕ) (e : End) → f ≡ plain.InChunks → parts.IsRead visit_limit all unread content e → IsRead framing.InChunks f all unread content e
+in_chunks f all unread content end.More is read = read
+in_chunks f all unread content end.Whole is read = λ more close. subst (λ (g : plain.Framing). IsVisitBody g close (all ++ more) (Complete content)) (sym is) (read more close)
+in_chunks f all unread content end.Bad is read = λ more close. subst (λ (g : plain.Framing). IsVisitBody g close (all ++ more) Malformed) (sym is) (read more close)
+in_chunks f all unread content end.TooLarge is read = λ more close. subst (λ (g : plain.Framing). IsVisitBody g close (all ++ more) Oversize) (sym is) (read more close)
+
 pub chunked : {E : Type 0} (code : Framing) (heard old new : List ℕ) (result : Result Read E) → code ≡ framing.InChunks
-    → IfOk result (λ r. (all : List ℕ) → IsPartOf framing.InChunks all heard old → IsRead framing.InChunks plain.InChunks all (drop r.used heard) new r.end)
+    → IfOk result (λ r. (all : List ℕ) → parts.IsPart visit_limit all heard old → parts.IsRead visit_limit all (drop r.used heard) new r.end)
     → IfOk result (λ r. (f : plain.Framing) (all : List ℕ) → IsFramed code f → IsPartOf code all heard old → IsRead code f all (drop r.used heard) new r.end)
 chunked code heard old new (Ok r) is read = λ f all framed part.
     subst (λ (g : Framing). IsRead g f all (drop r.used heard) new r.end) (sym is)
-    (subst (λ (g : plain.Framing). IsRead framing.InChunks g all (drop r.used heard) new r.end) (sym (subst (λ (g : Framing). IsFramed g f) is framed))
-    (read all (subst (λ (g : Framing). IsPartOf g all heard old) is part)))
+    (in_chunks f all (drop r.used heard) new r.end (subst (λ (g : Framing). IsFramed g f) is framed) (read all (subst (λ (g : Framing). IsPartOf g all heard old) is part)))
 chunked code heard old new (Err e) is read = tt
 
 -- what `read_body` says

@@ -1,4 +1,3 @@
-pub mod Chunks
 pub mod Found
 pub mod Plain
 pub mod Stages

@@ -1,8 +1,6 @@
 -- What this crate's types are, as plain data.
-use Rattle.std.specs.Prelude.{◌≡◌, ◌<◌, ◌≤◌, ℕ, Bool, true, false, Option, Some, None, []}
+use Rattle.std.specs.Prelude.{◌≡◌, ◌<◌, ◌≤◌, ℕ, Bool, true, false}
 use Rattle.httparse.specs.Grammar.{RequestHead}
-use Rattle.std.specs.Prelude.{codes}
-use Rattle.wf_shared.specs.Events.{Headers}
 use Rattle.wf_shared.specs.HttpBody as plain
 use Rattle.wf_shared.specs.HttpText as text
 use Rattle.wf_http_serve.specs.declared.asker.VisitState.{VisitState}
@@ -12,8 +10,8 @@ use Rattle.wf_http_serve.specs.declared.framing.Framing.TheVariants as framing
 use Rattle.wf_http_serve.specs.declared.reply.ReplyCode.{ReplyCode}
 use Rattle.wf_http_serve.specs.declared.reply.ReplyCode.TheVariants as code
 use Rattle.wf_http_serve.specs.declared.request.Request.{Request}
-use Rattle.wf_http_serve.specs.Chunks.{visit_limit}
 use Rattle.wf_http_serve.specs.Visits as visits
+use Rattle.wf_http_serve.specs.Visits.{visit_limit}
 
 abbrev pub plain_code : ReplyCode → text.ReplyCode
 plain_code code.Accepted = text.Accepted
@@ -41,11 +39,6 @@ IsFramed (framing.OfLength n) f = (f ≡ plain.OfLength n) × (n ≤ visit_limit
 IsFramed framing.TooLarge f = (n : ℕ) × (f ≡ plain.OfLength n) × (visit_limit < n)
 IsFramed framing.InChunks f = f ≡ plain.InChunks
 IsFramed framing.Bad f = f ≡ plain.BadFraming
-
--- the same of a Transfer-Encoding, where there is one
-abbrev pub IsCoded : Option Framing → Headers → Type 0
-IsCoded None fs = text.values_of (codes "transfer-encoding") fs ≡ []
-IsCoded (Some f) fs = (absent : plain.Framing) → IsFramed f (plain.by_fields absent fs)
 
 -- what a head asks
 pub record IsAskedBy (h : RequestHead) (r : Request) : Type 0 where

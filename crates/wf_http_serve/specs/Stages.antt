@@ -3,30 +3,30 @@
 use Rattle.std.specs.Prelude.{◌≡◌, ℕ, ◌<◌, Bool, true, false, List, [], ◌++◌, length}
 use Rattle.httparse.specs.Grammar.{RequestHead}
 use Rattle.wf_shared.specs.HttpBody as plain
-use Rattle.wf_shared.specs.HttpBody.{Close, BodyState, Complete, Malformed, Oversize, Chunk, HasChunks, content_of}
-use Rattle.wf_http_serve.specs.declared.body.End.{End}
-use Rattle.wf_http_serve.specs.declared.body.End.TheVariants as end
+use Rattle.wf_shared.specs.HttpBody.{Close, BodyState, Complete, Malformed, Oversize}
+use Rattle.wf_http_body.specs.declared.body.End.{End}
+use Rattle.wf_http_body.specs.declared.body.End.TheVariants as end
+use Rattle.wf_http_body.specs.Parts.{IsPart, IsOpenPart as IsOpenInChunks}
 use Rattle.wf_http_serve.specs.declared.framing.Framing.{Framing}
 use Rattle.wf_http_serve.specs.declared.framing.Framing.TheVariants as framing
 use Rattle.wf_http_serve.specs.declared.request.Request.{Request}
 use Rattle.wf_http_serve.specs.declared.stage.Stage.{Stage}
 use Rattle.wf_http_serve.specs.declared.stage.Stage.TheVariants as stage
 use Rattle.wf_http_serve.specs.declared.visit.Visit.{Visit}
-use Rattle.wf_http_serve.specs.Chunks.{visit_limit, IsOpenRest}
 use Rattle.wf_http_serve.specs.Found.{IsTaken}
 use Rattle.wf_http_serve.specs.Plain.{close_of}
-use Rattle.wf_http_serve.specs.Visits.{VisitState, Asks, Bad, TooLarge, VisitOf, HasHead, IsHeadless, IsVisitBody}
+use Rattle.wf_http_serve.specs.Visits.{visit_limit, VisitState, Asks, Bad, TooLarge, VisitOf, HasHead, IsHeadless, IsVisitBody}
 
 -- ## Bodies
 -- content that was read of a body, where these bytes are still to be read
 abbrev pub IsPartOf : Framing → (all unread content : List ℕ) → Type 0
-IsPartOf framing.InChunks all unread content = (cs : List Chunk) × HasChunks visit_limit all cs unread × (content ≡ content_of cs)
+IsPartOf framing.InChunks all unread content = IsPart visit_limit all unread content
 IsPartOf f all unread content = (all ≡ unread) × (content ≡ [])
 
 -- the same, and what is to be read isn't whole
 abbrev pub IsOpenPart : Framing → (all unread content : List ℕ) → Type 0
 IsOpenPart (framing.OfLength n) all unread content = (all ≡ unread) × (content ≡ []) × (length unread < n)
-IsOpenPart framing.InChunks all unread content = (cs : List Chunk) × HasChunks visit_limit all cs unread × (content ≡ content_of cs) × IsOpenRest cs unread
+IsOpenPart framing.InChunks all unread content = IsOpenInChunks visit_limit all unread content
 IsOpenPart f all unread content = ⊥
 
 -- whatever is heard behind these bytes

@@ -7,7 +7,7 @@ use Rattle.httparse.specs.Pieces.{is_newline}
 use Rattle.wf_shared.specs.Events.{Headers}
 use Rattle.wf_shared.specs.HttpBody.{Close, Open, BodyState, Complete, Waiting, Malformed, Oversize, Framing, NoBody, OfLength, InChunks, ToTheEnd, BadFraming, headers_of, by_length, lengths_in, by_fields, length_state, end_state, head_limit, field_limit, IsSmallHead}
 use Rattle.wf_value.specs.Pairs.{Text}
-use Rattle.wf_http_serve.specs.Chunks.{visit_limit, IsChunkedBody}
+use Rattle.wf_http_body.specs.Chunks.{IsChunkedBody}
 
 pub data VisitState : Type 0 where
   NotYet : VisitState
@@ -45,6 +45,10 @@ pub record IsHeadless (heard : List ℕ) : Type 0 where
   pub short : length heard ≤ head_limit
 
 -- ## Bodies
+-- the bytes of a body, at most
+abbrev pub visit_limit : ℕ
+visit_limit = 262144
+
 abbrev pub is_bad_framing : Framing → Bool
 is_bad_framing BadFraming = true
 is_bad_framing f = false
@@ -56,7 +60,7 @@ framing fs = if is_bad_framing (by_length NoBody (lengths_in fs)) then BadFramin
 abbrev pub IsVisitBody : Framing → Close → List ℕ → BodyState → Type 0
 IsVisitBody NoBody close b s = s ≡ Complete []
 IsVisitBody (OfLength n) close b s = s ≡ length_state visit_limit close b n
-IsVisitBody InChunks close b s = IsChunkedBody close b s
+IsVisitBody InChunks close b s = IsChunkedBody visit_limit close b s
 IsVisitBody ToTheEnd close b s = s ≡ end_state visit_limit close b
 IsVisitBody BadFraming close b s = s ≡ Malformed
 

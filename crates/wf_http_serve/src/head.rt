@@ -9,13 +9,8 @@ use crate::request::Request;
 use httparse::spans::{EMPTY_HEADER_SPAN, HeaderSpan, parse_request};
 use httparse::{Error, Status};
 use std::alloc::Global;
+use wf_http_body::{FIELD_LIMIT, LARGE_ROOM};
 use wf_value::OutOfMemory;
-
-// How many fields a head may have.
-const FIELD_LIMIT: usize = 100;
-
-// Room for all fields of 65,536 bytes: a field has three bytes at least.
-pub(crate) const LARGE_ROOM: usize = 21_846;
 
 // What the bytes heard are.
 #[derive(Drop)]

@@ -3,16 +3,12 @@
 
 mod asker;
 mod body;
-mod chunk;
-mod fields;
 mod first_line;
 mod framing;
 mod head;
-mod number;
 mod reply;
 mod request;
 mod stage;
-mod trailer;
 mod visit;
 
 pub use asker::{Asker, VisitState};

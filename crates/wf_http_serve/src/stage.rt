@@ -1,6 +1,6 @@
 // How far a visit has come.
 ghost use Rattle.std.specs.Prelude.{◌≡◌};
-ghost use Rattle.wf_http_serve.specs.declared.body.End.TheVariants.{Whole};
+ghost use Rattle.wf_http_body.specs.declared.body.End.TheVariants.{Whole};
 ghost use Rattle.wf_http_serve.specs.Stages.{settled};
 
 use crate::framing::Framing;

@@ -1,19 +1,20 @@
 // A request that comes in pieces.
 ghost use Rattle.std.specs.Prelude.{◌≡◌, ◌≤◌, [], ◌++◌, IfOk, List, ℕ, OnErr, OnOk, drop, if◌then◌else◌, is_ok, length};
 ghost use Rattle.wf_shared.specs.HttpBody.{Close, Ended, Open};
-ghost use Rattle.wf_http_serve.specs.declared.body.End.TheVariants.{More};
+ghost use Rattle.wf_http_body.specs.declared.body.End.TheVariants.{More};
 ghost use Rattle.wf_http_serve.specs.Plain.{plain_state};
 ghost use Rattle.wf_http_serve.specs.declared.stage.Stage.TheVariants.{Head};
 ghost use Rattle.wf_http_serve.specs.Stages.{GoesOn, HasHeard, IsBodyBy, IsSame, is_decided, settled};
 ghost use Rattle.wf_http_serve.specs.Visits.{VisitOf};
 
 use crate::asker::{Asker, VisitState};
-use crate::body::{End, Read, read_body};
+use crate::body::read_body;
 use crate::framing::Framing;
 use crate::head::{Heading, read_head};
 use crate::stage::Stage;
 use std::alloc::Global;
 use std::mem;
+use wf_http_body::End;
 use wf_value::OutOfMemory;
 
 // The greatest length of a head.

@@ -1,0 +1,7 @@
+pub mod Chunking
+pub mod Digits
+pub mod Fronts
+pub mod Lasting
+pub mod Naming
+pub mod Reading
+pub mod Sizes

@@ -1,0 +1,4 @@
+pub mod Chunks
+pub mod Found
+pub mod Framed
+pub mod Parts

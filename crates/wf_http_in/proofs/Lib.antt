@@ -1,0 +1,6 @@
+pub mod BodyStates
+pub mod Coming
+pub mod Fronts
+pub mod Lasting
+pub mod Names
+pub mod Sizes

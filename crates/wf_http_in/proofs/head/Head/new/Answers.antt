@@ -1,0 +1,8 @@
+use Rattle.std.proofs.Common.{◌∙◌}
+use Rattle.wf_http_in.proofs.Names.{are_texts}
+use Rattle.wf_http_in.proofs.head.Head.new.Goals as goal
+
+pub invariant_of-result : goal.invariant_of-result
+invariant_of-result c =
+    let head = c.requires.head in
+    are_texts head.0.fields _ head.1.reads.0.fields (c.in_ok-fields.ensures ∙ head.1.fields)

@@ -1,0 +1,6 @@
+use Rattle.std.proofs.Common.{refl, rules}
+use Rattle.wf_http_in.proofs.Coming.{fresh}
+use Rattle.wf_http_in.proofs.reading.Reading.new.Goals as goal
+
+pub returns : goal.returns
+returns c = record { stage = fresh _ _ (search rules) (search rules); close_is = refl }

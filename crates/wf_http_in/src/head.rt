@@ -1,0 +1,99 @@
+// The head of an answer.
+ghost use Rattle.std.specs.Prelude.{◌≡◌, ◌≤◌, All, IfOk, IsUtf8, length, map, option_map, slice_get};
+ghost use Rattle.httparse.specs.Grammar.{ResponseHead};
+ghost use Rattle.httparse.specs.Spans.{IsHeaderWithin, IsResponseAt, IsResponseOf, IsResponseWithin, header_bytes};
+ghost use Rattle.wf_http_in.specs.Found.{IsHeadOf};
+
+use httparse::spans::{HeaderSpan, ResponseSpans};
+use std::alloc::Global;
+use std::marker::Model;
+use wf_value::{Bytes, OutOfMemory};
+
+/// The head of an answer: its code and its fields. Contracts see it as plain data, the names and
+/// values in their order.
+#[derive(Drop)]
+pub struct Head {
+    code: u16,
+    fields: Vec<(Bytes, Bytes)>,
+}
+
+impl Model for Head {
+    ghost use Rattle.wf_http_in.specs.HeadData.{HeadData};
+
+    ghost Value = { HeadData };
+
+    ghost use Rattle.std.specs.Prelude.{All, IsUtf8};
+
+    ghost view = { λ a. record { code = a.code; fields = a.fields.items } };
+
+    ghost invariant = { λ a. All (λ f. IsUtf8 f.0) a.fields.items };
+}
+
+impl Head {
+    // The parts of a head that stands at the front of these bytes.
+    pub(crate) fn new(
+        alloc: Global,
+        front: &[u8],
+        spans: &ResponseSpans,
+        room: &[HeaderSpan],
+    ) -> Result<Head, OutOfMemory>
+        requires within { IsResponseWithin front.now room.now spans.now }
+        requires head { IsResponseOf front.now room.now spans.now }
+        ensures { IfOk result (λ r. (h : ResponseHead)
+            → IsResponseAt front.now room.now spans.now h → IsHeadOf h r) }
+    {
+        let fields = fields_of(alloc, front, &room[..spans.headers])?;
+        Ok(Head {
+            code: spans.code,
+            fields,
+        })
+    }
+
+    /// The status code, from 0 to 999 (RFC 9110, section 15).
+    pub fn code(&self) -> u16
+        ensures { result ≡ self.now.code }
+    {
+        self.code
+    }
+
+    /// The name and the value of field `i`, from 0 on, the value without the blanks around it.
+    /// There is none where there are no more than `i` fields.
+    pub fn field(&self, i: usize) -> Option<(&str, &[u8])>
+        ensures { option_map (λ f. (f.0.now, f.1.now)) result ≡ slice_get self.now.fields i }
+    {
+        if i >= self.fields.len() {
+            return None;
+        }
+        let field = &self.fields[i];
+        match str::from_utf8(field.0.as_slice()) {
+            Ok(name) => Some((name, field.1.as_slice())),
+            Err(_) => unreachable!(),
+        }
+    }
+
+    // All fields.
+    pub(crate) fn fields(&self) -> &[(Bytes, Bytes)]
+        ensures { result.now ≡ self.now.fields }
+    {
+        self.fields.as_slice()
+    }
+}
+
+fn fields_of(
+    alloc: Global,
+    front: &[u8],
+    spans: &[HeaderSpan],
+) -> Result<Vec<(Bytes, Bytes)>, OutOfMemory>
+    requires { All (IsHeaderWithin (length front.now)) spans.now }
+    ensures { IfOk result (λ f. f.items ≡ map (header_bytes front.now) spans.now) }
+{
+    let mut fields = Vec::new(alloc);
+    for span in spans {
+        let name = Bytes::new(alloc, span.name.of(front))?;
+        let value = Bytes::new(alloc, span.value.of(front))?;
+        let Ok(()) = fields.push((name, value)) else {
+            return Err(OutOfMemory);
+        };
+    }
+    Ok(fields)
+}

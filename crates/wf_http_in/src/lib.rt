@@ -1,0 +1,15 @@
+//! What an answer is: the bytes heard of a call, in any pieces, read as an HTTP response (RFC
+//! 9112).
+#![tactic(auto)]
+
+mod answer;
+mod body;
+mod framing;
+mod head;
+mod heads;
+mod reading;
+mod stage;
+
+pub use answer::Answer;
+pub use head::Head;
+pub use reading::Reading;
