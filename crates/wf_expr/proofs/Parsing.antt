@@ -31,7 +31,7 @@ stuck_at [] f h = ap (λ o. go_on o [] (λ _. stuck [])) h
 stuck_at (t ∷ ts) f h = ap (λ o. go_on o (t ∷ ts) (run ts)) h
 
 -- a part that comes to another one fails with it
-pub fails_within : {C K : Type 0} → (want : C → State) (outer : K → State) (inner : K → C) (ts us : List Sym) (f : Stop) → ((c : K) → run ts (outer c) ≡ run us (want (inner c))) → Fails want us f → Fails outer ts f
+fails_within : {C K : Type 0} → (want : C → State) (outer : K → State) (inner : K → C) (ts us : List Sym) (f : Stop) → ((c : K) → run ts (outer c) ≡ run us (want (inner c))) → Fails want us f → Fails outer ts f
 fails_within {C} {K} want outer inner ts us (stop.Syntax n) e h = (h.0, h.1, λ c. e c ∙ h.2 (inner c))
 fails_within {C} {K} want outer inner ts us stop.OutOfMemory e h = tt
 

@@ -1,17 +1,17 @@
 -- What the functions answer that read a target, put together.
-use Rattle.std.proofs.Common.{◌≡◌, ◌==◌, true, false, List, [], ◌∷◌, ◌++◌, length, drop, Option, Some, None, refl, sym, ap, ◌∙◌, arith}
+use Rattle.std.proofs.Common.{◌≡◌, ◌==◌, true, false, List, [], ◌∷◌, ◌++◌, length, drop, Some, None, refl, sym, ap, ◌∙◌, arith}
 use Rattle.wf_ast.specs.Tree.{Expr, exprs, Target}
 use Rattle.wf_expr.proofs.Judged.{is_fault, length_syms}
-use Rattle.wf_expr.proofs.Kept.{point_is, left_bracket_is, right_bracket_is, name_is}
-use Rattle.wf_expr.proofs.Parsing.{fails_within, one_less, taken, stuck_at}
-use Rattle.wf_expr.proofs.Reading.{if_false, run-resume}
+use Rattle.wf_expr.proofs.Kept.{point_is, left_bracket_is, name_is}
+use Rattle.wf_expr.proofs.Parsing.{one_less, taken, stuck_at}
+use Rattle.wf_expr.proofs.Reading.{run-resume}
 use Rattle.wf_expr.proofs.Stops.{target_place, target_text}
 use Rattle.wf_expr.specs.Calls.{faults_in}
-use Rattle.wf_expr.specs.Grammar.{Ors, Access, first, at_name, at_index, name}
+use Rattle.wf_expr.specs.Grammar.{Access, first, at_name, at_index, name}
 use Rattle.wf_expr.specs.Judging.{StopsWith, SymbolsRefused}
 use Rattle.wf_expr.specs.Kinds.{syms_of}
-use Rattle.wf_expr.specs.Machine.{in_place, have_target, want_target, want_target_name, want_or, nowhere, head, is_or, is_point, is_left_bracket, is_right_bracket, name_of, begin_target, after_or, after_target, step, run, resume}
-use Rattle.wf_expr.specs.Parts.{Fails, OrRead}
+use Rattle.wf_expr.specs.Machine.{have_target, want_target, want_target_name, head, is_point, is_left_bracket, name_of, begin_target, after_target, step, run, resume}
+use Rattle.wf_expr.specs.Parts.{Fails}
 use Rattle.wf_expr.specs.Places.{want_place, IndexRead, PlaceRead, PlaceFails, TargetSoFar, SpellsTarget}
 use Rattle.wf_expr.specs.Scanning.{first_of}
 use Rattle.wf_expr.specs.Symbols.{Sym, Placed, syms}
@@ -48,25 +48,6 @@ place_index ts rest e h w =
 pub place_index_fails : (ts : List Sym) (f : Stop) → is_left_bracket (head ts) ≡ true → Fails want_place (drop 1 ts) f → PlaceFails ts f
 place_index_fails ts (stop.Syntax n) h w = (w.0, w.1, λ a. bracket_taken a ts h ∙ w.2 a)
 place_index_fails ts stop.OutOfMemory h w = tt
-
--- ## An index behind a `[`
-index_closed : (a : Access) (d : Ors) (ts : List Sym) → is_right_bracket (head ts) ≡ true → resume ts (after_or (in_place a) d) ≡ run (drop 1 ts) (have_target (at_index a d))
-index_closed a d ts h = taken ts s.right_bracket (after_or (in_place a) d) (have_target (at_index a d)) (right_bracket_is (head ts) h) refl
-
-pub index_read : (ts mid : List Sym) (e : Expr) → OrRead ts e mid → is_right_bracket (head mid) ≡ true → IndexRead ts e (drop 1 mid)
-index_read ts mid e w h =
-    let n = one_less mid s.right_bracket (right_bracket_is (head mid) h) in
-    (w.0.0, w.0.1, omega (arith, w.0.2, n), λ a. w.0.3 (in_place a) ∙ index_closed a w.0.0 mid h)
-
-pub index_fails : (ts : List Sym) (f : Stop) → Fails want_or ts f → Fails want_place ts f
-index_fails ts f w = fails_within want_or want_place in_place ts ts f (λ a. refl) w
-
-index_open : (a : Access) (d : Ors) (t : Option Sym) → is_or t ≡ false → is_right_bracket t ≡ false → after_or (in_place a) d t ≡ nowhere
-index_open a d t h k = if_false (is_or t) _ _ h ∙ if_false (is_right_bracket t) _ _ k
-
-pub index_open_fails : (ts : List Sym) (rest : List Symbol) (e : Expr) → OrRead ts e (syms_of rest) → is_right_bracket (head (syms_of rest)) ≡ false → Fails want_place ts (stop.Syntax (length rest))
-index_open_fails ts rest e w h =
-    (syms_of rest, length_syms rest, λ a. w.0.3 (in_place a) ∙ stuck_at (syms_of rest) (after_or (in_place a) w.0.0) (index_open a w.0.0 (head (syms_of rest)) w.1 h))
 
 -- ## A target
 pub target_first : (ts : List Sym) (x : Text) → name_of (head ts) ≡ Some x → TargetSoFar ts x [] (drop 1 ts)

@@ -1,15 +1,17 @@
 // The parts of an expression that hold no others, and what they are kept in.
-ghost use Rattle.std.specs.Prelude.{◌≡◌, ◌∷◌, ◌++◌, [], MatchResult, option_map};
+ghost use Rattle.std.specs.Prelude.{◌≡◌, ◌∷◌, ◌++◌, [], Some, MatchResult, IfOk, string_bytes, option_map, codes};
 ghost use Rattle.wf_ast.specs.Func.{func_named};
 ghost use Rattle.wf_ast.specs.View.{expr_view, exprs_view};
 ghost use Rattle.wf_expr.specs.Grammar.{atom_expr, call_of};
 ghost use Rattle.wf_expr.specs.Kinds.{syms_of};
-ghost use Rattle.wf_expr.specs.Machine.{head, atom_of};
+ghost use Rattle.wf_expr.specs.Machine.{head, atom_of, name_of};
+ghost use Rattle.wf_expr.specs.Parts.{longer_by};
 ghost use Rattle.wf_expr.specs.declared.stop.Stop.TheVariants as stop;
 
 use crate::functions::function;
 use crate::kind::{Kind, Symbol};
 use crate::stop::Stop;
+use crate::symbol::name;
 use std::alloc::Global;
 use wf_ast::{Expr, Exprs};
 use wf_value::{Text, Value};
@@ -93,6 +95,36 @@ pub(crate) fn written(alloc: Global, text: &str) -> Result<Text, Stop>
         Ok(copy) => Ok(copy),
         Err(_) => Err(Stop::OutOfMemory),
     }
+}
+
+// The name that the symbols begin with.
+pub(crate) fn first_name(alloc: Global, symbols: &[Symbol]) -> Result<Option<String>, Stop>
+    ensures { MatchResult result
+        (λ x. option_map string_bytes x ≡ name_of (head (syms_of symbols.now)))
+        (λ f. f ≡ stop.OutOfMemory) }
+{
+    match name(symbols) {
+        None => Ok(None),
+        Some(text) => match String::from_str(alloc, text.as_str()) {
+            Ok(copy) => Ok(Some(copy)),
+            Err(_) => Err(Stop::OutOfMemory),
+        },
+    }
+}
+
+// The name with one more behind a point, if there is a name.
+pub(crate) fn longer(chain: Option<String>, key: &Text) -> Result<Option<String>, Stop>
+    ensures { MatchResult result
+        (λ x. option_map string_bytes x ≡ longer_by (option_map string_bytes chain) key.now)
+        (λ f. f ≡ stop.OutOfMemory) }
+{
+    let Some(mut name) = chain else {
+        return Ok(None);
+    };
+    if name.push_str(".").is_err() || name.push_str(key.as_str()).is_err() {
+        return Err(Stop::OutOfMemory);
+    }
+    Ok(Some(name))
 }
 
 pub(crate) fn no_args(alloc: Global) -> Result<Exprs, Stop>

@@ -2,14 +2,12 @@
 #![tactic(auto)]
 
 mod callee;
-mod chain;
 mod fault;
 mod functions;
 mod kind;
 mod laws;
 mod leaves;
 mod lexed;
-mod nodes;
 mod parser;
 mod role;
 mod said;

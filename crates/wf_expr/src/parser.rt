@@ -6,10 +6,8 @@ ghost use Rattle.wf_expr.specs.Kinds.{syms_of};
 ghost use Rattle.wf_expr.specs.Machine.{head, is_minus, atom_of, want_or, want_and, want_not, want_sum, want_term, want_unary};
 ghost use Rattle.wf_expr.specs.Parts.{Fails, OrRead, AndRead, NotRead, want_cmp, CmpRead, SumRead, TermRead, UnaryRead, AccessRead, AtomRead, want_group, GroupRead, want_index, IndexRead, want_key, KeyRead, want_call, ArgsRead};
 
-use crate::chain::Chain;
 use crate::kind::Symbol;
-use crate::leaves::{add, boxed, call, leaf, no_args};
-use crate::nodes::{binary, conjunction, disjunction, indexed, keyed};
+use crate::leaves::{add, boxed, call, copied, first_name, leaf, longer, no_args};
 use crate::stop::Stop;
 use crate::symbol::{
     begins_and, begins_comma, begins_left_bracket, begins_left_paren, begins_minus, begins_not,
@@ -32,7 +30,7 @@ pub(crate) fn parse_or<'a>(
     let (mut left, mut rest) = parse_and(alloc, symbols)?;
     'more: while begins_or(rest) {
         let (right, after) = parse_and(alloc, tail(rest))?;
-        left = disjunction(alloc, left, right)?;
+        left = Expr::Or(boxed(alloc, left)?, boxed(alloc, right)?);
         rest = after;
     }
     Ok((left, rest))
@@ -47,7 +45,7 @@ fn parse_and<'a>(alloc: Global, symbols: &'a [Symbol]) -> Result<(Expr, &'a [Sym
     let (mut left, mut rest) = parse_not(alloc, symbols)?;
     'more: while begins_and(rest) {
         let (right, after) = parse_not(alloc, tail(rest))?;
-        left = conjunction(alloc, left, right)?;
+        left = Expr::And(boxed(alloc, left)?, boxed(alloc, right)?);
         rest = after;
     }
     Ok((left, rest))
@@ -76,7 +74,10 @@ fn parse_cmp<'a>(alloc: Global, symbols: &'a [Symbol]) -> Result<(Expr, &'a [Sym
     match relation(rest) {
         Some(op) => {
             let (right, after) = parse_sum(alloc, tail(rest))?;
-            Ok((binary(alloc, op, left, right)?, after))
+            Ok((
+                Expr::Bin(op, boxed(alloc, left)?, boxed(alloc, right)?),
+                after,
+            ))
         }
         None => Ok((left, rest)),
     }
@@ -91,7 +92,7 @@ fn parse_sum<'a>(alloc: Global, symbols: &'a [Symbol]) -> Result<(Expr, &'a [Sym
     let (mut left, mut rest) = parse_term(alloc, symbols)?;
     'more: while let Some(op) = sign(rest) {
         let (right, after) = parse_term(alloc, tail(rest))?;
-        left = binary(alloc, op, left, right)?;
+        left = Expr::Bin(op, boxed(alloc, left)?, boxed(alloc, right)?);
         rest = after;
     }
     Ok((left, rest))
@@ -106,7 +107,7 @@ fn parse_term<'a>(alloc: Global, symbols: &'a [Symbol]) -> Result<(Expr, &'a [Sy
     let (mut left, mut rest) = parse_unary(alloc, symbols)?;
     'more: while let Some(op) = product(rest) {
         let (right, after) = parse_unary(alloc, tail(rest))?;
-        left = binary(alloc, op, left, right)?;
+        left = Expr::Bin(op, boxed(alloc, left)?, boxed(alloc, right)?);
         rest = after;
     }
     Ok((left, rest))
@@ -133,25 +134,25 @@ fn parse_access<'a>(alloc: Global, symbols: &'a [Symbol]) -> Result<(Expr, &'a [
         (λ stop. Fails want_unary (syms_of symbols.now) stop) }
 {
     let (mut base, mut rest) = parse_atom(alloc, symbols)?;
-    let mut chain = Chain::first(alloc, symbols)?;
+    let mut chain = first_name(alloc, symbols)?;
     'more: loop {
         if begins_point(rest) {
             let (key, after) = parse_key(tail(rest))?;
-            chain.lengthen(key)?;
-            base = keyed(alloc, base, key)?;
+            chain = longer(chain, key)?;
+            base = Expr::Key(boxed(alloc, base)?, copied(key)?);
             rest = after;
         } else if begins_left_bracket(rest) {
             let (index, after) = parse_index(alloc, tail(rest))?;
-            base = indexed(alloc, base, index)?;
-            chain = Chain { name: None };
+            chain = None;
+            base = Expr::Index(boxed(alloc, base)?, boxed(alloc, index)?);
             rest = after;
         } else if begins_left_paren(rest) {
-            let Some(name) = chain.name() else {
+            let Some(name) = chain else {
                 return Ok((base, rest));
             };
             let (args, after) = parse_args(alloc, tail(rest))?;
-            base = call(name, args);
-            chain = Chain { name: None };
+            chain = None;
+            base = call(&name, args);
             rest = after;
         } else {
             return Ok((base, rest));

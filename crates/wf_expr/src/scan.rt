@@ -9,7 +9,7 @@ use crate::fault::ExprFault;
 use crate::functions::function;
 use crate::kind::{Kind, Symbol};
 use crate::role::Role;
-use crate::symbol::{begins_left_paren, begins_point, begins_right_paren, name, tail};
+use crate::symbol::{begins_left_paren, begins_point, begins_right_paren, tail};
 use std::alloc::Global;
 use wf_value::{OutOfMemory, Text};
 
@@ -105,10 +105,19 @@ fn name_fault(
 fn key(symbols: &[Symbol]) -> Option<&Text>
     ensures { option_map (λ x. x.now) result ≡ key_behind (syms_of symbols.now) }
 {
-    if begins_point(symbols) {
-        name(tail(symbols))
-    } else {
-        None
+    match symbols {
+        [
+            Symbol {
+                kind: Kind::Point,
+                ..
+            },
+            Symbol {
+                kind: Kind::Name(name),
+                ..
+            },
+            ..
+        ] => Some(name),
+        _ => None,
     }
 }
 

@@ -66,7 +66,7 @@ abbrev pub decreases-parse_term-more : goal.decreases-parse_term-more
 decreases-parse_term-more l = length (syms_of l.rest)
 
 abbrev pub invariant-parse_access-more : goal.invariant-parse_access-more
-invariant-parse_access-more l = AccessSoFar (syms_of l.symbols) (expr_view l.base) (option_map string_bytes l.chain.name) (syms_of l.rest)
+invariant-parse_access-more l = AccessSoFar (syms_of l.symbols) (expr_view l.base) (option_map string_bytes l.chain) (syms_of l.rest)
 
 abbrev pub decreases-parse_access-more : goal.decreases-parse_access-more
 decreases-parse_access-more l = length (syms_of l.rest)
