@@ -21,6 +21,7 @@ use Rattle.wf_rules.specs.declared.fault.SyntaxKind.TheVariants.{WrongKind}
 use Rattle.wf_tree.specs.Trees.{Tree, text, list, map, Items, no_items, item, Pairs, no_pairs, pair}
 use Rattle.wf_value.specs.Pairs.{Text}
 use Rattle.wf_value.specs.declared.Backoff.{Backoff}
+use Rattle.wf_value.specs.declared.path.PathPart.TheVariants.{Key}
 
 -- ## Numbers
 abbrev IsSmall : ℕ → Type 0
@@ -227,7 +228,7 @@ flow_small : (f : t.Flow) (k : Text) (x : Tree) → IsFlow f k x → IsSound (r.
 flow_small f k (map fs) h s =
     let a = row_all fs ((codes "params", r.Parameters) ∷ (codes "steps", r.Steps) ∷ []) (sound_parts (r.Flow k) (map fs) s) in
     let u = list_at (codes "steps") r.Steps (StepsIn f.steps) fs h.2 a.1.0 in
-    steps_small f.steps u.0 0 u.1 u.2 (n.flow_around f) (n.Key f.name ∷ n.Key (codes "steps") ∷ []) 0
+    steps_small f.steps u.0 0 u.1 u.2 (n.flow_around f) (Key f.name ∷ Key (codes "steps") ∷ []) 0
 flow_small f k x h s = absurd h
 
 flows_small : (fs : List t.Flow) (ps : Pairs) → FlowsIn fs ps → AreSound (every r.Flow ps) → AreSmall (nodes fs)
