@@ -45,3 +45,8 @@ few_of (Err s) n h = tt
 pub path_alone : (o : Option Path) → o ≡ first (o ∷ [])
 path_alone None = refl
 path_alone (Some p) = refl
+
+-- what holds anyway
+pub holds_anyway : (r : Result (Unit {0}) Stop) (n : ℕ) → n < 1000000 → OnOk r (n < 1000000)
+holds_anyway (Ok u) n h = h
+holds_anyway (Err s) n h = tt

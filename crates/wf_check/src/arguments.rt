@@ -1,5 +1,5 @@
 // Whether the arguments of a call fit what is called.
-ghost use Rattle.std.specs.Prelude.{◌≡◌, ◌++◌, [], ◌∷◌, IfOk, codes, filter, length, map};
+ghost use Rattle.std.specs.Prelude.{◌≡◌, ◌&&◌, ◌++◌, [], ◌∷◌, IfOk, codes, filter, length, map};
 ghost use Rattle.wf_ast.specs.Accept.{flow_signature, required};
 ghost use Rattle.wf_ast.specs.Func.{all_among, call_takes, logs_one, takes};
 ghost use Rattle.wf_ast.specs.Tree.{field_names, fields};
@@ -133,6 +133,12 @@ fn are_passed(params: &[Param], given: &Names) -> bool
     true
 }
 
+fn tables_fit(flow: &Flow, arguments: &[NamedTemplate], known: &Names, given: &Names) -> bool
+    ensures { result ≡ (all_among (field_names (fields (map field_view arguments.now))) (names_of known.now) && all_among (required (params_view flow.now.params)) (names_of given.now)) }
+{
+    are_known(arguments, known) && are_passed(flow.params.items(), given)
+}
+
 // The workflow takes the arguments.
 pub(crate) fn flow_takes(
     alloc: Global,
@@ -143,5 +149,5 @@ pub(crate) fn flow_takes(
 {
     let known = param_names(alloc, &flow.params)?;
     let given = argument_names(alloc, arguments)?;
-    Ok(are_known(arguments, &known) && are_passed(flow.params.items(), &given))
+    Ok(tables_fit(flow, arguments, &known, &given))
 }

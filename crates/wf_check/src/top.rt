@@ -40,6 +40,7 @@ impl Checked {
 }
 
 /// Checks a program: it is accepted, or this is what is said first. Want of memory may always come.
+#[tactic(auto, using(crate::proofs::Accepted::accepted_when, crate::proofs::Accepted::accept_of, crate::proofs::Accepted::built_of))]
 pub fn check(alloc: Global, program: Program) -> Result<Checked, CheckFault>
     requires { IsTrue (list_all small_backoff (nodes (program_view program).flows)) }
     ensures accepted { IfOk result (λ c. Accept (program_view c.program)) }

@@ -2,6 +2,7 @@ use Rattle.std.proofs.Common.{◌≡◌, Err, Ok, map, sym, subst, rules}
 use Rattle.wf_ast.specs.Nodes.{node}
 use Rattle.wf_ast.specs.View.{flow_view}
 use Rattle.wf_check.proofs.Chain.{all_of, chained}
+use Rattle.wf_check.proofs.Most.{holds_anyway}
 use Rattle.wf_check.proofs.Told.{alone, here_first, later}
 use Rattle.wf_check.proofs.fault.fault.Goals as goal
 use Rattle.wf_check.specs.Around.{around_view}
@@ -84,3 +85,6 @@ pub returns-clause-first : goal.returns-clause-first
 returns-clause-first c =
     all_of c.not_yet.result (map flow_view c.args.flows.now) c.args.progress.now.number (names_of c.args.progress.now.seen) (part_view c.args.part.now) (around_view c.args.progress.now.scopes c.args.here)
     (later c.not_yet.result _ _ c.in_ok-empty.ensures (later c.not_yet.result _ _ c.in_ok-double.ensures (later c.not_yet.result _ _ c.in_ok-unknown_step.ensures (later c.not_yet.result _ _ c.in_ok-out_of_scope.ensures (later c.not_yet.result _ _ c.in_ok-outside_loop.ensures (later c.not_yet.result _ _ c.in_ok-return_in_branch.ensures (later c.not_yet.result _ _ c.in_ok-undeclared_write.ensures (later c.not_yet.result _ _ c.in_ok-unknown_shared.ensures (later c.not_yet.result _ _ c.in_ok-unknown_name.ensures (later c.not_yet.result _ _ c.in_ok-unknown_call.ensures (later c.not_yet.result _ _ c.in_ok-bad_argument.ensures (later c.not_yet.result _ _ c.in_ok-too_many.ensures.fault (alone c.not_yet.result _ c.not_yet.ensures)))))))))))))
+
+pub returns-clause-few : goal.returns-clause-few
+returns-clause-few c = holds_anyway c.not_yet.result c.args.progress.now.number c.in_ok-too_many.ensures.few
