@@ -31,12 +31,14 @@ or_past true false p h = refl
 or_past false r p h = h
 
 -- those without a default are among the parameters
+covered_by : (x : Text) (d : Option Data) (n : Text) (ps : List Param) → (is_among x (required ps) || is_among x (param_names ps)) ≡ is_among x (param_names ps)
+    → (is_among x (elim d [ None ↦ n ∷ required ps | Some v ↦ required ps ]) || (bytes_eq x n || is_among x (param_names ps))) ≡ (bytes_eq x n || is_among x (param_names ps))
+covered_by x None n ps h = or_both (bytes_eq x n) (is_among x (required ps)) (is_among x (param_names ps)) h
+covered_by x (Some v) n ps h = or_past (bytes_eq x n) (is_among x (required ps)) (is_among x (param_names ps)) h
+
 covered : (x : Text) (ps : List Param) → (is_among x (required ps) || is_among x (param_names ps)) ≡ is_among x (param_names ps)
-covered_by : (x : Text) (d : Option Data) (n : Text) (ps : List Param) → (is_among x (elim d [ None ↦ n ∷ required ps | Some v ↦ required ps ]) || (bytes_eq x n || is_among x (param_names ps))) ≡ (bytes_eq x n || is_among x (param_names ps))
 covered x [] = refl
-covered x (p ∷ ps) = covered_by x p.default p.name ps
-covered_by x None n ps = or_both (bytes_eq x n) (is_among x (required ps)) (is_among x (param_names ps)) (covered x ps)
-covered_by x (Some v) n ps = or_past (bytes_eq x n) (is_among x (required ps)) (is_among x (param_names ps)) (covered x ps)
+covered x (p ∷ ps) = covered_by x p.default p.name ps (covered x ps)
 
 pub flow_fits : (ps : List Param) (names known given : List Text) → SameNames known (param_names ps) → SameNames given names → (all_among names known && all_among (required ps) given) ≡ takes (flow_signature ps) names
 flow_fits ps names known given k g =

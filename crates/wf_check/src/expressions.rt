@@ -6,9 +6,12 @@ ghost use Rattle.wf_ast.specs.Tree.{exprs, fields, templates};
 ghost use Rattle.wf_ast.specs.View.{body_view, entry_view, expr_view, field_view, over_view, part_view as piece_view, template_view};
 ghost use Rattle.wf_check.specs.Answers.{Tells};
 ghost use Rattle.wf_check.specs.Expressions.{are_fine, body_failing, failing, fields_failing, is_part_fine, items_failing, over_failing, part_failing};
+ghost use Rattle.wf_check.specs.Around.{layer_view};
+ghost use Rattle.wf_check.specs.Forms.{functions};
 ghost use Rattle.wf_check.specs.Parts.{part_view};
 ghost use Rattle.wf_check.specs.Said.{as_said};
-ghost use Rattle.wf_check.specs.Tests.{kind_tested, passes};
+ghost use Rattle.wf_check.specs.Tests.{kind_tested, passes, sees};
+ghost use Rattle.wf_check.specs.declared.kind.CheckKind.TheVariants as kinds;
 ghost use Rattle.wf_shared.specs.HttpUrl.{first_of_two};
 
 use crate::around::Layer;
@@ -204,7 +207,7 @@ fn entry_failing(alloc: Global, test: &Test, entry: &Entry) -> Result<(), Stop>
 }
 
 // What a node reads in its own move.
-pub(crate) fn part_failing(alloc: Global, test: &Test, part: &Part) -> Result<(), Stop>
+fn part_failing(alloc: Global, test: &Test, part: &Part) -> Result<(), Stop>
     ensures { Tells result (λ path. as_said (kind_tested test.now) (part_failing (passes test.now) (part_view part.now) path)) }
 {
     match part {
@@ -218,4 +221,18 @@ pub(crate) fn part_failing(alloc: Global, test: &Test, part: &Part) -> Result<()
         Part::Entry(entry) => entry_failing(alloc, test, entry),
         Part::Branch(_, _) => Ok(()),
     }
+}
+
+// The first read of a name that no visible layer has.
+pub(crate) fn unseen(alloc: Global, part: &Part, layers: &[Layer]) -> Result<(), Stop>
+    ensures { Tells result (λ path. as_said kinds.UnknownName (part_failing (sees (map layer_view layers.now)) (part_view part.now) path)) }
+{
+    part_failing(alloc, &Test::Visible(layers), part)
+}
+
+// The first call of a function that isn't built.
+pub(crate) fn unbuilt(alloc: Global, part: &Part) -> Result<(), Stop>
+    ensures { Tells result (λ path. as_said kinds.NotYet (functions (part_view part.now) path)) }
+{
+    part_failing(alloc, &Test::Built, part)
 }

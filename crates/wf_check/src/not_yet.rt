@@ -11,7 +11,7 @@ ghost use Rattle.wf_check.specs.Said.{as_said};
 ghost use Rattle.wf_check.specs.declared.kind.CheckKind.TheVariants as kinds;
 
 use crate::blocks::next_of;
-use crate::expressions::{Test, part_failing};
+use crate::expressions::unbuilt;
 use crate::kind::CheckKind;
 use crate::parts::Part;
 use crate::stop::{Stop, speak, speak_at};
@@ -137,5 +137,5 @@ pub(crate) fn not_yet(alloc: Global, part: &Part, number: u64) -> Result<(), Sto
     jump(alloc, part)?;
     idle(alloc, part)?;
     places(alloc, part)?;
-    part_failing(alloc, &Test::Built, part)
+    unbuilt(alloc, part)
 }

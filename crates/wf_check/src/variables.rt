@@ -11,7 +11,7 @@ ghost use Rattle.wf_check.specs.Said.{as_said};
 ghost use Rattle.wf_check.specs.declared.kind.CheckKind.TheVariants as kinds;
 
 use crate::around::{Here, Layer, Scopes};
-use crate::expressions::{Test, part_failing};
+use crate::expressions::unseen;
 use crate::names::Names;
 use crate::parts::Part;
 use crate::reads::is_visible;
@@ -161,5 +161,5 @@ pub(crate) fn unknown_name(
     ensures { Tells result (λ path. as_said kinds.UnknownName (rules.rule_name (around_view scopes.now here) (part_view part.now) path)) }
 {
     let _here = here;
-    part_failing(alloc, &Test::Visible(scopes.layers.as_slice()), part)
+    unseen(alloc, part, scopes.layers.as_slice())
 }

@@ -28,7 +28,7 @@ pub returns-in-Some : goal.returns-in-Some
 returns-in-Some c =
     let fs = map flow_view c.args.flows.now in
     tells_as c.speak_within.result _ _ (λ path. ap (as_said kinds.BadArgument) (
-      ap (λ b. at_if (not b) (below (below path (codes "retry")) (codes "predicate"))) (c.predicate_fits.ensures ∙ ap (λ x. predicate_fits fs (Some x)) c.as_str.ensures)
+      ap (λ b. at_if (not b) (below (below path (codes "retry")) (codes "predicate"))) (c.predicate_fits-speaks.ensures ∙ ap (λ x. predicate_fits fs (Some x)) c.as_str.ensures)
       ∙ sym (alone_last (at_if (not (predicate_fits fs (Some c.in-Some.name.now))) (below (below path (codes "retry")) (codes "predicate"))))
       ∙ ap (λ o. first (None ∷ at_if (not (predicate_fits fs o)) (below (below path (codes "retry")) (codes "predicate")) ∷ [])) (sym (sym c.predicate_of.ensures ∙ ap (option_map (λ x. x.now)) c.in-Some.is))
       ∙ sym (ap (λ y. rule_argument fs (BodyPart (body_view y)) path) c.in-Try.is))) c.speak_within.ensures

@@ -42,5 +42,5 @@ returns-in_err-places c =
 
 pub returns : goal.returns
 returns c =
-    forms_of c.part_failing.result c.args.number (part_view c.args.part.now)
-    (later c.part_failing.result _ _ c.in_ok-beside_main.ensures (later c.part_failing.result _ _ c.in_ok-parameters.ensures (later c.part_failing.result _ _ c.in_ok-form.ensures (later c.part_failing.result _ _ c.in_ok-jump.ensures (later c.part_failing.result _ _ c.in_ok-idle.ensures (later c.part_failing.result _ _ c.in_ok-places.ensures (alone c.part_failing.result _ c.part_failing.ensures)))))))
+    forms_of c.unbuilt.result c.args.number (part_view c.args.part.now)
+    (later c.unbuilt.result _ _ c.in_ok-beside_main.ensures (later c.unbuilt.result _ _ c.in_ok-parameters.ensures (later c.unbuilt.result _ _ c.in_ok-form.ensures (later c.unbuilt.result _ _ c.in_ok-jump.ensures (later c.unbuilt.result _ _ c.in_ok-idle.ensures (later c.unbuilt.result _ _ c.in_ok-places.ensures (alone c.unbuilt.result _ c.unbuilt.ensures)))))))
