@@ -13,5 +13,5 @@ pub returns : goal.returns
 returns c =
     let part = part_view c.args.part.now in
     tells_as c.unseen.result _ _
-    (λ path. ap (as_said kinds.UnknownName) (part_seen (map layer_view c.as_slice.result.now) part path ∙ ap (λ l. first_unseen (map layer_view l) (part_reads part path)) c.as_slice.ensures))
+    (λ path. ap (as_said kinds.UnknownName) (part_seen (map layer_view c.as_slice.result.now) part path ∙ ap (λ l. first_unseen (map layer_view l) (part_reads part path)) c.as_slice.ensures.value))
     c.unseen.ensures
