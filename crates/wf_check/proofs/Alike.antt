@@ -1,7 +1,7 @@
 -- In surroundings with the same names the rules say the same.
-use Rattle.std.proofs.Common.{◌≡◌, ℕ, suc, Bool, true, false, not, ◌&&◌, ◌||◌, List, [], ◌∷◌, Option, Some, None, codes, bytes_eq, if◌then◌else◌, option_map, refl, sym, ap, ◌∙◌}
-use Rattle.wf_ast.specs.Accept.{Fault, Kind, as_fault, fault, first_unseen, has_name, is_visible, may_cross, may_write, result_of_call, call_of, rule_argument, rule_call, rule_many, rule_name, rule_shared, rule_write, shared_in, unknown_shared, write_fault}
-use Rattle.wf_ast.specs.Blocks.{at_if, first, is_return, is_word, outside_loop, rule_double, rule_empty, rule_next, rule_return}
+use Rattle.std.proofs.Common.{◌≡◌, ℕ, suc, true, not, ◌&&◌, ◌||◌, List, [], ◌∷◌, Option, Some, None, codes, bytes_eq, if◌then◌else◌, option_map, refl, ap}
+use Rattle.wf_ast.specs.Accept.{Kind, as_fault, fault, first_unseen, is_visible, may_cross, may_write, result_of_call, call_of, rule_argument, rule_call, rule_many, rule_write, shared_in, unknown_shared, write_fault}
+use Rattle.wf_ast.specs.Blocks.{at_if, first, is_return, is_word, outside_loop, rule_double, rule_empty, rule_next}
 use Rattle.wf_ast.specs.Nodes.{Around, Names, NodePart, FlowPart, StepPart, ArmPart, BodyPart, EntryPart, BranchPart, Path, below, node, nth, part_body}
 use Rattle.wf_ast.specs.Reads.{part_reads}
 use Rattle.wf_ast.specs.Tree.{Flow}
@@ -9,8 +9,7 @@ use Rattle.wf_check.specs.Forms.{not_yet}
 use Rattle.wf_check.specs.Said.{as_said, said, said_of}
 use Rattle.wf_check.specs.declared.kind.CheckKind.TheVariants as kinds
 use Rattle.wf_shared.specs.HttpUrl.{first_of_two}
-use Rattle.wf_check.specs.Around.{Alike, AlikeLayer, AlikeLayers, SameNames, SameShared}
-use Rattle.wf_shared.specs.HttpRequest.{is_among}
+use Rattle.wf_check.specs.Around.{Alike, AlikeLayers, SameNames, SameShared}
 use Rattle.wf_value.specs.Pairs.{Text}
 
 pub visible_alike : (ls ms : List Names) → AlikeLayers ls ms → (x : Text) → is_visible x ls ≡ is_visible x ms

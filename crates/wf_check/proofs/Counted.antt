@@ -1,5 +1,5 @@
 -- Whole workflows.
-use Rattle.std.proofs.Common.{◌≡◌, ℕ, ◌+◌, List, [], ◌∷◌, ◌++◌, length, Some, None, Result, Ok, Err, refl, sym, ap, ◌∙◌}
+use Rattle.std.proofs.Common.{◌≡◌, ℕ, ◌+◌, List, [], ◌∷◌, ◌++◌, length, None, Err, refl, ap, ◌∙◌}
 use Rattle.wf_ast.specs.Nodes.{Node, nodes}
 use Rattle.wf_ast.specs.Tree.{Flow}
 use Rattle.wf_check.proofs.Walks.{behind, first_append}

@@ -1,13 +1,13 @@
 -- What forms hold, of their parts as the code holds them.
-use Rattle.std.proofs.Common.{◌≡◌, ◌==◌, ℕ, suc, ◌+◌, ◌<◌, Bool, true, [], ◌∷◌, ◌++◌, List, Option, Some, None, codes, length, take, get_or, map, not, reverse, refl, sym, ap, ◌∙◌}
+use Rattle.std.proofs.Common.{◌≡◌, ◌==◌, ℕ, suc, ◌+◌, ◌<◌, [], ◌∷◌, ◌++◌, List, codes, length, take, get_or, map, not, reverse, refl, sym, ap, ◌∙◌}
 use Rattle.std.proofs.Math.Dec.{eqb-suc-zero}
 use Rattle.std.proofs.Math.Seq.{take-suc}
 use Rattle.std.proofs.lemmas.List.{map-append, reverse-append}
 use Rattle.wf_ast.proofs.Views.{branch_level, except_level, loop_level, steps_level, try_level}
 use Rattle.wf_ast.specs.Blocks.{has_no_steps}
-use Rattle.wf_ast.specs.Nodes.{Around, BodyPart, InLoop, Node, Path, below, body_nodes, except_nodes, in_block, in_layer, in_loop, in_task, loop_binds, loop_nodes, node, parallel_loop_nodes, steps_nodes, try_nodes, InParallelLoop}
+use Rattle.wf_ast.specs.Nodes.{Around, BodyPart, Path, below, body_nodes, except_nodes, in_block, in_layer, in_loop, in_task, loop_binds, loop_nodes, node, parallel_loop_nodes, steps_nodes, try_nodes, InParallelLoop}
 use Rattle.wf_ast.specs.Tree as tree
-use Rattle.wf_ast.specs.View.{body_view, branch_view, except_option_view, except_view, expr_view, loop_view, param_view, policy_option_view, step_view, steps_in, steps_view, try_view, over_view}
+use Rattle.wf_ast.specs.View.{body_view, branch_view, except_option_view, except_view, expr_view, loop_view, param_view, step_view, steps_in, steps_view, try_view}
 use Rattle.wf_ast.specs.declared.body.Body.{Body}
 use Rattle.wf_ast.specs.declared.body.Body.TheViews.{out-Branch, out-Except, out-LoopBody, out-TryBody}
 use Rattle.wf_ast.specs.declared.body.Branch.{Branch}

@@ -1,5 +1,5 @@
 -- The walk over one node.
-use Rattle.std.proofs.Common.{◌≡◌, ◌+◌, List, [], ◌∷◌, Result, Ok, Err, refl, sym, ap, ◌∙◌, subst}
+use Rattle.std.proofs.Common.{◌≡◌, ◌+◌, List, [], ◌∷◌, Ok, Err, sym, ap, ◌∙◌, subst}
 use Rattle.wf_ast.specs.Accept.{after_part}
 use Rattle.wf_ast.specs.Nodes.{Around, NodePart, Path, node}
 use Rattle.wf_ast.specs.Tree.{Flow}

@@ -1,5 +1,5 @@
 -- The signature of a name, looked for in parts of the table.
-use Rattle.std.proofs.Common.{◌≡◌, Bool, true, false, List, [], ◌∷◌, ◌++◌, Option, Some, None, option_map, if◌then◌else◌, bytes_eq, refl, sym, ap, ◌∙◌}
+use Rattle.std.proofs.Common.{◌≡◌, Bool, true, false, List, [], ◌∷◌, ◌++◌, Option, Some, None, option_map, if◌then◌else◌, bytes_eq, refl, ap, ◌∙◌}
 use Rattle.std.specs.Option.{option_or}
 use Rattle.wf_ast.specs.Func.{Listing, Signature, SpecialListing, call_signature, entry_in, special_in, specials}
 use Rattle.wf_check.specs.Signatures.{basic, of_system, of_texts, of_values, signature_of}

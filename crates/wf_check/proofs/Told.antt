@@ -1,9 +1,9 @@
 -- What is told, of the same place in other words, and from further out.
-use Rattle.std.proofs.Common.{◌≡◌, ℕ, Bool, true, false, not, ◌&&◌, if◌then◌else◌, List, [], ◌∷◌, ◌++◌, Option, Some, None, Result, Ok, Err, refl, sym, ap, ◌∙◌, subst}
-use Rattle.wf_ast.specs.Blocks.{at_if, first}
-use Rattle.wf_ast.specs.Nodes.{Path, below, nth}
+use Rattle.std.proofs.Common.{◌≡◌, List, [], ◌∷◌, ◌++◌, Option, Some, None, Result, Ok, Err, refl, sym, ap, ◌∙◌}
+use Rattle.wf_ast.specs.Blocks.{first}
+use Rattle.wf_ast.specs.Nodes.{Path, below}
 use Rattle.wf_check.proofs.Walks.{further}
-use Rattle.wf_check.specs.Answers.{IsKeyed, IsOutside, Tells, along, part_of}
+use Rattle.wf_check.specs.Answers.{IsKeyed, IsOutside, Tells, part_of}
 use Rattle.wf_check.specs.declared.stop.Stop.{Stop}
 use Rattle.wf_check.specs.declared.stop.Stop.TheVariants as stop
 use Rattle.wf_shared.specs.HttpUrl.{first_of_two}

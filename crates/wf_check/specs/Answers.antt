@@ -1,8 +1,7 @@
 -- What the checker's calls answer.
-use Rattle.std.specs.Prelude.{◌≡◌, ℕ, ◌+◌, List, [], ◌∷◌, ◌++◌, length, map, reverse, Option, Some, None, Result, Ok, Err}
+use Rattle.std.specs.Prelude.{◌≡◌, ◌+◌, List, [], ◌∷◌, ◌++◌, map, reverse, Option, Some, None, Result, Ok, Err}
 use Rattle.wf_ast.specs.Nodes as nodes
-use Rattle.wf_ast.specs.Nodes.{Node, Path}
-use Rattle.wf_ast.specs.Tree.{Flow}
+use Rattle.wf_ast.specs.Nodes.{Path}
 use Rattle.wf_check.specs.declared.kind.CheckKind.{CheckKind}
 use Rattle.wf_check.specs.declared.stop.Stop.{Stop}
 use Rattle.wf_check.specs.declared.stop.Stop.TheVariants as stop

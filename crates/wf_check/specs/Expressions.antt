@@ -1,7 +1,7 @@
 -- The first expression of a node that fails a test, by the paths of the names that the node reads.
 --     failing          in a template
 --     part_failing     in what a node reads in its own move
-use Rattle.std.specs.Prelude.{ℕ, suc, Bool, true, not, ◌&&◌, List, [], ◌∷◌, codes, Option, None}
+use Rattle.std.specs.Prelude.{ℕ, suc, Bool, true, not, ◌&&◌, codes, Option, None}
 use Rattle.std.specs.List.{list_all}
 use Rattle.wf_ast.specs.Blocks.{at_if}
 use Rattle.wf_ast.specs.Nodes.{Path, NodePart, ArmPart, EntryPart, part_body, below, nth}

@@ -85,11 +85,7 @@ fn logs_one(arguments: &[NamedTemplate]) -> bool
 }
 
 // The function of this name takes the arguments.
-pub(crate) fn function_takes(
-    name: &str,
-    names: &ArgumentNames,
-    arguments: &[NamedTemplate],
-) -> bool
+pub(crate) fn function_takes(name: &str, names: &ArgumentNames, arguments: &[NamedTemplate]) -> bool
     ensures { result ≡ call_takes name.now (signature_of names.now) (field_names (fields (map field_view arguments.now))) }
 {
     are_taken(arguments, names)

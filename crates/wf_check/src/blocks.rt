@@ -12,9 +12,9 @@ ghost use Rattle.wf_check.specs.Said.{as_said};
 ghost use Rattle.wf_check.specs.declared.kind.CheckKind.TheVariants as kinds;
 
 use crate::around::{Block, Inside, Scopes};
+use crate::kind::CheckKind;
 use crate::names::Names;
 use crate::parts::Part;
-use crate::kind::CheckKind;
 use crate::stop::{Stop, speak, speak_at, speak_deep, speak_within};
 use std::alloc::Global;
 use wf_ast::{Body, Branch, StepList, Work};

@@ -11,9 +11,9 @@ ghost use Rattle.wf_check.specs.Said.{as_said};
 ghost use Rattle.wf_check.specs.declared.kind.CheckKind.TheVariants as kinds;
 
 use crate::arguments::{flow_takes, function_takes};
+use crate::kind::CheckKind;
 use crate::parts::Part;
 use crate::signature::signature;
-use crate::kind::CheckKind;
 use crate::stop::{Stop, speak_at, speak_within};
 use std::alloc::Global;
 use wf_ast::{Body, CallBody, Flow, Predicate, TryBody};

@@ -8,8 +8,8 @@ ghost use Rattle.wf_check.specs.Parts.{part_view};
 ghost use Rattle.wf_check.specs.Said.{as_said};
 ghost use Rattle.wf_check.specs.declared.kind.CheckKind.TheVariants as kinds;
 
-use crate::parts::Part;
 use crate::kind::CheckKind;
+use crate::parts::Part;
 use crate::stop::{Stop, keyed, speak, speak_at, speak_within};
 use std::alloc::Global;
 use wf_ast::{Body, Flow, LoopBody, Param, Step, Work};

@@ -113,10 +113,7 @@ fn needing(needs: &'static [&'static str]) -> Option<ArgumentNames>
     Some(ArgumentNames { needs, may: &[] })
 }
 
-fn taking(
-    needs: &'static [&'static str],
-    may: &'static [&'static str],
-) -> Option<ArgumentNames>
+fn taking(needs: &'static [&'static str], may: &'static [&'static str]) -> Option<ArgumentNames>
     ensures { option_map signature_of result ≡ Some (record { needs = map (λ n. n.now) needs.now; may = map (λ n. n.now) may.now }) }
 {
     Some(ArgumentNames { needs, may })

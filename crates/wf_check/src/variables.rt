@@ -12,10 +12,10 @@ ghost use Rattle.wf_check.specs.declared.kind.CheckKind.TheVariants as kinds;
 
 use crate::around::{Here, Layer, Scopes};
 use crate::expressions::unseen;
+use crate::kind::CheckKind;
 use crate::names::Names;
 use crate::parts::Part;
 use crate::reads::is_visible;
-use crate::kind::CheckKind;
 use crate::stop::{Stop, keyed, speak, speak_at};
 use std::alloc::Global;
 use wf_ast::Body;
@@ -46,12 +46,7 @@ fn may_write(name: &str, layers: &[Layer]) -> bool
     }
 }
 
-fn undeclared_result(
-    alloc: Global,
-    body: &Body,
-    scopes: &Scopes,
-    here: Here,
-) -> Result<(), Stop>
+fn undeclared_result(alloc: Global, body: &Body, scopes: &Scopes, here: Here) -> Result<(), Stop>
     ensures { Tells result (λ path. as_said kinds.UndeclaredWrite (rules.write_fault (around_view scopes.now here) (rules.result_of_call (rules.call_of (body_view body.now))) (below path (codes "result")))) }
 {
     let _here = here;

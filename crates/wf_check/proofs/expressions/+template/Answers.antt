@@ -1,6 +1,5 @@
-use Rattle.std.proofs.Common.{◌≡◌, suc, [], ◌∷◌, ◌++◌, ◌+◌, add-one, map, drop, not, Err, refl, sym, ap, ◌∙◌}
+use Rattle.std.proofs.Common.{suc, ◌+◌, add-one, map, drop, Err, sym, ap, ◌∙◌}
 use Rattle.wf_ast.proofs.Views.{view_list, view_map}
-use Rattle.wf_ast.specs.Blocks.{at_if}
 use Rattle.wf_ast.specs.Nodes.{Path, below, nth}
 use Rattle.wf_ast.specs.Tree as tree
 use Rattle.wf_ast.specs.View.{field_view, template_view}

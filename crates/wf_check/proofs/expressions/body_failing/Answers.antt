@@ -33,9 +33,9 @@ returns-in-Loop c =
     let p = c.in-Parallel.parallel in
     let over = λ (path : Path). as_said kind (over_failing fine (over_view (out-LoopBody l).over) path) in
     tells_as c.keyed-in-Loop.result _ _ (λ path. ap (as_said kind) (
-      sym (ap (λ v. loop_failing fine v (below (below path (codes "parallel")) (codes "for"))) (loop_level l))
-      ∙ sym (ap (λ y. body_failing fine (tree.Body.Parallel (tree.parallel (texts_view p.shared) p.limit (work_view y))) path) c.in-Loop.is)
-      ∙ sym (ap (λ y. body_failing fine (body_view y) path) c.in-Parallel.is)))
+    sym (ap (λ v. loop_failing fine v (below (below path (codes "parallel")) (codes "for"))) (loop_level l))
+    ∙ sym (ap (λ y. body_failing fine (tree.Body.Parallel (tree.parallel (texts_view p.shared) p.limit (work_view y))) path) c.in-Loop.is)
+    ∙ sym (ap (λ y. body_failing fine (body_view y) path) c.in-Parallel.is)))
     (tells_keyed (codes "parallel") c.keyed-found.result c.keyed-in-Loop.result (λ path. over (below path (codes "for"))) c.keyed-in-Loop.ensures
     (tells_keyed (codes "for") c.over_failing-found-in-Loop.result c.keyed-found.result over c.keyed-found.ensures c.over_failing-found-in-Loop.ensures))
 

@@ -21,5 +21,5 @@ returns-in-Range c =
     let kind = kind_tested c.args.test.now in
     tells_as c.keyed-in-Range.result _ _ (λ path. ap (as_said kind) (sym (ap (λ y. over_failing fine (over_view y) path) c.in-Range.is)))
     (tells_keyed (codes "range") c.ends_failing-found.result c.keyed-in-Range.result
-      (λ path. as_said kind (first_of_two (failing fine (template_view c.in-Range.first) (nth path 0)) (failing fine (template_view c.in-Range.last) (nth path 1))))
-      c.keyed-in-Range.ensures c.ends_failing-found.ensures)
+    (λ path. as_said kind (first_of_two (failing fine (template_view c.in-Range.first) (nth path 0)) (failing fine (template_view c.in-Range.last) (nth path 1))))
+    c.keyed-in-Range.ensures c.ends_failing-found.ensures)

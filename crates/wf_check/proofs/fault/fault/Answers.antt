@@ -1,5 +1,4 @@
-use Rattle.std.proofs.Common.{◌≡◌, Err, Ok, map, sym, subst, rules}
-use Rattle.wf_ast.specs.Nodes.{node}
+use Rattle.std.proofs.Common.{◌≡◌, Err, map, rules}
 use Rattle.wf_ast.specs.View.{flow_view}
 use Rattle.wf_check.proofs.Chain.{all_of, chained}
 use Rattle.wf_check.proofs.Most.{holds_anyway}

@@ -1,4 +1,4 @@
-use Rattle.std.proofs.Common.{◌≡◌, ◌+◌, [], ◌∷◌, ◌++◌, map, drop, length, length-append, arith, refl, sym, ap, ◌∙◌}
+use Rattle.std.proofs.Common.{◌≡◌, ◌+◌, [], ◌++◌, map, drop, length, length-append, arith, sym, ap, ◌∙◌}
 use Rattle.wf_ast.specs.Nodes.{flow_nodes, nodes}
 use Rattle.wf_ast.specs.View.{flow_view}
 use Rattle.wf_check.proofs.Counted.{counted_on, counts_first}

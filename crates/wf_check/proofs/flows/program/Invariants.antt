@@ -1,4 +1,4 @@
-use Rattle.std.proofs.Common.{◌≡◌, List, [], drop, map, ◌+◌, length}
+use Rattle.std.proofs.Common.{◌≡◌, [], drop, map, ◌+◌, length}
 use Rattle.wf_ast.specs.Nodes.{nodes}
 use Rattle.wf_ast.specs.View.{flow_view}
 use Rattle.wf_check.proofs.flows.program.Given as goal

@@ -1,9 +1,9 @@
-use Rattle.std.proofs.Common.{◌≡◌, [], None, sym, ap, ◌∙◌}
+use Rattle.std.proofs.Common.{[], sym, ap, ◌∙◌}
 use Rattle.wf_ast.specs.Nodes.{nodes}
 use Rattle.wf_ast.specs.View.{program_view}
 use Rattle.wf_check.proofs.Accepted.{accept_of, accepted_when, built_of}
 use Rattle.wf_check.proofs.top.check.Goals as goal
-use Rattle.wf_check.specs.Said.{first_said, said_among}
+use Rattle.wf_check.specs.Said.{said_among}
 
 pub returns-in-Ok-clause-accepted : goal.returns-in-Ok-clause-accepted
 returns-in-Ok-clause-accepted c =
