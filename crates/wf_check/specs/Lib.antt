@@ -1,0 +1,12 @@
+pub mod Kinds
+pub mod Expressions
+pub mod Forms
+pub mod Names
+pub mod Around
+pub mod Signatures
+pub mod Parts
+pub mod Said
+pub mod Tests
+pub mod Answers
+pub mod Walks
+pub mod Check

@@ -1,0 +1,48 @@
+// What is said of a node.
+ghost use Rattle.std.specs.Prelude.{◌<◌, OnOk, map};
+ghost use Rattle.wf_ast.specs.Nodes.{node};
+ghost use Rattle.wf_ast.specs.View.{flow_view};
+ghost use Rattle.wf_check.specs.Answers.{Tells};
+ghost use Rattle.wf_check.specs.Around.{around_view};
+ghost use Rattle.wf_check.specs.Names.{names_of};
+ghost use Rattle.wf_check.specs.Parts.{part_view};
+ghost use Rattle.wf_check.specs.Said.{said};
+
+use crate::around::Here;
+use crate::blocks::{double, empty, out_of_scope, outside_loop, return_in_branch, unknown_step};
+use crate::calls::{bad_argument, unknown_call};
+use crate::limits::too_many;
+use crate::not_yet::not_yet;
+use crate::parts::Part;
+use crate::progress::Progress;
+use crate::stop::Stop;
+use crate::variables::{undeclared_write, unknown_name, unknown_shared};
+use std::alloc::Global;
+use wf_ast::Flow;
+
+// The rule of the lowest number that speaks at a node; a form that isn't built yet comes last.
+pub(crate) fn fault(
+    alloc: Global,
+    flows: &[Flow],
+    progress: &Progress,
+    here: Here,
+    part: &Part,
+) -> Result<(), Stop>
+    ensures first { Tells result (λ path. said (map flow_view flows.now) progress.now.number (names_of progress.now.seen) (node (part_view part.now) (around_view progress.now.scopes here) path)) }
+    ensures few { OnOk result (progress.now.number < 1000000) }
+{
+    let scopes = &progress.scopes;
+    empty(alloc, part)?;
+    double(alloc, part, &progress.seen)?;
+    unknown_step(alloc, part, scopes)?;
+    out_of_scope(alloc, part, scopes)?;
+    outside_loop(alloc, part, here.inside)?;
+    return_in_branch(alloc, part, here.in_branch)?;
+    undeclared_write(alloc, part, scopes, here)?;
+    unknown_shared(alloc, part, scopes, here)?;
+    unknown_name(alloc, part, scopes, here)?;
+    unknown_call(alloc, part, flows)?;
+    bad_argument(alloc, part, flows)?;
+    too_many(alloc, part, progress.number)?;
+    not_yet(alloc, part, progress.number)
+}
