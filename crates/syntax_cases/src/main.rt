@@ -1,6 +1,7 @@
 //! Sources in JSON, and what is built of them. Each line is a case: a source of one of the tables that the modules tell.
 #![tactic(auto)]
 
+mod checks;
 mod faults;
 mod programs;
 mod second_form;
@@ -21,6 +22,7 @@ fn answer(alloc: Global, line: &str) -> Result<String, CaseFault> {
         "forms" => programs::forms(alloc, &trees::program_of(alloc, source)?),
         "policies" => programs::policies(alloc, &trees::program_of(alloc, source)?),
         "step_counts" => programs::step_count(alloc, &trees::program_of(alloc, source)?),
+        "check" => checks::said(alloc, source),
         "second_form" => second_form::is_it(alloc, &trees::program_of(alloc, source)?),
         _ => Err(CaseFault::NoCase),
     }
