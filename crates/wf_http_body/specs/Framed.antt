@@ -8,17 +8,17 @@ use Rattle.wf_shared.specs.HttpText.{values_of}
 use Rattle.wf_http_body.specs.declared.framing.Coding.{Coding}
 use Rattle.wf_http_body.specs.declared.framing.Coding.TheVariants as coding
 use Rattle.wf_http_body.specs.declared.framing.Length.{Length}
-use Rattle.wf_http_body.specs.declared.framing.Length.TheVariants as length
+use Rattle.wf_http_body.specs.declared.framing.Length.TheVariants as told
 
 -- by Content-Length alone a body is framed so, whatever its absence means
 abbrev pub FramesByLength : Headers → Framing → Type 0
 FramesByLength fs f = (absent : Framing) → by_length absent (lengths_in fs) ≡ f
 
 abbrev pub IsLength : ℕ → Headers → Length → Type 0
-IsLength limit fs length.Absent = lengths_in fs ≡ []
-IsLength limit fs (length.Within n) = FramesByLength fs (OfLength n) × (n ≤ limit)
-IsLength limit fs length.Past = (n : ℕ) × FramesByLength fs (OfLength n) × (limit < n)
-IsLength limit fs length.Bad = FramesByLength fs BadFraming
+IsLength limit fs told.Absent = lengths_in fs ≡ []
+IsLength limit fs (told.Within n) = FramesByLength fs (OfLength n) × (n ≤ limit)
+IsLength limit fs told.Past = (n : ℕ) × FramesByLength fs (OfLength n) × (limit < n)
+IsLength limit fs told.Bad = FramesByLength fs BadFraming
 
 -- by both, whatever their absence means
 abbrev pub Frames : Headers → Framing → Type 0
