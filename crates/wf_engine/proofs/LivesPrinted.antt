@@ -1,21 +1,22 @@
 -- What is printed over a life, and that a moment of a command is a stay of one.
-use Rattle.std.specs.Prelude.{◌≡◌, ◌≢◌, ◌⊎◌, ℕ, List, [], Contains, Option, Some, None}
+use Rattle.std.specs.Prelude.{◌≡◌, ◌≢◌, ◌⊎◌, ℕ, List, [], Some, None}
 use Rattle.std.proofs.Common.{inl, inr, refl, sym, ◌∙◌, ap, subst}
 use Rattle.wf_deeds.specs.Deeds.{printed}
 use Rattle.wf_deeds.specs.Outside.{Outside}
 use Rattle.wf_engine.proofs.LivesKept.{stay_at}
-use Rattle.wf_engine.specs.Lives.{PairIsAStay, PrintsByACause, PrintsOneLine, PrintsOther, PrintsOutcome, OneLine, Stay, IsStay, stay_scene}
+use Rattle.wf_engine.specs.Lives.{PairsAreStays, PrintsByACause, PrintsOneLine, PrintsOther, PrintsOutcome, OneLine, Stay, IsStay, stay_scene}
 use Rattle.wf_engine.specs.Printed.{Reports, Gives, bad_line, refused, not_a_journal, already_started, not_started, not_a_history, ended, done, status_of, outcome_text}
-use Rattle.wf_engine.specs.Safe.{IsEarly, IsPrefix, PrintedIsOutcome}
+use Rattle.wf_engine.specs.Safe.{IsPrefix, PrintedIsOutcome}
+use Rattle.wf_host.specs.World.{World}
 use Rattle.wf_model.specs.Config.{Outcome, Active}
 use Rattle.wf_replay.specs.Language.{Language}
 use Rattle.wf_status.specs.declared.Status.{Status}
 
 -- what the disk might leave at entry is what it reads
-pub pair_is_a_stay : PairIsAStay
-pair_is_a_stay L O R words source end w image all only (D, since, inl early) =
+pub pairs_are_stays : (w : World) → PairsAreStays w
+pairs_are_stays w L O R words source end image all only (D, since, inl early) =
     (D, since, inl (record { small = early.small; clock = early.clock; at_entry = only image early.at_entry; printed = early.printed }))
-pair_is_a_stay L O R words source end w image all only (D, since, inr late) = (D, since, inr late)
+pairs_are_stays w L O R words source end image all only (D, since, inr late) = (D, since, inr late)
 
 -- an outcome with a status is one
 has_ended : (o : Outcome) (st : Status) → status_of o ≡ Some st → o ≢ Active
@@ -32,13 +33,13 @@ module _ (L : Language) (R : Reports) (x : Stay) where
   by_cause st text (ended o s has is) front = inl (outcome_text o, (o, has, has_ended o s is, refl), front)
   by_cause st text (done t report) front = inr (_, _, done t report, front, inr report)
 
-  by_what : PrintedIsOutcome L R (stay_scene x) x.left x.deeds → (printed x.deeds ≡ []) ⊎ PrintsOutcome L R x ⊎ PrintsOther L R x
-  by_what (inl none) = inl none
-  by_what (inr (st, text, gives, front)) = inr (by_cause st text gives front)
+  by_what : (O : Outside) → PrintedIsOutcome L O R (stay_scene x) x.end x.left x.deeds → (printed x.deeds ≡ []) ⊎ PrintsOutcome L R x ⊎ PrintsOther L R x
+  by_what O (inl none) = inl none
+  by_what O (inr (st, text, gives, front)) = inr (by_cause st text gives front)
 
   of_stay : (O : Outside) → IsStay L O R x → (printed x.deeds ≡ []) ⊎ PrintsOutcome L R x ⊎ PrintsOther L R x
-  of_stay O (inl early) = by_what early.printed
-  of_stay O (inr late) = by_what late.printed
+  of_stay O (inl early) = by_what O early.printed
+  of_stay O (inr late) = by_what O late.printed
 
 pub prints_by_a_cause : PrintsByACause
 prints_by_a_cause L O R first xs x life (k, lt, is) = of_stay L R x O (stay_at L O R first xs x k life.chain lt is)

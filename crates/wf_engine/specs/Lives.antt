@@ -1,6 +1,6 @@
 -- Lives: lists of commands, each on what the one before left.
 --     Life           from a file that is fit
---     PairIsAStay    what a moment of a command leaves is a stay of a life
+--     PairsAreStays  what a moment of a command leaves is a stay of a life
 --     OneRequest, ClosedIsNotStarted, RecordsStay, OneLine, PrintsByACause, PrintsOneLine     what holds over all commands of a life
 use Rattle.std.specs.Prelude.{◌≡◌, ◌≢◌, ◌⊎◌, ◌≤◌, ℕ, List, [], ◌∷◌, ◌++◌, length, Contains, Option, Some, Ok}
 use Rattle.wf_deeds.specs.Deeds.{printed}
@@ -36,9 +36,9 @@ stay_scene x = record { words = x.words; source = x.source; found = x.opened }
 abbrev pub IsStay : Language → Outside → Reports → Stay → Type 0
 IsStay L O R x = Safe L O R (stay_scene x) x.end (λ i. i ≡ x.opened) x.left x.deeds
 
--- a pair of a moment of a command is a stay, where the disk read and crashed to one image when it began
-abbrev pub PairIsAStay : Type 0
-PairIsAStay = (L : Language) (O : Outside) (R : Reports) (words : List (List ℕ)) (source : Rest) (end : Option Status) (w : World) (image : List ℕ) (all : List Deed)
+-- a pair of a moment of a command that began in this world is a stay, where the disk read and crashed to one image then
+abbrev pub PairsAreStays : World → Type 0
+PairsAreStays w = (L : Language) (O : Outside) (R : Reports) (words : List (List ℕ)) (source : Rest) (end : Option Status) (image : List ℕ) (all : List Deed)
     → Only w.seen w.may_leave → SafeAt L O R (scene words source w) end w image all
     → (D : List Deed) × (all ≡ w.deeds ++ D)
     × IsStay L O R (record { opened = w.seen; words = words; source = source; deeds = D; end = end; left = image })

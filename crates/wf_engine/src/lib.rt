@@ -10,6 +10,6 @@ mod turns;
 
 pub use engine::Engine;
 pub use fault::EngineFault;
-pub use lives::law_of_lives;
+pub use lives::{law_of_lives, law_of_stays};
 pub use rows::worked_histories;
 pub use turns::choose_turn;

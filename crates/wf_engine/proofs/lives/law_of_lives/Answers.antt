@@ -17,9 +17,6 @@ returns-clause-one_request c = lives.one_request c.laws_of_runs.ensures.requests
 pub returns-clause-closed : goal.returns-clause-closed
 returns-clause-closed c = lives.closed c.laws_of_runs.ensures.requests_stay c.laws_of_histories.ensures.computed
 
-pub returns-clause-pair_is_a_stay : goal.returns-clause-pair_is_a_stay
-returns-clause-pair_is_a_stay c = printed.pair_is_a_stay
-
 pub returns-clause-prints_by_a_cause : goal.returns-clause-prints_by_a_cause
 returns-clause-prints_by_a_cause c = printed.prints_by_a_cause
 
