@@ -186,11 +186,11 @@ pub(crate) fn resume<H: Host>(alloc: Global, host: &mut H) -> Result<Said, Silen
     ensures tells { (H.world host.new).tells ≡ (H.world host.old).tells }
     ensures counts { NoneFell (H.faults host.old) (H.faults host.new) }
 {
-    resume_counted::<H, Brand>(alloc, host, Blank::new(1))
+    resume_from_blank::<H, Brand>(alloc, host, Blank::new(1))
 }
 
 /// The same, counting the events of the journal on a ledger of its own.
-fn resume_counted<H: Host, L: Ledger>(
+fn resume_from_blank<H: Host, L: Ledger>(
     alloc: Global,
     host: &mut H,
     blank: Blank,
@@ -205,8 +205,24 @@ fn resume_counted<H: Host, L: Ledger>(
     ensures tells { (H.world host.new).tells ≡ (H.world host.old).tells }
     ensures counts { NoneFell (H.faults host.old) (H.faults host.new) }
 {
+    resume_counted(alloc, host, &mut Steps::<L>::new(blank))
+}
+
+/// The same, counting the events of the journal.
+fn resume_counted<H: Host, L: Ledger>(
+    alloc: Global,
+    host: &mut H,
+    steps: &mut Steps<L>,
+) -> Result<Said, Silence>
+    ensures end { (words : List (List ℕ)) (rest : Rest) (reads reads2 : ℕ) → IsLineOf (scene words rest (H.world host.old)) (λ c. c ≡ Resume)
+        → IsEnd (scene words rest (H.world host.old)) (H.world host.old) (H.world host.new) reads reads2 (H.faults host.old) (H.faults host.new) result }
+    ensures worked { Told (H.world host.old) ((words : List (List ℕ)) (rest : Rest) → IsLineOf (scene words rest (H.world host.old)) (λ c. c ≡ Resume)
+        → Worked (scene words rest (H.world host.old)) (H.world host.old) (H.world host.new) result) }
+    ensures tells { (H.world host.new).tells ≡ (H.world host.old).tells }
+    ensures counts { NoneFell (H.faults host.old) (H.faults host.new) }
+{
     laws_of_rules();
-    match Engine::open(alloc, host, &mut Steps::<L>::new(blank)) {
+    match Engine::open(alloc, host, steps) {
         Ok(engine) => to_outcome(alloc, engine, host),
         Err(fault) => Said::of_fault(alloc, fault),
     }
