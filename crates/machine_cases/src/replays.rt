@@ -16,6 +16,7 @@ use wf_host::MemHost;
 use wf_host_cases::host_of;
 use wf_machine::{Machine, Steps};
 use wf_replay::{ReplayFault, replay};
+use wf_value::Value;
 
 /// Writes what a replay gave: how many moves were made, and the outcome; or the fault.
 fn write_replayed(
@@ -33,25 +34,35 @@ fn write_replayed(
 }
 
 /// Replays the history of a host's file on the machine of a source, and then again on the same history, which is at its end or closed.
-fn replay_twice(
+/// The events are counted on a ledger of its own.
+fn replay_twice<L: Ledger>(
     alloc: Global,
     host: &mut MemHost,
-    source: &str,
+    source: &Value,
     out: &mut String,
-) -> Result<(), CaseFault> {
+    blank: Blank,
+) -> Result<(), CaseFault>
+    requires name { blank.name ≡ L.name }
+    requires parts { blank.parts ≡ L.parts }
+    requires some { 0 < blank.parts }
+{
+    let Value::Text(source) = source else {
+        return Err(CaseFault::NoCase);
+    };
+    let mut steps = Steps::<L>::new(blank);
     let mut history = match History::open(host) {
         Ok(history) => history,
         Err(fault) => return Ok(write!(out, "{}", ReplayFault::from(fault))?),
     };
     match first_start(alloc, &mut history, host)? {
-        Ok(start) => replay_both::<Brand>(
+        Ok(start) => replay_both(
             alloc,
             &mut history,
             host,
-            source,
+            source.as_str(),
             &start,
             out,
-            Blank::new(1),
+            &mut steps,
         ),
         Err(fault) => Ok(write!(out, "{}", ReplayFault::from(fault))?),
     }
@@ -73,7 +84,7 @@ fn first_start(
     }
 }
 
-/// Replays a history on the machine of a source and a start, and then again, counting the events on a ledger of its own.
+/// Replays a history on the machine of a source and a start, and then again.
 fn replay_both<L: Ledger>(
     alloc: Global,
     history: &mut History,
@@ -81,19 +92,15 @@ fn replay_both<L: Ledger>(
     source: &str,
     start: &Start,
     out: &mut String,
-    blank: Blank,
+    steps: &mut Steps<L>,
 ) -> Result<(), CaseFault>
-    requires name { blank.name ≡ L.name }
-    requires parts { blank.parts ≡ L.parts }
-    requires some { 0 < blank.parts }
     requires kept { is_closed history.old ≡ false → Told (mem_world host.old) (Stands history.old (mem_world host.old)) }
 {
-    let mut steps = Steps::<L>::new(blank);
     let machine = started(alloc, source, start)?;
-    write_replay(alloc, history, host, machine, out, &mut steps)?;
+    write_replay(alloc, history, host, machine, out, steps)?;
     out.push_str("; again ")?;
     let machine = started(alloc, source, start)?;
-    write_replay(alloc, history, host, machine, out, &mut steps)
+    write_replay(alloc, history, host, machine, out, steps)
 }
 
 /// Replays a history on a machine, and writes what that gave.
@@ -115,10 +122,10 @@ fn write_replay<L: Ledger>(
 
 /// What two replays of the history in a host's file give, one after the other.
 pub fn twice(alloc: Global, case: &Case<'_>) -> Result<String, CaseFault> {
-    let source = case.text(0)?;
+    let source = case.item(0)?;
     let mut out = String::new(alloc);
     let mut host = host_of(alloc, case.item(1)?)?;
-    replay_twice(alloc, &mut host, source, &mut out)?;
+    replay_twice::<Brand>(alloc, &mut host, source, &mut out, Blank::new(1))?;
     Ok(out)
 }
 
