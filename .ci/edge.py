@@ -165,7 +165,7 @@ def large_value(folder):
         print("edge: valgrind isn't there, so the cost of reading a large value isn't looked at")
         return
     small = instructions(folder, 15, 800) - instructions(folder, 15, 400)
-    large = instructions(folder, 15000, 800) - instructions(folder, 15000, 400)
+    large = instructions(folder, 6000, 800) - instructions(folder, 6000, 400)
     assert large <= 2 * small, f"400 reads of a large value take {large} instructions, of a small one {small}"
 
 
