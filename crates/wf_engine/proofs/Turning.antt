@@ -1,23 +1,20 @@
 -- What is known of the events of a turn, one after another.
 use Rattle.std.specs.Prelude.{◌≡◌, ◌≢◌, ◌⊎◌, ◌≤◌, ◌<◌, ◌+◌, max, unwrap_or, ℕ, suc, List, [], ◌∷◌, ◌++◌, length, Option, Some, None}
 use Rattle.std.specs.List.{AllByRecursion}
-use Rattle.std.proofs.Common.{inl, inr, refl, sym, ◌∙◌, ap, subst, arith, length-append}
+use Rattle.std.proofs.Common.{inl, inr, ⊎_elim, refl, sym, ◌∙◌, ap, subst, arith, length-append}
 use Rattle.wf_ast.specs.Tree.{Program}
 use Rattle.wf_engine.proofs.Chosen.{Turning}
 use Rattle.wf_deeds.specs.Kept.{reading_of}
 use Rattle.wf_deeds.specs.Turns.{chosen, turn_of, TakeReading}
-use Rattle.wf_engine.specs.Turn.{IsTurn}
+use Rattle.wf_engine.specs.Turn.{IsTurn, Rests}
 use Rattle.wf_events.specs.Spelling.{IsOld}
-use Rattle.wf_events.specs.View.{event_view}
-use Rattle.wf_events.specs.declared.data.Event as code
-use Rattle.wf_events.specs.declared.data.Event.TheVariants as event
-use Rattle.wf_machine.specs.Counts.{counts}
-use Rattle.wf_machine.specs.Outcome.{IsResult}
+use Rattle.wf_machine.specs.Counts.{counts, counts_of}
+use Rattle.wf_machine.specs.Laws.{OnlyMoves}
 use Rattle.wf_machine.specs.State.{State}
 use Rattle.wf_model.specs.ChoiceLaws as choice
-use Rattle.wf_model.specs.ChoiceLaws.{ChoiceTakesTheReading, NothingIsChosenBehindAnOutcome}
+use Rattle.wf_model.specs.ChoiceLaws.{ChoiceTakesTheReading, NothingIsChosenBehindAnOutcome, NothingIsChosenWhenQuiet}
 use Rattle.wf_model.specs.Choose.{choose}
-use Rattle.wf_model.specs.Config.{Active, Config, To}
+use Rattle.wf_model.specs.Config.{Outcome, Active, Returned, Raised, Cancelled, Config, To}
 use Rattle.wf_model.specs.Step.{next}
 use Rattle.wf_shared.specs.Events.{Event, Move, MoveAt, Begin, Issue, Answer, Due, Arrive, Cancel}
 
@@ -62,14 +59,14 @@ still_last reading last new e le (inl none) is = omega (arith, le, is ∙ ap (λ
 still_last reading last new e le (inr some) is = omega (arith, le, is ∙ ap (λ o. unwrap_or o last) some)
 
 -- ## Of a machine
--- its events are moves, and count
-pub counts_one : (e : code.Event) → counts (event_view e) ≡ 1
-counts_one (event.Move b) = refl
-counts_one (event.MoveAt b t) = refl
+-- what one event more counts
+counts_more : (es : List Event) (e : Event) → counts_of (es ++ e ∷ []) ≡ counts_of es + counts e
+counts_more [] e = omega arith
+counts_more (d ∷ es) e = omega (arith, counts_more es e)
 
 pub record Telling (first now : State) (reading : ℕ) (es : List Event) : Type 0 where
   pub turning : Turning first now reading es
-  pub counted : now.config.moves ≡ first.config.moves + length es
+  pub counted : now.config.moves ≡ first.config.moves + counts_of es
   pub most : now.config.moves ≤ 100000
   pub spelled : AllByRecursion IsOld es
   pub readings : first.config.last ≤ reading → AllByRecursion (Takes reading) es
@@ -78,7 +75,7 @@ pub record Telling (first now : State) (reading : ℕ) (es : List Event) : Type 
 pub tells_at_first : (first : State) (reading : ℕ) (es : List Event) → Turning first first reading es → first.config.moves ≤ 100000 → es ≡ [] → Telling first first reading es
 tells_at_first first reading es turning most none = record {
   turning = turning;
-  counted = omega (arith, ap length none);
+  counted = omega (arith, ap counts_of none);
   most = most;
   spelled = subst (AllByRecursion IsOld) (sym none) tt;
   readings = λ le. subst (AllByRecursion (Takes reading)) (sym none) tt;
@@ -86,10 +83,10 @@ tells_at_first first reading es turning most none = record {
 }
 
 pub tells_on : ChoiceTakesTheReading → (first mid new : State) (reading : ℕ) (es fs : List Event) (e : Event) → Telling first mid reading es → Turning first new reading fs → choose mid.program mid.config reading ≡ Some e
-    → IsOld e → new.config.moves ≡ mid.config.moves + 1 → new.config.moves ≤ 100000 → new.config.last ≡ unwrap_or (choice.reading_of e) mid.config.last → fs ≡ es ++ e ∷ [] → Telling first new reading fs
+    → IsOld e → new.config.moves ≡ mid.config.moves + counts e → new.config.moves ≤ 100000 → new.config.last ≡ unwrap_or (choice.reading_of e) mid.config.last → fs ≡ es ++ e ∷ [] → Telling first new reading fs
 tells_on law first mid new reading es fs e t turning is old more most last added = record {
   turning = turning;
-  counted = omega (arith, more, t.counted, ap length added, length-append es (e ∷ []));
+  counted = omega (arith, more, t.counted, ap counts_of added, counts_more es e);
   most = most;
   spelled = subst (AllByRecursion IsOld) (sym added) (all_more IsOld es e t.spelled old);
   readings = λ le. subst (AllByRecursion (Takes reading)) (sym added) (all_more (Takes reading) es e (t.readings le) (takes reading mid.config.last e (t.last le) (law mid.program mid.config reading e is)));
@@ -101,9 +98,35 @@ pub none_behind : NothingIsChosenBehindAnOutcome → (p : Program) (c : Config) 
 unfolding chosen
 none_behind law p c reading n es is ended = is ∙ ap (λ (o : Option Event). elim o [ None ↦ [] | Some e ↦ e ∷ chosen n p (next p c e) reading ]) (law p c reading ended)
 
+-- an outcome, or none
+over : (o : Outcome) → (o ≡ Active) ⊎ (o ≢ Active)
+over Active = inl refl
+over (Returned v) = inr (λ is. cc is)
+over (Raised e) = inr (λ is. cc is)
+over Cancelled = inr (λ is. cc is)
+
+-- where nothing is chosen, nothing can move
+pub rests : NothingIsChosenWhenQuiet → (p : Program) (c : Config) (reading : ℕ) → choose p c reading ≡ None → Rests c reading
+rests law p c reading none = ⊎_elim (λ active. inr ((law p c reading active).0 none)) inl (over c.outcome)
+
+-- a machine that only moves counts on with each turn
+pub counts_on : NothingIsChosenWhenQuiet → (s : State) (reading : ℕ) → OnlyMoves s → s.config.outcome ≡ Active → 1 ≤ counts_of (turn_of s.program s.config reading None)
+unfolding chosen
+counts_on law s reading only active =
+    at_choice (choose s.program s.config reading) refl
+  where
+    rest : Event → List Event
+    rest e = chosen 4095 s.program (next s.program s.config e) reading
+
+    at_choice : (o : Option Event) → choose s.program s.config reading ≡ o → 1 ≤ counts_of (turn_of s.program s.config reading None)
+    at_choice None is = absurd (only.busy active reading ((law s.program s.config reading active).0 is))
+    at_choice (Some e) is =
+        let first : turn_of s.program s.config reading None ≡ e ∷ rest e = ap (λ (o : Option Event). elim o [ None ↦ [] | Some e ↦ e ∷ chosen 4095 s.program (next s.program s.config e) reading ]) is in
+        omega (arith, ap counts_of first, only.counted reading e is)
+
 -- where the turn is whole
 pub is_turn : NothingIsChosenBehindAnOutcome → (first now : State) (reading : ℕ) (es : List Event) → Telling first now reading es → es ≡ turn_of first.program first.config reading None
-    → (length es < 4096 → IsResult now.config.outcome) → IsTurn first now reading es
+    → (length es < 4096 → Rests now.config reading) → IsTurn first now reading es
 is_turn law first now reading es t whole ended = record {
   turn = whole;
   leads = t.turning.so_far.leads;

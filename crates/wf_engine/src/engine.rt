@@ -12,8 +12,8 @@ use wf_deeds::laws_of_rules;
 use wf_events::{Start, Turn, one_spelling};
 use wf_history::History;
 use wf_host::Host;
-use wf_machine::{Machine, Outcome, Steps};
-use wf_model::laws_of_runs;
+use wf_machine::{Machine, Outcome, Steps, only_moves};
+use wf_model::{laws_of_choice, laws_of_runs};
 use wf_replay::{laws_of_histories, laws_of_moments};
 use wf_source::each_source_is_one;
 
@@ -51,6 +51,7 @@ impl Engine {
     ghost use Rattle.wf_host.specs.declared.data.Deed.TheVariants.{Now};
     ghost use Rattle.wf_journal.specs.Records.{magic, records};
     ghost use Rattle.wf_journal.specs.Steps.{Moment};
+    ghost use Rattle.wf_machine.specs.Counts.{counts_of};
     ghost use Rattle.wf_machine.specs.Outcome.{IsResult};
     ghost use Rattle.wf_machine.specs.Seen.{state_of};
     ghost use Rattle.wf_model.specs.Config.{Active};
@@ -183,7 +184,8 @@ impl Engine {
         ensures any_moment { is_closed self.old ≡ false → Told (H.world host.old) ((command : Command) (D : List Deed)
             → StandsFor the_language command (memory self.old) (records (H.world host.old).seen) D
             → LeavesOnly (H.world host.old) (H.world host.new) (Moment (H.world host.old) (KeptAt the_language command (memory self.old) (records (H.world host.old).seen) D))) }
-        ensures goes_on { OnOk result (((memory self.old).config.outcome ≡ Active → (memory self.old).config.moves < (memory self.new).config.moves) × ((memory self.new).config.moves ≤ 100000)) }
+        ensures counted { OnOk result ((memory self.new).config.moves ≡ (memory self.old).config.moves + counts_of (turn_of (memory self.old).program (memory self.old).config (memory self.old).reading None)) }
+        ensures most { OnOk result ((memory self.new).config.moves ≤ 100000) }
         ensures session { (memory self.new).session ≡ (memory self.old).session }
         ensures disk_fault { IsErrOf result EngineFault.DiskFault → Rose (H.faults host.old).disk (H.faults host.new).disk }
         ensures closed { IsErrOf result EngineFault.Closed ↔ (is_closed self.old ≡ true) }
@@ -244,7 +246,9 @@ impl Engine {
         if self.closed {
             return Err(EngineFault::Closed);
         }
+        laws_of_choice();
         while let Outcome::Active = self.machine.outcome() {
+            only_moves(&self.machine);
             self.turn(host)?;
         }
         Ok(())

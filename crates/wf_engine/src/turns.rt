@@ -2,10 +2,10 @@
 ghost use Rattle.std.specs.List.{AllByRecursion};
 ghost use Rattle.std.specs.Prelude.{◌≡◌, ◌≢◌, ◌≤◌, ◌<◌, ◌+◌, [], false, length, None, IfOk, OnOk};
 ghost use Rattle.wf_deeds.specs.Turns.{turn_of, TakeReading};
-ghost use Rattle.wf_engine.specs.Turn.{IsTurn};
+ghost use Rattle.wf_engine.specs.Turn.{IsTurn, Rests};
 ghost use Rattle.wf_events.specs.Spelling.{IsOld};
 ghost use Rattle.wf_events.specs.View.{event_view, events_view};
-ghost use Rattle.wf_machine.specs.Outcome.{IsResult};
+ghost use Rattle.wf_machine.specs.Counts.{counts_of};
 ghost use Rattle.wf_machine.specs.Seen.{state_of};
 ghost use Rattle.wf_model.specs.Config.{Active, To};
 ghost use Rattle.wf_model.specs.Run.{run_on};
@@ -22,8 +22,8 @@ use wf_value::OutOfMemory;
 const MOST_EVENTS: usize = 4096;
 
 /// Applies what the machine chooses at a reading of the clock, in milliseconds since 1970, until nothing can move, there is an outcome,
-/// or there are 4,096 events. Gives the events, in order: fewer only where there is an outcome. Each has a spelling, and takes the reading
-/// where that isn't below the machine's last one. Without memory the machine isn't to be used further.
+/// or there are 4,096 events. Gives the events, in order: fewer only where there is an outcome or nothing can move. Each has a spelling,
+/// and takes the reading where that isn't below the machine's last one. Without memory the machine isn't to be used further.
 pub fn choose_turn(
     alloc: Global,
     machine: &mut Machine,
@@ -33,9 +33,9 @@ pub fn choose_turn(
     ensures turn { IfOk result (λ events. events_view events ≡ turn_of (state_of machine.old).program (state_of machine.old).config reading None) }
     ensures leads { IfOk result (λ events. run_on (state_of machine.old).program (To (state_of machine.old).config) (events_view events) ≡ To (state_of machine.new).config) }
     ensures short { IfOk result (λ events. length (events_view events) ≤ 4096) }
-    ensures ended { IfOk result (λ events. length (events_view events) < 4096 → IsResult (state_of machine.new).config.outcome) }
+    ensures ended { IfOk result (λ events. length (events_view events) < 4096 → Rests (state_of machine.new).config reading) }
     ensures active { IfOk result (λ events. (state_of machine.old).config.outcome ≢ Active → events_view events ≡ []) }
-    ensures counted { IfOk result (λ events. (state_of machine.new).config.moves ≡ (state_of machine.old).config.moves + length (events_view events)) }
+    ensures counted { IfOk result (λ events. (state_of machine.new).config.moves ≡ (state_of machine.old).config.moves + counts_of (events_view events)) }
     ensures most { OnOk result ((state_of machine.new).config.moves ≤ 100000) }
     ensures spelled { IfOk result (λ events. AllByRecursion IsOld (events_view events)) }
     ensures readings { IfOk result (λ events. (state_of machine.old).config.last ≤ reading → TakeReading reading (events_view events)) }

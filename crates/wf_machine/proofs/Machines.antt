@@ -1,17 +1,22 @@
 -- What a machine that runs can do.
-use Rattle.std.proofs.Common.{◌≡◌, ◌<◌, ◌≤◌, ◌⊎◌, ℕ, max, Bool, true, false, List, length, Some, sym, ◌∙◌, ap, subst, arith}
+use Rattle.std.proofs.Common.{◌≡◌, ◌<◌, ◌≤◌, ◌⊎◌, inl, inr, ℕ, max, Bool, true, false, IsTrue, List, length, Option, Some, None, sym, refl, ◌∙◌, ap, subst, arith, ⊎_elim}
 use Rattle.std.specs.List.{list_all}
 use Rattle.wf_ast.specs.Tree as t
 use Rattle.wf_ast.specs.View.{program_view}
 use Rattle.wf_machine.proofs.Ends.{enabled}
 use Rattle.wf_machine.proofs.Stands.{Here, straight_steps, as_running, running_of, within_place, alone, choice, plain_here, clock_here, not_plain, not_clock}
+use Rattle.wf_machine.specs.Counts.{counts}
 use Rattle.wf_machine.specs.Facts.{facts_view}
+use Rattle.wf_machine.specs.Laws.{OnlyMoves}
 use Rattle.wf_machine.specs.Moves.{IsPlace, clock_at, main_event}
 use Rattle.wf_machine.specs.Outcome.{IsAlone}
 use Rattle.wf_machine.specs.Seen.{state_of}
 use Rattle.wf_machine.specs.State.{main_steps_view, outcome_by}
 use Rattle.wf_machine.specs.Straight.{is_straight_step}
+use Rattle.wf_machine.specs.declared.machine.Ending.{Ending}
+use Rattle.wf_machine.specs.declared.machine.Ending.TheVariants as ending
 use Rattle.wf_machine.specs.declared.machine.Machine.{Machine}
+use Rattle.wf_model.specs.ChoiceLaws.{NothingIsChosenBehindAnOutcome, NothingIsChosenWhenQuiet}
 use Rattle.wf_model.specs.Choose.{choose}
 use Rattle.wf_model.specs.Config.{Active, Config, To}
 use Rattle.wf_model.specs.Move.{move}
@@ -80,3 +85,32 @@ module _ (m : Machine) (active : (state_of m).config.outcome ≡ Active) where
 
   pub clock_never : (b now : ℕ) (d : Config) → ((b ≡ 0 → ⊥) ⊎ (Reads ≡ false) ⊎ (now < m.last)) → next P Now (Event.MoveAt b now) ≡ To d → ⊥
   clock_never b now d why is = not_clock P (facts_view m.facts) m.last Ss m.step m.entry (pairs_of m.variables) m.moves all place b now d why (ap (λ c. next P c (Event.MoveAt b now)) (sym runs) ∙ is)
+
+-- ## What it only does
+-- an outcome, or none
+over : (e : Ending) → (outcome_by e ≡ Active) ⊎ ((outcome_by e ≡ Active) → ⊥)
+over ending.Running = inl refl
+over (ending.Returned v) = inr (λ is. cc is)
+over (ending.Raised v) = inr (λ is. cc is)
+
+counts_one : (clock : Bool) (now : ℕ) → counts (main_event clock now) ≡ 1
+counts_one true now = refl
+counts_one false now = refl
+
+some_is : {A : Type 0} (a b : A) → Some a ≡ Some b → a ≡ b
+some_is a b is = cc is
+
+-- what is chosen is `main`'s next move
+is_chosen : NothingIsChosenBehindAnOutcome → (m : Machine) (P : Event → Type 0) → ((active : (state_of m).config.outcome ≡ Active) (now : ℕ) → P (main_event (Reads m active) now))
+    → (r : ℕ) (e : Event) → choose (state_of m).program (state_of m).config r ≡ Some e → P e
+is_chosen behind m P holds r e is = ⊎_elim
+    (λ active. subst P (some_is (main_event (Reads m active) (max r m.last)) e (sym (chosen m active r) ∙ is)) (holds active (max r m.last)))
+    (λ ended. absurd (let no : None ≡ Some e = sym (behind (state_of m).program (state_of m).config r ended) ∙ is in cc no))
+    (over m.ending)
+
+pub moves_only : NothingIsChosenWhenQuiet → NothingIsChosenBehindAnOutcome → (m : Machine) → OnlyMoves (state_of m)
+moves_only quiet_law behind m = record {
+  busy = λ active r still. absurd (let no : None ≡ Some (main_event (Reads m active) (max r m.last)) = sym ((quiet_law (state_of m).program (state_of m).config r active).1 still) ∙ chosen m active r in cc no);
+  counted = is_chosen behind m (λ e. counts e ≡ 1) (λ active now. counts_one (Reads m active) now);
+  alone = is_chosen behind m (λ e. IsAlone (state_of m).program (state_of m).config e) (λ active now. comes_alone m active now);
+}

@@ -25,6 +25,6 @@ mod moves;
 mod steps;
 mod store;
 
-pub use laws::one_outcome;
+pub use laws::{one_outcome, only_moves};
 pub use machine::{ApplyFault, Machine, Outcome};
 pub use steps::Steps;

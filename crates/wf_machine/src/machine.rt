@@ -121,7 +121,7 @@ impl Drop for Machine {
 impl Machine {
     ghost use Rattle.wf_machine.specs.Seen.{state_of};
     ghost use Rattle.wf_events.specs.View.{event_view, start_view};
-    ghost use Rattle.wf_machine.specs.Outcome.{IsAlone, IsResult, IsShallow};
+    ghost use Rattle.wf_machine.specs.Outcome.{IsResult, IsShallow};
     ghost use Rattle.wf_machine.specs.Counts.{counts};
     ghost use Rattle.wf_machine.specs.Lent.{outcome_view};
     ghost use Rattle.wf_model.specs.ChoiceLaws.{reading_of};
@@ -208,14 +208,12 @@ impl Machine {
         }
     }
 
-    /// The event that comes next at a reading of the clock, in milliseconds since 1970: `main`'s move, at this reading or at the last
-    /// one, whichever is greater, where it reads the clock. There is one until the execution has ended, and then none. It can be applied,
-    /// and no event could come in its place but the same move at another reading, and a cancelling.
+    /// The event that comes next at a reading of the clock, in milliseconds since 1970. It can be applied, and takes this reading or the
+    /// last one, whichever is greater, where it takes one. There is none once the execution has ended, and none while it is quiet at the
+    /// reading.
     pub fn choose(&self, reading: u64) -> Option<Event>
         ensures choice { option_map event_view result ≡ choose (state_of self.now).program (state_of self.now).config reading }
         ensures enabled { IfSome result (λ e. (d : Config) × (next (state_of self.now).program (state_of self.now).config (event_view e) ≡ To d)) }
-        ensures alone { IfSome result (λ e. IsAlone (state_of self.now).program (state_of self.now).config (event_view e)) }
-        ensures active { IsNone result ↔ IsResult (state_of self.now).config.outcome }
     {
         match self.ending {
             Ending::Running => Some(self.next_move(reading)),

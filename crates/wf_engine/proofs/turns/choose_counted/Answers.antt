@@ -1,8 +1,8 @@
-use Rattle.std.proofs.Common.{refl, subst, sym, ◌∙◌, ap, arith, length, length-append, ◌∷◌, ◌++◌, ◌+◌, []}
+use Rattle.std.proofs.Common.{sym, ◌∙◌, ap, arith, length, length-append, ◌∷◌, ◌++◌, ◌+◌, []}
 use Rattle.std.proofs.lemmas.List.{length-map}
-use Rattle.std.specs.Prelude.{IsNone, option_map}
+use Rattle.std.specs.Prelude.{option_map}
 use Rattle.wf_engine.proofs.Chosen.{turns_at_first, turns_on, turn_ends, turn_is_full, whole_after}
-use Rattle.wf_engine.proofs.Turning.{counts_one, is_turn, tells_at_first, tells_on}
+use Rattle.wf_engine.proofs.Turning.{is_turn, rests, tells_at_first, tells_on}
 use Rattle.wf_engine.proofs.turns.choose_counted.Goals as goal
 use Rattle.wf_events.specs.View.{event_view, events_view}
 use Rattle.wf_machine.specs.Seen.{state_of}
@@ -28,7 +28,7 @@ loop-machine-preserved g c =
           (omega (arith, c.loop-machine-test.true, ap length c.items.ensures.view, length-map c.items.result.now event_view))
           is c.in-Ok.ensures.applied
           (whole_after c.apply.new.self.broken c.apply.result c.in-Ok.field-0 fault.OutOfMemory c.in-Ok.is c.apply.ensures.broken.0) c.apply.ensures.program longer)
-          is c.spelled.ensures.old (c.in-Ok.ensures.counted ∙ ap (λ n. (state_of c.loop-machine.machine).config.moves + n) (counts_one c.in-Some.event)) c.apply.ensures.most c.in-Ok.ensures.last longer,
+          is c.spelled.ensures.old c.in-Ok.ensures.counted c.apply.ensures.most c.in-Ok.ensures.last longer,
       omega (arith, c.loop-machine.invariant.1, c.in-Ok.ensures.steps, ap length longer, length-append (events_view c.loop-machine.events) (event_view c.in-Some.event ∷ [])),
     )
 
@@ -36,7 +36,7 @@ pub returns-in_default-clause-turn : goal.returns-in_default-clause-turn
 returns-in_default-clause-turn g c =
     is_turn c.laws_of_choice.ensures.nothing_is_chosen_behind_an_outcome (state_of c.args.machine.now) (state_of c.loop-machine.machine) c.args.reading (events_view c.loop-machine.events) c.loop-machine.invariant.0
     (turn_ends (state_of c.args.machine.now) (state_of c.loop-machine.machine) c.args.reading (events_view c.loop-machine.events) c.loop-machine.invariant.0.turning (sym c.choose.ensures.choice ∙ ap (λ o. option_map event_view o) c.in_default.is))
-    (λ _. c.choose.ensures.active.0 (subst IsNone (sym c.in_default.is) refl))
+    (λ _. rests c.laws_of_choice.ensures.nothing_is_chosen_when_quiet (state_of c.loop-machine.machine).program (state_of c.loop-machine.machine).config c.args.reading (sym c.choose.ensures.choice ∙ ap (λ o. option_map event_view o) c.in_default.is))
 
 pub returns-in_default-clause-steps : goal.returns-in_default-clause-steps
 returns-in_default-clause-steps g c = c.loop-machine.invariant.1

@@ -1,9 +1,11 @@
 use Rattle.std.proofs.Common.{inl, inr, ⊎_elim, refl, sym, ◌∙◌, ap, arith}
 use Rattle.wf_engine.proofs.Sessions.{at_first, ends, falls_none, goes_far, lent_active, moments_on, none_fell, not_both, passed_on, rose_later, told_on}
+use Rattle.wf_engine.proofs.Turning.{counts_on}
 use Rattle.wf_engine.proofs.engine.Engine.session.Goals as goal
 use Rattle.wf_engine.specs.Engine.{is_closed, memory}
 use Rattle.wf_engine.specs.TheLanguage.{the_language}
 use Rattle.wf_engine.specs.declared.fault.EngineFault.TheVariants as fault
+use Rattle.wf_machine.specs.Seen.{state_of}
 
 pub loop-self-init : goal.loop-self-init
 loop-self-init g c = record {
@@ -27,7 +29,8 @@ turn-requires g c = record {
 pub loop-self-smaller : goal.loop-self-smaller
 loop-self-smaller g c =
     let active = lent_active c.outcome.result (memory c.loop-self.self).config.outcome c.outcome.ensures.outcome c.in-Active.is in
-    omega (arith, c.in_ok-turn.ensures.goes_on.0 active, c.in_ok-turn.ensures.goes_on.1)
+    let state = state_of c.loop-self.self.machine in
+    omega (arith, c.in_ok-turn.ensures.counted, c.in_ok-turn.ensures.most, counts_on c.laws_of_choice.ensures.nothing_is_chosen_when_quiet state c.loop-self.self.reading c.only_moves.ensures active)
 
 pub loop-self-preserved : goal.loop-self-preserved
 loop-self-preserved g c =

@@ -1,4 +1,4 @@
-use Rattle.std.proofs.Common.{◌≡◌, ◌≤◌, ◌<◌, ◌^◌, ◌++◌, [], length, ap, refl, sym, subst, ◌∙◌, arith}
+use Rattle.std.proofs.Common.{◌≡◌, ◌≤◌, ◌<◌, ◌^◌, ◌+◌, ◌++◌, [], length, ap, refl, sym, subst, ◌∙◌, arith}
 use Rattle.wf_engine.proofs.Added.{Choice, Laws, after, are_moves, is_short, is_spelled, none_more, none_of, not_none, one_turn_more, records_of, same_program, some_of}
 use Rattle.wf_engine.proofs.Sessions.{turn_adds, turn_begun}
 use Rattle.wf_engine.proofs.engine.Engine.turn.Goals as goal
@@ -6,6 +6,7 @@ use Rattle.wf_engine.specs.Engine.{StandsFor, memory, turn_records}
 use Rattle.wf_engine.specs.TheLanguage.{the_language}
 use Rattle.wf_events.specs.View.{event_list, events_view}
 use Rattle.wf_journal.specs.Records.{records}
+use Rattle.wf_machine.specs.Counts.{counts_of}
 use Rattle.wf_machine.specs.Seen.{state_of}
 
 -- while it is chosen
@@ -106,3 +107,9 @@ returns-clause-turn g c = λ told.
     let es = events_view c.in_ok-events.events in
     let some : 1 ≤ length es = some_of es c.items.result.now c.items.ensures.view c.if-is_empty.ensures in
     c.in_ok-add.ensures.added told ∙ ap (λ l. records w.seen ++ l) (sym (records_of c.args.self.now.session es (not_none es some))) ∙ ap (λ l. records w.seen ++ turn_records c.args.self.now.session l) c.in_ok-events.ensures.turn
+
+pub returns-then-is_empty-clause-counted : goal.returns-then-is_empty-clause-counted
+returns-then-is_empty-clause-counted g c = c.in_ok-events.ensures.counted ∙ ap (λ l. (memory c.args.self.now).config.moves + counts_of l) c.in_ok-events.ensures.turn
+
+pub returns-clause-counted : goal.returns-clause-counted
+returns-clause-counted g c = c.in_ok-events.ensures.counted ∙ ap (λ l. (memory c.args.self.now).config.moves + counts_of l) c.in_ok-events.ensures.turn
