@@ -21,9 +21,9 @@ use Rattle.wf_events.specs.Spelling.{record_bytes, HasSpelling}
 use Rattle.wf_host.specs.Source.{IsFirst}
 use Rattle.wf_args.specs.Lines.{PlainLine, line_of}
 use Rattle.wf_machine.proofs.Places.{initial_is}
-use Rattle.wf_replay.specs.Language.{Language}
-use Rattle.wf_replay.specs.Laws.{StartIsAHistory}
-use Rattle.wf_replay.specs.Moments.{NoTurnsBehind, NextBehindHistory}
+use Rattle.wf_journal_laws.specs.Language.{Language}
+use Rattle.wf_journal_laws.specs.Laws.{StartIsAHistory}
+use Rattle.wf_journal_laws.specs.Moments.{NoTurnsBehind, NextBehindHistory}
 use Rattle.wf_engine.specs.Safe.{SafeAt}
 use Rattle.wf_engine.specs.TheLanguage.{the_language}
 use Rattle.wf_source.specs.Function.{SourceIsIt}
@@ -38,7 +38,7 @@ use Rattle.wf_host.specs.declared.data.Deed.{Deed}
 use Rattle.wf_host.specs.declared.data.Deed.TheVariants.{Now}
 use Rattle.wf_journal.specs.Records.{magic, records}
 use Rattle.wf_args.specs.declared.command.Command.TheVariants.{Run}
-use Rattle.wf_replay.specs.At.{journal, next_session}
+use Rattle.wf_journal_laws.specs.At.{journal, next_session}
 
 -- ## The first reading of the clock
 -- since this moment there is no other pair

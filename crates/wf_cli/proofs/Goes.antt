@@ -16,7 +16,7 @@ use Rattle.wf_journal.specs.Records.{records}
 use Rattle.wf_journal.specs.Steps.{Moment}
 use Rattle.wf_machine.specs.Outcome.{IsResult}
 use Rattle.wf_model.specs.Config.{Outcome, Active}
-use Rattle.wf_replay.specs.Language.{Language}
+use Rattle.wf_journal_laws.specs.Language.{Language}
 
 pub settled : (e : Engine) (w : World) → Holds e w → Only w.seen w.may_leave
 settled e w holds = holds.0.journal.settled

@@ -31,11 +31,11 @@ use Rattle.wf_journal.specs.Standing.{magic_of_records, new_none}
 use Rattle.wf_journal.specs.Steps.{Moment}
 use Rattle.wf_args.specs.Lines.{PlainLine, line_of}
 use Rattle.wf_model.specs.Config.{Config, Active}
-use Rattle.wf_replay.specs.At.{journal, begins, config_before, next_session, session_turns}
-use Rattle.wf_replay.specs.History.{history}
-use Rattle.wf_replay.specs.Language.{Language}
-use Rattle.wf_replay.specs.Laws.{IsHistory}
-use Rattle.wf_replay.specs.Moments.{NoTurnsBehind, NextBehindHistory}
+use Rattle.wf_journal_laws.specs.At.{journal, begins, config_before, next_session, session_turns}
+use Rattle.wf_journal_laws.specs.History.{history}
+use Rattle.wf_journal_laws.specs.Language.{Language}
+use Rattle.wf_journal_laws.specs.Laws.{IsHistory}
+use Rattle.wf_journal_laws.specs.Moments.{NoTurnsBehind, NextBehindHistory}
 use Rattle.wf_ast.specs.Tree.{Program}
 use Rattle.wf_shared.specs.Events.{Turn, Start}
 

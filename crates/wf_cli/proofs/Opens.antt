@@ -27,9 +27,9 @@ use Rattle.wf_journal.specs.Records.{magic, records}
 use Rattle.wf_args.specs.Lines.{line_of}
 use Rattle.wf_args.specs.declared.command.Command.TheVariants.{Run, Resume}
 use Rattle.wf_model.specs.Config.{Active}
-use Rattle.wf_replay.specs.At.{journal, next_session}
-use Rattle.wf_replay.specs.History.{Standing, history}
-use Rattle.wf_replay.specs.Language.{Language}
+use Rattle.wf_journal_laws.specs.At.{journal, next_session}
+use Rattle.wf_journal_laws.specs.History.{Standing, history}
+use Rattle.wf_journal_laws.specs.Language.{Language}
 use Rattle.wf_status.specs.declared.Status.{Status}
 use Rattle.wf_status.specs.declared.Status.TheVariants as status
 

@@ -35,8 +35,8 @@ use Rattle.wf_args.specs.declared.command.Command.TheVariants.{Format, Run, Resu
 use Rattle.wf_args.specs.declared.read.LineFault.{LineFault}
 use Rattle.wf_args.specs.declared.read.LineFault.TheVariants as words
 use Rattle.wf_model.specs.Config.{Outcome, Active, Returned, Raised, Cancelled}
-use Rattle.wf_replay.specs.History.{Standing, history}
-use Rattle.wf_replay.specs.Language.{Language}
+use Rattle.wf_journal_laws.specs.History.{Standing, history}
+use Rattle.wf_journal_laws.specs.Language.{Language}
 use Rattle.wf_source.specs.Laws.{NotBoth}
 use Rattle.wf_source.specs.Programs.{IsRefusalOf, IsSourceOf}
 use Rattle.wf_source.specs.Sources.{read_tree}

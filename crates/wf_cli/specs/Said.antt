@@ -35,9 +35,9 @@ use Rattle.wf_args.specs.declared.read.LineFault.TheVariants as words
 use Rattle.wf_machine.specs.Outcome.{IsResult}
 use Rattle.wf_model.specs.Config.{Outcome, Active}
 use Rattle.wf_host.specs.Printing.{PrintsFront, PrintsWhole, LeavesSome, TookNothing, PrintedSoFar}
-use Rattle.wf_replay.specs.At.{journal, next_session}
-use Rattle.wf_replay.specs.History.{Standing, history}
-use Rattle.wf_replay.specs.Language.{Language}
+use Rattle.wf_journal_laws.specs.At.{journal, next_session}
+use Rattle.wf_journal_laws.specs.History.{Standing, history}
+use Rattle.wf_journal_laws.specs.Language.{Language}
 use Rattle.wf_status.specs.Statuses.{status_text}
 use Rattle.wf_source.specs.Sources.{read_tree}
 use Rattle.wf_source.specs.declared.fault.SourceFault.{SourceFault}

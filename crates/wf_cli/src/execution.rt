@@ -32,7 +32,7 @@ use wf_engine::{Engine, EngineFault};
 use wf_events::{Start, one_spelling};
 use wf_host::{Host, Routes, Source, read_up_to};
 use wf_machine::Steps;
-use wf_replay::{laws_of_histories, laws_of_moments};
+use wf_journal_laws::{laws_of_histories, laws_of_moments};
 use wf_source::{SOURCE_LIMIT, each_source_is_one, laws_of_sources, read_source};
 use wf_value::{Bytes, OutOfMemory, Pairs, Text};
 

@@ -10,7 +10,7 @@ use Rattle.wf_host.specs.declared.data.Deed.{Deed}
 use Rattle.wf_host.specs.declared.data.What.{What}
 use Rattle.wf_model.specs.Config.{Config}
 use Rattle.wf_model.specs.Ready.{quiet}
-use Rattle.wf_replay.specs.Language.{Language}
+use Rattle.wf_journal_laws.specs.Language.{Language}
 use Rattle.wf_shared.specs.Events as plain
 use Rattle.wf_shared.specs.Events.{Event, Turn}
 

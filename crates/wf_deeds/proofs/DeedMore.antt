@@ -12,8 +12,8 @@ use Rattle.wf_deeds.specs.Outside.{Outside, Arrives}
 use Rattle.wf_deeds.specs.Rules.{with_deed, with_end, MayDo, AnswersStand, RepliesAreMade, DeedKeepsRules, EndKeepsRules}
 use Rattle.wf_host.specs.declared.data.Deed.{Deed}
 use Rattle.wf_host.specs.declared.data.Deed.TheVariants.{Start, Poll, Now, Reply, Drop, Print}
-use Rattle.wf_replay.specs.At.{config_before}
-use Rattle.wf_replay.specs.Language.{Language}
+use Rattle.wf_journal_laws.specs.At.{config_before}
+use Rattle.wf_journal_laws.specs.Language.{Language}
 use Rattle.wf_shared.specs.Events.{Event, Turn}
 
 pub no_end : (x : Session) (status : ℕ) → x.end ≡ None → x.end ≡ Some status → ⊥

@@ -24,9 +24,9 @@ use Rattle.wf_host.specs.declared.data.Heard.{Heard}
 use Rattle.wf_host.specs.declared.data.What.{What}
 use Rattle.wf_host.specs.declared.data.What.TheVariants as what
 use Rattle.wf_model.specs.Ready.{request_of}
-use Rattle.wf_replay.specs.At.{journal, config_at, config_before}
-use Rattle.wf_replay.specs.History.{Standing}
-use Rattle.wf_replay.specs.Moments.{HistoryStandsThere, is_by}
+use Rattle.wf_journal_laws.specs.At.{journal, config_at, config_before}
+use Rattle.wf_journal_laws.specs.History.{Standing}
+use Rattle.wf_journal_laws.specs.Moments.{HistoryStandsThere, is_by}
 use Rattle.wf_shared.specs.Events as plain
 use Rattle.wf_shared.specs.Events.{Event, Turn}
 use Rattle.wf_shared.specs.HttpBody.{Ended, Broke}

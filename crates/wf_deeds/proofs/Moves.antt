@@ -7,8 +7,8 @@ use Rattle.wf_ast.specs.Tree.{Program}
 use Rattle.wf_events.specs.Reading.{◌>>=◌, byte_at, number_at, move_at, timed_move_at, event_at, items_at, events_at, turn_at, start_at, taken_as, record_at, whole_at, by_offset, record_of, meaning, known}
 use Rattle.wf_events.specs.Records.{Record, Started, Turned, Kept, Upgrade, Packed, StartedTwo}
 use Rattle.wf_events.specs.Spelling.{Bytes, IsMove}
-use Rattle.wf_replay.specs.At.{journal, begins, turns_in, with_turn, of_session, session_turns}
-use Rattle.wf_replay.specs.Language.{Language}
+use Rattle.wf_journal_laws.specs.At.{journal, begins, turns_in, with_turn, of_session, session_turns}
+use Rattle.wf_journal_laws.specs.Language.{Language}
 use Rattle.wf_shared.specs.Events.{Event, Start, Turn}
 
 -- what was read has this

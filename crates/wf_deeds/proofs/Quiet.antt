@@ -9,7 +9,7 @@ use Rattle.wf_deeds.specs.Outside.{Outside}
 use Rattle.wf_events.specs.Spelling.{IsMove}
 use Rattle.wf_host.specs.declared.data.Deed.{Deed}
 use Rattle.wf_host.specs.declared.data.Deed.TheVariants.{Start, Poll, Reply, Drop}
-use Rattle.wf_replay.specs.Language.{Language}
+use Rattle.wf_journal_laws.specs.Language.{Language}
 use Rattle.wf_shared.specs.Events.{Event, Turn, Answer, Arrive}
 
 -- what holds of all holds of the one between

@@ -7,8 +7,8 @@ use Rattle.wf_deeds.specs.Deeds.{polls, reading_by}
 use Rattle.wf_deeds.specs.Kept.{Place, own, reading, last_of}
 use Rattle.wf_deeds.specs.Laws.{TurnKeepsReadings}
 use Rattle.wf_deeds.specs.Rules.{with_record}
-use Rattle.wf_replay.specs.At.{journal, config_before, session_turns}
-use Rattle.wf_replay.specs.Moments.{with_turn_more, TurnIsAdded, SessionBeforeStays, TurnIsOfItsSession}
+use Rattle.wf_journal_laws.specs.At.{journal, config_before, session_turns}
+use Rattle.wf_journal_laws.specs.Moments.{with_turn_more, TurnIsAdded, SessionBeforeStays, TurnIsOfItsSession}
 use Rattle.wf_shared.specs.Events.{Event, Turn}
 
 all_of_one : {A : Type 0} (P : A → Type 0) (x : A) → P x → All P (x ∷ [])

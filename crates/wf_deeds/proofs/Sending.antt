@@ -19,9 +19,9 @@ use Rattle.wf_host.specs.declared.data.Deed.TheVariants.{Start, Poll, Now, Reply
 use Rattle.wf_host.specs.declared.data.Heard.{Heard}
 use Rattle.wf_model.specs.Config.{TimedOut, Call, Answered, Config, Active}
 use Rattle.wf_model.specs.Ready.{call, quiet, request_in, request_of}
-use Rattle.wf_replay.specs.At.{journal, config_at, config_before}
-use Rattle.wf_replay.specs.Language.{Language}
-use Rattle.wf_replay.specs.Moments.{HistoryStandsThere}
+use Rattle.wf_journal_laws.specs.At.{journal, config_at, config_before}
+use Rattle.wf_journal_laws.specs.Language.{Language}
+use Rattle.wf_journal_laws.specs.Moments.{HistoryStandsThere}
 use Rattle.wf_shared.specs.Events as plain
 use Rattle.wf_shared.specs.HttpRequest.{Request}
 use Rattle.wf_shared.specs.HttpText.{reply_bytes}

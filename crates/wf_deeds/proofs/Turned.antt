@@ -27,11 +27,11 @@ use Rattle.wf_model.specs.Ready.{request_of}
 use Rattle.wf_model.specs.Run.{run_on}
 use Rattle.wf_model.specs.RunLaws.{NothingFollowsAnOutcome}
 use Rattle.wf_model.specs.Step.{next}
-use Rattle.wf_replay.specs.At.{Journal, config_at, journal}
-use Rattle.wf_replay.specs.History.{Standing, goes_on, goes_on_at, is_numbered, led, turned as turned_by}
-use Rattle.wf_replay.specs.Language.{Language}
-use Rattle.wf_replay.specs.Laws.{RecordGoesOn}
-use Rattle.wf_replay.specs.Moments.{HistoryStandsThere, is_by}
+use Rattle.wf_journal_laws.specs.At.{Journal, config_at, journal}
+use Rattle.wf_journal_laws.specs.History.{Standing, goes_on, goes_on_at, is_numbered, led, turned as turned_by}
+use Rattle.wf_journal_laws.specs.Language.{Language}
+use Rattle.wf_journal_laws.specs.Laws.{RecordGoesOn}
+use Rattle.wf_journal_laws.specs.Moments.{HistoryStandsThere, is_by}
 use Rattle.wf_shared.specs.Events as plain
 use Rattle.wf_shared.specs.Events.{Event, Turn}
 

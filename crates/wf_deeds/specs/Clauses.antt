@@ -23,8 +23,8 @@ use Rattle.wf_journal.specs.Records.{records}
 use Rattle.wf_journal.specs.Steps.{Moment}
 use Rattle.wf_model.specs.Config.{Call, TimedOut, Active}
 use Rattle.wf_model.specs.Ready.{call, quiet, request_of}
-use Rattle.wf_replay.specs.Language.{Language}
-use Rattle.wf_replay.specs.Laws.{IsHistory}
+use Rattle.wf_journal_laws.specs.Language.{Language}
+use Rattle.wf_journal_laws.specs.Laws.{IsHistory}
 use Rattle.wf_shared.specs.Events.{Event, Turn}
 use Rattle.wf_shared.specs.HttpText.{reply_bytes}
 

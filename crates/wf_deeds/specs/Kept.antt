@@ -13,8 +13,8 @@ use Rattle.wf_host.specs.declared.data.What.{What}
 pub use Rattle.wf_model.specs.ChoiceLaws.{reading_of}
 use Rattle.wf_model.specs.Config.{TimedOut, Config, Active}
 use Rattle.wf_model.specs.Ready.{call, least_due, quiet, request_of}
-use Rattle.wf_replay.specs.At.{Journal, journal, config_at, config_before, session_turns}
-use Rattle.wf_replay.specs.Language.{Language}
+use Rattle.wf_journal_laws.specs.At.{Journal, journal, config_at, config_before, session_turns}
+use Rattle.wf_journal_laws.specs.Language.{Language}
 use Rattle.wf_shared.specs.Events as plain
 use Rattle.wf_shared.specs.Events.{Event, Arrive, Turn, Visitor}
 use Rattle.wf_shared.specs.HttpRequest.{Request}

@@ -7,8 +7,8 @@ use Rattle.wf_deeds.specs.Outside.{Outside}
 use Rattle.wf_deeds.specs.Rules.{with_record}
 use Rattle.wf_events.specs.Reading.{meaning}
 use Rattle.wf_events.specs.Records.{Turned}
-use Rattle.wf_replay.specs.At.{Journal, journal}
-use Rattle.wf_replay.specs.Language.{Language}
+use Rattle.wf_journal_laws.specs.At.{Journal, journal}
+use Rattle.wf_journal_laws.specs.Language.{Language}
 use Rattle.wf_shared.specs.Events.{Event, Turn}
 
 -- where nothing was sent or awaited, only the rule on readings asks something

@@ -14,8 +14,8 @@ use Rattle.wf_host.specs.declared.data.Deed.TheVariants.{Start, Poll, Now, Reply
 use Rattle.wf_host.specs.declared.data.Heard.{Heard}
 use Rattle.wf_model.specs.Config.{Config}
 use Rattle.wf_model.specs.Ready.{quiet}
-use Rattle.wf_replay.specs.At.{Journal, journal}
-use Rattle.wf_replay.specs.Language.{Language}
+use Rattle.wf_journal_laws.specs.At.{Journal, journal}
+use Rattle.wf_journal_laws.specs.Language.{Language}
 use Rattle.wf_shared.specs.Events as plain
 use Rattle.wf_shared.specs.Events.{Event, Turn}
 

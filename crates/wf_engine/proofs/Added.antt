@@ -21,11 +21,11 @@ use Rattle.wf_events.specs.declared.data.Event.TheVariants as variant
 use Rattle.wf_host.specs.declared.data.Deed.{Deed}
 use Rattle.wf_model.specs.Config.{Active, Returned, Raised, Cancelled, Outcome, Config, To}
 use Rattle.wf_model.specs.Run.{run_on}
-use Rattle.wf_replay.specs.At.{Journal, config_at, config_before, journal}
-use Rattle.wf_replay.specs.History.{Standing, goes_on, goes_on_at, history as history_of, is_numbered, led, turned}
-use Rattle.wf_replay.specs.Language.{Language}
-use Rattle.wf_replay.specs.Laws.{RecordGoesOn}
-use Rattle.wf_replay.specs.Moments.{HistoryStandsThere, SessionBeforeStays, TurnIsAdded, is_by}
+use Rattle.wf_journal_laws.specs.At.{Journal, config_at, config_before, journal}
+use Rattle.wf_journal_laws.specs.History.{Standing, goes_on, goes_on_at, history as history_of, is_numbered, led, turned}
+use Rattle.wf_journal_laws.specs.Language.{Language}
+use Rattle.wf_journal_laws.specs.Laws.{RecordGoesOn}
+use Rattle.wf_journal_laws.specs.Moments.{HistoryStandsThere, SessionBeforeStays, TurnIsAdded, is_by}
 use Rattle.wf_shared.specs.Events.{Event, Move, MoveAt, Turn}
 
 -- ## The record

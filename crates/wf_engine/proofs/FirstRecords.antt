@@ -16,9 +16,9 @@ use Rattle.wf_machine.specs.Seen.{state_of}
 use Rattle.wf_machine.specs.declared.machine.Machine.{Machine}
 use Rattle.wf_model.specs.Config.{To}
 use Rattle.wf_model.specs.Run.{initial}
-use Rattle.wf_replay.specs.At.{applied_by, turns_in, with_turn}
-use Rattle.wf_replay.specs.History.{Standing, events, first_standing, goes_to, history, history_from, started}
-use Rattle.wf_replay.specs.Language.{Language}
+use Rattle.wf_journal_laws.specs.At.{applied_by, turns_in, with_turn}
+use Rattle.wf_journal_laws.specs.History.{Standing, events, first_standing, goes_to, history, history_from, started}
+use Rattle.wf_journal_laws.specs.Language.{Language}
 use Rattle.wf_replay.specs.Standing.{stands_at}
 use Rattle.wf_replay.specs.declared.fault.ReplayFault.{ReplayFault}
 use Rattle.wf_replay.specs.declared.fault.ReplayFault.TheVariants as replay_fault_of

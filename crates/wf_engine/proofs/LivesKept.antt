@@ -16,10 +16,10 @@ use Rattle.wf_journal.specs.Records.{payloads, records, records_from}
 use Rattle.wf_model.specs.Config.{Config}
 use Rattle.wf_model.specs.Ready.{request_of}
 use Rattle.wf_model.specs.RunLaws.{FrontIsARun, NothingFollowsAnOutcome, RequestsStay, RunsAgree}
-use Rattle.wf_replay.specs.At.{config_at, journal, next_session, turns_in}
-use Rattle.wf_replay.specs.History.{Standing, history}
-use Rattle.wf_replay.specs.Language.{Language}
-use Rattle.wf_replay.specs.Laws.{ComputedIsHistory}
+use Rattle.wf_journal_laws.specs.At.{config_at, journal, next_session, turns_in}
+use Rattle.wf_journal_laws.specs.History.{Standing, history}
+use Rattle.wf_journal_laws.specs.Language.{Language}
+use Rattle.wf_journal_laws.specs.Laws.{ComputedIsHistory}
 use Rattle.wf_shared.specs.HttpRequest.{Request}
 
 -- ## Places in a life

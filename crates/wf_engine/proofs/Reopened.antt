@@ -17,9 +17,9 @@ use Rattle.wf_journal.specs.Standing.{new_none, stands_where}
 use Rattle.wf_machine.specs.Seen.{state_of}
 use Rattle.wf_machine.specs.declared.machine.Machine.{Machine}
 use Rattle.wf_model.specs.Config.{Config, Active}
-use Rattle.wf_replay.specs.History.{Standing, history}
-use Rattle.wf_replay.specs.Language.{Language}
-use Rattle.wf_replay.specs.Moments.{HistoryStandsBefore, NoTurnsBehind, NumberIsCount, SessionIsNumbered}
+use Rattle.wf_journal_laws.specs.History.{Standing, history}
+use Rattle.wf_journal_laws.specs.Language.{Language}
+use Rattle.wf_journal_laws.specs.Moments.{HistoryStandsBefore, NoTurnsBehind, NumberIsCount, SessionIsNumbered}
 use Rattle.wf_replay.specs.Standing.{session_of, standing, stands_at}
 
 -- ## What stands

@@ -10,7 +10,7 @@ use Rattle.wf_engine.specs.TheLanguage.{the_language}
 use Rattle.wf_events.specs.Reading.{meaning, record_of, whole_at, record_at, start_at, turn_at, events_at, event_at, move_at, text_at, string_at, argument_at, is_argument, list_at, items_at}
 use Rattle.wf_events.specs.Spelling.{record_bytes}
 use Rattle.wf_expr.specs.Parser.{parse, parse_target}
-use Rattle.wf_replay.specs.History.{history}
+use Rattle.wf_journal_laws.specs.History.{history}
 use Rattle.wf_rules.specs.Built.{built}
 use Rattle.wf_rules.specs.First.{fault_within}
 use Rattle.wf_rules.specs.Made.{body_within}

@@ -26,7 +26,7 @@ use Rattle.wf_machine.specs.declared.machine.Outcome.{Outcome}
 use Rattle.wf_machine.specs.declared.machine.Outcome.TheVariants as outcome
 use Rattle.wf_model.specs.Config as plain
 use Rattle.wf_model.specs.Config.{Active, Config}
-use Rattle.wf_replay.specs.Language.{Language}
+use Rattle.wf_journal_laws.specs.Language.{Language}
 use Rattle.wf_shared.specs.Events.{Event}
 
 -- ## One turn

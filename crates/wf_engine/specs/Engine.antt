@@ -19,11 +19,11 @@ use Rattle.wf_host.specs.declared.data.Deed.TheVariants.{Now}
 use Rattle.wf_journal.specs.Records.{records}
 use Rattle.wf_machine.specs.Seen.{state_of}
 use Rattle.wf_model.specs.Config.{Config, Active}
-use Rattle.wf_replay.specs.At.{journal, config_before}
-use Rattle.wf_replay.specs.History.{Standing, history as history_of}
-use Rattle.wf_replay.specs.Language.{Language}
-use Rattle.wf_replay.specs.Laws.{IsHistory}
-use Rattle.wf_replay.specs.Moments.{is_by}
+use Rattle.wf_journal_laws.specs.At.{journal, config_before}
+use Rattle.wf_journal_laws.specs.History.{Standing, history as history_of}
+use Rattle.wf_journal_laws.specs.Language.{Language}
+use Rattle.wf_journal_laws.specs.Laws.{IsHistory}
+use Rattle.wf_journal_laws.specs.Moments.{is_by}
 use Rattle.wf_shared.specs.Events.{Event}
 
 -- what an engine keeps of its session

@@ -10,8 +10,8 @@ use Rattle.wf_host.specs.World.{World}
 use Rattle.wf_host.specs.declared.data.Deed.{Deed}
 use Rattle.wf_host.specs.declared.data.Deed.TheVariants.{Now}
 use Rattle.wf_model.specs.Config.{Config, Active}
-use Rattle.wf_replay.specs.History.{first_standing}
-use Rattle.wf_replay.specs.Language.{Language}
+use Rattle.wf_journal_laws.specs.History.{first_standing}
+use Rattle.wf_journal_laws.specs.Language.{Language}
 use Rattle.wf_source.specs.Programs.{IsSourceOf, IsRefusalOf}
 use Rattle.wf_status.specs.declared.Refusal.{Refusal}
 

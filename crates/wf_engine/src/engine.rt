@@ -14,7 +14,7 @@ use wf_history::History;
 use wf_host::Host;
 use wf_machine::{Machine, Outcome, Steps, only_moves};
 use wf_model::{laws_of_choice, laws_of_runs};
-use wf_replay::{laws_of_histories, laws_of_moments};
+use wf_journal_laws::{laws_of_histories, laws_of_moments};
 use wf_source::each_source_is_one;
 
 /// An execution over a journal: what stands in the file, the machine that it leads to, and the session that goes on from there.
@@ -55,8 +55,8 @@ impl Engine {
     ghost use Rattle.wf_machine.specs.Outcome.{IsResult};
     ghost use Rattle.wf_machine.specs.Seen.{state_of};
     ghost use Rattle.wf_model.specs.Config.{Active};
-    ghost use Rattle.wf_replay.specs.At.{applied_by, journal, next_session};
-    ghost use Rattle.wf_replay.specs.History.{Standing, history as history_of};
+    ghost use Rattle.wf_journal_laws.specs.At.{applied_by, journal, next_session};
+    ghost use Rattle.wf_journal_laws.specs.History.{Standing, history as history_of};
     ghost use Rattle.wf_source.specs.Programs.{IsSourceOf};
 
     /// Begins an execution on a file without a record, with its start, whose source has this program. The start's reading is that of the

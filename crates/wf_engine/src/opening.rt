@@ -13,8 +13,8 @@ ghost use Rattle.wf_journal.specs.Journal.{IsJournal, Stays};
 ghost use Rattle.wf_journal.specs.Records.{magic, records};
 ghost use Rattle.wf_machine.specs.Seen.{state_of};
 ghost use Rattle.wf_model.specs.Config.{Active};
-ghost use Rattle.wf_replay.specs.At.{applied_by};
-ghost use Rattle.wf_replay.specs.History.{first_standing, history as history_of};
+ghost use Rattle.wf_journal_laws.specs.At.{applied_by};
+ghost use Rattle.wf_journal_laws.specs.History.{first_standing, history as history_of};
 ghost use Rattle.wf_replay.specs.Standing.{standing, stands_at};
 
 use crate::fault::EngineFault;

@@ -4,7 +4,7 @@ use Rattle.wf_history.specs.Stands.{place, last}
 use Rattle.wf_history.specs.declared.history.History as history
 use Rattle.wf_machine.specs.Seen.{state_of}
 use Rattle.wf_machine.specs.declared.machine.Machine as machine
-use Rattle.wf_replay.specs.History.{Standing}
+use Rattle.wf_journal_laws.specs.History.{Standing}
 
 abbrev pub session_of : Option (ℕ × ℕ) → ℕ
 session_of None = 0

@@ -7,8 +7,8 @@ ghost use Rattle.wf_journal.specs.Journal.{Stays};
 ghost use Rattle.wf_machine.specs.Seen.{state_of};
 ghost use Rattle.wf_model.specs.Config.{Config, To};
 ghost use Rattle.wf_model.specs.Run.{run_on};
-ghost use Rattle.wf_replay.specs.At.{applied_by, events_of};
-ghost use Rattle.wf_replay.specs.History.{goes_on, goes_on_at, goes_to, is_numbered, told};
+ghost use Rattle.wf_journal_laws.specs.At.{applied_by, events_of};
+ghost use Rattle.wf_journal_laws.specs.History.{goes_on, goes_on_at, goes_to, is_numbered, told};
 ghost use Rattle.wf_replay.specs.Standing.{session_of, standing, stands_at, waits_of};
 
 use crate::ReplayFault;

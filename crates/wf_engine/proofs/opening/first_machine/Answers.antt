@@ -9,7 +9,7 @@ use Rattle.wf_events.specs.Reading.{meaning}
 use Rattle.wf_events.specs.View.{record_view}
 use Rattle.wf_history.specs.Stands.{ahead, last, last_after, place}
 use Rattle.wf_machine.specs.declared.machine.Machine.{Machine}
-use Rattle.wf_replay.specs.History.{first_standing}
+use Rattle.wf_journal_laws.specs.History.{first_standing}
 use Rattle.wf_replay.specs.Standing.{standing, stands_at}
 
 pub returns-in_err-record-clause-not_a_history : goal.returns-in_err-record-clause-not_a_history

@@ -4,8 +4,8 @@ use Rattle.wf_engine.proofs.StillOpen.{still_open, tells_still}
 use Rattle.wf_engine.proofs.opening.last_machine.Goals as goal
 use Rattle.wf_engine.specs.TheLanguage.{the_language}
 use Rattle.wf_history.specs.Stands.{ahead, is_closed}
-use Rattle.wf_replay.specs.At.{applied_by}
-use Rattle.wf_replay.specs.History.{goes_to}
+use Rattle.wf_journal_laws.specs.At.{applied_by}
+use Rattle.wf_journal_laws.specs.History.{goes_to}
 use Rattle.wf_replay.specs.Standing.{standing}
 use Rattle.wf_replay.specs.declared.fault.ReplayFault.TheVariants as fault
 

@@ -8,7 +8,7 @@ use Rattle.wf_engine.proofs.opening.machine_of.Goals as goal
 use Rattle.wf_engine.specs.Openings.{Accepts}
 use Rattle.wf_engine.specs.TheLanguage.{the_language}
 use Rattle.wf_events.specs.View.{record_view, start_view}
-use Rattle.wf_replay.specs.History.{first_standing}
+use Rattle.wf_journal_laws.specs.History.{first_standing}
 
 pub returns-in_default-2-clause-none : goal.returns-in_default-2-clause-none
 returns-in_default-2-clause-none c = λ _.

@@ -8,8 +8,8 @@ use Rattle.wf_engine.specs.TheLanguage.{the_language}
 use Rattle.wf_history.specs.Stands.{ahead}
 use Rattle.wf_journal.specs.Records.{records}
 use Rattle.wf_journal.specs.Standing.{new_none}
-use Rattle.wf_replay.specs.At.{applied_by}
-use Rattle.wf_replay.specs.History.{history}
+use Rattle.wf_journal_laws.specs.At.{applied_by}
+use Rattle.wf_journal_laws.specs.History.{history}
 use Rattle.wf_replay.specs.Standing.{standing}
 
 pub returns-then-at_end-clause-not_started : goal.returns-then-at_end-clause-not_started

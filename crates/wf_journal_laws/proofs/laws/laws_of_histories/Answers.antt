@@ -1,5 +1,5 @@
-use Rattle.wf_replay.proofs.Histories as histories
-use Rattle.wf_replay.proofs.laws.laws_of_histories.Goals as goal
+use Rattle.wf_journal_laws.proofs.Histories as histories
+use Rattle.wf_journal_laws.proofs.laws.laws_of_histories.Goals as goal
 
 pub returns-clause-computed : goal.returns-clause-computed
 returns-clause-computed c = histories.computed c.laws_of_runs.ensures.runs_join

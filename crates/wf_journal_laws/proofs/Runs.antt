@@ -5,8 +5,8 @@ use Rattle.wf_ast.specs.Tree.{Program}
 use Rattle.wf_events.specs.Records.{Record, Started, Turned, Kept, Upgrade, Packed, StartedTwo}
 use Rattle.wf_model.specs.Config.{Config, After, To, Wrong, NotNow}
 use Rattle.wf_model.specs.Run.{initial, run_on}
-use Rattle.wf_replay.specs.History.{Standing, first_standing, goes_on, goes_on_at, is_numbered, led, started, turned}
-use Rattle.wf_replay.specs.Language.{Language}
+use Rattle.wf_journal_laws.specs.History.{Standing, first_standing, goes_on, goes_on_at, is_numbered, led, started, turned}
+use Rattle.wf_journal_laws.specs.Language.{Language}
 use Rattle.wf_shared.specs.Events.{Event, Start, Turn}
 
 pub both : (x y : Bool) → IsTrue (x && y) → IsTrue x × IsTrue y

@@ -5,8 +5,8 @@ use Rattle.wf_events.specs.Reading.{meaning}
 use Rattle.wf_events.specs.Records.{Started}
 use Rattle.wf_model.specs.Config.{Config, To}
 use Rattle.wf_model.specs.Run.{initial}
-use Rattle.wf_replay.specs.History.{History, Standing, history, goes_on, goes_to, told}
-use Rattle.wf_replay.specs.Language.{Language}
+use Rattle.wf_journal_laws.specs.History.{History, Standing, history, goes_on, goes_to, told}
+use Rattle.wf_journal_laws.specs.Language.{Language}
 use Rattle.wf_shared.specs.Events.{Start}
 
 -- the records lead to a configuration

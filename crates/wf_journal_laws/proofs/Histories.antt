@@ -7,11 +7,11 @@ use Rattle.wf_events.specs.Records.{Started, Turned}
 use Rattle.wf_model.specs.Config.{Config, To}
 use Rattle.wf_model.specs.Run.{initial, run_on}
 use Rattle.wf_model.specs.RunLaws.{RunsJoin}
-use Rattle.wf_replay.proofs.Runs.{Begins, GoesOn, begins_by, both, from_config, goes_on_by, turned_on}
-use Rattle.wf_replay.proofs.Steps.{off, on}
-use Rattle.wf_replay.specs.History.{History, Standing, are_numbered, events, first_standing, goes_on, goes_on_at, goes_to, history, history_from, in_order, is_numbered, started, told}
-use Rattle.wf_replay.specs.Language.{Language}
-use Rattle.wf_replay.specs.Laws.{ComputedIsHistory, HistoryIsComputed, NumberIsLeast, RecordGoesOn, RecordsGoOn, StartIsAHistory, FrontIsAHistory, IsHistory}
+use Rattle.wf_journal_laws.proofs.Runs.{Begins, GoesOn, begins_by, both, from_config, goes_on_by, turned_on}
+use Rattle.wf_journal_laws.proofs.Steps.{off, on}
+use Rattle.wf_journal_laws.specs.History.{History, Standing, are_numbered, events, first_standing, goes_on, goes_on_at, goes_to, history, history_from, in_order, is_numbered, started, told}
+use Rattle.wf_journal_laws.specs.Language.{Language}
+use Rattle.wf_journal_laws.specs.Laws.{ComputedIsHistory, HistoryIsComputed, NumberIsLeast, RecordGoesOn, RecordsGoOn, StartIsAHistory, FrontIsAHistory, IsHistory}
 use Rattle.wf_shared.specs.Events.{Turn}
 
 -- ## From the computed one to its facts

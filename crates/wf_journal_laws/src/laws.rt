@@ -1,6 +1,6 @@
 // Laws of histories.
-ghost use Rattle.wf_replay.specs.Laws.{ComputedIsHistory, HistoryIsComputed, NumberIsLeast, StartIsAHistory, RecordGoesOn, RecordsGoOn, FrontIsAHistory};
-ghost use Rattle.wf_replay.specs.Moments.{TurnIsAdded, SessionBeforeStays, MomentBeforeStays, TurnIsOfItsSession, NextBehindTurn, HistoryStandsThere, NextBehindHistory, HistoryStandsBefore, NoTurnsBehind, NumberIsCount, SessionIsNumbered};
+ghost use Rattle.wf_journal_laws.specs.Laws.{ComputedIsHistory, HistoryIsComputed, NumberIsLeast, StartIsAHistory, RecordGoesOn, RecordsGoOn, FrontIsAHistory};
+ghost use Rattle.wf_journal_laws.specs.Moments.{TurnIsAdded, SessionBeforeStays, MomentBeforeStays, TurnIsOfItsSession, NextBehindTurn, HistoryStandsThere, NextBehindHistory, HistoryStandsBefore, NoTurnsBehind, NumberIsCount, SessionIsNumbered};
 
 use wf_model::{laws_of_runs, laws_of_turns};
 

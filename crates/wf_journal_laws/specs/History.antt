@@ -9,7 +9,7 @@ use Rattle.wf_events.specs.Records.{Record, Started, Turned}
 pub use Rattle.wf_history.specs.Faults.{told}
 use Rattle.wf_model.specs.Config.{Config, After, To}
 use Rattle.wf_model.specs.Run.{initial, run_on, Run}
-use Rattle.wf_replay.specs.Language.{Language}
+use Rattle.wf_journal_laws.specs.Language.{Language}
 use Rattle.wf_shared.specs.Events.{Event, Start, Turn}
 
 -- ## The order of turns

@@ -9,13 +9,13 @@ use Rattle.wf_model.specs.Config.{Config}
 use Rattle.wf_model.specs.Run as model
 use Rattle.wf_model.specs.Run.{is_before}
 use Rattle.wf_model.specs.TurnLaws.{AllTurnsAreTheRun, LaterTurnDoesNotCount}
-use Rattle.wf_replay.proofs.Histories.{first_is, rest_is}
-use Rattle.wf_replay.proofs.Runs.{GoesOn, both, goes_on_by, begins_by}
-use Rattle.wf_replay.specs.At.{Journal, begins, config_at, config_before, events_before, journal, last_session, next_session, of_session, reached, session_turns, turns_in, with_turn}
-use Rattle.wf_replay.specs.History.{History, Standing, events, first_standing, goes_on, goes_on_at, goes_to, history, history_from, in_order, told}
-use Rattle.wf_replay.specs.Language.{Language}
-use Rattle.wf_replay.specs.Laws.{ComputedIsHistory}
-use Rattle.wf_replay.specs.Moments.{HistoryStandsBefore, HistoryStandsThere, MomentBeforeStays, NextBehindHistory, NextBehindTurn, NoTurnsBehind, NumberIsCount, SessionBeforeStays, SessionIsNumbered, TurnIsAdded, TurnIsOfItsSession, is_by, with_turn_more}
+use Rattle.wf_journal_laws.proofs.Histories.{first_is, rest_is}
+use Rattle.wf_journal_laws.proofs.Runs.{GoesOn, both, goes_on_by, begins_by}
+use Rattle.wf_journal_laws.specs.At.{Journal, begins, config_at, config_before, events_before, journal, last_session, next_session, of_session, reached, session_turns, turns_in, with_turn}
+use Rattle.wf_journal_laws.specs.History.{History, Standing, events, first_standing, goes_on, goes_on_at, goes_to, history, history_from, in_order, told}
+use Rattle.wf_journal_laws.specs.Language.{Language}
+use Rattle.wf_journal_laws.specs.Laws.{ComputedIsHistory}
+use Rattle.wf_journal_laws.specs.Moments.{HistoryStandsBefore, HistoryStandsThere, MomentBeforeStays, NextBehindHistory, NextBehindTurn, NoTurnsBehind, NumberIsCount, SessionBeforeStays, SessionIsNumbered, TurnIsAdded, TurnIsOfItsSession, is_by, with_turn_more}
 use Rattle.wf_shared.specs.Events.{Event, Turn}
 
 -- ## A turn more

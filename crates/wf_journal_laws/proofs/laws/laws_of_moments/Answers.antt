@@ -1,5 +1,5 @@
-use Rattle.wf_replay.proofs.Moments as moments
-use Rattle.wf_replay.proofs.laws.laws_of_moments.Goals as goal
+use Rattle.wf_journal_laws.proofs.Moments as moments
+use Rattle.wf_journal_laws.proofs.laws.laws_of_moments.Goals as goal
 
 pub returns-clause-turn_is_added : goal.returns-clause-turn_is_added
 returns-clause-turn_is_added c = moments.turn_is_added

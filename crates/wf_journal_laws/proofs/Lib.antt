@@ -1,0 +1,4 @@
+mod Histories
+mod Moments
+mod Runs
+pub mod Steps

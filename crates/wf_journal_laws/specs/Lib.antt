@@ -1,0 +1,5 @@
+pub mod Language
+pub mod History
+pub mod At
+pub mod Laws
+pub mod Moments
