@@ -137,7 +137,6 @@ impl Machine {
 
     /// Begins an execution: it stands before the first step of `main`, or has returned null where `main` has no steps. Nothing is
     /// counted yet. Without memory there is no machine.
-    #[tactic(auto, using(crate::proofs::Accepted::built_is_straight))]
     pub fn new(alloc: Global, start: &Start, program: Checked) -> Result<Machine, OutOfMemory>
         ensures program { IfOk result (λ m. (state_of m).program ≡ program_of program) }
         ensures initial { IfOk result (λ m. initial (program_of program) (start_view start.now) ≡ To (state_of m).config) }
