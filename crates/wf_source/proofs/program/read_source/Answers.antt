@@ -1,8 +1,8 @@
-use Rattle.std.proofs.Common.{rules, IfErr, ◌≡◌, Err, sym, ap, subst}
+use Rattle.std.proofs.Common.{rules, IfErr, ◌≡◌, Err, sym, subst}
 use Rattle.wf_ast.specs.View.{program_view}
 use Rattle.wf_check.specs.Check.{IsCheckFault}
+use Rattle.wf_check.specs.Said.{Said}
 use Rattle.wf_check.specs.declared.top.CheckFault.TheVariants as check
-use Rattle.wf_rules.specs.Meaning.{Builds}
 use Rattle.wf_rules.specs.declared.fault.SyntaxFault.TheVariants as syntax
 use Rattle.wf_source.specs.Programs.{IsRefusalOf, no_program, no_check, refusal_of, said_refusal}
 use Rattle.wf_source.specs.Views.{TellsOf}
@@ -24,19 +24,11 @@ returns-in-Err-Refused-clause-fault c =
     (no_program (plain_tree c.in_ok-tree.tree) c.in-Err-Refused.kind c.in-Err-Refused.path c.in_ok-tree.ensures.tree
     (subst (λ f. IsSyntaxFault (plain_tree c.in_ok-tree.tree) f) is c.in-Err-Refused.ensures.fault))
 
-pub returns-in-Ok-2-clause-program : goal.returns-in-Ok-2-clause-program
-returns-in-Ok-2-clause-program c = record {
-  tree = plain_tree c.in_ok-tree.tree;
-  read = c.in_ok-tree.ensures.tree;
-  builds = subst (Builds (plain_tree c.in_ok-tree.tree)) (sym (ap program_view c.in-Ok-2.ensures.program)) c.in-Ok.ensures.program;
-  accepted = c.in-Ok-2.checked.accepted;
-}
-
-pub returns-in-Err-Refused-2-clause-fault : goal.returns-in-Err-Refused-2-clause-fault
-returns-in-Err-Refused-2-clause-fault c =
-    let is : c.in-Err-Refused-2.field-0 ≡ check.Refused c.in-Err-Refused-2.kind c.in-Err-Refused-2.path = search rules in
-    let said = record { kind = c.in-Err-Refused-2.kind; place = c.in-Err-Refused-2.path } in
+pub returns-in-Err-Refused-check-clause-fault : goal.returns-in-Err-Refused-check-clause-fault
+returns-in-Err-Refused-check-clause-fault c =
+    let is : c.in-Err-Refused-check.field-0 ≡ check.Refused c.in-Err-Refused-check.kind c.in-Err-Refused-check.path = search rules in
+    let said : Said = record { kind = c.in-Err-Refused-check.kind; place = c.in-Err-Refused-check.path } in
     let same : c.said_refusal.result ≡ said_refusal said = search rules in
     subst (λ r. IsRefusalOf c.args.bytes.now r) (sym same)
     (no_check (plain_tree c.in_ok-tree.tree) (program_view c.in-Ok.program) said c.in_ok-tree.ensures.tree c.in-Ok.ensures.program
-    (subst (λ f. IsCheckFault (program_view c.in-Ok.program) f) is c.in-Err-Refused-2.ensures.fault))
+    (subst (λ f. IsCheckFault (program_view c.in-Ok.program) f) is c.in-Err-Refused-check.ensures.fault))
