@@ -2,7 +2,6 @@
 ghost use Rattle.std.specs.Prelude.{◌≡◌, ◌<◌, false, IfOk};
 ghost use Rattle.wf_machine.specs.Seen.{state_of};
 
-use crate::programs::program_of;
 use crate::records::{start_of, write_event};
 use std::alloc::Global;
 use std::marker::Brand;
@@ -11,6 +10,7 @@ use wf_cases::{Case, CaseFault, text_of};
 use wf_events::{Event, Start};
 use wf_host_cases::{items_of, number_of};
 use wf_machine::{ApplyFault, Machine, Outcome, Steps};
+use wf_source::read_source;
 use wf_value::{Value, to_json};
 
 /// The text of a source: a text, or a list of its pieces.
@@ -147,7 +147,10 @@ pub fn machine_of(alloc: Global, source: &Value, payload: &Value) -> Result<Mach
 pub fn started(alloc: Global, source: &str, start: &Start) -> Result<Machine, CaseFault>
     ensures { IfOk result (λ m. (state_of m).broken ≡ false) }
 {
-    match Machine::new(alloc, start, program_of(alloc, source)?) {
+    let Ok(program) = read_source(alloc, source.as_bytes()) else {
+        return Err(CaseFault::NoCase);
+    };
+    match Machine::new(alloc, start, program) {
         Ok(machine) => Ok(machine),
         Err(_) => Err(CaseFault::OutOfMemory),
     }

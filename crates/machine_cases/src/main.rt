@@ -4,7 +4,6 @@
 
 mod engines;
 mod machines;
-mod programs;
 mod records;
 mod replays;
 

@@ -4,7 +4,6 @@
 mod checks;
 mod faults;
 mod programs;
-mod second_form;
 mod trees;
 
 use std::alloc::Global;
@@ -23,7 +22,6 @@ fn answer(alloc: Global, line: &str) -> Result<String, CaseFault> {
         "policies" => programs::policies(alloc, &trees::program_of(alloc, source)?),
         "step_counts" => programs::step_count(alloc, &trees::program_of(alloc, source)?),
         "check" => checks::said(alloc, source),
-        "second_form" => second_form::is_it(alloc, &trees::program_of(alloc, source)?),
         _ => Err(CaseFault::NoCase),
     }
 }

@@ -47,7 +47,8 @@ none_there (Some x) h = let no : ⊥ = cc in absurd no
 pub accepted_when : (p : Program) → first_said p ≡ None → IsTrue (list_all small_backoff (nodes p.flows)) → IsTrue (is_accepted p)
 accepted_when p none small = subst (λ o. IsTrue (is_none o && list_all small_backoff (nodes p.flows))) (sym none) small
 
-silent : (p : Program) → IsTrue (is_accepted p) → first_said p ≡ None
+-- nothing is said of it
+pub silent : (p : Program) → IsTrue (is_accepted p) → first_said p ≡ None
 silent p h = none_there (first_said p) (parts (is_none (first_said p)) (list_all small_backoff (nodes p.flows)) h).0
 
 pub accept_of : (p : Program) → IsTrue (is_accepted p) → Accept p

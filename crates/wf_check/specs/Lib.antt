@@ -10,3 +10,4 @@ pub mod Tests
 pub mod Answers
 pub mod Walks
 pub mod Check
+pub mod Seen

@@ -25,10 +25,12 @@ pub enum CheckFault {
 #[derive(Drop)]
 pub struct Checked {
     program: Program,
-    ghost accepted: { IsTrue (is_accepted (program_view program)) },
+    pub ghost accepted: { IsTrue (is_accepted (program_view program)) },
 }
 
 impl Checked {
+    ghost use Rattle.wf_check.specs.Seen.{program_of};
+
     /// The program.
     pub fn program(&self) -> &Program
         ensures program { result.now ≡ self.now.program }
@@ -36,6 +38,15 @@ impl Checked {
         ensures built { IsTrue (program_built (program_view result.now)) }
     {
         &self.program
+    }
+
+    /// The program, given up.
+    pub fn into_program(self) -> Program
+        ensures program { program_view result ≡ program_of self }
+        ensures accepted { Accept (program_view result) }
+        ensures built { IsTrue (program_built (program_view result)) }
+    {
+        self.program
     }
 }
 

@@ -11,7 +11,7 @@ use Rattle.wf_engine.specs.Engine.{memory, StandsFor, OpeningMoment}
 use Rattle.wf_deeds.specs.Kept as kept
 use Rattle.wf_deeds.specs.Laws.{OnlyReadings}
 use Rattle.wf_deeds.specs.Outside.{Outside}
-use Rattle.wf_engine.proofs.Forms.{form_is_straight}
+use Rattle.wf_engine.proofs.Forms.{source_is_straight}
 use Rattle.wf_engine.proofs.Language.{of_program}
 use Rattle.wf_engine.specs.Printed.{Scene, uses_source}
 use Rattle.wf_engine.specs.Starts.{start_of}
@@ -212,7 +212,7 @@ start_of_line once s l source p t is command first reads spelled meaning_of law 
     let st = start_of l source t in
     let means = meaning_of (Started st) spelled tt in
     let accepted = of_program once source p reads in
-    let begins = initial_is p st (form_is_straight source p reads) in
+    let begins = initial_is p st (source_is_straight source p reads) in
     record {
       line = l;
       bytes = source;

@@ -1,6 +1,6 @@
 // Executions, from their start or from what stands in a journal, to their outcome.
 ghost use Rattle.std.specs.Prelude.{◌≡◌, ◌≤◌, ◌<◌, ◌∷◌, false, ℕ, List, Ok, IfOk, IsErrOf, IsUtf8, codes, decimal, length, unwrap_or};
-ghost use Rattle.wf_ast.specs.View.{program_view};
+ghost use Rattle.wf_check.specs.Seen.{program_of};
 ghost use Rattle.wf_cli.specs.Said.{Going, IsEnd, Opening, SaysResult, Worked};
 ghost use Rattle.wf_cli.specs.Top.{IsLineOf};
 ghost use Rattle.wf_engine.specs.Engine.{memory, is_closed, Holds, StandsFor};
@@ -26,7 +26,7 @@ use std::alloc::Global;
 use std::marker::Brand;
 use std::sync::ledger::{Blank, Ledger};
 use wf_args::Line;
-use wf_ast::Program;
+use wf_check::Checked;
 use wf_deeds::laws_of_rules;
 use wf_engine::{Engine, EngineFault};
 use wf_events::{Start, one_spelling};
@@ -88,11 +88,11 @@ fn begin<H: Host>(
     alloc: Global,
     line: &Line<'_>,
     source: &[u8],
-    program: Program,
+    program: Checked,
     host: &mut H,
 ) -> Result<Engine, EngineFault>
     requires command { (plain_line line.now).command ≡ Run }
-    requires program { IsSourceOf source.now (program_view program) }
+    requires program { IsSourceOf source.now (program_of program) }
     ensures opening { Told (H.world host.old) ((words : List (List ℕ)) (rest : Rest) → line_of words ≡ Ok (plain_line line.now) → IsFirst 131073 rest source.now
         → Opening kept.Run (scene words rest (H.world host.old)) (H.world host.old) (H.world host.new) result) }
     ensures holds { Told (H.world host.old) (IfOk result (λ e. Holds e (H.world host.new))) }
@@ -135,11 +135,11 @@ fn run_program<H: Host>(
     alloc: Global,
     line: &Line<'_>,
     source: &[u8],
-    program: Program,
+    program: Checked,
     host: &mut H,
 ) -> Result<Said, Silence>
     requires command { (plain_line line.now).command ≡ Run }
-    requires program { IsSourceOf source.now (program_view program) }
+    requires program { IsSourceOf source.now (program_of program) }
     ensures end { (words : List (List ℕ)) (rest : Rest) (reads reads2 : ℕ) → line_of words ≡ Ok (plain_line line.now) → IsFirst 131073 rest source.now
         → IsEnd (scene words rest (H.world host.old)) (H.world host.old) (H.world host.new) reads reads2 (H.faults host.old) (H.faults host.new) result }
     ensures worked { Told (H.world host.old) ((words : List (List ℕ)) (rest : Rest) → line_of words ≡ Ok (plain_line line.now) → IsFirst 131073 rest source.now

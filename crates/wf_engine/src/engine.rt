@@ -7,7 +7,7 @@ use crate::fault::EngineFault;
 use crate::opening::{empty_history, last_machine, session_reading};
 use std::alloc::Global;
 use std::sync::ledger::Ledger;
-use wf_ast::Program;
+use wf_check::Checked;
 use wf_deeds::laws_of_rules;
 use wf_events::{Start, Turn, one_spelling};
 use wf_history::History;
@@ -36,7 +36,7 @@ pub struct Engine {
 
 impl Engine {
     ghost use Rattle.std.specs.Prelude.{◌≢◌, ◌⊎◌, ◌↔◌, ◌≤◌, ◌<◌, ◌+◌, ◌++◌, [], ◌∷◌, true, List, ℕ, length, take, None, Ok, Err, OnOk, OnErr, IfOk, IfErr, IsErrOf};
-    ghost use Rattle.wf_ast.specs.View.{program_view};
+    ghost use Rattle.wf_check.specs.Seen.{program_of};
     ghost use Rattle.wf_engine.specs.Engine.{memory, is_closed, Holds, StandsFor, KeptAt, Opened, OpeningMoment, turn_records};
     ghost use Rattle.wf_deeds.specs.Kept.{Command, Run};
     ghost use Rattle.wf_engine.specs.TheLanguage.{the_language};
@@ -69,9 +69,9 @@ impl Engine {
         alloc: Global,
         host: &mut H,
         start: &Start,
-        program: Program,
+        program: Checked,
     ) -> Result<Engine, EngineFault>
-        requires accepted { IsSourceOf (start_view start.now).source (program_view program) }
+        requires accepted { IsSourceOf (start_view start.now).source (program_of program) }
         requires spelled { HasSpelling (Started (start_view start.now)) }
         requires short { length (record_bytes (Started (start_view start.now))) ≤ 16777215 }
         ensures holds { Told (H.world host.old) (IfOk result (λ e. Holds e (H.world host.new))) }

@@ -1,6 +1,6 @@
 // What stands in a file before a session goes on from it.
 ghost use Rattle.std.specs.Prelude.{◌≡◌, ◌≢◌, ◌⊎◌, ◌≤◌, ◌+◌, ◌++◌, [], ◌∷◌, true, false, List, ℕ, length, take, option_map, Some, None, Ok, Err, OnOk, IfOk, IfErr, IsErrOf};
-ghost use Rattle.wf_ast.specs.View.{program_view};
+ghost use Rattle.wf_check.specs.Seen.{program_of};
 ghost use Rattle.wf_engine.specs.Engine.{OpeningMoment};
 ghost use Rattle.wf_engine.specs.Openings.{Accepts, NoFirst, ReadsClock};
 ghost use Rattle.wf_engine.specs.TheLanguage.{the_language};
@@ -20,7 +20,7 @@ ghost use Rattle.wf_replay.specs.Standing.{standing, stands_at};
 use crate::fault::EngineFault;
 use std::alloc::Global;
 use std::sync::ledger::Ledger;
-use wf_ast::Program;
+use wf_check::Checked;
 use wf_events::Record;
 use wf_history::{History, HistoryFault};
 use wf_host::Host;
@@ -124,8 +124,8 @@ fn first_machine<H: Host>(
 }
 
 /// The program of a source, none where it is refused.
-fn accepted_program(alloc: Global, source: &[u8]) -> Result<Option<Program>, OutOfMemory>
-    ensures { IfOk result (λ o. Accepts source.now (option_map program_view o)) }
+fn accepted_program(alloc: Global, source: &[u8]) -> Result<Option<Checked>, OutOfMemory>
+    ensures { IfOk result (λ o. Accepts source.now (option_map program_of o)) }
 {
     match read_source(alloc, source) {
         Ok(program) => Ok(Some(program)),

@@ -299,7 +299,7 @@ same_steps (more s ss) = ap (more s) (same_steps ss)
 
 -- `main`'s steps are straight
 straight_main : (fs : List Flow) → are_straight_flows fs ≡ true → are_straight (main_steps fs) ≡ true
-straight_main [] is = absurd (cc is)
+straight_main [] is = refl
 straight_main (f ∷ []) is = and_right _ _ is
 straight_main (f ∷ g ∷ fs) is = absurd (cc is)
 

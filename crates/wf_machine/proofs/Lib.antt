@@ -13,3 +13,4 @@ pub mod Stands
 pub mod Ends
 pub mod Machines
 pub mod Counts
+pub mod Accepted

@@ -99,7 +99,7 @@ begun s (i ∷ k) vars = refl
 -- the first configuration of workflows
 start_of : (fs : List Flow) (s : Start) → are_straight_flows fs ≡ true
     → initial (record { flows = fs }) s ≡ To (at_or_end (facts_of s) s.reading (control_at (main_steps fs) [] (main_steps fs)) no_pairs 0)
-start_of [] s is = absurd (cc is)
+start_of [] s is = ap (λ a. merged 0 None a (empty s)) (goes_on no_steps [] no_steps [] no_pairs) ∙ begun s [] no_pairs
 start_of (f ∷ []) s is =
     ap (λ vars. merged 0 None (goes (Item.Do f.steps f.steps ∷ []) (record { control = []; layers = record { vars = vars; by_call = false } ∷ []; outer = []; wait = Awake })) (empty s)) (no_argument f.params (unwrap_or (json_value s.argument) null) (and_left _ _ is))
     ∙ ap (λ a. merged 0 None a (empty s)) (goes_on f.steps [] f.steps [] no_pairs)

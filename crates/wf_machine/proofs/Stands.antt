@@ -114,7 +114,7 @@ are_list (s ∷ ss) = ap (λ b. is_straight_step s && b) (are_list ss)
 
 -- `main`'s steps are straight
 straight_first : (fs : List Flow) → are_straight_flows (map flow_view fs) ≡ true → list_all is_straight_step (first_steps fs) ≡ true
-straight_first [] is = absurd (cc is)
+straight_first [] is = refl
 straight_first (f ∷ []) is = sym (are_list (steps_view f.steps)) ∙ and_right _ _ is
 straight_first (f ∷ g ∷ fs) is = absurd (cc is)
 

@@ -1,5 +1,5 @@
--- Programs that run straight through: `main` alone, without parameters, whose steps assign plain names or return, and whose values call only
--- functions that are built.
+-- Programs that run straight through: of at most one workflow, without parameters, whose steps assign plain names or return, and whose values
+-- call only functions that are built.
 --     is_straight        the program runs straight through
 --     reads_no_clock     none of its values names the clock
 --     value_by           what its values are
@@ -49,8 +49,9 @@ abbrev pub has_no_params : List Param → Bool
 has_no_params [] = true
 has_no_params (x ∷ xs) = false
 
--- `main` is the only workflow
+-- there is at most one workflow, `main`
 abbrev pub are_straight_flows : List Flow → Bool
+are_straight_flows [] = true
 are_straight_flows (f ∷ []) = has_no_params f.params && are_straight f.steps
 are_straight_flows fs = false
 

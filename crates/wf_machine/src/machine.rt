@@ -14,6 +14,7 @@ use crate::steps::Steps;
 use std::alloc::Global;
 use std::sync::ledger::Ledger;
 use wf_ast::{Program, Step};
+use wf_check::Checked;
 use wf_events::{Event, Start};
 use wf_value::{Map, OutOfMemory, Tag, Value, error_map};
 
@@ -120,6 +121,7 @@ impl Drop for Machine {
 
 impl Machine {
     ghost use Rattle.wf_machine.specs.Seen.{state_of};
+    ghost use Rattle.wf_check.specs.Seen.{program_of};
     ghost use Rattle.wf_events.specs.View.{event_view, start_view};
     ghost use Rattle.wf_machine.specs.Outcome.{IsResult, IsShallow};
     ghost use Rattle.wf_machine.specs.Counts.{counts};
@@ -134,13 +136,13 @@ impl Machine {
     ghost use Rattle.wf_model.specs.Taken.{by_itself};
 
     /// Begins an execution: it stands before the first step of `main`, or has returned null where `main` has no steps. Nothing is
-    /// counted yet. The program must run straight through. Without memory there is no machine.
-    pub fn new(alloc: Global, start: &Start, program: Program) -> Result<Machine, OutOfMemory>
-        requires { is_straight (program_view program) ≡ true }
-        ensures program { IfOk result (λ m. (state_of m).program ≡ program_view program) }
-        ensures initial { IfOk result (λ m. initial (program_view program) (start_view start.now) ≡ To (state_of m).config) }
+    /// counted yet. Without memory there is no machine.
+    pub fn new(alloc: Global, start: &Start, program: Checked) -> Result<Machine, OutOfMemory>
+        ensures program { IfOk result (λ m. (state_of m).program ≡ program_of program) }
+        ensures initial { IfOk result (λ m. initial (program_of program) (start_view start.now) ≡ To (state_of m).config) }
         ensures whole { IfOk result (λ m. (state_of m).broken ≡ false) }
     {
+        let program = program.into_program();
         let facts = Facts::of(alloc, start)?;
         let variables = Map::new(alloc)?;
         let live = !main_steps(&program).is_empty();

@@ -27,5 +27,6 @@ worked_sources = record {
   indented_by_a_tab = refl;
   flow_of_yaml = refl;
   operand_is_missing = refl;
-  not_run_so_far = refl;
+  name_of_no_variable = refl;
+  form_to_come = refl;
 }

@@ -1,30 +1,31 @@
 -- Bytes are a program or refused.
-use Rattle.std.proofs.Common.{◌≡◌, Bool, true, false, if◌then◌else◌, List, ℕ, refl, sym, ap, ◌∙◌}
+use Rattle.std.proofs.Common.{◌≡◌, List, ℕ, Option, Some, None, refl, ap}
 use Rattle.std.specs.Prelude.{Result, Ok, Err, MatchResult}
 use Rattle.wf_ast.specs.Tree.{Program}
+use Rattle.wf_check.proofs.Accepted.{accepted_when}
+use Rattle.wf_check.specs.Said.{Said, first_said}
 use Rattle.wf_rules.proofs.BuiltTrees.{built_is_it}
+use Rattle.wf_rules.proofs.SmallBackoffs.{small_backoffs}
 use Rattle.wf_rules.specs.Built.{built}
 use Rattle.wf_rules.specs.Faults.{IsFirstFault}
 use Rattle.wf_rules.specs.First.{Found}
 use Rattle.wf_rules.specs.Meaning.{Builds}
-use Rattle.wf_second_form.specs.SecondForm.{is_second_form}
 use Rattle.wf_source.specs.Laws.{OneProgram, OneRefusal, NotBoth}
-use Rattle.wf_source.specs.Programs.{IsRefusalOf, IsSourceOf, no_tree, no_program, not_yet}
-use Rattle.wf_source.specs.Sources.{read_tree, refused}
+use Rattle.wf_source.specs.Programs.{IsRefusalOf, IsSourceOf, no_tree, no_program, no_check}
+use Rattle.wf_source.specs.Sources.{read_tree}
 use Rattle.wf_status.specs.declared.Refusal.{Refusal}
-use Rattle.wf_status.specs.declared.RefusalKind.TheVariants as kind
-use Rattle.wf_source.specs.Function.{of_built, of_tree, source_of, SourceIsIt}
+use Rattle.wf_source.specs.Function.{of_built, of_tree, source_of, unless_said, SourceIsIt}
 use Rattle.wf_tree.specs.Trees.{Tree}
 
 abbrev Is : List ℕ → Result Program Refusal → Type 0
 Is bytes r = MatchResult r (IsSourceOf bytes) (IsRefusalOf bytes)
 
-by_form : (bytes : List ℕ) (t : Tree) (p : Program) → read_tree bytes ≡ Ok t → Builds t p → (b : Bool) → is_second_form p ≡ b → Is bytes (if b then Ok p else Err (refused kind.NotYet))
-by_form bytes t p e h true f = record { tree = t; read = e; builds = h; form = f }
-by_form bytes t p e h false f = not_yet t p e h f
+by_said : (bytes : List ℕ) (t : Tree) (p : Program) → read_tree bytes ≡ Ok t → Builds t p → (o : Option Said) → first_said p ≡ o → Is bytes (unless_said o p)
+by_said bytes t p e h None said = record { tree = t; read = e; builds = h; accepted = accepted_when p said (small_backoffs t p h) }
+by_said bytes t p e h (Some s) said = no_check t p s e h said
 
 by_built : (bytes : List ℕ) (t : Tree) (r : Result Program Found) → read_tree bytes ≡ Ok t → MatchResult r (Builds t) (λ f. IsFirstFault t f.0 f.1) → Is bytes (of_built r)
-by_built bytes t (Ok p) e h = by_form bytes t p e h (is_second_form p) refl
+by_built bytes t (Ok p) e h = by_said bytes t p e h (first_said p) refl
 by_built bytes t (Err f) e h = no_program t f.0 f.1 e h
 
 program_told : OneProgram → NotBoth → (bytes : List ℕ) (p : Program) (r : Result Program Refusal) → Is bytes r → IsSourceOf bytes p → r ≡ Ok p

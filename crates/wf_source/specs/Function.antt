@@ -1,21 +1,21 @@
 -- The program of a source's bytes as a function, or the refusal that speaks first.
-use Rattle.std.specs.Prelude.{◌≡◌, List, ℕ, if◌then◌else◌, Result, Ok, Err, MatchResult}
+use Rattle.std.specs.Prelude.{◌≡◌, List, ℕ, Option, Some, None, Result, Ok, Err, MatchResult}
 use Rattle.wf_ast.specs.Tree.{Program}
+use Rattle.wf_check.specs.Said.{Said, first_said}
 use Rattle.wf_rules.specs.Built.{built}
 use Rattle.wf_rules.specs.First.{Found}
-use Rattle.wf_second_form.specs.SecondForm.{is_second_form}
-use Rattle.wf_source.specs.Programs.{IsRefusalOf, IsSourceOf, refusal_of}
-use Rattle.wf_source.specs.Sources.{read_tree, refused}
+use Rattle.wf_source.specs.Programs.{IsRefusalOf, IsSourceOf, refusal_of, said_refusal}
+use Rattle.wf_source.specs.Sources.{read_tree}
 use Rattle.wf_status.specs.declared.Refusal.{Refusal}
-use Rattle.wf_status.specs.declared.RefusalKind.TheVariants as kind
 use Rattle.wf_tree.specs.Trees.{Tree}
 
--- a program, if it is one that is run so far
-abbrev pub if_run : Program → Result Program Refusal
-if_run p = if is_second_form p then Ok p else Err (refused kind.NotYet)
+-- a program, unless the checker says something of it
+abbrev pub unless_said : Option Said → Program → Result Program Refusal
+unless_said None p = Ok p
+unless_said (Some s) p = Err (said_refusal s)
 
 abbrev pub of_built : Result Program Found → Result Program Refusal
-of_built (Ok p) = if_run p
+of_built (Ok p) = unless_said (first_said p) p
 of_built (Err f) = Err (refusal_of f.0 f.1)
 
 abbrev pub of_tree : Result Tree Refusal → Result Program Refusal

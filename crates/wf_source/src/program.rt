@@ -1,23 +1,21 @@
 // The program of a source.
 ghost use Rattle.std.specs.Prelude.{IfOk, IfErr};
-ghost use Rattle.wf_ast.specs.View.{program_view};
+ghost use Rattle.wf_check.specs.Seen.{program_of};
 ghost use Rattle.wf_source.specs.Programs.{IsRefusalOf, IsSourceOf};
 ghost use Rattle.wf_source.specs.Views.{TellsOf};
 
-use crate::refusing::refusal_of;
+use crate::refusing::{refusal_of, said_refusal};
 use crate::{SourceFault, read_tree};
 use std::alloc::Global;
-use wf_ast::Program;
+use wf_check::{CheckFault, Checked, check};
 use wf_rules::SyntaxFault;
-use wf_second_form::is_second_form;
-use wf_status::{Place, Refusal, RefusalKind};
 use wf_syntax::build;
 
-/// The program of a source, or why it is refused: as [`read_tree`] refuses it; or for the first rule of the syntax that
-/// its tree breaks, at the path of its node, and in an expression at a byte of it; or else `NotYet` at `source` where
-/// the program isn't one that is run so far, as [`is_second_form`] tells it.
-pub fn read_source(alloc: Global, bytes: &[u8]) -> Result<Program, SourceFault>
-    ensures program { IfOk result (λ p. IsSourceOf bytes.now (program_view p)) }
+/// The program of a source, checked, or why it is refused: as [`read_tree`] refuses it; or for the first rule of the syntax that
+/// its tree breaks, at the path of its node, and in an expression at a byte of it; or else for what [`check`] says first of the
+/// program, at the path of its node: a rule that the program breaks, or a form that isn't built yet.
+pub fn read_source(alloc: Global, bytes: &[u8]) -> Result<Checked, SourceFault>
+    ensures program { IfOk result (λ c. IsSourceOf bytes.now (program_of c)) }
     ensures fault { IfErr result (TellsOf (IsRefusalOf bytes.now)) }
 {
     let tree = read_tree(alloc, bytes)?;
@@ -28,12 +26,11 @@ pub fn read_source(alloc: Global, bytes: &[u8]) -> Result<Program, SourceFault>
         }
         Err(SyntaxFault::OutOfMemory) => return Err(SourceFault::OutOfMemory),
     };
-    if is_second_form(alloc, &program)? {
-        Ok(program)
-    } else {
-        Err(SourceFault::Refused(Refusal {
-            kind: RefusalKind::NotYet,
-            place: Place::Source,
-        }))
+    match check(alloc, program) {
+        Ok(checked) => Ok(checked),
+        Err(CheckFault::Refused(kind, path)) => {
+            Err(SourceFault::Refused(said_refusal(kind, path)))
+        }
+        Err(CheckFault::OutOfMemory) => Err(SourceFault::OutOfMemory),
     }
 }

@@ -1,7 +1,8 @@
-// Why a tree is no program, as a refusal.
+// Why a tree is no program, or its program isn't accepted, as a refusal.
 ghost use Rattle.std.specs.Prelude.{◌≡◌};
 ghost use Rattle.wf_source.specs.Programs as programs;
 
+use wf_check::CheckKind;
 use wf_expr::ExprFault;
 use wf_rules::SyntaxKind;
 use wf_span::LexFault;
@@ -56,4 +57,35 @@ pub(crate) fn refusal_of(kind: SyntaxKind, path: Path) -> Refusal
         SyntaxKind::Expression(fault) => expression_kind(fault),
     };
     Refusal { kind, place }
+}
+
+// The kind of what the checker says.
+fn check_kind(kind: CheckKind) -> RefusalKind
+    ensures { result ≡ programs.check_kind kind }
+{
+    match kind {
+        CheckKind::EmptySteps => RefusalKind::EmptySteps,
+        CheckKind::DoubleStep => RefusalKind::DoubleStep,
+        CheckKind::UnknownStep => RefusalKind::UnknownStep,
+        CheckKind::JumpOutOfScope => RefusalKind::JumpOutOfScope,
+        CheckKind::BreakOutsideLoop => RefusalKind::BreakOutsideLoop,
+        CheckKind::ReturnInBranch => RefusalKind::ReturnInBranch,
+        CheckKind::UndeclaredWrite => RefusalKind::UndeclaredWrite,
+        CheckKind::UnknownShared => RefusalKind::UnknownShared,
+        CheckKind::UnknownName => RefusalKind::UnknownName,
+        CheckKind::UnknownCall => RefusalKind::UnknownCall,
+        CheckKind::BadArgument => RefusalKind::BadArgument,
+        CheckKind::TooMany => RefusalKind::TooMany,
+        CheckKind::NotYet => RefusalKind::NotYet,
+    }
+}
+
+// The refusal of a program of which the checker says this at a path.
+pub(crate) fn said_refusal(kind: CheckKind, path: Path) -> Refusal
+    ensures { result ≡ programs.said_refusal (record { kind = kind; place = path }) }
+{
+    Refusal {
+        kind: check_kind(kind),
+        place: Place::Path(path),
+    }
 }

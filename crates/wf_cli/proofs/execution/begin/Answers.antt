@@ -1,5 +1,5 @@
 use Rattle.std.proofs.Common.{◌≡◌, ◌∷◌, [], IfOk, ◌∙◌, ap, refl, subst, sym}
-use Rattle.wf_ast.specs.View.{program_view}
+use Rattle.wf_check.specs.Seen.{program_of}
 use Rattle.wf_cli.proofs.Begins.{no_clock, no_start, opening_by_run, start_of_line}
 use Rattle.wf_cli.proofs.Moments.{StartOfLine}
 use Rattle.wf_cli.proofs.Works.{lacks_engine}
@@ -20,7 +20,7 @@ use Rattle.wf_source.specs.Programs.{IsSourceOf}
 use Rattle.wf_cli.proofs.execution.begin.Goals as goal
 
 pub start_for-requires : goal.start_for-requires
-start_for-requires g c = record { short = c.laws_of_sources.ensures.short c.args.source.now (program_view c.args.program) c.requires.program }
+start_for-requires g c = record { short = c.laws_of_sources.ensures.short c.args.source.now (program_of c.args.program) c.requires.program }
 
 pub returns-in_err-reading-clause-opening : goal.returns-in_err-reading-clause-opening
 returns-in_err-reading-clause-opening g c = λ told words rest is first.
@@ -42,7 +42,7 @@ returns-in_err-start-clause-opening g c = λ told words rest is first.
     no_start s old (plain_line c.args.line.now, is, c.requires.command) f new c.in_ok-reading.reading (λ i d left. g.met.H.Host.only_now c.args.host.now i d told left) (c.in_ok-reading.ensures.time told) (c.now.ensures.seen told) why)
 
 pub begin-requires-clause-accepted : goal.begin-requires-clause-accepted
-begin-requires-clause-accepted g c = subst (λ (s : Start). IsSourceOf s.source (program_view c.args.program)) (sym c.in_ok-start.ensures.start) c.requires.program
+begin-requires-clause-accepted g c = subst (λ (s : Start). IsSourceOf s.source (program_of c.args.program)) (sym c.in_ok-start.ensures.start) c.requires.program
 
 pub returns-clause-opening : goal.returns-clause-opening
 returns-clause-opening g c = λ told words rest is first.
@@ -58,7 +58,7 @@ returns-clause-opening g c = λ told words rest is first.
     opening_by_run s old mid new t (record_bytes (Started (start_view c.in_ok-start.start))) line refl (λ i d left. g.met.H.Host.only_now c.args.host.now i d told left)
     (λ u i le now. g.met.H.Host.counts_now c.now.new.self u i told2 le now) (c.in_ok-reading.ensures.time told) (c.now.ensures.seen told)
     (subst (λ st. StartOfLine s t (record_bytes (Started st))) (sym the_start)
-    (start_of_line c.each_source_is_one.ensures s l c.args.source.now (program_view c.args.program) t is c.requires.command first c.requires.program (subst (λ st. HasSpelling (Started st)) the_start c.in_ok-start.ensures.spelled) c.one_spelling.ensures.again
+    (start_of_line c.each_source_is_one.ensures s l c.args.source.now (program_of c.args.program) t is c.requires.command first c.requires.program (subst (λ st. HasSpelling (Started st)) the_start c.in_ok-start.ensures.spelled) c.one_spelling.ensures.again
     c.laws_of_histories.ensures.start))
     c.laws_of_rules.ensures.only_readings c.laws_of_moments.ensures.no_turns_behind c.laws_of_moments.ensures.next_behind_history c.begin.result (c.begin.ensures.refused_reads told2)
     (record {

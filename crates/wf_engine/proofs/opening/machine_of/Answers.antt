@@ -1,8 +1,7 @@
 use Rattle.std.proofs.Common.{◌∙◌, ap, sym, subst, Some, None}
 use Rattle.std.specs.Prelude.{option_map}
-use Rattle.wf_ast.specs.View.{program_view}
+use Rattle.wf_check.specs.Seen.{program_of}
 use Rattle.wf_engine.proofs.FirstRecords.{none_of, start_leads, start_refused}
-use Rattle.wf_engine.proofs.Forms.{form_is_straight}
 use Rattle.wf_engine.proofs.Language.{accepts}
 use Rattle.wf_engine.proofs.opening.machine_of.Goals as goal
 use Rattle.wf_engine.specs.Openings.{Accepts}
@@ -13,16 +12,13 @@ use Rattle.wf_journal_laws.specs.History.{first_standing}
 pub returns-in_default-2-clause-none : goal.returns-in_default-2-clause-none
 returns-in_default-2-clause-none c = λ _.
     let none = none_of c.in_ok-program.field-0 c.in_default-2.not-Some in
-    let refused = subst (λ o. Accepts c.as_slice.result.now (option_map program_view o)) none c.in_ok-program.ensures in
+    let refused = subst (λ o. Accepts c.as_slice.result.now (option_map program_of o)) none c.in_ok-program.ensures in
     ap (λ r. first_standing the_language (Some (record_view r))) c.in-Start.is
     ∙ start_refused the_language (start_view c.in-Start.start) (ap (λ l. the_language.source l) (sym c.as_slice.ensures) ∙ accepts c.each_source_is_one.ensures c.as_slice.result.now None refused)
 
-pub new-requires : goal.new-requires
-new-requires c = form_is_straight c.as_slice.result.now (program_view c.in-Some.program) (subst (λ o. Accepts c.as_slice.result.now (option_map program_view o)) c.in-Some.is c.in_ok-program.ensures)
-
 pub returns-clause-starts : goal.returns-clause-starts
 returns-clause-starts c =
-    let found = subst (λ o. Accepts c.as_slice.result.now (option_map program_view o)) c.in-Some.is c.in_ok-program.ensures in
-    let accepted = accepts c.each_source_is_one.ensures c.as_slice.result.now (Some (program_view c.in-Some.program)) found in
+    let found = subst (λ o. Accepts c.as_slice.result.now (option_map program_of o)) c.in-Some.is c.in_ok-program.ensures in
+    let accepted = accepts c.each_source_is_one.ensures c.as_slice.result.now (Some (program_of c.in-Some.program)) found in
     ap (λ r. first_standing the_language (Some (record_view r))) c.in-Start.is
-    ∙ start_leads the_language (start_view c.in-Start.start) (program_view c.in-Some.program) c.in_ok-new.field-0 (ap (λ l. the_language.source l) (sym c.as_slice.ensures) ∙ accepted) c.in_ok-new.ensures.program c.in_ok-new.ensures.initial
+    ∙ start_leads the_language (start_view c.in-Start.start) (program_of c.in-Some.program) c.in_ok-new.field-0 (ap (λ l. the_language.source l) (sym c.as_slice.ensures) ∙ accepted) c.in_ok-new.ensures.program c.in_ok-new.ensures.initial

@@ -1,7 +1,6 @@
 use Rattle.std.proofs.Common.{◌≡◌, ◌∙◌, ap, sym, subst, [], ◌∷◌, Some}
-use Rattle.wf_ast.specs.View.{program_view}
+use Rattle.wf_check.specs.Seen.{program_of}
 use Rattle.wf_engine.proofs.Beginning.{then_begins}
-use Rattle.wf_engine.proofs.Forms.{form_is_straight}
 use Rattle.wf_engine.proofs.Language.{of_program}
 use Rattle.wf_engine.proofs.NewSessions.{stands_begun}
 use Rattle.wf_engine.proofs.StillOpen.{tells_still}
@@ -17,9 +16,6 @@ use Rattle.wf_machine.specs.Seen.{state_of}
 use Rattle.wf_model.specs.Config.{To}
 use Rattle.wf_model.specs.Run.{initial}
 
-pub new-requires : goal.new-requires
-new-requires g c = form_is_straight (start_view c.args.start.now).source (program_view c.args.program) c.requires.accepted
-
 pub returns-clause-stands : goal.returns-clause-stands
 returns-clause-stands g c = λ told.
     let mid = g.H.Host.world c.empty_history.new.host in
@@ -28,7 +24,7 @@ returns-clause-stands g c = λ told.
     subst (λ J. StandsFor the_language Run (record { program = (state_of m).program; config = (state_of m).config; session = 1; reading = c.last_reading-reading.result }) J (Now c.args.start.now.reading ∷ []))
     (sym (c.in_ok-begin.ensures.added (tells_still (g.H.Host.world c.args.host.now) mid c.empty_history.ensures.tells told)))
     (stands_begun the_language c.laws_of_rules.ensures.only_readings c.laws_of_histories.ensures.start c.laws_of_runs.ensures.runs_are_bounded (record_bytes (Started s)) s (state_of m).program (state_of m).config
-    c.last_reading-reading.result (c.one_spelling.ensures.again (Started s) c.requires.spelled tt) (of_program c.each_source_is_one.ensures s.source (program_view c.args.program) c.requires.accepted ∙ ap (λ p. Some p) (sym c.in_ok-machine.ensures.program))
+    c.last_reading-reading.result (c.one_spelling.ensures.again (Started s) c.requires.spelled tt) (of_program c.each_source_is_one.ensures s.source (program_of c.args.program) c.requires.accepted ∙ ap (λ p. Some p) (sym c.in_ok-machine.ensures.program))
     (subst (λ p. initial p s ≡ To (state_of m).config) (sym c.in_ok-machine.ensures.program) c.in_ok-machine.ensures.initial) c.last_reading-reading.ensures)
 
 pub returns-clause-any_moment : goal.returns-clause-any_moment
