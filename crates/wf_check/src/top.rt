@@ -8,10 +8,9 @@ ghost use Rattle.wf_check.specs.Check.{IsCheckFault, IsToldOf};
 ghost use Rattle.wf_check.specs.Said.{is_accepted, program_built};
 
 use crate::flows::program as walk;
-use crate::kind::CheckKind;
-use crate::stop::Stop;
 use std::alloc::Global;
 use wf_ast::Program;
+use wf_diagnostics::{CheckKind, Stop};
 use wf_value::Path;
 
 /// Why a program isn't accepted: what is said first in preorder, with its place; or there is no memory to look for it.
