@@ -1,6 +1,7 @@
 //! The checker: the first node of a program at which a rule speaks.
 #![tactic(auto)]
 
+mod checked;
 mod fault;
 mod flows;
 mod ones;
@@ -8,5 +9,6 @@ mod progress;
 mod top;
 mod walk;
 
-pub use top::{CheckFault, Checked, check};
+pub use checked::Checked;
+pub use top::{CheckFault, check};
 pub use wf_diagnostics::CheckKind;
