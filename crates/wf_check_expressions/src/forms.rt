@@ -25,7 +25,7 @@ fn beside_main(alloc: Global, part: &Part, number: u64) -> Result<(), Stop>
     }
 }
 
-#[tactic(auto, using(crate::proofs::Forms::some_params))]
+#[tactic(auto, using(crate::proofs::Lines::some_params))]
 fn has_params(flow: &Flow) -> bool
     ensures { result ≡ forms.has_params (params_view flow.now.params) }
 {
@@ -107,7 +107,7 @@ fn idle(alloc: Global, part: &Part) -> Result<(), Stop>
     }
 }
 
-#[tactic(auto, using(crate::proofs::Forms::some_exprs))]
+#[tactic(auto, using(crate::proofs::Lines::some_exprs))]
 fn has_places(entry: &Entry) -> bool
     ensures { result ≡ forms.has_exprs (exprs (exprs_view entry.now.target.places)) }
 {

@@ -1,5 +1,5 @@
 use Rattle.std.proofs.Common.{◌≡◌, Err, rules}
-use Rattle.wf_check_expressions.proofs.Forms.{forms_chained, forms_of}
+use Rattle.wf_check_expressions.proofs.Lines.{forms_chained, forms_of}
 use Rattle.wf_diagnostics.proofs.Told.{alone, here_first, later}
 use Rattle.wf_check_expressions.proofs.forms.not_yet.Goals as goal
 use Rattle.wf_diagnostics.specs.Parts.{part_view}
