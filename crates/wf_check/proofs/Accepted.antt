@@ -4,10 +4,11 @@ use Rattle.std.specs.List.{list_all}
 use Rattle.wf_ast.specs.Accept.{Accept, Fault, after_part, fault, first_among, small_backoff}
 use Rattle.wf_ast.specs.Nodes.{Node, nodes}
 use Rattle.wf_ast.specs.Tree.{Flow, Program}
-use Rattle.wf_check.proofs.Told.{no_fault}
-use Rattle.wf_check.specs.Forms.{not_yet}
-use Rattle.wf_check.specs.Said.{Said, as_said, first_said, is_accepted, nodes_built, program_built, said, said_among, said_of}
-use Rattle.wf_check.specs.declared.kind.CheckKind.TheVariants as kinds
+use Rattle.wf_diagnostics.proofs.Told.{no_fault}
+use Rattle.wf_check_expressions.specs.Forms.{not_yet}
+use Rattle.wf_diagnostics.specs.Said.{Said, as_said}
+use Rattle.wf_check.specs.Said.{first_said, is_accepted, nodes_built, program_built, said, said_among, said_of}
+use Rattle.wf_diagnostics.specs.declared.kind.CheckKind.TheVariants as kinds
 use Rattle.wf_shared.specs.HttpUrl.{first_of_two}
 use Rattle.wf_value.specs.Pairs.{Text}
 

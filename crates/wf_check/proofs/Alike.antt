@@ -5,11 +5,12 @@ use Rattle.wf_ast.specs.Blocks.{at_if, first, is_return, is_word, outside_loop, 
 use Rattle.wf_ast.specs.Nodes.{Around, Names, NodePart, FlowPart, StepPart, ArmPart, BodyPart, EntryPart, BranchPart, Path, below, node, nth, part_body}
 use Rattle.wf_ast.specs.Reads.{part_reads}
 use Rattle.wf_ast.specs.Tree.{Flow}
-use Rattle.wf_check.specs.Forms.{not_yet}
-use Rattle.wf_check.specs.Said.{as_said, said, said_of}
-use Rattle.wf_check.specs.declared.kind.CheckKind.TheVariants as kinds
+use Rattle.wf_check_expressions.specs.Forms.{not_yet}
+use Rattle.wf_diagnostics.specs.Said.{as_said}
+use Rattle.wf_check.specs.Said.{said, said_of}
+use Rattle.wf_diagnostics.specs.declared.kind.CheckKind.TheVariants as kinds
 use Rattle.wf_shared.specs.HttpUrl.{first_of_two}
-use Rattle.wf_check.specs.Around.{Alike, AlikeLayers, SameNames, SameShared}
+use Rattle.wf_symbols.specs.Around.{Alike, AlikeLayers, SameNames, SameShared}
 use Rattle.wf_value.specs.Pairs.{Text}
 
 pub visible_alike : (ls ms : List Names) → AlikeLayers ls ms → (x : Text) → is_visible x ls ≡ is_visible x ms

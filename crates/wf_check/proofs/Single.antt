@@ -5,15 +5,15 @@ use Rattle.wf_ast.specs.Nodes.{Around, NodePart, Path, node}
 use Rattle.wf_ast.specs.Tree.{Flow}
 use Rattle.wf_check.proofs.Alike.{said_alike}
 use Rattle.wf_check.proofs.Walks.{still}
-use Rattle.wf_check.specs.Answers.{Tells}
-use Rattle.wf_check.specs.Around.{SameNames, Stands, Still, around_view}
-use Rattle.wf_check.specs.Names.{names_of}
+use Rattle.wf_diagnostics.specs.Answers.{Tells}
+use Rattle.wf_symbols.specs.Around.{SameNames, Stands, Still, around_view}
+use Rattle.wf_symbols.specs.Names.{names_of}
 use Rattle.wf_check.specs.Said.{said}
 use Rattle.wf_check.specs.Walks.{Walks}
-use Rattle.wf_check.specs.declared.around.Here.{Here}
+use Rattle.wf_symbols.specs.declared.around.Here.{Here}
 use Rattle.wf_check.specs.declared.progress.Progress.{Progress}
-use Rattle.wf_check.specs.declared.stop.Stop.{Stop}
-use Rattle.wf_check.specs.declared.stop.Stop.TheVariants as stop
+use Rattle.wf_diagnostics.specs.declared.stop.Stop.{Stop}
+use Rattle.wf_diagnostics.specs.declared.stop.Stop.TheVariants as stop
 use Rattle.wf_shared.specs.HttpUrl.{first_of_two}
 use Rattle.wf_value.specs.Pairs.{Text}
 use Rattle.std.specs.Prelude.{None}

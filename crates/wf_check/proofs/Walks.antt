@@ -1,24 +1,25 @@
 -- Walks over nodes one after another, and seen from further out.
-use Rattle.std.proofs.Common.{◌≡◌, ℕ, suc, ◌+◌, ◌<◌, ◌≤◌, drop, get_or, add-one, List, [], ◌∷◌, ◌++◌, length, map, reverse, Option, Some, None, Result, Ok, Err, refl, sym, ap, ◌∙◌, subst, append_assoc, length-append, add-zero, arith}
-use Rattle.std.proofs.lemmas.List.{reverse-append}
+use Rattle.std.proofs.Common.{◌≡◌, ℕ, suc, ◌+◌, ◌<◌, ◌≤◌, drop, get_or, add-one, List, [], ◌∷◌, ◌++◌, length, map, Option, Some, None, Result, Ok, Err, refl, sym, ap, ◌∙◌, subst, length-append, add-zero, arith}
 use Rattle.wf_ast.specs.Accept.{after_part}
 use Rattle.wf_ast.specs.Nodes.{Around, Node, Path, below, nth}
 use Rattle.wf_ast.specs.Tree.{Flow}
-use Rattle.wf_check.proofs.Places.{item_at, none_left}
-use Rattle.wf_check.specs.Answers.{IsKeyed, IsOutside, along}
-use Rattle.wf_check.specs.Around.{Alike, SameNames, Stands, Still, around_view, inside_view, layer_view, reach}
-use Rattle.wf_check.specs.Names.{names_of}
+use Rattle.wf_diagnostics.proofs.Told.{further}
+use Rattle.wf_symbols.proofs.Places.{item_at, none_left}
+use Rattle.wf_diagnostics.specs.Answers.{IsKeyed, IsOutside}
+use Rattle.wf_symbols.specs.Around.{Alike, SameNames, Stands, Still, around_view, inside_view, layer_view, reach}
+use Rattle.wf_symbols.specs.Names.{names_of}
 use Rattle.wf_check.specs.Walks.{Walks, after}
-use Rattle.wf_check.specs.declared.around.Here.{Here}
-use Rattle.wf_check.specs.declared.around.Scopes.{Scopes}
+use Rattle.wf_symbols.specs.declared.around.Here.{Here}
+use Rattle.wf_symbols.specs.declared.around.Scopes.{Scopes}
 use Rattle.wf_check.specs.declared.progress.Progress.{Progress}
-use Rattle.wf_check.specs.declared.stop.Stop.{Stop}
-use Rattle.wf_check.specs.declared.stop.Stop.TheVariants as stop
+use Rattle.wf_diagnostics.specs.declared.stop.Stop.{Stop}
+use Rattle.wf_diagnostics.specs.declared.stop.Stop.TheVariants as stop
 use Rattle.wf_shared.specs.HttpUrl.{first_of_two}
 use Rattle.wf_value.specs.Pairs.{Text}
 use Rattle.wf_value.specs.declared.path.PathPart.{PathPart}
 use Rattle.wf_value.specs.declared.path.PathPart.TheVariants as part
-use Rattle.wf_check.specs.Said.{Said, said, said_among}
+use Rattle.wf_diagnostics.specs.Said.{Said}
+use Rattle.wf_check.specs.Said.{said, said_among}
 
 -- ## Nodes one after another
 three : (a b c : Option Said) → first_of_two a (first_of_two b c) ≡ first_of_two (first_of_two a b) c
@@ -78,11 +79,6 @@ stops fs p old mid new (stop.Refused kind way) e xs ys h = first_append fs old.n
 stops fs p old mid new stop.OutOfMemory e xs ys h = tt
 
 -- ## From further out
-pub further : (path : Path) (ps qs : List PathPart) (p : PathPart) → qs ≡ ps ++ p ∷ [] → along (path ++ p ∷ []) ps ≡ along path qs
-further path ps qs p is =
-    append_assoc path (p ∷ []) (reverse ps)
-    ∙ sym (ap (λ l. path ++ l) (ap reverse is ∙ reverse-append ps (p ∷ [])))
-
 pub from_outside : (fs : List Flow) (path : Path) (p : PathPart) (old new later : Progress) (s outer : Stop) (e : List Text) (vs : List Node) → IsOutside p s outer → Walks fs (path ++ p ∷ []) old new (Err s) e vs
     → Walks fs path old later (Err outer) e vs
 from_outside fs path p old new later (stop.Refused k ps) (stop.Refused j qs) e vs o h =

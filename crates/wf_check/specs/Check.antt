@@ -4,8 +4,8 @@ use Rattle.wf_ast.specs.Tree.{Program}
 use Rattle.wf_check.specs.Said.{first_said}
 use Rattle.wf_check.specs.declared.top.CheckFault.{CheckFault}
 use Rattle.wf_check.specs.declared.top.CheckFault.TheVariants as fault
-use Rattle.wf_check.specs.declared.stop.Stop.{Stop}
-use Rattle.wf_check.specs.declared.stop.Stop.TheVariants as stop
+use Rattle.wf_diagnostics.specs.declared.stop.Stop.{Stop}
+use Rattle.wf_diagnostics.specs.declared.stop.Stop.TheVariants as stop
 
 -- this is said first of the program
 abbrev pub IsCheckFault : Program → CheckFault → Type 0

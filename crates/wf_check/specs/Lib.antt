@@ -1,13 +1,7 @@
-pub mod Kinds
-pub mod Expressions
-pub mod Forms
-pub mod Names
-pub mod Around
-pub mod Signatures
-pub mod Parts
 pub mod Said
-pub mod Tests
-pub mod Answers
 pub mod Walks
 pub mod Check
 pub mod Seen
+pub use Rattle.wf_check_expressions.specs.Expressions
+pub use Rattle.wf_check_expressions.specs.Forms
+pub use Rattle.wf_diagnostics.specs.Kinds

@@ -1,21 +1,17 @@
 -- What the checker says of a program: the first node at which a rule speaks, or at which a form is used that isn't built yet.
 --     said          at a node: the rules come first, then the table of forms
 --     first_said    the first of a program
-use Rattle.std.specs.Prelude.{ℕ, suc, Bool, true, ◌&&◌, List, [], ◌∷◌, Option, Some, None, is_none, option_map}
+use Rattle.std.specs.Prelude.{ℕ, suc, Bool, true, ◌&&◌, List, [], ◌∷◌, Option, None, is_none, option_map}
 use Rattle.std.specs.List.{list_all}
 use Rattle.wf_ast.specs.Accept.{Fault, Kind, after_part, fault, small_backoff}
-use Rattle.wf_ast.specs.Nodes.{Node, Path, nodes}
+use Rattle.wf_ast.specs.Nodes.{Node, nodes}
 use Rattle.wf_ast.specs.Tree.{Flow, Program}
-use Rattle.wf_check.specs.Forms.{not_yet}
-use Rattle.wf_check.specs.declared.kind.CheckKind.{CheckKind}
-use Rattle.wf_check.specs.declared.kind.CheckKind.TheVariants as kinds
+use Rattle.wf_check_expressions.specs.Forms.{not_yet}
+pub use Rattle.wf_diagnostics.specs.Said.{Said, as_said}
+use Rattle.wf_diagnostics.specs.declared.kind.CheckKind.{CheckKind}
+use Rattle.wf_diagnostics.specs.declared.kind.CheckKind.TheVariants as kinds
 use Rattle.wf_shared.specs.HttpUrl.{first_of_two}
 use Rattle.wf_value.specs.Pairs.{Text}
-
--- what is said, and where
-pub record Said : Type 0 where
-  pub kind : CheckKind
-  pub place : Path
 
 -- the rule's kind
 abbrev pub kind_of : Kind → CheckKind
@@ -35,11 +31,6 @@ kind_of Kind.TooMany = kinds.TooMany
 -- a rule's fault
 abbrev pub said_of : Fault → Said
 said_of f = record { kind = kind_of f.kind; place = f.place }
-
--- the kind, where there is a place
-abbrev pub as_said : CheckKind → Option Path → Option Said
-as_said k None = None
-as_said k (Some path) = Some (record { kind = k; place = path })
 
 -- what is said at a node by its number, with the names of the steps before it in its workflow
 abbrev pub said : List Flow → ℕ → List Text → Node → Option Said

@@ -1,8 +1,13 @@
 -- What a checked program is seen as.
-use Rattle.wf_ast.specs.Tree.{Program}
+use Rattle.wf_ast.specs.Tree as tree
 use Rattle.wf_ast.specs.View.{program_view}
-use Rattle.wf_check.specs.declared.top.Checked.{Checked}
+use Rattle.wf_ast.specs.declared.program.Program.{Program}
+use Rattle.wf_check.specs.declared.checked.Checked.{Checked}
 
--- the program that was checked
-abbrev pub program_of : Checked → Program
+-- the program that was checked, as the code holds it
+abbrev pub held_by : Checked → Program
+held_by c = c.program
+
+-- and what it stands for
+abbrev pub program_of : Checked → tree.Program
 program_of c = program_view c.program

@@ -3,12 +3,12 @@ use Rattle.std.specs.Prelude.{◌≡◌, ℕ, ◌+◌, List, [], ◌∷◌, leng
 use Rattle.wf_ast.specs.Accept.{after_part}
 use Rattle.wf_ast.specs.Nodes.{Node, Path}
 use Rattle.wf_ast.specs.Tree.{Flow}
-use Rattle.wf_check.specs.Answers.{along}
-use Rattle.wf_check.specs.Around.{SameNames, Still}
-use Rattle.wf_check.specs.Names.{names_of}
+use Rattle.wf_diagnostics.specs.Answers.{along}
+use Rattle.wf_symbols.specs.Around.{SameNames, Still}
+use Rattle.wf_symbols.specs.Names.{names_of}
 use Rattle.wf_check.specs.declared.progress.Progress.{Progress}
-use Rattle.wf_check.specs.declared.stop.Stop.{Stop}
-use Rattle.wf_check.specs.declared.stop.Stop.TheVariants as stop
+use Rattle.wf_diagnostics.specs.declared.stop.Stop.{Stop}
+use Rattle.wf_diagnostics.specs.declared.stop.Stop.TheVariants as stop
 use Rattle.wf_value.specs.Pairs.{Text}
 use Rattle.wf_check.specs.Said.{said_among}
 

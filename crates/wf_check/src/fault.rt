@@ -2,23 +2,23 @@
 ghost use Rattle.std.specs.Prelude.{◌<◌, OnOk, map};
 ghost use Rattle.wf_ast.specs.Nodes.{node};
 ghost use Rattle.wf_ast.specs.View.{flow_view};
-ghost use Rattle.wf_check.specs.Answers.{Tells};
-ghost use Rattle.wf_check.specs.Around.{around_view};
-ghost use Rattle.wf_check.specs.Names.{names_of};
-ghost use Rattle.wf_check.specs.Parts.{part_view};
+ghost use Rattle.wf_diagnostics.specs.Answers.{Tells};
+ghost use Rattle.wf_symbols.specs.Around.{around_view};
+ghost use Rattle.wf_symbols.specs.Names.{names_of};
+ghost use Rattle.wf_diagnostics.specs.Parts.{part_view};
 ghost use Rattle.wf_check.specs.Said.{said};
 
-use crate::around::Here;
-use crate::blocks::{double, empty, out_of_scope, outside_loop, return_in_branch, unknown_step};
-use crate::calls::{bad_argument, unknown_call};
-use crate::limits::too_many;
-use crate::not_yet::not_yet;
-use crate::parts::Part;
 use crate::progress::Progress;
-use crate::stop::Stop;
-use crate::variables::{undeclared_write, unknown_name, unknown_shared};
 use std::alloc::Global;
 use wf_ast::Flow;
+use wf_check_calls::{bad_argument, unknown_call};
+use wf_check_expressions::{not_yet, unknown_name};
+use wf_check_scopes::{
+    double, empty, out_of_scope, outside_loop, return_in_branch, too_many, undeclared_write,
+    unknown_shared, unknown_step,
+};
+use wf_diagnostics::{Part, Stop};
+use wf_symbols::Here;
 
 // The rule of the lowest number that speaks at a node; a form that isn't built yet comes last.
 pub(crate) fn fault(

@@ -2,20 +2,17 @@
 ghost use Rattle.std.specs.Prelude.{false, map, IfOk};
 ghost use Rattle.wf_ast.specs.Nodes.{flow_around, flow_nodes, nodes};
 ghost use Rattle.wf_ast.specs.View.{flow_view};
-ghost use Rattle.wf_check.specs.Around.{Stands};
-ghost use Rattle.wf_check.specs.declared.around.Inside.TheVariants.{NoLoop};
+ghost use Rattle.wf_symbols.specs.Around.{Stands};
+ghost use Rattle.wf_symbols.specs.declared.around.Inside.TheVariants.{NoLoop};
 ghost use Rattle.wf_check.specs.Walks.{Counts};
 
-use crate::around::{Here, Inside, Scopes, layer_of};
-use crate::names::Names;
 use crate::ones::one;
-use crate::parts::Part;
 use crate::progress::Progress;
-use crate::stop::{Stop, keyed};
-use crate::tables::{add_step_names, param_names};
 use crate::walk::steps;
 use std::alloc::Global;
 use wf_ast::Flow;
+use wf_diagnostics::{Part, Stop, keyed};
+use wf_symbols::{Here, Inside, Names, Scopes, add_step_names, layer_of, param_names};
 use wf_value::OutOfMemory;
 
 // The scopes around the steps of a workflow.

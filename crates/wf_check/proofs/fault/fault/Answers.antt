@@ -1,12 +1,11 @@
 use Rattle.std.proofs.Common.{◌≡◌, Err, map, rules}
 use Rattle.wf_ast.specs.View.{flow_view}
-use Rattle.wf_check.proofs.Chain.{all_of, chained}
-use Rattle.wf_check.proofs.Most.{holds_anyway}
-use Rattle.wf_check.proofs.Told.{alone, here_first, later}
+use Rattle.wf_check.proofs.Chain.{all_of, chained, holds_anyway}
+use Rattle.wf_diagnostics.proofs.Told.{alone, here_first, later}
 use Rattle.wf_check.proofs.fault.fault.Goals as goal
-use Rattle.wf_check.specs.Around.{around_view}
-use Rattle.wf_check.specs.Names.{names_of}
-use Rattle.wf_check.specs.Parts.{part_view}
+use Rattle.wf_symbols.specs.Around.{around_view}
+use Rattle.wf_symbols.specs.Names.{names_of}
+use Rattle.wf_diagnostics.specs.Parts.{part_view}
 
 pub returns-in_err-empty-clause-first : goal.returns-in_err-empty-clause-first
 returns-in_err-empty-clause-first c =

@@ -2,7 +2,7 @@ use Rattle.std.proofs.Common.{◌≡◌, ◌+◌, [], ◌++◌, map, drop, lengt
 use Rattle.wf_ast.specs.Nodes.{flow_nodes, nodes}
 use Rattle.wf_ast.specs.View.{flow_view}
 use Rattle.wf_check.proofs.Counted.{counted_on, counts_first}
-use Rattle.wf_check.proofs.Places.{item_at}
+use Rattle.wf_symbols.proofs.Places.{item_at}
 use Rattle.wf_check.proofs.flows.program.Goals as goal
 use Rattle.wf_check.specs.Said.{said_among}
 

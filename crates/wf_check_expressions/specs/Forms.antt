@@ -1,0 +1,116 @@
+-- The forms of the language that aren't built yet: one line a form, so that a line goes when its form comes.
+--     not_yet     where a node uses one of them
+use Rattle.std.specs.Prelude.{ℕ, Bool, true, false, ◌&&◌, List, [], ◌∷◌, codes, nat_lt, Option, Some, None}
+use Rattle.wf_ast.specs.Blocks.{at_if, first, part_next}
+use Rattle.wf_ast.specs.Nodes.{Path, NodePart, FlowPart, StepPart, EntryPart, part_body, below}
+use Rattle.wf_ast.specs.Tree.{Expr, Exprs, no_exprs, expr, Body, Param}
+use Rattle.wf_ast.specs.declared.expr.Func.{Func}
+use Rattle.wf_ast.specs.declared.expr.Func.TheVariants as func
+use Rattle.wf_check_expressions.specs.Expressions.{part_failing}
+use Rattle.wf_value.specs.Pairs.{Text}
+
+-- ## Workflows
+-- a workflow beside `main`, which is the first node
+abbrev pub beside_main : ℕ → NodePart → Path → Option Path
+beside_main number (FlowPart f) path = at_if (nat_lt 0 number) path
+beside_main number part path = None
+
+-- there is a parameter
+abbrev pub has_params : List Param → Bool
+has_params [] = false
+has_params (x ∷ xs) = true
+
+-- a parameter
+abbrev pub parameters : NodePart → Path → Option Path
+parameters (FlowPart f) path = at_if (has_params f.params) (below path (codes "params"))
+parameters part path = None
+
+-- ## Steps
+-- the key of a body whose form isn't built
+abbrev pub form_key : Body → Option Text
+form_key (Body.Call f) = Some (codes "call")
+form_key (Body.Switch arms) = Some (codes "switch")
+form_key (Body.For l) = Some (codes "for")
+form_key (Body.Parallel p) = Some (codes "parallel")
+form_key (Body.Block ss) = Some (codes "steps")
+form_key (Body.Try t) = Some (codes "try")
+form_key (Body.Raise t) = Some (codes "raise")
+form_key body = None
+
+-- such a body
+abbrev pub form : Body → Path → Option Path
+form body path = elim (form_key body) [ None ↦ None | Some k ↦ Some (below path k) ]
+
+-- a jump
+abbrev pub jump : Option Text → Path → Option Path
+jump None path = None
+jump (Some x) path = Some (below path (codes "next"))
+
+-- the body has no form
+abbrev pub does_nothing : Body → Bool
+does_nothing Body.Nothing = true
+does_nothing body = false
+
+-- a step that only goes on
+abbrev pub idle : NodePart → Path → Option Path
+idle (StepPart x body next) path = at_if (does_nothing body) path
+idle part path = None
+
+-- ## Entries
+-- there is an expression
+abbrev pub has_exprs : Exprs → Bool
+has_exprs no_exprs = false
+has_exprs (expr e es) = true
+
+-- a target with places
+abbrev pub places : NodePart → Path → Option Path
+places (EntryPart e) path = at_if (has_exprs e.target.places) path
+places part path = None
+
+-- ## Functions
+-- the function is built
+abbrev pub is_built : Func → Bool
+is_built func.Default = true
+is_built func.Keys = true
+is_built func.Len = true
+is_built func.GetType = true
+is_built func.Int = true
+is_built func.String = true
+is_built func.If = true
+is_built func.SysNow = true
+is_built f = false
+
+-- the expression calls no other
+abbrev mutual
+  pub is_expr_built : Expr → Bool
+  is_expr_built (Expr.Lit v) = true
+  is_expr_built (Expr.Name x) = true
+  is_expr_built (Expr.Neg a) = is_expr_built a
+  is_expr_built (Expr.Not a) = is_expr_built a
+  is_expr_built (Expr.And a b) = is_expr_built a && is_expr_built b
+  is_expr_built (Expr.Or a b) = is_expr_built a && is_expr_built b
+  is_expr_built (Expr.Bin o a b) = is_expr_built a && is_expr_built b
+  is_expr_built (Expr.Key a k) = is_expr_built a
+  is_expr_built (Expr.Index a b) = is_expr_built a && is_expr_built b
+  is_expr_built (Expr.Call f es) = is_built f && are_exprs_built es
+
+  -- none of the expressions does
+  pub are_exprs_built : Exprs → Bool
+  are_exprs_built no_exprs = true
+  are_exprs_built (expr e es) = is_expr_built e && are_exprs_built es
+
+-- an expression that calls a function that isn't built
+abbrev pub functions : NodePart → Path → Option Path
+functions part path = part_failing is_expr_built part path
+
+-- ## The table
+-- where rule 13 speaks of a node of this number
+abbrev pub not_yet : ℕ → NodePart → Path → Option Path
+not_yet number part path = first (
+    beside_main number part path
+    ∷ parameters part path
+    ∷ form (part_body part) path
+    ∷ jump (part_next part) path
+    ∷ idle part path
+    ∷ places part path
+    ∷ functions part path ∷ [])

@@ -1,0 +1,4 @@
+pub mod Kinds
+pub mod Parts
+pub mod Said
+pub mod Answers

@@ -1,0 +1,5 @@
+pub mod Places
+pub mod Sets
+pub mod Added
+pub mod Bodies
+pub mod Surrounds
