@@ -1,0 +1,65 @@
+-- Bodies as values.
+use Rattle.std.proofs.Common.{◌≡◌, ℕ, ◌+◌, ◌<◌, false, List, [], ◌∷◌, length, get_or, drop, Option, Some, None, ◌⊎◌, inl, inr, refl, sym, ap, ◌∙◌, subst}
+use Rattle.std.specs.Prelude.{codes, if◌then◌else◌}
+use Rattle.std.specs.Str.{IsUtf8, is_utf8}
+use Rattle.std.proofs.lemmas.Bool.{false_from_ne_true}
+use Rattle.std.proofs.lemmas.Str.{IsUtf8-from_is_utf8, is_utf8-from_IsUtf8}
+use Rattle.std.proofs.lemmas.List.{drop_more}
+use Rattle.wf_shared.specs.Events.{Headers}
+use Rattle.wf_shared.specs.HttpText.{is_field_named, media_type, text_or_bytes}
+use Rattle.wf_value.specs.Data.{Data, bytes, pairs_of, text}
+use Rattle.wf_value.specs.Decode.{json_value}
+use Rattle.wf_value.specs.Json.{IsValue}
+use Rattle.wf_value.specs.JsonFaults.{IsFaultOf}
+use Rattle.wf_value.specs.JsonLaws.{FindsTheValue, HasValue, NoTwoHold}
+use Rattle.wf_value.specs.Maps.{value_at}
+use Rattle.wf_value.specs.Pairs.{get, pair_list}
+use Rattle.wf_value.specs.declared.json_text.JsonFault.{JsonFault}
+use Rattle.wf_value.specs.declared.json_text.JsonFault.TheVariants.{NotJson, Decimal, TooDeep}
+use Rattle.wf_http_value.specs.Media.{is_encoded, kind_of}
+use Rattle.wf_http_value.specs.declared.media.Media.{Media}
+
+-- ## JSON
+none_read : (b : List ℕ) → ((d : Data) → ¬ (json_value b ≡ Some d)) → (o : Option Data) → json_value b ≡ o → o ≡ None
+none_read b bare None is = refl
+none_read b bare (Some d) is = absurd (bare d is)
+
+no_value : FindsTheValue → (b : List ℕ) → ¬ (HasValue b) → json_value b ≡ None
+no_value finds b none = none_read b (λ d is. none (d, (finds b d).0 is)) (json_value b) refl
+
+pub read_value : FindsTheValue → (b : List ℕ) (d : Data) → IsValue b d → Some d ≡ json_value b
+read_value finds b d is = sym ((finds b d).1 is)
+
+pub no_json : FindsTheValue → (b : List ℕ) (f : JsonFault) → NoTwoHold b → IsFaultOf b f → ((f ≡ NotJson) ⊎ ((f ≡ Decimal) ⊎ (f ≡ TooDeep))) → None ≡ json_value b
+no_json finds b f apart h (inl is) = sym (no_value finds b (λ v. apart.value_or_not_json v (subst (IsFaultOf b) is h)))
+no_json finds b f apart h (inr (inl is)) = sym (no_value finds b (λ v. apart.value_or_decimal v (subst (IsFaultOf b) is h)))
+no_json finds b f apart h (inr (inr is)) = sym (no_value finds b (λ v. apart.value_or_too_deep v (subst (IsFaultOf b) is h)))
+
+-- ## Texts
+pub some_text : (b t : List ℕ) → IsUtf8 b → t ≡ b → text t ≡ text_or_bytes b
+some_text b t u is = ap text is ∙ sym (ap (λ x. if x then text b else bytes b) (is_utf8-from_IsUtf8 b u))
+
+pub no_text : (b : List ℕ) → ¬ (IsUtf8 b) → text_or_bytes b ≡ bytes b
+no_text b none = ap (λ x. if x then text b else bytes b) (false_from_ne_true (is_utf8 b) (λ e. none (IsUtf8-from_is_utf8 b e)))
+
+-- ## The fields as a map
+pub pairs_listed : (ps : List (List ℕ × Data)) → pair_list (pairs_of ps) ≡ ps
+pairs_listed [] = refl
+pairs_listed (p ∷ ps) = ap (λ l. p ∷ l) (pairs_listed ps)
+
+pub read_in : (o : Option Data) (m : Media) (ps : List (List ℕ × Data)) → m ≡ kind_of (media_type o) → o ≡ value_at (codes "Content-Type") ps → m ≡ kind_of (media_type (get (codes "Content-Type") (pairs_of ps)))
+read_in o m ps is read = is ∙ ap (λ v. kind_of (media_type v)) (read ∙ ap (value_at (codes "Content-Type")) (sym (pairs_listed ps)))
+
+-- ## Whether a body is encoded
+abbrev IsOther : List ℕ × List ℕ → Type 0
+IsOther f = is_field_named (codes "content-encoding") f ≡ false
+
+skipped : (f : List ℕ × List ℕ) (fs : Headers) → IsOther f → is_encoded (f ∷ fs) ≡ is_encoded fs
+skipped f fs other = rw other refl
+
+pub passed : (fs : Headers) (i : ℕ) (f : List ℕ × List ℕ) → i < length fs → f ≡ get_or fs i f → IsOther f → is_encoded (drop i fs) ≡ is_encoded fs → is_encoded (drop (i + 1) fs) ≡ is_encoded fs
+passed fs i f lt is other so =
+    sym (skipped f (drop (i + 1) fs) other)
+    ∙ ap (λ (g : List ℕ × List ℕ). is_encoded (g ∷ drop (i + 1) fs)) is
+    ∙ ap is_encoded (sym (drop_more fs i f lt))
+    ∙ so
