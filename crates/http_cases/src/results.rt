@@ -1,7 +1,9 @@
-// What the answers of services give.
+// What the answers of services and the requests to callbacks give.
+use crate::answers::reading_of;
 use std::alloc::Global;
+use wf_callbacks::{Fields, Method, Visitor};
 use wf_cases::{Case, CaseFault, bytes_of};
-use wf_http_value::{ReplyFault, response_value};
+use wf_http_value::{ReplyFault, reply_value, response_value, visit_value};
 use wf_value::{Bytes, Value, to_json};
 
 /// A code, fields and a body: the value that they give, or the error that they raise, as JSON.
@@ -11,24 +13,42 @@ pub(crate) fn results(alloc: Global, case: &Case<'_>) -> Result<String, CaseFaul
     };
     let fields = fields_of(alloc, case.item(1)?)?;
     let body = bytes_of(alloc, case.item(2)?)?;
-    match &response_value(alloc, code, fields.as_slice(), body.as_slice()) {
-        Ok(value) => shown(alloc, value),
-        Err(ReplyFault::Raised(error)) => shown(alloc, error),
-        Err(ReplyFault::OutOfMemory) => Err(CaseFault::OutOfMemory),
+    given(
+        alloc,
+        &response_value(alloc, code, fields.items(), body.as_slice()),
+    )
+}
+
+/// The same of all bytes that were heard of an answer, and of how the connection stands.
+pub(crate) fn results_of_bytes(alloc: Global, case: &Case<'_>) -> Result<String, CaseFault> {
+    let reading = reading_of(alloc, case)?;
+    match reading.answer() {
+        None => Ok(String::from_str(alloc, "none")?),
+        Some(answer) => given(alloc, &reply_value(alloc, &answer)),
     }
 }
 
-fn fields_of(alloc: Global, list: &Value) -> Result<Vec<(Bytes, Bytes)>, CaseFault> {
+/// The same of the method, the fields and the body of a request to a callback.
+pub(crate) fn results_of_visits(alloc: Global, case: &Case<'_>) -> Result<String, CaseFault> {
+    let Some(method) = Method::named(case.text(0)?) else {
+        return Err(CaseFault::NoCase);
+    };
+    let body = bytes_of(alloc, case.item(2)?)?;
+    let visitor = Visitor {
+        method,
+        headers: fields_of(alloc, case.item(1)?)?,
+        body: Bytes::new(alloc, body.as_slice())?,
+    };
+    given(alloc, &visit_value(alloc, &visitor))
+}
+
+fn fields_of(alloc: Global, list: &Value) -> Result<Fields, CaseFault> {
     let Value::List(list) = list else {
         return Err(CaseFault::NoCase);
     };
-    let mut fields = Vec::new(alloc);
+    let mut fields = Fields::new(alloc)?;
     for field in list.items() {
-        let name = part_of(alloc, field, 0)?;
-        let value = part_of(alloc, field, 1)?;
-        let Ok(()) = fields.push((name, value)) else {
-            return Err(CaseFault::OutOfMemory);
-        };
+        fields.push(part_of(alloc, field, 0)?, part_of(alloc, field, 1)?)?;
     }
     Ok(fields)
 }
@@ -40,6 +60,14 @@ fn part_of(alloc: Global, field: &Value, i: usize) -> Result<Bytes, CaseFault> {
     match parts.items().get(i) {
         Some(part) => Ok(Bytes::new(alloc, bytes_of(alloc, part)?.as_slice())?),
         None => Err(CaseFault::NoCase),
+    }
+}
+
+fn given(alloc: Global, result: &Result<Value, ReplyFault>) -> Result<String, CaseFault> {
+    match result {
+        Ok(value) => shown(alloc, value),
+        Err(ReplyFault::Raised(error)) => shown(alloc, error),
+        Err(ReplyFault::OutOfMemory) => Err(CaseFault::OutOfMemory),
     }
 }
 
