@@ -1,23 +1,29 @@
 -- Bodies as values.
-use Rattle.std.proofs.Common.{◌≡◌, ℕ, ◌+◌, ◌<◌, false, List, [], ◌∷◌, length, get_or, drop, Option, Some, None, ◌⊎◌, inl, inr, refl, sym, ap, ◌∙◌, subst}
-use Rattle.std.specs.Prelude.{codes, if◌then◌else◌}
+use Rattle.std.proofs.Common.{◌≡◌, ℕ, ◌+◌, ◌<◌, true, false, List, [], ◌∷◌, length, get_or, drop, Option, Some, None, ◌≢◌, refl, sym, ap, ◌∙◌, subst}
+use Rattle.std.specs.Prelude.{Bool, not, ◌==◌, bytes_eq, codes, if◌then◌else◌, Result, Ok}
 use Rattle.std.specs.Str.{IsUtf8, is_utf8}
 use Rattle.std.proofs.lemmas.Bool.{false_from_ne_true}
 use Rattle.std.proofs.lemmas.Str.{IsUtf8-from_is_utf8, is_utf8-from_IsUtf8}
 use Rattle.std.proofs.lemmas.List.{drop_more}
 use Rattle.wf_shared.specs.Events.{Headers}
-use Rattle.wf_shared.specs.HttpText.{is_field_named, media_type, text_or_bytes}
+use Rattle.wf_shared.specs.HttpText.{body_value, content_type, is_field_named, json_body, json_type, media_type, text_or_bytes, typed_body, values_of}
+use Rattle.wf_shared.specs.LibText.{starts_with}
 use Rattle.wf_value.specs.Data.{Data, bytes, pairs_of, text}
 use Rattle.wf_value.specs.Decode.{json_value}
+use Rattle.wf_value.specs.Errors.{Answer}
 use Rattle.wf_value.specs.Json.{IsValue}
 use Rattle.wf_value.specs.JsonFaults.{IsFaultOf}
 use Rattle.wf_value.specs.JsonLaws.{FindsTheValue, HasValue, NoTwoHold}
 use Rattle.wf_value.specs.Maps.{value_at}
 use Rattle.wf_value.specs.Pairs.{get, pair_list}
 use Rattle.wf_value.specs.declared.json_text.JsonFault.{JsonFault}
-use Rattle.wf_value.specs.declared.json_text.JsonFault.TheVariants.{NotJson, Decimal, TooDeep}
+use Rattle.wf_value.specs.declared.json_text.JsonFault.TheVariants.{NotJson, Decimal, TooDeep, OutOfMemory}
+use Rattle.wf_http_value.specs.Gives.{GivesBody}
 use Rattle.wf_http_value.specs.Media.{is_encoded, kind_of}
+use Rattle.wf_value.specs.declared.value.Value.{Value}
+use Rattle.wf_http_value.specs.declared.fault.BodyFault.{BodyFault}
 use Rattle.wf_http_value.specs.declared.media.Media.{Media}
+use Rattle.wf_http_value.specs.declared.media.Media.TheVariants as media
 
 -- ## JSON
 none_read : (b : List ℕ) → ((d : Data) → ¬ (json_value b ≡ Some d)) → (o : Option Data) → json_value b ≡ o → o ≡ None
@@ -30,10 +36,11 @@ no_value finds b none = none_read b (λ d is. none (d, (finds b d).0 is)) (json_
 pub read_value : FindsTheValue → (b : List ℕ) (d : Data) → IsValue b d → Some d ≡ json_value b
 read_value finds b d is = sym ((finds b d).1 is)
 
-pub no_json : FindsTheValue → (b : List ℕ) (f : JsonFault) → NoTwoHold b → IsFaultOf b f → ((f ≡ NotJson) ⊎ ((f ≡ Decimal) ⊎ (f ≡ TooDeep))) → None ≡ json_value b
-no_json finds b f apart h (inl is) = sym (no_value finds b (λ v. apart.value_or_not_json v (subst (IsFaultOf b) is h)))
-no_json finds b f apart h (inr (inl is)) = sym (no_value finds b (λ v. apart.value_or_decimal v (subst (IsFaultOf b) is h)))
-no_json finds b f apart h (inr (inr is)) = sym (no_value finds b (λ v. apart.value_or_too_deep v (subst (IsFaultOf b) is h)))
+pub no_json : FindsTheValue → (b : List ℕ) (f : JsonFault) → NoTwoHold b → IsFaultOf b f → f ≢ OutOfMemory → None ≡ json_value b
+no_json finds b NotJson apart h other = sym (no_value finds b (λ v. apart.value_or_not_json v h))
+no_json finds b Decimal apart h other = sym (no_value finds b (λ v. apart.value_or_decimal v h))
+no_json finds b TooDeep apart h other = sym (no_value finds b (λ v. apart.value_or_too_deep v h))
+no_json finds b OutOfMemory apart h other = absurd (other refl)
 
 -- ## Texts
 pub some_text : (b t : List ℕ) → IsUtf8 b → t ≡ b → text t ≡ text_or_bytes b
@@ -63,3 +70,34 @@ passed fs i f lt is other so =
     ∙ ap (λ (g : List ℕ × List ℕ). is_encoded (g ∷ drop (i + 1) fs)) is
     ∙ ap is_encoded (sym (drop_more fs i f lt))
     ∙ so
+
+-- ## JSON by the media type
+apart : true ≡ false → ⊥
+apart e = cc
+
+not_coded : (x y : Answer Data) (vs : List (List ℕ)) → not (length vs == 0) ≡ false → elim vs [ [] ↦ x | v ∷ ws ↦ y ] ≡ x
+not_coded x y [] e = refl
+not_coded x y (v ∷ vs) e = absurd (apart e)
+
+typed : (lenient : Bool) (fs : Headers) (b : List ℕ) → (length b == 0) ≡ false → is_encoded fs ≡ false → body_value lenient fs b ≡ typed_body lenient (content_type fs) b
+typed lenient fs [] some e = absurd (apart some)
+typed lenient fs (b ∷ bs) some e = not_coded (typed_body lenient (content_type fs) (b ∷ bs)) (Ok (bytes (b ∷ bs))) (values_of (codes "content-encoding") fs) e
+
+abbrev kind : Bool → Bool → Media
+kind x y = if x then media.Json else if y then media.Text else media.Other
+
+json_kind : (x y : Bool) → kind x y ≡ media.Json → x ≡ true
+json_kind true y e = refl
+json_kind false true e = cc
+json_kind false false e = cc
+
+abbrev by_type : Bool → List ℕ → Bool → Bool → Answer Data
+by_type lenient b x y = elim x [ true ↦ json_body lenient b (json_value b) | false ↦ if y then Ok (text_or_bytes b) else Ok (bytes b) ]
+
+pub given_json : (r : Result Value BodyFault) (lenient : Bool) (fs : Headers) (b : List ℕ) → (length b == 0) ≡ false → is_encoded fs ≡ false
+    → kind_of (content_type fs) ≡ media.Json → GivesBody r (json_body lenient b (json_value b)) → GivesBody r (body_value lenient fs b)
+given_json r lenient fs b some bare is h =
+    let t = content_type fs in
+    subst (λ (a : Answer Data). GivesBody r a)
+    (sym (typed lenient fs b some bare
+    ∙ ap (λ x. by_type lenient b x (starts_with (codes "text/") t)) (json_kind (bytes_eq t json_type) (starts_with (codes "text/") t) is))) h

@@ -1,6 +1,6 @@
 // The fields of a message as a map.
-ghost use Rattle.std.specs.Prelude.{◌≡◌, IfOk, OnOk, option_map};
-ghost use Rattle.wf_shared.specs.HttpText.{header_map, joined_value, with_field};
+ghost use Rattle.std.specs.Prelude.{◌≡◌, IfOk, OnOk, option_map, true};
+ghost use Rattle.wf_shared.specs.HttpText.{header_map, joined_value, proper_name, with_field, with_value_at};
 ghost use Rattle.wf_value.specs.Data.{pairs_of};
 ghost use Rattle.wf_value.specs.Plain.{plain};
 
@@ -29,6 +29,12 @@ fn add_field(alloc: Global, headers: &mut Map, field: &(Bytes, Bytes)) -> Result
     let Ok(value) = str::from_utf8(field.1.as_slice()) else {
         return Ok(());
     };
+    put_field(alloc, headers, name, value)
+}
+
+fn put_field(alloc: Global, headers: &mut Map, name: &str, value: &str) -> Result<(), OutOfMemory>
+    ensures { OnOk result (pairs_of headers.new ≡ with_value_at (proper_name true name.now) value.now (pairs_of headers.old)) }
+{
     let name = proper_name(alloc, name)?;
     let value = joined_value(alloc, headers.get(name.as_str()), value)?;
     headers.insert(name, value)?;

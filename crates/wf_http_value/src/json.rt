@@ -18,6 +18,6 @@ pub(crate) fn json_value(alloc: Global, bytes: &[u8]) -> Result<Option<Value>, O
     match from_json(alloc, bytes) {
         Ok(value) => Ok(Some(value)),
         Err(JsonFault::OutOfMemory) => Err(OutOfMemory),
-        Err(JsonFault::NotJson | JsonFault::Decimal | JsonFault::TooDeep) => Ok(None),
+        Err(_) => Ok(None),
     }
 }

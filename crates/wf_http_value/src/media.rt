@@ -65,17 +65,17 @@ pub(crate) fn is_encoded(fields: &[(Bytes, Bytes)]) -> bool
     ensures { result ≡ is_encoded fields.now }
 {
     for field in fields {
-        if tells_encoding(field) {
+        if is_named(b"content-encoding", field) {
             return true;
         }
     }
     false
 }
 
-fn tells_encoding(field: &(Bytes, Bytes)) -> bool
-    ensures { result ≡ is_field_named (codes "content-encoding") field.now }
+fn is_named(name: &[u8], field: &(Bytes, Bytes)) -> bool
+    ensures { result ≡ is_field_named name.now field.now }
 {
-    b"content-encoding".eq_ignore_ascii_case(field.0.as_slice())
+    name.eq_ignore_ascii_case(field.0.as_slice())
 }
 
 fn before_semicolon(value: &str) -> &str
