@@ -1,8 +1,8 @@
 -- Bodies as values.
-use Rattle.std.proofs.Common.{◌≡◌, ℕ, ◌+◌, ◌<◌, true, false, List, [], ◌∷◌, length, get_or, drop, Option, Some, None, ◌≢◌, refl, sym, ap, ◌∙◌, subst}
+use Rattle.std.proofs.Common.{◌≡◌, ℕ, suc, ◌+◌, ◌<◌, true, false, List, [], ◌∷◌, length, get_or, drop, Option, Some, None, ◌≢◌, refl, sym, ap, ◌∙◌, arith, subst}
 use Rattle.std.specs.Prelude.{Bool, not, ◌==◌, bytes_eq, codes, if◌then◌else◌, Result, Ok}
 use Rattle.std.specs.Str.{IsUtf8, is_utf8}
-use Rattle.std.proofs.lemmas.Bool.{false_from_ne_true}
+use Rattle.std.proofs.lemmas.Bool.{false_from_ne_true, ne_eqb}
 use Rattle.std.proofs.lemmas.Str.{IsUtf8-from_is_utf8, is_utf8-from_IsUtf8}
 use Rattle.std.proofs.lemmas.List.{drop_more}
 use Rattle.wf_shared.specs.Events.{Headers}
@@ -77,7 +77,7 @@ apart e = cc
 
 not_coded : (x y : Answer Data) (vs : List (List ℕ)) → not (length vs == 0) ≡ false → elim vs [ [] ↦ x | v ∷ ws ↦ y ] ≡ x
 not_coded x y [] e = refl
-not_coded x y (v ∷ vs) e = absurd (apart e)
+not_coded x y (v ∷ vs) e = absurd (apart (sym (ap not (ne_eqb (suc (length vs)) 0 (λ z. omega arith))) ∙ e))
 
 typed : (lenient : Bool) (fs : Headers) (b : List ℕ) → (length b == 0) ≡ false → is_encoded fs ≡ false → body_value lenient fs b ≡ typed_body lenient (content_type fs) b
 typed lenient fs [] some e = absurd (apart some)
