@@ -1,6 +1,6 @@
 -- Bodies as values.
 use Rattle.std.proofs.Common.{◌≡◌, ℕ, suc, ◌+◌, ◌<◌, true, false, List, [], ◌∷◌, length, get_or, drop, Option, Some, None, ◌≢◌, refl, sym, ap, ◌∙◌, arith, subst}
-use Rattle.std.specs.Prelude.{Bool, not, ◌==◌, bytes_eq, codes, if◌then◌else◌, Result, Ok}
+use Rattle.std.specs.Prelude.{Bool, not, ◌==◌, bytes_eq, codes, if◌then◌else◌, Result, Ok, Err}
 use Rattle.std.specs.Str.{IsUtf8, is_utf8}
 use Rattle.std.proofs.lemmas.Bool.{false_from_ne_true, ne_eqb}
 use Rattle.std.proofs.lemmas.Str.{IsUtf8-from_is_utf8, is_utf8-from_IsUtf8}
@@ -8,9 +8,11 @@ use Rattle.std.proofs.lemmas.List.{drop_more}
 use Rattle.wf_shared.specs.Events.{Headers}
 use Rattle.wf_shared.specs.HttpText.{body_value, content_type, is_field_named, json_body, json_type, media_type, text_or_bytes, typed_body, values_of}
 use Rattle.wf_shared.specs.LibText.{starts_with}
-use Rattle.wf_value.specs.Data.{Data, bytes, pairs_of, text}
+use Rattle.wf_value.specs.Data.{Data, null, bytes, pairs_of, text}
 use Rattle.wf_value.specs.Decode.{json_value}
 use Rattle.wf_value.specs.Errors.{Answer}
+use Rattle.wf_value.specs.declared.errors.Tag.{Tag}
+use Rattle.wf_value.specs.declared.errors.Tag.TheVariants.{ResponseTypeError}
 use Rattle.wf_value.specs.Json.{IsValue}
 use Rattle.wf_value.specs.JsonFaults.{IsFaultOf}
 use Rattle.wf_value.specs.JsonLaws.{FindsTheValue, HasValue, NoTwoHold}
@@ -22,6 +24,7 @@ use Rattle.wf_http_value.specs.Gives.{GivesBody}
 use Rattle.wf_http_value.specs.Media.{is_encoded, kind_of}
 use Rattle.wf_value.specs.declared.value.Value.{Value}
 use Rattle.wf_http_value.specs.declared.fault.BodyFault.{BodyFault}
+use Rattle.wf_http_value.specs.declared.fault.BodyFault.TheVariants as fault
 use Rattle.wf_http_value.specs.declared.media.Media.{Media}
 use Rattle.wf_http_value.specs.declared.media.Media.TheVariants as media
 
@@ -101,3 +104,30 @@ given_json r lenient fs b some bare is h =
     subst (λ (a : Answer Data). GivesBody r a)
     (sym (typed lenient fs b some bare
     ∙ ap (λ x. by_type lenient b x (starts_with (codes "text/") t)) (json_kind (bytes_eq t json_type) (starts_with (codes "text/") t) is))) h
+
+-- ## A lenient reading gives each body a value
+a_value : (v : Data) (t : Tag) (r : Answer Data) → r ≡ Ok v → ¬ (r ≡ Err t)
+a_value v t r is e = cc
+
+json_gives : (b : List ℕ) (o : Option Data) (t : Tag) → ¬ (json_body true b o ≡ Err t)
+json_gives b (Some v) t e = a_value v t (Ok v) refl e
+json_gives b None t e = a_value (text_or_bytes b) t (Ok (text_or_bytes b)) refl e
+
+type_gives : (b : List ℕ) (x y : Bool) (t : Tag) → ¬ (by_type true b x y ≡ Err t)
+type_gives b true y t e = json_gives b (json_value b) t e
+type_gives b false true t e = a_value (text_or_bytes b) t (Ok (text_or_bytes b)) refl e
+type_gives b false false t e = a_value (bytes b) t (Ok (bytes b)) refl e
+
+code_gives : (x : Answer Data) (v : Data) (vs : List (List ℕ)) (t : Tag) → ¬ (x ≡ Err t) → ¬ ((elim vs [ [] ↦ x | w ∷ ws ↦ Ok v ]) ≡ Err t)
+code_gives x v [] t gives e = gives e
+code_gives x v (w ∷ ws) t gives e = a_value v t (Ok v) refl e
+
+lenient_gives : (fs : Headers) (b : List ℕ) (t : Tag) → ¬ (body_value true fs b ≡ Err t)
+lenient_gives fs [] t e = a_value null t (Ok null) refl e
+lenient_gives fs (b ∷ bs) t e =
+    let m = content_type fs in
+    code_gives (typed_body true m (b ∷ bs)) (bytes (b ∷ bs)) (values_of (codes "content-encoding") fs) t
+    (type_gives (b ∷ bs) (bytes_eq m json_type) (starts_with (codes "text/") m) t) e
+
+pub lenient_value : (f : BodyFault) (fs : Headers) (b : List ℕ) → f ≡ fault.NoJson → ¬ (GivesBody (Err f) (body_value true fs b))
+lenient_value f fs b is h = lenient_gives fs b ResponseTypeError (subst (λ (g : BodyFault). GivesBody (Err g) (body_value true fs b)) is h)

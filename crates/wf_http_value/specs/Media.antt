@@ -9,7 +9,9 @@ use Rattle.wf_http_value.specs.declared.media.Media.TheVariants as media
 
 -- the kind of a media type
 abbrev pub kind_of : Text → Media
-kind_of t = if bytes_eq t json_type then media.Json else if starts_with (codes "text/") t then media.Text else media.Other
+kind_of t =
+    if bytes_eq t json_type then media.Json
+    else if starts_with (codes "text/") t then media.Text else media.Other
 
 -- a field Content-Encoding is there
 abbrev pub is_encoded : Headers → Bool

@@ -32,8 +32,10 @@ fn add_field(alloc: Global, headers: &mut Map, field: &(Bytes, Bytes)) -> Result
     put_field(alloc, headers, name, value)
 }
 
+// Puts a value at the proper form of a name, behind those that are there.
 fn put_field(alloc: Global, headers: &mut Map, name: &str, value: &str) -> Result<(), OutOfMemory>
-    ensures { OnOk result (pairs_of headers.new ≡ with_value_at (proper_name true name.now) value.now (pairs_of headers.old)) }
+    ensures { OnOk result (pairs_of headers.new
+        ≡ with_value_at (proper_name true name.now) value.now (pairs_of headers.old)) }
 {
     let name = proper_name(alloc, name)?;
     let value = joined_value(alloc, headers.get(name.as_str()), value)?;
@@ -43,7 +45,8 @@ fn put_field(alloc: Global, headers: &mut Map, name: &str, value: &str) -> Resul
 
 // A value behind that of the fields of the same name before it.
 fn joined_value(alloc: Global, before: Option<&Value>, value: &str) -> Result<Value, OutOfMemory>
-    ensures { IfOk result (λ v. plain v ≡ joined_value (option_map (λ b. plain b.now) before.entry) value.now) }
+    ensures { IfOk result (λ v. plain v
+        ≡ joined_value (option_map (λ b. plain b.now) before.entry) value.now) }
 {
     let Some(Value::Text(before)) = before else {
         return Ok(Value::Text(Text::new(alloc, value)?));

@@ -13,8 +13,8 @@ use wf_value::{Bytes, OutOfMemory, Tag, Value};
 
 /// The value that the answer to a call gives: that of its response (`response_value`).
 ///
-/// The errors of a response; a ConnectionError where it is Broken, and a ResourceLimitError where it
-/// is TooLong.
+/// The errors of a response; a ConnectionError where it is Broken, and a ResourceLimitError where
+/// it is TooLong.
 pub fn reply_value(alloc: Global, answer: &Answer<'_>) -> Result<Value, ReplyFault>
     ensures { Gives result (reply_result (answer_view answer.now)) }
 {

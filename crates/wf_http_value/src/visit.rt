@@ -10,10 +10,10 @@ use crate::ReplyFault;
 use crate::body::body_value;
 use crate::fault::BodyFault;
 use crate::headers::header_map;
-use crate::limits::{kept, raise};
+use crate::limits::kept;
 use std::alloc::Global;
 use wf_callbacks::Visitor;
-use wf_value::{Map, OutOfMemory, Tag, Text, Value};
+use wf_value::{Map, OutOfMemory, Text, Value};
 
 /// The value that a request to a callback gives: a map of `http_request` alone, which is a map of
 /// `body`, `headers` and `method`. JSON that says no value is a text, or else bytes.
@@ -26,7 +26,7 @@ pub fn visit_value(alloc: Global, visitor: &Visitor) -> Result<Value, ReplyFault
     let headers = header_map(alloc, fields)?;
     match body_value(alloc, true, fields, &headers, visitor.body.as_slice()) {
         Ok(body) => kept(alloc, visit_map(alloc, visitor, headers, body)?),
-        Err(BodyFault::NoJson) => raise(alloc, Tag::ResponseTypeError),
+        Err(BodyFault::NoJson) => unreachable!(),
         Err(BodyFault::OutOfMemory) => Err(ReplyFault::OutOfMemory),
     }
 }

@@ -14,7 +14,7 @@ returns-in_default-from_utf8 c =
 pub returns : goal.returns
 returns c =
     let same =
-        with_both (pairs_of c.args.headers.now) c.args.field.now c.in-Ok.name.now c.in-Ok-from_utf8.value.now
-        (subst IsUtf8 c.as_slice.ensures c.in-Ok.ensures.cases.1) (c.in-Ok.ensures.cases.0 ∙ c.as_slice.ensures)
-        (subst IsUtf8 c.as_slice-2.ensures c.in-Ok-from_utf8.ensures.cases.1) (c.in-Ok-from_utf8.ensures.cases.0 ∙ c.as_slice-2.ensures) in
+    with_both (pairs_of c.args.headers.now) c.args.field.now c.in-Ok.name.now c.in-Ok-from_utf8.value.now
+    (subst IsUtf8 c.as_slice.ensures c.in-Ok.ensures.cases.1) (c.in-Ok.ensures.cases.0 ∙ c.as_slice.ensures)
+    (subst IsUtf8 c.as_slice-2.ensures c.in-Ok-from_utf8.ensures.cases.1) (c.in-Ok-from_utf8.ensures.cases.0 ∙ c.as_slice-2.ensures) in
     subst (λ (x : Pairs). OnOk c.put_field.result (pairs_of c.put_field.new.headers ≡ x)) same c.put_field.ensures

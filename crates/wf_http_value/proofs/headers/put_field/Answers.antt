@@ -1,4 +1,4 @@
-use Rattle.std.proofs.Common.{◌≡◌, option_map, rules, sym, ◌∙◌}
+use Rattle.std.proofs.Common.{◌≡◌, option_map, rules}
 use Rattle.wf_shared.specs.HttpText.{joined_value}
 use Rattle.wf_value.specs.Maps.{value_at, with_value}
 use Rattle.wf_value.specs.Plain.{plain}
