@@ -84,12 +84,24 @@ fn fed_in_pieces(alloc: Global, bytes: &[u8]) -> Result<Reading, CaseFault> {
     Ok(reading)
 }
 
-fn told(alloc: Global, mut reading: Reading, close: Close) -> Result<String, CaseFault> {
+/// A reading that heard the bytes of a case in pieces, its connection as the case tells.
+pub(crate) fn reading_of(alloc: Global, case: &Case<'_>) -> Result<Reading, CaseFault> {
+    let bytes = bytes_of(alloc, case.item(0)?)?;
+    let close = close_of(case.text(1)?)?;
+    Ok(closed(fed_in_pieces(alloc, bytes.as_slice())?, close))
+}
+
+fn closed(mut reading: Reading, close: Close) -> Reading {
     match close {
         Close::Open => {}
         Close::Ended => reading.end(),
         Close::Broke => reading.broke(),
     }
+    reading
+}
+
+fn told(alloc: Global, reading: Reading, close: Close) -> Result<String, CaseFault> {
+    let reading = closed(reading, close);
     match reading.answer() {
         None => Ok(String::from_str(alloc, "none")?),
         Some(Answer::Broken) => Ok(String::from_str(alloc, "Broken")?),

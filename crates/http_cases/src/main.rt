@@ -5,6 +5,7 @@
 mod answers;
 mod arguments;
 mod requests;
+mod results;
 mod urls;
 mod visits;
 
@@ -20,6 +21,9 @@ fn answer(alloc: Global, line: &str) -> Result<String, CaseFault> {
         "urls" | "urls_at_edges" => urls::leads(alloc, &case),
         "requests" | "requests_at_edges" => requests::sends(alloc, &case),
         "refused_requests" => requests::refuses(alloc, &case),
+        "results" | "results_at_edges" => results::results(alloc, &case),
+        "results_of_bytes" => results::results_of_bytes(alloc, &case),
+        "results_of_visits" => results::results_of_visits(alloc, &case),
         "visits" | "visits_at_edges" => visits::knows(alloc, &case),
         "visits_of_fronts" => visits::knows_of_fronts(alloc, &case),
         "replies" => visits::replies(alloc, &case),

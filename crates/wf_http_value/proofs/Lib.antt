@@ -1,0 +1,4 @@
+pub mod Naming
+pub mod Bodies
+pub mod Copies
+pub mod Fields
