@@ -1,0 +1,6 @@
+pub mod Binding
+pub mod Kept
+pub mod Numbers
+pub mod Seen
+pub mod Totals
+pub mod Writing

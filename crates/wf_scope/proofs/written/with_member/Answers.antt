@@ -1,0 +1,7 @@
+use Rattle.wf_value.specs.Plain.{plain}
+use Rattle.wf_scope.proofs.Writing.{index_put}
+use Rattle.wf_scope.proofs.written.with_member.Goals as goal
+
+pub returns-in-List : goal.returns-in-List
+returns-in-List c =
+    index_put c.with_item.result c.args.key.now c.args.value.now c.in-At.index c.in-List.list c.items.result.now (plain c.args.new) c.in-At.is c.in-List.is c.items.ensures c.with_item.ensures

@@ -1,0 +1,5 @@
+pub mod Changes
+pub mod Faults
+pub mod Layers
+pub mod Places
+pub mod Store
