@@ -25,7 +25,7 @@ rises_push (x ∷ ls) l h e =
     let two = and_parts (all_above x.number ls) (rises ls) h in
     and_from (all_above x.number (ls ++ l ∷ [])) (rises (ls ++ l ∷ [])) (above_push x.number ls l two.0 (omega (arith, e))) (rises_push ls l two.1 (omega (arith, e)))
 
-find_more : (n : ℕ) (ls more : List Layer) (l : Layer) → find n ls ≡ Some l → find n (ls ++ more) ≡ Some l
+pub find_more : (n : ℕ) (ls more : List Layer) (l : Layer) → find n ls ≡ Some l → find n (ls ++ more) ≡ Some l
 find_more n [] more l e = cc
 find_more n (x ∷ ls) more l e = elim (found_cases n x ls l e) [
   | inl h ↦ find_head n x (ls ++ more) h.0 ∙ ap Some h.1
@@ -87,7 +87,7 @@ rises_closed n (x ∷ ls) h = by (nat_eq x.number n) (rises_closed n ls (and_par
     by true later = (and_parts (all_above x.number ls) (rises ls) h).1
     by false later = and_from (all_above x.number (closed n ls)) (rises (closed n ls)) (above_closed x.number n ls (and_parts (all_above x.number ls) (rises ls) h).0) later
 
-find_closed : (n o : ℕ) (ls : List Layer) → nat_eq o n ≡ false → find o (closed n ls) ≡ find o ls
+pub find_closed : (n o : ℕ) (ls : List Layer) → nat_eq o n ≡ false → find o (closed n ls) ≡ find o ls
 find_closed n o [] h = refl
 find_closed n o (x ∷ ls) h = by (nat_eq x.number n) refl (find_closed n o ls h)
   where
@@ -136,25 +136,27 @@ put_rises n x v (y ∷ ls) = by (nat_eq y.number n) (put_rises n x v ls)
     by false later =
         ap (λ (c : Bool). c && rises (put_at n x v ls)) (put_above y.number n x v ls) ∙ ap (λ (c : Bool). all_above y.number ls && c) later
 
-put_outside : (d o n : ℕ) (x : Text) (v : Data) (ls : List Layer) → is_outside d (find o (put_at n x v ls)) ≡ is_outside d (find o ls)
-put_outside d o n x v [] = refl
-put_outside d o n x v (y ∷ ls) = by (nat_eq y.number n) (nat_eq y.number o) (put_outside d o n x v ls)
-  where
-    head : (c : Bool) → is_outside d (if c then Some (with_variable x v y) else find o ls) ≡ is_outside d (if c then Some y else find o ls)
-    head true = refl
-    head false = refl
+module _ (tells : Option Layer → Bool) (same : (x : Text) (v : Data) (l : Layer) → tells (Some (with_variable x v l)) ≡ tells (Some l)) where
+  -- what doesn't look at variables
+  pub put_tells : (o n : ℕ) (x : Text) (v : Data) (ls : List Layer) → tells (find o (put_at n x v ls)) ≡ tells (find o ls)
+  put_tells o n x v [] = refl
+  put_tells o n x v (y ∷ ls) = by (nat_eq y.number n) (put_tells o n x v ls)
+    where
+      head : (c : Bool) → tells (if c then Some (with_variable x v y) else find o ls) ≡ tells (if c then Some y else find o ls)
+      head true = same x v y
+      head false = refl
 
-    tail : (c : Bool) → is_outside d (find o (put_at n x v ls)) ≡ is_outside d (find o ls) → is_outside d (if c then Some y else find o (put_at n x v ls)) ≡ is_outside d (if c then Some y else find o ls)
-    tail true later = refl
-    tail false later = later
+      tail : (c : Bool) → tells (find o (put_at n x v ls)) ≡ tells (find o ls) → tells (if c then Some y else find o (put_at n x v ls)) ≡ tells (if c then Some y else find o ls)
+      tail true later = refl
+      tail false later = later
 
-    by : (b c : Bool) → is_outside d (find o (put_at n x v ls)) ≡ is_outside d (find o ls) → is_outside d (find o (if b then with_variable x v y ∷ ls else y ∷ put_at n x v ls)) ≡ is_outside d (find o (y ∷ ls))
-    by true c later = head (nat_eq y.number o)
-    by false c later = tail (nat_eq y.number o) later
+      by : (b : Bool) → tells (find o (put_at n x v ls)) ≡ tells (find o ls) → tells (find o (if b then with_variable x v y ∷ ls else y ∷ put_at n x v ls)) ≡ tells (find o (y ∷ ls))
+      by true later = head (nat_eq y.number o)
+      by false later = tail (nat_eq y.number o) later
 
 put_stands : (o : Option ℕ) (d n : ℕ) (x : Text) (v : Data) (ls : List Layer) → stands o d (put_at n x v ls) ≡ stands o d ls
 put_stands None d n x v ls = refl
-put_stands (Some o) d n x v ls = put_outside d o n x v ls
+put_stands (Some o) d n x v ls = put_tells (is_outside d) (λ y u l. refl) o n x v ls
 
 put_others : (n : ℕ) (x : Text) (v : Data) (ls rest : List Layer) → all_stand (put_at n x v ls) rest ≡ all_stand ls rest
 put_others n x v ls [] = refl

@@ -159,11 +159,11 @@ pub member_named : (k : Key) (v : Value) (s t : List ℕ) (ps : List (List ℕ �
 member_named k v s t ps o e f g h =
     ap faulted (member_name k v t ps e f ∙ ap (λ x. or_error KeyError (value_at x ps)) (sym g) ∙ ap (or_error KeyError) (sym h))
 
-pub member_indexed : (k : Key) (v : Value) (i : ℤ) (ds : List Data) (xs : List Value) (o : Option Data) → k ≡ key.At i → v ≡ value.List ds → plain_items xs ≡ ds → o ≡ item_at i (plain_items xs) → faulted (member (key_data k) (plain v)) ≡ faulted (or_error IndexError o)
-member_indexed k v i ds xs o e f g h =
-    ap faulted (member_index k v i ds e f ∙ ap (λ l. or_error IndexError (item_at i l)) (sym g) ∙ ap (or_error IndexError) (sym h))
+pub member_indexed : (k : Key) (v : Value) (i j : ℤ) (ds : List Data) (xs : List Value) (o : Option Data) → k ≡ key.At i → j ≡ i → v ≡ value.List ds → plain_items xs ≡ ds → o ≡ item_at j (plain_items xs) → faulted (member (key_data k) (plain v)) ≡ faulted (or_error IndexError o)
+member_indexed k v i j ds xs o e same f g h =
+    ap faulted (member_index k v i ds e f ∙ ap (λ l. or_error IndexError (item_at i l)) (sym g) ∙ ap (λ n. or_error IndexError (item_at n (plain_items xs))) (sym same) ∙ ap (or_error IndexError) (sym h))
 
-pub index_put : (r : Result Value AssignFault) (k : Key) (v : Value) (i : ℤ) (ds : List Data) (xs : List Value) (n : Data) → k ≡ key.At i → v ≡ value.List ds → plain_items xs ≡ ds → Gives r (faulted (with_item i n (plain_items xs))) → Gives r (faulted (with_member (key_data k) n (plain v)))
-index_put r k v i ds xs n e f g h =
-    gives_same r (with_item i n (plain_items xs)) (with_member (key_data k) n (plain v))
-    (ap (with_item i n) (g ∙ sym (items_listed ds)) ∙ sym (ap (λ x. with_member (integer i) n (plain x)) f) ∙ sym (ap (λ x. with_member (key_data x) n (plain v)) e)) h
+pub index_put : (r : Result Value AssignFault) (k : Key) (v : Value) (i j : ℤ) (ds : List Data) (xs : List Value) (n : Data) → k ≡ key.At i → j ≡ i → v ≡ value.List ds → plain_items xs ≡ ds → Gives r (faulted (with_item j n (plain_items xs))) → Gives r (faulted (with_member (key_data k) n (plain v)))
+index_put r k v i j ds xs n e same f g h =
+    gives_same r (with_item j n (plain_items xs)) (with_member (key_data k) n (plain v))
+    (ap (λ m. with_item m n (plain_items xs)) same ∙ ap (with_item i n) (g ∙ sym (items_listed ds)) ∙ sym (ap (λ x. with_member (integer i) n (plain x)) f) ∙ sym (ap (λ x. with_member (key_data x) n (plain v)) e)) h

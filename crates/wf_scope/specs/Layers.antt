@@ -1,6 +1,7 @@
 -- Layers of variables by their numbers.
 --     find, vars_at         a layer and its variables, by its number
 --     chain, look_in        the layers that are seen from one, innermost first, and a variable in them
+--     seen_pairs            all variables that are seen
 --     holder_in             the number of the layer in which it stands
 --     total_of              what all variables come to
 --     fresh, opened         a new layer
@@ -54,6 +55,11 @@ abbrev pub holder_in : Text → List Layer → Option ℕ
 holder_in x [] = None
 holder_in x (l ∷ ls) = elim (value_at x l.vars) [ None ↦ holder_in x ls | Some v ↦ Some l.number ]
 
+-- all variables that are seen, an inner one before an outer one of the same name
+abbrev pub seen_pairs : List Layer → List (Text × Data)
+seen_pairs [] = []
+seen_pairs (l ∷ ls) = l.vars ++ seen_pairs ls
+
 -- ## What variables come to
 -- a variable that may be there
 abbrev pub variable_size : Text → Option Data → ℕ
@@ -105,6 +111,14 @@ is_inside n (Some o) = nat_eq o n
 abbrev pub IsInnermost : ℕ → List Layer → Type 0
 IsInnermost n [] = Unit {0}
 IsInnermost n (l ∷ ls) = (is_inside n l.outer ≡ false) × IsInnermost n ls
+
+-- the live layers stay live
+abbrev pub StayLive : List Layer → List Layer → Type 0
+StayLive old new = (n : ℕ) → IsLive n old → IsLive n new
+
+-- a layer in which none stands stays one
+abbrev pub StayInnermost : List Layer → List Layer → Type 0
+StayInnermost old new = (n : ℕ) → IsInnermost n old → IsInnermost n new
 
 -- ## Changes
 -- a new layer, inside another one or inside none

@@ -8,10 +8,12 @@
 
 mod fault;
 mod key;
+mod laws;
 mod layer;
 mod scopes;
 mod written;
 
 pub use fault::AssignFault;
 pub use key::Key;
+pub use laws::looks_as_tasks_do;
 pub use scopes::{Chain, Scopes};

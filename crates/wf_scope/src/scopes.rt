@@ -3,7 +3,7 @@ ghost use Rattle.std.specs.Prelude.{true, suc, ◌≡◌, ◌≤◌, ◌<◌, �
 ghost use Rattle.wf_value.specs.Data.{size};
 ghost use Rattle.wf_value.specs.Maps.{IsInOrder, value_at};
 ghost use Rattle.wf_value.specs.Plain.{plain};
-ghost use Rattle.wf_scope.specs.Layers.{IsInnermost, IsLive, all_stand, chain, closed, depth_in, find, fresh, holder_in, look_in, opened, put_at, put_place, rises, stands, total_of, variable_size, vars_at};
+ghost use Rattle.wf_scope.specs.Layers.{IsInnermost, IsLive, StayInnermost, StayLive, all_stand, chain, closed, depth_in, find, fresh, holder_in, look_in, opened, put_at, put_place, rises, stands, total_of, variable_size, vars_at};
 
 use crate::fault::AssignFault;
 use crate::key::Key;
@@ -82,6 +82,9 @@ impl Scopes {
         ensures opened { OnOk result (layers_of self.new ≡ opened None 0 (layers_of self.old)) }
         ensures kept { OnErr result (layers_of self.new ≡ layers_of self.old) }
         ensures limit { self.new.limit ≡ self.old.limit }
+        ensures live { IfOk result (λ c. IsLive c.number (layers_of self.new)) }
+        ensures innermost { IfOk result (λ c. IsInnermost c.number (layers_of self.new)) }
+        ensures stay { StayLive (layers_of self.old) (layers_of self.new) }
     {
         self.open(None, 0)
     }
@@ -93,6 +96,9 @@ impl Scopes {
         ensures opened { OnOk result (layers_of self.new ≡ opened (Some outer.number) (suc (depth_in (find outer.number (layers_of self.old)))) (layers_of self.old)) }
         ensures kept { OnErr result (layers_of self.new ≡ layers_of self.old) }
         ensures limit { self.new.limit ≡ self.old.limit }
+        ensures live { IfOk result (λ c. IsLive c.number (layers_of self.new)) }
+        ensures innermost { IfOk result (λ c. IsInnermost c.number (layers_of self.new)) }
+        ensures stay { StayLive (layers_of self.old) (layers_of self.new) }
     {
         let depth = self.layers[self.place(outer.number)].depth;
         match depth.checked_add(1) {
@@ -122,6 +128,8 @@ impl Scopes {
         ensures outcome { Answers result (layers_of self.new) (bound self.old.limit c.number name.now (plain v) (layers_of self.old)) }
         ensures kept { OnErr result (layers_of self.new ≡ layers_of self.old) }
         ensures limit { self.new.limit ≡ self.old.limit }
+        ensures stay { StayLive (layers_of self.old) (layers_of self.new) }
+        ensures apart { StayInnermost (layers_of self.old) (layers_of self.new) }
     {
         let total = self.total_with(c.number, name, &v);
         if total > self.limit {
@@ -154,6 +162,8 @@ impl Scopes {
         ensures outcome { Answers result (layers_of self.new) (assigned self.old.limit c.number name.now (map key_data path.now) (plain v) (layers_of self.old)) }
         ensures kept { OnErr result (layers_of self.new ≡ layers_of self.old) }
         ensures limit { self.new.limit ≡ self.old.limit }
+        ensures stay { StayLive (layers_of self.old) (layers_of self.new) }
+        ensures apart { StayInnermost (layers_of self.old) (layers_of self.new) }
     {
         let target = self.target(c.number, name);
         match self.changed(target, name, path, v) {
@@ -275,19 +285,22 @@ impl Scopes {
         ensures opened { OnOk result (layers_of self.new ≡ opened outer depth (layers_of self.old)) }
         ensures kept { OnErr result (layers_of self.new ≡ layers_of self.old) }
         ensures limit { self.new.limit ≡ self.old.limit }
+        ensures live { IfOk result (λ c. IsLive c.number (layers_of self.new)) }
+        ensures innermost { IfOk result (λ c. IsInnermost c.number (layers_of self.new)) }
+        ensures stay { StayLive (layers_of self.old) (layers_of self.new) }
     {
         let number = self.fresh()?;
         let vars = Map::new(self.alloc)?;
-        let Ok(()) = self.layers.push(Layer {
+        let layer = Layer {
             number,
             outer,
             depth,
             vars,
-        })
-        else {
-            return Err(OutOfMemory);
         };
-        Ok(Chain { number })
+        match self.layers.push(layer) {
+            Ok(()) => Ok(Chain { number }),
+            Err(_) => Err(OutOfMemory),
+        }
     }
 }
 

@@ -1,7 +1,8 @@
-use Rattle.std.proofs.Common.{◌∙◌}
+use Rattle.std.proofs.Common.{refl, ◌∙◌}
 use Rattle.std.specs.Prelude.{is_ok}
 use Rattle.wf_scope.specs.declared.layer.Layer.{Layer}
 use Rattle.wf_scope.proofs.Kept.{pushed}
+use Rattle.wf_scope.proofs.Live.{pushed_innermost, pushed_live, pushed_stay}
 use Rattle.wf_scope.proofs.Totals.{pushed_total}
 use Rattle.wf_scope.proofs.scopes.Scopes.open.Goals as goal
 
@@ -16,3 +17,20 @@ invariant_of-self c =
       rising = keeps.0;
       standing = keeps.1;
     }
+
+pub returns-in-Ok-clause-live : goal.returns-in-Ok-clause-live
+returns-in-Ok-clause-live c =
+    let ls = c.args.self.now.layers.items in
+    let l : Layer = record { number = c.in_ok-number.number; outer = c.args.outer; depth = c.args.depth; vars = c.in_ok-vars.vars } in
+    pushed_live c.in_ok-number.number ls c.push.new.self.items l c.in-Ok.ensures.items refl
+
+pub returns-in-Ok-clause-innermost : goal.returns-in-Ok-clause-innermost
+returns-in-Ok-clause-innermost c =
+    let s = c.args.self.now in
+    let l : Layer = record { number = c.in_ok-number.number; outer = c.args.outer; depth = c.args.depth; vars = c.in_ok-vars.vars } in
+    pushed_innermost c.in_ok-number.number s.layers.items c.push.new.self.items l c.in-Ok.ensures.items c.in_ok-number.ensures s.standing c.requires
+
+pub returns-in-Ok-clause-stay : goal.returns-in-Ok-clause-stay
+returns-in-Ok-clause-stay c =
+    let l : Layer = record { number = c.in_ok-number.number; outer = c.args.outer; depth = c.args.depth; vars = c.in_ok-vars.vars } in
+    pushed_stay c.args.self.now.layers.items c.push.new.self.items l c.in-Ok.ensures.items
