@@ -19,7 +19,7 @@ const NESTING_LIMIT: u32 = 100;
 const MOST: u64 = u64::MAX - 2;
 
 /// A layer, by its number. From it are seen this layer, the one outside it, and so on outward.
-#[derive(Debug, Clone, Copy, PartialEq, Eq)]
+#[derive(Clone, Copy)]
 pub struct Chain {
     /// The number of the layer.
     pub number: u64,
@@ -297,10 +297,10 @@ impl Scopes {
             depth,
             vars,
         };
-        match self.layers.push(layer) {
-            Ok(()) => Ok(Chain { number }),
-            Err(_) => Err(OutOfMemory),
-        }
+        let Ok(()) = self.layers.push(layer) else {
+            return Err(OutOfMemory);
+        };
+        Ok(Chain { number })
     }
 }
 
