@@ -1,0 +1,8 @@
+pub mod Binding
+pub mod Kept
+pub mod Live
+pub mod Looks
+pub mod Numbers
+pub mod Seen
+pub mod Totals
+pub mod Writing

@@ -1,0 +1,36 @@
+use Rattle.std.proofs.Common.{◌≡◌, sym, ap, ◌∙◌, arith}
+use Rattle.wf_scope.specs.Layers.{all_stand, closed, rises, total_of}
+use Rattle.wf_scope.proofs.Kept.{all_stand_closed, removed, rises_closed}
+use Rattle.wf_scope.proofs.Numbers.{layer_at, number_found}
+use Rattle.wf_scope.proofs.Totals.{ended}
+use Rattle.wf_scope.proofs.scopes.Scopes.close.Goals as goal
+
+pub overflow_sub-self-2 : goal.overflow_sub-self-2
+overflow_sub-self-2 c =
+    let s = c.args.self.now in
+    let here = layer_at c.args.c.number s.layers.items c.place-place.result c.remove-layer.result c.place-place.ensures.within c.remove-layer.ensures.value c.place-place.ensures.found in
+    (ended c.args.c.number s.layers.items c.remove-layer.result c.size.result s.total here s.counted s.room c.size.ensures).1
+
+pub invariant_of-self : goal.invariant_of-self
+invariant_of-self c =
+    let s = c.args.self.now in
+    let ls = s.layers.items in
+    let n = c.args.c.number in
+    let here = layer_at n ls c.place-place.result c.remove-layer.result c.place-place.ensures.within c.remove-layer.ensures.value c.place-place.ensures.found in
+    let end = ended n ls c.remove-layer.result c.size.result s.total here s.counted s.room c.size.ensures in
+    let gone : c.remove-layer.new.self.items ≡ closed n ls =
+        c.remove-layer.ensures.items ∙ removed n ls c.place-place.result c.remove-layer.result s.rising (c.place-place.ensures.found ∙ here) (number_found n ls c.remove-layer.result here) in
+    record {
+      counted = end.2 ∙ ap total_of (sym gone);
+      room = omega (arith, s.room, end.1);
+      rising = ap rises gone ∙ rises_closed n ls s.rising;
+      standing = ap (λ ys. all_stand ys ys) gone ∙ all_stand_closed n ls c.requires.innermost s.standing;
+    }
+
+pub returns-clause-closed : goal.returns-clause-closed
+returns-clause-closed c =
+    let s = c.args.self.now in
+    let ls = s.layers.items in
+    let n = c.args.c.number in
+    let here = layer_at n ls c.place-place.result c.remove-layer.result c.place-place.ensures.within c.remove-layer.ensures.value c.place-place.ensures.found in
+    c.remove-layer.ensures.items ∙ removed n ls c.place-place.result c.remove-layer.result s.rising (c.place-place.ensures.found ∙ here) (number_found n ls c.remove-layer.result here)

@@ -1,0 +1,330 @@
+// The layers of an execution.
+ghost use Rattle.std.specs.Prelude.{true, suc, ◌≡◌, ◌≤◌, ◌<◌, ◌+◌, [], length, map, min, IfOk, IfSome, OnErr, OnOk, is_ok, if◌then◌else◌, option_map, Some, None, slice_get};
+ghost use Rattle.wf_value.specs.Data.{size};
+ghost use Rattle.wf_value.specs.Maps.{IsInOrder, value_at};
+ghost use Rattle.wf_value.specs.Plain.{plain};
+ghost use Rattle.wf_scope.specs.Layers.{IsInnermost, IsLive, StayInnermost, StayLive, all_stand, chain, closed, depth_in, find, fresh, holder_in, look_in, opened, put_at, put_place, rises, stands, total_of, variable_size, vars_at};
+
+use crate::fault::AssignFault;
+use crate::key::Key;
+use crate::layer::Layer;
+use crate::written::written;
+use std::alloc::Global;
+use wf_value::{Map, OutOfMemory, Value};
+
+/// The greatest nesting of a variable, as `Value::depth` counts.
+const NESTING_LIMIT: u32 = 100;
+
+/// No memory holds variables that come to more.
+const MOST: u64 = u64::MAX - 2;
+
+/// A layer, by its number. From it are seen this layer, the one outside it, and so on outward.
+#[derive(Clone, Copy)]
+pub struct Chain {
+    /// The number of the layer.
+    pub number: u64,
+}
+
+/// The layers of an execution, and the limit on the total of their variables.
+///
+/// A variable counts 2, the bytes of its name and the size of its value, as `Value::size` counts. Contracts see the layers by rising
+/// number.
+#[derive(Drop)]
+pub struct Scopes {
+    alloc: Global,
+    limit: u64,
+    layers: Vec<Layer>,
+    total: u64,
+    ghost counted: { total ≡ total_of layers.items },
+    ghost room: { total ≤ 18446744073709551613 },
+    ghost rising: { rises layers.items ≡ true },
+    ghost standing: { all_stand layers.items layers.items ≡ true },
+}
+
+impl Scopes {
+    ghost use Rattle.wf_scope.specs.Changes.{Answers, assigned, bound, changed, target};
+    ghost use Rattle.wf_scope.specs.Faults.{Gives, faulted};
+    ghost use Rattle.wf_scope.specs.Places.{key_data};
+    ghost use Rattle.wf_scope.specs.Store.{layers_of};
+
+    /// No layer. All variables together may come to this limit.
+    pub fn new(alloc: Global, limit: u64) -> Result<Scopes, OutOfMemory>
+        ensures empty { IfOk result (λ s. layers_of s ≡ []) }
+        ensures limit { IfOk result (λ s. s.limit ≡ limit) }
+    {
+        Ok(Scopes {
+            alloc,
+            limit,
+            layers: Vec::new(alloc),
+            total: 0,
+        })
+    }
+
+    /// What all variables of all layers come to.
+    pub fn total(&self) -> u64
+        ensures { result ≡ total_of (layers_of self.now) }
+    {
+        self.total
+    }
+
+    /// The value of a variable: in the innermost of the layers that are seen which has the name; none where none has. The layer must be
+    /// live.
+    pub fn look(&self, c: Chain, name: &str) -> Option<&Value>
+        requires { IsLive c.number (layers_of self.now) }
+        ensures { option_map (λ v. plain v.now) result ≡ look_in name.now (chain c.number (layers_of self.now)) }
+    {
+        self.look_from(c.number, name)
+    }
+
+    /// Opens a layer that stands inside none. Without memory all stays.
+    pub fn root(&mut self) -> Result<Chain, OutOfMemory>
+        ensures number { IfOk result (λ c. c.number ≡ fresh (layers_of self.old)) }
+        ensures opened { OnOk result (layers_of self.new ≡ opened None 0 (layers_of self.old)) }
+        ensures kept { OnErr result (layers_of self.new ≡ layers_of self.old) }
+        ensures limit { self.new.limit ≡ self.old.limit }
+        ensures live { IfOk result (λ c. IsLive c.number (layers_of self.new)) }
+        ensures innermost { IfOk result (λ c. IsInnermost c.number (layers_of self.new)) }
+        ensures stay { StayLive (layers_of self.old) (layers_of self.new) }
+    {
+        self.open(None, 0)
+    }
+
+    /// Opens a layer inside another one, which must be live. Without memory all stays.
+    pub fn inner(&mut self, outer: Chain) -> Result<Chain, OutOfMemory>
+        requires { IsLive outer.number (layers_of self.old) }
+        ensures number { IfOk result (λ c. c.number ≡ fresh (layers_of self.old)) }
+        ensures opened { OnOk result (layers_of self.new ≡ opened (Some outer.number) (suc (depth_in (find outer.number (layers_of self.old)))) (layers_of self.old)) }
+        ensures kept { OnErr result (layers_of self.new ≡ layers_of self.old) }
+        ensures limit { self.new.limit ≡ self.old.limit }
+        ensures live { IfOk result (λ c. IsLive c.number (layers_of self.new)) }
+        ensures innermost { IfOk result (λ c. IsInnermost c.number (layers_of self.new)) }
+        ensures stay { StayLive (layers_of self.old) (layers_of self.new) }
+    {
+        let depth = self.layers[self.place(outer.number)].depth;
+        match depth.checked_add(1) {
+            Some(depth) => self.open(Some(outer.number), depth),
+            None => Err(OutOfMemory),
+        }
+    }
+
+    /// Ends a layer with its variables. It must be live, and no layer may stand inside it.
+    pub fn close(&mut self, c: Chain)
+        requires live { IsLive c.number (layers_of self.old) }
+        requires innermost { IsInnermost c.number (layers_of self.old) }
+        ensures closed { layers_of self.new ≡ closed c.number (layers_of self.old) }
+        ensures limit { self.new.limit ≡ self.old.limit }
+    {
+        let place = self.place(c.number);
+        let layer = self.layers.remove(place);
+        self.total -= layer.vars.size() - 2;
+    }
+
+    /// Makes or changes a variable of a layer, which must be live. On a fault all stays, and the value is dropped.
+    ///
+    /// The first of these causes that holds is told: `TooLarge` where the total would be above the limit, `TooDeep` where the value nests
+    /// deeper than 100. Besides, memory may be wanting.
+    pub fn bind(&mut self, c: Chain, name: &str, v: Value) -> Result<(), AssignFault>
+        requires { IsLive c.number (layers_of self.old) }
+        ensures outcome { Answers result (layers_of self.new) (bound self.old.limit c.number name.now (plain v) (layers_of self.old)) }
+        ensures kept { OnErr result (layers_of self.new ≡ layers_of self.old) }
+        ensures limit { self.new.limit ≡ self.old.limit }
+        ensures stay { StayLive (layers_of self.old) (layers_of self.new) }
+        ensures apart { StayInnermost (layers_of self.old) (layers_of self.new) }
+    {
+        let total = self.total_with(c.number, name, &v);
+        if total > self.limit {
+            return Err(AssignFault::TooLarge);
+        }
+        if total > MOST {
+            return Err(AssignFault::OutOfMemory);
+        }
+        if v.depth() > NESTING_LIMIT {
+            return Err(AssignFault::TooDeep);
+        }
+        let place = self.place(c.number);
+        match put(self.alloc, &mut self.layers, place, name, v) {
+            Ok(()) => {
+                self.total = total;
+                Ok(())
+            }
+            Err(_) => Err(AssignFault::OutOfMemory),
+        }
+    }
+
+    /// Assigns a value to a name, or to the places below it. A variable that is seen from the layer is changed where it stands; else it is
+    /// made in the layer, which must be live. On a fault all stays, and the value is dropped.
+    ///
+    /// The places are entered one after another. A missing last key of a map is added. Another missing key, and any place below a variable
+    /// that isn't there, is a `MissingKey`, an index outside its list a `BadIndex`, any other place a `NotAContainer`. Then the limits are
+    /// tested as in `bind`, with the variable as it would be. Besides, memory may be wanting.
+    pub fn assign(&mut self, c: Chain, name: &str, path: &[Key], v: Value) -> Result<(), AssignFault>
+        requires { IsLive c.number (layers_of self.old) }
+        ensures outcome { Answers result (layers_of self.new) (assigned self.old.limit c.number name.now (map key_data path.now) (plain v) (layers_of self.old)) }
+        ensures kept { OnErr result (layers_of self.new ≡ layers_of self.old) }
+        ensures limit { self.new.limit ≡ self.old.limit }
+        ensures stay { StayLive (layers_of self.old) (layers_of self.new) }
+        ensures apart { StayInnermost (layers_of self.old) (layers_of self.new) }
+    {
+        let target = self.target(c.number, name);
+        match self.changed(target, name, path, v) {
+            Ok(value) => self.bind(Chain { number: target }, name, value),
+            Err(fault) => Err(fault),
+        }
+    }
+
+    // Where a live layer stands.
+    fn place(&self, number: u64) -> usize
+        requires { IsLive number (layers_of self.now) }
+        ensures within { result < length (layers_of self.now) }
+        ensures found { slice_get (layers_of self.now) result ≡ find number (layers_of self.now) }
+    {
+        match self.layers.binary_search_by_key(&number, |layer| layer.number) {
+            Ok(place) => place,
+            Err(_) => unreachable!(),
+        }
+    }
+
+    fn look_from(&self, number: u64, name: &str) -> Option<&Value>
+        requires { IsLive number (layers_of self.now) }
+        ensures { option_map (λ v. plain v.now) result ≡ look_in name.now (chain number (layers_of self.now)) }
+    {
+        let layer = &self.layers[self.place(number)];
+        match layer.vars.get(name) {
+            Some(value) => Some(value),
+            None => match layer.outer {
+                Some(outer) => self.look_from(outer, name),
+                None => None,
+            },
+        }
+    }
+
+    // The number of the innermost layer that has the name, of those that are seen.
+    fn holder(&self, number: u64, name: &str) -> Option<u64>
+        requires { IsLive number (layers_of self.now) }
+        ensures holder { result ≡ holder_in name.now (chain number (layers_of self.now)) }
+        ensures live { IfSome result (λ n. IsLive n (layers_of self.now)) }
+    {
+        let layer = &self.layers[self.place(number)];
+        match layer.vars.get(name) {
+            Some(_) => Some(number),
+            None => match layer.outer {
+                Some(outer) => self.holder(outer, name),
+                None => None,
+            },
+        }
+    }
+
+    // The layer that an assignment changes.
+    fn target(&self, number: u64, name: &str) -> u64
+        requires { IsLive number (layers_of self.now) }
+        ensures target { result ≡ target name.now number (layers_of self.now) }
+        ensures live { IsLive result (layers_of self.now) }
+    {
+        match self.holder(number, name) {
+            Some(holder) => holder,
+            None => number,
+        }
+    }
+
+    // The value of a layer's variable, behind an assignment to it or to the places below it.
+    fn changed(&self, number: u64, name: &str, path: &[Key], new: Value) -> Result<Value, AssignFault>
+        requires { IsLive number (layers_of self.now) }
+        ensures { Gives result (faulted (changed (value_at name.now (vars_at number (layers_of self.now))) (map key_data path.now) (plain new))) }
+    {
+        let layer = &self.layers[self.place(number)];
+        match layer.vars.get(name) {
+            Some(old) => written(self.alloc, path, old, new),
+            None => match path {
+                [] => Ok(new),
+                [_, ..] => Err(AssignFault::MissingKey),
+            },
+        }
+    }
+
+    // What a layer's variable counts, 0 where there is none.
+    fn counted(&self, number: u64, name: &str) -> u64
+        requires { IsLive number (layers_of self.now) }
+        ensures size { result ≡ variable_size name.now (value_at name.now (vars_at number (layers_of self.now))) }
+        ensures within { result ≤ self.now.total }
+        ensures order { IsInOrder (vars_at number (layers_of self.now)) }
+    {
+        let layer = &self.layers[self.place(number)];
+        match layer.vars.get(name) {
+            Some(value) => size_of_variable(name, value),
+            None => 0,
+        }
+    }
+
+    // The total once this layer's variable has the value.
+    fn total_with(&self, number: u64, name: &str, value: &Value) -> u64
+        requires { IsLive number (layers_of self.now) }
+        ensures { result ≡ min (total_of (put_at number name.now (plain value.now) (layers_of self.now))) 18446744073709551615 }
+    {
+        let rest = self.total - self.counted(number, name);
+        rest.saturating_add(size_of_variable(name, value))
+    }
+
+    // A number above those of all live layers.
+    #[tactic(auto, using(crate::proofs::Numbers::fresh_last))]
+    fn fresh(&self) -> Result<u64, OutOfMemory>
+        ensures { IfOk result (λ n. n ≡ fresh (layers_of self.now)) }
+    {
+        let Some(layer) = self.layers.last() else {
+            return Ok(0);
+        };
+        match layer.number.checked_add(1) {
+            Some(number) => Ok(number),
+            None => Err(OutOfMemory),
+        }
+    }
+
+    // One more layer.
+    fn open(&mut self, outer: Option<u64>, depth: u64) -> Result<Chain, OutOfMemory>
+        requires { stands outer depth (layers_of self.old) ≡ true }
+        ensures number { IfOk result (λ c. c.number ≡ fresh (layers_of self.old)) }
+        ensures opened { OnOk result (layers_of self.new ≡ opened outer depth (layers_of self.old)) }
+        ensures kept { OnErr result (layers_of self.new ≡ layers_of self.old) }
+        ensures limit { self.new.limit ≡ self.old.limit }
+        ensures live { IfOk result (λ c. IsLive c.number (layers_of self.new)) }
+        ensures innermost { IfOk result (λ c. IsInnermost c.number (layers_of self.new)) }
+        ensures stay { StayLive (layers_of self.old) (layers_of self.new) }
+    {
+        let number = self.fresh()?;
+        let vars = Map::new(self.alloc)?;
+        let layer = Layer {
+            number,
+            outer,
+            depth,
+            vars,
+        };
+        let Ok(()) = self.layers.push(layer) else {
+            return Err(OutOfMemory);
+        };
+        Ok(Chain { number })
+    }
+}
+
+// What a variable counts: 2, the bytes of its name and the size of its value.
+fn size_of_variable(name: &str, value: &Value) -> u64
+    ensures { result ≡ min (2 + length name.now + size (plain value.now)) 18446744073709551615 }
+{
+    value
+        .size()
+        .saturating_add(2)
+        .saturating_add(name.len() as u64)
+}
+
+// Makes or changes a variable of the layer at a place. Without memory all stays.
+fn put(
+    alloc: Global,
+    layers: &mut Vec<Layer>,
+    place: usize,
+    name: &str,
+    value: Value,
+) -> Result<(), OutOfMemory>
+    requires { place < length layers.old.items }
+    ensures { layers.new.items ≡ (if is_ok result then put_place place name.now (plain value) layers.old.items else layers.old.items) }
+{
+    let layer = &mut layers[place];
+    layer.put(alloc, name, value)
+}
