@@ -161,5 +161,18 @@ module _ {A : Type 0} (fs : List Flow) (path : Path) (row : List A → ℕ → L
       let k = turned initial now earlier all vs x lt is e h in
       fails fs path initial now new new outer earlier all vs (row (drop (i + 1) xs) (i + 1)) k (from_outside fs path (part.Index i) now mid new s outer k.names vs o (w k.names k.seen))
 
+  -- the same of what stands at a key in the item
+  pub keyed_goes : (initial now new : Progress) (earlier : List Text) (all vs : List Node) (x : A) (key k : Text) (found : Result (Unit {0}) Stop) → i < length xs → x ≡ get_or xs i x
+      → ((rest : List A) → row (x ∷ rest) i ≡ vs ++ row rest (suc i)) → Rest fs path initial now earlier all (row (drop i xs) i) → key ≡ k → IsKeyed key found (Ok tt)
+      → ((e : List Text) → SameNames (names_of now.seen) e → Walks fs (below (nth path i) k) now new found e vs) → Rest fs path initial new earlier all (row (drop (i + 1) xs) (i + 1))
+  keyed_goes initial now new earlier all vs x key k found lt is e h same o w =
+      item_goes initial now new earlier all vs x lt is e h (λ names seen. at_text fs (nth path i) key k now new found (Ok tt) names vs same o (w names seen))
+
+  pub keyed_fails : (initial now mid new : Progress) (earlier : List Text) (all vs : List Node) (x : A) (key k : Text) (found : Result (Unit {0}) Stop) (s outer : Stop) → i < length xs → x ≡ get_or xs i x
+      → ((rest : List A) → row (x ∷ rest) i ≡ vs ++ row rest (suc i)) → Rest fs path initial now earlier all (row (drop i xs) i) → key ≡ k → IsKeyed key found (Err s)
+      → ((e : List Text) → SameNames (names_of now.seen) e → Walks fs (below (nth path i) k) now mid found e vs) → IsOutside (part.Index i) s outer → Walks fs path initial new (Err outer) earlier all
+  keyed_fails initial now mid new earlier all vs x key k found s outer lt is e h same o w out =
+      item_fails initial now mid new earlier all vs x s outer lt is e h (λ names seen. at_text fs (nth path i) key k now mid found (Err s) names vs same o (w names seen)) out
+
   pub items_done : (initial now : Progress) (earlier : List Text) (all : List Node) → length xs ≤ i → row [] i ≡ [] → Rest fs path initial now earlier all (row (drop i xs) i) → Walks fs path initial now (Ok tt) earlier all
   items_done initial now earlier all le e h = ends fs path initial now earlier all (subst (λ l. Rest fs path initial now earlier all l) (ap (λ l. row l i) (none_left xs i le) ∙ e) h)
