@@ -3,7 +3,7 @@
 --     Own, Far                  a task's layers, and those outside it, by their numbers
 --     LooksAsTasksDo            a name has the value that the task sees
 --     AssignsAsTasksDo          an assignment does what it does in the task
-use Rattle.std.specs.Prelude.{◌≡◌, ℕ, Bool, true, false, List, [], ◌∷◌, ◌++◌, map, if◌then◌else◌, nat_eq, Ok, Err, Result}
+use Rattle.std.specs.Prelude.{◌≡◌, ℕ, Bool, false, List, [], ◌∷◌, map, if◌then◌else◌, nat_eq, Ok, Err, Result}
 use Rattle.wf_model.specs.Config as model
 use Rattle.wf_model.specs.Config.{limits}
 use Rattle.wf_model.specs.Layers.{Assigned, Done, Refused, Undeclared, assign, held, value_of}
@@ -54,8 +54,11 @@ layer_of n by_call ls = record { vars = pairs_of (vars_at n ls); by_call = by_ca
 abbrev pub own_layers : List Own → List Layer → List model.Layer
 own_layers os ls = map (λ o. layer_of o.number o.by_call ls) os
 
+abbrev pub far_layer : Far → List Layer → Outer
+far_layer f ls = record { task = f.task; above = f.above; layer = layer_of f.number f.by_call ls; shared = f.shared }
+
 abbrev pub far_layers : List Far → List Layer → List Outer
-far_layers fs ls = map (λ f. record { task = f.task; above = f.above; layer = layer_of f.number f.by_call ls; shared = f.shared }) fs
+far_layers fs ls = map (λ f. far_layer f ls) fs
 
 -- a task with these layers
 abbrev pub with_layers : List Own → List Far → Local → List Layer → Local
