@@ -56,17 +56,28 @@ own_vars n x u (y ∷ ls) l e = elim (found_cases n y ls l e) [
       ap (vars_at n) tail ∙ ap vars_in (find_tail n y (put_at n x u ls) h.0) ∙ own_vars n x u ls l h.1
 ]
 
+-- a layer of these variables, and one outside
+abbrev as_layer : Bool → List (Text × Data) → model.Layer
+as_layer b ps = record { vars = pairs_of ps; by_call = b }
+
+abbrev as_far : Far → model.Layer → Outer
+as_far f y = record { task = f.task; above = f.above; layer = y; shared = f.shared }
+
 module _ (x : Text) (ls : List Layer) where
-  -- the changed layer, as steps have it
-  changed_layer : (n : ℕ) (b : Bool) (u : Data) → IsLive n ls → layer_of n b (put_at n x u ls) ≡ record { vars = put x u (pairs_of (vars_at n ls)); by_call = b }
+  -- a layer with a variable, as steps have it
+  abbrev put_in : ℕ → Bool → Data → model.Layer
+  put_in n b u = record { vars = put x u (pairs_of (vars_at n ls)); by_call = b }
+
+  -- the changed layer
+  changed_layer : (n : ℕ) (b : Bool) (u : Data) → IsLive n ls → layer_of n b (put_at n x u ls) ≡ put_in n b u
   changed_layer n b u live =
       let found = live_found n ls live in
       let vars = vars_found n ls found.0 found.1 in
-      ap (λ ps. record { vars = pairs_of ps; by_call = b }) (own_vars n x u ls found.0 found.1 ∙ ap (with_value x u) (sym vars ∙ sym (pairs_listed (vars_at n ls))))
+      ap (as_layer b) (own_vars n x u ls found.0 found.1 ∙ ap (with_value x u) (sym vars ∙ sym (pairs_listed (vars_at n ls))))
 
   -- and any other one
   same_layer : (k n : ℕ) (b : Bool) (u : Data) → nat_eq k n ≡ false → layer_of k b (put_at n x u ls) ≡ layer_of k b ls
-  same_layer k n b u h = ap (λ ps. record { vars = pairs_of ps; by_call = b }) (other_vars k n x u ls h)
+  same_layer k n b u h = ap (as_layer b) (other_vars k n x u ls h)
 
   same_own : (n : ℕ) (u : Data) (os : List task.Own) (fs : List Far) → AreOthers n (numbers os fs) → own_layers os (put_at n x u ls) ≡ own_layers os ls
   same_own n u [] fs h = refl
@@ -74,7 +85,7 @@ module _ (x : Text) (ls : List Layer) where
       ap (λ y. y ∷ own_layers os (put_at n x u ls)) (same_layer o.number n o.by_call u (turned n o.number h.0)) ∙ ap (λ ys. layer_of o.number o.by_call ls ∷ ys) (same_own n u os fs h.1)
 
   far_stays : (f : Far) (n : ℕ) (u : Data) → nat_eq f.number n ≡ false → far_layer f (put_at n x u ls) ≡ far_layer f ls
-  far_stays f n u h = ap (λ y. record { task = f.task; above = f.above; layer = y; shared = f.shared }) (same_layer f.number n f.by_call u h)
+  far_stays f n u h = ap (as_far f) (same_layer f.number n f.by_call u h)
 
   same_far : (n : ℕ) (u : Data) (fs : List Far) → AreOthers n (map (λ f. f.number) fs) → far_layers fs (put_at n x u ls) ≡ far_layers fs ls
   same_far n u [] h = refl
@@ -126,22 +137,25 @@ module _ (x : Text) (ls : List Layer) where
   -- the first one
   front_far : (f : Far) (fs : List Far) (u : Data) → IsLive f.number ls → AreOthers f.number (map (λ g. g.number) fs) → put_outer zero x u (far_layers (f ∷ fs) ls) ≡ far_layers (f ∷ fs) (put_at f.number x u ls)
   front_far f fs u live a =
-      sym (ap (λ y. record { task = f.task; above = f.above; layer = y; shared = f.shared } ∷ far_layers fs (put_at f.number x u ls)) (changed_layer f.number f.by_call u live)
-      ∙ ap (λ ys. record { task = f.task; above = f.above; layer = record { vars = put x u (pairs_of (vars_at f.number ls)); by_call = f.by_call }; shared = f.shared } ∷ ys) (same_far f.number u fs a))
+      sym (ap (λ y. as_far f y ∷ far_layers fs (put_at f.number x u ls)) (changed_layer f.number f.by_call u live)
+      ∙ ap (λ ys. as_far f (put_in f.number f.by_call u) ∷ ys) (same_far f.number u fs a))
 
   first_far : (f : Far) (fs : List Far) (w : Data) → value_at x (vars_at f.number ls) ≡ Some w → AreOthers f.number (map (λ g. g.number) fs) → Finds [] (f ∷ fs) (Outside zero f.shared w) (Some f.number)
   first_far f fs w e a =
-      let live = has_live f.number w e in
-      (record {
-        value = e;
-        among = λ k h. h.0;
-        sum = λ u o. omega (arith, changed_size f.number u live o, ap (variable_size x) e, ap outers_total (same_far f.number u fs a));
-      }, λ u. front_far f fs u live a, λ u. refl)
+      let live = has_live f.number w e in (
+        record {
+          value = e;
+          among = λ k h. h.0;
+          sum = λ u o. omega (arith, changed_size f.number u live o, ap (variable_size x) e, ap outers_total (same_far f.number u fs a));
+        },
+        λ u. front_far f fs u live a,
+        λ u. refl,
+      )
 
   front_own : (p : task.Own) (os : List task.Own) (fs : List Far) (u : Data) → IsLive p.number ls → AreOthers p.number (numbers os fs) → put_layer zero x u (own_layers (p ∷ os) ls) ≡ own_layers (p ∷ os) (put_at p.number x u ls)
   front_own p os fs u live a =
       sym (ap (λ y. y ∷ own_layers os (put_at p.number x u ls)) (changed_layer p.number p.by_call u live)
-      ∙ ap (λ ys. record { vars = put x u (pairs_of (vars_at p.number ls)); by_call = p.by_call } ∷ ys) (same_own p.number u os fs a))
+      ∙ ap (λ ys. put_in p.number p.by_call u ∷ ys) (same_own p.number u os fs a))
 
   front_sum : (p : task.Own) (os : List task.Own) (fs : List Far) (u : Data) → IsLive p.number ls → AreOthers p.number (numbers os fs) → IsInOrder (vars_at p.number ls)
       → weight (p ∷ os) fs (put_at p.number x u ls) + variable_size x (value_at x (vars_at p.number ls)) ≡ weight (p ∷ os) fs ls + (2 + length x + size u)
@@ -150,12 +164,15 @@ module _ (x : Text) (ls : List Layer) where
 
   first_own : (p : task.Own) (os : List task.Own) (fs : List Far) (w : Data) → value_at x (vars_at p.number ls) ≡ Some w → AreOthers p.number (numbers os fs) → Finds (p ∷ os) fs (Own zero w) (Some p.number)
   first_own p os fs w e a =
-      let live = has_live p.number w e in
-      (record {
-        value = e;
-        among = λ k h. h.0;
-        sum = λ u o. omega (arith, front_sum p os fs u live a o, ap (variable_size x) e);
-      }, λ u. front_own p os fs u live a, λ u. same_far p.number u fs (others_far p.number os fs a))
+      let live = has_live p.number w e in (
+        record {
+          value = e;
+          among = λ k h. h.0;
+          sum = λ u o. omega (arith, front_sum p os fs u live a o, ap (variable_size x) e);
+        },
+        λ u. front_own p os fs u live a,
+        λ u. same_far p.number u fs (others_far p.number os fs a),
+      )
 
   -- one further out
   abbrev further : Held → Held
@@ -279,7 +296,7 @@ module _ (x : Text) (ls : List Layer) where
   none_here : (n : ℕ) (ns : List ℕ) → holder_of (n ∷ ns) ≡ None → value_at x (vars_at n ls) ≡ None
   none_here n ns h = by (value_at x (vars_at n ls)) refl h
     where
-      by : (g : Option Data) → value_at x (vars_at n ls) ≡ g → elim g [ None ↦ holder_of ns | Some v ↦ Some n ] ≡ None → value_at x (vars_at n ls) ≡ None
+      by : (g : Option Data) → value_at x (vars_at n ls) ≡ g → ◌≡◌ {A = Option ℕ} (elim g [ None ↦ holder_of ns | Some v ↦ Some n ]) None → value_at x (vars_at n ls) ≡ None
       by None e k = e
       by (Some w) e k = cc
 
@@ -339,6 +356,10 @@ made_told (k ∷ ks) v t h = told_key t (cc h)
 
 -- ## Assigning
 module _ (s : Scene) (t : Local) (o : task.Own) (os : List task.Own) (fs : List Far) (ls : List Layer) (holds : Holds s t o os fs ls) (x : Text) where
+  -- the task with these layers
+  abbrev standing : List model.Layer → List Outer → Local
+  standing ms gs = record t { layers = ms; outer = gs }
+
   -- the totals, with a variable put into one of the task's layers
   totals : (m : ℕ) (u : Data) (old : ℕ) → IsLive m ls → variable_size x (value_at x (vars_at m ls)) ≡ old → weight x ls (o ∷ os) fs (put_at m x u ls) + old ≡ weight x ls (o ∷ os) fs ls + (2 + length x + size u)
       → total s (with_layers (o ∷ os) fs t (put_at m x u ls)) ≡ total_of (put_at m x u ls)
@@ -371,8 +392,8 @@ module _ (s : Scene) (t : Local) (o : task.Own) (os : List task.Own) (fs : List 
         by : (a : Answer Data) → written path w v ≡ a → SameAnswer (with_layers (o ∷ os) fs t) (bound_to (limits s.facts.rules).variables m x (faulted a) ls) (put_own s x j a (with_layers (o ∷ os) fs t ls))
         by (Err g) e = places_told path w v g e
         by (Ok u) e =
-            put_same m u (record t { layers = put_layer j x u (own_layers (o ∷ os) ls); outer = far_layers fs ls })
-            (ap (λ ys. record t { layers = ys; outer = far_layers fs ls }) (d.1 u) ∙ sym (ap (λ ys. record t { layers = own_layers (o ∷ os) (put_at m x u ls); outer = ys }) (d.2 u)))
+            put_same m u (standing (put_layer j x u (own_layers (o ∷ os) ls)) (far_layers fs ls))
+            (ap (λ (ys : List model.Layer). standing ys (far_layers fs ls)) (d.1 u) ∙ sym (ap (λ (ys : List Outer). standing (own_layers (o ∷ os) (put_at m x u ls)) ys) (d.2 u)))
             (totals m u (2 + length x + size w) (has_live x ls m w d.0.value) (ap (variable_size x) d.0.value) (d.0.sum u (holds.order m)))
 
     outside_same : (j m : ℕ) (shared : List (List Text)) (w : Data) → Finds x ls (o ∷ os) fs (Outside j shared w) (Some m)
@@ -386,8 +407,8 @@ module _ (s : Scene) (t : Local) (o : task.Own) (os : List task.Own) (fs : List 
         by true (Err g) e = places_told path w v g e
         by false (Ok u) e = tt
         by true (Ok u) e =
-            put_same m u (record t { layers = own_layers (o ∷ os) ls; outer = put_outer j x u (far_layers fs ls) })
-            (ap (λ ys. record t { layers = own_layers (o ∷ os) ls; outer = ys }) (d.1 u) ∙ sym (ap (λ ys. record t { layers = ys; outer = far_layers fs (put_at m x u ls) }) (d.2 u)))
+            put_same m u (standing (own_layers (o ∷ os) ls) (put_outer j x u (far_layers fs ls)))
+            (ap (λ (ys : List Outer). standing (own_layers (o ∷ os) ls) ys) (d.1 u) ∙ sym (ap (λ (ys : List model.Layer). standing ys (far_layers fs (put_at m x u ls))) (d.2 u)))
             (totals m u (2 + length x + size w) (has_live x ls m w d.0.value) (ap (variable_size x) d.0.value) (d.0.sum u (holds.order m)))
 
     new_same : value_at x (vars_at o.number ls) ≡ None
@@ -399,9 +420,9 @@ module _ (s : Scene) (t : Local) (o : task.Own) (os : List task.Own) (fs : List 
         by : (a : Answer Data) → made_new path v ≡ a → SameAnswer (with_layers (o ∷ os) fs t) (bound_to (limits s.facts.rules).variables o.number x (faulted a) ls) (put_own s x zero a (with_layers (o ∷ os) fs t ls))
         by (Err g) e = made_told path v g e
         by (Ok u) e =
-            put_same o.number u (record t { layers = put_layer zero x u (own_layers (o ∷ os) ls); outer = far_layers fs ls })
-            (ap (λ ys. record t { layers = ys; outer = far_layers fs ls }) (front_own x ls o os fs u holds.live holds.apart.0)
-            ∙ sym (ap (λ ys. record t { layers = own_layers (o ∷ os) (put_at o.number x u ls); outer = ys }) (same_far x ls o.number u fs (others_far x ls o.number os fs holds.apart.0))))
+            put_same o.number u (standing (put_layer zero x u (own_layers (o ∷ os) ls)) (far_layers fs ls))
+            (ap (λ (ys : List model.Layer). standing ys (far_layers fs ls)) (front_own x ls o os fs u holds.live holds.apart.0)
+            ∙ sym (ap (λ (ys : List Outer). standing (own_layers (o ∷ os) (put_at o.number x u ls)) ys) (same_far x ls o.number u fs (others_far x ls o.number os fs holds.apart.0))))
             (totals o.number u (variable_size x (value_at x (vars_at o.number ls))) holds.live refl (front_sum x ls o os fs u holds.live holds.apart.0 (holds.order o.number)))
 
     found_same : (h : Held) (q : Option ℕ) → holder_of x ls (numbers_seen (o ∷ os) fs) ≡ q → Finds x ls (o ∷ os) fs h q
