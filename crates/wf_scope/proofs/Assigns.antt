@@ -1,11 +1,12 @@
 -- An assignment in a store does what it does in a task whose layers stand there.
-use Rattle.std.proofs.Common.{◌≡◌, ◌≤◌, inl, inr, ℕ, zero, suc, ◌+◌, Bool, true, false, ◌&&◌, List, [], ◌∷◌, map, length, pos, negsuc, slice_get, slice_set, Option, Some, None, Result, Ok, Err, is_some, refl, sym, ap, subst, ◌∙◌, arith}
+use Rattle.std.proofs.Common.{◌≡◌, inl, inr, ℕ, zero, suc, ◌+◌, Bool, true, false, ◌&&◌, List, [], ◌∷◌, map, length, pos, negsuc, slice_get, slice_set, Option, Some, None, Ok, Err, is_some, refl, sym, ap, subst, ◌∙◌, arith}
 use Rattle.std.specs.Prelude.{if◌then◌else◌, nat_eq, nat_le, unwrap_or}
-use Rattle.std.proofs.lemmas.Bool.{eq-eqb, eqb-false, eqb-true, false≢true, ne_eqb}
+use Rattle.std.proofs.lemmas.Bool.{eqb-false, eqb-true, ne_eqb}
 use Rattle.wf_model.specs.Config as model
 use Rattle.wf_model.specs.Config.{limits}
 use Rattle.wf_model.specs.Layers.{Done, Refused, Held, Own, Outside, Nowhere, all_share, assign, assign_at, held, held_in, held_outside, made_new, put_layer, put_outer, put_outside, put_own, within_limits, written}
 use Rattle.wf_model.specs.Local.{Local, Outer, Scene, layers_total, outers_total, total}
+use Rattle.wf_value.proofs.Order.{in_order_empty}
 use Rattle.wf_value.specs.Data.{Data, integer, text, list, map as mapping, items_of, depth, size, pairs_size, pairs_of}
 use Rattle.wf_value.specs.Errors.{Answer, ◌>>=◌, or_error}
 use Rattle.wf_value.specs.Maps.{IsInOrder, value_at, with_value}
@@ -18,8 +19,7 @@ use Rattle.wf_scope.specs.Faults.{fault_of, faulted, raised}
 use Rattle.wf_scope.specs.Layers.{IsLive, chain, chain_in, depth_in, find, holder_in, put_at, total_of, variable_size, vars_at, vars_in, with_variable}
 use Rattle.wf_scope.specs.Places.{member, with_member}
 use Rattle.wf_scope.specs.Tasks as task
-use Rattle.wf_scope.specs.Tasks.{AreApart, AreOthers, AssignsAsTasksDo, Far, Holds, SameAnswer, far_layer, far_layers, layer_of, numbers, numbers_seen, own_layers, with_layers}
-use Rattle.wf_scope.specs.declared.fault.AssignFault.{AssignFault}
+use Rattle.wf_scope.specs.Tasks.{AreApart, AreOthers, AssignsAsTasksDo, Far, Holds, OneLayerHolds, SameAnswer, far_layer, far_layers, layer_of, numbers, numbers_seen, own_layers, with_layers}
 use Rattle.wf_scope.specs.declared.fault.AssignFault.TheVariants as fault
 use Rattle.wf_scope.specs.declared.layer.Layer.{Layer}
 use Rattle.wf_scope.proofs.Numbers.{find_head, find_tail, found_cases, live_found, number_found}
@@ -442,3 +442,11 @@ module _ (s : Scene) (t : Local) (o : task.Own) (os : List task.Own) (fs : List 
 
 pub assigns : AssignsAsTasksDo
 assigns s t o os fs ls holds x path v = all_same s t o os fs ls holds x path v
+
+-- ## A store of one layer
+pub one_holds : OneLayerHolds
+one_holds s t e = record { live = refl; sight = refl; apart = (tt, tt); order = λ n. empty (nat_eq zero n); sum = omega (arith, e) }
+  where
+    empty : (b : Bool) → IsInOrder (vars_in (if b then Some (record { number = zero; outer = None; depth = zero; vars = [] }) else None))
+    empty true = in_order_empty [] refl
+    empty false = in_order_empty [] refl

@@ -3,7 +3,8 @@
 --     Own, Far                  a task's layers, and those outside it, by their numbers
 --     LooksAsTasksDo            a name has the value that the task sees
 --     AssignsAsTasksDo          an assignment does what it does in the task
-use Rattle.std.specs.Prelude.{◌≡◌, ℕ, Bool, false, List, [], ◌∷◌, map, if◌then◌else◌, nat_eq, Ok, Err, Result}
+--     OneLayerHolds             a store in which a task has its layers
+use Rattle.std.specs.Prelude.{◌≡◌, ℕ, Bool, false, List, [], ◌∷◌, map, if◌then◌else◌, nat_eq, None, Ok, Err, Result}
 use Rattle.wf_model.specs.Config as model
 use Rattle.wf_model.specs.Config.{limits}
 use Rattle.wf_model.specs.Layers.{Assigned, Done, Refused, Undeclared, assign, held, value_of}
@@ -105,3 +106,10 @@ pub record Holds (s : Scene) (t : Local) (o : Own) (os : List Own) (fs : List Fa
 abbrev pub AssignsAsTasksDo : Type 0
 AssignsAsTasksDo = (s : Scene) (t : Local) (o : Own) (os : List Own) (fs : List Far) (ls : List Layer) → Holds s t o os fs ls
     → (x : Text) (path : List Data) (v : Data) → SameAnswer (with_layers (o ∷ os) fs t) (assigned (limits s.facts.rules).variables o.number x path v ls) (assign s x path v (with_layers (o ∷ os) fs t ls))
+
+-- a store of one layer without variables, where a task has its one layer: such a store holds
+abbrev pub one_layer : List Layer
+one_layer = record { number = 0; outer = None; depth = 0; vars = [] } ∷ []
+
+abbrev pub OneLayerHolds : Type 0
+OneLayerHolds = (s : Scene) (t : Local) → s.others ≡ 0 → Holds s t (record { number = 0; by_call = false }) [] [] one_layer
