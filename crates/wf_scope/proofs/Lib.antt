@@ -1,3 +1,4 @@
+pub mod Assigns
 pub mod Binding
 pub mod Kept
 pub mod Live

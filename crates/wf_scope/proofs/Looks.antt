@@ -2,11 +2,11 @@
 use Rattle.std.proofs.Common.{◌≡◌, ℕ, suc, Bool, true, false, List, [], ◌∷◌, map, Option, Some, None, refl, sym, ap, ◌∙◌}
 use Rattle.std.specs.Prelude.{if◌then◌else◌}
 use Rattle.wf_model.specs.Config as model
-use Rattle.wf_model.specs.Layers.{Held, Own, Outside, Nowhere, held_in, held_outside, value_of}
+use Rattle.wf_model.specs.Layers.{Own, Outside, Nowhere, held_in, held_outside, value_of}
 use Rattle.wf_model.specs.Local.{Outer}
 use Rattle.wf_value.specs.Data.{Data, Pairs, pairs_of}
 use Rattle.wf_value.specs.Maps.{value_at}
-use Rattle.wf_value.specs.Pairs.{Text, get, pair_list}
+use Rattle.wf_value.specs.Pairs.{Text, get}
 use Rattle.wf_scope.specs.Layers.{look_in}
 use Rattle.wf_scope.specs.Tasks.{LooksAsTasksDo, seen, variables}
 use Rattle.wf_scope.specs.declared.layer.Layer.{Layer}

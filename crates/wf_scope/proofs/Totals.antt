@@ -1,5 +1,5 @@
 -- What variables come to, behind a change.
-use Rattle.std.proofs.Common.{◌≡◌, ◌<◌, ◌≤◌, inl, inr, ℕ, ◌+◌, ◌-◌, min, Bool, true, false, List, [], ◌∷◌, ◌++◌, length, Option, Some, None, Ordering, Less, Equal, Greater, refl, sym, ap, ◌∙◌, arith, cond}
+use Rattle.std.proofs.Common.{◌≡◌, ◌≤◌, inl, inr, ℕ, ◌+◌, ◌-◌, min, Bool, true, false, List, [], ◌∷◌, ◌++◌, length, Some, None, Ordering, Less, Equal, Greater, refl, sym, ap, ◌∙◌, arith, cond}
 use Rattle.std.specs.Prelude.{if◌then◌else◌}
 use Rattle.std.specs.BTreeMap.{is_at}
 use Rattle.std.specs.FinMap.{slice_cmp-IsAntisymmetric, nat_cmp-IsAntisymmetric}
@@ -36,7 +36,7 @@ total_closed n (x ∷ ls) l e = elim (found_cases n x ls l e) [
 
 -- ## A variable in a layer
 -- the pairs with a variable put, and the old one, are the pairs and the new one
-put_size : (k : Text) (v : Data) (es : List (Text × Data)) → IsInOrder es → pairs_size (pairs_of (with_value k v es)) + variable_size k (value_at k es) ≡ pairs_size (pairs_of es) + (2 + length k + size v)
+pub put_size : (k : Text) (v : Data) (es : List (Text × Data)) → IsInOrder es → pairs_size (pairs_of (with_value k v es)) + variable_size k (value_at k es) ≡ pairs_size (pairs_of es) + (2 + length k + size v)
 put_size k v [] s = omega arith
 put_size k v (e ∷ es) s = by (key_cmp k e.0) refl (put_size k v es (sorted_tail key_cmp e.0 (keys_of es) s))
   where
@@ -56,7 +56,7 @@ variable_within k (e ∷ es) = by (key_cmp k e.0) refl (variable_within k es)
     by Greater p later = omega (arith, later)
 
 -- ## A variable in a store
-put_total : (n : ℕ) (x : Text) (v : Data) (ls : List Layer) (d : Layer) → find n ls ≡ Some d → IsInOrder d.vars → total_of (put_at n x v ls) + variable_size x (value_at x d.vars) ≡ total_of ls + (2 + length x + size v)
+pub put_total : (n : ℕ) (x : Text) (v : Data) (ls : List Layer) (d : Layer) → find n ls ≡ Some d → IsInOrder d.vars → total_of (put_at n x v ls) + variable_size x (value_at x d.vars) ≡ total_of ls + (2 + length x + size v)
 put_total n x v [] d e o = cc
 put_total n x v (l ∷ ls) d e o = elim (found_cases n l ls d e) [
   | inl h ↦

@@ -2,7 +2,7 @@
 --     key_data              a place, as assignments have it
 --     member                what stands at a place
 --     with_member           the value with another one there
-use Rattle.std.specs.Prelude.{ℕ, List, ℤ, pos, negsuc, slice_get, slice_set, option_map, Some, None, Ok, Err, Option}
+use Rattle.std.specs.Prelude.{List, ℤ, pos, negsuc, slice_get, slice_set, None, Ok, Err, Option}
 use Rattle.wf_value.specs.Data.{Data, integer, text, list, map, items_of}
 use Rattle.wf_value.specs.Errors.{Answer, ◌>>=◌, or_error}
 use Rattle.wf_value.specs.Pairs.{Text, items, get, put}

@@ -3,7 +3,8 @@
 --     Own, Far                  a task's layers, and those outside it, by their numbers
 --     LooksAsTasksDo            a name has the value that the task sees
 --     AssignsAsTasksDo          an assignment does what it does in the task
-use Rattle.std.specs.Prelude.{◌≡◌, ℕ, Bool, true, false, List, [], ◌∷◌, ◌++◌, map, if◌then◌else◌, nat_eq, Ok, Err, Result}
+--     OneLayerHolds             a store in which a task has its layers
+use Rattle.std.specs.Prelude.{◌≡◌, ℕ, Bool, false, List, [], ◌∷◌, map, if◌then◌else◌, nat_eq, None, Ok, Err, Result}
 use Rattle.wf_model.specs.Config as model
 use Rattle.wf_model.specs.Config.{limits}
 use Rattle.wf_model.specs.Layers.{Assigned, Done, Refused, Undeclared, assign, held, value_of}
@@ -54,8 +55,11 @@ layer_of n by_call ls = record { vars = pairs_of (vars_at n ls); by_call = by_ca
 abbrev pub own_layers : List Own → List Layer → List model.Layer
 own_layers os ls = map (λ o. layer_of o.number o.by_call ls) os
 
+abbrev pub far_layer : Far → List Layer → Outer
+far_layer f ls = record { task = f.task; above = f.above; layer = layer_of f.number f.by_call ls; shared = f.shared }
+
 abbrev pub far_layers : List Far → List Layer → List Outer
-far_layers fs ls = map (λ f. record { task = f.task; above = f.above; layer = layer_of f.number f.by_call ls; shared = f.shared }) fs
+far_layers fs ls = map (λ f. far_layer f ls) fs
 
 -- a task with these layers
 abbrev pub with_layers : List Own → List Far → Local → List Layer → Local
@@ -102,3 +106,10 @@ pub record Holds (s : Scene) (t : Local) (o : Own) (os : List Own) (fs : List Fa
 abbrev pub AssignsAsTasksDo : Type 0
 AssignsAsTasksDo = (s : Scene) (t : Local) (o : Own) (os : List Own) (fs : List Far) (ls : List Layer) → Holds s t o os fs ls
     → (x : Text) (path : List Data) (v : Data) → SameAnswer (with_layers (o ∷ os) fs t) (assigned (limits s.facts.rules).variables o.number x path v ls) (assign s x path v (with_layers (o ∷ os) fs t ls))
+
+-- a store of one layer without variables, where a task has its one layer: such a store holds
+abbrev pub one_layer : List Layer
+one_layer = record { number = 0; outer = None; depth = 0; vars = [] } ∷ []
+
+abbrev pub OneLayerHolds : Type 0
+OneLayerHolds = (s : Scene) (t : Local) → s.others ≡ 0 → Holds s t (record { number = 0; by_call = false }) [] [] one_layer

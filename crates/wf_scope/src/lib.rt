@@ -15,5 +15,5 @@ mod written;
 
 pub use fault::AssignFault;
 pub use key::Key;
-pub use laws::looks_as_tasks_do;
+pub use laws::{assigns_as_tasks_do, looks_as_tasks_do};
 pub use scopes::{Chain, Scopes};

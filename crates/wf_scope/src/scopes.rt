@@ -157,7 +157,13 @@ impl Scopes {
     /// The places are entered one after another. A missing last key of a map is added. Another missing key, and any place below a variable
     /// that isn't there, is a `MissingKey`, an index outside its list a `BadIndex`, any other place a `NotAContainer`. Then the limits are
     /// tested as in `bind`, with the variable as it would be. Besides, memory may be wanting.
-    pub fn assign(&mut self, c: Chain, name: &str, path: &[Key], v: Value) -> Result<(), AssignFault>
+    pub fn assign(
+        &mut self,
+        c: Chain,
+        name: &str,
+        path: &[Key],
+        v: Value,
+    ) -> Result<(), AssignFault>
         requires { IsLive c.number (layers_of self.old) }
         ensures outcome { Answers result (layers_of self.new) (assigned self.old.limit c.number name.now (map key_data path.now) (plain v) (layers_of self.old)) }
         ensures kept { OnErr result (layers_of self.new ≡ layers_of self.old) }
@@ -178,7 +184,10 @@ impl Scopes {
         ensures within { result < length (layers_of self.now) }
         ensures found { slice_get (layers_of self.now) result ≡ find number (layers_of self.now) }
     {
-        match self.layers.binary_search_by_key(&number, |layer| layer.number) {
+        match self
+            .layers
+            .binary_search_by_key(&number, |layer| layer.number)
+        {
             Ok(place) => place,
             Err(_) => unreachable!(),
         }
@@ -227,7 +236,13 @@ impl Scopes {
     }
 
     // The value of a layer's variable, behind an assignment to it or to the places below it.
-    fn changed(&self, number: u64, name: &str, path: &[Key], new: Value) -> Result<Value, AssignFault>
+    fn changed(
+        &self,
+        number: u64,
+        name: &str,
+        path: &[Key],
+        new: Value,
+    ) -> Result<Value, AssignFault>
         requires { IsLive number (layers_of self.now) }
         ensures { Gives result (faulted (changed (value_at name.now (vars_at number (layers_of self.now))) (map key_data path.now) (plain new))) }
     {

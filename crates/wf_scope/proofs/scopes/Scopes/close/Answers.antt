@@ -19,7 +19,7 @@ invariant_of-self c =
     let here = layer_at n ls c.place-place.result c.remove-layer.result c.place-place.ensures.within c.remove-layer.ensures.value c.place-place.ensures.found in
     let end = ended n ls c.remove-layer.result c.size.result s.total here s.counted s.room c.size.ensures in
     let gone : c.remove-layer.new.self.items ≡ closed n ls =
-        c.remove-layer.ensures.items ∙ removed n ls c.place-place.result c.remove-layer.result s.rising (c.place-place.ensures.found ∙ here) (number_found n ls c.remove-layer.result here) in
+    c.remove-layer.ensures.items ∙ removed n ls c.place-place.result c.remove-layer.result s.rising (c.place-place.ensures.found ∙ here) (number_found n ls c.remove-layer.result here) in
     record {
       counted = end.2 ∙ ap total_of (sym gone);
       room = omega (arith, s.room, end.1);
