@@ -448,5 +448,5 @@ pub one_holds : OneLayerHolds
 one_holds s t e = record { live = refl; sight = refl; apart = (tt, tt); order = λ n. empty (nat_eq zero n); sum = omega (arith, e) }
   where
     empty : (b : Bool) → IsInOrder (vars_in (if b then Some (record { number = zero; outer = None; depth = zero; vars = [] }) else None))
-    empty true = in_order_empty [] refl
-    empty false = in_order_empty [] refl
+    empty true = in_order_empty {X = Data} [] refl
+    empty false = in_order_empty {X = Data} [] refl
