@@ -74,8 +74,10 @@ fn first_start(
     history: &mut History,
     host: &mut MemHost,
 ) -> Result<Result<Start, HistoryFault>, CaseFault>
-    requires kept { is_closed history.old ≡ false → Told (mem_world host.old) (Stands history.old (mem_world host.old)) }
-    ensures stands { is_closed history.new ≡ false → Told (mem_world host.new) (Stands history.new (mem_world host.new)) }
+    requires kept { is_closed history.old ≡ false
+        → Told (mem_world host.old) (Stands history.old (mem_world host.old)) }
+    ensures stands { is_closed history.new ≡ false
+        → Told (mem_world host.new) (Stands history.new (mem_world host.new)) }
 {
     match history.next(alloc, host) {
         Ok(Some(Record::Start(start))) => Ok(Ok(start)),
@@ -94,7 +96,8 @@ fn replay_both<L: Ledger>(
     out: &mut String,
     steps: &mut Steps<L>,
 ) -> Result<(), CaseFault>
-    requires kept { is_closed history.old ≡ false → Told (mem_world host.old) (Stands history.old (mem_world host.old)) }
+    requires kept { is_closed history.old ≡ false
+        → Told (mem_world host.old) (Stands history.old (mem_world host.old)) }
 {
     let machine = started(alloc, source, start)?;
     write_replay(alloc, history, host, machine, out, steps)?;
@@ -113,8 +116,10 @@ fn write_replay<L: Ledger>(
     steps: &mut Steps<L>,
 ) -> Result<(), CaseFault>
     requires whole { (state_of machine).broken ≡ false }
-    requires kept { is_closed history.old ≡ false → Told (mem_world host.old) (Stands history.old (mem_world host.old)) }
-    ensures stands { is_closed history.new ≡ false → Told (mem_world host.new) (Stands history.new (mem_world host.new)) }
+    requires kept { is_closed history.old ≡ false
+        → Told (mem_world host.old) (Stands history.old (mem_world host.old)) }
+    ensures stands { is_closed history.new ≡ false
+        → Told (mem_world host.new) (Stands history.new (mem_world host.new)) }
 {
     let replayed = replay(alloc, history, host, machine, steps);
     write_replayed(out, alloc, replayed)

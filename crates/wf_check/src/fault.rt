@@ -28,7 +28,9 @@ pub(crate) fn fault(
     here: Here,
     part: &Part,
 ) -> Result<(), Stop>
-    ensures first { Tells result (λ path. said (map flow_view flows.now) progress.now.number (names_of progress.now.seen) (node (part_view part.now) (around_view progress.now.scopes here) path)) }
+    ensures first { Tells result (λ path. said (map flow_view flows.now) progress.now.number
+        (names_of progress.now.seen)
+        (node (part_view part.now) (around_view progress.now.scopes here) path)) }
     ensures few { OnOk result (progress.now.number < 1000000) }
 {
     let scopes = &progress.scopes;

@@ -17,7 +17,8 @@ use wf_value::OutOfMemory;
 
 // The scopes around the steps of a workflow.
 fn scopes_of(alloc: Global, flow: &Flow) -> Result<Scopes, OutOfMemory>
-    ensures { IfOk result (λ s. Stands s (record { inside = NoLoop; in_branch = false }) (flow_around (flow_view flow.now))) }
+    ensures { IfOk result (λ s. Stands s (record { inside = NoLoop; in_branch = false })
+        (flow_around (flow_view flow.now))) }
 {
     let mut workflow = Names::new(alloc);
     add_step_names(&mut workflow, &flow.steps)?;

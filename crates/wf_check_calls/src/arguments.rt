@@ -41,7 +41,8 @@ fn is_given(name: &str, arguments: &[NamedTemplate]) -> bool
 
 // Each argument is one that the function takes.
 fn are_taken(arguments: &[NamedTemplate], names: &ArgumentNames) -> bool
-    ensures { result ≡ all_among (field_names (fields (map field_view arguments.now))) ((signature_of names.now).needs ++ (signature_of names.now).may) }
+    ensures { result ≡ all_among (field_names (fields (map field_view arguments.now)))
+        ((signature_of names.now).needs ++ (signature_of names.now).may) }
 {
     for argument in arguments {
         let name = argument.name.as_str();
@@ -54,7 +55,8 @@ fn are_taken(arguments: &[NamedTemplate], names: &ArgumentNames) -> bool
 
 // Each of the names is given.
 fn are_given(needs: &[&str], arguments: &[NamedTemplate]) -> bool
-    ensures { result ≡ all_among (map (λ n. n.now) needs.now) (field_names (fields (map field_view arguments.now))) }
+    ensures { result ≡ all_among (map (λ n. n.now) needs.now)
+        (field_names (fields (map field_view arguments.now))) }
 {
     for need in needs {
         if !is_given(need, arguments) {
@@ -85,7 +87,8 @@ fn logs_one(arguments: &[NamedTemplate]) -> bool
 
 // The function of this name takes the arguments.
 pub(crate) fn function_takes(name: &str, names: &ArgumentNames, arguments: &[NamedTemplate]) -> bool
-    ensures { result ≡ call_takes name.now (signature_of names.now) (field_names (fields (map field_view arguments.now))) }
+    ensures { result ≡ call_takes name.now (signature_of names.now)
+        (field_names (fields (map field_view arguments.now))) }
 {
     are_taken(arguments, names)
         && are_given(names.needs, arguments)
@@ -95,7 +98,8 @@ pub(crate) fn function_takes(name: &str, names: &ArgumentNames, arguments: &[Nam
 // ---- workflows: parameters and arguments may be many, so each are a table
 
 fn argument_names(alloc: Global, arguments: &[NamedTemplate]) -> Result<Names, OutOfMemory>
-    ensures { IfOk result (λ names. SameNames (names_of names) (field_names (fields (map field_view arguments.now)))) }
+    ensures { IfOk result (λ names. SameNames (names_of names)
+        (field_names (fields (map field_view arguments.now)))) }
 {
     let mut names = Names::new(alloc);
     for argument in arguments {
@@ -106,7 +110,8 @@ fn argument_names(alloc: Global, arguments: &[NamedTemplate]) -> Result<Names, O
 
 // Each argument is a parameter's.
 fn are_known(arguments: &[NamedTemplate], known: &Names) -> bool
-    ensures { result ≡ all_among (field_names (fields (map field_view arguments.now))) (names_of known.now) }
+    ensures { result ≡ all_among (field_names (fields (map field_view arguments.now)))
+        (names_of known.now) }
 {
     for argument in arguments {
         if !known.has(argument.name.as_str()) {
@@ -129,7 +134,9 @@ fn are_passed(params: &[Param], given: &Names) -> bool
 }
 
 fn tables_fit(flow: &Flow, arguments: &[NamedTemplate], known: &Names, given: &Names) -> bool
-    ensures { result ≡ (all_among (field_names (fields (map field_view arguments.now))) (names_of known.now) && all_among (required (params_view flow.now.params)) (names_of given.now)) }
+    ensures { result ≡ (all_among (field_names (fields (map field_view arguments.now)))
+        (names_of known.now) && all_among (required (params_view flow.now.params))
+        (names_of given.now)) }
 {
     are_known(arguments, known) && are_passed(flow.params.items(), given)
 }
@@ -140,7 +147,8 @@ pub(crate) fn flow_takes(
     flow: &Flow,
     arguments: &[NamedTemplate],
 ) -> Result<bool, OutOfMemory>
-    ensures { IfOk result (λ b. b ≡ takes (flow_signature (params_view flow.now.params)) (field_names (fields (map field_view arguments.now)))) }
+    ensures { IfOk result (λ b. b ≡ takes (flow_signature (params_view flow.now.params))
+        (field_names (fields (map field_view arguments.now)))) }
 {
     let known = param_names(alloc, &flow.params)?;
     let given = argument_names(alloc, arguments)?;

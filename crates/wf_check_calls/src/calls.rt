@@ -19,7 +19,8 @@ use wf_value::{OutOfMemory, Text};
 
 // The workflow of a name that may be called.
 fn flow_named<'a>(flows: &'a [Flow], name: &str) -> Option<&'a Flow>
-    ensures { option_map (λ f. flow_view f.now) result ≡ flow_of (map flow_view flows.now) name.now }
+    ensures { option_map (λ f. flow_view f.now) result
+        ≡ flow_of (map flow_view flows.now) name.now }
 {
     if name == "main" {
         return None;
@@ -48,7 +49,8 @@ fn is_unknown(flows: &[Flow], name: &str) -> bool
 
 // The workflow that a retry asks.
 fn predicate_of(tried: &TryBody) -> Option<&Text>
-    ensures { option_map (λ x. x.now) result ≡ rules.predicate_of (tree.Body.Try (try_view tried.now)) }
+    ensures { option_map (λ x. x.now) result
+        ≡ rules.predicate_of (tree.Body.Try (try_view tried.now)) }
 {
     match &tried.policy {
         None => None,
@@ -60,7 +62,8 @@ fn predicate_of(tried: &TryBody) -> Option<&Text>
 }
 
 fn unknown_in_body(alloc: Global, body: &Body, flows: &[Flow]) -> Result<(), Stop>
-    ensures { Tells result (λ path. as_said kinds.UnknownCall (rules.rule_call (map flow_view flows.now) (BodyPart (body_view body.now)) path)) }
+    ensures { Tells result (λ path. as_said kinds.UnknownCall
+        (rules.rule_call (map flow_view flows.now) (BodyPart (body_view body.now)) path)) }
 {
     let kind = CheckKind::UnknownCall;
     match body {
@@ -85,7 +88,8 @@ fn unknown_in_body(alloc: Global, body: &Body, flows: &[Flow]) -> Result<(), Sto
 
 /// A call names neither a workflow nor a function, or a retry asks what is no workflow.
 pub fn unknown_call(alloc: Global, part: &Part, flows: &[Flow]) -> Result<(), Stop>
-    ensures { Tells result (λ path. as_said kinds.UnknownCall (rules.rule_call (map flow_view flows.now) (part_view part.now) path)) }
+    ensures { Tells result (λ path. as_said kinds.UnknownCall
+        (rules.rule_call (map flow_view flows.now) (part_view part.now) path)) }
 {
     match part {
         Part::Flow(_) => Ok(()),
@@ -99,7 +103,8 @@ pub fn unknown_call(alloc: Global, part: &Part, flows: &[Flow]) -> Result<(), St
 
 // The arguments of a call fit what is called; a workflow comes before a function of its name.
 fn call_fits(alloc: Global, call: &CallBody, flows: &[Flow]) -> Result<bool, OutOfMemory>
-    ensures { IfOk result (λ b. b ≡ rules.call_fits (map flow_view flows.now) (call_view call.now)) }
+    ensures { IfOk result (λ b. b ≡ rules.call_fits (map flow_view flows.now)
+        (call_view call.now)) }
 {
     let name = call.name.as_str();
     let arguments = call.args.items();
@@ -123,7 +128,8 @@ fn predicate_fits(flows: &[Flow], name: &str) -> bool
 }
 
 fn bad_in_body(alloc: Global, body: &Body, flows: &[Flow]) -> Result<(), Stop>
-    ensures { Tells result (λ path. as_said kinds.BadArgument (rules.rule_argument (map flow_view flows.now) (BodyPart (body_view body.now)) path)) }
+    ensures { Tells result (λ path. as_said kinds.BadArgument
+        (rules.rule_argument (map flow_view flows.now) (BodyPart (body_view body.now)) path)) }
 {
     let kind = CheckKind::BadArgument;
     match body {
@@ -151,7 +157,8 @@ fn bad_in_body(alloc: Global, body: &Body, flows: &[Flow]) -> Result<(), Stop>
 
 /// The arguments don't fit what is called.
 pub fn bad_argument(alloc: Global, part: &Part, flows: &[Flow]) -> Result<(), Stop>
-    ensures { Tells result (λ path. as_said kinds.BadArgument (rules.rule_argument (map flow_view flows.now) (part_view part.now) path)) }
+    ensures { Tells result (λ path. as_said kinds.BadArgument
+        (rules.rule_argument (map flow_view flows.now) (part_view part.now) path)) }
 {
     match part {
         Part::Flow(_) => Ok(()),

@@ -25,7 +25,8 @@ pub(crate) fn signature(name: &str) -> Option<ArgumentNames>
 }
 
 fn basic_signature(name: &str) -> Option<ArgumentNames>
-    ensures { option_map signature_of result ≡ option_map (λ e. e.signature) (entry_in basic name.now) }
+    ensures { option_map signature_of result
+        ≡ option_map (λ e. e.signature) (entry_in basic name.now) }
 {
     match name {
         "default" => needing(&["value", "default"]),
@@ -40,7 +41,8 @@ fn basic_signature(name: &str) -> Option<ArgumentNames>
 }
 
 fn text_signature(name: &str) -> Option<ArgumentNames>
-    ensures { option_map signature_of result ≡ option_map (λ e. e.signature) (entry_in of_texts name.now) }
+    ensures { option_map signature_of result
+        ≡ option_map (λ e. e.signature) (entry_in of_texts name.now) }
 {
     match name {
         "text.split" => needing(&["source", "separator"]),
@@ -58,7 +60,8 @@ fn text_signature(name: &str) -> Option<ArgumentNames>
 }
 
 fn value_signature(name: &str) -> Option<ArgumentNames>
-    ensures { option_map signature_of result ≡ option_map (λ e. e.signature) (entry_in of_values name.now) }
+    ensures { option_map signature_of result
+        ≡ option_map (λ e. e.signature) (entry_in of_values name.now) }
 {
     match name {
         "list.concat" => needing(&["objs", "val"]),
@@ -74,7 +77,8 @@ fn value_signature(name: &str) -> Option<ArgumentNames>
 }
 
 fn system_signature(name: &str) -> Option<ArgumentNames>
-    ensures { option_map signature_of result ≡ option_map (λ e. e.signature) (entry_in of_system name.now) }
+    ensures { option_map signature_of result
+        ≡ option_map (λ e. e.signature) (entry_in of_system name.now) }
 {
     match name {
         "base64.encode" => needing(&["data"]),
@@ -89,7 +93,8 @@ fn system_signature(name: &str) -> Option<ArgumentNames>
 
 // Those that expressions may not call.
 fn special_signature(name: &str) -> Option<ArgumentNames>
-    ensures { option_map signature_of result ≡ option_map (λ e. e.signature) (special_in specials name.now) }
+    ensures { option_map signature_of result
+        ≡ option_map (λ e. e.signature) (special_in specials name.now) }
 {
     match name {
         "sys.log" => taking(&[], &["data", "text", "json", "severity"]),
@@ -108,13 +113,15 @@ fn special_signature(name: &str) -> Option<ArgumentNames>
 }
 
 fn needing(needs: &'static [&'static str]) -> Option<ArgumentNames>
-    ensures { option_map signature_of result ≡ Some (record { needs = map (λ n. n.now) needs.now; may = [] }) }
+    ensures { option_map signature_of result
+        ≡ Some (record { needs = map (λ n. n.now) needs.now; may = [] }) }
 {
     Some(ArgumentNames { needs, may: &[] })
 }
 
 fn taking(needs: &'static [&'static str], may: &'static [&'static str]) -> Option<ArgumentNames>
-    ensures { option_map signature_of result ≡ Some (record { needs = map (λ n. n.now) needs.now; may = map (λ n. n.now) may.now }) }
+    ensures { option_map signature_of result
+        ≡ Some (record { needs = map (λ n. n.now) needs.now; may = map (λ n. n.now) may.now }) }
 {
     Some(ArgumentNames { needs, may })
 }

@@ -85,7 +85,8 @@ fn pieces_pass(test: &Test, pieces: &[Piece]) -> bool
 
 #[cycle(template)]
 fn failing(alloc: Global, test: &Test, template: &Template) -> Result<(), Stop>
-    ensures { Tells result (λ path. as_said (kind_tested test.now) (failing (passes test.now) (template_view template.now) path)) }
+    ensures { Tells result (λ path. as_said (kind_tested test.now)
+        (failing (passes test.now) (template_view template.now) path)) }
 {
     match template {
         Template::Lit(_) => Ok(()),
@@ -100,7 +101,8 @@ fn failing(alloc: Global, test: &Test, template: &Template) -> Result<(), Stop>
 
 #[cycle(template)]
 fn items_failing(alloc: Global, test: &Test, members: &[Template]) -> Result<(), Stop>
-    ensures { Tells result (λ path. as_said (kind_tested test.now) (items_failing (passes test.now) (templates (map template_view members.now)) path 0)) }
+    ensures { Tells result (λ path. as_said (kind_tested test.now)
+        (items_failing (passes test.now) (templates (map template_view members.now)) path 0)) }
 {
     'each: for index in 0..members.len() {
         match failing(alloc, test, &members[index]) {
@@ -113,7 +115,8 @@ fn items_failing(alloc: Global, test: &Test, members: &[Template]) -> Result<(),
 
 #[cycle(template)]
 fn fields_failing(alloc: Global, test: &Test, members: &[NamedTemplate]) -> Result<(), Stop>
-    ensures { Tells result (λ path. as_said (kind_tested test.now) (fields_failing (passes test.now) (fields (map field_view members.now)) path)) }
+    ensures { Tells result (λ path. as_said (kind_tested test.now)
+        (fields_failing (passes test.now) (fields (map field_view members.now)) path)) }
 {
     'each: for member in members {
         match failing(alloc, test, &member.template) {
@@ -128,7 +131,8 @@ fn fields_failing(alloc: Global, test: &Test, members: &[NamedTemplate]) -> Resu
 
 // What a loop runs over.
 fn over_failing(alloc: Global, test: &Test, over: &Over) -> Result<(), Stop>
-    ensures { Tells result (λ path. as_said (kind_tested test.now) (over_failing (passes test.now) (over_view over.now) path)) }
+    ensures { Tells result (λ path. as_said (kind_tested test.now)
+        (over_failing (passes test.now) (over_view over.now) path)) }
 {
     match over {
         Over::List(list) => {
@@ -144,7 +148,9 @@ fn over_failing(alloc: Global, test: &Test, over: &Over) -> Result<(), Stop>
 
 // The ends of a range.
 fn ends_failing(alloc: Global, test: &Test, first: &Template, last: &Template) -> Result<(), Stop>
-    ensures { Tells result (λ path. as_said (kind_tested test.now) (first_of_two (failing (passes test.now) (template_view first.now) (nth path 0)) (failing (passes test.now) (template_view last.now) (nth path 1)))) }
+    ensures { Tells result (λ path. as_said (kind_tested test.now)
+        (first_of_two (failing (passes test.now) (template_view first.now) (nth path 0))
+        (failing (passes test.now) (template_view last.now) (nth path 1)))) }
 {
     match failing(alloc, test, first) {
         Ok(()) => {}
@@ -158,7 +164,8 @@ fn ends_failing(alloc: Global, test: &Test, first: &Template, last: &Template) -
 
 // What a body reads in its own move.
 fn body_failing(alloc: Global, test: &Test, body: &Body) -> Result<(), Stop>
-    ensures { Tells result (λ path. as_said (kind_tested test.now) (body_failing (passes test.now) (body_view body.now) path)) }
+    ensures { Tells result (λ path. as_said (kind_tested test.now)
+        (body_failing (passes test.now) (body_view body.now) path)) }
 {
     match body {
         Body::Call(call) => {
@@ -195,7 +202,8 @@ fn body_failing(alloc: Global, test: &Test, body: &Body) -> Result<(), Stop>
 
 // An entry: its places come before its value.
 fn entry_failing(alloc: Global, test: &Test, entry: &Entry) -> Result<(), Stop>
-    ensures { Tells result (λ path. as_said (kind_tested test.now) (part_failing (passes test.now) (EntryPart (entry_view entry.now)) path)) }
+    ensures { Tells result (λ path. as_said (kind_tested test.now)
+        (part_failing (passes test.now) (EntryPart (entry_view entry.now)) path)) }
 {
     let fine = all_pass(test, entry.target.places.items());
     match speak(alloc, kind_tested(test), !fine) {
@@ -207,7 +215,8 @@ fn entry_failing(alloc: Global, test: &Test, entry: &Entry) -> Result<(), Stop>
 
 // What a node reads in its own move.
 fn part_failing(alloc: Global, test: &Test, part: &Part) -> Result<(), Stop>
-    ensures { Tells result (λ path. as_said (kind_tested test.now) (part_failing (passes test.now) (part_view part.now) path)) }
+    ensures { Tells result (λ path. as_said (kind_tested test.now)
+        (part_failing (passes test.now) (part_view part.now) path)) }
 {
     match part {
         Part::Flow(_) => Ok(()),
@@ -224,14 +233,16 @@ fn part_failing(alloc: Global, test: &Test, part: &Part) -> Result<(), Stop>
 
 // The first read of a name that no visible layer has.
 fn unseen(alloc: Global, part: &Part, layers: &[Layer]) -> Result<(), Stop>
-    ensures { Tells result (λ path. as_said kinds.UnknownName (part_failing (sees (map layer_view layers.now)) (part_view part.now) path)) }
+    ensures { Tells result (λ path. as_said kinds.UnknownName
+        (part_failing (sees (map layer_view layers.now)) (part_view part.now) path)) }
 {
     part_failing(alloc, &Test::Visible(layers), part)
 }
 
 /// An expression reads a name of no visible layer.
 pub fn unknown_name(alloc: Global, part: &Part, scopes: &Scopes, here: Here) -> Result<(), Stop>
-    ensures { Tells result (λ path. as_said kinds.UnknownName (rules.rule_name (around_view scopes.now here) (part_view part.now) path)) }
+    ensures { Tells result (λ path. as_said kinds.UnknownName
+        (rules.rule_name (around_view scopes.now here) (part_view part.now) path)) }
 {
     let _here = here;
     unseen(alloc, part, scopes.layers.as_slice())

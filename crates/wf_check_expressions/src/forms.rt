@@ -17,7 +17,8 @@ use wf_diagnostics::{CheckKind, Part, Stop, next_of, speak, speak_at};
 
 // A workflow beside `main`, which is the first node.
 fn beside_main(alloc: Global, part: &Part, number: u64) -> Result<(), Stop>
-    ensures { Tells result (λ path. as_said kinds.NotYet (forms.beside_main number (part_view part.now) path)) }
+    ensures { Tells result (λ path. as_said kinds.NotYet
+        (forms.beside_main number (part_view part.now) path)) }
 {
     match part {
         Part::Flow(_) => speak(alloc, CheckKind::NotYet, number > 0),
@@ -34,7 +35,8 @@ fn has_params(flow: &Flow) -> bool
 
 // A parameter.
 fn parameters(alloc: Global, part: &Part) -> Result<(), Stop>
-    ensures { Tells result (λ path. as_said kinds.NotYet (forms.parameters (part_view part.now) path)) }
+    ensures { Tells result (λ path. as_said kinds.NotYet
+        (forms.parameters (part_view part.now) path)) }
 {
     match part {
         Part::Flow(flow) => speak_at(alloc, CheckKind::NotYet, has_params(flow), "params"),
@@ -69,7 +71,8 @@ fn form_of(alloc: Global, body: &Body) -> Result<(), Stop>
 
 // Such a body.
 fn form(alloc: Global, part: &Part) -> Result<(), Stop>
-    ensures { Tells result (λ path. as_said kinds.NotYet (forms.form (part_body (part_view part.now)) path)) }
+    ensures { Tells result (λ path. as_said kinds.NotYet
+        (forms.form (part_body (part_view part.now)) path)) }
 {
     match part {
         Part::Flow(_) => Ok(()),
@@ -83,7 +86,8 @@ fn form(alloc: Global, part: &Part) -> Result<(), Stop>
 
 // A jump.
 fn jump(alloc: Global, part: &Part) -> Result<(), Stop>
-    ensures { Tells result (λ path. as_said kinds.NotYet (forms.jump (part_next (part_view part.now)) path)) }
+    ensures { Tells result (λ path. as_said kinds.NotYet
+        (forms.jump (part_next (part_view part.now)) path)) }
 {
     match next_of(part) {
         None => Ok(()),
@@ -126,7 +130,8 @@ fn places(alloc: Global, part: &Part) -> Result<(), Stop>
 
 /// A form that isn't built yet is used.
 pub fn not_yet(alloc: Global, part: &Part, number: u64) -> Result<(), Stop>
-    ensures { Tells result (λ path. as_said kinds.NotYet (forms.not_yet number (part_view part.now) path)) }
+    ensures { Tells result (λ path. as_said kinds.NotYet
+        (forms.not_yet number (part_view part.now) path)) }
 {
     beside_main(alloc, part, number)?;
     parameters(alloc, part)?;

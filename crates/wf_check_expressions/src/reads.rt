@@ -13,7 +13,8 @@ use wf_symbols::{Layer, is_visible};
 // Each name that the expression reads is visible.
 #[cycle(expr)]
 pub(crate) fn sees_expr(e: &Expr, layers: &[Layer]) -> bool
-    ensures { result ≡ list_all (λ x. is_visible x (map layer_view layers.now)) (expr_reads (expr_view e.now)) }
+    ensures { result ≡ list_all (λ x. is_visible x (map layer_view layers.now))
+        (expr_reads (expr_view e.now)) }
 {
     match e {
         Expr::Lit(_) => true,
@@ -28,7 +29,8 @@ pub(crate) fn sees_expr(e: &Expr, layers: &[Layer]) -> bool
 
 #[cycle(expr)]
 fn sees_exprs(es: &[Expr], layers: &[Layer]) -> bool
-    ensures { result ≡ list_all (λ x. is_visible x (map layer_view layers.now)) (exprs_read (exprs (map expr_view es.now))) }
+    ensures { result ≡ list_all (λ x. is_visible x (map layer_view layers.now))
+        (exprs_read (exprs (map expr_view es.now))) }
 {
     for e in es {
         if !sees_expr(e, layers) {

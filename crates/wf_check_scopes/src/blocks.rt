@@ -25,7 +25,8 @@ fn is_empty(steps: &StepList) -> bool
 }
 
 fn empty_body(alloc: Global, body: &Body) -> Result<(), Stop>
-    ensures { Tells result (λ path. as_said kinds.EmptySteps (rules.body_empty (body_view body.now) path)) }
+    ensures { Tells result (λ path. as_said kinds.EmptySteps
+        (rules.body_empty (body_view body.now) path)) }
 {
     let kind = CheckKind::EmptySteps;
     match body {
@@ -58,7 +59,8 @@ fn empty_body(alloc: Global, body: &Body) -> Result<(), Stop>
 
 /// A list of steps, or of branches, has no item.
 pub fn empty(alloc: Global, part: &Part) -> Result<(), Stop>
-    ensures { Tells result (λ path. as_said kinds.EmptySteps (rules.rule_empty (part_view part.now) path)) }
+    ensures { Tells result (λ path. as_said kinds.EmptySteps
+        (rules.rule_empty (part_view part.now) path)) }
 {
     let kind = CheckKind::EmptySteps;
     match part {
@@ -85,7 +87,8 @@ fn is_named(branches: &[Branch], name: &str) -> bool
 
 /// A step's name stands earlier in its workflow, or a branch's earlier in its step.
 pub fn double(alloc: Global, part: &Part, earlier: &Names) -> Result<(), Stop>
-    ensures { Tells result (λ path. as_said kinds.DoubleStep (rules.rule_double (names_of earlier.now) (part_view part.now) path)) }
+    ensures { Tells result (λ path. as_said kinds.DoubleStep
+        (rules.rule_double (names_of earlier.now) (part_view part.now) path)) }
 {
     let kind = CheckKind::DoubleStep;
     match part {
@@ -119,7 +122,9 @@ fn is_in_reach(name: &str, blocks: &[Block]) -> bool
 
 /// A `next` names no step of its workflow.
 pub fn unknown_step(alloc: Global, part: &Part, scopes: &Scopes) -> Result<(), Stop>
-    ensures { Tells result (λ path. as_said kinds.UnknownStep (rules.rule_next (λ x. not (rules.is_word x) && not (is_among x (names_of scopes.now.workflow))) (part_view part.now) path)) }
+    ensures { Tells result (λ path. as_said kinds.UnknownStep
+        (rules.rule_next (λ x. not (rules.is_word x) && not
+        (is_among x (names_of scopes.now.workflow))) (part_view part.now) path)) }
 {
     let Some(name) = next_of(part) else {
         return Ok(());
@@ -131,7 +136,9 @@ pub fn unknown_step(alloc: Global, part: &Part, scopes: &Scopes) -> Result<(), S
 
 /// A `next` names a step that no jump from there reaches.
 pub fn out_of_scope(alloc: Global, part: &Part, scopes: &Scopes) -> Result<(), Stop>
-    ensures { Tells result (λ path. as_said kinds.JumpOutOfScope (rules.rule_next (λ x. not (rules.is_word x) && is_among x (names_of scopes.now.workflow) && not (rules.in_blocks x (reach scopes.now.blocks.items))) (part_view part.now) path)) }
+    ensures { Tells result (λ path. as_said kinds.JumpOutOfScope
+        (rules.rule_next (λ x. not (rules.is_word x) && is_among x (names_of scopes.now.workflow) &&
+        not (rules.in_blocks x (reach scopes.now.blocks.items))) (part_view part.now) path)) }
 {
     let Some(name) = next_of(part) else {
         return Ok(());
@@ -155,7 +162,8 @@ fn is_outside_loop(inside: Inside, name: &str) -> bool
 
 /// A `break` or a `continue` has no loop to act on.
 pub fn outside_loop(alloc: Global, part: &Part, inside: Inside) -> Result<(), Stop>
-    ensures { Tells result (λ path. as_said kinds.BreakOutsideLoop (rules.rule_next (rules.outside_loop (inside_view inside)) (part_view part.now) path)) }
+    ensures { Tells result (λ path. as_said kinds.BreakOutsideLoop
+        (rules.rule_next (rules.outside_loop (inside_view inside)) (part_view part.now) path)) }
 {
     let Some(name) = next_of(part) else {
         return Ok(());
@@ -176,7 +184,10 @@ fn is_return(part: &Part) -> bool
 
 /// A branch, or the body of a parallel loop, would end the workflow.
 pub fn return_in_branch(alloc: Global, part: &Part, in_branch: bool) -> Result<(), Stop>
-    ensures { Tells result (λ path. as_said kinds.ReturnInBranch (rules.first (rules.at_if (in_branch && rules.is_return (part_body (part_view part.now))) (below path (codes "return")) ∷ rules.rule_next (λ x. in_branch && bytes_eq x (codes "end")) (part_view part.now) path ∷ []))) }
+    ensures { Tells result (λ path. as_said kinds.ReturnInBranch
+        (rules.first (rules.at_if (in_branch && rules.is_return (part_body (part_view part.now)))
+        (below path (codes "return")) ∷ rules.rule_next (λ x. in_branch && bytes_eq x (codes "end"))
+        (part_view part.now) path ∷ []))) }
 {
     let kind = CheckKind::ReturnInBranch;
     match speak_at(alloc, kind, in_branch && is_return(part), "return") {

@@ -21,7 +21,8 @@ fn is_long(name: &Text) -> bool
 }
 
 fn many_in_loop(alloc: Global, repeated: &LoopBody) -> Result<(), Stop>
-    ensures { Tells result (λ path. as_said kinds.TooMany (rules.loop_many (loop_view repeated.now) path)) }
+    ensures { Tells result (λ path. as_said kinds.TooMany
+        (rules.loop_many (loop_view repeated.now) path)) }
 {
     let kind = CheckKind::TooMany;
     if let Some(index) = &repeated.index {
@@ -34,7 +35,8 @@ fn many_in_loop(alloc: Global, repeated: &LoopBody) -> Result<(), Stop>
 }
 
 fn many_in_body(alloc: Global, body: &Body) -> Result<(), Stop>
-    ensures { Tells result (λ path. as_said kinds.TooMany (rules.body_many (body_view body.now) path)) }
+    ensures { Tells result (λ path. as_said kinds.TooMany
+        (rules.body_many (body_view body.now) path)) }
 {
     let kind = CheckKind::TooMany;
     match body {
@@ -72,7 +74,8 @@ fn many_in_body(alloc: Global, body: &Body) -> Result<(), Stop>
 
 // The parameters of a workflow.
 fn many_params(alloc: Global, params: &[Param]) -> Result<(), Stop>
-    ensures { Tells result (λ path. as_said kinds.TooMany (rules.params_many (map param_view params.now) path 0)) }
+    ensures { Tells result (λ path. as_said kinds.TooMany
+        (rules.params_many (map param_view params.now) path 0)) }
 {
     'each: for index in 0..params.len() {
         if is_long(&params[index].name) {
@@ -84,13 +87,15 @@ fn many_params(alloc: Global, params: &[Param]) -> Result<(), Stop>
 
 // It is `main`, and has more than one parameter.
 fn has_too_many(flow: &Flow) -> bool
-    ensures { result ≡ (bytes_eq flow.now.name (codes "main") && nat_lt 1 (length (params_view flow.now.params))) }
+    ensures { result ≡ (bytes_eq flow.now.name (codes "main") && nat_lt 1
+        (length (params_view flow.now.params))) }
 {
     flow.name.as_str() == "main" && flow.params.items().len() > 1
 }
 
 fn many_in_flow(alloc: Global, flow: &Flow) -> Result<(), Stop>
-    ensures { Tells result (λ path. as_said kinds.TooMany (rules.flow_many (flow_view flow.now) path)) }
+    ensures { Tells result (λ path. as_said kinds.TooMany
+        (rules.flow_many (flow_view flow.now) path)) }
 {
     let kind = CheckKind::TooMany;
     let params = flow.params.items();
@@ -107,7 +112,8 @@ fn many_in_flow(alloc: Global, flow: &Flow) -> Result<(), Stop>
 }
 
 fn many_in_step(alloc: Global, step: &Step) -> Result<(), Stop>
-    ensures { Tells result (λ path. as_said kinds.TooMany (rules.part_many (StepPart step.now.name (body_view step.now.body) step.now.next) path)) }
+    ensures { Tells result (λ path. as_said kinds.TooMany
+        (rules.part_many (StepPart step.now.name (body_view step.now.body) step.now.next) path)) }
 {
     match speak(alloc, CheckKind::TooMany, is_long(&step.name)) {
         Ok(()) => {}
@@ -117,7 +123,8 @@ fn many_in_step(alloc: Global, step: &Step) -> Result<(), Stop>
 }
 
 fn many_in_part(alloc: Global, part: &Part) -> Result<(), Stop>
-    ensures { Tells result (λ path. as_said kinds.TooMany (rules.part_many (part_view part.now) path)) }
+    ensures { Tells result (λ path. as_said kinds.TooMany
+        (rules.part_many (part_view part.now) path)) }
 {
     match part {
         Part::Flow(flow) => many_in_flow(alloc, flow),
@@ -131,7 +138,8 @@ fn many_in_part(alloc: Global, part: &Part) -> Result<(), Stop>
 
 /// A limit is passed, or this is the first node past 1,000,000.
 pub fn too_many(alloc: Global, part: &Part, number: u64) -> Result<(), Stop>
-    ensures fault { Tells result (λ path. as_said kinds.TooMany (rules.rule_many number (part_view part.now) path)) }
+    ensures fault { Tells result (λ path. as_said kinds.TooMany
+        (rules.rule_many number (part_view part.now) path)) }
     ensures few { OnOk result (number < 1000000) }
 {
     match many_in_part(alloc, part) {

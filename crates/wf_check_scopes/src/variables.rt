@@ -18,7 +18,8 @@ use wf_value::Text;
 
 // A shared name of the parallel step whose task the layer is, or a name of no layer outside.
 fn may_cross(name: &str, shared: &Option<Names>, outside: &[Layer]) -> bool
-    ensures { result ≡ rules.may_cross name.now (option_map names_of shared.now) (map layer_view outside.now) }
+    ensures { result ≡ rules.may_cross name.now (option_map names_of shared.now)
+        (map layer_view outside.now) }
 {
     match shared {
         None => true,
@@ -42,7 +43,10 @@ fn may_write(name: &str, layers: &[Layer]) -> bool
 }
 
 fn undeclared_result(alloc: Global, body: &Body, scopes: &Scopes, here: Here) -> Result<(), Stop>
-    ensures { Tells result (λ path. as_said kinds.UndeclaredWrite (rules.write_fault (around_view scopes.now here) (rules.result_of_call (rules.call_of (body_view body.now))) (below path (codes "result")))) }
+    ensures { Tells result (λ path. as_said kinds.UndeclaredWrite
+        (rules.write_fault (around_view scopes.now here)
+        (rules.result_of_call (rules.call_of (body_view body.now)))
+        (below path (codes "result")))) }
 {
     let _here = here;
     match body {
@@ -67,7 +71,8 @@ fn undeclared_result(alloc: Global, body: &Body, scopes: &Scopes, here: Here) ->
 
 /// A branch, or the body of a parallel loop, assigns a name from outside that isn't shared.
 pub fn undeclared_write(alloc: Global, part: &Part, scopes: &Scopes, here: Here) -> Result<(), Stop>
-    ensures { Tells result (λ path. as_said kinds.UndeclaredWrite (rules.rule_write (around_view scopes.now here) (part_view part.now) path)) }
+    ensures { Tells result (λ path. as_said kinds.UndeclaredWrite
+        (rules.rule_write (around_view scopes.now here) (part_view part.now) path)) }
 {
     match part {
         Part::Flow(_) => Ok(()),
@@ -84,7 +89,8 @@ pub fn undeclared_write(alloc: Global, part: &Part, scopes: &Scopes, here: Here)
 
 // The first shared name that is of no visible layer.
 fn unseen_shared(alloc: Global, shared: &[Text], layers: &[Layer]) -> Result<(), Stop>
-    ensures { Tells result (λ path. as_said kinds.UnknownShared (rules.unknown_shared (map layer_view layers.now) shared.now path 0)) }
+    ensures { Tells result (λ path. as_said kinds.UnknownShared
+        (rules.unknown_shared (map layer_view layers.now) shared.now path 0)) }
 {
     'each: for index in 0..shared.len() {
         if !is_visible(shared[index].as_str(), layers) {
@@ -95,7 +101,9 @@ fn unseen_shared(alloc: Global, shared: &[Text], layers: &[Layer]) -> Result<(),
 }
 
 fn unseen_shared_in(alloc: Global, body: &Body, layers: &[Layer]) -> Result<(), Stop>
-    ensures { Tells result (λ path. as_said kinds.UnknownShared (rules.unknown_shared (map layer_view layers.now) (rules.shared_in (body_view body.now)) (below (below path (codes "parallel")) (codes "shared")) 0)) }
+    ensures { Tells result (λ path. as_said kinds.UnknownShared
+        (rules.unknown_shared (map layer_view layers.now) (rules.shared_in (body_view body.now))
+        (below (below path (codes "parallel")) (codes "shared")) 0)) }
 {
     match body {
         Body::Parallel(parallel) => {
@@ -117,7 +125,8 @@ fn unseen_shared_in(alloc: Global, body: &Body, layers: &[Layer]) -> Result<(), 
 
 /// A shared name is of no layer outside.
 pub fn unknown_shared(alloc: Global, part: &Part, scopes: &Scopes, here: Here) -> Result<(), Stop>
-    ensures { Tells result (λ path. as_said kinds.UnknownShared (rules.rule_shared (around_view scopes.now here) (part_view part.now) path)) }
+    ensures { Tells result (λ path. as_said kinds.UnknownShared
+        (rules.rule_shared (around_view scopes.now here) (part_view part.now) path)) }
 {
     let _here = here;
     let layers = scopes.layers.as_slice();

@@ -4,8 +4,8 @@ ghost use Rattle.wf_deeds.specs.Rules.{DeedKeepsRules, EndKeepsRules, HandedKeep
 ghost use Rattle.wf_deeds.specs.Steps.{DropGoesOn, EndIsKept, FreshStands, HandedStands, HearingGoesOn, PollIsKept, ReplyGoesOn, StartGoesOn, TurnGoesOn, TurnIsChosen};
 ghost use Rattle.wf_deeds.specs.Laws.{OnlyReadings, TurnKeepsReadings};
 
-use wf_model::{laws_of_calls, laws_of_choice, laws_of_readings, laws_of_runs};
 use wf_journal_laws::{laws_of_histories, laws_of_moments};
+use wf_model::{laws_of_calls, laws_of_choice, laws_of_readings, laws_of_runs};
 
 /// Carries laws: where nothing was sent or awaited, only the rule on readings asks something; and a turn more with the readings that
 /// were read keeps that rule.

@@ -103,7 +103,8 @@ pub fn speak_within(
     outer: &str,
     key: &str,
 ) -> Result<(), Stop>
-    ensures { Tells result (λ path. as_said kind (at_if speaks (below (below path outer.now) key.now))) }
+    ensures { Tells result (λ path. as_said kind
+        (at_if speaks (below (below path outer.now) key.now))) }
 {
     match speak_at(alloc, kind, speaks, key) {
         Ok(()) => Ok(()),
@@ -120,7 +121,8 @@ pub fn speak_deep(
     inner: &str,
     key: &str,
 ) -> Result<(), Stop>
-    ensures { Tells result (λ path. as_said kind (at_if speaks (below (below (below path outer.now) inner.now) key.now))) }
+    ensures { Tells result (λ path. as_said kind
+        (at_if speaks (below (below (below path outer.now) inner.now) key.now))) }
 {
     match speak_within(alloc, kind, speaks, inner, key) {
         Ok(()) => Ok(()),

@@ -45,7 +45,8 @@ pub(crate) fn evaluate(
     variables: &Map,
 ) -> Result<Value, Raise>
     requires { is_template_built (template_view template.now) ≡ true }
-    ensures answer { Answers result (value_by now (template_view template.now) (pairs_of variables.now)) }
+    ensures answer { Answers result (value_by now (template_view template.now)
+        (pairs_of variables.now)) }
     ensures shallow { IsShallowAnswer result }
     ensures fault { HasValueTag result }
 {

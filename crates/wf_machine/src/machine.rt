@@ -95,7 +95,8 @@ pub struct Machine {
     broken: bool,
     ghost straight: { is_straight (program_view program) ≡ true },
     ghost place: { IsWithinStep (main_steps_view program) step entry },
-    ghost running: { ending ≡ Running → (live ≡ true) × (step < length (main_steps_view program)) × (moves < 100000) },
+    ghost running: { ending ≡ Running → (live ≡ true) × (step < length (main_steps_view program))
+        × (moves < 100000) },
     ghost shallow: { outcome_depth (outcome_by ending) ≤ 100 },
     ghost most: { moves ≤ 100000 },
 }
@@ -139,7 +140,8 @@ impl Machine {
     /// counted yet. Without memory there is no machine.
     pub fn new(alloc: Global, start: &Start, program: Checked) -> Result<Machine, OutOfMemory>
         ensures program { IfOk result (λ m. (state_of m).program ≡ program_of program) }
-        ensures initial { IfOk result (λ m. initial (program_of program) (start_view start.now) ≡ To (state_of m).config) }
+        ensures initial { IfOk result (λ m. initial (program_of program) (start_view start.now)
+            ≡ To (state_of m).config) }
         ensures whole { IfOk result (λ m. (state_of m).broken ≡ false) }
     {
         let program = program.into_program();
@@ -177,20 +179,28 @@ impl Machine {
         event: &Event,
         steps: &mut Steps<L>,
     ) -> Result<(), ApplyFault>
-        ensures applied { OnOk result (next (state_of self.old).program (state_of self.old).config (event_view event.now) ≡ To (state_of self.new).config) }
+        ensures applied { OnOk result (next (state_of self.old).program (state_of self.old).config
+            (event_view event.now) ≡ To (state_of self.new).config) }
         ensures whole { OnOk result ((state_of self.old).broken ≡ false) }
-        ensures not_enabled { IsErrOf result ApplyFault.NotEnabled → (d : Config) → next (state_of self.old).program (state_of self.old).config (event_view event.now) ≡ To d → ⊥ }
-        ensures stays { IsErrOf result ApplyFault.NotEnabled → state_of self.new ≡ state_of self.old }
+        ensures not_enabled { IsErrOf result ApplyFault.NotEnabled → (d : Config)
+            → next (state_of self.old).program (state_of self.old).config (event_view event.now)
+            ≡ To d → ⊥ }
+        ensures stays { IsErrOf result ApplyFault.NotEnabled
+            → state_of self.new ≡ state_of self.old }
         ensures program { (state_of self.new).program ≡ (state_of self.old).program }
-        ensures counted { OnOk result ((state_of self.new).config.moves ≡ (state_of self.old).config.moves + counts (event_view event.now)) }
+        ensures counted { OnOk result ((state_of self.new).config.moves
+            ≡ (state_of self.old).config.moves + counts (event_view event.now)) }
         ensures steps { OnOk result (steps.new ≡ steps.old + 1) }
         ensures no_step { OnErr result (steps.new ≡ steps.old) }
         // The event's reading, if it has one, becomes the last one.
-        ensures last { OnOk result ((state_of self.new).config.last ≡ unwrap_or (reading_of (event_view event.now)) (state_of self.old).config.last) }
+        ensures last { OnOk result ((state_of self.new).config.last
+            ≡ unwrap_or (reading_of (event_view event.now)) (state_of self.old).config.last) }
         ensures most { (state_of self.new).config.moves ≤ 100000 }
         // After want of memory, and only then, the machine is broken.
-        ensures broken { ((state_of self.new).broken ≡ true) ↔ IsErrOf result ApplyFault.OutOfMemory }
-        ensures stays_broken { (state_of self.old).broken ≡ true → IsErrOf result ApplyFault.OutOfMemory }
+        ensures broken { ((state_of self.new).broken ≡ true)
+            ↔ IsErrOf result ApplyFault.OutOfMemory }
+        ensures stays_broken { (state_of self.old).broken ≡ true
+            → IsErrOf result ApplyFault.OutOfMemory }
     {
         if self.broken {
             return Err(ApplyFault::OutOfMemory);
@@ -214,8 +224,10 @@ impl Machine {
     /// last one, whichever is greater, where it takes one. There is none once the execution has ended, and none while it is quiet at the
     /// reading.
     pub fn choose(&self, reading: u64) -> Option<Event>
-        ensures choice { option_map event_view result ≡ choose (state_of self.now).program (state_of self.now).config reading }
-        ensures enabled { IfSome result (λ e. (d : Config) × (next (state_of self.now).program (state_of self.now).config (event_view e) ≡ To d)) }
+        ensures choice { option_map event_view result
+            ≡ choose (state_of self.now).program (state_of self.now).config reading }
+        ensures enabled { IfSome result (λ e. (d : Config)
+            × (next (state_of self.now).program (state_of self.now).config (event_view e) ≡ To d)) }
     {
         match self.ending {
             Ending::Running => Some(self.next_move(reading)),
@@ -292,7 +304,9 @@ impl Machine {
     /// `main`'s next move, at a reading where it reads the clock.
     fn next_move(&self, reading: u64) -> Event
         requires active { (state_of self.now).config.outcome ≡ Active }
-        ensures { event_view result ≡ main_event (clock_at (main_steps_view self.now.program) self.now.step self.now.entry) (max reading self.now.last) }
+        ensures { event_view result ≡ main_event
+            (clock_at (main_steps_view self.now.program) self.now.step self.now.entry)
+            (max reading self.now.last) }
     {
         let steps = main_steps(&self.program);
         if reads_clock(steps, self.step, self.entry) {
@@ -305,10 +319,15 @@ impl Machine {
     /// What the event's move sees of the clock, or none where the event can't come.
     fn readings_for(&self, event: &Event) -> Option<Readings>
         ensures active { IsSome result → (state_of self.now).config.outcome ≡ Active }
-        ensures comes { IfSome result (λ r. next (state_of self.now).program (state_of self.now).config (event_view event.now)
-            ≡ as_counted (read_at r.last (state_of self.now).config) (by_itself (state_of self.now).program 0 r.now task_move)) }
-        ensures last { IfSome result (λ r. r.last ≡ unwrap_or (reading_of (event_view event.now)) self.now.last) }
-        ensures never { IsNone result → (d : Config) → next (state_of self.now).program (state_of self.now).config (event_view event.now) ≡ To d → ⊥ }
+        ensures comes { IfSome result (λ r. next (state_of self.now).program
+            (state_of self.now).config (event_view event.now)
+            ≡ as_counted (read_at r.last (state_of self.now).config)
+            (by_itself (state_of self.now).program 0 r.now task_move)) }
+        ensures last { IfSome result (λ r. r.last
+            ≡ unwrap_or (reading_of (event_view event.now)) self.now.last) }
+        ensures never { IsNone result → (d : Config)
+            → next (state_of self.now).program (state_of self.now).config (event_view event.now)
+            ≡ To d → ⊥ }
     {
         if !self.is_running() {
             return None;
@@ -339,11 +358,14 @@ impl Machine {
     /// One move of `main`, or the end at the limit on counted events. Without memory the machine isn't to be used further.
     fn make_move(&mut self, readings: Readings) -> Result<(), OutOfMemory>
         requires active { (state_of self.old).config.outcome ≡ Active }
-        ensures moved { OnOk result (as_counted (read_at readings.last (state_of self.old).config) (by_itself (state_of self.old).program 0 readings.now task_move) ≡ To (state_of self.new).config) }
+        ensures moved { OnOk result (as_counted (read_at readings.last (state_of self.old).config)
+            (by_itself (state_of self.old).program 0 readings.now task_move)
+            ≡ To (state_of self.new).config) }
         ensures program { (state_of self.new).program ≡ (state_of self.old).program }
         ensures last { OnOk result (self.new.last ≡ readings.last) }
         ensures broken { (state_of self.new).broken ≡ (state_of self.old).broken }
-        ensures counted { OnOk result ((state_of self.new).config.moves ≡ (state_of self.old).config.moves + 1) }
+        ensures counted { OnOk result ((state_of self.new).config.moves
+            ≡ (state_of self.old).config.moves + 1) }
     {
         let moves = self.moves + 1;
         if moves >= MOVE_LIMIT {
@@ -392,9 +414,12 @@ fn stand_after(
     requires fine { IsFine (map step_view steps.now) next }
     requires place { IsPlace (map step_view steps.now) step entry }
     ensures place { IfOk result (λ s. IsPlace (map step_view steps.now) s.step s.entry) }
-    ensures runs { IfOk result (λ s. (m : ℕ) → m < 100000 → RunsOn s.ending (is_running s.ending) (map step_view steps.now) s.step m) }
-    ensures config { IfOk result (λ s. (facts : PlainFacts) (reading : ℕ) (vars : Pairs) (m : ℕ) → config_after facts reading (map step_view steps.now) next vars m
-        ≡ config_at facts reading (is_running s.ending) (map step_view steps.now) s.step s.entry vars m (outcome_by s.ending)) }
+    ensures runs { IfOk result (λ s. (m : ℕ) → m < 100000
+        → RunsOn s.ending (is_running s.ending) (map step_view steps.now) s.step m) }
+    ensures config { IfOk result (λ s. (facts : PlainFacts) (reading : ℕ) (vars : Pairs) (m : ℕ)
+        → config_after facts reading (map step_view steps.now) next vars m
+        ≡ config_at facts reading (is_running s.ending) (map step_view steps.now) s.step s.entry
+        vars m (outcome_by s.ending)) }
 {
     match next {
         Next::Before(step, entry) => {

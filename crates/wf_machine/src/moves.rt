@@ -36,7 +36,8 @@ fn assign(
 ) -> Result<Option<Tag>, OutOfMemory>
     requires { is_plain_entry (entry_view entry.now) ≡ true }
     ensures raised { IfOk result (λ raised. IfSome raised IsValueTag) }
-    ensures leads { IfOk result (λ raised. EntryLeads (entry_view entry.now) now (pairs_of variables.old) raised (pairs_of variables.new)) }
+    ensures leads { IfOk result (λ raised. EntryLeads (entry_view entry.now) now
+        (pairs_of variables.old) raised (pairs_of variables.new)) }
 {
     match evaluate(alloc, &entry.value, now, variables) {
         Ok(value) => {
@@ -63,10 +64,13 @@ fn assign_at(
     requires inside { entry < length entries.now }
     requires plain { list_all is_plain_entry (map entry_view entries.now) ≡ true }
     requires room { step + 1 < 2 ^ 64 }
-    ensures fine { IfOk result (λ n. (ss : List t.Step) (x : List ℕ) → drop step ss ≡ assign_step x (map entry_view entries.now) ∷ drop (step + 1) ss
+    ensures fine { IfOk result (λ n. (ss : List t.Step) (x : List ℕ)
+        → drop step ss ≡ assign_step x (map entry_view entries.now) ∷ drop (step + 1) ss
         → step < length ss → IsFine ss n) }
-    ensures leads { IfOk result (λ n. (ss : List t.Step) (x : List ℕ) → drop step ss ≡ assign_step x (map entry_view entries.now) ∷ drop (step + 1) ss
-        → IsPlace ss step entry → LeadsOn ss step entry now (pairs_of variables.old) n (pairs_of variables.new)) }
+    ensures leads { IfOk result (λ n. (ss : List t.Step) (x : List ℕ)
+        → drop step ss ≡ assign_step x (map entry_view entries.now) ∷ drop (step + 1) ss
+        → IsPlace ss step entry
+        → LeadsOn ss step entry now (pairs_of variables.old) n (pairs_of variables.new)) }
 {
     if let Some(tag) = assign(alloc, &entries[entry], now, variables)? {
         return Ok(Next::Raised(tag));
@@ -87,8 +91,9 @@ fn return_from(
 ) -> Result<Next, OutOfMemory>
     requires { is_template_built (template_view template.now) ≡ true }
     ensures fine { IfOk result (λ n. (ss : List t.Step) → IsFine ss n) }
-    ensures leads { IfOk result (λ n. (ss : List t.Step) (x : List ℕ) (i j : ℕ) → drop i ss ≡ return_step x (template_view template.now) ∷ drop (i + 1) ss
-        → IsPlace ss i j → LeadsOn ss i j now (pairs_of variables.now) n (pairs_of variables.now)) }
+    ensures leads { IfOk result (λ n. (ss : List t.Step) (x : List ℕ) (i j : ℕ)
+        → drop i ss ≡ return_step x (template_view template.now) ∷ drop (i + 1) ss → IsPlace ss i j
+        → LeadsOn ss i j now (pairs_of variables.now) n (pairs_of variables.now)) }
 {
     match evaluate(alloc, template, now, variables) {
         Ok(value) => Ok(Next::Returned(value)),
@@ -110,7 +115,8 @@ pub(crate) fn advance(
     requires straight { list_all is_straight_step (map step_view steps.now) ≡ true }
     requires place { IsPlace (map step_view steps.now) step entry }
     ensures fine { IfOk result (IsFine (map step_view steps.now)) }
-    ensures leads { IfOk result (λ n. LeadsOn (map step_view steps.now) step entry now (pairs_of variables.old) n (pairs_of variables.new)) }
+    ensures leads { IfOk result (λ n. LeadsOn (map step_view steps.now) step entry now
+        (pairs_of variables.old) n (pairs_of variables.new)) }
 {
     match &steps[step].body {
         Body::Return(template) => return_from(alloc, template, now, variables),

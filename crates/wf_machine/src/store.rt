@@ -13,8 +13,10 @@ const VARIABLES_LIMIT: u64 = 65_536;
 
 /// Puts the value at the name, and tells whether the variables are within their limits then.
 pub(crate) fn store(variables: &mut Map, name: Text, value: Value) -> Result<bool, OutOfMemory>
-    ensures stored { IfOk result (λ _. variables.new ≡ with_value name (plain value) variables.old) }
-    ensures within { IfOk result (λ fits. fits ≡ is_within 65536 (pairs_of variables.new) (plain value)) }
+    ensures stored { IfOk result (λ _. variables.new
+        ≡ with_value name (plain value) variables.old) }
+    ensures within { IfOk result (λ fits. fits
+        ≡ is_within 65536 (pairs_of variables.new) (plain value)) }
 {
     let depth = value.depth();
     variables.insert(name, value)?;

@@ -35,20 +35,34 @@ pub fn replay<H: Host, L: Ledger>(
     steps: &mut Steps<L>,
 ) -> Result<Machine, ReplayFault>
     requires whole { (state_of machine).broken ≡ false }
-    requires kept { is_closed history.old ≡ false → Told (H.world host.old) (Stands history.old (H.world host.old)) }
-    ensures stands { is_closed history.new ≡ false → Told (H.world host.old) (Stands history.new (H.world host.new)) }
-    ensures replayed { Told (H.world host.old) (IfOk result (λ m. goes_to (standing history.old machine) (ahead history.old (H.world host.old).seen) ≡ Ok (standing history.new m))) }
-    ensures steps { Told (H.world host.old) (OnOk result (steps.new ≡ steps.old + applied_by (ahead history.old (H.world host.old).seen))) }
+    requires kept { is_closed history.old ≡ false
+        → Told (H.world host.old) (Stands history.old (H.world host.old)) }
+    ensures stands { is_closed history.new ≡ false
+        → Told (H.world host.old) (Stands history.new (H.world host.new)) }
+    ensures replayed { Told (H.world host.old)
+        (IfOk result (λ m. goes_to (standing history.old machine)
+        (ahead history.old (H.world host.old).seen) ≡ Ok (standing history.new m))) }
+    ensures steps { Told (H.world host.old)
+        (OnOk result (steps.new
+        ≡ steps.old + applied_by (ahead history.old (H.world host.old).seen))) }
     ensures whole { IfOk result (λ m. (state_of m).broken ≡ false) }
     ensures ended { OnOk result (at_end history.new ≡ true) }
-    ensures bad_event { Told (H.world host.old) (IfErr result (λ e. (n : ℕ) → e ≡ ReplayFault.BadEvent n → goes_to (standing history.old machine) (ahead history.old (H.world host.old).seen) ≡ Err n)) }
+    ensures bad_event { Told (H.world host.old)
+        (IfErr result (λ e. (n : ℕ) → e ≡ ReplayFault.BadEvent n
+        → goes_to (standing history.old machine) (ahead history.old (H.world host.old).seen)
+        ≡ Err n)) }
     ensures new { is_new history.new ≡ is_new history.old }
     ensures seen { Told (H.world host.old) ((H.world host.new).seen ≡ (H.world host.old).seen) }
-    ensures any_moment { is_closed history.old ≡ false → Told (H.world host.old) (LeavesOnly (H.world host.old) (H.world host.new) (Stays (H.world host.old))) }
-    ensures disk_fault { IsErrOf result ReplayFault.DiskFault → Rose (H.faults host.old).disk (H.faults host.new).disk }
+    ensures any_moment { is_closed history.old ≡ false
+        → Told (H.world host.old)
+        (LeavesOnly (H.world host.old) (H.world host.new) (Stays (H.world host.old))) }
+    ensures disk_fault { IsErrOf result ReplayFault.DiskFault
+        → Rose (H.faults host.old).disk (H.faults host.new).disk }
     ensures closed { IsErrOf result ReplayFault.Closed ↔ (is_closed history.old ≡ true) }
-    ensures closes { (is_closed history.new ≡ true) ↔ ((is_closed history.old ≡ true) ⊎ IsErrOf result ReplayFault.DiskFault) }
-    ensures idle { IsErrOf result ReplayFault.Closed → (history.new ≡ history.old) × (host.new ≡ host.old) }
+    ensures closes { (is_closed history.new ≡ true)
+        ↔ ((is_closed history.old ≡ true) ⊎ IsErrOf result ReplayFault.DiskFault) }
+    ensures idle { IsErrOf result ReplayFault.Closed
+        → (history.new ≡ history.old) × (host.new ≡ host.old) }
     ensures deeds { Told (H.world host.old) ((H.world host.new).deeds ≡ (H.world host.old).deeds) }
     ensures tells { (H.world host.new).tells ≡ (H.world host.old).tells }
     ensures counts { NoneFell (H.faults host.old) (H.faults host.new) }
@@ -67,22 +81,38 @@ fn replay_next<H: Host, L: Ledger>(
     steps: &mut Steps<L>,
 ) -> Result<bool, ReplayFault>
     requires whole { (state_of machine.old).broken ≡ false }
-    requires kept { is_closed history.old ≡ false → Told (H.world host.old) (Stands history.old (H.world host.old)) }
-    ensures stands { is_closed history.new ≡ false → Told (H.world host.old) (Stands history.new (H.world host.new)) }
-    ensures leads { Told (H.world host.old) (OnOk result (goes_to (standing history.old machine.old) (ahead history.old (H.world host.old).seen) ≡ goes_to (standing history.new machine.new) (ahead history.new (H.world host.old).seen))) }
-    ensures steps { Told (H.world host.old) (OnOk result (steps.new + applied_by (ahead history.new (H.world host.old).seen) ≡ steps.old + applied_by (ahead history.old (H.world host.old).seen))) }
-    ensures last { Told (H.world host.old) (IfOk result (λ more. more ≡ false → ahead history.new (H.world host.old).seen ≡ [])) }
+    requires kept { is_closed history.old ≡ false
+        → Told (H.world host.old) (Stands history.old (H.world host.old)) }
+    ensures stands { is_closed history.new ≡ false
+        → Told (H.world host.old) (Stands history.new (H.world host.new)) }
+    ensures leads { Told (H.world host.old)
+        (OnOk result (goes_to (standing history.old machine.old)
+        (ahead history.old (H.world host.old).seen)
+        ≡ goes_to (standing history.new machine.new) (ahead history.new (H.world host.old).seen))) }
+    ensures steps { Told (H.world host.old)
+        (OnOk result (steps.new + applied_by (ahead history.new (H.world host.old).seen)
+        ≡ steps.old + applied_by (ahead history.old (H.world host.old).seen))) }
+    ensures last { Told (H.world host.old)
+        (IfOk result (λ more. more ≡ false → ahead history.new (H.world host.old).seen ≡ [])) }
     ensures whole { OnOk result ((state_of machine.new).broken ≡ false) }
     ensures ended { IfOk result (λ more. more ≡ false → at_end history.new ≡ true) }
     ensures shorter { IfOk result (λ more. more ≡ true → unread history.new < unread history.old) }
-    ensures bad_event { Told (H.world host.old) (IfErr result (λ e. (n : ℕ) → e ≡ ReplayFault.BadEvent n → goes_to (standing history.old machine.old) (ahead history.old (H.world host.old).seen) ≡ Err n)) }
+    ensures bad_event { Told (H.world host.old)
+        (IfErr result (λ e. (n : ℕ) → e ≡ ReplayFault.BadEvent n
+        → goes_to (standing history.old machine.old) (ahead history.old (H.world host.old).seen)
+        ≡ Err n)) }
     ensures new { is_new history.new ≡ is_new history.old }
     ensures seen { Told (H.world host.old) ((H.world host.new).seen ≡ (H.world host.old).seen) }
-    ensures any_moment { is_closed history.old ≡ false → Told (H.world host.old) (LeavesOnly (H.world host.old) (H.world host.new) (Stays (H.world host.old))) }
-    ensures disk_fault { IsErrOf result ReplayFault.DiskFault → Rose (H.faults host.old).disk (H.faults host.new).disk }
+    ensures any_moment { is_closed history.old ≡ false
+        → Told (H.world host.old)
+        (LeavesOnly (H.world host.old) (H.world host.new) (Stays (H.world host.old))) }
+    ensures disk_fault { IsErrOf result ReplayFault.DiskFault
+        → Rose (H.faults host.old).disk (H.faults host.new).disk }
     ensures closed { IsErrOf result ReplayFault.Closed ↔ (is_closed history.old ≡ true) }
-    ensures closes { (is_closed history.new ≡ true) ↔ ((is_closed history.old ≡ true) ⊎ IsErrOf result ReplayFault.DiskFault) }
-    ensures idle { IsErrOf result ReplayFault.Closed → (history.new ≡ history.old) × (host.new ≡ host.old) }
+    ensures closes { (is_closed history.new ≡ true)
+        ↔ ((is_closed history.old ≡ true) ⊎ IsErrOf result ReplayFault.DiskFault) }
+    ensures idle { IsErrOf result ReplayFault.Closed
+        → (history.new ≡ history.old) × (host.new ≡ host.old) }
     ensures deeds { Told (H.world host.old) ((H.world host.new).deeds ≡ (H.world host.old).deeds) }
     ensures tells { (H.world host.new).tells ≡ (H.world host.old).tells }
     ensures counts { NoneFell (H.faults host.old) (H.faults host.new) }
@@ -106,11 +136,17 @@ fn replay_record<L: Ledger>(
     steps: &mut Steps<L>,
 ) -> Result<(), ReplayFault>
     requires whole { (state_of machine.old).broken ≡ false }
-    ensures goes_on { OnOk result (goes_on (stands_at number last machine.old) (Some (record_view next.now)) ≡ Some (stands_at (suc number) (last_after last (record_view next.now)) machine.new)) }
-    ensures steps { OnOk result (steps.new ≡ steps.old + length (events_of (record_view next.now))) }
+    ensures goes_on { OnOk result (goes_on (stands_at number last machine.old)
+        (Some (record_view next.now))
+        ≡ Some (stands_at (suc number) (last_after last (record_view next.now)) machine.new)) }
+    ensures steps { OnOk result (steps.new
+        ≡ steps.old + length (events_of (record_view next.now))) }
     ensures whole { OnOk result ((state_of machine.new).broken ≡ false) }
-    ensures bad_event { IfErr result (λ e. (n : ℕ) → e ≡ ReplayFault.BadEvent n → (goes_on (stands_at number last machine.old) (Some (record_view next.now)) ≡ None) × (n ≡ told number)) }
-    ensures only { IfErr result (λ e. (e ≡ ReplayFault.OutOfMemory) ⊎ (e ≡ ReplayFault.BadEvent (told number))) }
+    ensures bad_event { IfErr result (λ e. (n : ℕ) → e ≡ ReplayFault.BadEvent n
+        → (goes_on (stands_at number last machine.old) (Some (record_view next.now)) ≡ None)
+        × (n ≡ told number)) }
+    ensures only { IfErr result (λ e. (e ≡ ReplayFault.OutOfMemory)
+        ⊎ (e ≡ ReplayFault.BadEvent (told number))) }
 {
     let Record::Turn(turn) = next else {
         return Err(bad_event(number));
@@ -127,7 +163,8 @@ fn replay_record<L: Ledger>(
 
 /// Whether a turn with this number is numbered, and doesn't fall behind the last one.
 fn is_in_place(number: u64, last: Option<(u64, u64)>, turn: &Turn) -> bool
-    ensures { result ≡ (is_numbered number (turn_view turn.now) && goes_on_at (session_of last) (waits_of last) (turn_view turn.now)) }
+    ensures { result ≡ (is_numbered number (turn_view turn.now) && goes_on_at (session_of last)
+        (waits_of last) (turn_view turn.now)) }
 {
     let (session, waits) = last.unwrap_or((0, 0));
     let goes_on = session < turn.session || session == turn.session && waits <= turn.waits;
@@ -141,11 +178,16 @@ fn apply_turn<L: Ledger>(
     steps: &mut Steps<L>,
 ) -> Result<(), ApplyFault>
     requires whole { (state_of machine.old).broken ≡ false }
-    ensures applied { OnOk result (run_on (state_of machine.old).program (To (state_of machine.old).config) (events_view turn.now.events) ≡ To (state_of machine.new).config) }
+    ensures applied { OnOk result (run_on (state_of machine.old).program
+        (To (state_of machine.old).config) (events_view turn.now.events)
+        ≡ To (state_of machine.new).config) }
     ensures whole { OnOk result ((state_of machine.new).broken ≡ false) }
-    ensures program { OnOk result ((state_of machine.new).program ≡ (state_of machine.old).program) }
+    ensures program { OnOk result ((state_of machine.new).program
+        ≡ (state_of machine.old).program) }
     ensures steps { OnOk result (steps.new ≡ steps.old + length (events_view turn.now.events)) }
-    ensures not_enabled { IsErrOf result ApplyFault.NotEnabled → (c : Config) → run_on (state_of machine.old).program (To (state_of machine.old).config) (events_view turn.now.events) ≡ To c → ⊥ }
+    ensures not_enabled { IsErrOf result ApplyFault.NotEnabled → (c : Config)
+        → run_on (state_of machine.old).program (To (state_of machine.old).config)
+        (events_view turn.now.events) ≡ To c → ⊥ }
 {
     let events = turn.events.items();
     for event in events {

@@ -18,7 +18,8 @@ pub(crate) struct Layer {
 impl Layer {
     /// Makes or changes a variable. Without memory the layer stays, and the value is dropped.
     pub(crate) fn put(&mut self, alloc: Global, name: &str, value: Value) -> Result<(), OutOfMemory>
-        ensures { self.new ≡ (if is_ok result then with_variable name.now (plain value) self.old else self.old) }
+        ensures { self.new ≡ (if is_ok result then with_variable name.now (plain value) self.old
+            else self.old) }
     {
         let name = Text::new(alloc, name)?;
         self.vars.insert(name, value)?;

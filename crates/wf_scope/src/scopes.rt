@@ -71,7 +71,8 @@ impl Scopes {
     /// live.
     pub fn look(&self, c: Chain, name: &str) -> Option<&Value>
         requires { IsLive c.number (layers_of self.now) }
-        ensures { option_map (λ v. plain v.now) result ≡ look_in name.now (chain c.number (layers_of self.now)) }
+        ensures { option_map (λ v. plain v.now) result
+            ≡ look_in name.now (chain c.number (layers_of self.now)) }
     {
         self.look_from(c.number, name)
     }
@@ -93,7 +94,9 @@ impl Scopes {
     pub fn inner(&mut self, outer: Chain) -> Result<Chain, OutOfMemory>
         requires { IsLive outer.number (layers_of self.old) }
         ensures number { IfOk result (λ c. c.number ≡ fresh (layers_of self.old)) }
-        ensures opened { OnOk result (layers_of self.new ≡ opened (Some outer.number) (suc (depth_in (find outer.number (layers_of self.old)))) (layers_of self.old)) }
+        ensures opened { OnOk result (layers_of self.new
+            ≡ opened (Some outer.number) (suc (depth_in (find outer.number (layers_of self.old))))
+            (layers_of self.old)) }
         ensures kept { OnErr result (layers_of self.new ≡ layers_of self.old) }
         ensures limit { self.new.limit ≡ self.old.limit }
         ensures live { IfOk result (λ c. IsLive c.number (layers_of self.new)) }
@@ -125,7 +128,8 @@ impl Scopes {
     /// deeper than 100. Besides, memory may be wanting.
     pub fn bind(&mut self, c: Chain, name: &str, v: Value) -> Result<(), AssignFault>
         requires { IsLive c.number (layers_of self.old) }
-        ensures outcome { Answers result (layers_of self.new) (bound self.old.limit c.number name.now (plain v) (layers_of self.old)) }
+        ensures outcome { Answers result (layers_of self.new)
+            (bound self.old.limit c.number name.now (plain v) (layers_of self.old)) }
         ensures kept { OnErr result (layers_of self.new ≡ layers_of self.old) }
         ensures limit { self.new.limit ≡ self.old.limit }
         ensures stay { StayLive (layers_of self.old) (layers_of self.new) }
@@ -165,7 +169,9 @@ impl Scopes {
         v: Value,
     ) -> Result<(), AssignFault>
         requires { IsLive c.number (layers_of self.old) }
-        ensures outcome { Answers result (layers_of self.new) (assigned self.old.limit c.number name.now (map key_data path.now) (plain v) (layers_of self.old)) }
+        ensures outcome { Answers result (layers_of self.new)
+            (assigned self.old.limit c.number name.now (map key_data path.now) (plain v)
+            (layers_of self.old)) }
         ensures kept { OnErr result (layers_of self.new ≡ layers_of self.old) }
         ensures limit { self.new.limit ≡ self.old.limit }
         ensures stay { StayLive (layers_of self.old) (layers_of self.new) }
@@ -195,7 +201,8 @@ impl Scopes {
 
     fn look_from(&self, number: u64, name: &str) -> Option<&Value>
         requires { IsLive number (layers_of self.now) }
-        ensures { option_map (λ v. plain v.now) result ≡ look_in name.now (chain number (layers_of self.now)) }
+        ensures { option_map (λ v. plain v.now) result
+            ≡ look_in name.now (chain number (layers_of self.now)) }
     {
         let layer = &self.layers[self.place(number)];
         match layer.vars.get(name) {
@@ -244,7 +251,9 @@ impl Scopes {
         new: Value,
     ) -> Result<Value, AssignFault>
         requires { IsLive number (layers_of self.now) }
-        ensures { Gives result (faulted (changed (value_at name.now (vars_at number (layers_of self.now))) (map key_data path.now) (plain new))) }
+        ensures { Gives result (faulted
+            (changed (value_at name.now (vars_at number (layers_of self.now)))
+            (map key_data path.now) (plain new))) }
     {
         let layer = &self.layers[self.place(number)];
         match layer.vars.get(name) {
@@ -259,7 +268,8 @@ impl Scopes {
     // What a layer's variable counts, 0 where there is none.
     fn counted(&self, number: u64, name: &str) -> u64
         requires { IsLive number (layers_of self.now) }
-        ensures size { result ≡ variable_size name.now (value_at name.now (vars_at number (layers_of self.now))) }
+        ensures size { result ≡ variable_size name.now
+            (value_at name.now (vars_at number (layers_of self.now))) }
         ensures within { result ≤ self.now.total }
         ensures order { IsInOrder (vars_at number (layers_of self.now)) }
     {
@@ -273,7 +283,8 @@ impl Scopes {
     // The total once this layer's variable has the value.
     fn total_with(&self, number: u64, name: &str, value: &Value) -> u64
         requires { IsLive number (layers_of self.now) }
-        ensures { result ≡ min (total_of (put_at number name.now (plain value.now) (layers_of self.now))) 18446744073709551615 }
+        ensures { result ≡ min (total_of
+            (put_at number name.now (plain value.now) (layers_of self.now))) 18446744073709551615 }
     {
         let rest = self.total - self.counted(number, name);
         rest.saturating_add(size_of_variable(name, value))
@@ -297,7 +308,8 @@ impl Scopes {
     fn open(&mut self, outer: Option<u64>, depth: u64) -> Result<Chain, OutOfMemory>
         requires { stands outer depth (layers_of self.old) ≡ true }
         ensures number { IfOk result (λ c. c.number ≡ fresh (layers_of self.old)) }
-        ensures opened { OnOk result (layers_of self.new ≡ opened outer depth (layers_of self.old)) }
+        ensures opened { OnOk result (layers_of self.new
+            ≡ opened outer depth (layers_of self.old)) }
         ensures kept { OnErr result (layers_of self.new ≡ layers_of self.old) }
         ensures limit { self.new.limit ≡ self.old.limit }
         ensures live { IfOk result (λ c. IsLive c.number (layers_of self.new)) }
@@ -338,7 +350,8 @@ fn put(
     value: Value,
 ) -> Result<(), OutOfMemory>
     requires { place < length layers.old.items }
-    ensures { layers.new.items ≡ (if is_ok result then put_place place name.now (plain value) layers.old.items else layers.old.items) }
+    ensures { layers.new.items ≡ (if is_ok result then put_place place name.now (plain value)
+        layers.old.items else layers.old.items) }
 {
     let layer = &mut layers[place];
     layer.put(alloc, name, value)

@@ -66,7 +66,8 @@ fn item_at(index: i64, items: &[Value]) -> Option<&Value>
 
 // The value with a new one at a place.
 fn with_member(alloc: Global, key: &Key, new: Value, value: &Value) -> Result<Value, AssignFault>
-    ensures { Gives result (faulted (with_member (key_data key.now) (plain new) (plain value.now))) }
+    ensures { Gives result (faulted
+        (with_member (key_data key.now) (plain new) (plain value.now))) }
 {
     match key {
         Key::Name(name) => with_key(alloc, name, new, value),

@@ -35,7 +35,9 @@ impl Names {
 
     /// Adds a name. Without memory they stay as they were.
     pub fn add(&mut self, name: &str) -> Result<(), OutOfMemory>
-        ensures added { OnOk result ((x : Bytes) → is_among x (names_of self.new) ≡ (bytes_eq x name.now || is_among x (names_of self.old))) }
+        ensures added { OnOk result ((x : Bytes)
+            → is_among x (names_of self.new)
+            ≡ (bytes_eq x name.now || is_among x (names_of self.old))) }
         ensures kept { OnErr result (names_of self.new ≡ names_of self.old) }
     {
         let Ok(copy) = String::from_str(self.alloc, name) else {

@@ -15,7 +15,8 @@ use wf_value::OutOfMemory;
 
 // The names of a block's own steps.
 pub(crate) fn own_names(alloc: Global, steps: &StepList) -> Result<Names, OutOfMemory>
-    ensures { IfOk result (λ names. (x : Bytes) → is_among x (names_of names) ≡ has_step x (steps_in steps.now)) }
+    ensures { IfOk result (λ names. (x : Bytes)
+        → is_among x (names_of names) ≡ has_step x (steps_in steps.now)) }
 {
     let mut names = Names::new(alloc);
     for step in steps.items() {
@@ -26,7 +27,8 @@ pub(crate) fn own_names(alloc: Global, steps: &StepList) -> Result<Names, OutOfM
 
 /// The names that a loop binds: its value, and its index if it has one.
 pub fn loop_names(alloc: Global, repeated: &LoopBody) -> Result<Names, OutOfMemory>
-    ensures { IfOk result (λ names. SameNames (names_of names) (binds_of (loop_view repeated.now))) }
+    ensures { IfOk result (λ names. SameNames (names_of names)
+        (binds_of (loop_view repeated.now))) }
 {
     let mut names = Names::new(alloc);
     names.add(repeated.value.as_str())?;
@@ -41,7 +43,8 @@ pub fn loop_names(alloc: Global, repeated: &LoopBody) -> Result<Names, OutOfMemo
 
 /// The names of parameters.
 pub fn param_names(alloc: Global, params: &Params) -> Result<Names, OutOfMemory>
-    ensures { IfOk result (λ names. SameNames (names_of names) (param_names (params_view params.now))) }
+    ensures { IfOk result (λ names. SameNames (names_of names)
+        (param_names (params_view params.now))) }
 {
     let mut names = Names::new(alloc);
     for param in params.items() {
@@ -104,7 +107,8 @@ fn add_arms_names(names: &mut Names, arms: &Arms) -> Result<(), OutOfMemory>
 
 #[cycle(names)]
 fn add_branches_names(names: &mut Names, branches: &Branches) -> Result<(), OutOfMemory>
-    ensures { OnOk result (Adds names.old names.new (branches_step_names (branches_in branches.now))) }
+    ensures { OnOk result (Adds names.old names.new
+        (branches_step_names (branches_in branches.now))) }
 {
     for branch in branches.items() {
         add_step_names(names, &branch.steps)?;
