@@ -100,6 +100,9 @@ def no_file_is_made(folder):
     write(folder, "s.json", SEVEN)
     write(folder, "bad.json", b"[")
     rows = [
+        (("check", "--source", "s.json"), 0),
+        (("check", "--source", "bad.json"), 3),
+        (("check", "--source", "s.json", "--journal", "j"), 2),
         (("run", "--source", "bad.json", "--journal", "j"), 3),
         (("run", "--source", "missing.json", "--journal", "j"), 7),
         (("run", "--source", "s.json", "--jurnal", "j"), 2),

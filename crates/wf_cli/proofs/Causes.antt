@@ -2,7 +2,7 @@
 use Rattle.std.proofs.Common.{◌≡◌, ◌<◌, inl, inr, IsTrue, ℕ, Bool, true, false, List, Option, None, Some, Result, Ok, Err, refl, sym, ◌∙◌, ap, subst, arith}
 use Rattle.wf_cli.specs.Top.{IsLineOf, IsBadLine, IsRefused, HasOtherMagic, IsStarted, IsNotStarted, IsNoHistory, Reported, Gives, IsOfFile, Says, bad_line, refused, reported, of_file}
 use Rattle.wf_engine.specs.Printed as end
-use Rattle.wf_engine.specs.Printed.{Scene, uses_source, uses_journal, executes, status_of, outcome_text}
+use Rattle.wf_engine.specs.Printed.{Scene, uses_source, uses_journal, executes, status_of}
 use Rattle.wf_engine.specs.TheLanguage.{the_language}
 use Rattle.wf_host.specs.World.{World}
 use Rattle.wf_args.specs.Lines.{PlainLine, line_of}

@@ -5,7 +5,7 @@ use Rattle.wf_cli.proofs.Causes.{same_ok, same_err, both, no_bad_line, executing
 use Rattle.wf_cli.specs.Reports.{layout_of, the_reports}
 use Rattle.wf_cli.specs.Top.{IsLineOf, IsBadLine, IsRefused, IsNoHistory, Reported, Gives, IsOfFile, IsPassed, Says, bad_line, refused, reported, of_file}
 use Rattle.wf_engine.specs.Printed as end
-use Rattle.wf_engine.specs.Printed.{Scene, uses_journal, uses_source, executes, refuses}
+use Rattle.wf_engine.specs.Printed.{Scene, uses_source, executes, refuses}
 use Rattle.wf_engine.specs.TheLanguage.{the_language}
 use Rattle.wf_host.specs.Source.{Rest, IsFirst, WhereTold}
 use Rattle.wf_host.specs.World.{World}

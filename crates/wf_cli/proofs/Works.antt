@@ -16,7 +16,7 @@ use Rattle.wf_cli.specs.declared.end.Silence.TheVariants as silence
 use Rattle.wf_engine.specs.Engine.{memory, KeptAt}
 use Rattle.wf_deeds.specs.Kept as kept
 use Rattle.wf_engine.specs.Printed as end
-use Rattle.wf_engine.specs.Printed.{Scene, uses_source, executes, status_of, outcome_text, accepted_text}
+use Rattle.wf_engine.specs.Printed.{Scene, uses_source, executes, status_of, accepted_text}
 use Rattle.wf_engine.specs.Safe.{IsFit, SafeAt}
 use Rattle.wf_engine.specs.TheLanguage.{the_language}
 use Rattle.wf_engine.specs.declared.engine.Engine.{Engine}
