@@ -1,5 +1,5 @@
 -- What a command has done, from the opening of its file and the way to the outcome.
-use Rattle.std.proofs.Common.{◌≡◌, ◌⊎◌, ◌≢◌, inl, inr, ⊎_elim, ℕ, true, false, List, [], ◌++◌, None, Some, Result, Ok, Err, IfOk, IsErr, IsErrAnd, refl, sym, ◌∙◌, ap, subst, arith}
+use Rattle.std.proofs.Common.{◌≡◌, ◌⊎◌, ◌≢◌, inl, inr, ⊎_elim, ℕ, Bool, true, false, List, [], ◌++◌, None, Some, Result, Ok, Err, IfOk, IsErr, IsErrAnd, refl, sym, ◌∙◌, ap, subst, arith}
 use Rattle.std.specs.Prelude.{codes, decimal}
 use Rattle.std.proofs.lemmas.List.{append-nil}
 use Rattle.wf_ast.specs.Tree.{Program}
@@ -374,7 +374,7 @@ no_layout s l text is none (m, js, format) =
 -- what is said of it is a report or a refusal
 verdict_said : (s : Scene) (l : PlainLine) (bytes : List ℕ) (it : Said) → end.Reads s l bytes → l.command ≡ Check → SaysVerdict bytes it
     → (IsChecked s × ((it.status ≡ status.Done) × (it.text.items ≡ accepted_text))) ⊎ ((why : Refusal) × IsRefused s why × SaysStatus (status.Refused why) it)
-verdict_said s l bytes it reads command (inl (p, is, says)) = inl ((l, bytes, p, reads, command, is), says)
+verdict_said s l bytes it reads command (inl (p, is, done, text)) = inl ((l, bytes, p, reads, command, is), (done, text))
 verdict_said s l bytes it reads command (inr (why, is, says)) = inr (why, is_refused s l bytes why reads (check_takes l.command command) is, says)
 
 pub checked_end : (s : Scene) (l : PlainLine) (w : World) (a b : ℕ) (f g : Faults) (r : Result Said Silence) → line_of s.words ≡ Ok l → l.command ≡ Check → SaysChecked s.source a b r → IsEnd s w w a b f g r

@@ -8,5 +8,5 @@ returns-in-Ok-clause-says g c =
     let p = program_of c.in-Ok.field-0 in (
       c.in_ok-bytes.bytes.items,
       c.in_ok-bytes.ensures.bytes,
-      inl (p, subst (λ b. IsSourceOf b p) c.as_slice.ensures.value c.in-Ok.ensures.program, c.in_ok-report.ensures),
+      inl (p, subst (λ b. IsSourceOf b p) c.as_slice.ensures.value c.in-Ok.ensures.program, c.in_ok-report-in-Ok.ensures.0, c.in_ok-report-in-Ok.ensures.1),
     )
