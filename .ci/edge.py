@@ -1,6 +1,6 @@
 #!/usr/bin/env python3
 """Tries the built program at the edges that no clause speaks of: closed descriptors, two processes on one journal, files that must not be made, a
-journal that can only be read, the folder of a new journal, and what it costs to read a large value.
+journal that can only be read, the folder of a new journal, what it costs to read a large value, and what to check a large source.
 
 Nothing here rests on time. Every process ends by itself or is ended by its own handle.
 """
@@ -18,6 +18,8 @@ PROGRAM = os.path.abspath(sys.argv[1] if len(sys.argv) > 1 else "crates/workflow
 SOURCE = b'[{"a":{"assign":[{"t":"${sys.now()}"}]}},{"b":{"return":"${t}"}}]'
 SEVEN = b'[{"a":{"return":7}}]'
 ROUNDS = 60
+LONGEST = 131_072
+MOST_INSTRUCTIONS = 3_000_000_000
 NOBODY = 65534
 
 
@@ -98,6 +100,9 @@ def no_file_is_made(folder):
     write(folder, "s.json", SEVEN)
     write(folder, "bad.json", b"[")
     rows = [
+        (("check", "--source", "s.json"), 0),
+        (("check", "--source", "bad.json"), 3),
+        (("check", "--source", "s.json", "--journal", "j"), 2),
         (("run", "--source", "bad.json", "--journal", "j"), 3),
         (("run", "--source", "missing.json", "--journal", "j"), 7),
         (("run", "--source", "s.json", "--jurnal", "j"), 2),
@@ -148,15 +153,21 @@ def synced_folder(folder):
     assert call(folder, "resume", "--journal", "inner/j")[:2] == (0, b"7\n")
 
 
+def counted(folder, *words):
+    """Runs the program under valgrind, and returns its status with what it printed, and how many instructions it took."""
+    shell = ["valgrind", "--tool=callgrind", "--callgrind-out-file=/dev/null", PROGRAM, *words]
+    ended = subprocess.run(shell, cwd=folder, stdin=subprocess.DEVNULL, stdout=subprocess.PIPE, stderr=subprocess.PIPE, timeout=300)
+    return (ended.returncode, ended.stdout), int(re.search(rb"Collected : (\d+)", ended.stderr).group(1))
+
+
 def instructions(folder, items, reads):
     """How many instructions a run takes that reads the first item of a list of so many items so many times."""
     steps = [{"x": {"assign": [{"x": [1] * items}]}}]
     steps += [{f"s{i}": {"assign": [{"y": "${x[0]}"}] * 50}} for i in range(reads // 50)]
     write(folder, "s.json", json.dumps(steps, separators=(",", ":")).encode())
-    words = ["valgrind", "--tool=callgrind", "--callgrind-out-file=/dev/null", PROGRAM, "run", "--source", "s.json", "--journal", f"j{items}_{reads}"]
-    ended = subprocess.run(words, cwd=folder, stdin=subprocess.DEVNULL, stdout=subprocess.PIPE, stderr=subprocess.PIPE, timeout=300)
-    assert (ended.returncode, ended.stdout) == (0, b"null\n"), ended
-    return int(re.search(rb"Collected : (\d+)", ended.stderr).group(1))
+    ended, count = counted(folder, "run", "--source", "s.json", "--journal", f"j{items}_{reads}")
+    assert ended == (0, b"null\n"), ended
+    return count
 
 
 def large_value(folder):
@@ -169,8 +180,56 @@ def large_value(folder):
     assert large <= 2 * small, f"400 reads of a large value take {large} instructions, of a small one {small}"
 
 
+def steps_of(step, room):
+    """As many steps of one form as fit, each with a name of its own."""
+    steps, size = [], 2
+    for number in range(room):
+        text = f'{{"s{number}":{step(number)}}}'
+        size += len(text) + 1
+        if size > room:
+            return "[" + ",".join(steps) + "]"
+        steps.append(text)
+
+
+def large_sources():
+    """Sources of nearly 131,072 bytes, each large in another way, by its name."""
+    reads = "+".join(["n"] * 195)
+    lines = "".join(f"- s{number}:\n    return: 1\n" for number in range(9000))
+    shapes = {
+        "steps that return": lambda number: '{"return":1}',
+        "steps that go on": lambda number: "{}",
+        "steps that jump back": lambda number: f'{{"next":"s{number // 2}"}}',
+        "a name in each step, read in the next": lambda number: f'{{"assign":[{{"n{number}":"${{n{max(number - 1, 0)}}}"}}]}}',
+        "60,000 reads of one name": lambda number: '{"assign":[{"n":"${' + reads + '}"}]}',
+    }
+    return {
+        **{name: steps_of(step, LONGEST) for name, step in shapes.items()},
+        "50 blocks in each other": '[{"b":{"steps":' * 50 + steps_of(shapes["steps that return"], LONGEST - 1000) + "}}]" * 50,
+        "entries of one step": '[{"s":{"assign":[' + ",".join(['{"n":1}'] * 16_000) + "]}}]",
+        "one text of many expressions": '[{"s":{"return":"' + "${1}" * 32_000 + '"}}]',
+        "brackets": "[" * LONGEST,
+        "blanks": " " * LONGEST,
+        "lines of YAML": lines[: LONGEST].rsplit("- s", 1)[0],
+    }
+
+
+def cost_of_a_source(folder):
+    """A source of up to 131,072 bytes in any shape is accepted or refused within a bound on counted instructions, where valgrind is there."""
+    for shape, source in large_sources().items():
+        data = source.encode()
+        assert LONGEST // 2 < len(data) <= LONGEST, (shape, len(data))
+        write(folder, "s", data)
+        status, printed, said = call(folder, "check", "--source", "s")
+        fits = (status, printed) == (0, b"accepted\n") or status == 3 and printed.startswith(b"refused ")
+        assert fits and not said, (shape, status, printed, said)
+        if shutil.which("valgrind"):
+            ended, count = counted(folder, "check", "--source", "s")
+            assert ended == (status, printed), (shape, ended)
+            assert count <= MOST_INSTRUCTIONS, f"{shape}: {count} instructions"
+
+
 def main():
-    tries = [closed_descriptors, held_journal, two_at_once, no_file_is_made, read_only, synced_folder, large_value]
+    tries = [closed_descriptors, held_journal, two_at_once, no_file_is_made, read_only, synced_folder, large_value, cost_of_a_source]
     for it in tries:
         with tempfile.TemporaryDirectory() as folder:
             it(folder)

@@ -2,7 +2,7 @@
 """Runs the examples and each source of docs/REFUSALS.md on the built program, and compares what it prints.
 
 An example is examples/NAME.yaml with what `run` prints in NAME.out and its exit status in NAME.status (0 where there is none). It is run with
-a journal, and then resumed: that prints the same. Its layout by `format` is run too, and gives the same.
+a journal, and then resumed: that prints the same. Its layout by `format` is run too, and gives the same. `check` accepts it.
 """
 
 import glob
@@ -39,6 +39,8 @@ def examples(folder):
         assert said == (status, printed), (path, said)
         said = call(b"", "resume", "--journal", journal)
         assert said == (status, printed), (path, "resumed", said)
+        said = call(b"", "check", "--source", path)
+        assert said == (0, b"accepted\n"), (path, "check", said)
         laid_out = call(source, "format")
         assert laid_out[0] == 0, (path, "format", laid_out)
         said = call(laid_out[1], "run")
@@ -51,8 +53,11 @@ def refusals():
     with open("docs/REFUSALS.md", encoding="utf-8") as file:
         pairs = [pair for section in re.split(r"^##+ ", file.read(), flags=re.M) for pair in PAIR.finditer(section)]
     for pair in pairs:
-        said = call(pair["bad"].encode(), "run")
-        assert said == (3, pair["refusal"].encode() + b"\n"), (pair["bad"], said)
+        for command in ("check", "run"):
+            said = call(pair["bad"].encode(), command)
+            assert said == (3, pair["refusal"].encode() + b"\n"), (pair["bad"], command, said)
+        said = call(pair["good"].encode(), "check")
+        assert said == (0, b"accepted\n"), (pair["good"], "check", said)
         said = call(pair["good"].encode(), "run")
         assert said == (0, pair["line"].encode() + b"\n"), (pair["good"], said)
     return len(pairs)

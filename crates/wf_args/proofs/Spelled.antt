@@ -8,7 +8,7 @@ use Rattle.std.proofs.lemmas.List.Folds.{list_all-append}
 use Rattle.std.proofs.lemmas.List.Sums.{sum_by-append}
 use Rattle.std.proofs.lemmas.Slice.Eq.{bytes_eq-Decides}
 use Rattle.wf_args.specs.declared.command.Command.{Command}
-use Rattle.wf_args.specs.declared.command.Command.TheVariants.{Format, Run, Resume, Help, Version}
+use Rattle.wf_args.specs.declared.command.Command.TheVariants.{Check, Format, Run, Resume, Help, Version}
 use Rattle.wf_args.specs.declared.option.OptionName.{OptionName}
 use Rattle.wf_args.specs.Lines.{PlainLine, commands, command_of, command_word, name_of, name_word, options_of, most, is_word, same_name, count, is_complete, next_name, options_at, options_in, line_of}
 use Rattle.wf_args.specs.Laws.{spelling, IsLine, LinesAreSpelled}
@@ -82,6 +82,7 @@ reads_line c words ok = line_by c words (options_at c 1 [] words) refl ok
 
 -- a command's word names it
 command_of_word : (c : Command) → command_of (command_word c) ≡ Some c
+command_of_word Check = refl
 command_of_word Format = refl
 command_of_word Run = refl
 command_of_word Resume = refl

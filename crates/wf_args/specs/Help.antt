@@ -29,6 +29,7 @@ line text = text ++ codes "\n"
 unfoldable pub help : List ℕ
 help =
     line (codes "workflow COMMAND [--OPTION WORD ..]")
+    ++ line (codes "check      tells whether a program is accepted: --source PATH")
     ++ line (codes "format     prints the tree of a source: --source PATH")
     ++ line (codes "run        starts an execution: --source PATH, --journal PATH, --id ID")
     ++ line (codes "resume     goes on with an execution: --journal PATH")

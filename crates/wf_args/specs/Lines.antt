@@ -4,7 +4,7 @@ use Rattle.std.specs.List.{list_all, list_any, cons_option}
 use Rattle.std.specs.Option.{option_map_or}
 use Rattle.std.specs.declared.alloc.Global.{Global}
 use Rattle.wf_args.specs.declared.command.Command.{Command}
-use Rattle.wf_args.specs.declared.command.Command.TheVariants.{Format, Run, Resume, Help, Version}
+use Rattle.wf_args.specs.declared.command.Command.TheVariants.{Check, Format, Run, Resume, Help, Version}
 use Rattle.wf_args.specs.declared.option.OptionName.{OptionName}
 use Rattle.wf_args.specs.declared.option.OptionName.TheVariants.{Source, Journal, Id}
 
@@ -21,9 +21,10 @@ pub record PlainLine : Type 0 where
 
 -- the commands, and the word of each
 abbrev pub commands : List Command
-commands = Format ∷ Run ∷ Resume ∷ Help ∷ Version ∷ []
+commands = Check ∷ Format ∷ Run ∷ Resume ∷ Help ∷ Version ∷ []
 
 abbrev pub command_word : Command → List ℕ
+command_word Check = codes "check"
 command_word Format = codes "format"
 command_word Run = codes "run"
 command_word Resume = codes "resume"
@@ -41,6 +42,7 @@ name_word Id = codes "--id"
 
 -- the options that a command takes
 abbrev pub options_of : Command → List OptionName
+options_of Check = Source ∷ []
 options_of Format = Source ∷ []
 options_of Run = Source ∷ Journal ∷ Id ∷ []
 options_of Resume = Journal ∷ []

@@ -1,7 +1,7 @@
 -- Lines carried out by the check.
 use Rattle.std.specs.Prelude.{◌≡◌, ℕ, List, [], ◌∷◌, Ok, Err, codes}
 use Rattle.wf_args.specs.declared.command.Command.{Command}
-use Rattle.wf_args.specs.declared.command.Command.TheVariants.{Run, Resume, Help}
+use Rattle.wf_args.specs.declared.command.Command.TheVariants.{Check, Run, Resume, Help}
 use Rattle.wf_args.specs.declared.option.OptionName.{OptionName}
 use Rattle.wf_args.specs.declared.option.OptionName.TheVariants.{Source, Journal}
 use Rattle.wf_args.specs.Lines.{line_of}
@@ -15,6 +15,8 @@ abbrev pub IsBadAt : List (List ℕ) → ℕ → Type 0
 IsBadAt words n = line_of words ≡ Err n
 
 pub record WorkedLines : Type 0 where
+  pub check : IsLineOf (codes "check" ∷ codes "--source" ∷ codes "s" ∷ []) Check ((Source, codes "s") ∷ [])
+  pub check_without_a_journal : IsBadAt (codes "check" ∷ codes "--journal" ∷ codes "j" ∷ []) 1
   pub run : IsLineOf (codes "run" ∷ []) Run []
   pub any_order : IsLineOf (codes "run" ∷ codes "--journal" ∷ codes "j" ∷ codes "--source" ∷ codes "s" ∷ []) Run ((Journal, codes "j") ∷ (Source, codes "s") ∷ [])
   pub resume_from_memory : IsLineOf (codes "resume" ∷ []) Resume []

@@ -8,6 +8,8 @@ use crate::option::OptionName;
 /// What a command does.
 #[derive(Debug, Clone, Copy, PartialEq, Eq)]
 pub enum Command {
+    /// Tells whether the checker accepts a source: the word `check`.
+    Check,
     /// Prints the tree of a source in one layout: the word `format`.
     Format,
     /// Starts an execution and goes on with it: the word `run`.
@@ -26,6 +28,7 @@ impl Command {
         ensures { result ≡ command_of word.now }
     {
         match word {
+            "check" => Some(Command::Check),
             "format" => Some(Command::Format),
             "run" => Some(Command::Run),
             "resume" => Some(Command::Resume),
@@ -40,7 +43,7 @@ impl Command {
         ensures { result ≡ list_any (same_name name) (options_of self) }
     {
         match self {
-            Command::Format => matches!(name, OptionName::Source),
+            Command::Check | Command::Format => matches!(name, OptionName::Source),
             Command::Run => matches!(
                 name,
                 OptionName::Source | OptionName::Journal | OptionName::Id

@@ -9,6 +9,7 @@ pub fn help_text() -> &'static str
     ensures lists { IsHelp result.now }
 {
     "workflow COMMAND [--OPTION WORD ..]\n\
+     check      tells whether a program is accepted: --source PATH\n\
      format     prints the tree of a source: --source PATH\n\
      run        starts an execution: --source PATH, --journal PATH, --id ID\n\
      resume     goes on with an execution: --journal PATH\n\

@@ -2,12 +2,12 @@
 use Rattle.std.proofs.Common.{◌≡◌, ◌<◌, inl, inr, IsTrue, ℕ, Bool, true, false, List, Option, None, Some, Result, Ok, Err, refl, sym, ◌∙◌, ap, subst, arith}
 use Rattle.wf_cli.specs.Top.{IsLineOf, IsBadLine, IsRefused, HasOtherMagic, IsStarted, IsNotStarted, IsNoHistory, Reported, Gives, IsOfFile, Says, bad_line, refused, reported, of_file}
 use Rattle.wf_engine.specs.Printed as end
-use Rattle.wf_engine.specs.Printed.{Scene, uses_source, uses_journal, executes, status_of, outcome_text}
+use Rattle.wf_engine.specs.Printed.{Scene, uses_source, uses_journal, executes, status_of}
 use Rattle.wf_engine.specs.TheLanguage.{the_language}
 use Rattle.wf_host.specs.World.{World}
 use Rattle.wf_args.specs.Lines.{PlainLine, line_of}
 use Rattle.wf_args.specs.declared.command.Command.{Command}
-use Rattle.wf_args.specs.declared.command.Command.TheVariants.{Format, Run, Resume, Help, Version}
+use Rattle.wf_args.specs.declared.command.Command.TheVariants.{Check, Format, Run, Resume, Help, Version}
 use Rattle.wf_model.specs.Config.{Outcome, Active, Returned, Raised, Cancelled}
 use Rattle.wf_journal_laws.specs.Language.{Language}
 use Rattle.wf_status.specs.Statuses.{rank, status_text}
@@ -53,6 +53,7 @@ pub no_bad_line : (s : Scene) (P : Command → Type 0) (n : ℕ) → IsLineOf s 
 no_bad_line s P n (l, is, p) bad = not_both (line_of s.words) l n is bad
 
 pub journal_executes : (c : Command) → uses_journal c ≡ true → executes c ≡ true
+journal_executes Check is = let no : false ≡ true = is in cc no
 journal_executes Format is = let no : false ≡ true = is in cc no
 journal_executes Run is = refl
 journal_executes Resume is = refl
@@ -74,10 +75,14 @@ run_executes s line = line_is s (λ c. c ≡ Run) (λ c. executes c ≡ true) (�
 pub resume_executes : (s : Scene) → IsLineOf s (λ c. c ≡ Resume) → IsLineOf s (λ c. executes c ≡ true)
 resume_executes s line = line_is s (λ c. c ≡ Resume) (λ c. executes c ≡ true) (λ c is. ap executes is) line
 
+pub check_reports : (s : Scene) → IsLineOf s (λ c. c ≡ Check) → IsLineOf s (λ c. executes c ≡ false)
+check_reports s line = line_is s (λ c. c ≡ Check) (λ c. executes c ≡ false) (λ c is. ap executes is) line
+
 pub format_reports : (s : Scene) → IsLineOf s (λ c. c ≡ Format) → IsLineOf s (λ c. executes c ≡ false)
 format_reports s line = line_is s (λ c. c ≡ Format) (λ c. executes c ≡ false) (λ c is. ap executes is) line
 
 pub reported_line : (s : Scene) (text : List ℕ) → Reported s text → IsLineOf s (λ c. executes c ≡ false)
+reported_line s _ (end.accepted (l, bytes, p, (is, uses, first), command, source)) = (l, is, ap executes command)
 reported_line s text (end.formatted l bytes text2 (is, uses, first) command laid) = (l, is, ap executes command)
 reported_line s _ (end.helped line) = line_is s (λ c. c ≡ Help) (λ c. executes c ≡ false) (λ c is. ap executes is) line
 reported_line s _ (end.versioned line) = line_is s (λ c. c ≡ Version) (λ c. executes c ≡ false) (λ c is. ap executes is) line
@@ -85,11 +90,12 @@ reported_line s _ (end.versioned line) = line_is s (λ c. c ≡ Version) (λ c. 
 pub refused_line : (s : Scene) (r : Refusal) → IsRefused s r → IsLineOf s (λ c. uses_source c ≡ true)
 refused_line s r (l, bytes, (is, uses, first), why) = (l, is, uses)
 
--- no line is of two commands
+-- a line is of one command
+pub one_command : (s : Scene) (c d : Command) → IsLineOf s (λ x. x ≡ c) → IsLineOf s (λ x. x ≡ d) → c ≡ d
+one_command s c d a b = let it = both s (λ x. x ≡ c) (λ x. x ≡ d) a b in sym it.1 ∙ it.2
+
 pub not_run_and_resume : (s : Scene) → IsLineOf s (λ c. c ≡ Run) → IsLineOf s (λ c. c ≡ Resume) → ⊥
-not_run_and_resume s a b =
-    let it = both s (λ c. c ≡ Run) (λ c. c ≡ Resume) a b in
-    let no : Run ≡ Resume = sym it.1 ∙ it.2 in cc no
+not_run_and_resume s a b = let no : Run ≡ Resume = one_command s Run Resume a b in cc no
 
 -- ## The cause of a status that prints a line
 abbrev pub Cause : Language → Scene → Status → Type 0

@@ -26,8 +26,8 @@ use Rattle.wf_host.specs.World.{World, Faults, Told, LeavesOnly, NoneFell, Rose}
 use Rattle.wf_host.specs.declared.data.Deed.{Deed}
 use Rattle.wf_host.specs.declared.data.Deed.TheVariants.{Print}
 use Rattle.wf_host.specs.Printing as printing
-use Rattle.wf_host.specs.Printing.{PrintFront, PrintsFront, PrintedSoFar}
-use Rattle.wf_journal_laws.specs.Language.{Language}
+use Rattle.wf_host.specs.Printing.{PrintsFront, PrintedSoFar}
+use Rattle.wf_replay.specs.Language.{Language}
 use Rattle.wf_status.specs.Statuses.{status_code}
 use Rattle.wf_status.specs.declared.Refusal.{Refusal}
 use Rattle.wf_status.specs.declared.Status.{Status}
@@ -202,20 +202,20 @@ module _ (x : Call) (mid : World) (r : Result Said Silence) (w : Worked x.scene 
     p.seen ∙ seen,
   )
 
+  only_prints : mid.deeds ≡ x.old.deeds → PrintsFront mid x.new (text_of r) → (D : List Deed) × (x.new.deeds ≡ x.old.deeds ++ D) × AllByRecursion IsPrint D
+  only_prints none (P, is, (all, front)) = (P, is ∙ ap (λ l. l ++ P) none, all_prints P all)
+
   pub finished_stays : FinishedStays the_language x
   finished_stays st line is ended =
       let it = w.finished st line is ended in
       (unwritten it.0, only_prints it.1 p.printed)
-    where
-      only_prints : mid.deeds ≡ x.old.deeds → PrintsFront mid x.new (text_of r) → (D : List Deed) × (x.new.deeds ≡ x.old.deeds ++ D) × AllByRecursion IsPrint D
-      only_prints none (P, is, (all, front)) = (P, is ∙ ap (λ l. l ++ P) none, all_prints P all)
 
   pub refused_stays : RefusedStays the_language x
   refused_stays why = unwritten (w.refused why)
 
   -- a line that may write, and why none may
   pub reports_stay : ReportsStay x
-  reports_stay line = ⊎_elim unwritten (λ may. absurd (executing x.scene may.0 line)) w.writes
+  reports_stay line = (⊎_elim unwritten (λ may. absurd (executing x.scene may.0 line)) w.writes, only_prints (w.idle line) p.printed)
 
   pub silent_stays : SilentStays x
   silent_stays = record {

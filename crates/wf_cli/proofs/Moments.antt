@@ -11,7 +11,7 @@ use Rattle.wf_deeds.specs.Clauses.{IsOfSession}
 use Rattle.wf_deeds.specs.Deeds.{nows, printed, IsSmall}
 use Rattle.wf_engine.specs.Engine.{memory, KeptAt}
 use Rattle.wf_deeds.specs.Kept as kept
-use Rattle.wf_deeds.specs.Kept.{Session, Kept, Place, ReadingsAreOfTheClock, own}
+use Rattle.wf_deeds.specs.Kept.{Kept, own}
 use Rattle.wf_deeds.specs.Laws.{OnlyReadings}
 use Rattle.wf_deeds.specs.Outside.{Outside}
 use Rattle.wf_engine.specs.Printed.{Scene, Reads}

@@ -2,7 +2,7 @@
 use Rattle.std.proofs.Common.{◌≡◌, ◌≤◌, ℕ, Result, ◌∙◌}
 use Rattle.wf_cli.proofs.Completes.{completes}
 use Rattle.wf_cli.proofs.Finish.{ends, safe_throughout, safe_at_end, late_at_end, finished_stays, refused_stays, reports_stay, silent_stays}
-use Rattle.wf_cli.proofs.Rows.{bad_line_row, read_fault_row, refused_row, disk_fault_row, not_a_journal_row, already_started_row, not_started_row, not_a_history_row, outcome_row, done_row, comes_back_row, print_fault_row, only_these, own_status}
+use Rattle.wf_cli.proofs.Rows.{bad_line_row, read_fault_row, refused_row, disk_fault_row, not_a_journal_row, already_started_row, not_started_row, not_a_history_row, outcome_row, done_row, accepted_row, comes_back_row, print_fault_row, only_these, own_status}
 use Rattle.wf_cli.specs.Promises.{Promised}
 use Rattle.wf_cli.specs.Said.{IsEnd, Worked, Tells, Printing, text_of}
 use Rattle.wf_cli.specs.Top.{Call, Ends}
@@ -11,19 +11,19 @@ use Rattle.wf_cli.specs.declared.end.Silence.{Silence}
 use Rattle.wf_deeds.specs.Laws.{OnlyReadings}
 use Rattle.wf_host.specs.Moments.{CountsNow}
 use Rattle.wf_host.specs.World.{World, Faults, Told, NoneFell}
-use Rattle.wf_source.specs.Laws.{OneRefusal}
+use Rattle.wf_source.specs.Laws.{OneRefusal, NotBoth}
 
 -- from the work of the command and the printing of what it says
 pub promised : (x : Call) (mid : World) (reads2 : ℕ) (faults2 : Faults) (r : Result Said Silence) → IsEnd x.scene x.old mid x.reads_old reads2 x.faults_old faults2 r → Told x.old (Worked x.scene x.old mid r)
     → Tells r mid x.new faults2 x.faults_new x.status → Told mid (Printing (text_of r) mid x.new) → mid.tells ≡ x.old.tells → reads2 ≤ x.reads_new → NoneFell x.faults_old faults2 → NoneFell faults2 x.faults_new
-    → Told x.old (CountsNow mid) → Told x.old (CountsNow x.new) → OnlyReadings → OneRefusal → Promised x
-promised x mid reads2 faults2 r is worked tells printing same reads before after counts_mid counts_new law once =
+    → Told x.old (CountsNow mid) → Told x.old (CountsNow x.new) → OnlyReadings → OneRefusal → NotBoth → Promised x
+promised x mid reads2 faults2 r is worked tells printing same reads before after counts_mid counts_new law once apart =
     let all : Ends x = ends x mid reads2 faults2 same r is (λ told. (worked told).little) tells (λ told. (printing (same ∙ told)).seen) reads before after in
     record {
       ends = all;
       bad_line = bad_line_row x all;
       read_fault = read_fault_row x all;
-      refused = refused_row once x all;
+      refused = refused_row once apart x all;
       disk_fault = disk_fault_row x all;
       not_a_journal = λ told. not_a_journal_row x told all;
       already_started = λ told. already_started_row x told all;
@@ -31,6 +31,7 @@ promised x mid reads2 faults2 r is worked tells printing same reads before after
       not_a_history = λ told. not_a_history_row x told all;
       outcome = λ told. outcome_row x told all;
       done = done_row x all;
+      accepted = accepted_row x all;
       comes_back = comes_back_row x all;
       print_fault = print_fault_row x all;
       only = only_these x all;

@@ -1,19 +1,19 @@
 -- The rows of the statuses, each from how the call ended.
 use Rattle.std.proofs.Common.{◌≡◌, ◌<◌, ◌⊎◌, inl, inr, ⊎_elim, IsTrue, ℕ, Bool, true, false, List, ◌++◌, None, Some, refl, sym, ◌∙◌, ap, subst, arith}
 use Rattle.std.specs.Prelude.{codes, decimal}
-use Rattle.wf_cli.proofs.Causes.{same_ok, same_some, no_bad_line, executing, journal_executes, format_reports, line_is, run_executes, resume_executes, reported_line, Cause, says_cause, says_text, EarlyCause, says_early, text_early, not_said}
+use Rattle.wf_cli.proofs.Causes.{same_ok, same_some, no_bad_line, one_command, executing, journal_executes, check_reports, format_reports, line_is, run_executes, resume_executes, reported_line, Cause, says_cause, says_text, EarlyCause, says_early, text_early, not_said}
 use Rattle.wf_cli.proofs.Together.{IsOrBefore, where_bad_line, where_told, when_told, where_refused, where_of_file, where_no_history, at_magic, at_started, at_not_started}
-use Rattle.wf_cli.specs.Top.{Call, IsLineOf, IsRefused, HasOutcome, Reported, Gives, IsAccepted, IsOfFile, ComesBack, Says, bad_line, refused, reported, of_file, Ends, said, cut, unread, failed, no_memory, Prints, IsOrYields, Exactly, BadLineRow, ReadFaultRow, RefusedRow, DiskFaultRow, NotAJournalRow, AlreadyStartedRow, NotStartedRow, NotAHistoryRow, OutcomeRow, DoneRow, ComesBackRow, PrintFaultRow, OnlyThese}
+use Rattle.wf_cli.specs.Top.{Call, IsLineOf, IsRefused, IsChecked, HasOutcome, Reported, Gives, IsAccepted, IsOfFile, ComesBack, Says, bad_line, refused, reported, of_file, Ends, said, cut, unread, failed, no_memory, Prints, IsOrYields, Exactly, BadLineRow, ReadFaultRow, RefusedRow, DiskFaultRow, NotAJournalRow, AlreadyStartedRow, NotStartedRow, NotAHistoryRow, OutcomeRow, DoneRow, AcceptedRow, ComesBackRow, PrintFaultRow, OnlyThese}
 use Rattle.wf_engine.specs.Printed as end
-use Rattle.wf_engine.specs.Printed.{Scene, uses_source, uses_journal, executes, status_of, outcome_text}
+use Rattle.wf_engine.specs.Printed.{Scene, uses_source, uses_journal, executes, status_of, outcome_text, accepted_text}
 use Rattle.wf_engine.specs.TheLanguage.{the_language}
 use Rattle.wf_host.specs.World.{World}
 use Rattle.wf_journal.specs.Records.{records}
-use Rattle.wf_args.specs.declared.command.Command.TheVariants.{Format}
+use Rattle.wf_args.specs.declared.command.Command.TheVariants.{Check, Format, Help, Version}
 use Rattle.wf_model.specs.Config.{Outcome, Active, Returned, Raised, Cancelled}
-use Rattle.wf_journal_laws.specs.History.{Standing, history}
-use Rattle.wf_journal_laws.specs.Language.{Language}
-use Rattle.wf_source.specs.Laws.{OneRefusal}
+use Rattle.wf_replay.specs.History.{Standing, history}
+use Rattle.wf_replay.specs.Language.{Language}
+use Rattle.wf_source.specs.Laws.{OneRefusal, NotBoth}
 use Rattle.wf_status.specs.Refusals.{refusal_text}
 use Rattle.wf_status.specs.Statuses.{line_end, rank, status_text}
 use Rattle.wf_status.specs.declared.Refusal.{Refusal}
@@ -86,13 +86,13 @@ bad_line_row x ends n =
       prints = λ is. line_early x line (subst (λ s. rank s < 5) (sym is) (omega arith)) ends (texted_as x (status.BadLine n) line refl is);
     }
 
-pub refused_row : OneRefusal → (x : Call) → Ends x → RefusedRow x
-refused_row law x ends =
+pub refused_row : OneRefusal → NotBoth → (x : Call) → Ends x → RefusedRow x
+refused_row law apart x ends =
     where_told x.scene.source _ (λ left told r.
     let line = line_end (refusal_text r) in
     record {
       comes = λ is. subst (EarlyCause x.scene) is (cause_early x line (subst (λ s. rank s < 5) (sym is) (omega arith)) ends (texted_as x (status.Refused r) line refl is));
-      only = λ why. yields x (status.Refused r) ends (λ other text says. where_refused law x.scene x.old x.new left r other text told why says) (λ run. omega arith)
+      only = λ why. yields x (status.Refused r) ends (λ other text says. where_refused law apart x.scene x.old x.new left r other text told why says) (λ run. omega arith)
           (λ runs accepted. absurd (when_told x.scene.source left ((q : Refusal) → ¬ IsRefused x.scene q) told accepted r why));
       prints = λ is. line_early x line (subst (λ s. rank s < 5) (sym is) (omega arith)) ends (texted_as x (status.Refused r) line refl is);
     })
@@ -292,6 +292,23 @@ pub done_row : (x : Call) → Ends x → DoneRow x
 done_row x ends = record {
   comes = λ line is. done_comes x ends line is;
   only = λ shown report. yields x status.Done ends (λ other text says. where_reported x.scene x.old x.new shown other text report says) (λ run. omega arith) (λ runs accepted. omega arith);
+}
+
+-- ## Sources that are accepted
+-- what `check` reports
+checked_of_report : (s : Scene) (text : List ℕ) → IsLineOf s (λ c. c ≡ Check) → Reported s text → IsChecked s × (text ≡ accepted_text)
+checked_of_report s _ line (end.accepted checked) = (checked, refl)
+checked_of_report s text line (end.formatted l bytes text2 (is, uses, first) command laid) = let no : Check ≡ Format = one_command s Check Format line (l, is, command) in absurd (cc no)
+checked_of_report s _ line (end.helped other) = let no : Check ≡ Help = one_command s Check Help line other in absurd (cc no)
+checked_of_report s _ line (end.versioned other) = let no : Check ≡ Version = one_command s Check Version line other in absurd (cc no)
+
+pub accepted_row : (x : Call) → Ends x → AcceptedRow x
+accepted_row x ends = record {
+  comes = λ line is.
+      let done = done_comes x ends (check_reports x.scene line) is in
+      let it = checked_of_report x.scene done.0 line done.1 in
+      (it.0, subst (λ t. Prints x t) it.1 done.2);
+  only = λ checked. (done_row x ends).only accepted_text (end.accepted checked);
 }
 
 -- ## Layouts

@@ -5,21 +5,21 @@ use Rattle.wf_cli.proofs.Causes.{same_ok, same_err, both, no_bad_line, executing
 use Rattle.wf_cli.specs.Reports.{layout_of, the_reports}
 use Rattle.wf_cli.specs.Top.{IsLineOf, IsBadLine, IsRefused, IsNoHistory, Reported, Gives, IsOfFile, IsPassed, Says, bad_line, refused, reported, of_file}
 use Rattle.wf_engine.specs.Printed as end
-use Rattle.wf_engine.specs.Printed.{Scene, uses_journal, uses_source, executes, refuses}
+use Rattle.wf_engine.specs.Printed.{Scene, uses_source, executes, refuses}
 use Rattle.wf_engine.specs.TheLanguage.{the_language}
 use Rattle.wf_host.specs.Source.{Rest, IsFirst, WhereTold}
 use Rattle.wf_host.specs.World.{World}
 use Rattle.wf_journal.specs.Records.{records}
 use Rattle.wf_args.specs.Lines.{PlainLine, line_of}
 use Rattle.wf_args.specs.declared.command.Command.{Command}
-use Rattle.wf_args.specs.declared.command.Command.TheVariants.{Format, Run, Resume, Help, Version}
-use Rattle.wf_journal_laws.specs.History.{history}
-use Rattle.wf_journal_laws.specs.Language.{Language}
+use Rattle.wf_args.specs.declared.command.Command.TheVariants.{Check, Format, Run, Resume, Help, Version}
+use Rattle.wf_replay.specs.History.{history}
+use Rattle.wf_replay.specs.Language.{Language}
 use Rattle.wf_status.specs.Statuses.{rank}
 use Rattle.wf_status.specs.declared.Refusal.{Refusal}
 use Rattle.wf_status.specs.declared.Status.{Status}
 use Rattle.wf_status.specs.declared.Status.TheVariants as status
-use Rattle.wf_source.specs.Laws.{OneRefusal}
+use Rattle.wf_source.specs.Laws.{OneRefusal, NotBoth}
 use Rattle.wf_source.specs.Sources.{read_tree}
 use Rattle.wf_tree.specs.Trees.{Tree}
 
@@ -46,8 +46,9 @@ where_told (Some left) P f = f left refl
 pub when_told : (source : Rest) (left : List ℕ) (P : Type 0) → source ≡ Some left → WhereTold source P → P
 when_told source left P told is = subst (λ r. WhereTold r P) told is
 
--- a command that refuses uses the source, and `run` refuses by its law
+-- a command that refuses uses the source, and `check` and `run` refuse by the law of programs
 refuses_once : OneRefusal → (c : Command) (bytes : List ℕ) (q r : Refusal) → refuses c bytes q → refuses c bytes r → q ≡ r
+refuses_once law Check bytes q r is js = law bytes q r is js
 refuses_once law Format bytes q r is js = same_err (read_tree bytes) q r is js
 refuses_once law Run bytes q r is js = law bytes q r is js
 refuses_once law Resume bytes q r is js = absurd is
@@ -74,20 +75,25 @@ no_source s r c none why line =
     let it = both s (λ d. uses_source d ≡ true) (λ d. d ≡ c) (refused_line s r why) line in
     let no : true ≡ false = sym it.1 ∙ ap uses_source it.2 ∙ none in cc no
 
-refused_or_reported : (s : Scene) (left : List ℕ) (r : Refusal) (text : List ℕ) → s.source ≡ Some left → IsRefused s r → Reported s text → ⊥
-refused_or_reported s left r text told (l, bytes, (is, uses, first), why) (end.formatted m bytes2 text2 (is2, uses2, first2) command laid) =
+refused_or_reported : NotBoth → (s : Scene) (left : List ℕ) (r : Refusal) (text : List ℕ) → s.source ≡ Some left → IsRefused s r → Reported s text → ⊥
+refused_or_reported apart s left r _ told (l, bytes, (is, uses, first), why) (end.accepted (m, bytes2, p, (is2, uses2, first2), command, source)) =
+    let line : l ≡ m = same_ok (line_of s.words) l m is is2 in
+    let here : refuses Check bytes2 r =
+    subst (λ b. refuses Check b r) (same_bytes s.source left bytes bytes2 told first first2) (subst (λ c. refuses c bytes r) (ap (λ (k : PlainLine). k.command) line ∙ command) why) in
+    apart bytes2 p r source here
+refused_or_reported apart s left r text told (l, bytes, (is, uses, first), why) (end.formatted m bytes2 text2 (is2, uses2, first2) command laid) =
     let line : l ≡ m = same_ok (line_of s.words) l m is is2 in
     let here : refuses Format bytes2 r =
     subst (λ b. refuses Format b r) (same_bytes s.source left bytes bytes2 told first first2) (subst (λ c. refuses c bytes r) (ap (λ (k : PlainLine). k.command) line ∙ command) why) in
     laid_or_refused bytes2 text r here laid
-refused_or_reported s left r _ told why (end.helped line) = no_source s r Help refl why line
-refused_or_reported s left r _ told why (end.versioned line) = no_source s r Version refl why line
+refused_or_reported apart s left r _ told why (end.helped line) = no_source s r Help refl why line
+refused_or_reported apart s left r _ told why (end.versioned line) = no_source s r Version refl why line
 
-pub where_refused : OneRefusal → (s : Scene) (old new : World) (left : List ℕ) (r : Refusal) (other : Status) (text : List ℕ) → s.source ≡ Some left → IsRefused s r → Says s old new other text → IsOrBefore (status.Refused r) other
-where_refused law s old new left r _ _ told why (bad_line m is) = inr (omega arith)
-where_refused law s old new left r _ _ told why (refused q why2) = inl (ap status.Refused (one_refusal law s left q r told why2 why))
-where_refused law s old new left r _ _ told why (reported text report back) = absurd (refused_or_reported s left r text told why report)
-where_refused law s old new left r _ _ told why (of_file st text is line accepted gives) =
+pub where_refused : OneRefusal → NotBoth → (s : Scene) (old new : World) (left : List ℕ) (r : Refusal) (other : Status) (text : List ℕ) → s.source ≡ Some left → IsRefused s r → Says s old new other text → IsOrBefore (status.Refused r) other
+where_refused law apart s old new left r _ _ told why (bad_line m is) = inr (omega arith)
+where_refused law apart s old new left r _ _ told why (refused q why2) = inl (ap status.Refused (one_refusal law s left q r told why2 why))
+where_refused law apart s old new left r _ _ told why (reported text report back) = absurd (refused_or_reported apart s left r text told why report)
+where_refused law apart s old new left r _ _ told why (of_file st text is line accepted gives) =
     absurd (when_told s.source left ((q : Refusal) → ¬ IsRefused s q) told accepted r why)
 
 -- ## A cause of the file

@@ -1,5 +1,5 @@
 -- What a command has done, from the opening of its file and the way to the outcome.
-use Rattle.std.proofs.Common.{◌≡◌, ◌⊎◌, ◌≢◌, inl, inr, ⊎_elim, ℕ, true, false, List, [], ◌++◌, None, Some, Result, Ok, Err, IfOk, IsErr, IsErrAnd, refl, sym, ◌∙◌, ap, subst, arith}
+use Rattle.std.proofs.Common.{◌≡◌, ◌⊎◌, ◌≢◌, inl, inr, ⊎_elim, ℕ, Bool, true, false, List, [], ◌++◌, None, Some, Result, Ok, Err, IfOk, IsErr, IsErrAnd, refl, sym, ◌∙◌, ap, subst, arith}
 use Rattle.std.specs.Prelude.{codes, decimal}
 use Rattle.std.proofs.lemmas.List.{append-nil}
 use Rattle.wf_ast.specs.Tree.{Program}
@@ -8,15 +8,15 @@ use Rattle.wf_cli.proofs.Together.{where_told, same_bytes}
 use Rattle.wf_cli.proofs.Moments.{early_nothing, late_going, safe_late}
 use Rattle.wf_cli.proofs.Opens.{passed_all}
 use Rattle.wf_cli.specs.Reports.{layout_of, the_reports}
-use Rattle.wf_cli.specs.Said.{SaysStatus, SaysFault, SaysReport, SaysBadLine, SaysSource, SaysTree, SaysLayout, DidLittle, SafeSince, LateNow, Unwritten, FaultHolds, Opening, SaysResult, SaysHistory, Going, IsEnd, Worked}
-use Rattle.wf_cli.specs.Top.{IsLineOf, IsBadLine, IsRefused, HasOtherMagic, IsStarted, IsNotStarted, IsNoHistory, Reported, IsAccepted, IsOfFile, IsPassed, HasNoCauseInFile, IsBehindSync, Gives, ReadsBack, Says, bad_line, refused, reported, of_file}
+use Rattle.wf_cli.specs.Said.{SaysStatus, SaysFault, SaysReport, SaysBadLine, SaysSource, SaysTree, SaysLayout, SaysVerdict, SaysChecked, DidLittle, SafeSince, LateNow, Unwritten, FaultHolds, Opening, SaysResult, SaysHistory, Going, IsEnd, Worked}
+use Rattle.wf_cli.specs.Top.{IsLineOf, IsBadLine, IsRefused, IsChecked, HasOtherMagic, IsStarted, IsNotStarted, IsNoHistory, Reported, IsAccepted, IsOfFile, IsPassed, HasNoCauseInFile, IsBehindSync, Gives, ReadsBack, Says, bad_line, refused, reported, of_file}
 use Rattle.wf_cli.specs.declared.end.Said.{Said}
 use Rattle.wf_cli.specs.declared.end.Silence.{Silence}
 use Rattle.wf_cli.specs.declared.end.Silence.TheVariants as silence
 use Rattle.wf_engine.specs.Engine.{memory, KeptAt}
 use Rattle.wf_deeds.specs.Kept as kept
 use Rattle.wf_engine.specs.Printed as end
-use Rattle.wf_engine.specs.Printed.{Scene, uses_source, executes, status_of, outcome_text}
+use Rattle.wf_engine.specs.Printed.{Scene, uses_source, executes, status_of, accepted_text}
 use Rattle.wf_engine.specs.Safe.{IsFit, SafeAt}
 use Rattle.wf_engine.specs.TheLanguage.{the_language}
 use Rattle.wf_engine.specs.declared.engine.Engine.{Engine}
@@ -31,7 +31,7 @@ use Rattle.wf_journal.specs.Steps.{Moment}
 use Rattle.wf_args.specs.Help.{help, version}
 use Rattle.wf_args.specs.Lines.{PlainLine, line_of}
 use Rattle.wf_args.specs.declared.command.Command.{Command}
-use Rattle.wf_args.specs.declared.command.Command.TheVariants.{Format, Run, Resume, Help, Version}
+use Rattle.wf_args.specs.declared.command.Command.TheVariants.{Check, Format, Run, Resume, Help, Version}
 use Rattle.wf_args.specs.declared.read.LineFault.{LineFault}
 use Rattle.wf_args.specs.declared.read.LineFault.TheVariants as words
 use Rattle.wf_model.specs.Config.{Outcome, Active, Returned, Raised, Cancelled}
@@ -77,6 +77,7 @@ worked_nothing s w r little only gives early = record {
   finished = λ st line is ended. (still_unwritten w only, refl);
   refused = λ why. still_unwritten w only;
   writes = inl (still_unwritten w only);
+  idle = λ line. refl;
 }
   where
     every : (q : Result Said Silence) → IfOk q (λ it. (image : List ℕ) → Gives the_language s image it.status it.text.items) → IfOk q (λ it. (image : List ℕ) → w.may_leave image → Gives the_language s image it.status it.text.items)
@@ -183,6 +184,7 @@ worked_fault s command old new why r o says line accepted which = record {
   finished = λ st line2 is ended. (o.resumed (which line2), o.finished st line2 is ended);
   refused = o.refused;
   writes = inr (line, accepted);
+  idle = λ none. absurd (executing s line none);
 }
   where
     given : (q : Result Said Silence) → SaysFault why q → IfOk q (λ it. (image : List ℕ) → new.may_leave image → Gives the_language s image it.status it.text.items)
@@ -249,6 +251,7 @@ module _ (s : Scene) (command : kept.Command) (old mid new : World) (e : Engine)
         (both_unwritten stays (g.finished (had_outcome st is ended stays)), deeds ∙ o.finished st line2 is ended);
     refused = λ why. absurd (no_cause why);
     writes = inr (line, accepted);
+    idle = λ none. absurd (executing s line none);
   }
 
 pub end_going : (s : Scene) (old new : World) (a b : ℕ) (f g h : Faults) (r : Result Said Silence) → SaysResult g h r → IsLineOf s (λ c. executes c ≡ true) → IsAccepted s
@@ -300,9 +303,19 @@ refused_worked s w why it is says only = worked_nothing s w (Ok it) (little_stil
 pub silent_worked : (s : Scene) (w : World) (e : Silence) → OnlyNow w → Worked s w w (Err e)
 silent_worked s w e only = lack_worked s w e only
 
+-- a command that takes just programs
+abbrev pub TakesPrograms : Command → Type 0
+TakesPrograms c = (bytes : List ℕ) (why : Refusal) → IsRefusalOf bytes why → end.refuses c bytes why
+
+pub run_takes : (c : Command) → c ≡ Run → TakesPrograms c
+run_takes c is = λ bytes why no. subst (λ d. end.refuses d bytes why) (sym is) no
+
+pub check_takes : (c : Command) → c ≡ Check → TakesPrograms c
+check_takes c is = λ bytes why no. subst (λ d. end.refuses d bytes why) (sym is) no
+
 -- a refusal of bytes that were read
-pub is_refused : (s : Scene) (l : PlainLine) (bytes : List ℕ) (why : Refusal) → end.Reads s l bytes → l.command ≡ Run → IsRefusalOf bytes why → IsRefused s why
-is_refused s l bytes why reads command is = (l, bytes, reads, subst (λ c. end.refuses c bytes why) (sym command) is)
+pub is_refused : (s : Scene) (l : PlainLine) (bytes : List ℕ) (why : Refusal) → end.Reads s l bytes → TakesPrograms l.command → IsRefusalOf bytes why → IsRefused s why
+is_refused s l bytes why reads takes is = (l, bytes, reads, takes bytes why is)
 
 -- bytes that are accepted are no others that are refused
 pub is_accepted : NotBoth → (s : Scene) (l : PlainLine) (bytes : List ℕ) (p : Program) → end.Reads s l bytes → l.command ≡ Run → IsSourceOf bytes p → IsAccepted s
@@ -333,17 +346,51 @@ lacks_engine command s old new (Ok e) is all = let no : false ≡ true = is.0 in
 lacks_engine command s old new (Err f) is all = all f is.1
 
 -- what is said of a source that isn't taken
-pub source_end : (s : Scene) (l : PlainLine) (w : World) (a b : ℕ) (f g : Faults) (bytes : List ℕ) (fault : SourceFault) (r : Result Said Silence) → end.Reads s l bytes → l.command ≡ Run → TellsOf (IsRefusalOf bytes) fault → SaysSource fault r
+pub source_end : (s : Scene) (l : PlainLine) (w : World) (a b : ℕ) (f g : Faults) (bytes : List ℕ) (fault : SourceFault) (r : Result Said Silence) → end.Reads s l bytes → TakesPrograms l.command → TellsOf (IsRefusalOf bytes) fault → SaysSource fault r
     → IsEnd s w w a b f g r
-source_end s l w a b f g bytes (source_fault.Refused why) (Ok it) reads command tells says = end_refused s w w a b f g why it (is_refused s l bytes why reads command tells) says
-source_end s l w a b f g bytes (source_fault.Refused why) (Err e) reads command tells says = lack_end s w a b f g e says
-source_end s l w a b f g bytes source_fault.OutOfMemory r reads command tells says = subst (λ q. IsEnd s w w a b f g q) (sym says) tt
+source_end s l w a b f g bytes (source_fault.Refused why) (Ok it) reads takes tells says = end_refused s w w a b f g why it (is_refused s l bytes why reads takes tells) says
+source_end s l w a b f g bytes (source_fault.Refused why) (Err e) reads takes tells says = lack_end s w a b f g e says
+source_end s l w a b f g bytes source_fault.OutOfMemory r reads takes tells says = subst (λ q. IsEnd s w w a b f g q) (sym says) tt
 
-pub source_worked : (s : Scene) (l : PlainLine) (w : World) (bytes : List ℕ) (fault : SourceFault) (r : Result Said Silence) → end.Reads s l bytes → l.command ≡ Run → TellsOf (IsRefusalOf bytes) fault → SaysSource fault r
+pub source_worked : (s : Scene) (l : PlainLine) (w : World) (bytes : List ℕ) (fault : SourceFault) (r : Result Said Silence) → end.Reads s l bytes → TakesPrograms l.command → TellsOf (IsRefusalOf bytes) fault → SaysSource fault r
     → OnlyNow w → Worked s w w r
-source_worked s l w bytes (source_fault.Refused why) (Ok it) reads command tells says only = refused_worked s w why it (is_refused s l bytes why reads command tells) says only
-source_worked s l w bytes (source_fault.Refused why) (Err e) reads command tells says only = lack_worked s w e only
-source_worked s l w bytes source_fault.OutOfMemory r reads command tells says only = subst (λ q. Worked s w w q) (sym says) (lack_worked s w silence.OutOfMemory only)
+source_worked s l w bytes (source_fault.Refused why) (Ok it) reads takes tells says only = refused_worked s w why it (is_refused s l bytes why reads takes tells) says only
+source_worked s l w bytes (source_fault.Refused why) (Err e) reads takes tells says only = lack_worked s w e only
+source_worked s l w bytes source_fault.OutOfMemory r reads takes tells says only = subst (λ q. Worked s w w q) (sym says) (lack_worked s w silence.OutOfMemory only)
+
+-- a command that lays out a source
+abbrev pub lays_out : Command → Bool
+lays_out Format = true
+lays_out c = false
+
+-- a line of another command lays none out
+pub no_layout : (s : Scene) (l : PlainLine) (text : List ℕ) → line_of s.words ≡ Ok l → lays_out l.command ≡ false → ReadsBack s text
+no_layout s l text is none (m, js, format) =
+    let command : l.command ≡ Format = ap (λ (k : PlainLine). k.command) (same_ok (line_of s.words) l m is js) ∙ format in
+    let no : true ≡ false = sym (ap lays_out command) ∙ none in
+    absurd (cc no)
+
+-- ## A source that is checked
+-- what is said of it is a report or a refusal
+verdict_said : (s : Scene) (l : PlainLine) (bytes : List ℕ) (it : Said) → end.Reads s l bytes → l.command ≡ Check → SaysVerdict bytes it
+    → (IsChecked s × ((it.status ≡ status.Done) × (it.text.items ≡ accepted_text))) ⊎ ((why : Refusal) × IsRefused s why × SaysStatus (status.Refused why) it)
+verdict_said s l bytes it reads command (inl (p, is, done, text)) = inl ((l, bytes, p, reads, command, is), (done, text))
+verdict_said s l bytes it reads command (inr (why, is, says)) = inr (why, is_refused s l bytes why reads (check_takes l.command command) is, says)
+
+pub checked_end : (s : Scene) (l : PlainLine) (w : World) (a b : ℕ) (f g : Faults) (r : Result Said Silence) → line_of s.words ≡ Ok l → l.command ≡ Check → SaysChecked s.source a b r → IsEnd s w w a b f g r
+checked_end s l w a b f g (Ok it) is command (bytes, first, says) =
+    ⊎_elim (λ (checked, that). end_report s w w a b f g accepted_text it (end.accepted checked) (no_layout s l accepted_text is (ap lays_out command)) that)
+    (λ (why, refuses, that). end_refused s w w a b f g why it refuses that)
+    (verdict_said s l bytes it (is, ap uses_source command, first) command says)
+checked_end s l w a b f g (Err silence.Unread) is command rose = ((l, is, ap uses_source command), rose)
+checked_end s l w a b f g (Err silence.DiskFault) is command never = absurd never
+checked_end s l w a b f g (Err silence.OutOfMemory) is command lacks = tt
+
+pub checked_worked : (s : Scene) (l : PlainLine) (w : World) (a b : ℕ) (r : Result Said Silence) → line_of s.words ≡ Ok l → l.command ≡ Check → SaysChecked s.source a b r → OnlyNow w → Worked s w w r
+checked_worked s l w a b (Ok it) is command (bytes, first, says) only =
+    ⊎_elim (λ (checked, that). report_worked s w accepted_text (Ok it) (end.accepted checked) that only) (λ (why, refuses, that). refused_worked s w why it refuses that only)
+    (verdict_said s l bytes it (is, ap uses_source command, first) command says)
+checked_worked s l w a b (Err e) is command says only = silent_worked s w e only
 
 -- ## The layout of a source
 -- what is said of a tree is a report from which the tree is read back, and what is said of a refusal a refusal
@@ -367,13 +414,6 @@ layout_worked s l w a b (Ok it) is command (bytes, first, says) only =
     ⊎_elim (λ (text, report, back, that). report_worked s w text (Ok it) report that only) (λ (why, refuses, that). refused_worked s w why it refuses that only)
     (tree_said s l bytes (read_tree bytes) it (is, ap uses_source command, first) command refl says)
 layout_worked s l w a b (Err e) is command says only = silent_worked s w e only
-
--- a line that uses no source lays none out
-pub no_layout : (s : Scene) (l : PlainLine) (text : List ℕ) → line_of s.words ≡ Ok l → uses_source l.command ≡ false → ReadsBack s text
-no_layout s l text is none (m, js, format) =
-    let command : l.command ≡ Format = ap (λ (k : PlainLine). k.command) (same_ok (line_of s.words) l m is js) ∙ format in
-    let no : true ≡ false = sym (ap uses_source command) ∙ none in
-    absurd (cc no)
 
 -- a line that asks for a text of the program
 pub help_reported : (s : Scene) (l : PlainLine) (text : List ℕ) → line_of s.words ≡ Ok l → l.command ≡ Help → text ≡ help → Reported s text

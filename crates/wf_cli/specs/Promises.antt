@@ -1,5 +1,5 @@
 -- What the top call promises of a call: each row by its name.
-use Rattle.wf_cli.specs.Top.{Call, Ends, BadLineRow, ReadFaultRow, RefusedRow, DiskFaultRow, NotAJournalRow, AlreadyStartedRow, NotStartedRow, NotAHistoryRow, OutcomeRow, DoneRow, ComesBackRow, PrintFaultRow, OnlyThese, Completes, FinishedStays, RefusedStays, ReportsStay, SilentStays, SafeThroughout, SafeAtEnd, LateAtEnd}
+use Rattle.wf_cli.specs.Top.{Call, Ends, BadLineRow, ReadFaultRow, RefusedRow, DiskFaultRow, NotAJournalRow, AlreadyStartedRow, NotStartedRow, NotAHistoryRow, OutcomeRow, DoneRow, AcceptedRow, ComesBackRow, PrintFaultRow, OnlyThese, Completes, FinishedStays, RefusedStays, ReportsStay, SilentStays, SafeThroughout, SafeAtEnd, LateAtEnd}
 use Rattle.wf_engine.specs.TheLanguage.{the_language}
 use Rattle.wf_host.specs.World.{Told}
 
@@ -27,6 +27,8 @@ pub record Promised (x : Call) : Type 0 where
   pub outcome : Told x.old (OutcomeRow the_language x)
   -- Done of another command: its report
   pub done : DoneRow x
+  -- `check` prints `accepted` exactly where the checker accepts the source
+  pub accepted : AcceptedRow x
   -- the tree is read back from the layout that `format` printed
   pub comes_back : ComesBackRow x
   -- only where the count of failed prints rose or a print took no byte
@@ -40,7 +42,7 @@ pub record Promised (x : Call) : Type 0 where
   pub finished_stays : Told x.old (FinishedStays the_language x)
   -- a journal that is refused
   pub refused_stays : Told x.old (RefusedStays the_language x)
-  -- the file of a command that executes nothing
+  -- the file of a command that executes nothing; and it does nothing but print
   pub reports_stay : Told x.old (ReportsStay x)
   -- the file where the words are no line or the source is refused
   pub silent_stays : Told x.old (SilentStays x)

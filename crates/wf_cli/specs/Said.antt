@@ -1,6 +1,7 @@
 -- What the code of a command has found out before it prints.
-use Rattle.std.specs.Prelude.{◌≡◌, ◌≢◌, ◌⊎◌, ℕ, true, List, [], ◌∷◌, ◌++◌, Contains, Some, None, Result, Ok, Err, IfOk, IfErr}
+use Rattle.std.specs.Prelude.{◌≡◌, ◌≢◌, ◌⊎◌, ℕ, true, false, List, [], ◌∷◌, ◌++◌, Contains, Some, None, Result, Ok, Err, IfOk, IfErr}
 use Rattle.std.specs.List.{AllByRecursion}
+use Rattle.wf_ast.specs.Tree.{Program}
 use Rattle.wf_cli.specs.Reports.{the_reports}
 use Rattle.wf_cli.specs.Top.{IsAccepted, IsLineOf, HasOtherMagic, IsStarted, IsNotStarted, IsNoHistory, IsPassed, HasNoCauseInFile, IsBehindSync, Gives, Says}
 use Rattle.wf_cli.specs.declared.end.Said.{Said}
@@ -12,7 +13,7 @@ use Rattle.wf_engine.specs.Engine.{Memory, memory, StandsFor, KeptAt}
 use Rattle.wf_deeds.specs.Kept as kept
 use Rattle.wf_deeds.specs.Outside.{Outside}
 use Rattle.wf_engine.specs.Printed as end
-use Rattle.wf_engine.specs.Printed.{Scene, uses_source, executes, status_of, outcome_text}
+use Rattle.wf_engine.specs.Printed.{Scene, uses_source, executes, status_of, outcome_text, accepted_text}
 use Rattle.wf_engine.specs.Safe.{IsFit, SafeAt, LateAt, command_by}
 use Rattle.wf_engine.specs.Starts.{start_of}
 use Rattle.wf_engine.specs.TheLanguage.{the_language}
@@ -39,6 +40,7 @@ use Rattle.wf_journal_laws.specs.At.{journal, next_session}
 use Rattle.wf_journal_laws.specs.History.{Standing, history}
 use Rattle.wf_journal_laws.specs.Language.{Language}
 use Rattle.wf_status.specs.Statuses.{status_text}
+use Rattle.wf_source.specs.Programs.{IsRefusalOf, IsSourceOf}
 use Rattle.wf_source.specs.Sources.{read_tree}
 use Rattle.wf_source.specs.declared.fault.SourceFault.{SourceFault}
 use Rattle.wf_source.specs.declared.fault.SourceFault.TheVariants as source
@@ -78,6 +80,18 @@ SaysReport text (Err s) = s ≡ silence.OutOfMemory
 abbrev pub SaysSource : SourceFault → Result Said Silence → Type 0
 SaysSource (source.Refused r) said = SaysOrLacks (status.Refused r) said
 SaysSource source.OutOfMemory said = said ≡ Err silence.OutOfMemory
+
+-- what is said of a source that is checked: that it is a program which the checker accepts, or why it is refused
+abbrev pub SaysVerdict : List ℕ → Said → Type 0
+SaysVerdict bytes said = ((p : Program) × IsSourceOf bytes p × (said.status ≡ status.Done) × (said.text.items ≡ accepted_text))
+    ⊎ ((r : Refusal) × IsRefusalOf bytes r × SaysStatus (status.Refused r) said)
+
+-- the source was read and checked, or a read failed, or memory ran out
+abbrev pub SaysChecked : Rest → ℕ → ℕ → Result Said Silence → Type 0
+SaysChecked left reads reads2 (Ok said) = (bytes : List ℕ) × IsFirst 131073 left bytes × SaysVerdict bytes said
+SaysChecked left reads reads2 (Err silence.Unread) = Rose reads reads2
+SaysChecked left reads reads2 (Err silence.DiskFault) = ⊥
+SaysChecked left reads reads2 (Err silence.OutOfMemory) = Unit {0}
 
 -- what is said of a source that is to be laid out: the layout of its tree, from which the tree is read back, or why it is refused
 abbrev pub SaysTree : Result Tree Refusal → Said → Type 0
@@ -208,6 +222,7 @@ pub record Worked (s : Scene) (old new : World) (r : Result Said Silence) : Type
   pub finished : (st : Standing) → IsLineOf s (λ c. c ≡ Resume) → history the_language (records s.found) ≡ Ok st → st.config.outcome ≢ Active → Unwritten old new × (new.deeds ≡ old.deeds)
   pub refused : HasOtherMagic s ⊎ IsStarted s ⊎ IsNotStarted s ⊎ ((n : ℕ) × IsNoHistory the_language s n) → Unwritten old new
   pub writes : Unwritten old new ⊎ MayWrite s
+  pub idle : IsLineOf s (λ c. executes c ≡ false) → new.deeds ≡ old.deeds
 
 -- ## Printing
 -- what is printed of it

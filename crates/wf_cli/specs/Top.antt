@@ -7,8 +7,8 @@ use Rattle.wf_cli.specs.Reports.{the_reports}
 use Rattle.wf_deeds.specs.Deeds.{printed}
 use Rattle.wf_deeds.specs.Outside.{Outside}
 use Rattle.wf_engine.specs.Printed as end
-use Rattle.wf_engine.specs.Printed.{Scene, uses_source, executes, status_of, outcome_text}
-pub use Rattle.wf_engine.specs.Printed.{IsLine, IsBadLine, IsLineOf, IsRefused, HasOtherMagic, IsStarted, IsNotStarted}
+use Rattle.wf_engine.specs.Printed.{Scene, uses_source, executes, status_of, outcome_text, accepted_text}
+pub use Rattle.wf_engine.specs.Printed.{IsLine, IsBadLine, IsLineOf, IsRefused, IsChecked, HasOtherMagic, IsStarted, IsNotStarted}
 use Rattle.wf_engine.specs.Safe.{IsFit, SafeAt, LateAt}
 use Rattle.wf_engine.specs.TheLanguage.{the_language}
 use Rattle.wf_host.specs.Source.{IsFirst, WhereTold}
@@ -17,7 +17,7 @@ use Rattle.wf_host.specs.declared.data.Deed.{Deed}
 use Rattle.wf_host.specs.declared.data.Deed.TheVariants.{Print}
 use Rattle.wf_journal.specs.Records.{records}
 use Rattle.wf_args.specs.Lines.{PlainLine}
-use Rattle.wf_args.specs.declared.command.Command.TheVariants.{Format, Resume}
+use Rattle.wf_args.specs.declared.command.Command.TheVariants.{Check, Format, Resume}
 use Rattle.wf_model.specs.Config.{Outcome, Active}
 use Rattle.wf_journal_laws.specs.History.{Standing, history}
 use Rattle.wf_journal_laws.specs.Language.{Language}
@@ -186,6 +186,11 @@ module _ (x : Call) where
     pub comes : IsLineOf x.scene (λ c. executes c ≡ false) → x.status ≡ status.Done → (text : List ℕ) × Reported x.scene text × Prints x text
     pub only : (text : List ℕ) → Reported x.scene text → IsOrYields x status.Done
 
+  -- of `check`: just `accepted`, exactly of a source that is a program which the checker accepts; else the row of refused sources
+  pub record AcceptedRow : Type 0 where
+    pub comes : IsLineOf x.scene (λ c. c ≡ Check) → x.status ≡ status.Done → IsChecked x.scene × Prints x accepted_text
+    pub only : IsChecked x.scene → IsOrYields x status.Done
+
   -- of `format`: just the layout of the source's tree, which is read back from it
   abbrev pub ComesBackRow : Type 0
   ComesBackRow = IsLineOf x.scene (λ c. c ≡ Format) → x.status ≡ status.Done → (t : Tree) × ComesBack x.scene t × Prints x (written t)
@@ -223,9 +228,9 @@ module _ (x : Call) where
   abbrev pub WritesNothing : Type 0
   WritesNothing = LeavesOnly x.old x.new (λ c d. x.old.may_leave c) × (x.new.seen ≡ x.old.seen)
 
-  -- a command that executes nothing doesn't write
+  -- a command that executes nothing doesn't write, and does nothing but print
   abbrev pub ReportsStay : Type 0
-  ReportsStay = IsLineOf x.scene (λ c. executes c ≡ false) → WritesNothing
+  ReportsStay = IsLineOf x.scene (λ c. executes c ≡ false) → WritesNothing × Deeds x (λ D. AllByRecursion IsPrint D)
 
   -- where the words are no line, or the source is refused, nothing is written
   pub record SilentStays : Type 0 where

@@ -8,6 +8,7 @@ ghost use Rattle.wf_host.specs.World.{NoneFell, Told};
 ghost use Rattle.wf_args.specs.Lines.{line_of, words_view};
 ghost use Rattle.wf_args.specs.Plain.{plain_line};
 
+use crate::checking::check;
 use crate::end::{Said, Silence};
 use crate::execution::{resume, run};
 use crate::formatting::format;
@@ -72,6 +73,7 @@ fn execute<S: Source, H: Host>(
     ensures counts { NoneFell (H.faults host.old) (H.faults host.new) }
 {
     match line.command() {
+        Command::Check => check(alloc, source),
         Command::Format => format(alloc, source),
         Command::Run => run(alloc, line, source, host),
         Command::Resume => resume(alloc, host),
@@ -103,14 +105,16 @@ pub fn perform<S: Source, H: Host>(
 /// Does what the words of a command line say, prints what it comes to, and returns the status. `words` are those behind the program's
 /// name.
 ///
-/// `format` reads the source to its end and prints its tree in one layout, from which the same tree is read back, with [`Status::Done`]. `run` reads the source to its end, begins its execution on the journal, and goes on to the outcome; `resume` goes on with the
+/// `check` reads the source to its end and prints `accepted` with [`Status::Done`] where it is a program that the checker accepts.
+/// `format` reads the source to its end and prints its tree in one layout, from which the same tree is read back, with [`Status::Done`].
+/// `run` reads the source to its end, begins its execution on the journal, and goes on to the outcome; `resume` goes on with the
 /// execution that stands in the journal. A value prints as a line of JSON with [`Status::Done`], an error with [`Status::Raised`]. The
 /// words `--help` and `--version` alone print a text, with [`Status::Done`]. The causes of the other statuses are looked at in this order:
 ///
 /// - [`Status::BadLine`]: the words are no line.
 /// - [`Status::ReadFault`]: a read of the source failed.
-/// - [`Status::Refused`]: the source has more than 131,072 bytes, or no tree by its reader, or, under `run`, isn't of the form that is run so
-///   far.
+/// - [`Status::Refused`]: the source has more than 131,072 bytes, or no tree by its reader, or, under `check` and `run`, is no program that
+///   the checker accepts.
 /// - [`Status::DiskFault`]: a call of the disk failed.
 /// - [`Status::NotAJournal`]: the file has at least 5 bytes and doesn't begin with `WFJ1`.
 /// - [`Status::AlreadyStarted`]: `run` finds a first record. [`Status::NotStarted`]: `resume` finds none.

@@ -2,15 +2,16 @@
 --     Scene     what a command meets
 --     Gives     a status whose cause holds, with its text, for the image and the deeds of a moment
 use Rattle.std.specs.Prelude.{◌≡◌, ◌≢◌, ◌≤◌, ℕ, Bool, true, false, List, [], ◌++◌, length, take, Option, Some, None, Ok, Err, codes, decimal}
+use Rattle.wf_ast.specs.Tree.{Program}
 use Rattle.wf_host.specs.Source.{Rest, IsFirst}
 use Rattle.wf_journal.specs.Records.{magic, records}
 use Rattle.wf_args.specs.Lines.{PlainLine, line_of}
 use Rattle.wf_args.specs.declared.command.Command.{Command}
-use Rattle.wf_args.specs.declared.command.Command.TheVariants.{Format, Run, Resume, Help, Version}
+use Rattle.wf_args.specs.declared.command.Command.TheVariants.{Check, Format, Run, Resume, Help, Version}
 use Rattle.wf_model.specs.Config.{Outcome, Active, Returned, Raised, Cancelled}
-use Rattle.wf_journal_laws.specs.History.{Standing, history}
-use Rattle.wf_journal_laws.specs.Language.{Language}
-use Rattle.wf_source.specs.Programs.{IsRefusalOf}
+use Rattle.wf_replay.specs.History.{Standing, history}
+use Rattle.wf_replay.specs.Language.{Language}
+use Rattle.wf_source.specs.Programs.{IsRefusalOf, IsSourceOf}
 use Rattle.wf_source.specs.Sources.{read_tree}
 use Rattle.wf_status.specs.Refusals.{refusal_text}
 use Rattle.wf_status.specs.Statuses.{line_end}
@@ -34,6 +35,7 @@ pub record Reports : Type 0 where
 
 -- ## What a command uses
 abbrev pub uses_source : Command → Bool
+uses_source Check = true
 uses_source Format = true
 uses_source Run = true
 uses_source c = false
@@ -49,8 +51,10 @@ executes Run = true
 executes Resume = true
 executes c = false
 
--- this refusal of a source that the command doesn't take speaks first: `format` takes what has a tree, and `run` what is a program
+-- this refusal of a source that the command doesn't take speaks first: `format` takes what has a tree, and `check` and
+-- `run` what is a program that the checker accepts
 abbrev pub refuses : Command → List ℕ → Refusal → Type 0
+refuses Check bytes r = IsRefusalOf bytes r
 refuses Format bytes r = read_tree bytes ≡ Err r
 refuses Run bytes r = IsRefusalOf bytes r
 refuses c bytes r = ⊥
@@ -88,6 +92,10 @@ module _ (s : Scene) where
   abbrev pub IsLineOf : (Command → Type 0) → Type 0
   IsLineOf P = (l : PlainLine) × IsLine l × P l.command
 
+  -- the line is `check`, and its source a program that the checker accepts
+  abbrev pub IsChecked : Type 0
+  IsChecked = (l : PlainLine) × (bytes : List ℕ) × (p : Program) × Reads l bytes × (l.command ≡ Check) × IsSourceOf bytes p
+
   abbrev pub HasOtherMagic : Type 0
   HasOtherMagic = IsLineOf (λ c. uses_journal c ≡ true) × (5 ≤ length s.found) × (take 4 s.found ≢ magic)
 
@@ -97,8 +105,13 @@ module _ (s : Scene) where
   abbrev pub IsNotStarted : Type 0
   IsNotStarted = IsLineOf (λ c. c ≡ Resume) × (records s.found ≡ [])
 
+-- the line that `check` prints of such a source
+abbrev pub accepted_text : List ℕ
+accepted_text = line_end (codes "accepted")
+
 -- what a command that executes nothing prints
 pub data Reported (R : Reports) (s : Scene) : List ℕ → Type 0 where
+  accepted : IsChecked s → Reported R s accepted_text
   formatted : (l : PlainLine) (bytes text : List ℕ) → Reads s l bytes → l.command ≡ Format → R.formatted bytes ≡ Some text → Reported R s text
   helped : IsLineOf s (λ c. c ≡ Help) → Reported R s R.help
   versioned : IsLineOf s (λ c. c ≡ Version) → Reported R s R.version

@@ -1,5 +1,5 @@
 use Rattle.std.proofs.Common.{ap, subst, sym}
-use Rattle.wf_cli.proofs.Works.{source_end, source_worked}
+use Rattle.wf_cli.proofs.Works.{run_takes, source_end, source_worked}
 use Rattle.wf_engine.specs.Printed.{uses_source}
 use Rattle.wf_engine.specs.Safe.{scene}
 use Rattle.wf_host.specs.Source.{IsFirst}
@@ -21,12 +21,12 @@ returns-clause-end g c = λ words is.
     let old = g.H.Host.world c.args.host.now in
     let s = scene words (g.S.Source.left c.args.source.now) old in
     source_end s (plain_line c.args.line.now) old (g.S.Source.faults c.args.source.now) (g.S.Source.faults c.read_up_to.new.source) (g.H.Host.faults c.args.host.now) (g.H.Host.faults c.args.host.now) c.in_ok-bytes.bytes.items c.in-Err.fault c.of_source.result
-    (is, ap uses_source c.requires.command, c.in_ok-bytes.ensures.bytes) c.requires.command (subst (λ b. TellsOf (IsRefusalOf b) c.in-Err.fault) c.as_slice.ensures.value c.in-Err.ensures.fault) c.of_source.ensures
+    (is, ap uses_source c.requires.command, c.in_ok-bytes.ensures.bytes) (run_takes (plain_line c.args.line.now).command c.requires.command) (subst (λ b. TellsOf (IsRefusalOf b) c.in-Err.fault) c.as_slice.ensures.value c.in-Err.ensures.fault) c.of_source.ensures
 
 pub returns-clause-worked : goal.returns-clause-worked
 returns-clause-worked g c = λ told words is.
     let old = g.H.Host.world c.args.host.now in
     let s = scene words (g.S.Source.left c.args.source.now) old in
     source_worked s (plain_line c.args.line.now) old c.in_ok-bytes.bytes.items c.in-Err.fault c.of_source.result
-    (is, ap uses_source c.requires.command, c.in_ok-bytes.ensures.bytes) c.requires.command (subst (λ b. TellsOf (IsRefusalOf b) c.in-Err.fault) c.as_slice.ensures.value c.in-Err.ensures.fault) c.of_source.ensures
+    (is, ap uses_source c.requires.command, c.in_ok-bytes.ensures.bytes) (run_takes (plain_line c.args.line.now).command c.requires.command) (subst (λ b. TellsOf (IsRefusalOf b) c.in-Err.fault) c.as_slice.ensures.value c.in-Err.ensures.fault) c.of_source.ensures
     (λ i d left. g.met.H.Host.only_now c.args.host.now i d told left)
