@@ -13,8 +13,8 @@ use Rattle.wf_journal.specs.Records.{records}
 use Rattle.wf_args.specs.Lines.{PlainLine, line_of}
 use Rattle.wf_args.specs.declared.command.Command.{Command}
 use Rattle.wf_args.specs.declared.command.Command.TheVariants.{Check, Format, Run, Resume, Help, Version}
-use Rattle.wf_replay.specs.History.{history}
-use Rattle.wf_replay.specs.Language.{Language}
+use Rattle.wf_journal_laws.specs.History.{history}
+use Rattle.wf_journal_laws.specs.Language.{Language}
 use Rattle.wf_status.specs.Statuses.{rank}
 use Rattle.wf_status.specs.declared.Refusal.{Refusal}
 use Rattle.wf_status.specs.declared.Status.{Status}

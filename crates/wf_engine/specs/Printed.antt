@@ -9,8 +9,8 @@ use Rattle.wf_args.specs.Lines.{PlainLine, line_of}
 use Rattle.wf_args.specs.declared.command.Command.{Command}
 use Rattle.wf_args.specs.declared.command.Command.TheVariants.{Check, Format, Run, Resume, Help, Version}
 use Rattle.wf_model.specs.Config.{Outcome, Active, Returned, Raised, Cancelled}
-use Rattle.wf_replay.specs.History.{Standing, history}
-use Rattle.wf_replay.specs.Language.{Language}
+use Rattle.wf_journal_laws.specs.History.{Standing, history}
+use Rattle.wf_journal_laws.specs.Language.{Language}
 use Rattle.wf_source.specs.Programs.{IsRefusalOf, IsSourceOf}
 use Rattle.wf_source.specs.Sources.{read_tree}
 use Rattle.wf_status.specs.Refusals.{refusal_text}
