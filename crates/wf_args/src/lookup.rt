@@ -10,8 +10,8 @@ use crate::option::OptionName;
 pub fn journal_of(words: &[String]) -> Option<&str>
     ensures word { option_copied result ≡ word_behind (codes "--journal") (words_view words.now) }
     // where the words are a line, it is the line's
-    ensures line { (l : PlainLine) →
-        line_of (words_view words.now) ≡ Ok l → option_copied result ≡ word_of Journal l }
+    ensures line { (l : PlainLine) → line_of (words_view words.now) ≡ Ok l
+        → option_copied result ≡ word_of Journal l }
 {
     find_behind("--journal", words)
 }
@@ -20,8 +20,8 @@ pub fn journal_of(words: &[String]) -> Option<&str>
 pub fn source_of(words: &[String]) -> Option<&str>
     ensures word { option_copied result ≡ word_behind (codes "--source") (words_view words.now) }
     // where the words are a line, it is the line's
-    ensures line { (l : PlainLine) →
-        line_of (words_view words.now) ≡ Ok l → option_copied result ≡ word_of Source l }
+    ensures line { (l : PlainLine) → line_of (words_view words.now) ≡ Ok l
+        → option_copied result ≡ word_of Source l }
 {
     find_behind("--source", words)
 }

@@ -23,10 +23,10 @@ pub enum LineFault {
 /// The line borrows its words, so nothing is allocated, and want of memory is never told.
 #[tactic(auto, unfolding(crate::specs::Lines::line_of))]
 pub fn read_line<'w>(_alloc: Global, words: &'w [String]) -> Result<Line<'w>, LineFault>
-    ensures line { (l : PlainLine) →
-        (line_of (words_view words.now) ≡ Ok l) ↔ IsOkAnd result (λ r. plain_line r ≡ l) }
-    ensures bad_line { (n : ℕ) →
-        (line_of (words_view words.now) ≡ Err n) ↔ IsErrOf result (LineFault.BadLine n) }
+    ensures line { (l : PlainLine) → (line_of (words_view words.now) ≡ Ok l)
+        ↔ IsOkAnd result (λ r. plain_line r ≡ l) }
+    ensures bad_line { (n : ℕ) → (line_of (words_view words.now) ≡ Err n)
+        ↔ IsErrOf result (LineFault.BadLine n) }
     ensures memory { ¬ IsErrOf result LineFault.OutOfMemory }
 {
     let [first, options @ ..] = words else {
@@ -44,9 +44,9 @@ pub fn read_line<'w>(_alloc: Global, words: &'w [String]) -> Result<Line<'w>, Li
 // The number of the first bad word among the options behind a command. It is a small one, since
 // each option stands a few times at most, so 32 bits can tell it.
 fn bad_word(command: Command, options: &[String]) -> Option<u32>
-    ensures { let words = words_view options.now in
-        MatchOption result
-        (options_at command 1 [] words ≡ Ok (record { command = command; options = options_in words }))
+    ensures { let words = words_view options.now in MatchOption result
+        (options_at command 1 [] words
+        ≡ Ok (record { command = command; options = options_in words }))
         (λ n. options_at command 1 [] words ≡ Err n) }
 {
     let mut at = 0;

@@ -9,7 +9,8 @@ use wf_source::{SOURCE_LIMIT, read_source};
 
 /// Reads the source, and tells that the checker accepts it, or why it is refused.
 pub(crate) fn check<S: Source>(alloc: Global, source: &mut S) -> Result<Said, Silence>
-    ensures says { SaysChecked (S.left source.old) (S.faults source.old) (S.faults source.new) result }
+    ensures says { SaysChecked (S.left source.old) (S.faults source.old) (S.faults source.new)
+        result }
     ensures reads { S.faults source.old ≤ S.faults source.new }
 {
     let bytes = read_up_to(alloc, source, SOURCE_LIMIT + 1)?;

@@ -31,8 +31,8 @@ use wf_deeds::laws_of_rules;
 use wf_engine::{Engine, EngineFault};
 use wf_events::{Start, one_spelling};
 use wf_host::{Host, Routes, Source, read_up_to};
-use wf_machine::Steps;
 use wf_journal_laws::{laws_of_histories, laws_of_moments};
+use wf_machine::Steps;
 use wf_source::{SOURCE_LIMIT, each_source_is_one, laws_of_sources, read_source};
 use wf_value::{Bytes, OutOfMemory, Pairs, Text};
 
@@ -47,7 +47,8 @@ fn utf8_text(alloc: Global, text: &str) -> Result<Text, OutOfMemory>
 
 /// The id of an execution: the line's, or else `w` and the first reading of the clock in decimal.
 fn id_for(alloc: Global, line: &Line<'_>, reading: u64) -> Result<Text, OutOfMemory>
-    ensures id { IfOk result (λ t. t ≡ unwrap_or (word_of Id (plain_line line.now)) (119 ∷ decimal reading)) }
+    ensures id { IfOk result (λ t. t ≡ unwrap_or (word_of Id (plain_line line.now))
+        (119 ∷ decimal reading)) }
     ensures text { IfOk result (λ t. IsUtf8 t) }
     ensures short { IfOk result (λ t. length t ≤ 64) }
 {
@@ -68,7 +69,8 @@ fn start_for(
     reading: u64,
 ) -> Result<Start, OutOfMemory>
     requires short { length source.now ≤ 131072 }
-    ensures start { IfOk result (λ s. start_view s ≡ start_of (plain_line line.now) source.now reading) }
+    ensures start { IfOk result (λ s. start_view s
+        ≡ start_of (plain_line line.now) source.now reading) }
     ensures spelled { IfOk result (λ s. HasSpelling (Started (start_view s))) }
     ensures fits { IfOk result (λ s. length (record_bytes (Started (start_view s))) ≤ 16777215) }
 {
@@ -93,11 +95,14 @@ fn begin<H: Host>(
 ) -> Result<Engine, EngineFault>
     requires command { (plain_line line.now).command ≡ Run }
     requires program { IsSourceOf source.now (program_of program) }
-    ensures opening { Told (H.world host.old) ((words : List (List ℕ)) (rest : Rest) → line_of words ≡ Ok (plain_line line.now) → IsFirst 131073 rest source.now
-        → Opening kept.Run (scene words rest (H.world host.old)) (H.world host.old) (H.world host.new) result) }
+    ensures opening { Told (H.world host.old) ((words : List (List ℕ)) (rest : Rest)
+        → line_of words ≡ Ok (plain_line line.now) → IsFirst 131073 rest source.now
+        → Opening kept.Run (scene words rest (H.world host.old)) (H.world host.old)
+        (H.world host.new) result) }
     ensures holds { Told (H.world host.old) (IfOk result (λ e. Holds e (H.world host.new))) }
     ensures open { IfOk result (λ e. is_closed e ≡ false) }
-    ensures disk_fault { IsErrOf result EngineFault.DiskFault → Rose (H.faults host.old).disk (H.faults host.new).disk }
+    ensures disk_fault { IsErrOf result EngineFault.DiskFault
+        → Rose (H.faults host.old).disk (H.faults host.new).disk }
     ensures tells { (H.world host.new).tells ≡ (H.world host.old).tells }
     ensures counts { NoneFell (H.faults host.old) (H.faults host.new) }
 {
@@ -117,8 +122,10 @@ fn to_outcome<H: Host>(alloc: Global, engine: Engine, host: &mut H) -> Result<Sa
     requires open { is_closed engine ≡ false }
     requires holds { Told (H.world host.old) (Holds engine (H.world host.old)) }
     ensures says { SaysResult (H.faults host.old) (H.faults host.new) result }
-    ensures going { Told (H.world host.old) ((command : kept.Command) (D : List Deed) → StandsFor the_language command (memory engine) (records (H.world host.old).seen) D
-        → Going the_language command (memory engine) D (H.world host.old) (H.world host.new) result) }
+    ensures going { Told (H.world host.old) ((command : kept.Command) (D : List Deed)
+        → StandsFor the_language command (memory engine) (records (H.world host.old).seen) D
+        → Going the_language command (memory engine) D (H.world host.old) (H.world host.new)
+        result) }
     ensures deeds { Told (H.world host.old) ((H.world host.new).deeds ≡ (H.world host.old).deeds) }
     ensures tells { (H.world host.new).tells ≡ (H.world host.old).tells }
     ensures counts { NoneFell (H.faults host.old) (H.faults host.new) }
@@ -140,10 +147,14 @@ fn run_program<H: Host>(
 ) -> Result<Said, Silence>
     requires command { (plain_line line.now).command ≡ Run }
     requires program { IsSourceOf source.now (program_of program) }
-    ensures end { (words : List (List ℕ)) (rest : Rest) (reads reads2 : ℕ) → line_of words ≡ Ok (plain_line line.now) → IsFirst 131073 rest source.now
-        → IsEnd (scene words rest (H.world host.old)) (H.world host.old) (H.world host.new) reads reads2 (H.faults host.old) (H.faults host.new) result }
-    ensures worked { Told (H.world host.old) ((words : List (List ℕ)) (rest : Rest) → line_of words ≡ Ok (plain_line line.now) → IsFirst 131073 rest source.now
-        → Worked (scene words rest (H.world host.old)) (H.world host.old) (H.world host.new) result) }
+    ensures end { (words : List (List ℕ)) (rest : Rest) (reads reads2 : ℕ)
+        → line_of words ≡ Ok (plain_line line.now) → IsFirst 131073 rest source.now
+        → IsEnd (scene words rest (H.world host.old)) (H.world host.old) (H.world host.new) reads
+        reads2 (H.faults host.old) (H.faults host.new) result }
+    ensures worked { Told (H.world host.old) ((words : List (List ℕ)) (rest : Rest)
+        → line_of words ≡ Ok (plain_line line.now) → IsFirst 131073 rest source.now
+        → Worked (scene words rest (H.world host.old)) (H.world host.old) (H.world host.new)
+        result) }
     ensures tells { (H.world host.new).tells ≡ (H.world host.old).tells }
     ensures counts { NoneFell (H.faults host.old) (H.faults host.new) }
 {
@@ -163,9 +174,13 @@ pub(crate) fn run<S: Source, H: Host>(
 ) -> Result<Said, Silence>
     requires command { (plain_line line.now).command ≡ Run }
     ensures end { (words : List (List ℕ)) → line_of words ≡ Ok (plain_line line.now)
-        → IsEnd (scene words (S.left source.old) (H.world host.old)) (H.world host.old) (H.world host.new) (S.faults source.old) (S.faults source.new) (H.faults host.old) (H.faults host.new) result }
-    ensures worked { Told (H.world host.old) ((words : List (List ℕ)) → line_of words ≡ Ok (plain_line line.now)
-        → Worked (scene words (S.left source.old) (H.world host.old)) (H.world host.old) (H.world host.new) result) }
+        → IsEnd (scene words (S.left source.old) (H.world host.old)) (H.world host.old)
+        (H.world host.new) (S.faults source.old) (S.faults source.new) (H.faults host.old)
+        (H.faults host.new) result }
+    ensures worked { Told (H.world host.old) ((words : List (List ℕ))
+        → line_of words ≡ Ok (plain_line line.now)
+        → Worked (scene words (S.left source.old) (H.world host.old)) (H.world host.old)
+        (H.world host.new) result) }
     ensures tells { (H.world host.new).tells ≡ (H.world host.old).tells }
     ensures reads { S.faults source.old ≤ S.faults source.new }
     ensures counts { NoneFell (H.faults host.old) (H.faults host.new) }
@@ -179,10 +194,14 @@ pub(crate) fn run<S: Source, H: Host>(
 
 /// Goes on with the execution of the journal to its outcome.
 pub(crate) fn resume<H: Host>(alloc: Global, host: &mut H) -> Result<Said, Silence>
-    ensures end { (words : List (List ℕ)) (rest : Rest) (reads reads2 : ℕ) → IsLineOf (scene words rest (H.world host.old)) (λ c. c ≡ Resume)
-        → IsEnd (scene words rest (H.world host.old)) (H.world host.old) (H.world host.new) reads reads2 (H.faults host.old) (H.faults host.new) result }
-    ensures worked { Told (H.world host.old) ((words : List (List ℕ)) (rest : Rest) → IsLineOf (scene words rest (H.world host.old)) (λ c. c ≡ Resume)
-        → Worked (scene words rest (H.world host.old)) (H.world host.old) (H.world host.new) result) }
+    ensures end { (words : List (List ℕ)) (rest : Rest) (reads reads2 : ℕ)
+        → IsLineOf (scene words rest (H.world host.old)) (λ c. c ≡ Resume)
+        → IsEnd (scene words rest (H.world host.old)) (H.world host.old) (H.world host.new) reads
+        reads2 (H.faults host.old) (H.faults host.new) result }
+    ensures worked { Told (H.world host.old) ((words : List (List ℕ)) (rest : Rest)
+        → IsLineOf (scene words rest (H.world host.old)) (λ c. c ≡ Resume)
+        → Worked (scene words rest (H.world host.old)) (H.world host.old) (H.world host.new)
+        result) }
     ensures tells { (H.world host.new).tells ≡ (H.world host.old).tells }
     ensures counts { NoneFell (H.faults host.old) (H.faults host.new) }
 {
@@ -198,10 +217,14 @@ fn resume_from_blank<H: Host, L: Ledger>(
     requires name { blank.name ≡ L.name }
     requires parts { blank.parts ≡ L.parts }
     requires some { 0 < blank.parts }
-    ensures end { (words : List (List ℕ)) (rest : Rest) (reads reads2 : ℕ) → IsLineOf (scene words rest (H.world host.old)) (λ c. c ≡ Resume)
-        → IsEnd (scene words rest (H.world host.old)) (H.world host.old) (H.world host.new) reads reads2 (H.faults host.old) (H.faults host.new) result }
-    ensures worked { Told (H.world host.old) ((words : List (List ℕ)) (rest : Rest) → IsLineOf (scene words rest (H.world host.old)) (λ c. c ≡ Resume)
-        → Worked (scene words rest (H.world host.old)) (H.world host.old) (H.world host.new) result) }
+    ensures end { (words : List (List ℕ)) (rest : Rest) (reads reads2 : ℕ)
+        → IsLineOf (scene words rest (H.world host.old)) (λ c. c ≡ Resume)
+        → IsEnd (scene words rest (H.world host.old)) (H.world host.old) (H.world host.new) reads
+        reads2 (H.faults host.old) (H.faults host.new) result }
+    ensures worked { Told (H.world host.old) ((words : List (List ℕ)) (rest : Rest)
+        → IsLineOf (scene words rest (H.world host.old)) (λ c. c ≡ Resume)
+        → Worked (scene words rest (H.world host.old)) (H.world host.old) (H.world host.new)
+        result) }
     ensures tells { (H.world host.new).tells ≡ (H.world host.old).tells }
     ensures counts { NoneFell (H.faults host.old) (H.faults host.new) }
 {
@@ -214,10 +237,14 @@ fn resume_counted<H: Host, L: Ledger>(
     host: &mut H,
     steps: &mut Steps<L>,
 ) -> Result<Said, Silence>
-    ensures end { (words : List (List ℕ)) (rest : Rest) (reads reads2 : ℕ) → IsLineOf (scene words rest (H.world host.old)) (λ c. c ≡ Resume)
-        → IsEnd (scene words rest (H.world host.old)) (H.world host.old) (H.world host.new) reads reads2 (H.faults host.old) (H.faults host.new) result }
-    ensures worked { Told (H.world host.old) ((words : List (List ℕ)) (rest : Rest) → IsLineOf (scene words rest (H.world host.old)) (λ c. c ≡ Resume)
-        → Worked (scene words rest (H.world host.old)) (H.world host.old) (H.world host.new) result) }
+    ensures end { (words : List (List ℕ)) (rest : Rest) (reads reads2 : ℕ)
+        → IsLineOf (scene words rest (H.world host.old)) (λ c. c ≡ Resume)
+        → IsEnd (scene words rest (H.world host.old)) (H.world host.old) (H.world host.new) reads
+        reads2 (H.faults host.old) (H.faults host.new) result }
+    ensures worked { Told (H.world host.old) ((words : List (List ℕ)) (rest : Rest)
+        → IsLineOf (scene words rest (H.world host.old)) (λ c. c ≡ Resume)
+        → Worked (scene words rest (H.world host.old)) (H.world host.old) (H.world host.new)
+        result) }
     ensures tells { (H.world host.new).tells ≡ (H.world host.old).tells }
     ensures counts { NoneFell (H.faults host.old) (H.faults host.new) }
 {

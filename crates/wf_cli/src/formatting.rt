@@ -13,7 +13,8 @@ use wf_yaml_write::write_yaml;
 
 /// Reads the source, and lays its tree out. The tree is read back from its layout.
 pub(crate) fn format<S: Source>(alloc: Global, source: &mut S) -> Result<Said, Silence>
-    ensures says { SaysLayout (S.left source.old) (S.faults source.old) (S.faults source.new) result }
+    ensures says { SaysLayout (S.left source.old) (S.faults source.old) (S.faults source.new)
+        result }
     ensures reads { S.faults source.old ≤ S.faults source.new }
 {
     read_trees_fit();

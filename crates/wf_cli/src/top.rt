@@ -21,8 +21,10 @@ use wf_status::Status;
 
 /// Prints what a command has to say, and gives the status.
 fn tell<H: Host>(host: &mut H, said: Result<Said, Silence>) -> Status
-    ensures ends { Tells said (H.world host.old) (H.world host.new) (H.faults host.old) (H.faults host.new) result }
-    ensures printing { Told (H.world host.old) (Printing (text_of said) (H.world host.old) (H.world host.new)) }
+    ensures ends { Tells said (H.world host.old) (H.world host.new) (H.faults host.old)
+        (H.faults host.new) result }
+    ensures printing { Told (H.world host.old)
+        (Printing (text_of said) (H.world host.old) (H.world host.new)) }
     ensures tells { (H.world host.new).tells ≡ (H.world host.old).tells }
     ensures counts { NoneFell (H.faults host.old) (H.faults host.new) }
 {
@@ -65,9 +67,13 @@ fn execute<S: Source, H: Host>(
     host: &mut H,
 ) -> Result<Said, Silence>
     ensures end { (words : List (List ℕ)) → line_of words ≡ Ok (plain_line line.now)
-        → IsEnd (scene words (S.left source.old) (H.world host.old)) (H.world host.old) (H.world host.new) (S.faults source.old) (S.faults source.new) (H.faults host.old) (H.faults host.new) result }
-    ensures worked { Told (H.world host.old) ((words : List (List ℕ)) → line_of words ≡ Ok (plain_line line.now)
-        → Worked (scene words (S.left source.old) (H.world host.old)) (H.world host.old) (H.world host.new) result) }
+        → IsEnd (scene words (S.left source.old) (H.world host.old)) (H.world host.old)
+        (H.world host.new) (S.faults source.old) (S.faults source.new) (H.faults host.old)
+        (H.faults host.new) result }
+    ensures worked { Told (H.world host.old) ((words : List (List ℕ))
+        → line_of words ≡ Ok (plain_line line.now)
+        → Worked (scene words (S.left source.old) (H.world host.old)) (H.world host.old)
+        (H.world host.new) result) }
     ensures tells { (H.world host.new).tells ≡ (H.world host.old).tells }
     ensures reads { S.faults source.old ≤ S.faults source.new }
     ensures counts { NoneFell (H.faults host.old) (H.faults host.new) }
@@ -90,8 +96,9 @@ pub fn perform<S: Source, H: Host>(
     host: &mut H,
 ) -> Status
     ensures promised { (words : List (List ℕ)) → line_of words ≡ Ok (plain_line line.now)
-        → Promised (called words (S.left source.old) (H.world host.old) (H.world host.new) (S.faults source.old) (S.faults source.new)
-        (H.faults host.old) (H.faults host.new) result) }
+        → Promised (called words (S.left source.old) (H.world host.old) (H.world host.new)
+        (S.faults source.old) (S.faults source.new) (H.faults host.old) (H.faults host.new)
+        result) }
     ensures tells { (H.world host.new).tells ≡ (H.world host.old).tells }
     ensures reads { S.faults source.old ≤ S.faults source.new }
     ensures counts { NoneFell (H.faults host.old) (H.faults host.new) }
@@ -130,8 +137,9 @@ pub fn run_line<S: Source, H: Host>(
     source: &mut S,
     host: &mut H,
 ) -> Status
-    ensures promised { Promised (called (words_view words.now) (S.left source.old) (H.world host.old) (H.world host.new)
-        (S.faults source.old) (S.faults source.new) (H.faults host.old) (H.faults host.new) result) }
+    ensures promised { Promised (called (words_view words.now) (S.left source.old)
+        (H.world host.old) (H.world host.new) (S.faults source.old) (S.faults source.new)
+        (H.faults host.old) (H.faults host.new) result) }
     ensures tells { (H.world host.new).tells ≡ (H.world host.old).tells }
     ensures reads { S.faults source.old ≤ S.faults source.new }
     ensures counts { NoneFell (H.faults host.old) (H.faults host.new) }

@@ -12,9 +12,9 @@ use wf_deeds::laws_of_rules;
 use wf_events::{Start, Turn, one_spelling};
 use wf_history::History;
 use wf_host::Host;
+use wf_journal_laws::{laws_of_histories, laws_of_moments};
 use wf_machine::{Machine, Outcome, Steps, only_moves};
 use wf_model::{laws_of_choice, laws_of_runs};
-use wf_journal_laws::{laws_of_histories, laws_of_moments};
 use wf_source::each_source_is_one;
 
 /// An execution over a journal: what stands in the file, the machine that it leads to, and the session that goes on from there.
@@ -75,26 +75,49 @@ impl Engine {
         requires spelled { HasSpelling (Started (start_view start.now)) }
         requires short { length (record_bytes (Started (start_view start.now))) ≤ 16777215 }
         ensures holds { Told (H.world host.old) (IfOk result (λ e. Holds e (H.world host.new))) }
-        ensures stands { Told (H.world host.old) (IfOk result (λ e. StandsFor the_language Run (memory e) (records (H.world host.new).seen) (Now start.now.reading ∷ []))) }
+        ensures stands { Told (H.world host.old)
+            (IfOk result (λ e. StandsFor the_language Run (memory e)
+            (records (H.world host.new).seen) (Now start.now.reading ∷ []))) }
         ensures open { IfOk result (λ e. is_closed e ≡ false) }
         ensures session { IfOk result (λ e. (memory e).session ≡ 1) }
-        ensures started { Told (H.world host.old) (OnOk result (records (H.world host.new).seen ≡ record_bytes (Started (start_view start.now)) ∷ [])) }
-        ensures any_moment { Told (H.world host.old) (LeavesOnly (H.world host.old) (H.world host.new)
-            (λ c d. ((H.world host.old).may_leave c × (d ≡ (H.world host.old).deeds)) ⊎ ((records (H.world host.old).seen ≡ []) × HasNoneOrThis (H.world host.old) (record_bytes (Started (start_view start.now))) c d))) }
-        ensures refused_stays { Told (H.world host.old) (((5 ≤ length (H.world host.old).seen) × (take 4 (H.world host.old).seen ≢ magic)) ⊎ (records (H.world host.old).seen ≢ [])
-            → LeavesOnly (H.world host.old) (H.world host.new) (λ c d. (H.world host.old).may_leave c × (d ≡ (H.world host.old).deeds))) }
-        ensures refused_reads { Told (H.world host.old) (((5 ≤ length (H.world host.old).seen) × (take 4 (H.world host.old).seen ≢ magic)) ⊎ (records (H.world host.old).seen ≢ [])
+        ensures started { Told (H.world host.old)
+            (OnOk result (records (H.world host.new).seen
+            ≡ record_bytes (Started (start_view start.now)) ∷ [])) }
+        ensures any_moment { Told (H.world host.old)
+            (LeavesOnly (H.world host.old) (H.world host.new)
+            (λ c d. ((H.world host.old).may_leave c × (d ≡ (H.world host.old).deeds))
+            ⊎ ((records (H.world host.old).seen ≡ [])
+            × HasNoneOrThis (H.world host.old) (record_bytes (Started (start_view start.now))) c
+            d))) }
+        ensures refused_stays { Told (H.world host.old)
+            (((5 ≤ length (H.world host.old).seen) × (take 4 (H.world host.old).seen ≢ magic))
+            ⊎ (records (H.world host.old).seen ≢ [])
+            → LeavesOnly (H.world host.old) (H.world host.new)
+            (λ c d. (H.world host.old).may_leave c × (d ≡ (H.world host.old).deeds))) }
+        ensures refused_reads { Told (H.world host.old)
+            (((5 ≤ length (H.world host.old).seen) × (take 4 (H.world host.old).seen ≢ magic))
+            ⊎ (records (H.world host.old).seen ≢ [])
             → (H.world host.new).seen ≡ (H.world host.old).seen) }
-        ensures disk_fault { IsErrOf result EngineFault.DiskFault → Rose (H.faults host.old).disk (H.faults host.new).disk }
-        ensures not_a_journal { Told (H.world host.old) (IsErrOf result EngineFault.NotAJournal → (5 ≤ length (H.world host.old).seen) × (take 4 (H.world host.old).seen ≢ magic)) }
-        ensures a_journal { Told (H.world host.old) (OnOk result ((length (H.world host.old).seen ≤ 4) ⊎ (take 4 (H.world host.old).seen ≡ magic))) }
+        ensures disk_fault { IsErrOf result EngineFault.DiskFault
+            → Rose (H.faults host.old).disk (H.faults host.new).disk }
+        ensures not_a_journal { Told (H.world host.old) (IsErrOf result EngineFault.NotAJournal
+            → (5 ≤ length (H.world host.old).seen) × (take 4 (H.world host.old).seen ≢ magic)) }
+        ensures a_journal { Told (H.world host.old)
+            (OnOk result ((length (H.world host.old).seen ≤ 4)
+            ⊎ (take 4 (H.world host.old).seen ≡ magic))) }
         ensures already_started { Told (H.world host.old) (IsErrOf result EngineFault.AlreadyStarted
-            → (records (H.world host.old).seen ≢ []) × ((length (H.world host.old).seen ≤ 4) ⊎ (take 4 (H.world host.old).seen ≡ magic))) }
+            → (records (H.world host.old).seen ≢ [])
+            × ((length (H.world host.old).seen ≤ 4) ⊎ (take 4 (H.world host.old).seen ≡ magic))) }
         // what was found was read behind the opening's sync
-        ensures settled { Told (H.world host.old) (IsErrOf result EngineFault.AlreadyStarted → Only (H.world host.new).seen (H.world host.new).may_leave) }
-        ensures fresh { Told (H.world host.old) (OnOk result (records (H.world host.old).seen ≡ [])) }
-        ensures only { IfErr result (λ e. (e ≡ EngineFault.DiskFault) ⊎ (e ≡ EngineFault.NotAJournal) ⊎ (e ≡ EngineFault.AlreadyStarted) ⊎ (e ≡ EngineFault.OutOfMemory)) }
-        ensures deeds { Told (H.world host.old) ((H.world host.new).deeds ≡ (H.world host.old).deeds) }
+        ensures settled { Told (H.world host.old) (IsErrOf result EngineFault.AlreadyStarted
+            → Only (H.world host.new).seen (H.world host.new).may_leave) }
+        ensures fresh { Told (H.world host.old)
+            (OnOk result (records (H.world host.old).seen ≡ [])) }
+        ensures only { IfErr result (λ e. (e ≡ EngineFault.DiskFault)
+            ⊎ (e ≡ EngineFault.NotAJournal) ⊎ (e ≡ EngineFault.AlreadyStarted)
+            ⊎ (e ≡ EngineFault.OutOfMemory)) }
+        ensures deeds { Told (H.world host.old) ((H.world host.new).deeds
+            ≡ (H.world host.old).deeds) }
         ensures tells { (H.world host.new).tells ≡ (H.world host.old).tells }
         ensures counts { NoneFell (H.faults host.old) (H.faults host.new) }
     {
@@ -129,24 +152,43 @@ impl Engine {
         steps: &mut Steps<L>,
     ) -> Result<Engine, EngineFault>
         ensures holds { Told (H.world host.old) (IfOk result (λ e. Holds e (H.world host.new))) }
-        ensures opened { Told (H.world host.old) (IfOk result (λ e. Opened the_language (memory e) (H.world host.old) (H.world host.new))) }
-        ensures steps { Told (H.world host.old) (OnOk result (steps.new ≡ steps.old + applied_by (records (H.world host.old).seen))) }
+        ensures opened { Told (H.world host.old)
+            (IfOk result (λ e. Opened the_language (memory e) (H.world host.old)
+            (H.world host.new))) }
+        ensures steps { Told (H.world host.old)
+            (OnOk result (steps.new ≡ steps.old + applied_by (records (H.world host.old).seen))) }
         ensures open { IfOk result (λ e. is_closed e ≡ false) }
-        ensures session { Told (H.world host.old) (IfOk result (λ e. (memory e).session ≡ next_session (journal the_language (records (H.world host.old).seen)))) }
-        ensures begins { Told (H.world host.old) (OnOk result (take 4 (H.world host.old).seen ≡ magic)) }
+        ensures session { Told (H.world host.old)
+            (IfOk result (λ e. (memory e).session
+            ≡ next_session (journal the_language (records (H.world host.old).seen)))) }
+        ensures begins { Told (H.world host.old)
+            (OnOk result (take 4 (H.world host.old).seen ≡ magic)) }
         ensures seen { Told (H.world host.old) ((H.world host.new).seen ≡ (H.world host.old).seen) }
-        ensures any_moment { Told (H.world host.old) (LeavesOnly (H.world host.old) (H.world host.new) (OpeningMoment (H.world host.old))) }
-        ensures disk_fault { IsErrOf result EngineFault.DiskFault → Rose (H.faults host.old).disk (H.faults host.new).disk }
-        ensures not_a_journal { Told (H.world host.old) (IsErrOf result EngineFault.NotAJournal → (5 ≤ length (H.world host.old).seen) × (take 4 (H.world host.old).seen ≢ magic)) }
+        ensures any_moment { Told (H.world host.old)
+            (LeavesOnly (H.world host.old) (H.world host.new) (OpeningMoment (H.world host.old))) }
+        ensures disk_fault { IsErrOf result EngineFault.DiskFault
+            → Rose (H.faults host.old).disk (H.faults host.new).disk }
+        ensures not_a_journal { Told (H.world host.old) (IsErrOf result EngineFault.NotAJournal
+            → (5 ≤ length (H.world host.old).seen) × (take 4 (H.world host.old).seen ≢ magic)) }
         ensures not_started { Told (H.world host.old) (IsErrOf result EngineFault.NotStarted
-            → (records (H.world host.old).seen ≡ []) × ((length (H.world host.old).seen ≤ 4) ⊎ (take 4 (H.world host.old).seen ≡ magic))) }
+            → (records (H.world host.old).seen ≡ [])
+            × ((length (H.world host.old).seen ≤ 4) ⊎ (take 4 (H.world host.old).seen ≡ magic))) }
         // what was found was read behind the opening's sync
-        ensures settled { Told (H.world host.old) (IsErrOf result EngineFault.NotStarted → Only (H.world host.new).seen (H.world host.new).may_leave) }
-        ensures not_a_history { Told (H.world host.old) (IfErr result (λ e. (n : ℕ) → e ≡ EngineFault.NotAHistory n
-            → (history_of the_language (records (H.world host.old).seen) ≡ Err n) × (records (H.world host.old).seen ≢ []) × (take 4 (H.world host.old).seen ≡ magic))) }
-        ensures only { IfErr result (λ e. (e ≡ EngineFault.DiskFault) ⊎ (e ≡ EngineFault.NotAJournal) ⊎ (e ≡ EngineFault.NotStarted) ⊎ ((n : ℕ) × (e ≡ EngineFault.NotAHistory n)) ⊎ (e ≡ EngineFault.OutOfMemory)) }
-        ensures deeds { Told (H.world host.old) (((H.world host.new).deeds ≡ (H.world host.old).deeds) ⊎ ((t : ℕ) × ((H.world host.new).deeds ≡ (H.world host.old).deeds ++ Now t ∷ []))) }
-        ensures finished { Told (H.world host.old) ((s : Standing) → history_of the_language (records (H.world host.old).seen) ≡ Ok s → s.config.outcome ≢ Active → (H.world host.new).deeds ≡ (H.world host.old).deeds) }
+        ensures settled { Told (H.world host.old) (IsErrOf result EngineFault.NotStarted
+            → Only (H.world host.new).seen (H.world host.new).may_leave) }
+        ensures not_a_history { Told (H.world host.old)
+            (IfErr result (λ e. (n : ℕ) → e ≡ EngineFault.NotAHistory n
+            → (history_of the_language (records (H.world host.old).seen) ≡ Err n)
+            × (records (H.world host.old).seen ≢ []) × (take 4 (H.world host.old).seen ≡ magic))) }
+        ensures only { IfErr result (λ e. (e ≡ EngineFault.DiskFault)
+            ⊎ (e ≡ EngineFault.NotAJournal) ⊎ (e ≡ EngineFault.NotStarted)
+            ⊎ ((n : ℕ) × (e ≡ EngineFault.NotAHistory n)) ⊎ (e ≡ EngineFault.OutOfMemory)) }
+        ensures deeds { Told (H.world host.old)
+            (((H.world host.new).deeds ≡ (H.world host.old).deeds)
+            ⊎ ((t : ℕ) × ((H.world host.new).deeds ≡ (H.world host.old).deeds ++ Now t ∷ []))) }
+        ensures finished { Told (H.world host.old) ((s : Standing)
+            → history_of the_language (records (H.world host.old).seen) ≡ Ok s
+            → s.config.outcome ≢ Active → (H.world host.new).deeds ≡ (H.world host.old).deeds) }
         ensures tells { (H.world host.new).tells ≡ (H.world host.old).tells }
         ensures counts { NoneFell (H.faults host.old) (H.faults host.new) }
     {
@@ -175,25 +217,44 @@ impl Engine {
     /// The error is `DiskFault` where a disk call failed; `OutOfMemory`; or `Closed` exactly where an earlier call has failed. After an
     /// error the engine is closed, and the file has the records before, or these and the turn.
     pub fn turn<H: Host>(&mut self, host: &mut H) -> Result<(), EngineFault>
-        requires kept { is_closed self.old ≡ false → Told (H.world host.old) (Holds self.old (H.world host.old)) }
-        ensures holds { is_closed self.new ≡ false → Told (H.world host.old) (Holds self.new (H.world host.new)) }
-        ensures stands { Told (H.world host.old) (OnOk result ((command : Command) (D : List Deed)
-            → StandsFor the_language command (memory self.old) (records (H.world host.old).seen) D → StandsFor the_language command (memory self.new) (records (H.world host.new).seen) D)) }
-        ensures turn { Told (H.world host.old) (OnOk result (records (H.world host.new).seen
-            ≡ records (H.world host.old).seen ++ turn_records (memory self.old).session (turn_of (memory self.old).program (memory self.old).config (memory self.old).reading None))) }
-        ensures any_moment { is_closed self.old ≡ false → Told (H.world host.old) ((command : Command) (D : List Deed)
+        requires kept { is_closed self.old ≡ false
+            → Told (H.world host.old) (Holds self.old (H.world host.old)) }
+        ensures holds { is_closed self.new ≡ false
+            → Told (H.world host.old) (Holds self.new (H.world host.new)) }
+        ensures stands { Told (H.world host.old)
+            (OnOk result ((command : Command) (D : List Deed)
             → StandsFor the_language command (memory self.old) (records (H.world host.old).seen) D
-            → LeavesOnly (H.world host.old) (H.world host.new) (Moment (H.world host.old) (KeptAt the_language command (memory self.old) (records (H.world host.old).seen) D))) }
-        ensures counted { OnOk result ((memory self.new).config.moves ≡ (memory self.old).config.moves + counts_of (turn_of (memory self.old).program (memory self.old).config (memory self.old).reading None)) }
+            → StandsFor the_language command (memory self.new) (records (H.world host.new).seen)
+            D)) }
+        ensures turn { Told (H.world host.old)
+            (OnOk result (records (H.world host.new).seen
+            ≡ records (H.world host.old).seen
+            ++ turn_records (memory self.old).session
+            (turn_of (memory self.old).program (memory self.old).config (memory self.old).reading
+            None))) }
+        ensures any_moment { is_closed self.old ≡ false
+            → Told (H.world host.old) ((command : Command) (D : List Deed)
+            → StandsFor the_language command (memory self.old) (records (H.world host.old).seen) D
+            → LeavesOnly (H.world host.old) (H.world host.new)
+            (Moment (H.world host.old)
+            (KeptAt the_language command (memory self.old) (records (H.world host.old).seen) D))) }
+        ensures counted { OnOk result ((memory self.new).config.moves
+            ≡ (memory self.old).config.moves
+            + counts_of (turn_of (memory self.old).program (memory self.old).config
+            (memory self.old).reading None)) }
         ensures most { OnOk result ((memory self.new).config.moves ≤ 100000) }
         ensures session { (memory self.new).session ≡ (memory self.old).session }
-        ensures disk_fault { IsErrOf result EngineFault.DiskFault → Rose (H.faults host.old).disk (H.faults host.new).disk }
+        ensures disk_fault { IsErrOf result EngineFault.DiskFault
+            → Rose (H.faults host.old).disk (H.faults host.new).disk }
         ensures closed { IsErrOf result EngineFault.Closed ↔ (is_closed self.old ≡ true) }
         ensures closes { OnErr result (is_closed self.new ≡ true) }
-        ensures idle { IsErrOf result EngineFault.Closed → (self.new ≡ self.old) × (host.new ≡ host.old) }
+        ensures idle { IsErrOf result EngineFault.Closed
+            → (self.new ≡ self.old) × (host.new ≡ host.old) }
         ensures open { OnOk result (is_closed self.new ≡ false) }
-        ensures only { IfErr result (λ e. (e ≡ EngineFault.DiskFault) ⊎ (e ≡ EngineFault.Closed) ⊎ (e ≡ EngineFault.OutOfMemory)) }
-        ensures deeds { Told (H.world host.old) ((H.world host.new).deeds ≡ (H.world host.old).deeds) }
+        ensures only { IfErr result (λ e. (e ≡ EngineFault.DiskFault) ⊎ (e ≡ EngineFault.Closed)
+            ⊎ (e ≡ EngineFault.OutOfMemory)) }
+        ensures deeds { Told (H.world host.old) ((H.world host.new).deeds
+            ≡ (H.world host.old).deeds) }
         ensures tells { (H.world host.new).tells ≡ (H.world host.old).tells }
         ensures counts { NoneFell (H.faults host.old) (H.faults host.new) }
     {
@@ -223,23 +284,36 @@ impl Engine {
 
     /// Adds turns until there is an outcome. The errors are those of [`Engine::turn`].
     pub fn session<H: Host>(&mut self, host: &mut H) -> Result<(), EngineFault>
-        requires kept { is_closed self.old ≡ false → Told (H.world host.old) (Holds self.old (H.world host.old)) }
-        ensures holds { is_closed self.new ≡ false → Told (H.world host.old) (Holds self.new (H.world host.new)) }
-        ensures stands { Told (H.world host.old) (OnOk result ((command : Command) (D : List Deed)
-            → StandsFor the_language command (memory self.old) (records (H.world host.old).seen) D → StandsFor the_language command (memory self.new) (records (H.world host.new).seen) D)) }
-        ensures ended { OnOk result (IsResult (memory self.new).config.outcome) }
-        ensures any_moment { is_closed self.old ≡ false → Told (H.world host.old) ((command : Command) (D : List Deed)
+        requires kept { is_closed self.old ≡ false
+            → Told (H.world host.old) (Holds self.old (H.world host.old)) }
+        ensures holds { is_closed self.new ≡ false
+            → Told (H.world host.old) (Holds self.new (H.world host.new)) }
+        ensures stands { Told (H.world host.old)
+            (OnOk result ((command : Command) (D : List Deed)
             → StandsFor the_language command (memory self.old) (records (H.world host.old).seen) D
-            → LeavesOnly (H.world host.old) (H.world host.new) (Moment (H.world host.old) (KeptAt the_language command (memory self.old) (records (H.world host.old).seen) D))) }
-        ensures finished { Told (H.world host.old) ((memory self.old).config.outcome ≢ Active → host.new ≡ host.old) }
+            → StandsFor the_language command (memory self.new) (records (H.world host.new).seen)
+            D)) }
+        ensures ended { OnOk result (IsResult (memory self.new).config.outcome) }
+        ensures any_moment { is_closed self.old ≡ false
+            → Told (H.world host.old) ((command : Command) (D : List Deed)
+            → StandsFor the_language command (memory self.old) (records (H.world host.old).seen) D
+            → LeavesOnly (H.world host.old) (H.world host.new)
+            (Moment (H.world host.old)
+            (KeptAt the_language command (memory self.old) (records (H.world host.old).seen) D))) }
+        ensures finished { Told (H.world host.old) ((memory self.old).config.outcome ≢ Active
+            → host.new ≡ host.old) }
         ensures session { (memory self.new).session ≡ (memory self.old).session }
-        ensures disk_fault { IsErrOf result EngineFault.DiskFault → Rose (H.faults host.old).disk (H.faults host.new).disk }
+        ensures disk_fault { IsErrOf result EngineFault.DiskFault
+            → Rose (H.faults host.old).disk (H.faults host.new).disk }
         ensures closed { IsErrOf result EngineFault.Closed ↔ (is_closed self.old ≡ true) }
         ensures closes { OnErr result (is_closed self.new ≡ true) }
-        ensures idle { IsErrOf result EngineFault.Closed → (self.new ≡ self.old) × (host.new ≡ host.old) }
+        ensures idle { IsErrOf result EngineFault.Closed
+            → (self.new ≡ self.old) × (host.new ≡ host.old) }
         ensures open { OnOk result (is_closed self.new ≡ false) }
-        ensures only { IfErr result (λ e. (e ≡ EngineFault.DiskFault) ⊎ (e ≡ EngineFault.Closed) ⊎ (e ≡ EngineFault.OutOfMemory)) }
-        ensures deeds { Told (H.world host.old) ((H.world host.new).deeds ≡ (H.world host.old).deeds) }
+        ensures only { IfErr result (λ e. (e ≡ EngineFault.DiskFault) ⊎ (e ≡ EngineFault.Closed)
+            ⊎ (e ≡ EngineFault.OutOfMemory)) }
+        ensures deeds { Told (H.world host.old) ((H.world host.new).deeds
+            ≡ (H.world host.old).deeds) }
         ensures tells { (H.world host.new).tells ≡ (H.world host.old).tells }
         ensures counts { NoneFell (H.faults host.old) (H.faults host.new) }
     {

@@ -2,8 +2,8 @@
 ghost use Rattle.wf_engine.specs.Lives.{PairsAreStays, OneRequest, ClosedIsNotStarted, FilesStayFit, RecordsStay, OneLine, PrintsByACause, PrintsOneLine};
 
 use wf_host::Host;
-use wf_model::laws_of_runs;
 use wf_journal_laws::laws_of_histories;
+use wf_model::laws_of_runs;
 
 /// Carries laws of lives, which are lists of commands, each on what the one before left, also where it was ended by a crash: each file
 /// that is left may be gone on with, no record is lost, a call that is closed isn't started again, a call has one request, an outcome

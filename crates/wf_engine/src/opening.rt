@@ -36,13 +36,20 @@ pub(crate) fn empty_history<H: Host>(alloc: Global, host: &mut H) -> Result<Hist
     ensures ended { IfOk result (λ h. at_end h ≡ true) }
     ensures none { Told (H.world host.old) (OnOk result (records (H.world host.old).seen ≡ [])) }
     ensures seen { Told (H.world host.old) ((H.world host.new).seen ≡ (H.world host.old).seen) }
-    ensures any_moment { Told (H.world host.old) (LeavesOnly (H.world host.old) (H.world host.new) (λ c d. (H.world host.old).may_leave c × (d ≡ (H.world host.old).deeds))) }
-    ensures disk_fault { IsErrOf result EngineFault.DiskFault → Rose (H.faults host.old).disk (H.faults host.new).disk }
-    ensures not_a_journal { Told (H.world host.old) (IsErrOf result EngineFault.NotAJournal → (5 ≤ length (H.world host.old).seen) × (take 4 (H.world host.old).seen ≢ magic)) }
+    ensures any_moment { Told (H.world host.old)
+        (LeavesOnly (H.world host.old) (H.world host.new) (λ c d. (H.world host.old).may_leave c
+        × (d ≡ (H.world host.old).deeds))) }
+    ensures disk_fault { IsErrOf result EngineFault.DiskFault
+        → Rose (H.faults host.old).disk (H.faults host.new).disk }
+    ensures not_a_journal { Told (H.world host.old) (IsErrOf result EngineFault.NotAJournal
+        → (5 ≤ length (H.world host.old).seen) × (take 4 (H.world host.old).seen ≢ magic)) }
     ensures a_journal { Told (H.world host.old) (OnOk result (IsJournal (H.world host.old).seen)) }
-    ensures already_started { Told (H.world host.old) (IsErrOf result EngineFault.AlreadyStarted → (records (H.world host.old).seen ≢ []) × IsJournal (H.world host.old).seen) }
-    ensures settled { Told (H.world host.old) (IsErrOf result EngineFault.AlreadyStarted → Only (H.world host.new).seen (H.world host.new).may_leave) }
-    ensures only { IfErr result (λ e. (e ≡ EngineFault.DiskFault) ⊎ (e ≡ EngineFault.NotAJournal) ⊎ (e ≡ EngineFault.AlreadyStarted) ⊎ (e ≡ EngineFault.OutOfMemory)) }
+    ensures already_started { Told (H.world host.old) (IsErrOf result EngineFault.AlreadyStarted
+        → (records (H.world host.old).seen ≢ []) × IsJournal (H.world host.old).seen) }
+    ensures settled { Told (H.world host.old) (IsErrOf result EngineFault.AlreadyStarted
+        → Only (H.world host.new).seen (H.world host.new).may_leave) }
+    ensures only { IfErr result (λ e. (e ≡ EngineFault.DiskFault) ⊎ (e ≡ EngineFault.NotAJournal)
+        ⊎ (e ≡ EngineFault.AlreadyStarted) ⊎ (e ≡ EngineFault.OutOfMemory)) }
     ensures deeds { Told (H.world host.old) ((H.world host.new).deeds ≡ (H.world host.old).deeds) }
     ensures tells { (H.world host.new).tells ≡ (H.world host.old).tells }
     ensures counts { NoneFell (H.faults host.old) (H.faults host.new) }
@@ -68,20 +75,31 @@ pub(crate) fn last_machine<H: Host, L: Ledger>(
     requires none_read { last history.old ≡ None }
     requires kept { Told (H.world host.old) (Stands history.old (H.world host.old)) }
     ensures stands { Told (H.world host.old) (OnOk result (Stands history.new (H.world host.new))) }
-    ensures leads { Told (H.world host.old) (IfOk result (λ m. history_of the_language (ahead history.old (H.world host.old).seen) ≡ Ok (standing history.new m))) }
-    ensures steps { Told (H.world host.old) (OnOk result (steps.new ≡ steps.old + applied_by (ahead history.old (H.world host.old).seen))) }
-    ensures some { Told (H.world host.old) (OnOk result (ahead history.old (H.world host.old).seen ≢ [])) }
+    ensures leads { Told (H.world host.old)
+        (IfOk result (λ m. history_of the_language (ahead history.old (H.world host.old).seen)
+        ≡ Ok (standing history.new m))) }
+    ensures steps { Told (H.world host.old)
+        (OnOk result (steps.new
+        ≡ steps.old + applied_by (ahead history.old (H.world host.old).seen))) }
+    ensures some { Told (H.world host.old)
+        (OnOk result (ahead history.old (H.world host.old).seen ≢ [])) }
     ensures whole { IfOk result (λ m. (state_of m).broken ≡ false) }
     ensures ended { OnOk result (at_end history.new ≡ true) }
     ensures still_open { OnOk result (is_closed history.new ≡ false) }
     ensures new { is_new history.new ≡ is_new history.old }
     ensures seen { Told (H.world host.old) ((H.world host.new).seen ≡ (H.world host.old).seen) }
-    ensures any_moment { Told (H.world host.old) (LeavesOnly (H.world host.old) (H.world host.new) (Stays (H.world host.old))) }
-    ensures disk_fault { IsErrOf result EngineFault.DiskFault → Rose (H.faults host.old).disk (H.faults host.new).disk }
-    ensures not_started { Told (H.world host.old) (IsErrOf result EngineFault.NotStarted → ahead history.old (H.world host.old).seen ≡ []) }
-    ensures not_a_history { Told (H.world host.old) (IfErr result (λ e. (n : ℕ) → e ≡ EngineFault.NotAHistory n
-        → (history_of the_language (ahead history.old (H.world host.old).seen) ≡ Err n) × (ahead history.old (H.world host.old).seen ≢ []))) }
-    ensures only { IfErr result (λ e. (e ≡ EngineFault.DiskFault) ⊎ (e ≡ EngineFault.NotStarted) ⊎ ((n : ℕ) × (e ≡ EngineFault.NotAHistory n)) ⊎ (e ≡ EngineFault.OutOfMemory)) }
+    ensures any_moment { Told (H.world host.old)
+        (LeavesOnly (H.world host.old) (H.world host.new) (Stays (H.world host.old))) }
+    ensures disk_fault { IsErrOf result EngineFault.DiskFault
+        → Rose (H.faults host.old).disk (H.faults host.new).disk }
+    ensures not_started { Told (H.world host.old) (IsErrOf result EngineFault.NotStarted
+        → ahead history.old (H.world host.old).seen ≡ []) }
+    ensures not_a_history { Told (H.world host.old)
+        (IfErr result (λ e. (n : ℕ) → e ≡ EngineFault.NotAHistory n
+        → (history_of the_language (ahead history.old (H.world host.old).seen) ≡ Err n)
+        × (ahead history.old (H.world host.old).seen ≢ []))) }
+    ensures only { IfErr result (λ e. (e ≡ EngineFault.DiskFault) ⊎ (e ≡ EngineFault.NotStarted)
+        ⊎ ((n : ℕ) × (e ≡ EngineFault.NotAHistory n)) ⊎ (e ≡ EngineFault.OutOfMemory)) }
     ensures deeds { Told (H.world host.old) ((H.world host.new).deeds ≡ (H.world host.old).deeds) }
     ensures tells { (H.world host.new).tells ≡ (H.world host.old).tells }
     ensures counts { NoneFell (H.faults host.old) (H.faults host.new) }
@@ -100,19 +118,30 @@ fn first_machine<H: Host>(
     requires first { place history.old ≡ 0 }
     requires none_read { last history.old ≡ None }
     requires kept { Told (H.world host.old) (Stands history.old (H.world host.old)) }
-    ensures stands { is_closed history.new ≡ false → Told (H.world host.old) (Stands history.new (H.world host.new)) }
-    ensures leads { Told (H.world host.old) (IfOk result (λ m. (payload : List ℕ) × (ahead history.old (H.world host.old).seen ≡ payload ∷ ahead history.new (H.world host.old).seen)
+    ensures stands { is_closed history.new ≡ false
+        → Told (H.world host.old) (Stands history.new (H.world host.new)) }
+    ensures leads { Told (H.world host.old)
+        (IfOk result (λ m. (payload : List ℕ)
+        × (ahead history.old (H.world host.old).seen
+        ≡ payload ∷ ahead history.new (H.world host.old).seen)
         × (first_standing the_language (meaning payload) ≡ Some (standing history.new m)))) }
-    ensures some { Told (H.world host.old) (OnOk result (ahead history.old (H.world host.old).seen ≢ [])) }
+    ensures some { Told (H.world host.old)
+        (OnOk result (ahead history.old (H.world host.old).seen ≢ [])) }
     ensures whole { IfOk result (λ m. (state_of m).broken ≡ false) }
     ensures still_open { OnOk result (is_closed history.new ≡ false) }
     ensures new { is_new history.new ≡ is_new history.old }
     ensures seen { Told (H.world host.old) ((H.world host.new).seen ≡ (H.world host.old).seen) }
-    ensures any_moment { Told (H.world host.old) (LeavesOnly (H.world host.old) (H.world host.new) (Stays (H.world host.old))) }
-    ensures disk_fault { IsErrOf result EngineFault.DiskFault → Rose (H.faults host.old).disk (H.faults host.new).disk }
-    ensures not_started { Told (H.world host.old) (IsErrOf result EngineFault.NotStarted → ahead history.old (H.world host.old).seen ≡ []) }
-    ensures not_a_history { Told (H.world host.old) (IfErr result (λ e. (n : ℕ) → e ≡ EngineFault.NotAHistory n → NoFirst the_language n (ahead history.old (H.world host.old).seen))) }
-    ensures only { IfErr result (λ e. (e ≡ EngineFault.DiskFault) ⊎ (e ≡ EngineFault.NotStarted) ⊎ ((n : ℕ) × (e ≡ EngineFault.NotAHistory n)) ⊎ (e ≡ EngineFault.OutOfMemory)) }
+    ensures any_moment { Told (H.world host.old)
+        (LeavesOnly (H.world host.old) (H.world host.new) (Stays (H.world host.old))) }
+    ensures disk_fault { IsErrOf result EngineFault.DiskFault
+        → Rose (H.faults host.old).disk (H.faults host.new).disk }
+    ensures not_started { Told (H.world host.old) (IsErrOf result EngineFault.NotStarted
+        → ahead history.old (H.world host.old).seen ≡ []) }
+    ensures not_a_history { Told (H.world host.old)
+        (IfErr result (λ e. (n : ℕ) → e ≡ EngineFault.NotAHistory n
+        → NoFirst the_language n (ahead history.old (H.world host.old).seen))) }
+    ensures only { IfErr result (λ e. (e ≡ EngineFault.DiskFault) ⊎ (e ≡ EngineFault.NotStarted)
+        ⊎ ((n : ℕ) × (e ≡ EngineFault.NotAHistory n)) ⊎ (e ≡ EngineFault.OutOfMemory)) }
     ensures deeds { Told (H.world host.old) ((H.world host.new).deeds ≡ (H.world host.old).deeds) }
     ensures tells { (H.world host.new).tells ≡ (H.world host.old).tells }
     ensures counts { NoneFell (H.faults host.old) (H.faults host.new) }
@@ -136,10 +165,13 @@ fn accepted_program(alloc: Global, source: &[u8]) -> Result<Option<Checked>, Out
 
 /// The machine of a first record: `NotAHistory` where it is no start whose source is accepted.
 fn machine_of(alloc: Global, first: &Record) -> Result<Machine, EngineFault>
-    ensures starts { IfOk result (λ m. first_standing the_language (Some (record_view first.now)) ≡ Some (stands_at 1 None m)) }
+    ensures starts { IfOk result (λ m. first_standing the_language (Some (record_view first.now))
+        ≡ Some (stands_at 1 None m)) }
     ensures whole { IfOk result (λ m. (state_of m).broken ≡ false) }
-    ensures none { IsErrOf result (EngineFault.NotAHistory 0) → first_standing the_language (Some (record_view first.now)) ≡ None }
-    ensures only { IfErr result (λ e. (e ≡ EngineFault.NotAHistory 0) ⊎ (e ≡ EngineFault.OutOfMemory)) }
+    ensures none { IsErrOf result (EngineFault.NotAHistory 0)
+        → first_standing the_language (Some (record_view first.now)) ≡ None }
+    ensures only { IfErr result (λ e. (e ≡ EngineFault.NotAHistory 0)
+        ⊎ (e ≡ EngineFault.OutOfMemory)) }
 {
     each_source_is_one();
     let Record::Start(start) = first else {
@@ -153,11 +185,17 @@ fn machine_of(alloc: Global, first: &Record) -> Result<Machine, EngineFault>
 
 /// The greatest reading of a session that goes on from a machine: the clock is read once where there is no outcome.
 pub(crate) fn session_reading<H: Host>(machine: &Machine, host: &mut H) -> Result<u64, OutOfMemory>
-    ensures clock { Told (H.world host.old) (IfOk result (λ reading. ReadsClock (state_of machine.now).config reading (H.world host.old) (H.world host.new))) }
-    ensures settled { Told (H.world host.old) (Only (H.world host.old).seen (H.world host.old).may_leave → Only (H.world host.new).seen (H.world host.new).may_leave) }
+    ensures clock { Told (H.world host.old)
+        (IfOk result (λ reading. ReadsClock (state_of machine.now).config reading (H.world host.old)
+        (H.world host.new))) }
+    ensures settled { Told (H.world host.old)
+        (Only (H.world host.old).seen (H.world host.old).may_leave
+        → Only (H.world host.new).seen (H.world host.new).may_leave) }
     ensures seen { Told (H.world host.old) ((H.world host.new).seen ≡ (H.world host.old).seen) }
-    ensures any_moment { Told (H.world host.old) (LeavesOnly (H.world host.old) (H.world host.new) (OpeningMoment (H.world host.old))) }
-    ensures deeds { Told (H.world host.old) (((H.world host.new).deeds ≡ (H.world host.old).deeds) ⊎ ((t : ℕ) × ((H.world host.new).deeds ≡ (H.world host.old).deeds ++ Now t ∷ []))) }
+    ensures any_moment { Told (H.world host.old)
+        (LeavesOnly (H.world host.old) (H.world host.new) (OpeningMoment (H.world host.old))) }
+    ensures deeds { Told (H.world host.old) (((H.world host.new).deeds ≡ (H.world host.old).deeds)
+        ⊎ ((t : ℕ) × ((H.world host.new).deeds ≡ (H.world host.old).deeds ++ Now t ∷ []))) }
     ensures finished { (state_of machine.now).config.outcome ≢ Active → host.new ≡ host.old }
     ensures tells { (H.world host.new).tells ≡ (H.world host.old).tells }
     ensures counts { NoneFell (H.faults host.old) (H.faults host.new) }

@@ -30,17 +30,26 @@ pub fn choose_turn(
     reading: u64,
 ) -> Result<Events, OutOfMemory>
     requires whole { (state_of machine.old).broken ≡ false }
-    ensures turn { IfOk result (λ events. events_view events ≡ turn_of (state_of machine.old).program (state_of machine.old).config reading None) }
-    ensures leads { IfOk result (λ events. run_on (state_of machine.old).program (To (state_of machine.old).config) (events_view events) ≡ To (state_of machine.new).config) }
+    ensures turn { IfOk result (λ events. events_view events
+        ≡ turn_of (state_of machine.old).program (state_of machine.old).config reading None) }
+    ensures leads { IfOk result (λ events. run_on (state_of machine.old).program
+        (To (state_of machine.old).config) (events_view events)
+        ≡ To (state_of machine.new).config) }
     ensures short { IfOk result (λ events. length (events_view events) ≤ 4096) }
-    ensures ended { IfOk result (λ events. length (events_view events) < 4096 → Rests (state_of machine.new).config reading) }
-    ensures active { IfOk result (λ events. (state_of machine.old).config.outcome ≢ Active → events_view events ≡ []) }
-    ensures counted { IfOk result (λ events. (state_of machine.new).config.moves ≡ (state_of machine.old).config.moves + counts_of (events_view events)) }
+    ensures ended { IfOk result (λ events. length (events_view events) < 4096
+        → Rests (state_of machine.new).config reading) }
+    ensures active { IfOk result (λ events. (state_of machine.old).config.outcome ≢ Active
+        → events_view events ≡ []) }
+    ensures counted { IfOk result (λ events. (state_of machine.new).config.moves
+        ≡ (state_of machine.old).config.moves + counts_of (events_view events)) }
     ensures most { OnOk result ((state_of machine.new).config.moves ≤ 100000) }
     ensures spelled { IfOk result (λ events. AllByRecursion IsOld (events_view events)) }
-    ensures readings { IfOk result (λ events. (state_of machine.old).config.last ≤ reading → TakeReading reading (events_view events)) }
-    ensures last { OnOk result ((state_of machine.old).config.last ≤ reading → (state_of machine.new).config.last ≤ reading) }
-    ensures program { OnOk result ((state_of machine.new).program ≡ (state_of machine.old).program) }
+    ensures readings { IfOk result (λ events. (state_of machine.old).config.last ≤ reading
+        → TakeReading reading (events_view events)) }
+    ensures last { OnOk result ((state_of machine.old).config.last ≤ reading
+        → (state_of machine.new).config.last ≤ reading) }
+    ensures program { OnOk result ((state_of machine.new).program
+        ≡ (state_of machine.old).program) }
     ensures whole { OnOk result ((state_of machine.new).broken ≡ false) }
 {
     let events = choose_from_blank::<Brand>(alloc, machine, reading, Blank::new(1))?;
@@ -58,7 +67,8 @@ fn choose_from_blank<L: Ledger>(
     requires name { blank.name ≡ L.name }
     requires parts { blank.parts ≡ L.parts }
     requires some { 0 < blank.parts }
-    ensures { IfOk result (λ events. IsTurn (state_of machine.old) (state_of machine.new) reading (events_view events)) }
+    ensures { IfOk result (λ events. IsTurn (state_of machine.old) (state_of machine.new) reading
+        (events_view events)) }
 {
     choose_counted(alloc, machine, reading, &mut Steps::<L>::new(blank))
 }
@@ -71,7 +81,8 @@ fn choose_counted<L: Ledger>(
     steps: &mut Steps<L>,
 ) -> Result<Events, OutOfMemory>
     requires whole { (state_of machine.old).broken ≡ false }
-    ensures turn { IfOk result (λ events. IsTurn (state_of machine.old) (state_of machine.new) reading (events_view events)) }
+    ensures turn { IfOk result (λ events. IsTurn (state_of machine.old) (state_of machine.new)
+        reading (events_view events)) }
     ensures steps { IfOk result (λ events. steps.new ≡ steps.old + length (events_view events)) }
 {
     laws_of_choice();
