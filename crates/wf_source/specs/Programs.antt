@@ -4,8 +4,8 @@
 use Rattle.std.specs.Prelude.{◌≡◌, ℕ, List, Some, Ok, Err, IsTrue}
 use Rattle.wf_ast.specs.Tree.{Program}
 use Rattle.wf_check.specs.Said.{Said, first_said, is_accepted}
-use Rattle.wf_check.specs.declared.kind.CheckKind.{CheckKind}
-use Rattle.wf_check.specs.declared.kind.CheckKind.TheVariants as check
+use Rattle.wf_diagnostics.specs.declared.kind.CheckKind.{CheckKind}
+use Rattle.wf_diagnostics.specs.declared.kind.CheckKind.TheVariants as check
 use Rattle.wf_expr.specs.declared.fault.ExprFault.{ExprFault}
 use Rattle.wf_expr.specs.declared.fault.ExprFault.TheVariants as expr
 use Rattle.wf_rules.specs.Faults.{IsFirstFault}
