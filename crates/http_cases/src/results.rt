@@ -63,8 +63,8 @@ fn part_of(alloc: Global, field: &Value, i: usize) -> Result<Bytes, CaseFault> {
     }
 }
 
-fn given(alloc: Global, result: &Result<Value, ReplyFault>) -> Result<String, CaseFault> {
-    match result {
+fn given(alloc: Global, answer: &Result<Value, ReplyFault>) -> Result<String, CaseFault> {
+    match answer {
         Ok(value) => shown(alloc, value),
         Err(ReplyFault::Raised(error)) => shown(alloc, error),
         Err(ReplyFault::OutOfMemory) => Err(CaseFault::OutOfMemory),
