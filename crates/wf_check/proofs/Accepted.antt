@@ -53,6 +53,7 @@ pub silent : (p : Program) → IsTrue (is_accepted p) → first_said p ≡ None
 silent p h = none_there (first_said p) (parts (is_none (first_said p)) (list_all small_backoff (nodes p.flows)) h).0
 
 pub accept_of : (p : Program) → IsTrue (is_accepted p) → Accept p
+unfolding first_fault
 accept_of p h = (rules_silent p.flows 0 [] (nodes p.flows) (silent p h), (parts (is_none (first_said p)) (list_all small_backoff (nodes p.flows)) h).1)
 
 pub built_of : (p : Program) → IsTrue (is_accepted p) → IsTrue (program_built p)

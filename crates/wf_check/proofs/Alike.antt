@@ -60,6 +60,7 @@ unseen_alike ls ms h [] = refl
 unseen_alike ls ms h (r ∷ rs) = λ j. if visible_alike ls ms h r.1 j then unseen_alike ls ms h rs j else Some r.0
 
 pub fault_alike : (fs : List Flow) (n : ℕ) (e f : List Text) (part : NodePart) (a b : Around) (path : Path) → SameNames e f → Alike a b → fault fs n e (node part a path) ≡ fault fs n f (node part b path)
+unfolding fault rules
 fault_alike fs n e f part a b path s h = λ i. first (
     as_fault Kind.EmptySteps (rule_empty part path)
     ∷ as_fault Kind.DoubleStep (double_alike e f s part path i)
