@@ -1,7 +1,7 @@
 -- What it is that nothing is said of a program.
 use Rattle.std.proofs.Common.{◌≡◌, ℕ, suc, Bool, true, false, ◌&&◌, List, [], ◌∷◌, Option, Some, None, IsTrue, is_none, option_map, refl, sym, subst}
 use Rattle.std.specs.List.{list_all}
-use Rattle.wf_ast.specs.Accept.{Accept, Fault, after_part, fault, first_among, small_backoff}
+use Rattle.wf_ast.specs.Accept.{Accept, Fault, after_part, fault, first_among, first_fault, small_backoff}
 use Rattle.wf_ast.specs.Nodes.{Node, nodes}
 use Rattle.wf_ast.specs.Tree.{Flow, Program}
 use Rattle.wf_diagnostics.proofs.Told.{no_fault}

@@ -1,6 +1,6 @@
 -- In surroundings with the same names the rules say the same.
 use Rattle.std.proofs.Common.{◌≡◌, ℕ, suc, true, not, ◌&&◌, ◌||◌, List, [], ◌∷◌, Option, Some, None, codes, bytes_eq, if◌then◌else◌, option_map, refl, ap}
-use Rattle.wf_ast.specs.Accept.{Kind, as_fault, fault, first_unseen, is_visible, may_cross, may_write, result_of_call, call_of, rule_argument, rule_call, rule_many, rule_write, shared_in, unknown_shared, write_fault}
+use Rattle.wf_ast.specs.Accept.{Kind, as_fault, fault, first_unseen, is_visible, may_cross, may_write, result_of_call, call_of, rule_argument, rule_call, rule_many, rule_write, rules, shared_in, unknown_shared, write_fault}
 use Rattle.wf_ast.specs.Blocks.{at_if, first, is_return, is_word, outside_loop, rule_double, rule_empty, rule_next}
 use Rattle.wf_ast.specs.Nodes.{Around, Names, NodePart, FlowPart, StepPart, ArmPart, BodyPart, EntryPart, BranchPart, Path, below, node, nth, part_body}
 use Rattle.wf_ast.specs.Reads.{part_reads}

@@ -1,7 +1,7 @@
 -- The rules one after another, and the forms behind them.
 use Rattle.std.proofs.Common.{◌≡◌, ℕ, ◌<◌, List, [], ◌∷◌, ◌++◌, Option, Some, None, Result, Ok, Err, map, option_map, refl, sym, ◌∙◌, subst}
 use Rattle.std.specs.Result.{OnOk}
-use Rattle.wf_ast.specs.Accept.{Fault, Kind, as_fault, rule_argument, rule_call, rule_many, rule_name, rule_shared, rule_write, rules}
+use Rattle.wf_ast.specs.Accept.{Fault, Kind, as_fault, fault, rule_argument, rule_call, rule_many, rule_name, rule_shared, rule_write, rules}
 use Rattle.wf_ast.specs.Blocks.{first, out_of_scope, outside_loop, rule_double, rule_empty, rule_next, rule_return, unknown_step}
 use Rattle.wf_ast.specs.Nodes.{Around, NodePart, Path, node}
 use Rattle.wf_ast.specs.Tree.{Flow}
