@@ -76,8 +76,10 @@ fn read_next(
     history: &mut History,
     host: &mut MemHost,
 ) -> Result<Found, HistoryFault>
-    requires kept { is_closed history.old ≡ false → Told (mem_world host.old) (Stands history.old (mem_world host.old)) }
-    ensures stands { is_closed history.new ≡ false → Told (mem_world host.old) (Stands history.new (mem_world host.new)) }
+    requires kept { is_closed history.old ≡ false
+        → Told (mem_world host.old) (Stands history.old (mem_world host.old)) }
+    ensures stands { is_closed history.new ≡ false
+        → Told (mem_world host.old) (Stands history.new (mem_world host.new)) }
     ensures tells { (mem_world host.new).tells ≡ (mem_world host.old).tells }
 {
     match history.next(alloc, host) {
@@ -98,8 +100,10 @@ fn write_next(
     host: &mut MemHost,
     out: &mut String,
 ) -> Result<(), CaseFault>
-    requires kept { is_closed history.old ≡ false → Told (mem_world host.old) (Stands history.old (mem_world host.old)) }
-    ensures stands { is_closed history.new ≡ false → Told (mem_world host.old) (Stands history.new (mem_world host.new)) }
+    requires kept { is_closed history.old ≡ false
+        → Told (mem_world host.old) (Stands history.old (mem_world host.old)) }
+    ensures stands { is_closed history.new ≡ false
+        → Told (mem_world host.old) (Stands history.new (mem_world host.new)) }
     ensures tells { (mem_world host.new).tells ≡ (mem_world host.old).tells }
 {
     let read = read_next(alloc, history, host);
@@ -147,11 +151,14 @@ fn add(
     requires ended { at_end history.old ≡ true }
     requires begun { is_new history.old ≡ false }
     requires started { Told (mem_world host.old) (records (mem_world host.old).seen ≢ []) }
-    requires kept { is_closed history.old ≡ false → Told (mem_world host.old) (Stands history.old (mem_world host.old)) }
+    requires kept { is_closed history.old ≡ false
+        → Told (mem_world host.old) (Stands history.old (mem_world host.old)) }
     ensures still_ended { at_end history.new ≡ true }
     ensures still_begun { is_new history.new ≡ false }
-    ensures started { IfOk result (λ added. OnOk added (Told (mem_world host.old) (records (mem_world host.new).seen ≢ []))) }
-    ensures stands { is_closed history.new ≡ false → Told (mem_world host.old) (Stands history.new (mem_world host.new)) }
+    ensures started { IfOk result (λ added. OnOk added
+        (Told (mem_world host.old) (records (mem_world host.new).seen ≢ []))) }
+    ensures stands { is_closed history.new ≡ false
+        → Told (mem_world host.old) (Stands history.new (mem_world host.new)) }
     ensures tells { (mem_world host.new).tells ≡ (mem_world host.old).tells }
 {
     let turn = turn_of(alloc, &bytes_of(alloc, payload)?)?;

@@ -1,5 +1,6 @@
 // Journals, in memory and in a real file.
 ghost use Rattle.std.specs.Prelude.{◌≡◌, false};
+ghost use Rattle.wf_host.specs.Calls.{TellsAsBefore};
 ghost use Rattle.wf_host.specs.World.{Told};
 ghost use Rattle.wf_journal.specs.Stands.{is_closed, Stands};
 
@@ -22,9 +23,11 @@ fn write_next<H: Host>(
     alloc: Global,
     out: &mut String,
 ) -> Result<(), CaseFault>
-    requires kept { is_closed journal.old ≡ false → Told (H.world host.old) (Stands journal.old (H.world host.old)) }
-    ensures stands { is_closed journal.new ≡ false → Told (H.world host.old) (Stands journal.new (H.world host.new)) }
-    ensures tells { (H.world host.new).tells ≡ (H.world host.old).tells }
+    requires kept { is_closed journal.old ≡ false
+        → Told (H.world host.old) (Stands journal.old (H.world host.old)) }
+    ensures stands { is_closed journal.new ≡ false
+        → Told (H.world host.old) (Stands journal.new (H.world host.new)) }
+    ensures tells { TellsAsBefore H.world host.old host.new }
 {
     let lent = match journal.next(alloc, host, room) {
         Ok(Some(payload)) => {
@@ -42,9 +45,11 @@ fn write_next<H: Host>(
 
 /// Begins the journal, where it is new. Says whether it was.
 fn begin<H: Host>(journal: &mut Journal, host: &mut H) -> Result<bool, JournalFault>
-    requires kept { is_closed journal.old ≡ false → Told (H.world host.old) (Stands journal.old (H.world host.old)) }
-    ensures stands { is_closed journal.new ≡ false → Told (H.world host.old) (Stands journal.new (H.world host.new)) }
-    ensures tells { (H.world host.new).tells ≡ (H.world host.old).tells }
+    requires kept { is_closed journal.old ≡ false
+        → Told (H.world host.old) (Stands journal.old (H.world host.old)) }
+    ensures stands { is_closed journal.new ≡ false
+        → Told (H.world host.old) (Stands journal.new (H.world host.new)) }
+    ensures tells { TellsAsBefore H.world host.old host.new }
 {
     if !journal.is_new() {
         return Ok(false);
@@ -59,9 +64,11 @@ fn append<H: Host>(
     host: &mut H,
     payload: &[u8],
 ) -> Result<bool, JournalFault>
-    requires kept { is_closed journal.old ≡ false → Told (H.world host.old) (Stands journal.old (H.world host.old)) }
-    ensures stands { is_closed journal.new ≡ false → Told (H.world host.old) (Stands journal.new (H.world host.new)) }
-    ensures tells { (H.world host.new).tells ≡ (H.world host.old).tells }
+    requires kept { is_closed journal.old ≡ false
+        → Told (H.world host.old) (Stands journal.old (H.world host.old)) }
+    ensures stands { is_closed journal.new ≡ false
+        → Told (H.world host.old) (Stands journal.new (H.world host.new)) }
+    ensures tells { TellsAsBefore H.world host.old host.new }
 {
     if journal.is_new() || !journal.at_end() {
         return Ok(false);
@@ -88,9 +95,11 @@ fn make<H: Host>(
     alloc: Global,
     out: &mut String,
 ) -> Result<(), CaseFault>
-    requires kept { is_closed journal.old ≡ false → Told (H.world host.old) (Stands journal.old (H.world host.old)) }
-    ensures stands { is_closed journal.new ≡ false → Told (H.world host.old) (Stands journal.new (H.world host.new)) }
-    ensures tells { (H.world host.new).tells ≡ (H.world host.old).tells }
+    requires kept { is_closed journal.old ≡ false
+        → Told (H.world host.old) (Stands journal.old (H.world host.old)) }
+    ensures stands { is_closed journal.new ≡ false
+        → Told (H.world host.old) (Stands journal.new (H.world host.new)) }
+    ensures tells { TellsAsBefore H.world host.old host.new }
 {
     out.push_str(", ")?;
     match call {

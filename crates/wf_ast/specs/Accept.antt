@@ -223,7 +223,7 @@ as_fault k None = None
 as_fault k (Some path) = Some (record { kind = k; place = path })
 
 -- the rules at a node by its number, with the names of the steps before it in its workflow
-abbrev pub rules : List Flow → ℕ → List Text → Node → List (Option Fault)
+unfoldable pub rules : List Flow → ℕ → List Text → Node → List (Option Fault)
 rules fs number earlier v =
     as_fault EmptySteps (rule_empty v.part v.path)
     ∷ as_fault DoubleStep (rule_double earlier v.part v.path)
@@ -239,7 +239,7 @@ rules fs number earlier v =
     ∷ as_fault TooMany (rule_many number v.part v.path) ∷ []
 
 -- the rule of the lowest number that speaks at a node
-abbrev pub fault : List Flow → ℕ → List Text → Node → Option Fault
+unfoldable pub fault : List Flow → ℕ → List Text → Node → Option Fault
 fault fs number earlier v = first (rules fs number earlier v)
 
 -- the names of the steps before the next node
@@ -255,7 +255,7 @@ first_among fs number earlier (v ∷ vs) =
     first_of_two (fault fs number earlier v) (first_among fs (suc number) (after_part v.part earlier) vs)
 
 -- the first fault of a program
-abbrev pub first_fault : Program → Option Fault
+unfoldable pub first_fault : Program → Option Fault
 first_fault p = first_among p.flows 0 [] (nodes p.flows)
 
 -- no number of a backoff is over a year in milliseconds

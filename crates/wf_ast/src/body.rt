@@ -53,7 +53,9 @@ impl StepList {
 
     /// Adds an item at the end. Without memory the list stays as it was.
     pub fn push(&mut self, item: Step) -> Result<(), OutOfMemory>
-        ensures { steps_view self.new ≡ (if is_ok result then steps_view self.old ++ step_view item ∷ [] else steps_view self.old) }
+        ensures { steps_view self.new ≡
+            (if is_ok result then steps_view self.old
+            ++ step_view item ∷ [] else steps_view self.old) }
     {
         add(&mut self.items, item)
     }
@@ -122,7 +124,9 @@ impl Arms {
 
     /// Adds an item at the end. Without memory the list stays as it was.
     pub fn push(&mut self, item: Arm) -> Result<(), OutOfMemory>
-        ensures { arms_view self.new ≡ (if is_ok result then arms_view self.old ++ arm_view item ∷ [] else arms_view self.old) }
+        ensures { arms_view self.new ≡
+            (if is_ok result then arms_view self.old
+            ++ arm_view item ∷ [] else arms_view self.old) }
     {
         add(&mut self.items, item)
     }
@@ -190,7 +194,9 @@ impl Branches {
 
     /// Adds an item at the end. Without memory the list stays as it was.
     pub fn push(&mut self, item: Branch) -> Result<(), OutOfMemory>
-        ensures { branches_view self.new ≡ (if is_ok result then branches_view self.old ++ branch_view item ∷ [] else branches_view self.old) }
+        ensures { branches_view self.new
+            ≡ (if is_ok result then branches_view self.old
+            ++ branch_view item ∷ [] else branches_view self.old) }
     {
         add(&mut self.items, item)
     }

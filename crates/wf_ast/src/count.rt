@@ -9,7 +9,8 @@ use crate::program::Program;
 impl Program {
     /// How many named steps the program has on all levels, at most the greatest `u64`.
     pub fn step_count(&self) -> u64
-        ensures { result ≡ min (length (all_step_names (program_view self.now).flows)) 18446744073709551615 }
+        ensures { result ≡ min (length (all_step_names (program_view self.now).flows))
+            18446744073709551615 }
     {
         let mut total = 0u64;
         for flow in self.flows.items() {
@@ -62,7 +63,8 @@ fn count_arms(arms: &Arms) -> u64
 
 #[cycle(count)]
 fn count_branches(branches: &Branches) -> u64
-    ensures { result ≡ min (length (branches_step_names (branches_in branches.now))) 18446744073709551615 }
+    ensures { result ≡ min (length (branches_step_names (branches_in branches.now)))
+        18446744073709551615 }
 {
     let mut total = 0u64;
     for branch in branches.items.as_slice() {

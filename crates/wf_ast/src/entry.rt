@@ -42,7 +42,9 @@ impl Entries {
 
     /// Adds an item at the end. Without memory the list stays as it was.
     pub fn push(&mut self, item: Entry) -> Result<(), OutOfMemory>
-        ensures { entries_view self.new ≡ (if is_ok result then entries_view self.old ++ entry_view item ∷ [] else entries_view self.old) }
+        ensures { entries_view self.new
+            ≡ (if is_ok result then entries_view self.old
+            ++ entry_view item ∷ [] else entries_view self.old) }
     {
         add(&mut self.items, item)
     }

@@ -105,7 +105,9 @@ impl Exprs {
 
     /// Adds an item at the end. Without memory the list stays as it was.
     pub fn push(&mut self, item: Expr) -> Result<(), OutOfMemory>
-        ensures { exprs_view self.new ≡ (if is_ok result then exprs_view self.old ++ expr_view item ∷ [] else exprs_view self.old) }
+        ensures { exprs_view self.new ≡
+            (if is_ok result then exprs_view self.old
+            ++ expr_view item ∷ [] else exprs_view self.old) }
     {
         add(&mut self.items, item)
     }

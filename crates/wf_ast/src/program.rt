@@ -32,7 +32,9 @@ impl Params {
 
     /// Adds an item at the end. Without memory the list stays as it was.
     pub fn push(&mut self, item: Param) -> Result<(), OutOfMemory>
-        ensures { params_view self.new ≡ (if is_ok result then params_view self.old ++ param_view item ∷ [] else params_view self.old) }
+        ensures { params_view self.new
+            ≡ (if is_ok result then params_view self.old
+            ++ param_view item ∷ [] else params_view self.old) }
     {
         add(&mut self.items, item)
     }
@@ -72,7 +74,9 @@ impl Flows {
 
     /// Adds an item at the end. Without memory the list stays as it was.
     pub fn push(&mut self, item: Flow) -> Result<(), OutOfMemory>
-        ensures { flows_view self.new ≡ (if is_ok result then flows_view self.old ++ flow_view item ∷ [] else flows_view self.old) }
+        ensures { flows_view self.new ≡
+            (if is_ok result then flows_view self.old
+            ++ flow_view item ∷ [] else flows_view self.old) }
     {
         add(&mut self.items, item)
     }

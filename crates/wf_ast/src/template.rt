@@ -32,7 +32,9 @@ impl Parts {
 
     /// Adds an item at the end. Without memory the list stays as it was.
     pub fn push(&mut self, item: Part) -> Result<(), OutOfMemory>
-        ensures { parts_view self.new ≡ (if is_ok result then parts_view self.old ++ part_view item ∷ [] else parts_view self.old) }
+        ensures { parts_view self.new ≡
+            (if is_ok result then parts_view self.old
+            ++ part_view item ∷ [] else parts_view self.old) }
     {
         add(&mut self.items, item)
     }
@@ -86,7 +88,9 @@ impl Templates {
 
     /// Adds an item at the end. Without memory the list stays as it was.
     pub fn push(&mut self, item: Template) -> Result<(), OutOfMemory>
-        ensures { templates_view self.new ≡ (if is_ok result then templates_view self.old ++ template_view item ∷ [] else templates_view self.old) }
+        ensures { templates_view self.new
+            ≡ (if is_ok result then templates_view self.old
+            ++ template_view item ∷ [] else templates_view self.old) }
     {
         add(&mut self.items, item)
     }
@@ -127,7 +131,9 @@ impl NamedTemplates {
 
     /// Adds an item at the end. Without memory the list stays as it was.
     pub fn push(&mut self, item: NamedTemplate) -> Result<(), OutOfMemory>
-        ensures { fields_view self.new ≡ (if is_ok result then fields_view self.old ++ field_view item ∷ [] else fields_view self.old) }
+        ensures { fields_view self.new
+            ≡ (if is_ok result then fields_view self.old
+            ++ field_view item ∷ [] else fields_view self.old) }
     {
         add(&mut self.items, item)
     }

@@ -24,7 +24,8 @@ impl Texts {
 
     /// Adds an item at the end. Without memory the list stays as it was.
     pub fn push(&mut self, item: Text) -> Result<(), OutOfMemory>
-        ensures { texts_view self.new ≡ (if is_ok result then texts_view self.old ++ item ∷ [] else texts_view self.old) }
+        ensures { texts_view self.new ≡
+            (if is_ok result then texts_view self.old ++ item ∷ [] else texts_view self.old) }
     {
         add(&mut self.items, item)
     }

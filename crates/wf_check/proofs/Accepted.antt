@@ -1,7 +1,7 @@
 -- What it is that nothing is said of a program.
 use Rattle.std.proofs.Common.{◌≡◌, ℕ, suc, Bool, true, false, ◌&&◌, List, [], ◌∷◌, Option, Some, None, IsTrue, is_none, option_map, refl, sym, subst}
 use Rattle.std.specs.List.{list_all}
-use Rattle.wf_ast.specs.Accept.{Accept, Fault, after_part, fault, first_among, small_backoff}
+use Rattle.wf_ast.specs.Accept.{Accept, Fault, after_part, fault, first_among, first_fault, small_backoff}
 use Rattle.wf_ast.specs.Nodes.{Node, nodes}
 use Rattle.wf_ast.specs.Tree.{Flow, Program}
 use Rattle.wf_diagnostics.proofs.Told.{no_fault}
@@ -53,6 +53,7 @@ pub silent : (p : Program) → IsTrue (is_accepted p) → first_said p ≡ None
 silent p h = none_there (first_said p) (parts (is_none (first_said p)) (list_all small_backoff (nodes p.flows)) h).0
 
 pub accept_of : (p : Program) → IsTrue (is_accepted p) → Accept p
+unfolding first_fault
 accept_of p h = (rules_silent p.flows 0 [] (nodes p.flows) (silent p h), (parts (is_none (first_said p)) (list_all small_backoff (nodes p.flows)) h).1)
 
 pub built_of : (p : Program) → IsTrue (is_accepted p) → IsTrue (program_built p)

@@ -1,6 +1,6 @@
 -- In surroundings with the same names the rules say the same.
 use Rattle.std.proofs.Common.{◌≡◌, ℕ, suc, true, not, ◌&&◌, ◌||◌, List, [], ◌∷◌, Option, Some, None, codes, bytes_eq, if◌then◌else◌, option_map, refl, ap}
-use Rattle.wf_ast.specs.Accept.{Kind, as_fault, fault, first_unseen, is_visible, may_cross, may_write, result_of_call, call_of, rule_argument, rule_call, rule_many, rule_write, shared_in, unknown_shared, write_fault}
+use Rattle.wf_ast.specs.Accept.{Kind, as_fault, fault, first_unseen, is_visible, may_cross, may_write, result_of_call, call_of, rule_argument, rule_call, rule_many, rule_write, rules, shared_in, unknown_shared, write_fault}
 use Rattle.wf_ast.specs.Blocks.{at_if, first, is_return, is_word, outside_loop, rule_double, rule_empty, rule_next}
 use Rattle.wf_ast.specs.Nodes.{Around, Names, NodePart, FlowPart, StepPart, ArmPart, BodyPart, EntryPart, BranchPart, Path, below, node, nth, part_body}
 use Rattle.wf_ast.specs.Reads.{part_reads}
@@ -60,6 +60,7 @@ unseen_alike ls ms h [] = refl
 unseen_alike ls ms h (r ∷ rs) = λ j. if visible_alike ls ms h r.1 j then unseen_alike ls ms h rs j else Some r.0
 
 pub fault_alike : (fs : List Flow) (n : ℕ) (e f : List Text) (part : NodePart) (a b : Around) (path : Path) → SameNames e f → Alike a b → fault fs n e (node part a path) ≡ fault fs n f (node part b path)
+unfolding fault rules
 fault_alike fs n e f part a b path s h = λ i. first (
     as_fault Kind.EmptySteps (rule_empty part path)
     ∷ as_fault Kind.DoubleStep (double_alike e f s part path i)

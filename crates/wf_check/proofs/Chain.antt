@@ -1,7 +1,7 @@
 -- The rules one after another, and the forms behind them.
 use Rattle.std.proofs.Common.{◌≡◌, ℕ, ◌<◌, List, [], ◌∷◌, ◌++◌, Option, Some, None, Result, Ok, Err, map, option_map, refl, sym, ◌∙◌, subst}
 use Rattle.std.specs.Result.{OnOk}
-use Rattle.wf_ast.specs.Accept.{Fault, Kind, as_fault, rule_argument, rule_call, rule_many, rule_name, rule_shared, rule_write, rules}
+use Rattle.wf_ast.specs.Accept.{Fault, Kind, as_fault, fault, rule_argument, rule_call, rule_many, rule_name, rule_shared, rule_write, rules}
 use Rattle.wf_ast.specs.Blocks.{first, out_of_scope, outside_loop, rule_double, rule_empty, rule_next, rule_return, unknown_step}
 use Rattle.wf_ast.specs.Nodes.{Around, NodePart, Path, node}
 use Rattle.wf_ast.specs.Tree.{Flow}
@@ -43,6 +43,7 @@ of_rules (None ∷ os) q = of_rules os q
 of_rules (Some f ∷ os) q = refl
 
 told : (fs : List Flow) (n : ℕ) (e : List Text) (part : NodePart) (a : Around) (path : Path) → first (all_said fs n e part a path) ≡ said fs n e (node part a path)
+unfolding fault rules
 told fs n e part a path = sym (of_rules (rules fs n e (node part a path)) (as_said kinds.NotYet (not_yet n part path)) ∙ (λ i. first (
     of_rule Kind.EmptySteps (rule_empty part path) i
     ∷ of_rule Kind.DoubleStep (rule_double e part path) i

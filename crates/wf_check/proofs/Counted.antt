@@ -17,6 +17,7 @@ counts_fails fs old new stop.OutOfMemory vs h = tt
 
 -- the names of steps begin anew
 pub anew : (fs : List Flow) (n : ℕ) (e : List Text) (ws : List Flow) → said_among fs n e (nodes ws) ≡ said_among fs n [] (nodes ws)
+unfolding nodes
 anew fs n e [] = refl
 anew fs n e (f ∷ rest) = refl
 

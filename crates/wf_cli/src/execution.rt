@@ -12,7 +12,8 @@ ghost use Rattle.wf_events.specs.Records.{Started};
 ghost use Rattle.wf_events.specs.Spelling.{record_bytes, HasSpelling};
 ghost use Rattle.wf_events.specs.View.{start_view};
 ghost use Rattle.wf_host.specs.Source.{Rest, IsFirst};
-ghost use Rattle.wf_host.specs.World.{NoneFell, Rose, Told};
+ghost use Rattle.wf_host.specs.Calls.{DiskFailed, DoesNoDeed, NoCountFalls, TellsAsBefore};
+ghost use Rattle.wf_host.specs.World.{Told};
 ghost use Rattle.wf_host.specs.declared.data.Deed.{Deed};
 ghost use Rattle.wf_journal.specs.Records.{records};
 ghost use Rattle.wf_args.specs.Lines.{line_of, word_of};
@@ -102,9 +103,9 @@ fn begin<H: Host>(
     ensures holds { Told (H.world host.old) (IfOk result (λ e. Holds e (H.world host.new))) }
     ensures open { IfOk result (λ e. is_closed e ≡ false) }
     ensures disk_fault { IsErrOf result EngineFault.DiskFault
-        → Rose (H.faults host.old).disk (H.faults host.new).disk }
-    ensures tells { (H.world host.new).tells ≡ (H.world host.old).tells }
-    ensures counts { NoneFell (H.faults host.old) (H.faults host.new) }
+        → DiskFailed H.faults host.old host.new }
+    ensures tells { TellsAsBefore H.world host.old host.new }
+    ensures counts { NoCountFalls H.faults host.old host.new }
 {
     each_source_is_one();
     laws_of_histories();
@@ -126,9 +127,9 @@ fn to_outcome<H: Host>(alloc: Global, engine: Engine, host: &mut H) -> Result<Sa
         → StandsFor the_language command (memory engine) (records (H.world host.old).seen) D
         → Going the_language command (memory engine) D (H.world host.old) (H.world host.new)
         result) }
-    ensures deeds { Told (H.world host.old) ((H.world host.new).deeds ≡ (H.world host.old).deeds) }
-    ensures tells { (H.world host.new).tells ≡ (H.world host.old).tells }
-    ensures counts { NoneFell (H.faults host.old) (H.faults host.new) }
+    ensures deeds { DoesNoDeed H.world host.old host.new }
+    ensures tells { TellsAsBefore H.world host.old host.new }
+    ensures counts { NoCountFalls H.faults host.old host.new }
 {
     let mut engine = engine;
     match engine.session(host) {
@@ -155,8 +156,8 @@ fn run_program<H: Host>(
         → line_of words ≡ Ok (plain_line line.now) → IsFirst 131073 rest source.now
         → Worked (scene words rest (H.world host.old)) (H.world host.old) (H.world host.new)
         result) }
-    ensures tells { (H.world host.new).tells ≡ (H.world host.old).tells }
-    ensures counts { NoneFell (H.faults host.old) (H.faults host.new) }
+    ensures tells { TellsAsBefore H.world host.old host.new }
+    ensures counts { NoCountFalls H.faults host.old host.new }
 {
     laws_of_sources();
     match begin(alloc, line, source, program, host) {
@@ -181,9 +182,9 @@ pub(crate) fn run<S: Source, H: Host>(
         → line_of words ≡ Ok (plain_line line.now)
         → Worked (scene words (S.left source.old) (H.world host.old)) (H.world host.old)
         (H.world host.new) result) }
-    ensures tells { (H.world host.new).tells ≡ (H.world host.old).tells }
+    ensures tells { TellsAsBefore H.world host.old host.new }
     ensures reads { S.faults source.old ≤ S.faults source.new }
-    ensures counts { NoneFell (H.faults host.old) (H.faults host.new) }
+    ensures counts { NoCountFalls H.faults host.old host.new }
 {
     let bytes = read_up_to(alloc, source, SOURCE_LIMIT + 1)?;
     match read_source(alloc, bytes.as_slice()) {
@@ -202,8 +203,8 @@ pub(crate) fn resume<H: Host>(alloc: Global, host: &mut H) -> Result<Said, Silen
         → IsLineOf (scene words rest (H.world host.old)) (λ c. c ≡ Resume)
         → Worked (scene words rest (H.world host.old)) (H.world host.old) (H.world host.new)
         result) }
-    ensures tells { (H.world host.new).tells ≡ (H.world host.old).tells }
-    ensures counts { NoneFell (H.faults host.old) (H.faults host.new) }
+    ensures tells { TellsAsBefore H.world host.old host.new }
+    ensures counts { NoCountFalls H.faults host.old host.new }
 {
     resume_from_blank::<H, Brand>(alloc, host, Blank::new(1))
 }
@@ -225,8 +226,8 @@ fn resume_from_blank<H: Host, L: Ledger>(
         → IsLineOf (scene words rest (H.world host.old)) (λ c. c ≡ Resume)
         → Worked (scene words rest (H.world host.old)) (H.world host.old) (H.world host.new)
         result) }
-    ensures tells { (H.world host.new).tells ≡ (H.world host.old).tells }
-    ensures counts { NoneFell (H.faults host.old) (H.faults host.new) }
+    ensures tells { TellsAsBefore H.world host.old host.new }
+    ensures counts { NoCountFalls H.faults host.old host.new }
 {
     resume_counted(alloc, host, &mut Steps::<L>::new(blank))
 }
@@ -245,8 +246,8 @@ fn resume_counted<H: Host, L: Ledger>(
         → IsLineOf (scene words rest (H.world host.old)) (λ c. c ≡ Resume)
         → Worked (scene words rest (H.world host.old)) (H.world host.old) (H.world host.new)
         result) }
-    ensures tells { (H.world host.new).tells ≡ (H.world host.old).tells }
-    ensures counts { NoneFell (H.faults host.old) (H.faults host.new) }
+    ensures tells { TellsAsBefore H.world host.old host.new }
+    ensures counts { NoCountFalls H.faults host.old host.new }
 {
     laws_of_rules();
     match Engine::open(alloc, host, steps) {

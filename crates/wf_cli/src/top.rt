@@ -4,7 +4,8 @@ ghost use Rattle.wf_cli.specs.Calls.{called};
 ghost use Rattle.wf_cli.specs.Promises.{Promised};
 ghost use Rattle.wf_cli.specs.Said.{IsEnd, Printing, SaysBadLine, SaysReport, Tells, Worked, text_of};
 ghost use Rattle.wf_engine.specs.Safe.{scene};
-ghost use Rattle.wf_host.specs.World.{NoneFell, Told};
+ghost use Rattle.wf_host.specs.Calls.{NoCountFalls, TellsAsBefore};
+ghost use Rattle.wf_host.specs.World.{Told};
 ghost use Rattle.wf_args.specs.Lines.{line_of, words_view};
 ghost use Rattle.wf_args.specs.Plain.{plain_line};
 
@@ -25,8 +26,8 @@ fn tell<H: Host>(host: &mut H, said: Result<Said, Silence>) -> Status
         (H.faults host.new) result }
     ensures printing { Told (H.world host.old)
         (Printing (text_of said) (H.world host.old) (H.world host.new)) }
-    ensures tells { (H.world host.new).tells ≡ (H.world host.old).tells }
-    ensures counts { NoneFell (H.faults host.old) (H.faults host.new) }
+    ensures tells { TellsAsBefore H.world host.old host.new }
+    ensures counts { NoCountFalls H.faults host.old host.new }
 {
     match said {
         Ok(said) => {
@@ -74,9 +75,9 @@ fn execute<S: Source, H: Host>(
         → line_of words ≡ Ok (plain_line line.now)
         → Worked (scene words (S.left source.old) (H.world host.old)) (H.world host.old)
         (H.world host.new) result) }
-    ensures tells { (H.world host.new).tells ≡ (H.world host.old).tells }
+    ensures tells { TellsAsBefore H.world host.old host.new }
     ensures reads { S.faults source.old ≤ S.faults source.new }
-    ensures counts { NoneFell (H.faults host.old) (H.faults host.new) }
+    ensures counts { NoCountFalls H.faults host.old host.new }
 {
     match line.command() {
         Command::Check => check(alloc, source),
@@ -99,9 +100,9 @@ pub fn perform<S: Source, H: Host>(
         → Promised (called words (S.left source.old) (H.world host.old) (H.world host.new)
         (S.faults source.old) (S.faults source.new) (H.faults host.old) (H.faults host.new)
         result) }
-    ensures tells { (H.world host.new).tells ≡ (H.world host.old).tells }
+    ensures tells { TellsAsBefore H.world host.old host.new }
     ensures reads { S.faults source.old ≤ S.faults source.new }
-    ensures counts { NoneFell (H.faults host.old) (H.faults host.new) }
+    ensures counts { NoCountFalls H.faults host.old host.new }
 {
     laws_of_rules();
     laws_of_sources();
@@ -140,9 +141,9 @@ pub fn run_line<S: Source, H: Host>(
     ensures promised { Promised (called (words_view words.now) (S.left source.old)
         (H.world host.old) (H.world host.new) (S.faults source.old) (S.faults source.new)
         (H.faults host.old) (H.faults host.new) result) }
-    ensures tells { (H.world host.new).tells ≡ (H.world host.old).tells }
+    ensures tells { TellsAsBefore H.world host.old host.new }
     ensures reads { S.faults source.old ≤ S.faults source.new }
-    ensures counts { NoneFell (H.faults host.old) (H.faults host.new) }
+    ensures counts { NoCountFalls H.faults host.old host.new }
 {
     laws_of_rules();
     laws_of_sources();

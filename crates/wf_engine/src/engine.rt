@@ -46,7 +46,8 @@ impl Engine {
     ghost use Rattle.wf_events.specs.View.{start_view};
     ghost use Rattle.wf_history.specs.Stands as history;
     ghost use Rattle.wf_history.specs.Stands.{HasNoneOrThis};
-    ghost use Rattle.wf_host.specs.World.{World, Told, LeavesOnly, NoneFell, Only, Rose};
+    ghost use Rattle.wf_host.specs.Calls.{AtAnyMoment, DiskFailed, DoesNoDeed, NoCountFalls, ReadsAsBefore, TellsAsBefore};
+    ghost use Rattle.wf_host.specs.World.{Told, LeavesOnly, Only};
     ghost use Rattle.wf_host.specs.declared.data.Deed.{Deed};
     ghost use Rattle.wf_host.specs.declared.data.Deed.TheVariants.{Now};
     ghost use Rattle.wf_journal.specs.Records.{magic, records};
@@ -83,12 +84,11 @@ impl Engine {
         ensures started { Told (H.world host.old)
             (OnOk result (records (H.world host.new).seen
             ≡ record_bytes (Started (start_view start.now)) ∷ [])) }
-        ensures any_moment { Told (H.world host.old)
-            (LeavesOnly (H.world host.old) (H.world host.new)
+        ensures any_moment { AtAnyMoment H.world host.old host.new
             (λ c d. ((H.world host.old).may_leave c × (d ≡ (H.world host.old).deeds))
             ⊎ ((records (H.world host.old).seen ≡ [])
             × HasNoneOrThis (H.world host.old) (record_bytes (Started (start_view start.now))) c
-            d))) }
+            d)) }
         ensures refused_stays { Told (H.world host.old)
             (((5 ≤ length (H.world host.old).seen) × (take 4 (H.world host.old).seen ≢ magic))
             ⊎ (records (H.world host.old).seen ≢ [])
@@ -99,7 +99,7 @@ impl Engine {
             ⊎ (records (H.world host.old).seen ≢ [])
             → (H.world host.new).seen ≡ (H.world host.old).seen) }
         ensures disk_fault { IsErrOf result EngineFault.DiskFault
-            → Rose (H.faults host.old).disk (H.faults host.new).disk }
+            → DiskFailed H.faults host.old host.new }
         ensures not_a_journal { Told (H.world host.old) (IsErrOf result EngineFault.NotAJournal
             → (5 ≤ length (H.world host.old).seen) × (take 4 (H.world host.old).seen ≢ magic)) }
         ensures a_journal { Told (H.world host.old)
@@ -116,10 +116,9 @@ impl Engine {
         ensures only { IfErr result (λ e. (e ≡ EngineFault.DiskFault)
             ⊎ (e ≡ EngineFault.NotAJournal) ⊎ (e ≡ EngineFault.AlreadyStarted)
             ⊎ (e ≡ EngineFault.OutOfMemory)) }
-        ensures deeds { Told (H.world host.old) ((H.world host.new).deeds
-            ≡ (H.world host.old).deeds) }
-        ensures tells { (H.world host.new).tells ≡ (H.world host.old).tells }
-        ensures counts { NoneFell (H.faults host.old) (H.faults host.new) }
+        ensures deeds { DoesNoDeed H.world host.old host.new }
+        ensures tells { TellsAsBefore H.world host.old host.new }
+        ensures counts { NoCountFalls H.faults host.old host.new }
     {
         each_source_is_one();
         laws_of_histories();
@@ -163,11 +162,11 @@ impl Engine {
             ≡ next_session (journal the_language (records (H.world host.old).seen)))) }
         ensures begins { Told (H.world host.old)
             (OnOk result (take 4 (H.world host.old).seen ≡ magic)) }
-        ensures seen { Told (H.world host.old) ((H.world host.new).seen ≡ (H.world host.old).seen) }
-        ensures any_moment { Told (H.world host.old)
-            (LeavesOnly (H.world host.old) (H.world host.new) (OpeningMoment (H.world host.old))) }
+        ensures seen { ReadsAsBefore H.world host.old host.new }
+        ensures any_moment { AtAnyMoment H.world host.old host.new
+            (OpeningMoment (H.world host.old)) }
         ensures disk_fault { IsErrOf result EngineFault.DiskFault
-            → Rose (H.faults host.old).disk (H.faults host.new).disk }
+            → DiskFailed H.faults host.old host.new }
         ensures not_a_journal { Told (H.world host.old) (IsErrOf result EngineFault.NotAJournal
             → (5 ≤ length (H.world host.old).seen) × (take 4 (H.world host.old).seen ≢ magic)) }
         ensures not_started { Told (H.world host.old) (IsErrOf result EngineFault.NotStarted
@@ -189,8 +188,8 @@ impl Engine {
         ensures finished { Told (H.world host.old) ((s : Standing)
             → history_of the_language (records (H.world host.old).seen) ≡ Ok s
             → s.config.outcome ≢ Active → (H.world host.new).deeds ≡ (H.world host.old).deeds) }
-        ensures tells { (H.world host.new).tells ≡ (H.world host.old).tells }
-        ensures counts { NoneFell (H.faults host.old) (H.faults host.new) }
+        ensures tells { TellsAsBefore H.world host.old host.new }
+        ensures counts { NoCountFalls H.faults host.old host.new }
     {
         laws_of_moments();
         laws_of_rules();
@@ -245,7 +244,7 @@ impl Engine {
         ensures most { OnOk result ((memory self.new).config.moves ≤ 100000) }
         ensures session { (memory self.new).session ≡ (memory self.old).session }
         ensures disk_fault { IsErrOf result EngineFault.DiskFault
-            → Rose (H.faults host.old).disk (H.faults host.new).disk }
+            → DiskFailed H.faults host.old host.new }
         ensures closed { IsErrOf result EngineFault.Closed ↔ (is_closed self.old ≡ true) }
         ensures closes { OnErr result (is_closed self.new ≡ true) }
         ensures idle { IsErrOf result EngineFault.Closed
@@ -253,10 +252,9 @@ impl Engine {
         ensures open { OnOk result (is_closed self.new ≡ false) }
         ensures only { IfErr result (λ e. (e ≡ EngineFault.DiskFault) ⊎ (e ≡ EngineFault.Closed)
             ⊎ (e ≡ EngineFault.OutOfMemory)) }
-        ensures deeds { Told (H.world host.old) ((H.world host.new).deeds
-            ≡ (H.world host.old).deeds) }
-        ensures tells { (H.world host.new).tells ≡ (H.world host.old).tells }
-        ensures counts { NoneFell (H.faults host.old) (H.faults host.new) }
+        ensures deeds { DoesNoDeed H.world host.old host.new }
+        ensures tells { TellsAsBefore H.world host.old host.new }
+        ensures counts { NoCountFalls H.faults host.old host.new }
     {
         if self.closed {
             return Err(EngineFault::Closed);
@@ -304,7 +302,7 @@ impl Engine {
             → host.new ≡ host.old) }
         ensures session { (memory self.new).session ≡ (memory self.old).session }
         ensures disk_fault { IsErrOf result EngineFault.DiskFault
-            → Rose (H.faults host.old).disk (H.faults host.new).disk }
+            → DiskFailed H.faults host.old host.new }
         ensures closed { IsErrOf result EngineFault.Closed ↔ (is_closed self.old ≡ true) }
         ensures closes { OnErr result (is_closed self.new ≡ true) }
         ensures idle { IsErrOf result EngineFault.Closed
@@ -312,10 +310,9 @@ impl Engine {
         ensures open { OnOk result (is_closed self.new ≡ false) }
         ensures only { IfErr result (λ e. (e ≡ EngineFault.DiskFault) ⊎ (e ≡ EngineFault.Closed)
             ⊎ (e ≡ EngineFault.OutOfMemory)) }
-        ensures deeds { Told (H.world host.old) ((H.world host.new).deeds
-            ≡ (H.world host.old).deeds) }
-        ensures tells { (H.world host.new).tells ≡ (H.world host.old).tells }
-        ensures counts { NoneFell (H.faults host.old) (H.faults host.new) }
+        ensures deeds { DoesNoDeed H.world host.old host.new }
+        ensures tells { TellsAsBefore H.world host.old host.new }
+        ensures counts { NoCountFalls H.faults host.old host.new }
     {
         if self.closed {
             return Err(EngineFault::Closed);

@@ -7,7 +7,8 @@ ghost use Rattle.wf_engine.specs.TheLanguage.{the_language};
 ghost use Rattle.wf_events.specs.Reading.{meaning};
 ghost use Rattle.wf_events.specs.View.{record_view};
 ghost use Rattle.wf_history.specs.Stands.{ahead, at_end, is_closed, is_new, last, place, Stands};
-ghost use Rattle.wf_host.specs.World.{Told, LeavesOnly, NoneFell, Only, Rose};
+ghost use Rattle.wf_host.specs.Calls.{AtAnyMoment, DiskFailed, DoesNoDeed, NoCountFalls, ReadsAsBefore, TellsAsBefore};
+ghost use Rattle.wf_host.specs.World.{Told, Only};
 ghost use Rattle.wf_host.specs.declared.data.Deed.TheVariants.{Now};
 ghost use Rattle.wf_journal.specs.Journal.{IsJournal, Stays};
 ghost use Rattle.wf_journal.specs.Records.{magic, records};
@@ -35,12 +36,11 @@ pub(crate) fn empty_history<H: Host>(alloc: Global, host: &mut H) -> Result<Hist
     ensures open { IfOk result (λ h. is_closed h ≡ false) }
     ensures ended { IfOk result (λ h. at_end h ≡ true) }
     ensures none { Told (H.world host.old) (OnOk result (records (H.world host.old).seen ≡ [])) }
-    ensures seen { Told (H.world host.old) ((H.world host.new).seen ≡ (H.world host.old).seen) }
-    ensures any_moment { Told (H.world host.old)
-        (LeavesOnly (H.world host.old) (H.world host.new) (λ c d. (H.world host.old).may_leave c
-        × (d ≡ (H.world host.old).deeds))) }
+    ensures seen { ReadsAsBefore H.world host.old host.new }
+    ensures any_moment { AtAnyMoment H.world host.old host.new
+        (λ c d. (H.world host.old).may_leave c × (d ≡ (H.world host.old).deeds)) }
     ensures disk_fault { IsErrOf result EngineFault.DiskFault
-        → Rose (H.faults host.old).disk (H.faults host.new).disk }
+        → DiskFailed H.faults host.old host.new }
     ensures not_a_journal { Told (H.world host.old) (IsErrOf result EngineFault.NotAJournal
         → (5 ≤ length (H.world host.old).seen) × (take 4 (H.world host.old).seen ≢ magic)) }
     ensures a_journal { Told (H.world host.old) (OnOk result (IsJournal (H.world host.old).seen)) }
@@ -50,9 +50,9 @@ pub(crate) fn empty_history<H: Host>(alloc: Global, host: &mut H) -> Result<Hist
         → Only (H.world host.new).seen (H.world host.new).may_leave) }
     ensures only { IfErr result (λ e. (e ≡ EngineFault.DiskFault) ⊎ (e ≡ EngineFault.NotAJournal)
         ⊎ (e ≡ EngineFault.AlreadyStarted) ⊎ (e ≡ EngineFault.OutOfMemory)) }
-    ensures deeds { Told (H.world host.old) ((H.world host.new).deeds ≡ (H.world host.old).deeds) }
-    ensures tells { (H.world host.new).tells ≡ (H.world host.old).tells }
-    ensures counts { NoneFell (H.faults host.old) (H.faults host.new) }
+    ensures deeds { DoesNoDeed H.world host.old host.new }
+    ensures tells { TellsAsBefore H.world host.old host.new }
+    ensures counts { NoCountFalls H.faults host.old host.new }
 {
     let mut history = History::open(host)?;
     match history.next(alloc, host) {
@@ -87,11 +87,10 @@ pub(crate) fn last_machine<H: Host, L: Ledger>(
     ensures ended { OnOk result (at_end history.new ≡ true) }
     ensures still_open { OnOk result (is_closed history.new ≡ false) }
     ensures new { is_new history.new ≡ is_new history.old }
-    ensures seen { Told (H.world host.old) ((H.world host.new).seen ≡ (H.world host.old).seen) }
-    ensures any_moment { Told (H.world host.old)
-        (LeavesOnly (H.world host.old) (H.world host.new) (Stays (H.world host.old))) }
+    ensures seen { ReadsAsBefore H.world host.old host.new }
+    ensures any_moment { AtAnyMoment H.world host.old host.new (Stays (H.world host.old)) }
     ensures disk_fault { IsErrOf result EngineFault.DiskFault
-        → Rose (H.faults host.old).disk (H.faults host.new).disk }
+        → DiskFailed H.faults host.old host.new }
     ensures not_started { Told (H.world host.old) (IsErrOf result EngineFault.NotStarted
         → ahead history.old (H.world host.old).seen ≡ []) }
     ensures not_a_history { Told (H.world host.old)
@@ -100,9 +99,9 @@ pub(crate) fn last_machine<H: Host, L: Ledger>(
         × (ahead history.old (H.world host.old).seen ≢ []))) }
     ensures only { IfErr result (λ e. (e ≡ EngineFault.DiskFault) ⊎ (e ≡ EngineFault.NotStarted)
         ⊎ ((n : ℕ) × (e ≡ EngineFault.NotAHistory n)) ⊎ (e ≡ EngineFault.OutOfMemory)) }
-    ensures deeds { Told (H.world host.old) ((H.world host.new).deeds ≡ (H.world host.old).deeds) }
-    ensures tells { (H.world host.new).tells ≡ (H.world host.old).tells }
-    ensures counts { NoneFell (H.faults host.old) (H.faults host.new) }
+    ensures deeds { DoesNoDeed H.world host.old host.new }
+    ensures tells { TellsAsBefore H.world host.old host.new }
+    ensures counts { NoCountFalls H.faults host.old host.new }
 {
     let machine = first_machine(alloc, history, host)?;
     Ok(replay(alloc, history, host, machine, steps)?)
@@ -130,11 +129,10 @@ fn first_machine<H: Host>(
     ensures whole { IfOk result (λ m. (state_of m).broken ≡ false) }
     ensures still_open { OnOk result (is_closed history.new ≡ false) }
     ensures new { is_new history.new ≡ is_new history.old }
-    ensures seen { Told (H.world host.old) ((H.world host.new).seen ≡ (H.world host.old).seen) }
-    ensures any_moment { Told (H.world host.old)
-        (LeavesOnly (H.world host.old) (H.world host.new) (Stays (H.world host.old))) }
+    ensures seen { ReadsAsBefore H.world host.old host.new }
+    ensures any_moment { AtAnyMoment H.world host.old host.new (Stays (H.world host.old)) }
     ensures disk_fault { IsErrOf result EngineFault.DiskFault
-        → Rose (H.faults host.old).disk (H.faults host.new).disk }
+        → DiskFailed H.faults host.old host.new }
     ensures not_started { Told (H.world host.old) (IsErrOf result EngineFault.NotStarted
         → ahead history.old (H.world host.old).seen ≡ []) }
     ensures not_a_history { Told (H.world host.old)
@@ -142,9 +140,9 @@ fn first_machine<H: Host>(
         → NoFirst the_language n (ahead history.old (H.world host.old).seen))) }
     ensures only { IfErr result (λ e. (e ≡ EngineFault.DiskFault) ⊎ (e ≡ EngineFault.NotStarted)
         ⊎ ((n : ℕ) × (e ≡ EngineFault.NotAHistory n)) ⊎ (e ≡ EngineFault.OutOfMemory)) }
-    ensures deeds { Told (H.world host.old) ((H.world host.new).deeds ≡ (H.world host.old).deeds) }
-    ensures tells { (H.world host.new).tells ≡ (H.world host.old).tells }
-    ensures counts { NoneFell (H.faults host.old) (H.faults host.new) }
+    ensures deeds { DoesNoDeed H.world host.old host.new }
+    ensures tells { TellsAsBefore H.world host.old host.new }
+    ensures counts { NoCountFalls H.faults host.old host.new }
 {
     let Some(record) = history.next(alloc, host)? else {
         return Err(EngineFault::NotStarted);
@@ -191,14 +189,13 @@ pub(crate) fn session_reading<H: Host>(machine: &Machine, host: &mut H) -> Resul
     ensures settled { Told (H.world host.old)
         (Only (H.world host.old).seen (H.world host.old).may_leave
         → Only (H.world host.new).seen (H.world host.new).may_leave) }
-    ensures seen { Told (H.world host.old) ((H.world host.new).seen ≡ (H.world host.old).seen) }
-    ensures any_moment { Told (H.world host.old)
-        (LeavesOnly (H.world host.old) (H.world host.new) (OpeningMoment (H.world host.old))) }
+    ensures seen { ReadsAsBefore H.world host.old host.new }
+    ensures any_moment { AtAnyMoment H.world host.old host.new (OpeningMoment (H.world host.old)) }
     ensures deeds { Told (H.world host.old) (((H.world host.new).deeds ≡ (H.world host.old).deeds)
         ⊎ ((t : ℕ) × ((H.world host.new).deeds ≡ (H.world host.old).deeds ++ Now t ∷ []))) }
     ensures finished { (state_of machine.now).config.outcome ≢ Active → host.new ≡ host.old }
-    ensures tells { (H.world host.new).tells ≡ (H.world host.old).tells }
-    ensures counts { NoneFell (H.faults host.old) (H.faults host.new) }
+    ensures tells { TellsAsBefore H.world host.old host.new }
+    ensures counts { NoCountFalls H.faults host.old host.new }
 {
     match machine.outcome() {
         Outcome::Active => Ok(host.now()?.max(machine.last_reading())),

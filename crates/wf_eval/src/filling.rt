@@ -51,7 +51,8 @@ fn evaluate<K: Look>(alloc: Global, e: &Expr, look: &K, now: u64) -> Result<Valu
 // The texts of the parts in a row.
 fn joined<K: Look>(alloc: Global, parts: &[Part], look: &K, now: u64) -> Result<Text, Raise>
     requires { list_all is_part_built (map part_view parts.now) ≡ true }
-    ensures { GivesText result (meaning.joined (seen (K.sight look.now) now) (map part_view parts.now)) }
+    ensures { GivesText result (meaning.joined (seen (K.sight look.now) now)
+        (map part_view parts.now)) }
 {
     let mut text = String::new(alloc);
     for part in parts {
@@ -66,7 +67,8 @@ fn joined<K: Look>(alloc: Global, parts: &[Part], look: &K, now: u64) -> Result<
 // The text of a part.
 fn part_text<K: Look>(alloc: Global, part: &Part, look: &K, now: u64) -> Result<Text, Raise>
     requires { is_part_built (part_view part.now) ≡ true }
-    ensures { GivesText result (meaning.part_text (seen (K.sight look.now) now) (part_view part.now)) }
+    ensures { GivesText result (meaning.part_text (seen (K.sight look.now) now)
+        (part_view part.now)) }
 {
     match part {
         Part::Text(t) => owned(alloc, t.as_str()),
@@ -81,7 +83,8 @@ fn part_text<K: Look>(alloc: Global, part: &Part, look: &K, now: u64) -> Result<
 #[cycle(fill)]
 fn fill_all<K: Look>(alloc: Global, ts: &[Template], look: &K, now: u64) -> Result<List, Raise>
     requires { are_templates_built (templates (map template_view ts.now)) ≡ true }
-    ensures { Answers (λ l. items_of l) result (meaning.fill_all (templates (map template_view ts.now)) (seen (K.sight look.now) now)) }
+    ensures { Answers (λ l. items_of l) result
+        (meaning.fill_all (templates (map template_view ts.now)) (seen (K.sight look.now) now)) }
 {
     let Ok(mut list) = List::new(alloc) else {
         return Err(Raise::OutOfMemory);
@@ -104,7 +107,8 @@ fn fill_fields<K: Look>(
     now: u64,
 ) -> Result<Vec<(Text, Value)>, Raise>
     requires { are_fields_built (fields (map field_view fs.now)) ≡ true }
-    ensures { Answers (λ ps. put_all ps.items no_pairs) result (meaning.fill_fields (fields (map field_view fs.now)) (seen (K.sight look.now) now)) }
+    ensures { Answers (λ ps. put_all ps.items no_pairs) result
+        (meaning.fill_fields (fields (map field_view fs.now)) (seen (K.sight look.now) now)) }
 {
     let mut pairs = Vec::new(alloc);
     for f in fs {
@@ -126,7 +130,8 @@ fn keep_list(made: Result<List, Raise>) -> Result<Value, Raise>
 
 // The map of these pairs, if it keeps within the limits.
 fn keep_map(alloc: Global, pairs: Result<Vec<(Text, Value)>, Raise>) -> Result<Value, Raise>
-    ensures { (d : Answer Pairs) → Answers (λ ps. put_all ps.items no_pairs) pairs d → Gives result (kept_map d) }
+    ensures { (d : Answer Pairs) → Answers (λ ps. put_all ps.items no_pairs) pairs d
+        → Gives result (kept_map d) }
 {
     keep(Value::Map(map_of(alloc, pairs?)?))
 }

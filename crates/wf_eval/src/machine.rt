@@ -30,7 +30,8 @@ use wf_value::{Raise, Tag, Value, neg};
 /// functions that are built: the seven whose names have no point, and `sys.now`.
 pub fn eval<K: Look>(alloc: Global, e: &Postfix, look: &K, now: u64) -> Result<Value, Raise>
     requires { IsBuilt (instrs e.now) }
-    ensures { (x : t.Expr) → instrs e.now ≡ code x → Gives result (meaning.eval x (seen (K.sight look.now) now)) }
+    ensures { (x : t.Expr) → instrs e.now ≡ code x
+        → Gives result (meaning.eval x (seen (K.sight look.now) now)) }
 {
     code_means();
     let mut stack = Vec::new(alloc);
@@ -54,7 +55,8 @@ fn step<K: Look>(
     now: u64,
 ) -> Result<usize, Raise>
     requires { calls_built (instr i.now) ≡ true }
-    ensures { Steps (seen (K.sight look.now) now) (instr i.now) (tops stack.old.items) result (tops stack.new.items) }
+    ensures { Steps (seen (K.sight look.now) now) (instr i.now) (tops stack.old.items) result
+        (tops stack.new.items) }
 {
     match i {
         Instr::Push(v) => settle(stack, copied(alloc, v)),
@@ -96,7 +98,8 @@ fn invert(stack: &mut Vec<Value>) -> Result<usize, Raise>
 }
 
 fn combine(alloc: Global, stack: &mut Vec<Value>, op: Op) -> Result<usize, Raise>
-    ensures { (s : View) → Steps s (m.combine op) (tops stack.old.items) result (tops stack.new.items) }
+    ensures { (s : View) → Steps s (m.combine op) (tops stack.old.items) result
+        (tops stack.new.items) }
 {
     let w = pop(stack)?;
     let v = pop(stack)?;
@@ -104,7 +107,8 @@ fn combine(alloc: Global, stack: &mut Vec<Value>, op: Op) -> Result<usize, Raise
 }
 
 fn member(alloc: Global, stack: &mut Vec<Value>, k: &str) -> Result<usize, Raise>
-    ensures { (s : View) → Steps s (m.member k.now) (tops stack.old.items) result (tops stack.new.items) }
+    ensures { (s : View) → Steps s (m.member k.now) (tops stack.old.items) result
+        (tops stack.new.items) }
 {
     let v = pop(stack)?;
     settle(stack, at_key(alloc, &v, k))
@@ -119,7 +123,8 @@ fn index(alloc: Global, stack: &mut Vec<Value>) -> Result<usize, Raise>
 }
 
 fn and_skip(stack: &mut Vec<Value>, count: usize) -> Result<usize, Raise>
-    ensures { (s : View) → Steps s (m.and_skip count) (tops stack.old.items) result (tops stack.new.items) }
+    ensures { (s : View) → Steps s (m.and_skip count) (tops stack.old.items) result
+        (tops stack.new.items) }
 {
     let v = pop(stack)?;
     if truth(&v)? {
@@ -130,7 +135,8 @@ fn and_skip(stack: &mut Vec<Value>, count: usize) -> Result<usize, Raise>
 }
 
 fn or_skip(stack: &mut Vec<Value>, count: usize) -> Result<usize, Raise>
-    ensures { (s : View) → Steps s (m.or_skip count) (tops stack.old.items) result (tops stack.new.items) }
+    ensures { (s : View) → Steps s (m.or_skip count) (tops stack.old.items) result
+        (tops stack.new.items) }
 {
     let v = pop(stack)?;
     if !truth(&v)? {
@@ -149,7 +155,8 @@ fn check(stack: &mut Vec<Value>) -> Result<usize, Raise>
 
 // Puts a value on the stack if it keeps within the limits, and passes nothing.
 fn settle(stack: &mut Vec<Value>, value: Result<Value, Raise>) -> Result<usize, Raise>
-    ensures { (d : Answer Data) → Gives value d → Leads (settled d (tops stack.old.items)) result (tops stack.new.items) }
+    ensures { (d : Answer Data) → Gives value d
+        → Leads (settled d (tops stack.old.items)) result (tops stack.new.items) }
 {
     put(stack, keep(value?)?)
 }
@@ -183,7 +190,8 @@ fn call(
     now: u64,
 ) -> Result<usize, Raise>
     requires { is_built f ≡ true }
-    ensures { (s : View) → s.now ≡ now → Steps s (m.call f count) (tops stack.old.items) result (tops stack.new.items) }
+    ensures { (s : View) → s.now ≡ now
+        → Steps s (m.call f count) (tops stack.old.items) result (tops stack.new.items) }
 {
     let Some(below) = stack.len().checked_sub(count) else {
         return Err(Raise::Error(Tag::TypeError));

@@ -119,7 +119,8 @@ fn is_less(v: &Value, w: &Value) -> Result<Value, Raise>
 
 // `<=`
 fn is_at_most(v: &Value, w: &Value) -> Result<Value, Raise>
-    ensures { Gives result (compared int_le (λ a b. not (is_below b a)) (plain v.now) (plain w.now)) }
+    ensures { Gives result (compared int_le (λ a b. not (is_below b a)) (plain v.now)
+        (plain w.now)) }
 {
     match v {
         Value::Int(a) => match w {

@@ -35,7 +35,8 @@ impl Events {
 
     /// Adds an event at the end. Without memory for it the events stay as they are.
     pub fn push(&mut self, event: Event) -> Result<(), OutOfMemory>
-        ensures ok { OnOk result (events_view self.new ≡ events_view self.old ++ event_view event ∷ []) }
+        ensures ok { OnOk result (events_view self.new
+            ≡ events_view self.old ++ event_view event ∷ []) }
         ensures err { OnErr result (events_view self.new ≡ events_view self.old) }
     {
         match self.items.push(event) {

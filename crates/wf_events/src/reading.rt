@@ -109,7 +109,8 @@ impl<'a> Reader<'a> {
 
     #[tactic(auto, unfolding(crate::specs::Reading::list_at))]
     fn routes(&mut self, alloc: Global) -> Result<Routes, ReadFault>
-        ensures { Gives (λ rs. map route_view rs) result self.new.rest.now (list_at route_at self.old.rest.now) }
+        ensures { Gives (λ rs. map route_view rs) result self.new.rest.now
+            (list_at route_at self.old.rest.now) }
     {
         let count = self.u32()?;
         let mut routes = Routes::new(alloc);

@@ -24,20 +24,23 @@ impl Writer {
     }
 
     fn u32(&mut self, number: u32) -> Result<(), AllocError>
-        ensures { OnOk result (self.new.bytes.items ≡ self.old.bytes.items ++ spelling.four number) }
+        ensures { OnOk result (self.new.bytes.items
+            ≡ self.old.bytes.items ++ spelling.four number) }
     {
         self.bytes.extend_from_slice(&number.to_be_bytes())
     }
 
     fn u64(&mut self, number: u64) -> Result<(), AllocError>
-        ensures { OnOk result (self.new.bytes.items ≡ self.old.bytes.items ++ spelling.eight number) }
+        ensures { OnOk result (self.new.bytes.items
+            ≡ self.old.bytes.items ++ spelling.eight number) }
     {
         self.bytes.extend_from_slice(&number.to_be_bytes())
     }
 
     fn string(&mut self, string: &[u8]) -> Result<(), AllocError>
         requires { IsString string.now }
-        ensures { OnOk result (self.new.bytes.items ≡ self.old.bytes.items ++ spelling.string string.now) }
+        ensures { OnOk result (self.new.bytes.items
+            ≡ self.old.bytes.items ++ spelling.string string.now) }
     {
         self.u32(string.len() as u32)?;
         self.bytes.extend_from_slice(string)
@@ -45,14 +48,16 @@ impl Writer {
 
     fn text(&mut self, text: &Text) -> Result<(), AllocError>
         requires { IsString text.now }
-        ensures { OnOk result (self.new.bytes.items ≡ self.old.bytes.items ++ spelling.string text.now) }
+        ensures { OnOk result (self.new.bytes.items
+            ≡ self.old.bytes.items ++ spelling.string text.now) }
     {
         self.string(text.as_str().as_bytes())
     }
 
     fn route(&mut self, host: &Text, to: &Address) -> Result<(), AllocError>
         requires { IsRoute (route_view (host.now, to.now)) }
-        ensures { OnOk result (self.new.bytes.items ≡ self.old.bytes.items ++ spelling.route (route_view (host.now, to.now))) }
+        ensures { OnOk result (self.new.bytes.items
+            ≡ self.old.bytes.items ++ spelling.route (route_view (host.now, to.now))) }
     {
         self.text(host)?;
         self.text(&to.name)?;
@@ -61,7 +66,8 @@ impl Writer {
 
     fn routes(&mut self, routes: &Routes) -> Result<(), AllocError>
         requires { Each IsRoute (map route_view routes.now) }
-        ensures { OnOk result (self.new.bytes.items ≡ self.old.bytes.items ++ spelling.listed spelling.route (map route_view routes.now)) }
+        ensures { OnOk result (self.new.bytes.items
+            ≡ self.old.bytes.items ++ spelling.listed spelling.route (map route_view routes.now)) }
     {
         let routes = routes.items();
         self.u32(routes.len() as u32)?;
@@ -73,7 +79,8 @@ impl Writer {
 
     fn pairs(&mut self, pairs: &Pairs) -> Result<(), AllocError>
         requires { Each IsPair pairs.now }
-        ensures { OnOk result (self.new.bytes.items ≡ self.old.bytes.items ++ spelling.listed spelling.pair pairs.now) }
+        ensures { OnOk result (self.new.bytes.items
+            ≡ self.old.bytes.items ++ spelling.listed spelling.pair pairs.now) }
     {
         let pairs = pairs.items();
         self.u32(pairs.len() as u32)?;
@@ -86,7 +93,8 @@ impl Writer {
 
     fn start(&mut self, start: &Start) -> Result<(), AllocError>
         requires { IsStart (start_view start.now) }
-        ensures { OnOk result (self.new.bytes.items ≡ self.old.bytes.items ++ spelling.start (start_view start.now)) }
+        ensures { OnOk result (self.new.bytes.items
+            ≡ self.old.bytes.items ++ spelling.start (start_view start.now)) }
     {
         self.text(&start.id)?;
         self.string(start.source.as_slice())?;
@@ -98,7 +106,8 @@ impl Writer {
     }
 
     fn event(&mut self, event: &Event) -> Result<(), AllocError>
-        ensures { OnOk result (self.new.bytes.items ≡ self.old.bytes.items ++ spelling.event (event_view event.now)) }
+        ensures { OnOk result (self.new.bytes.items
+            ≡ self.old.bytes.items ++ spelling.event (event_view event.now)) }
     {
         match event {
             Event::Move(task) => {
@@ -115,7 +124,8 @@ impl Writer {
 
     fn events(&mut self, events: &Events) -> Result<(), AllocError>
         requires { Each IsOld (events_view events.now) }
-        ensures { OnOk result (self.new.bytes.items ≡ self.old.bytes.items ++ spelling.listed spelling.event (events_view events.now)) }
+        ensures { OnOk result (self.new.bytes.items
+            ≡ self.old.bytes.items ++ spelling.listed spelling.event (events_view events.now)) }
     {
         let events = events.items();
         self.u32(events.len() as u32)?;
@@ -127,7 +137,9 @@ impl Writer {
 
     fn turn(&mut self, turn: &Turn) -> Result<(), AllocError>
         requires { Each IsOld (events_view turn.now.events) }
-        ensures { OnOk result (self.new.bytes.items ≡ self.old.bytes.items ++ spelling.turn (spelling.listed spelling.event) (turn_view turn.now)) }
+        ensures { OnOk result (self.new.bytes.items
+            ≡ self.old.bytes.items
+            ++ spelling.turn (spelling.listed spelling.event) (turn_view turn.now)) }
     {
         self.u64(turn.session)?;
         self.u64(turn.waits)?;
@@ -140,7 +152,8 @@ impl Writer {
 #[tactic(auto, unfolding(crate::specs::Spelling::record_bytes))]
 pub fn encode_start(alloc: Global, start: &Start) -> Result<Vec<u8>, OutOfMemory>
     requires { HasSpelling (plain.Record.Started (start_view start.now)) }
-    ensures { IfOk result (λ v. v.items ≡ record_bytes (plain.Record.Started (start_view start.now))) }
+    ensures { IfOk result (λ v. v.items
+        ≡ record_bytes (plain.Record.Started (start_view start.now))) }
 {
     let mut writer = Writer {
         bytes: Vec::new(alloc),

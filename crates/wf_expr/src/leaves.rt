@@ -18,9 +18,8 @@ use wf_value::{Text, Value};
 
 // The value or name that the first symbol is. A decimal is none that is accepted, and is read as null.
 pub(crate) fn leaf(alloc: Global, symbols: &[Symbol]) -> Result<Option<Expr>, Stop>
-    ensures { MatchResult result
-        (λ e. option_map expr_view e ≡ option_map atom_expr (atom_of (head (syms_of symbols.now))))
-        (λ f. f ≡ stop.OutOfMemory) }
+    ensures { MatchResult result (λ e. option_map expr_view e
+        ≡ option_map atom_expr (atom_of (head (syms_of symbols.now)))) (λ f. f ≡ stop.OutOfMemory) }
 {
     match symbols {
         [
@@ -99,9 +98,8 @@ pub(crate) fn written(alloc: Global, text: &str) -> Result<Text, Stop>
 
 // The name that the symbols begin with.
 pub(crate) fn first_name(alloc: Global, symbols: &[Symbol]) -> Result<Option<String>, Stop>
-    ensures { MatchResult result
-        (λ x. option_map string_bytes x ≡ name_of (head (syms_of symbols.now)))
-        (λ f. f ≡ stop.OutOfMemory) }
+    ensures { MatchResult result (λ x. option_map string_bytes x
+        ≡ name_of (head (syms_of symbols.now))) (λ f. f ≡ stop.OutOfMemory) }
 {
     match name(symbols) {
         None => Ok(None),
@@ -114,9 +112,8 @@ pub(crate) fn first_name(alloc: Global, symbols: &[Symbol]) -> Result<Option<Str
 
 // The name with one more behind a point, if there is a name.
 pub(crate) fn longer(chain: Option<String>, key: &Text) -> Result<Option<String>, Stop>
-    ensures { MatchResult result
-        (λ x. option_map string_bytes x ≡ longer_by (option_map string_bytes chain) key.now)
-        (λ f. f ≡ stop.OutOfMemory) }
+    ensures { MatchResult result (λ x. option_map string_bytes x
+        ≡ longer_by (option_map string_bytes chain) key.now) (λ f. f ≡ stop.OutOfMemory) }
 {
     let Some(mut name) = chain else {
         return Ok(None);
@@ -137,9 +134,8 @@ pub(crate) fn no_args(alloc: Global) -> Result<Exprs, Stop>
 }
 
 pub(crate) fn add(args: &mut Exprs, arg: Expr) -> Result<(), Stop>
-    ensures { MatchResult result
-        (λ _. exprs_view args.new ≡ exprs_view args.old ++ expr_view arg ∷ [])
-        (λ f. f ≡ stop.OutOfMemory) }
+    ensures { MatchResult result (λ _. exprs_view args.new
+        ≡ exprs_view args.old ++ expr_view arg ∷ []) (λ f. f ≡ stop.OutOfMemory) }
 {
     match args.push(arg) {
         Ok(()) => Ok(()),

@@ -68,7 +68,8 @@ fn next_symbol(
 
 // Whether the tokens are digits, a point and digits with nothing between them.
 fn glued(whole: Option<Token<'_>>, point: Option<Token<'_>>, rest: Option<Token<'_>>) -> bool
-    ensures { result ≡ glued_at (option_map placed_token whole.entry) (option_map placed_token point.entry) (option_map placed_token rest.entry) }
+    ensures { result ≡ glued_at (option_map placed_token whole.entry)
+        (option_map placed_token point.entry) (option_map placed_token rest.entry) }
 {
     match (whole, point, rest) {
         (Some(whole), Some(point), Some(rest)) => is_glued(whole, point, rest),
@@ -77,7 +78,8 @@ fn glued(whole: Option<Token<'_>>, point: Option<Token<'_>>, rest: Option<Token<
 }
 
 fn is_glued(whole: Token<'_>, point: Token<'_>, rest: Token<'_>) -> bool
-    ensures { result ≡ glued_tokens (placed_token whole.entry) (placed_token point.entry) (placed_token rest.entry) }
+    ensures { result ≡ glued_tokens (placed_token whole.entry) (placed_token point.entry)
+        (placed_token rest.entry) }
 {
     is_digits(whole.kind)
         && point.text == "."

@@ -23,9 +23,8 @@ pub(crate) fn parse_or<'a>(
     alloc: Global,
     symbols: &'a [Symbol],
 ) -> Result<(Expr, &'a [Symbol]), Stop>
-    ensures { MatchResult result
-        (λ r. OrRead (syms_of symbols.now) (expr_view r.0) (syms_of r.1.now))
-        (λ stop. Fails want_or (syms_of symbols.now) stop) }
+    ensures { MatchResult result (λ r. OrRead (syms_of symbols.now) (expr_view r.0)
+        (syms_of r.1.now)) (λ stop. Fails want_or (syms_of symbols.now) stop) }
 {
     let (mut left, mut rest) = parse_and(alloc, symbols)?;
     'more: while begins_or(rest) {
@@ -38,9 +37,8 @@ pub(crate) fn parse_or<'a>(
 
 #[cycle(parse)]
 fn parse_and<'a>(alloc: Global, symbols: &'a [Symbol]) -> Result<(Expr, &'a [Symbol]), Stop>
-    ensures { MatchResult result
-        (λ r. AndRead (syms_of symbols.now) (expr_view r.0) (syms_of r.1.now))
-        (λ stop. Fails want_and (syms_of symbols.now) stop) }
+    ensures { MatchResult result (λ r. AndRead (syms_of symbols.now) (expr_view r.0)
+        (syms_of r.1.now)) (λ stop. Fails want_and (syms_of symbols.now) stop) }
 {
     let (mut left, mut rest) = parse_not(alloc, symbols)?;
     'more: while begins_and(rest) {
@@ -53,9 +51,8 @@ fn parse_and<'a>(alloc: Global, symbols: &'a [Symbol]) -> Result<(Expr, &'a [Sym
 
 #[cycle(parse)]
 fn parse_not<'a>(alloc: Global, symbols: &'a [Symbol]) -> Result<(Expr, &'a [Symbol]), Stop>
-    ensures { MatchResult result
-        (λ r. NotRead (syms_of symbols.now) (expr_view r.0) (syms_of r.1.now))
-        (λ stop. Fails want_not (syms_of symbols.now) stop) }
+    ensures { MatchResult result (λ r. NotRead (syms_of symbols.now) (expr_view r.0)
+        (syms_of r.1.now)) (λ stop. Fails want_not (syms_of symbols.now) stop) }
 {
     if begins_not(symbols) {
         let (operand, rest) = parse_not(alloc, tail(symbols))?;
@@ -66,9 +63,8 @@ fn parse_not<'a>(alloc: Global, symbols: &'a [Symbol]) -> Result<(Expr, &'a [Sym
 
 #[cycle(parse)]
 fn parse_cmp<'a>(alloc: Global, symbols: &'a [Symbol]) -> Result<(Expr, &'a [Symbol]), Stop>
-    ensures { MatchResult result
-        (λ r. CmpRead (syms_of symbols.now) (expr_view r.0) (syms_of r.1.now))
-        (λ stop. Fails want_cmp (syms_of symbols.now) stop) }
+    ensures { MatchResult result (λ r. CmpRead (syms_of symbols.now) (expr_view r.0)
+        (syms_of r.1.now)) (λ stop. Fails want_cmp (syms_of symbols.now) stop) }
 {
     let (left, rest) = parse_sum(alloc, symbols)?;
     match relation(rest) {
@@ -85,9 +81,8 @@ fn parse_cmp<'a>(alloc: Global, symbols: &'a [Symbol]) -> Result<(Expr, &'a [Sym
 
 #[cycle(parse)]
 fn parse_sum<'a>(alloc: Global, symbols: &'a [Symbol]) -> Result<(Expr, &'a [Symbol]), Stop>
-    ensures { MatchResult result
-        (λ r. SumRead (syms_of symbols.now) (expr_view r.0) (syms_of r.1.now))
-        (λ stop. Fails want_sum (syms_of symbols.now) stop) }
+    ensures { MatchResult result (λ r. SumRead (syms_of symbols.now) (expr_view r.0)
+        (syms_of r.1.now)) (λ stop. Fails want_sum (syms_of symbols.now) stop) }
 {
     let (mut left, mut rest) = parse_term(alloc, symbols)?;
     'more: while let Some(op) = sign(rest) {
@@ -100,9 +95,8 @@ fn parse_sum<'a>(alloc: Global, symbols: &'a [Symbol]) -> Result<(Expr, &'a [Sym
 
 #[cycle(parse)]
 fn parse_term<'a>(alloc: Global, symbols: &'a [Symbol]) -> Result<(Expr, &'a [Symbol]), Stop>
-    ensures { MatchResult result
-        (λ r. TermRead (syms_of symbols.now) (expr_view r.0) (syms_of r.1.now))
-        (λ stop. Fails want_term (syms_of symbols.now) stop) }
+    ensures { MatchResult result (λ r. TermRead (syms_of symbols.now) (expr_view r.0)
+        (syms_of r.1.now)) (λ stop. Fails want_term (syms_of symbols.now) stop) }
 {
     let (mut left, mut rest) = parse_unary(alloc, symbols)?;
     'more: while let Some(op) = product(rest) {
@@ -115,9 +109,8 @@ fn parse_term<'a>(alloc: Global, symbols: &'a [Symbol]) -> Result<(Expr, &'a [Sy
 
 #[cycle(parse)]
 fn parse_unary<'a>(alloc: Global, symbols: &'a [Symbol]) -> Result<(Expr, &'a [Symbol]), Stop>
-    ensures { MatchResult result
-        (λ r. UnaryRead (syms_of symbols.now) (expr_view r.0) (syms_of r.1.now))
-        (λ stop. Fails want_unary (syms_of symbols.now) stop) }
+    ensures { MatchResult result (λ r. UnaryRead (syms_of symbols.now) (expr_view r.0)
+        (syms_of r.1.now)) (λ stop. Fails want_unary (syms_of symbols.now) stop) }
 {
     if begins_minus(symbols) {
         let (operand, rest) = parse_unary(alloc, tail(symbols))?;
@@ -129,9 +122,8 @@ fn parse_unary<'a>(alloc: Global, symbols: &'a [Symbol]) -> Result<(Expr, &'a [S
 #[cycle(parse)]
 fn parse_access<'a>(alloc: Global, symbols: &'a [Symbol]) -> Result<(Expr, &'a [Symbol]), Stop>
     requires { is_minus (head (syms_of symbols.now)) ≡ false }
-    ensures { MatchResult result
-        (λ r. AccessRead (syms_of symbols.now) (expr_view r.0) (syms_of r.1.now))
-        (λ stop. Fails want_unary (syms_of symbols.now) stop) }
+    ensures { MatchResult result (λ r. AccessRead (syms_of symbols.now) (expr_view r.0)
+        (syms_of r.1.now)) (λ stop. Fails want_unary (syms_of symbols.now) stop) }
 {
     let (mut base, mut rest) = parse_atom(alloc, symbols)?;
     let mut chain = first_name(alloc, symbols)?;
@@ -163,9 +155,8 @@ fn parse_access<'a>(alloc: Global, symbols: &'a [Symbol]) -> Result<(Expr, &'a [
 #[cycle(parse)]
 fn parse_atom<'a>(alloc: Global, symbols: &'a [Symbol]) -> Result<(Expr, &'a [Symbol]), Stop>
     requires { is_minus (head (syms_of symbols.now)) ≡ false }
-    ensures { MatchResult result
-        (λ r. AtomRead (syms_of symbols.now) (expr_view r.0) (syms_of r.1.now))
-        (λ stop. Fails want_unary (syms_of symbols.now) stop) }
+    ensures { MatchResult result (λ r. AtomRead (syms_of symbols.now) (expr_view r.0)
+        (syms_of r.1.now)) (λ stop. Fails want_unary (syms_of symbols.now) stop) }
 {
     if begins_left_paren(symbols) {
         return parse_group(alloc, tail(symbols));
@@ -179,9 +170,8 @@ fn parse_atom<'a>(alloc: Global, symbols: &'a [Symbol]) -> Result<(Expr, &'a [Sy
 // Behind a `(`.
 #[cycle(parse)]
 fn parse_group<'a>(alloc: Global, symbols: &'a [Symbol]) -> Result<(Expr, &'a [Symbol]), Stop>
-    ensures { MatchResult result
-        (λ r. GroupRead (syms_of symbols.now) (expr_view r.0) (syms_of r.1.now))
-        (λ stop. Fails want_group (syms_of symbols.now) stop) }
+    ensures { MatchResult result (λ r. GroupRead (syms_of symbols.now) (expr_view r.0)
+        (syms_of r.1.now)) (λ stop. Fails want_group (syms_of symbols.now) stop) }
 {
     let (inner, rest) = parse_or(alloc, symbols)?;
     if begins_right_paren(rest) {
@@ -194,9 +184,8 @@ fn parse_group<'a>(alloc: Global, symbols: &'a [Symbol]) -> Result<(Expr, &'a [S
 // Behind a `[`.
 #[cycle(parse)]
 fn parse_index<'a>(alloc: Global, symbols: &'a [Symbol]) -> Result<(Expr, &'a [Symbol]), Stop>
-    ensures { MatchResult result
-        (λ r. IndexRead (syms_of symbols.now) (expr_view r.0) (syms_of r.1.now))
-        (λ stop. Fails want_index (syms_of symbols.now) stop) }
+    ensures { MatchResult result (λ r. IndexRead (syms_of symbols.now) (expr_view r.0)
+        (syms_of r.1.now)) (λ stop. Fails want_index (syms_of symbols.now) stop) }
 {
     let (index, rest) = parse_or(alloc, symbols)?;
     if begins_right_bracket(rest) {
@@ -209,9 +198,8 @@ fn parse_index<'a>(alloc: Global, symbols: &'a [Symbol]) -> Result<(Expr, &'a [S
 // Behind the `(` of a call.
 #[cycle(parse)]
 fn parse_args<'a>(alloc: Global, symbols: &'a [Symbol]) -> Result<(Exprs, &'a [Symbol]), Stop>
-    ensures { MatchResult result
-        (λ r. ArgsRead (syms_of symbols.now) (exprs_view r.0) (syms_of r.1.now))
-        (λ stop. Fails want_call (syms_of symbols.now) stop) }
+    ensures { MatchResult result (λ r. ArgsRead (syms_of symbols.now) (exprs_view r.0)
+        (syms_of r.1.now)) (λ stop. Fails want_call (syms_of symbols.now) stop) }
 {
     let mut args = no_args(alloc)?;
     if begins_right_paren(symbols) {
@@ -233,8 +221,7 @@ fn parse_args<'a>(alloc: Global, symbols: &'a [Symbol]) -> Result<(Exprs, &'a [S
 
 // Behind a point.
 fn parse_key(symbols: &[Symbol]) -> Result<(&Text, &[Symbol]), Stop>
-    ensures { MatchResult result
-        (λ r. KeyRead (syms_of symbols.now) r.0.now (syms_of r.1.now))
+    ensures { MatchResult result (λ r. KeyRead (syms_of symbols.now) r.0.now (syms_of r.1.now))
         (λ stop. Fails want_key (syms_of symbols.now) stop) }
 {
     match name(symbols) {

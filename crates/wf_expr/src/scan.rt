@@ -48,7 +48,8 @@ fn own_fault(
     after_point: bool,
     symbols: &[Symbol],
 ) -> Result<Option<ExprFault>, OutOfMemory>
-    ensures { IfOk result (λ f. f ≡ first_of (faults_here after_point (map placed_of symbols.now))) }
+    ensures { IfOk result (λ f. f ≡ first_of
+        (faults_here after_point (map placed_of symbols.now))) }
 {
     match symbols {
         [
@@ -124,7 +125,8 @@ fn key(symbols: &[Symbol]) -> Option<&Text>
 // The fault of a call at a place, with what stands behind its `(`.
 #[tactic(auto, using(crate::proofs::Scans::same_fault, std::proofs::lemmas::Bool::Decides::nat_tests))]
 fn call_fault(at: u32, name: &str, symbols: &[Symbol]) -> Option<ExprFault>
-    ensures { result ≡ first_of (call_faults at (func_named name.now) (arguments_in (syms_of symbols.now))) }
+    ensures { result ≡ first_of (call_faults at (func_named name.now)
+        (arguments_in (syms_of symbols.now))) }
 {
     match function(name) {
         None => Some(ExprFault::UnknownFunction(at)),

@@ -32,8 +32,7 @@ pub fn parse(alloc: Global, src: &str) -> Result<Expr, ExprFault>
 
 // The symbols of a text.
 pub(crate) fn text_symbols(alloc: Global, src: &str) -> Result<Vec<Symbol>, ExprFault>
-    ensures { MatchResult result
-        (λ symbols. HasSymbols src.now (map placed_of symbols.items))
+    ensures { MatchResult result (λ symbols. HasSymbols src.now (map placed_of symbols.items))
         (λ fault. HasNoSymbols src.now fault) }
 {
     if is_long(src) {
@@ -59,8 +58,7 @@ fn is_long(src: &str) -> bool
 // The expression that the symbols of a text are.
 fn of_symbols(alloc: Global, src: &str, symbols: &[Symbol]) -> Result<Expr, ExprFault>
     requires { length src.now < 4294967296 }
-    ensures { MatchResult result
-        (λ e. SymbolsSpell (map placed_of symbols.now) (expr_view e))
+    ensures { MatchResult result (λ e. SymbolsSpell (map placed_of symbols.now) (expr_view e))
         (λ fault. SymbolsRefused IsExpression src.now (map placed_of symbols.now) fault) }
 {
     match whole(alloc, symbols) {
@@ -83,8 +81,7 @@ fn of_symbols(alloc: Global, src: &str, symbols: &[Symbol]) -> Result<Expr, Expr
 
 // The expression that symbols are by the grammar alone.
 fn whole(alloc: Global, symbols: &[Symbol]) -> Result<Expr, Stop>
-    ensures { MatchResult result
-        (λ e. Spells (syms_of symbols.now) (expr_view e))
+    ensures { MatchResult result (λ e. Spells (syms_of symbols.now) (expr_view e))
         (λ stop. StopsWith IsExpression (syms_of symbols.now) stop) }
 {
     let (expression, rest) = parse_or(alloc, symbols)?;

@@ -207,7 +207,8 @@ pub(crate) fn product(symbols: &[Symbol]) -> Option<Op>
 }
 
 pub(crate) fn name(symbols: &[Symbol]) -> Option<&Text>
-    ensures { option_map (λ x. x.now) result ≡ machine.name_of (machine.head (syms_of symbols.now)) }
+    ensures { option_map (λ x. x.now) result
+        ≡ machine.name_of (machine.head (syms_of symbols.now)) }
 {
     match symbols {
         [

@@ -35,9 +35,9 @@ pub fn parse_target(alloc: Global, src: &str) -> Result<Target, ExprFault>
 // The target that the symbols of a text are.
 fn of_symbols(alloc: Global, src: &str, symbols: &[Symbol]) -> Result<Target, ExprFault>
     requires { length src.now < 4294967296 }
-    ensures { MatchResult result
-        (λ t. SymbolsTarget src.now (map placed_of symbols.now) (target_view t))
-        (λ fault. SymbolsRefused IsTargetText src.now (map placed_of symbols.now) fault) }
+    ensures { MatchResult result (λ t. SymbolsTarget src.now (map placed_of symbols.now)
+        (target_view t)) (λ fault. SymbolsRefused IsTargetText src.now (map placed_of symbols.now)
+        fault) }
 {
     match whole(alloc, src, symbols) {
         Ok(target) => match first_fault(alloc, symbols) {
@@ -59,8 +59,7 @@ fn of_symbols(alloc: Global, src: &str, symbols: &[Symbol]) -> Result<Target, Ex
 
 // The target that symbols are by the grammar alone.
 fn whole(alloc: Global, src: &str, symbols: &[Symbol]) -> Result<Target, Stop>
-    ensures { MatchResult result
-        (λ t. SpellsTarget src.now (syms_of symbols.now) (target_view t))
+    ensures { MatchResult result (λ t. SpellsTarget src.now (syms_of symbols.now) (target_view t))
         (λ stop. StopsWith IsTargetText (syms_of symbols.now) stop) }
 {
     let Some(variable) = name(symbols) else {
@@ -83,9 +82,8 @@ fn whole(alloc: Global, src: &str, symbols: &[Symbol]) -> Result<Target, Stop>
 // A point and a name, or an index in brackets.
 fn one_place<'a>(alloc: Global, symbols: &'a [Symbol]) -> Result<(Expr, &'a [Symbol]), Stop>
     requires { is_end (head (syms_of symbols.now)) ≡ false }
-    ensures { MatchResult result
-        (λ r. PlaceRead (syms_of symbols.now) (expr_view r.0) (syms_of r.1.now))
-        (λ stop. PlaceFails (syms_of symbols.now) stop) }
+    ensures { MatchResult result (λ r. PlaceRead (syms_of symbols.now) (expr_view r.0)
+        (syms_of r.1.now)) (λ stop. PlaceFails (syms_of symbols.now) stop) }
 {
     if begins_point(symbols) {
         let after = tail(symbols);
@@ -102,9 +100,8 @@ fn one_place<'a>(alloc: Global, symbols: &'a [Symbol]) -> Result<(Expr, &'a [Sym
 
 // Behind a `[`.
 fn index<'a>(alloc: Global, symbols: &'a [Symbol]) -> Result<(Expr, &'a [Symbol]), Stop>
-    ensures { MatchResult result
-        (λ r. IndexRead (syms_of symbols.now) (expr_view r.0) (syms_of r.1.now))
-        (λ stop. Fails want_place (syms_of symbols.now) stop) }
+    ensures { MatchResult result (λ r. IndexRead (syms_of symbols.now) (expr_view r.0)
+        (syms_of r.1.now)) (λ stop. Fails want_place (syms_of symbols.now) stop) }
 {
     let (index, rest) = parse_or(alloc, symbols)?;
     if begins_right_bracket(rest) {

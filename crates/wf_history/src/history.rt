@@ -23,7 +23,8 @@ impl History {
     ghost use Rattle.wf_events.specs.View.{record_view, start_view, turn_view};
     ghost use Rattle.wf_history.specs.Stands.{is_new, at_end, is_closed, place, last, ahead, Stands, last_after, HasNoneOrThis, IsBadAt, unread};
     ghost use Rattle.wf_history.specs.Faults.{IsFaultAt};
-    ghost use Rattle.wf_host.specs.World.{Told, LeavesOnly, NoneFell, Rose};
+    ghost use Rattle.wf_host.specs.Calls.{AtAnyMoment, DiskFailed, DoesNoDeed, NoCountFalls, ReadsAsBefore, TellsAsBefore};
+    ghost use Rattle.wf_host.specs.World.{Told};
     ghost use Rattle.wf_journal.specs.Journal.{IsBeforeOrAfter, IsJournal, Stays};
     ghost use Rattle.wf_journal.specs.Records.{magic, records};
 
@@ -33,20 +34,27 @@ impl History {
     pub fn open<H: Host>(host: &mut H) -> Result<History, HistoryFault>
         ensures stands { Told (H.world host.old) (IfOk result (λ h. Stands h (H.world host.new))) }
         ensures open { IfOk result (λ h. is_closed h ≡ false) }
-        ensures first { Told (H.world host.old) (IfOk result (λ h. ahead h (H.world host.new).seen ≡ records (H.world host.new).seen)) }
-        ensures fresh { Told (H.world host.old) (IfOk result (λ h. (is_new h ≡ true) ↔ (length (H.world host.new).seen ≤ 4))) }
+        ensures first { Told (H.world host.old)
+            (IfOk result (λ h. ahead h (H.world host.new).seen ≡ records (H.world host.new).seen)) }
+        ensures fresh { Told (H.world host.old)
+            (IfOk result (λ h. (is_new h ≡ true) ↔ (length (H.world host.new).seen ≤ 4))) }
         ensures fresh_end { IfOk result (λ h. at_end h ≡ is_new h) }
         ensures place { IfOk result (λ h. place h ≡ 0) }
         ensures last { IfOk result (λ h. last h ≡ None) }
-        ensures seen { Told (H.world host.old) ((H.world host.new).seen ≡ (H.world host.old).seen) }
-        ensures any_moment { Told (H.world host.old) (LeavesOnly (H.world host.old) (H.world host.new) (λ c d. (H.world host.old).may_leave c × (d ≡ (H.world host.old).deeds))) }
-        ensures disk_fault { IsErrOf result HistoryFault.DiskFault → Rose (H.faults host.old).disk (H.faults host.new).disk }
-        ensures not_a_journal { Told (H.world host.old) (IsErrOf result HistoryFault.NotAJournal → (5 ≤ length (H.world host.old).seen) × (take 4 (H.world host.old).seen ≢ magic)) }
-        ensures a_journal { Told (H.world host.old) (OnOk result (IsJournal (H.world host.old).seen)) }
-        ensures only { IfErr result (λ e. (e ≡ HistoryFault.DiskFault) ⊎ (e ≡ HistoryFault.NotAJournal)) }
-        ensures deeds { Told (H.world host.old) ((H.world host.new).deeds ≡ (H.world host.old).deeds) }
-        ensures tells { (H.world host.new).tells ≡ (H.world host.old).tells }
-        ensures counts { NoneFell (H.faults host.old) (H.faults host.new) }
+        ensures seen { ReadsAsBefore H.world host.old host.new }
+        ensures any_moment { AtAnyMoment H.world host.old host.new
+            (λ c d. (H.world host.old).may_leave c × (d ≡ (H.world host.old).deeds)) }
+        ensures disk_fault { IsErrOf result HistoryFault.DiskFault
+            → DiskFailed H.faults host.old host.new }
+        ensures not_a_journal { Told (H.world host.old) (IsErrOf result HistoryFault.NotAJournal
+            → (5 ≤ length (H.world host.old).seen) × (take 4 (H.world host.old).seen ≢ magic)) }
+        ensures a_journal { Told (H.world host.old)
+            (OnOk result (IsJournal (H.world host.old).seen)) }
+        ensures only { IfErr result (λ e. (e ≡ HistoryFault.DiskFault)
+            ⊎ (e ≡ HistoryFault.NotAJournal)) }
+        ensures deeds { DoesNoDeed H.world host.old host.new }
+        ensures tells { TellsAsBefore H.world host.old host.new }
+        ensures counts { NoCountFalls H.faults host.old host.new }
     {
         Ok(History {
             journal: Journal::open(host)?,
@@ -86,28 +94,44 @@ impl History {
         alloc: Global,
         host: &mut H,
     ) -> Result<Option<Record>, HistoryFault>
-        requires kept { is_closed self.old ≡ false → Told (H.world host.old) (Stands self.old (H.world host.old)) }
-        ensures stands { is_closed self.new ≡ false → Told (H.world host.old) (Stands self.new (H.world host.new)) }
-        ensures record { Told (H.world host.old) (IfOk result (λ found. MatchOption found
-            (ahead self.old (H.world host.old).seen ≡ [])
-            (λ r. (payload : List ℕ) × (ahead self.old (H.world host.old).seen ≡ payload ∷ ahead self.new (H.world host.old).seen) × (meaning payload ≡ Some (record_view r))))) }
-        ensures place { Told (H.world host.old) (IfOk result (λ found. MatchOption found (place self.new ≡ place self.old) (λ _. place self.new ≡ suc (place self.old)))) }
-        ensures last { IfOk result (λ found. MatchOption found (last self.new ≡ last self.old) (λ r. last self.new ≡ last_after (last self.old) (record_view r))) }
+        requires kept { is_closed self.old ≡ false
+            → Told (H.world host.old) (Stands self.old (H.world host.old)) }
+        ensures stands { is_closed self.new ≡ false
+            → Told (H.world host.old) (Stands self.new (H.world host.new)) }
+        ensures record { Told (H.world host.old)
+            (IfOk result (λ found. MatchOption found (ahead self.old (H.world host.old).seen
+            ≡ []) (λ r. (payload : List ℕ)
+            × (ahead self.old (H.world host.old).seen
+            ≡ payload ∷ ahead self.new (H.world host.old).seen)
+            × (meaning payload ≡ Some (record_view r))))) }
+        ensures place { Told (H.world host.old)
+            (IfOk result (λ found. MatchOption found (place self.new
+            ≡ place self.old) (λ _. place self.new ≡ suc (place self.old)))) }
+        ensures last { IfOk result (λ found. MatchOption found (last self.new
+            ≡ last self.old) (λ r. last self.new ≡ last_after (last self.old) (record_view r))) }
         ensures ended { IfOk result (λ found. IfNone found (at_end self.new ≡ true)) }
-        ensures shorter { IfOk result (λ found. IfSome found (λ _. unread self.new < unread self.old)) }
-        ensures bad_record { Told (H.world host.old) (IfErr result (λ e. (n : ℕ) → e ≡ HistoryFault.BadRecord n → IsBadAt n (place self.old) (ahead self.old (H.world host.old).seen))) }
-        ensures seen { Told (H.world host.old) ((H.world host.new).seen ≡ (H.world host.old).seen) }
-        ensures any_moment { is_closed self.old ≡ false → Told (H.world host.old) (LeavesOnly (H.world host.old) (H.world host.new) (Stays (H.world host.old))) }
-        ensures disk_fault { IsErrOf result HistoryFault.DiskFault → Rose (H.faults host.old).disk (H.faults host.new).disk }
+        ensures shorter { IfOk result (λ found. IfSome found (λ _. unread self.new
+            < unread self.old)) }
+        ensures bad_record { Told (H.world host.old)
+            (IfErr result (λ e. (n : ℕ) → e ≡ HistoryFault.BadRecord n
+            → IsBadAt n (place self.old) (ahead self.old (H.world host.old).seen))) }
+        ensures seen { ReadsAsBefore H.world host.old host.new }
+        ensures any_moment { is_closed self.old ≡ false
+            → AtAnyMoment H.world host.old host.new (Stays (H.world host.old)) }
+        ensures disk_fault { IsErrOf result HistoryFault.DiskFault
+            → DiskFailed H.faults host.old host.new }
         ensures closed { IsErrOf result HistoryFault.Closed ↔ (is_closed self.old ≡ true) }
-        ensures closes { (is_closed self.new ≡ true) ↔ ((is_closed self.old ≡ true) ⊎ IsErrOf result HistoryFault.DiskFault) }
+        ensures closes { (is_closed self.new ≡ true)
+            ↔ ((is_closed self.old ≡ true) ⊎ IsErrOf result HistoryFault.DiskFault) }
         ensures not_asked { IsErrOf result HistoryFault.NotAJournal → ⊥ }
-        ensures unchanged { OnErr result (IsErrOf result HistoryFault.DiskFault ⊎ (self.new ≡ self.old)) }
-        ensures idle { IsErrOf result HistoryFault.Closed → (self.new ≡ self.old) × (host.new ≡ host.old) }
+        ensures unchanged { OnErr result (IsErrOf result HistoryFault.DiskFault
+            ⊎ (self.new ≡ self.old)) }
+        ensures idle { IsErrOf result HistoryFault.Closed
+            → (self.new ≡ self.old) × (host.new ≡ host.old) }
         ensures new { is_new self.new ≡ is_new self.old }
-        ensures deeds { Told (H.world host.old) ((H.world host.new).deeds ≡ (H.world host.old).deeds) }
-        ensures tells { (H.world host.new).tells ≡ (H.world host.old).tells }
-        ensures counts { NoneFell (H.faults host.old) (H.faults host.new) }
+        ensures deeds { DoesNoDeed H.world host.old host.new }
+        ensures tells { TellsAsBefore H.world host.old host.new }
+        ensures counts { NoCountFalls H.faults host.old host.new }
     {
         let before = self.journal;
         let mut room = Vec::new(alloc);
@@ -154,24 +178,35 @@ impl History {
         requires none { Told (H.world host.old) (records (H.world host.old).seen ≡ []) }
         requires spelled { HasSpelling (Started (start_view start.now)) }
         requires short { length (record_bytes (Started (start_view start.now))) ≤ 16777215 }
-        requires kept { is_closed self.old ≡ false → Told (H.world host.old) (Stands self.old (H.world host.old)) }
-        ensures stands { is_closed self.new ≡ false → Told (H.world host.old) (Stands self.new (H.world host.new)) }
-        ensures added { Told (H.world host.old) (OnOk result (records (H.world host.new).seen ≡ record_bytes (Started (start_view start.now)) ∷ [])) }
-        ensures any_moment { is_closed self.old ≡ false → Told (H.world host.old) (LeavesOnly (H.world host.old) (H.world host.new) (HasNoneOrThis (H.world host.old) (record_bytes (Started (start_view start.now))))) }
+        requires kept { is_closed self.old ≡ false
+            → Told (H.world host.old) (Stands self.old (H.world host.old)) }
+        ensures stands { is_closed self.new ≡ false
+            → Told (H.world host.old) (Stands self.new (H.world host.new)) }
+        ensures added { Told (H.world host.old)
+            (OnOk result (records (H.world host.new).seen
+            ≡ record_bytes (Started (start_view start.now)) ∷ [])) }
+        ensures any_moment { is_closed self.old ≡ false
+            → AtAnyMoment H.world host.old host.new
+            (HasNoneOrThis (H.world host.old) (record_bytes (Started (start_view start.now)))) }
         ensures open { OnOk result (is_closed self.new ≡ false) }
         ensures begun { OnOk result (is_new self.new ≡ false) }
         ensures place { OnOk result (place self.new ≡ 1) }
         ensures last { last self.new ≡ last self.old }
         ensures still_ended { OnOk result (at_end self.new ≡ true) }
-        ensures disk_fault { IsErrOf result HistoryFault.DiskFault → Rose (H.faults host.old).disk (H.faults host.new).disk }
+        ensures disk_fault { IsErrOf result HistoryFault.DiskFault
+            → DiskFailed H.faults host.old host.new }
         ensures closed { IsErrOf result HistoryFault.Closed ↔ (is_closed self.old ≡ true) }
-        ensures closes { (is_closed self.new ≡ true) ↔ ((is_closed self.old ≡ true) ⊎ IsErrOf result HistoryFault.DiskFault) }
-        ensures only { IfErr result (λ e. (e ≡ HistoryFault.DiskFault) ⊎ (e ≡ HistoryFault.Closed) ⊎ (e ≡ HistoryFault.OutOfMemory)) }
-        ensures unchanged { IsErrOf result HistoryFault.OutOfMemory → (self.new ≡ self.old) × (host.new ≡ host.old) }
-        ensures idle { IsErrOf result HistoryFault.Closed → (self.new ≡ self.old) × (host.new ≡ host.old) }
-        ensures deeds { Told (H.world host.old) ((H.world host.new).deeds ≡ (H.world host.old).deeds) }
-        ensures tells { (H.world host.new).tells ≡ (H.world host.old).tells }
-        ensures counts { NoneFell (H.faults host.old) (H.faults host.new) }
+        ensures closes { (is_closed self.new ≡ true)
+            ↔ ((is_closed self.old ≡ true) ⊎ IsErrOf result HistoryFault.DiskFault) }
+        ensures only { IfErr result (λ e. (e ≡ HistoryFault.DiskFault) ⊎ (e ≡ HistoryFault.Closed)
+            ⊎ (e ≡ HistoryFault.OutOfMemory)) }
+        ensures unchanged { IsErrOf result HistoryFault.OutOfMemory
+            → (self.new ≡ self.old) × (host.new ≡ host.old) }
+        ensures idle { IsErrOf result HistoryFault.Closed
+            → (self.new ≡ self.old) × (host.new ≡ host.old) }
+        ensures deeds { DoesNoDeed H.world host.old host.new }
+        ensures tells { TellsAsBefore H.world host.old host.new }
+        ensures counts { NoCountFalls H.faults host.old host.new }
     {
         if self.journal.is_closed() {
             return Err(HistoryFault::Closed);
@@ -200,24 +235,36 @@ impl History {
         requires started { Told (H.world host.old) (records (H.world host.old).seen ≢ []) }
         requires spelled { HasSpelling (Turned (turn_view turn.now)) }
         requires short { length (record_bytes (Turned (turn_view turn.now))) ≤ 16777215 }
-        requires kept { is_closed self.old ≡ false → Told (H.world host.old) (Stands self.old (H.world host.old)) }
-        ensures stands { is_closed self.new ≡ false → Told (H.world host.old) (Stands self.new (H.world host.new)) }
-        ensures added { Told (H.world host.old) (OnOk result (records (H.world host.new).seen ≡ records (H.world host.old).seen ++ record_bytes (Turned (turn_view turn.now)) ∷ [])) }
-        ensures any_moment { is_closed self.old ≡ false → Told (H.world host.old) (LeavesOnly (H.world host.old) (H.world host.new) (IsBeforeOrAfter (H.world host.old) (record_bytes (Turned (turn_view turn.now))))) }
+        requires kept { is_closed self.old ≡ false
+            → Told (H.world host.old) (Stands self.old (H.world host.old)) }
+        ensures stands { is_closed self.new ≡ false
+            → Told (H.world host.old) (Stands self.new (H.world host.new)) }
+        ensures added { Told (H.world host.old)
+            (OnOk result (records (H.world host.new).seen
+            ≡ records (H.world host.old).seen ++ record_bytes (Turned (turn_view turn.now)) ∷ [])) }
+        ensures any_moment { is_closed self.old ≡ false
+            → AtAnyMoment H.world host.old host.new
+            (IsBeforeOrAfter (H.world host.old) (record_bytes (Turned (turn_view turn.now)))) }
         ensures open { OnOk result (is_closed self.new ≡ false) }
-        ensures place { Told (H.world host.old) (OnOk result (place self.new ≡ suc (place self.old))) }
+        ensures place { Told (H.world host.old)
+            (OnOk result (place self.new ≡ suc (place self.old))) }
         ensures last { OnOk result (last self.new ≡ Some (turn.now.session, turn.now.waits)) }
         ensures still_ended { at_end self.new ≡ true }
         ensures still_begun { is_new self.new ≡ false }
-        ensures disk_fault { IsErrOf result HistoryFault.DiskFault → Rose (H.faults host.old).disk (H.faults host.new).disk }
+        ensures disk_fault { IsErrOf result HistoryFault.DiskFault
+            → DiskFailed H.faults host.old host.new }
         ensures closed { IsErrOf result HistoryFault.Closed ↔ (is_closed self.old ≡ true) }
-        ensures closes { (is_closed self.new ≡ true) ↔ ((is_closed self.old ≡ true) ⊎ IsErrOf result HistoryFault.DiskFault) }
-        ensures only { IfErr result (λ e. (e ≡ HistoryFault.DiskFault) ⊎ (e ≡ HistoryFault.Closed) ⊎ (e ≡ HistoryFault.OutOfMemory)) }
-        ensures unchanged { IsErrOf result HistoryFault.OutOfMemory → (self.new ≡ self.old) × (host.new ≡ host.old) }
-        ensures idle { IsErrOf result HistoryFault.Closed → (self.new ≡ self.old) × (host.new ≡ host.old) }
-        ensures deeds { Told (H.world host.old) ((H.world host.new).deeds ≡ (H.world host.old).deeds) }
-        ensures tells { (H.world host.new).tells ≡ (H.world host.old).tells }
-        ensures counts { NoneFell (H.faults host.old) (H.faults host.new) }
+        ensures closes { (is_closed self.new ≡ true)
+            ↔ ((is_closed self.old ≡ true) ⊎ IsErrOf result HistoryFault.DiskFault) }
+        ensures only { IfErr result (λ e. (e ≡ HistoryFault.DiskFault) ⊎ (e ≡ HistoryFault.Closed)
+            ⊎ (e ≡ HistoryFault.OutOfMemory)) }
+        ensures unchanged { IsErrOf result HistoryFault.OutOfMemory
+            → (self.new ≡ self.old) × (host.new ≡ host.old) }
+        ensures idle { IsErrOf result HistoryFault.Closed
+            → (self.new ≡ self.old) × (host.new ≡ host.old) }
+        ensures deeds { DoesNoDeed H.world host.old host.new }
+        ensures tells { TellsAsBefore H.world host.old host.new }
+        ensures counts { NoCountFalls H.faults host.old host.new }
     {
         if self.journal.is_closed() {
             return Err(HistoryFault::Closed);

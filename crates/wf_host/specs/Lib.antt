@@ -1,4 +1,5 @@
 pub mod World
+pub mod Calls
 pub mod Moments
 pub mod Printing
 pub mod Source

@@ -110,9 +110,11 @@ impl<R: Files<File = File> + Clock + Print + Drop> Host for FileHost<R> {
     fn size(&mut self) -> Result<u64, Failed>
         ensures bound { IfOk result (λ n. n ≤ longest) }
         ensures counts { NoneFell (file_host_faults self.old) (file_host_faults self.new) }
-        ensures cause { OnErr result (Rose (file_host_faults self.old).disk (file_host_faults self.new).disk) }
+        ensures cause { OnErr result (Rose (file_host_faults self.old).disk
+            (file_host_faults self.new).disk) }
         ensures faults_on_ok { OnOk result (file_host_faults self.new ≡ file_host_faults self.old) }
-        ensures faults_on_err { OnErr result (file_host_faults self.new ≡ disk_failed (file_host_faults self.old)) }
+        ensures faults_on_err { OnErr result (file_host_faults self.new
+            ≡ disk_failed (file_host_faults self.old)) }
         ensures clock { last_reading self.new ≡ last_reading self.old }
     {
         let answer = self.disk.size(&self.rt);
@@ -125,9 +127,11 @@ impl<R: Files<File = File> + Clock + Print + Drop> Host for FileHost<R> {
     fn read_at(&mut self, at: u64, into: &mut [u8]) -> Result<usize, Failed>
         ensures bound { IfOk result (λ n. n ≤ length into.old) }
         ensures counts { NoneFell (file_host_faults self.old) (file_host_faults self.new) }
-        ensures cause { OnErr result (Rose (file_host_faults self.old).disk (file_host_faults self.new).disk) }
+        ensures cause { OnErr result (Rose (file_host_faults self.old).disk
+            (file_host_faults self.new).disk) }
         ensures faults_on_ok { OnOk result (file_host_faults self.new ≡ file_host_faults self.old) }
-        ensures faults_on_err { OnErr result (file_host_faults self.new ≡ disk_failed (file_host_faults self.old)) }
+        ensures faults_on_err { OnErr result (file_host_faults self.new
+            ≡ disk_failed (file_host_faults self.old)) }
         ensures clock { last_reading self.new ≡ last_reading self.old }
     {
         let answer = self.disk.read_at(&self.rt, at, into);
@@ -141,9 +145,11 @@ impl<R: Files<File = File> + Clock + Print + Drop> Host for FileHost<R> {
         requires { at ≤ longest }
         ensures room { OnOk result (at + length bytes.now ≤ longest) }
         ensures counts { NoneFell (file_host_faults self.old) (file_host_faults self.new) }
-        ensures cause { OnErr result (Rose (file_host_faults self.old).disk (file_host_faults self.new).disk) }
+        ensures cause { OnErr result (Rose (file_host_faults self.old).disk
+            (file_host_faults self.new).disk) }
         ensures faults_on_ok { OnOk result (file_host_faults self.new ≡ file_host_faults self.old) }
-        ensures faults_on_err { OnErr result (file_host_faults self.new ≡ disk_failed (file_host_faults self.old)) }
+        ensures faults_on_err { OnErr result (file_host_faults self.new
+            ≡ disk_failed (file_host_faults self.old)) }
         ensures clock { last_reading self.new ≡ last_reading self.old }
     {
         let answer = self.disk.write_at(&self.rt, at, bytes);
@@ -155,9 +161,11 @@ impl<R: Files<File = File> + Clock + Print + Drop> Host for FileHost<R> {
 
     fn sync(&mut self) -> Result<(), Failed>
         ensures counts { NoneFell (file_host_faults self.old) (file_host_faults self.new) }
-        ensures cause { OnErr result (Rose (file_host_faults self.old).disk (file_host_faults self.new).disk) }
+        ensures cause { OnErr result (Rose (file_host_faults self.old).disk
+            (file_host_faults self.new).disk) }
         ensures faults_on_ok { OnOk result (file_host_faults self.new ≡ file_host_faults self.old) }
-        ensures faults_on_err { OnErr result (file_host_faults self.new ≡ disk_failed (file_host_faults self.old)) }
+        ensures faults_on_err { OnErr result (file_host_faults self.new
+            ≡ disk_failed (file_host_faults self.old)) }
         ensures clock { last_reading self.new ≡ last_reading self.old }
     {
         let answer = self.disk.sync(&self.rt);
@@ -181,9 +189,11 @@ impl<R: Files<File = File> + Clock + Print + Drop> Host for FileHost<R> {
         requires { 1 ≤ length bytes.now }
         ensures bound { IfOk result (λ n. n ≤ length bytes.now) }
         ensures counts { NoneFell (file_host_faults self.old) (file_host_faults self.new) }
-        ensures cause { OnErr result (Rose (file_host_faults self.old).print (file_host_faults self.new).print) }
+        ensures cause { OnErr result (Rose (file_host_faults self.old).print
+            (file_host_faults self.new).print) }
         ensures faults_on_ok { OnOk result (file_host_faults self.new ≡ file_host_faults self.old) }
-        ensures faults_on_err { OnErr result (file_host_faults self.new ≡ print_failed (file_host_faults self.old)) }
+        ensures faults_on_err { OnErr result (file_host_faults self.new
+            ≡ print_failed (file_host_faults self.old)) }
         ensures clock { last_reading self.new ≡ last_reading self.old }
     {
         for _ in 0..u64::MAX {

@@ -47,9 +47,11 @@ impl<R: Read> Source for FileSource<R> {
     fn read(&mut self, into: &mut [u8]) -> Result<usize, Failed>
         ensures bound { IfOk result (λ n. n ≤ length into.old) }
         ensures counts { file_source_faults self.old ≤ file_source_faults self.new }
-        ensures cause { OnErr result (Rose (file_source_faults self.old) (file_source_faults self.new)) }
+        ensures cause { OnErr result (Rose (file_source_faults self.old)
+            (file_source_faults self.new)) }
         ensures rests { OnOk result (file_source_faults self.new ≡ file_source_faults self.old) }
-        ensures rises { OnErr result (file_source_faults self.new ≡ next_count (file_source_faults self.old)) }
+        ensures rises { OnErr result (file_source_faults self.new
+            ≡ next_count (file_source_faults self.old)) }
     {
         let inner = &mut self.inner;
         for _ in 0..u64::MAX {

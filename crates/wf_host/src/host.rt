@@ -21,7 +21,8 @@ pub trait Host {
 
     /// The length of the journal file in bytes, 0 where there is none. It is at most 9,223,372,036,854,775,807.
     fn size(&mut self) -> Result<u64, Failed>
-        ensures value { Told (world self.old) (IfOk result (λ n. n ≡ length (world self.old).seen)) }
+        ensures value { Told (world self.old)
+            (IfOk result (λ n. n ≡ length (world self.old).seen)) }
         ensures bound { IfOk result (λ n. n ≤ longest) }
         ensures seen { Told (world self.old) ((world self.new).seen ≡ (world self.old).seen) }
         ensures time { Told (world self.old) (Elapses Same [] (world self.old) (world self.new)) }
@@ -32,8 +33,11 @@ pub trait Host {
     /// Fills the room with the bytes at an offset, as far as the file reaches.
     fn read_at(&mut self, at: u64, into: &mut [u8]) -> Result<usize, Failed>
         requires { at ≤ longest }
-        ensures count { Told (world self.old) (IfOk result (λ n. n ≡ min (length into.old) (length (world self.old).seen - at))) }
-        ensures bytes { Told (world self.old) (IfOk result (λ n. into.new ≡ take n (drop at (world self.old).seen) ++ drop n into.old)) }
+        ensures count { Told (world self.old)
+            (IfOk result (λ n. n ≡ min (length into.old) (length (world self.old).seen - at))) }
+        ensures bytes { Told (world self.old)
+            (IfOk result (λ n. into.new
+            ≡ take n (drop at (world self.old).seen) ++ drop n into.old)) }
         ensures bound { IfOk result (λ n. n ≤ length into.old) }
         ensures seen { Told (world self.old) ((world self.new).seen ≡ (world self.old).seen) }
         ensures time { Told (world self.old) (Elapses Same [] (world self.old) (world self.new)) }
@@ -47,16 +51,19 @@ pub trait Host {
     fn write_at(&mut self, at: u64, bytes: &[u8]) -> Result<(), Failed>
         requires most { at ≤ longest }
         requires inside { Told (world self.old) (at ≤ length (world self.old).seen) }
-        ensures written { Told (world self.old) (OnOk result (Holds (world self.old).seen at bytes.now (world self.new).seen)) }
+        ensures written { Told (world self.old)
+            (OnOk result (Holds (world self.old).seen at bytes.now (world self.new).seen)) }
         ensures room { OnOk result (at + length bytes.now ≤ longest) }
-        ensures time { Told (world self.old) (Elapses (Torn at (length bytes.now)) [] (world self.old) (world self.new)) }
+        ensures time { Told (world self.old)
+            (Elapses (Torn at (length bytes.now)) [] (world self.old) (world self.new)) }
         ensures tells { (world self.new).tells ≡ (world self.old).tells }
         ensures counts { NoneFell (faults self.old) (faults self.new) }
         ensures cause { OnErr result (Rose (faults self.old).disk (faults self.new).disk) };
 
     /// Makes what a read gives stable.
     fn sync(&mut self) -> Result<(), Failed>
-        ensures durable { Told (world self.old) (OnOk result (Only (world self.old).seen (world self.new).may_leave)) }
+        ensures durable { Told (world self.old)
+            (OnOk result (Only (world self.old).seen (world self.new).may_leave)) }
         ensures seen { Told (world self.old) ((world self.new).seen ≡ (world self.old).seen) }
         ensures time { Told (world self.old) (Elapses Same [] (world self.old) (world self.new)) }
         ensures tells { (world self.new).tells ≡ (world self.old).tells }
@@ -66,8 +73,8 @@ pub trait Host {
     /// A reading of the clock, in milliseconds since 1970. On an error there is no deed.
     fn now(&mut self) -> Result<u64, OutOfMemory>
         ensures seen { Told (world self.old) ((world self.new).seen ≡ (world self.old).seen) }
-        ensures time { Told (world self.old) (MatchResult result
-            (λ t. Elapses Same (Now t ∷ []) (world self.old) (world self.new))
+        ensures time { Told (world self.old)
+            (MatchResult result (λ t. Elapses Same (Now t ∷ []) (world self.old) (world self.new))
             (λ _. Elapses Same [] (world self.old) (world self.new))) }
         ensures tells { (world self.new).tells ≡ (world self.old).tells }
         ensures counts { NoneFell (faults self.old) (faults self.new) };
@@ -77,9 +84,9 @@ pub trait Host {
         requires { 1 ≤ length bytes.now }
         ensures bound { IfOk result (λ n. n ≤ length bytes.now) }
         ensures seen { Told (world self.old) ((world self.new).seen ≡ (world self.old).seen) }
-        ensures time { Told (world self.old) (MatchResult result
-            (λ n. Elapses Same (Print (take n bytes.now) ∷ []) (world self.old) (world self.new))
-            (λ _. Elapses Same [] (world self.old) (world self.new))) }
+        ensures time { Told (world self.old)
+            (MatchResult result (λ n. Elapses Same (Print (take n bytes.now) ∷ []) (world self.old)
+            (world self.new)) (λ _. Elapses Same [] (world self.old) (world self.new))) }
         ensures tells { (world self.new).tells ≡ (world self.old).tells }
         ensures counts { NoneFell (faults self.old) (faults self.new) }
         ensures cause { OnErr result (Rose (faults self.old).print (faults self.new).print) };

@@ -167,16 +167,20 @@ impl Host for MemHost {
 
     /// Fails exactly where the plan says.
     fn size(&mut self) -> Result<u64, Failed>
-        ensures value { Told (mem_world self.old) (IfOk result (λ n. n ≡ length (mem_world self.old).seen)) }
+        ensures value { Told (mem_world self.old)
+            (IfOk result (λ n. n ≡ length (mem_world self.old).seen)) }
         ensures bound { IfOk result (λ n. n ≤ longest) }
-        ensures seen { Told (mem_world self.old) ((mem_world self.new).seen ≡ (mem_world self.old).seen) }
-        ensures time { Told (mem_world self.old) (Elapses Same [] (mem_world self.old) (mem_world self.new)) }
+        ensures seen { Told (mem_world self.old) ((mem_world self.new).seen
+            ≡ (mem_world self.old).seen) }
+        ensures time { Told (mem_world self.old)
+            (Elapses Same [] (mem_world self.old) (mem_world self.new)) }
         ensures tells { (mem_world self.new).tells ≡ (mem_world self.old).tells }
         ensures counts { NoneFell (mem_faults self.old) (mem_faults self.new) }
         ensures cause { OnErr result (Rose (mem_faults self.old).disk (mem_faults self.new).disk) }
         ensures fails { IsErr result ↔ IsTrue (call_fails (mem_stage self.old)) }
         ensures faults_on_ok { OnOk result (mem_faults self.new ≡ mem_faults self.old) }
-        ensures faults_on_err { OnErr result (mem_faults self.new ≡ disk_failed (mem_faults self.old)) }
+        ensures faults_on_err { OnErr result (mem_faults self.new
+            ≡ disk_failed (mem_faults self.old)) }
         ensures short { mem_short self.new ≡ mem_short self.old }
         ensures stage { mem_stage self.new ≡ after_call (mem_stage self.old) }
         ensures stable { mem_stable self.new ≡ mem_stable self.old }
@@ -190,17 +194,23 @@ impl Host for MemHost {
     /// Fails exactly where the plan says.
     fn read_at(&mut self, at: u64, into: &mut [u8]) -> Result<usize, Failed>
         requires { at ≤ longest }
-        ensures count { Told (mem_world self.old) (IfOk result (λ n. n ≡ min (length into.old) (length (mem_world self.old).seen - at))) }
-        ensures bytes { Told (mem_world self.old) (IfOk result (λ n. into.new ≡ take n (drop at (mem_world self.old).seen) ++ drop n into.old)) }
+        ensures count { Told (mem_world self.old)
+            (IfOk result (λ n. n ≡ min (length into.old) (length (mem_world self.old).seen - at))) }
+        ensures bytes { Told (mem_world self.old)
+            (IfOk result (λ n. into.new
+            ≡ take n (drop at (mem_world self.old).seen) ++ drop n into.old)) }
         ensures bound { IfOk result (λ n. n ≤ length into.old) }
-        ensures seen { Told (mem_world self.old) ((mem_world self.new).seen ≡ (mem_world self.old).seen) }
-        ensures time { Told (mem_world self.old) (Elapses Same [] (mem_world self.old) (mem_world self.new)) }
+        ensures seen { Told (mem_world self.old) ((mem_world self.new).seen
+            ≡ (mem_world self.old).seen) }
+        ensures time { Told (mem_world self.old)
+            (Elapses Same [] (mem_world self.old) (mem_world self.new)) }
         ensures tells { (mem_world self.new).tells ≡ (mem_world self.old).tells }
         ensures counts { NoneFell (mem_faults self.old) (mem_faults self.new) }
         ensures cause { OnErr result (Rose (mem_faults self.old).disk (mem_faults self.new).disk) }
         ensures fails { IsErr result ↔ IsTrue (call_fails (mem_stage self.old)) }
         ensures faults_on_ok { OnOk result (mem_faults self.new ≡ mem_faults self.old) }
-        ensures faults_on_err { OnErr result (mem_faults self.new ≡ disk_failed (mem_faults self.old)) }
+        ensures faults_on_err { OnErr result (mem_faults self.new
+            ≡ disk_failed (mem_faults self.old)) }
         ensures short { mem_short self.new ≡ mem_short self.old }
         ensures stage { mem_stage self.new ≡ after_call (mem_stage self.old) }
         ensures stable { mem_stable self.new ≡ mem_stable self.old }
@@ -215,19 +225,25 @@ impl Host for MemHost {
     fn write_at(&mut self, at: u64, bytes: &[u8]) -> Result<(), Failed>
         requires most { at ≤ longest }
         requires inside { Told (mem_world self.old) (at ≤ length (mem_world self.old).seen) }
-        ensures written { Told (mem_world self.old) (OnOk result (Holds (mem_world self.old).seen at bytes.now (mem_world self.new).seen)) }
+        ensures written { Told (mem_world self.old)
+            (OnOk result (Holds (mem_world self.old).seen at bytes.now (mem_world self.new).seen)) }
         ensures room { OnOk result (at + length bytes.now ≤ longest) }
-        ensures time { Told (mem_world self.old) (Elapses (Torn at (length bytes.now)) [] (mem_world self.old) (mem_world self.new)) }
+        ensures time { Told (mem_world self.old)
+            (Elapses (Torn at (length bytes.now)) [] (mem_world self.old) (mem_world self.new)) }
         ensures tells { (mem_world self.new).tells ≡ (mem_world self.old).tells }
         ensures counts { NoneFell (mem_faults self.old) (mem_faults self.new) }
         ensures cause { OnErr result (Rose (mem_faults self.old).disk (mem_faults self.new).disk) }
         ensures planned { IsTrue (call_fails (mem_stage self.old)) → IsErr result }
-        ensures only { OnErr result (IsTrue (call_fails (mem_stage self.old)) ⊎ Rose (mem_short self.old) (mem_short self.new)) }
+        ensures only { OnErr result (IsTrue (call_fails (mem_stage self.old))
+            ⊎ Rose (mem_short self.old) (mem_short self.new)) }
         ensures short_on_ok { OnOk result (mem_short self.new ≡ mem_short self.old) }
-        ensures short_if_planned { IsTrue (call_fails (mem_stage self.old)) → mem_short self.new ≡ mem_short self.old }
+        ensures short_if_planned { IsTrue (call_fails (mem_stage self.old))
+            → mem_short self.new ≡ mem_short self.old }
         ensures faults_on_ok { OnOk result (mem_faults self.new ≡ mem_faults self.old) }
-        ensures faults_on_err { OnErr result (mem_faults self.new ≡ disk_failed (mem_faults self.old)) }
-        ensures stage_on_ok { OnOk result (mem_stage self.new ≡ after_change (after_call (mem_stage self.old))) }
+        ensures faults_on_err { OnErr result (mem_faults self.new
+            ≡ disk_failed (mem_faults self.old)) }
+        ensures stage_on_ok { OnOk result (mem_stage self.new
+            ≡ after_change (after_call (mem_stage self.old))) }
         ensures stage_on_err { OnErr result (mem_stage self.new ≡ after_call (mem_stage self.old)) }
         ensures seen_on_err { OnErr result ((mem_world self.new).seen ≡ (mem_world self.old).seen) }
         ensures stable { mem_stable self.new ≡ mem_stable self.old }
@@ -253,19 +269,26 @@ impl Host for MemHost {
 
     /// Fails exactly where the plan says, or without memory.
     fn sync(&mut self) -> Result<(), Failed>
-        ensures durable { Told (mem_world self.old) (OnOk result (Only (mem_world self.old).seen (mem_world self.new).may_leave)) }
-        ensures seen { Told (mem_world self.old) ((mem_world self.new).seen ≡ (mem_world self.old).seen) }
-        ensures time { Told (mem_world self.old) (Elapses Same [] (mem_world self.old) (mem_world self.new)) }
+        ensures durable { Told (mem_world self.old)
+            (OnOk result (Only (mem_world self.old).seen (mem_world self.new).may_leave)) }
+        ensures seen { Told (mem_world self.old) ((mem_world self.new).seen
+            ≡ (mem_world self.old).seen) }
+        ensures time { Told (mem_world self.old)
+            (Elapses Same [] (mem_world self.old) (mem_world self.new)) }
         ensures tells { (mem_world self.new).tells ≡ (mem_world self.old).tells }
         ensures counts { NoneFell (mem_faults self.old) (mem_faults self.new) }
         ensures cause { OnErr result (Rose (mem_faults self.old).disk (mem_faults self.new).disk) }
         ensures planned { IsTrue (call_fails (mem_stage self.old)) → IsErr result }
-        ensures only { OnErr result (IsTrue (call_fails (mem_stage self.old)) ⊎ Rose (mem_short self.old) (mem_short self.new)) }
+        ensures only { OnErr result (IsTrue (call_fails (mem_stage self.old))
+            ⊎ Rose (mem_short self.old) (mem_short self.new)) }
         ensures short_on_ok { OnOk result (mem_short self.new ≡ mem_short self.old) }
-        ensures short_if_planned { IsTrue (call_fails (mem_stage self.old)) → mem_short self.new ≡ mem_short self.old }
+        ensures short_if_planned { IsTrue (call_fails (mem_stage self.old))
+            → mem_short self.new ≡ mem_short self.old }
         ensures faults_on_ok { OnOk result (mem_faults self.new ≡ mem_faults self.old) }
-        ensures faults_on_err { OnErr result (mem_faults self.new ≡ disk_failed (mem_faults self.old)) }
-        ensures stage_on_ok { OnOk result (mem_stage self.new ≡ after_change (after_call (mem_stage self.old))) }
+        ensures faults_on_err { OnErr result (mem_faults self.new
+            ≡ disk_failed (mem_faults self.old)) }
+        ensures stage_on_ok { OnOk result (mem_stage self.new
+            ≡ after_change (after_call (mem_stage self.old))) }
         ensures stage_on_err { OnErr result (mem_stage self.new ≡ after_call (mem_stage self.old)) }
         ensures stable_on_ok { OnOk result (mem_stable self.new ≡ (mem_world self.old).seen) }
         ensures stable_on_err { OnErr result (mem_stable self.new ≡ mem_stable self.old) }
@@ -287,16 +310,19 @@ impl Host for MemHost {
 
     /// The clock's next reading. It fails only without memory, and then takes no reading.
     fn now(&mut self) -> Result<u64, OutOfMemory>
-        ensures seen { Told (mem_world self.old) ((mem_world self.new).seen ≡ (mem_world self.old).seen) }
-        ensures time { Told (mem_world self.old) (MatchResult result
-            (λ t. Elapses Same (Now t ∷ []) (mem_world self.old) (mem_world self.new))
+        ensures seen { Told (mem_world self.old) ((mem_world self.new).seen
+            ≡ (mem_world self.old).seen) }
+        ensures time { Told (mem_world self.old)
+            (MatchResult result (λ t. Elapses Same (Now t ∷ []) (mem_world self.old)
+            (mem_world self.new))
             (λ _. Elapses Same [] (mem_world self.old) (mem_world self.new))) }
         ensures tells { (mem_world self.new).tells ≡ (mem_world self.old).tells }
         ensures counts { NoneFell (mem_faults self.old) (mem_faults self.new) }
         ensures reading { IfOk result (λ t. t ≡ reading (mem_stage self.old)) }
         ensures faults { mem_faults self.new ≡ mem_faults self.old }
         ensures short { mem_short self.new ≡ mem_short self.old }
-        ensures stage_on_ok { OnOk result (mem_stage self.new ≡ after_reading (after_call (mem_stage self.old))) }
+        ensures stage_on_ok { OnOk result (mem_stage self.new
+            ≡ after_reading (after_call (mem_stage self.old))) }
         ensures stage_on_err { OnErr result (mem_stage self.new ≡ after_call (mem_stage self.old)) }
         ensures stable { mem_stable self.new ≡ mem_stable self.old }
     {
@@ -316,20 +342,27 @@ impl Host for MemHost {
     fn print(&mut self, bytes: &[u8]) -> Result<usize, Failed>
         requires { 1 ≤ length bytes.now }
         ensures bound { IfOk result (λ n. n ≤ length bytes.now) }
-        ensures seen { Told (mem_world self.old) ((mem_world self.new).seen ≡ (mem_world self.old).seen) }
-        ensures time { Told (mem_world self.old) (MatchResult result
-            (λ n. Elapses Same (Print (take n bytes.now) ∷ []) (mem_world self.old) (mem_world self.new))
+        ensures seen { Told (mem_world self.old) ((mem_world self.new).seen
+            ≡ (mem_world self.old).seen) }
+        ensures time { Told (mem_world self.old)
+            (MatchResult result (λ n. Elapses Same (Print (take n bytes.now) ∷ [])
+            (mem_world self.old) (mem_world self.new))
             (λ _. Elapses Same [] (mem_world self.old) (mem_world self.new))) }
         ensures tells { (mem_world self.new).tells ≡ (mem_world self.old).tells }
         ensures counts { NoneFell (mem_faults self.old) (mem_faults self.new) }
-        ensures cause { OnErr result (Rose (mem_faults self.old).print (mem_faults self.new).print) }
-        ensures taken { IfOk result (λ n. n ≡ fitting (mem_stage self.old).print_room (length (prints (mem_world self.old).deeds)) (length bytes.now)) }
+        ensures cause { OnErr result (Rose (mem_faults self.old).print
+            (mem_faults self.new).print) }
+        ensures taken { IfOk result (λ n. n ≡ fitting (mem_stage self.old).print_room
+            (length (prints (mem_world self.old).deeds)) (length bytes.now)) }
         ensures planned { IsTrue (call_fails (mem_stage self.old)) → IsErr result }
-        ensures only { OnErr result (IsTrue (call_fails (mem_stage self.old)) ⊎ Rose (mem_short self.old) (mem_short self.new)) }
+        ensures only { OnErr result (IsTrue (call_fails (mem_stage self.old))
+            ⊎ Rose (mem_short self.old) (mem_short self.new)) }
         ensures short_on_ok { OnOk result (mem_short self.new ≡ mem_short self.old) }
-        ensures short_if_planned { IsTrue (call_fails (mem_stage self.old)) → mem_short self.new ≡ mem_short self.old }
+        ensures short_if_planned { IsTrue (call_fails (mem_stage self.old))
+            → mem_short self.new ≡ mem_short self.old }
         ensures faults_on_ok { OnOk result (mem_faults self.new ≡ mem_faults self.old) }
-        ensures faults_on_err { OnErr result (mem_faults self.new ≡ print_failed (mem_faults self.old)) }
+        ensures faults_on_err { OnErr result (mem_faults self.new
+            ≡ print_failed (mem_faults self.old)) }
         ensures stage { mem_stage self.new ≡ after_call (mem_stage self.old) }
         ensures stable { mem_stable self.new ≡ mem_stable self.old }
     {

@@ -58,15 +58,20 @@ impl Source for MemSource {
     /// Gives as much as there is room for and is left, and fails exactly where the number of the read is to fail.
     fn read(&mut self, into: &mut [u8]) -> Result<usize, Failed>
         ensures bound { IfOk result (λ n. n ≤ length into.old) }
-        ensures bytes { IfOk result (λ n. HoldsRest (Some (source_left self.old)) (Some (source_left self.new)) (take n into.new)) }
-        ensures end { IfOk result (λ n. n ≡ 0 → 0 < length into.old → IsAtEnd (Some (source_left self.old))) }
+        ensures bytes { IfOk result (λ n. HoldsRest (Some (source_left self.old))
+            (Some (source_left self.new)) (take n into.new)) }
+        ensures end { IfOk result (λ n. n ≡ 0 → 0 < length into.old
+            → IsAtEnd (Some (source_left self.old))) }
         ensures stays { OnErr result (Some (source_left self.new) ≡ Some (source_left self.old)) }
         ensures counts { source_faults self.old ≤ source_faults self.new }
         ensures cause { OnErr result (Rose (source_faults self.old) (source_faults self.new)) }
         ensures fails { IsErr result ↔ IsTrue (read_fails self.old) }
-        ensures most { IfOk result (λ n. n ≡ min (length into.old) (length (source_left self.old))) }
-        ensures filled { IfOk result (λ n. into.new ≡ take n (source_left self.old) ++ drop n into.old) }
-        ensures rises { OnErr result (source_faults self.new ≡ next_count (source_faults self.old)) }
+        ensures most { IfOk result (λ n. n ≡ min (length into.old)
+            (length (source_left self.old))) }
+        ensures filled { IfOk result (λ n. into.new
+            ≡ take n (source_left self.old) ++ drop n into.old) }
+        ensures rises { OnErr result (source_faults self.new
+            ≡ next_count (source_faults self.old)) }
         ensures rests { OnOk result (source_faults self.new ≡ source_faults self.old) }
         ensures numbers { source_reads self.new ≡ next_count (source_reads self.old) }
         ensures plan { source_fail self.new ≡ source_fail self.old }

@@ -34,7 +34,8 @@ pub(crate) struct CallRecord {
 // How many calls there were up to the last sync.
 fn last_sync(past: &[Done]) -> usize
     ensures within { result ≤ length past.now }
-    ensures stable { (first : List ℕ) → stable first first past.now ≡ content first (take result past.now) }
+    ensures stable { (first : List ℕ) → stable first first past.now
+        ≡ content first (take result past.now) }
 {
     let mut last = 0;
     for i in 0..past.len() {
@@ -85,10 +86,12 @@ impl CallRecord {
     pub(crate) fn write(&mut self, alloc: Global, at: usize, bytes: &[u8]) -> Result<(), AllocError>
         requires inside { at ≤ length (record_world self.old).seen }
         requires room { at + length bytes.now ≤ longest }
-        ensures written { OnOk result ((record_world self.new).seen ≡ written (record_world self.old).seen at bytes.now) }
+        ensures written { OnOk result ((record_world self.new).seen
+            ≡ written (record_world self.old).seen at bytes.now) }
         ensures stays { OnErr result ((record_world self.new).seen ≡ (record_world self.old).seen) }
         ensures stable { record_stable self.new ≡ record_stable self.old }
-        ensures time { Elapses (Torn at (length bytes.now)) [] (record_world self.old) (record_world self.new) }
+        ensures time { Elapses (Torn at (length bytes.now)) [] (record_world self.old)
+            (record_world self.new) }
     {
         let Ok(copy) = Bytes::new(alloc, bytes) else {
             return Err(AllocError);
@@ -101,7 +104,8 @@ impl CallRecord {
 
     /// Notes a sync.
     pub(crate) fn sync(&mut self) -> Result<(), AllocError>
-        ensures durable { OnOk result (Only (record_world self.old).seen (record_world self.new).may_leave) }
+        ensures durable { OnOk result (Only (record_world self.old).seen
+            (record_world self.new).may_leave) }
         ensures stable { OnOk result (record_stable self.new ≡ (record_world self.old).seen) }
         ensures stays { OnErr result (record_stable self.new ≡ record_stable self.old) }
         ensures seen { (record_world self.new).seen ≡ (record_world self.old).seen }
@@ -115,8 +119,8 @@ impl CallRecord {
     pub(crate) fn act(&mut self, deed: Deed) -> Result<(), AllocError>
         ensures seen { (record_world self.new).seen ≡ (record_world self.old).seen }
         ensures stable { record_stable self.new ≡ record_stable self.old }
-        ensures time { MatchResult result
-            (λ _. Elapses Same (deed ∷ []) (record_world self.old) (record_world self.new))
+        ensures time { MatchResult result (λ _. Elapses Same (deed ∷ []) (record_world self.old)
+            (record_world self.new))
             (λ _. Elapses Same [] (record_world self.old) (record_world self.new)) }
     {
         self.deeds.reserve(1)?;

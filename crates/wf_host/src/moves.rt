@@ -48,8 +48,8 @@ pub(crate) fn take_down(
     ensures stable { record_stable log.new ≡ record_stable log.old }
     ensures printed { OnOk result (printed.new.items ≡ printed.old.items ++ bytes.now) }
     ensures unprinted { OnErr result (printed.new.items ≡ printed.old.items) }
-    ensures time { MatchResult result
-        (λ _. Elapses Same (Print bytes.now ∷ []) (record_world log.old) (record_world log.new))
+    ensures time { MatchResult result (λ _. Elapses Same (Print bytes.now ∷ [])
+        (record_world log.old) (record_world log.new))
         (λ _. Elapses Same [] (record_world log.old) (record_world log.new)) }
 {
     let Ok(copy) = Bytes::new(alloc, bytes) else {

@@ -1,6 +1,7 @@
 // Printing a whole text.
 ghost use Rattle.std.specs.Prelude.{◌≡◌, ◌⊎◌, true, false};
-ghost use Rattle.wf_host.specs.World.{Told, LeavesOnly, NoneFell, Rose};
+ghost use Rattle.wf_host.specs.Calls.{AtAnyMoment, NoCountFalls, ReadsAsBefore, TellsAsBefore};
+ghost use Rattle.wf_host.specs.World.{Told, Rose};
 ghost use Rattle.wf_host.specs.Printing.{PrintsFront, PrintsWhole, LeavesSome, TookNothing, PrintedSoFar};
 
 use crate::Host;
@@ -20,11 +21,11 @@ pub fn print_all<H: Host>(host: &mut H, text: &[u8]) -> bool
     ensures not_whole { result ≡ false → Told (H.world host.old)
         (LeavesSome (H.world host.old) (H.world host.new) text.now) }
     // a crash leaves the file as one at entry may, and what was printed by then is the front of the text
-    ensures any_moment { Told (H.world host.old) (LeavesOnly (H.world host.old) (H.world host.new)
-        (PrintedSoFar (H.world host.old) text.now)) }
-    ensures seen { Told (H.world host.old) ((H.world host.new).seen ≡ (H.world host.old).seen) }
-    ensures tells { (H.world host.new).tells ≡ (H.world host.old).tells }
-    ensures counts { NoneFell (H.faults host.old) (H.faults host.new) }
+    ensures any_moment { AtAnyMoment H.world host.old host.new
+        (PrintedSoFar (H.world host.old) text.now) }
+    ensures seen { ReadsAsBefore H.world host.old host.new }
+    ensures tells { TellsAsBefore H.world host.old host.new }
+    ensures counts { NoCountFalls H.faults host.old host.new }
 {
     let mut rest = text;
     while !rest.is_empty() {

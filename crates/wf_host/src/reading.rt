@@ -27,7 +27,8 @@ pub fn read_up_to<S: Source>(
     ensures rest { IfOk result (λ v. HoldsRest (S.left source.old) (S.left source.new) v.items) }
     ensures count { IfOk result (λ v. length v.items ≤ limit) }
     ensures later { S.faults source.old ≤ S.faults source.new }
-    ensures failed { IsErrOf result ReadFault.Failed → Rose (S.faults source.old) (S.faults source.new) }
+    ensures failed { IsErrOf result ReadFault.Failed
+        → Rose (S.faults source.old) (S.faults source.new) }
 {
     let mut out = Vec::new(alloc);
     let mut buffer = [0u8; PIECE];

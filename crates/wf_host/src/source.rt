@@ -18,7 +18,8 @@ pub trait Source {
     /// A read that failed took nothing of what was left.
     fn read(&mut self, into: &mut [u8]) -> Result<usize, Failed>
         ensures bound { IfOk result (λ n. n ≤ length into.old) }
-        ensures bytes { IfOk result (λ n. HoldsRest (left self.old) (left self.new) (take n into.new)) }
+        ensures bytes { IfOk result (λ n. HoldsRest (left self.old) (left self.new)
+            (take n into.new)) }
         ensures end { IfOk result (λ n. n ≡ 0 → 0 < length into.old → IsAtEnd (left self.old)) }
         ensures stays { OnErr result (left self.new ≡ left self.old) }
         ensures counts { faults self.old ≤ faults self.new }

@@ -50,7 +50,8 @@ fn last_chunk(alloc: Global, heard: &[u8], start: usize) -> Result<Found, OutOfM
     requires line { (l : ChunkLine) × IsChunkLineAt heard.now start 0 l }
     requires short { start ≤ 4096 }
     requires within { start ≤ length heard.now }
-    ensures found { IfOk result (λ f. (limit : ℕ) (cs : List Chunk) → IsFound limit cs heard.now f) }
+    ensures found { IfOk result (λ f. (limit : ℕ) (cs : List Chunk)
+        → IsFound limit cs heard.now f) }
     ensures within { IfOk result (IsFoundWithin heard.now) }
 {
     let (_, section) = heard.split_at(start);

@@ -11,10 +11,10 @@ pub(crate) fn next_value<'a>(
     from: usize,
 ) -> Option<(&'a [u8], usize)>
     requires { from ≤ length fields.now }
-    ensures { MatchOption result
-        (values_of name.now (drop from fields.now) ≡ [])
-        (λ r. (values_of name.now (drop from fields.now) ≡ r.0.now ∷ values_of name.now (drop r.1 fields.now))
-        × (from < r.1) × (r.1 ≤ length fields.now)) }
+    ensures { MatchOption result (values_of name.now (drop from fields.now)
+        ≡ []) (λ r. (values_of name.now (drop from fields.now)
+        ≡ r.0.now ∷ values_of name.now (drop r.1 fields.now)) × (from < r.1)
+        × (r.1 ≤ length fields.now)) }
 {
     for i in from..fields.len() {
         let field = &fields[i];

@@ -45,8 +45,7 @@ fn nothing(end: End) -> Read
 fn read_length(content: &mut Vec<u8>, size: usize, heard: &[u8]) -> Result<Read, OutOfMemory>
     ensures kept { OnErr result (content.new.items ≡ content.old.items) }
     ensures within { IfOk result (λ r. r.used ≤ length heard.now) }
-    ensures read { IfOk result (λ r. (f : plain.Framing) (all : List ℕ)
-        → IsFramed (OfLength size) f
+    ensures read { IfOk result (λ r. (f : plain.Framing) (all : List ℕ) → IsFramed (OfLength size) f
         → IsPartOf (OfLength size) all heard.now content.old.items
         → IsRead (OfLength size) f all (drop r.used heard.now) content.new.items r.end) }
 {

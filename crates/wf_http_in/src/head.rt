@@ -39,8 +39,8 @@ impl Head {
     ) -> Result<Head, OutOfMemory>
         requires within { IsResponseWithin front.now room.now spans.now }
         requires head { IsResponseOf front.now room.now spans.now }
-        ensures { IfOk result (λ r. (h : ResponseHead)
-            → IsResponseAt front.now room.now spans.now h → IsHeadOf h r) }
+        ensures { IfOk result (λ r. (h : ResponseHead) → IsResponseAt front.now room.now spans.now h
+            → IsHeadOf h r) }
     {
         let fields = fields_of(alloc, front, &room[..spans.headers])?;
         Ok(Head {

@@ -26,9 +26,9 @@ pub(crate) fn are_good_fields(fields: &[(Text, Text)]) -> bool
 }
 
 fn is_good_field(earlier: &[(Text, Text)], name: &str, value: &str) -> bool
-    ensures { result ≡ (http.is_token name.now
-        && not (is_among (lowercase name.now) (own_fields ++ names_before earlier.now))
-        && list_all is_field_byte value.now) }
+    ensures { result ≡ (http.is_token name.now && not
+        (is_among (lowercase name.now) (own_fields ++ names_before earlier.now)) && list_all
+        is_field_byte value.now) }
 {
     is_token(name.as_bytes()) && !is_own(name) && !stands_in(earlier, name) && is_value(value)
 }

@@ -24,8 +24,8 @@ pub(crate) struct Lines {
 
 impl Lines {
     fn put(&mut self, part: &str) -> Result<(), AllocError>
-        ensures { OnOk result (string_bytes self.new.text ≡ string_bytes self.old.text
-            ++ part.now) }
+        ensures { OnOk result (string_bytes self.new.text
+            ≡ string_bytes self.old.text ++ part.now) }
     {
         self.text.push_str(part)
     }
@@ -43,7 +43,8 @@ impl Lines {
         target: &str,
         query: &[(Text, Text)],
     ) -> Result<(), AllocError>
-        ensures { OnOk result (string_bytes self.new.text ≡ string_bytes self.old.text
+        ensures { OnOk result (string_bytes self.new.text
+            ≡ string_bytes self.old.text
             ++ line (method_name (plain_method method) ++ codes " "
             ++ with_query target.now query.now ++ codes " HTTP/1.1")) }
     {
@@ -54,8 +55,8 @@ impl Lines {
     }
 
     fn target(&mut self, target: &str, query: &[(Text, Text)]) -> Result<(), AllocError>
-        ensures { OnOk result (string_bytes self.new.text ≡ string_bytes self.old.text
-            ++ with_query target.now query.now) }
+        ensures { OnOk result (string_bytes self.new.text
+            ≡ string_bytes self.old.text ++ with_query target.now query.now) }
     {
         self.put(target)?;
         let Some((first, rest)) = query.split_first() else {
@@ -67,8 +68,8 @@ impl Lines {
     }
 
     fn pair(&mut self, pair: &(Text, Text)) -> Result<(), AllocError>
-        ensures { OnOk result (string_bytes self.new.text ≡ string_bytes self.old.text
-            ++ query_pair pair.now) }
+        ensures { OnOk result (string_bytes self.new.text
+            ≡ string_bytes self.old.text ++ query_pair pair.now) }
     {
         self.escaped(pair.0.as_str())?;
         self.put("=")?;
@@ -76,7 +77,8 @@ impl Lines {
     }
 
     fn more_pairs(&mut self, pairs: &[(Text, Text)]) -> Result<(), AllocError>
-        ensures { OnOk result (string_bytes self.new.text ≡ string_bytes self.old.text
+        ensures { OnOk result (string_bytes self.new.text
+            ≡ string_bytes self.old.text
             ++ flat_map (λ q. codes "&" ++ q) (map query_pair pairs.now)) }
     {
         for pair in pairs {
@@ -87,15 +89,15 @@ impl Lines {
     }
 
     fn escaped(&mut self, text: &str) -> Result<(), AllocError>
-        ensures { OnOk result (string_bytes self.new.text ≡ string_bytes self.old.text
-            ++ url_encoded text.now) }
+        ensures { OnOk result (string_bytes self.new.text
+            ≡ string_bytes self.old.text ++ url_encoded text.now) }
     {
         utf8_percent_encode(text, URL).append_to(&mut self.text)
     }
 
     pub(crate) fn field(&mut self, name: &str, value: &str) -> Result<(), AllocError>
-        ensures { OnOk result (string_bytes self.new.text ≡ string_bytes self.old.text
-            ++ field_line (name.now, value.now)) }
+        ensures { OnOk result (string_bytes self.new.text
+            ≡ string_bytes self.old.text ++ field_line (name.now, value.now)) }
     {
         self.put(name)?;
         self.put(": ")?;
@@ -104,8 +106,8 @@ impl Lines {
     }
 
     pub(crate) fn fields(&mut self, fields: &[(Text, Text)]) -> Result<(), AllocError>
-        ensures { OnOk result (string_bytes self.new.text ≡ string_bytes self.old.text
-            ++ flat_map field_line fields.now) }
+        ensures { OnOk result (string_bytes self.new.text
+            ≡ string_bytes self.old.text ++ flat_map field_line fields.now) }
     {
         for field in fields {
             self.field(field.0.as_str(), field.1.as_str())?;
@@ -115,7 +117,8 @@ impl Lines {
 
     // Which call of which execution this is.
     pub(crate) fn call(&mut self, alloc: Global, id: &str, k: u64) -> Result<(), AllocError>
-        ensures { OnOk result (string_bytes self.new.text ≡ string_bytes self.old.text
+        ensures { OnOk result (string_bytes self.new.text
+            ≡ string_bytes self.old.text
             ++ line (codes "X-Workflow-Call: " ++ id.now ++ codes "-" ++ decimal k)) }
     {
         let number = k.to_string(alloc)?;
@@ -132,7 +135,8 @@ impl Lines {
         fields: &[(Text, Text)],
         payload: &Option<Payload>,
     ) -> Result<(), AllocError>
-        ensures { OnOk result (string_bytes self.new.text ≡ string_bytes self.old.text
+        ensures { OnOk result (string_bytes self.new.text
+            ≡ string_bytes self.old.text
             ++ type_line (content_types fields.now) (option_map payload_view payload.now)) }
     {
         let Some(payload) = payload else {
@@ -151,7 +155,8 @@ impl Lines {
         method: Method,
         payload: &Option<Payload>,
     ) -> Result<(), AllocError>
-        ensures { OnOk result (string_bytes self.new.text ≡ string_bytes self.old.text
+        ensures { OnOk result (string_bytes self.new.text
+            ≡ string_bytes self.old.text
             ++ length_line (plain_method method) (option_map payload_view payload.now)) }
     {
         match payload {

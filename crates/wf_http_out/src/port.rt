@@ -9,9 +9,8 @@ ghost use Rattle.wf_http_out.specs.Urls.{is_sendable};
 // scheme, a user, no host or a bad port.
 pub(crate) fn web_port(scheme: &str, authority: &str, host: &str) -> Option<u16>
     requires { host.now ≡ authority_host authority.now }
-    ensures { MatchOption result
-        (is_sendable scheme.now authority.now ≡ false)
-        (λ port. (is_sendable scheme.now authority.now ≡ true)
+    ensures { MatchOption result (is_sendable scheme.now authority.now
+        ≡ false) (λ port. (is_sendable scheme.now authority.now ≡ true)
         × (port ≡ port_of (port_text authority.now))) }
 {
     if !is_web_scheme(scheme) || has_user(authority) || host.is_empty() {
@@ -37,9 +36,8 @@ fn has_user(authority: &str) -> bool
 
 // The port that stands behind a host: nothing, or a colon and 1 to 65,535 in digits.
 fn port_behind(tail: &str) -> Option<u16>
-    ensures { MatchOption result
-        (is_port tail.now ≡ false)
-        (λ port. (is_port tail.now ≡ true) × (port ≡ port_of tail.now)) }
+    ensures { MatchOption result (is_port tail.now ≡ false) (λ port. (is_port tail.now ≡ true)
+        × (port ≡ port_of tail.now)) }
 {
     if tail.is_empty() {
         return Some(80);

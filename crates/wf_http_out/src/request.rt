@@ -30,8 +30,8 @@ pub fn request_bytes(
     k: u64,
 ) -> Result<Bytes, OutFault>
     requires { ForSome asked.now.body (λ v. depth (plain v) ≤ 100) }
-    ensures bytes { IfOk result (λ b.
-        b ≡ request.request_text (goal_view goal.now) (asked_view asked.now) id.now k) }
+    ensures bytes { IfOk result (λ b. b ≡ request.request_text (goal_view goal.now)
+        (asked_view asked.now) id.now k) }
     ensures bad_header { IsErrOf result OutFault.BadHeader
         → request.good_fields [] asked.now.fields ≡ false }
     ensures bad_body { IsErrOf result OutFault.BadBody
@@ -56,8 +56,8 @@ fn written(
     k: u64,
 ) -> Result<Bytes, OutOfMemory>
     requires { ForSome asked.now.body (λ v. depth (plain v) ≤ 100) }
-    ensures { IfOk result (λ b.
-        b ≡ request.request_text (goal_view goal.now) (asked_view asked.now) id.now k) }
+    ensures { IfOk result (λ b. b ≡ request.request_text (goal_view goal.now) (asked_view asked.now)
+        id.now k) }
 {
     let payload = payload_of(alloc, &asked.body)?;
     let Ok(head) = head_of(alloc, goal, asked, id, k, &payload) else {

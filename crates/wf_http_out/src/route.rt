@@ -9,7 +9,8 @@ use wf_value::Text;
 
 // The address of the first route for a host.
 pub(crate) fn find_route<'a>(routes: &'a [(Text, Address)], host: &str) -> Option<&'a Address>
-    ensures { option_map (λ a. address_view a.now) result ≡ route (routes_view routes.now) host.now }
+    ensures { option_map (λ a. address_view a.now) result
+        ≡ route (routes_view routes.now) host.now }
 {
     for pair in routes {
         if is_same_name(pair.0.as_str(), host) {

@@ -28,8 +28,8 @@ impl Request {
     ) -> Result<Request, OutOfMemory>
         requires within { IsRequestWithin front.now room.now spans.now }
         requires head { IsRequestOf front.now room.now spans.now }
-        ensures { IfOk result (λ r. (h : RequestHead)
-            → IsRequestAt front.now room.now spans.now h → IsAskedBy h r) }
+        ensures { IfOk result (λ r. (h : RequestHead) → IsRequestAt front.now room.now spans.now h
+            → IsAskedBy h r) }
     {
         Ok(Request {
             method: text_of(alloc, spans.method.of(front))?,

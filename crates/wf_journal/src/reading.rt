@@ -1,6 +1,7 @@
 // The reads of the journal.
 ghost use Rattle.std.specs.Prelude.{◌≡◌, ◌≤◌, ◌<◌, ◌+◌, ◌++◌, ◌^◌, [], true, false, length, vec_len, take, drop, IfOk, OnOk, OnErr, IsErrOf};
-ghost use Rattle.wf_host.specs.World.{longest, Told, Same, Only, Elapses, LeavesOnly, NoneFell, Rose};
+ghost use Rattle.wf_host.specs.Calls.{AtAnyMoment, DiskFailed, DoesNoDeed, NoCountFalls, ReadsAsBefore, TellsAsBefore};
+ghost use Rattle.wf_host.specs.World.{longest, Told, Same, Only, Elapses};
 ghost use Rattle.wf_journal.specs.Journal.{Stays};
 ghost use Rattle.wf_journal.specs.Reading.{IsBlock, BlockFits, IsHead, SaysHead, FitsIn};
 
@@ -40,13 +41,14 @@ pub(crate) fn read_head<H: Host>(host: &mut H, gate: u64, size: u64) -> Result<H
     requires most { gate < longest }
     requires inside { Told (H.world host.old) (gate < length (H.world host.old).seen) }
     requires size { Told (H.world host.old) (size ≡ length (H.world host.old).seen) }
-    ensures head { Told (H.world host.old) (IfOk result (λ h. IsHead (H.world host.old).seen gate h)) }
+    ensures head { Told (H.world host.old)
+        (IfOk result (λ h. IsHead (H.world host.old).seen gate h)) }
     ensures fits { IfOk result (λ h. FitsIn size gate h) }
-    ensures seen { Told (H.world host.old) ((H.world host.new).seen ≡ (H.world host.old).seen) }
+    ensures seen { ReadsAsBefore H.world host.old host.new }
     ensures time { Told (H.world host.old) (Elapses Same [] (H.world host.old) (H.world host.new)) }
-    ensures tells { (H.world host.new).tells ≡ (H.world host.old).tells }
-    ensures counts { NoneFell (H.faults host.old) (H.faults host.new) }
-    ensures cause { OnErr result (Rose (H.faults host.old).disk (H.faults host.new).disk) }
+    ensures tells { TellsAsBefore H.world host.old host.new }
+    ensures counts { NoCountFalls H.faults host.old host.new }
+    ensures cause { OnErr result (DiskFailed H.faults host.old host.new) }
 {
     let mut bytes = [0; 5];
     let _ = host.read_at(gate, &mut bytes)?;
@@ -63,16 +65,21 @@ fn read_piece<H: Host>(
     requires most { at ≤ longest }
     requires short { vec_len room.old + count < 2 ^ 32 }
     requires inside { Told (H.world host.old) (at + count ≤ length (H.world host.old).seen) }
-    requires settled { Told (H.world host.old) (Only (H.world host.old).seen (H.world host.old).may_leave) }
-    ensures piece { Told (H.world host.old) (IfOk result (λ b. (b ≡ true) × (room.new.items ≡ room.old.items ++ take count (drop at (H.world host.old).seen)))) }
+    requires settled { Told (H.world host.old)
+        (Only (H.world host.old).seen (H.world host.old).may_leave) }
+    ensures piece { Told (H.world host.old)
+        (IfOk result (λ b. (b ≡ true)
+        × (room.new.items ≡ room.old.items ++ take count (drop at (H.world host.old).seen)))) }
     ensures longer { OnOk result (vec_len room.new ≡ vec_len room.old + count) }
-    ensures seen { Told (H.world host.old) ((H.world host.new).seen ≡ (H.world host.old).seen) }
-    ensures settled { Told (H.world host.old) (Only (H.world host.old).seen (H.world host.new).may_leave) }
-    ensures any_moment { Told (H.world host.old) (LeavesOnly (H.world host.old) (H.world host.new) (Stays (H.world host.old))) }
-    ensures deeds { Told (H.world host.old) ((H.world host.new).deeds ≡ (H.world host.old).deeds) }
-    ensures tells { (H.world host.new).tells ≡ (H.world host.old).tells }
-    ensures counts { NoneFell (H.faults host.old) (H.faults host.new) }
-    ensures disk_fault { IsErrOf result JournalFault.DiskFault → Rose (H.faults host.old).disk (H.faults host.new).disk }
+    ensures seen { ReadsAsBefore H.world host.old host.new }
+    ensures settled { Told (H.world host.old)
+        (Only (H.world host.old).seen (H.world host.new).may_leave) }
+    ensures any_moment { AtAnyMoment H.world host.old host.new (Stays (H.world host.old)) }
+    ensures deeds { DoesNoDeed H.world host.old host.new }
+    ensures tells { TellsAsBefore H.world host.old host.new }
+    ensures counts { NoCountFalls H.faults host.old host.new }
+    ensures disk_fault { IsErrOf result JournalFault.DiskFault
+        → DiskFailed H.faults host.old host.new }
     ensures not_asked { ¬ IsErrOf result JournalFault.NotAJournal }
     ensures too_long { ¬ IsErrOf result JournalFault.TooLong }
     ensures closed { ¬ IsErrOf result JournalFault.Closed }
@@ -93,15 +100,20 @@ pub(crate) fn read_payload<H: Host>(
 ) -> Result<bool, JournalFault>
     requires most { at + len ≤ longest }
     requires inside { Told (H.world host.old) (at + len < length (H.world host.old).seen) }
-    requires settled { Told (H.world host.old) (Only (H.world host.old).seen (H.world host.old).may_leave) }
-    ensures payload { Told (H.world host.old) (IfOk result (λ b. (b ≡ true) × (room.new.items ≡ take len (drop at (H.world host.old).seen)))) }
-    ensures seen { Told (H.world host.old) ((H.world host.new).seen ≡ (H.world host.old).seen) }
-    ensures settled { Told (H.world host.old) (Only (H.world host.old).seen (H.world host.new).may_leave) }
-    ensures any_moment { Told (H.world host.old) (LeavesOnly (H.world host.old) (H.world host.new) (Stays (H.world host.old))) }
-    ensures deeds { Told (H.world host.old) ((H.world host.new).deeds ≡ (H.world host.old).deeds) }
-    ensures tells { (H.world host.new).tells ≡ (H.world host.old).tells }
-    ensures counts { NoneFell (H.faults host.old) (H.faults host.new) }
-    ensures disk_fault { IsErrOf result JournalFault.DiskFault → Rose (H.faults host.old).disk (H.faults host.new).disk }
+    requires settled { Told (H.world host.old)
+        (Only (H.world host.old).seen (H.world host.old).may_leave) }
+    ensures payload { Told (H.world host.old)
+        (IfOk result (λ b. (b ≡ true)
+        × (room.new.items ≡ take len (drop at (H.world host.old).seen)))) }
+    ensures seen { ReadsAsBefore H.world host.old host.new }
+    ensures settled { Told (H.world host.old)
+        (Only (H.world host.old).seen (H.world host.new).may_leave) }
+    ensures any_moment { AtAnyMoment H.world host.old host.new (Stays (H.world host.old)) }
+    ensures deeds { DoesNoDeed H.world host.old host.new }
+    ensures tells { TellsAsBefore H.world host.old host.new }
+    ensures counts { NoCountFalls H.faults host.old host.new }
+    ensures disk_fault { IsErrOf result JournalFault.DiskFault
+        → DiskFailed H.faults host.old host.new }
     ensures not_asked { ¬ IsErrOf result JournalFault.NotAJournal }
     ensures too_long { ¬ IsErrOf result JournalFault.TooLong }
     ensures closed { ¬ IsErrOf result JournalFault.Closed }
@@ -137,16 +149,20 @@ pub(crate) fn read_block<H: Host>(
     requires most_size { size ≤ longest }
     requires inside { Told (H.world host.old) (gate < length (H.world host.old).seen) }
     requires size { Told (H.world host.old) (size ≡ length (H.world host.old).seen) }
-    requires settled { Told (H.world host.old) (Only (H.world host.old).seen (H.world host.old).may_leave) }
-    ensures block { Told (H.world host.old) (IfOk result (λ b. IsBlock (H.world host.old).seen gate room.new.items b)) }
+    requires settled { Told (H.world host.old)
+        (Only (H.world host.old).seen (H.world host.old).may_leave) }
+    ensures block { Told (H.world host.old)
+        (IfOk result (λ b. IsBlock (H.world host.old).seen gate room.new.items b)) }
     ensures fits { IfOk result (λ b. BlockFits size gate b) }
-    ensures seen { Told (H.world host.old) ((H.world host.new).seen ≡ (H.world host.old).seen) }
-    ensures settled { Told (H.world host.old) (Only (H.world host.old).seen (H.world host.new).may_leave) }
-    ensures any_moment { Told (H.world host.old) (LeavesOnly (H.world host.old) (H.world host.new) (Stays (H.world host.old))) }
-    ensures deeds { Told (H.world host.old) ((H.world host.new).deeds ≡ (H.world host.old).deeds) }
-    ensures tells { (H.world host.new).tells ≡ (H.world host.old).tells }
-    ensures counts { NoneFell (H.faults host.old) (H.faults host.new) }
-    ensures disk_fault { IsErrOf result JournalFault.DiskFault → Rose (H.faults host.old).disk (H.faults host.new).disk }
+    ensures seen { ReadsAsBefore H.world host.old host.new }
+    ensures settled { Told (H.world host.old)
+        (Only (H.world host.old).seen (H.world host.new).may_leave) }
+    ensures any_moment { AtAnyMoment H.world host.old host.new (Stays (H.world host.old)) }
+    ensures deeds { DoesNoDeed H.world host.old host.new }
+    ensures tells { TellsAsBefore H.world host.old host.new }
+    ensures counts { NoCountFalls H.faults host.old host.new }
+    ensures disk_fault { IsErrOf result JournalFault.DiskFault
+        → DiskFailed H.faults host.old host.new }
     ensures not_asked { ¬ IsErrOf result JournalFault.NotAJournal }
     ensures too_long { ¬ IsErrOf result JournalFault.TooLong }
     ensures closed { ¬ IsErrOf result JournalFault.Closed }

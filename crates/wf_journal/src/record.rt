@@ -1,6 +1,7 @@
 // A record is written behind a closed gate, and the gate is opened once the record is on the disk.
 ghost use Rattle.std.specs.Prelude.{◌≡◌, ◌≤◌, ◌<◌, ◌+◌, ◌^◌, ◌++◌, [], ◌∷◌, true, false, length, get_or, OnOk, OnErr};
-ghost use Rattle.wf_host.specs.World.{longest, Told, Only, LeavesOnly, NoneFell, Rose};
+ghost use Rattle.wf_host.specs.Calls.{AtAnyMoment, DiskFailed, DoesNoDeed, NoCountFalls, TellsAsBefore};
+ghost use Rattle.wf_host.specs.World.{longest, Told, Only};
 ghost use Rattle.wf_journal.specs.Records.{records};
 ghost use Rattle.wf_journal.specs.Gates.{AtEnd};
 ghost use Rattle.wf_journal.specs.Journal.{RecordsStay, IsBeforeOrAfter, HasNone};
@@ -17,12 +18,13 @@ fn close_stale<H: Host>(host: &mut H, gate: u64) -> Result<(), Failed>
     requires ready { Told (H.world host.old) (AtEnd (H.world host.old) gate true) }
     requires one { Told (H.world host.old) (get_or (H.world host.old).seen gate 0 ≡ 1) }
     ensures ready { Told (H.world host.old) (OnOk result (AtEnd (H.world host.new) gate false)) }
-    ensures same { Told (H.world host.old) (OnOk result (records (H.world host.new).seen ≡ records (H.world host.old).seen)) }
-    ensures any_moment { Told (H.world host.old) (LeavesOnly (H.world host.old) (H.world host.new) (RecordsStay (H.world host.old))) }
-    ensures deeds { Told (H.world host.old) ((H.world host.new).deeds ≡ (H.world host.old).deeds) }
-    ensures tells { (H.world host.new).tells ≡ (H.world host.old).tells }
-    ensures counts { NoneFell (H.faults host.old) (H.faults host.new) }
-    ensures cause { OnErr result (Rose (H.faults host.old).disk (H.faults host.new).disk) }
+    ensures same { Told (H.world host.old)
+        (OnOk result (records (H.world host.new).seen ≡ records (H.world host.old).seen)) }
+    ensures any_moment { AtAnyMoment H.world host.old host.new (RecordsStay (H.world host.old)) }
+    ensures deeds { DoesNoDeed H.world host.old host.new }
+    ensures tells { TellsAsBefore H.world host.old host.new }
+    ensures counts { NoCountFalls H.faults host.old host.new }
+    ensures cause { OnErr result (DiskFailed H.faults host.old host.new) }
 {
     write_synced(host, gate, &[0])
 }
@@ -31,14 +33,16 @@ fn close_stale<H: Host>(host: &mut H, gate: u64) -> Result<(), Failed>
 fn make_ready<H: Host>(host: &mut H, gate: u64, stale: bool) -> Result<(), Failed>
     requires most { gate < longest }
     requires ready { Told (H.world host.old) (AtEnd (H.world host.old) gate stale) }
-    requires one { stale ≡ true → Told (H.world host.old) (get_or (H.world host.old).seen gate 0 ≡ 1) }
+    requires one { stale ≡ true → Told (H.world host.old) (get_or (H.world host.old).seen gate 0
+        ≡ 1) }
     ensures ready { Told (H.world host.old) (OnOk result (AtEnd (H.world host.new) gate false)) }
-    ensures same { Told (H.world host.old) (OnOk result (records (H.world host.new).seen ≡ records (H.world host.old).seen)) }
-    ensures any_moment { Told (H.world host.old) (LeavesOnly (H.world host.old) (H.world host.new) (RecordsStay (H.world host.old))) }
-    ensures deeds { Told (H.world host.old) ((H.world host.new).deeds ≡ (H.world host.old).deeds) }
-    ensures tells { (H.world host.new).tells ≡ (H.world host.old).tells }
-    ensures counts { NoneFell (H.faults host.old) (H.faults host.new) }
-    ensures cause { OnErr result (Rose (H.faults host.old).disk (H.faults host.new).disk) }
+    ensures same { Told (H.world host.old)
+        (OnOk result (records (H.world host.new).seen ≡ records (H.world host.old).seen)) }
+    ensures any_moment { AtAnyMoment H.world host.old host.new (RecordsStay (H.world host.old)) }
+    ensures deeds { DoesNoDeed H.world host.old host.new }
+    ensures tells { TellsAsBefore H.world host.old host.new }
+    ensures counts { NoCountFalls H.faults host.old host.new }
+    ensures cause { OnErr result (DiskFailed H.faults host.old host.new) }
 {
     if stale {
         close_stale(host, gate)
@@ -52,14 +56,18 @@ fn put_record<H: Host>(host: &mut H, gate: u64, payload: &[u8]) -> Result<(), Fa
     requires most { gate < longest }
     requires short { length payload.now < 2 ^ 32 }
     requires ready { Told (H.world host.old) (AtEnd (H.world host.old) gate false) }
-    ensures ready { Told (H.world host.old) (OnOk result (AtEnd (H.world host.new) (gate + 5 + length payload.now) false)) }
-    ensures added { Told (H.world host.old) (OnOk result (records (H.world host.new).seen ≡ records (H.world host.old).seen ++ payload.now ∷ [])) }
+    ensures ready { Told (H.world host.old)
+        (OnOk result (AtEnd (H.world host.new) (gate + 5 + length payload.now) false)) }
+    ensures added { Told (H.world host.old)
+        (OnOk result (records (H.world host.new).seen
+        ≡ records (H.world host.old).seen ++ payload.now ∷ [])) }
     ensures room { OnOk result (gate + 6 + length payload.now ≤ longest) }
-    ensures any_moment { Told (H.world host.old) (LeavesOnly (H.world host.old) (H.world host.new) (IsBeforeOrAfter (H.world host.old) payload.now)) }
-    ensures deeds { Told (H.world host.old) ((H.world host.new).deeds ≡ (H.world host.old).deeds) }
-    ensures tells { (H.world host.new).tells ≡ (H.world host.old).tells }
-    ensures counts { NoneFell (H.faults host.old) (H.faults host.new) }
-    ensures cause { OnErr result (Rose (H.faults host.old).disk (H.faults host.new).disk) }
+    ensures any_moment { AtAnyMoment H.world host.old host.new
+        (IsBeforeOrAfter (H.world host.old) payload.now) }
+    ensures deeds { DoesNoDeed H.world host.old host.new }
+    ensures tells { TellsAsBefore H.world host.old host.new }
+    ensures counts { NoCountFalls H.faults host.old host.new }
+    ensures cause { OnErr result (DiskFailed H.faults host.old host.new) }
 {
     put_block(host, gate, payload)?;
     host.sync()?;
@@ -76,15 +84,20 @@ pub(crate) fn add_record<H: Host>(
     requires most { gate < longest }
     requires short { length payload.now < 2 ^ 32 }
     requires ready { Told (H.world host.old) (AtEnd (H.world host.old) gate stale) }
-    requires one { stale ≡ true → Told (H.world host.old) (get_or (H.world host.old).seen gate 0 ≡ 1) }
-    ensures ready { Told (H.world host.old) (OnOk result (AtEnd (H.world host.new) (gate + 5 + length payload.now) false)) }
-    ensures added { Told (H.world host.old) (OnOk result (records (H.world host.new).seen ≡ records (H.world host.old).seen ++ payload.now ∷ [])) }
+    requires one { stale ≡ true → Told (H.world host.old) (get_or (H.world host.old).seen gate 0
+        ≡ 1) }
+    ensures ready { Told (H.world host.old)
+        (OnOk result (AtEnd (H.world host.new) (gate + 5 + length payload.now) false)) }
+    ensures added { Told (H.world host.old)
+        (OnOk result (records (H.world host.new).seen
+        ≡ records (H.world host.old).seen ++ payload.now ∷ [])) }
     ensures room { OnOk result (gate + 6 + length payload.now ≤ longest) }
-    ensures any_moment { Told (H.world host.old) (LeavesOnly (H.world host.old) (H.world host.new) (IsBeforeOrAfter (H.world host.old) payload.now)) }
-    ensures deeds { Told (H.world host.old) ((H.world host.new).deeds ≡ (H.world host.old).deeds) }
-    ensures tells { (H.world host.new).tells ≡ (H.world host.old).tells }
-    ensures counts { NoneFell (H.faults host.old) (H.faults host.new) }
-    ensures cause { OnErr result (Rose (H.faults host.old).disk (H.faults host.new).disk) }
+    ensures any_moment { AtAnyMoment H.world host.old host.new
+        (IsBeforeOrAfter (H.world host.old) payload.now) }
+    ensures deeds { DoesNoDeed H.world host.old host.new }
+    ensures tells { TellsAsBefore H.world host.old host.new }
+    ensures counts { NoCountFalls H.faults host.old host.new }
+    ensures cause { OnErr result (DiskFailed H.faults host.old host.new) }
 {
     make_ready(host, gate, stale)?;
     put_record(host, gate, payload)
@@ -92,15 +105,16 @@ pub(crate) fn add_record<H: Host>(
 
 /// Writes the magic and a first gate.
 pub(crate) fn write_start<H: Host>(host: &mut H) -> Result<(), Failed>
-    requires settled { Told (H.world host.old) (Only (H.world host.old).seen (H.world host.old).may_leave) }
+    requires settled { Told (H.world host.old)
+        (Only (H.world host.old).seen (H.world host.old).may_leave) }
     requires fresh { Told (H.world host.old) (length (H.world host.old).seen ≤ 4) }
     ensures ready { Told (H.world host.old) (OnOk result (AtEnd (H.world host.new) 4 false)) }
     ensures none { Told (H.world host.old) (OnOk result (records (H.world host.new).seen ≡ [])) }
-    ensures any_moment { Told (H.world host.old) (LeavesOnly (H.world host.old) (H.world host.new) (HasNone (H.world host.old))) }
-    ensures deeds { Told (H.world host.old) ((H.world host.new).deeds ≡ (H.world host.old).deeds) }
-    ensures tells { (H.world host.new).tells ≡ (H.world host.old).tells }
-    ensures counts { NoneFell (H.faults host.old) (H.faults host.new) }
-    ensures cause { OnErr result (Rose (H.faults host.old).disk (H.faults host.new).disk) }
+    ensures any_moment { AtAnyMoment H.world host.old host.new (HasNone (H.world host.old)) }
+    ensures deeds { DoesNoDeed H.world host.old host.new }
+    ensures tells { TellsAsBefore H.world host.old host.new }
+    ensures counts { NoCountFalls H.faults host.old host.new }
+    ensures cause { OnErr result (DiskFailed H.faults host.old host.new) }
 {
     write_synced(host, 0, &MAGIC)?;
     write_synced(host, 4, &[0])

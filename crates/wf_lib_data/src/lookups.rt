@@ -27,7 +27,8 @@ pub fn map_get(alloc: Global, map: &Value, keys: &Value) -> Result<Value, Raise>
 
 // The value at each key in turn.
 fn at_all(alloc: Global, map: &Value, keys: &[Value]) -> Result<Value, Raise>
-    ensures { Gives result (follow_all (plain map.now) (texts_in (items_of (plain_items keys.now)))) }
+    ensures { Gives result (follow_all (plain map.now)
+        (texts_in (items_of (plain_items keys.now)))) }
 {
     let mut value = Some(map);
     for key in keys {

@@ -25,7 +25,8 @@ pub fn text_replace_all(
     part: &Value,
     other: &Value,
 ) -> Result<Value, Raise>
-    ensures { Gives result (text_replace_all (plain source.now) (plain part.now) (plain other.now)) }
+    ensures { Gives result (text_replace_all (plain source.now) (plain part.now)
+        (plain other.now)) }
 {
     match (source, part, other) {
         (Value::Text(s), Value::Text(part), Value::Text(other)) => {

@@ -45,8 +45,10 @@ fn substring(alloc: Global, s: &str, start: i64, end: i64) -> Result<Value, Rais
 
 // The range as places of a text with so many characters.
 fn range_in(count: usize, start: i64, end: i64) -> Option<(usize, usize)>
-    ensures inside { MatchOption result (is_range_in count start end ≡ false) (λ _. is_range_in count start end ≡ true) }
-    ensures places { MatchOption result (true ≡ true) (λ r. (r.0 ≡ unsigned_abs start) × (r.1 ≡ unsigned_abs end) × (r.0 ≤ r.1)) }
+    ensures inside { MatchOption result (is_range_in count start end
+        ≡ false) (λ _. is_range_in count start end ≡ true) }
+    ensures places { MatchOption result (true ≡ true) (λ r. (r.0 ≡ unsigned_abs start)
+        × (r.1 ≡ unsigned_abs end) × (r.0 ≤ r.1)) }
 {
     let from = usize::try_from(start).ok()?;
     let to = usize::try_from(end).ok()?;
@@ -60,7 +62,8 @@ fn range_in(count: usize, start: i64, end: i64) -> Option<(usize, usize)>
 // The characters from one place up to before another.
 fn characters(alloc: Global, s: &str, from: usize, to: usize) -> Result<String, AllocError>
     requires { from ≤ to }
-    ensures { IfOk result (λ t. string_bytes t ≡ encode_utf8_all (slice_range (chars s.now) from to)) }
+    ensures { IfOk result (λ t. string_bytes t
+        ≡ encode_utf8_all (slice_range (chars s.now) from to)) }
 {
     s.chars().skip(from).take(to - from).collect(alloc)
 }

@@ -8,7 +8,8 @@ use jiff::civil::DateTime;
 
 // The seconds from 1970 to a date and a time of day, both real.
 pub(crate) fn civil_seconds(text: &[u8]) -> Option<i64>
-    ensures time { MatchOption result (is_civil text.now ≡ false) (λ n. (is_civil text.now ≡ true) × (n ≡ civil_seconds text.now)) }
+    ensures time { MatchOption result (is_civil text.now ≡ false) (λ n. (is_civil text.now ≡ true)
+        × (n ≡ civil_seconds text.now)) }
     ensures short { IfSome result IsShort }
 {
     if !has_form(b"dddd-dd-ddTdd:dd:dd", text) {
@@ -30,9 +31,9 @@ fn seconds_at(year: u16, month: u8, day: u8, hour: u8, minute: u8, second: u8) -
     requires hour { hour ≤ 99 }
     requires minute { minute ≤ 99 }
     requires second { second ≤ 99 }
-    ensures time { MatchOption result
-        ((is_real_date year month day && is_real_time hour minute second) ≡ false)
-        (λ n. ((is_real_date year month day && is_real_time hour minute second) ≡ true) × (n ≡ date_seconds year month day hour minute second)) }
+    ensures time { MatchOption result ((is_real_date year month day && is_real_time hour minute
+        second) ≡ false) (λ n. ((is_real_date year month day && is_real_time hour minute second)
+        ≡ true) × (n ≡ date_seconds year month day hour minute second)) }
     ensures short { IfSome result IsShort }
 {
     let (month, day) = (month as i8, day as i8);

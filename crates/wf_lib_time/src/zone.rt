@@ -18,7 +18,8 @@ fn digit_count(text: &[u8]) -> usize
 // What follows a point and one to nine digits, if a point stands there.
 #[tactic(auto, using(crate::proofs::Zones::no_text, crate::proofs::Zones::no_point, crate::proofs::Zones::no_digits, crate::proofs::Zones::many_digits, crate::proofs::Zones::few_digits))]
 pub(crate) fn without_fraction(text: &[u8]) -> Option<&[u8]>
-    ensures { MatchOption result (without_fraction text.now ≡ None) (λ r. without_fraction text.now ≡ Some r.now) }
+    ensures { MatchOption result (without_fraction text.now ≡ None) (λ r. without_fraction text.now
+        ≡ Some r.now) }
 {
     let Some((point, digits)) = text.split_first() else {
         return Some(text);
@@ -53,7 +54,8 @@ pub(crate) fn seconds_ahead(zone: &[u8]) -> Option<i64>
 fn offset(zone: &[u8]) -> Option<i64>
     requires hours { HasTwoDigits zone.now 1 }
     requires minutes { HasTwoDigits zone.now 4 }
-    ensures zone { MatchOption result (is_real_offset zone.now ≡ false) (λ n. (is_real_offset zone.now ≡ true) × (n ≡ pos (minutes_ahead zone.now * 60))) }
+    ensures zone { MatchOption result (is_real_offset zone.now
+        ≡ false) (λ n. (is_real_offset zone.now ≡ true) × (n ≡ pos (minutes_ahead zone.now * 60))) }
     ensures short { IfSome result IsShort }
 {
     let hours = two_digits(zone, 1);

@@ -95,7 +95,8 @@ pub fn code_means()
 
 #[cycle(emit)]
 fn emit(alloc: Global, items: &mut Vec<Instr>, e: &Expr) -> Result<(), OutOfMemory>
-    ensures { OnOk result (instrs items.new.items ≡ instrs items.old.items ++ code (expr_view e.now)) }
+    ensures { OnOk result (instrs items.new.items
+        ≡ instrs items.old.items ++ code (expr_view e.now)) }
 {
     match e {
         Expr::Lit(v) => put(items, Instr::Push(v.copy(alloc)?)),
@@ -155,7 +156,8 @@ fn emit_side(alloc: Global, e: &Expr) -> Result<Vec<Instr>, OutOfMemory>
 
 #[cycle(emit)]
 fn emit_all(alloc: Global, items: &mut Vec<Instr>, es: &[Expr]) -> Result<(), OutOfMemory>
-    ensures { OnOk result (instrs items.new.items ≡ instrs items.old.items ++ all_code (exprs (map expr_view es.now))) }
+    ensures { OnOk result (instrs items.new.items
+        ≡ instrs items.old.items ++ all_code (exprs (map expr_view es.now))) }
 {
     for e in es {
         emit(alloc, items, e)?;

@@ -2,7 +2,8 @@
 ghost use Rattle.std.specs.Prelude.{◌≡◌, ◌⊎◌, ◌↔◌, ◌&&◌, ◌<◌, ◌+◌, [], true, false, ℕ, suc, length, Some, None, Ok, Err, IfOk, IfErr, OnOk, IsErrOf};
 ghost use Rattle.wf_events.specs.View.{events_view, record_view, turn_view};
 ghost use Rattle.wf_history.specs.Stands.{ahead, at_end, is_closed, is_new, last_after, unread, Stands};
-ghost use Rattle.wf_host.specs.World.{Told, LeavesOnly, NoneFell, Rose};
+ghost use Rattle.wf_host.specs.Calls.{AtAnyMoment, DiskFailed, DoesNoDeed, NoCountFalls, ReadsAsBefore, TellsAsBefore};
+ghost use Rattle.wf_host.specs.World.{Told};
 ghost use Rattle.wf_journal.specs.Journal.{Stays};
 ghost use Rattle.wf_machine.specs.Seen.{state_of};
 ghost use Rattle.wf_model.specs.Config.{Config, To};
@@ -52,20 +53,19 @@ pub fn replay<H: Host, L: Ledger>(
         → goes_to (standing history.old machine) (ahead history.old (H.world host.old).seen)
         ≡ Err n)) }
     ensures new { is_new history.new ≡ is_new history.old }
-    ensures seen { Told (H.world host.old) ((H.world host.new).seen ≡ (H.world host.old).seen) }
+    ensures seen { ReadsAsBefore H.world host.old host.new }
     ensures any_moment { is_closed history.old ≡ false
-        → Told (H.world host.old)
-        (LeavesOnly (H.world host.old) (H.world host.new) (Stays (H.world host.old))) }
+        → AtAnyMoment H.world host.old host.new (Stays (H.world host.old)) }
     ensures disk_fault { IsErrOf result ReplayFault.DiskFault
-        → Rose (H.faults host.old).disk (H.faults host.new).disk }
+        → DiskFailed H.faults host.old host.new }
     ensures closed { IsErrOf result ReplayFault.Closed ↔ (is_closed history.old ≡ true) }
     ensures closes { (is_closed history.new ≡ true)
         ↔ ((is_closed history.old ≡ true) ⊎ IsErrOf result ReplayFault.DiskFault) }
     ensures idle { IsErrOf result ReplayFault.Closed
         → (history.new ≡ history.old) × (host.new ≡ host.old) }
-    ensures deeds { Told (H.world host.old) ((H.world host.new).deeds ≡ (H.world host.old).deeds) }
-    ensures tells { (H.world host.new).tells ≡ (H.world host.old).tells }
-    ensures counts { NoneFell (H.faults host.old) (H.faults host.new) }
+    ensures deeds { DoesNoDeed H.world host.old host.new }
+    ensures tells { TellsAsBefore H.world host.old host.new }
+    ensures counts { NoCountFalls H.faults host.old host.new }
 {
     let mut machine = machine;
     while replay_next(alloc, history, host, &mut machine, steps)? {}
@@ -102,20 +102,19 @@ fn replay_next<H: Host, L: Ledger>(
         → goes_to (standing history.old machine.old) (ahead history.old (H.world host.old).seen)
         ≡ Err n)) }
     ensures new { is_new history.new ≡ is_new history.old }
-    ensures seen { Told (H.world host.old) ((H.world host.new).seen ≡ (H.world host.old).seen) }
+    ensures seen { ReadsAsBefore H.world host.old host.new }
     ensures any_moment { is_closed history.old ≡ false
-        → Told (H.world host.old)
-        (LeavesOnly (H.world host.old) (H.world host.new) (Stays (H.world host.old))) }
+        → AtAnyMoment H.world host.old host.new (Stays (H.world host.old)) }
     ensures disk_fault { IsErrOf result ReplayFault.DiskFault
-        → Rose (H.faults host.old).disk (H.faults host.new).disk }
+        → DiskFailed H.faults host.old host.new }
     ensures closed { IsErrOf result ReplayFault.Closed ↔ (is_closed history.old ≡ true) }
     ensures closes { (is_closed history.new ≡ true)
         ↔ ((is_closed history.old ≡ true) ⊎ IsErrOf result ReplayFault.DiskFault) }
     ensures idle { IsErrOf result ReplayFault.Closed
         → (history.new ≡ history.old) × (host.new ≡ host.old) }
-    ensures deeds { Told (H.world host.old) ((H.world host.new).deeds ≡ (H.world host.old).deeds) }
-    ensures tells { (H.world host.new).tells ≡ (H.world host.old).tells }
-    ensures counts { NoneFell (H.faults host.old) (H.faults host.new) }
+    ensures deeds { DoesNoDeed H.world host.old host.new }
+    ensures tells { TellsAsBefore H.world host.old host.new }
+    ensures counts { NoCountFalls H.faults host.old host.new }
 {
     let number = history.place();
     let last = history.last();

@@ -232,11 +232,13 @@ flow_small f k (map fs) h s =
 flow_small f k x h s = absurd h
 
 flows_small : (fs : List t.Flow) (ps : Pairs) → FlowsIn fs ps → AreSound (every r.Flow ps) → AreSmall (nodes fs)
+unfolding nodes
 flows_small [] no_pairs h s = refl
 flows_small (f ∷ fs) (pair k x ps) h s = both_small (n.flow_nodes f) (nodes fs) (flow_small f k x h.0 s.0) (flows_small fs ps h.1 s.1)
 flows_small fs ps h s = absurd h
 
 program_small : (p : t.Program) (x : Tree) → IsProgram p x → IsSound r.Flows x → AreSmall (nodes p.flows)
+unfolding nodes
 program_small p (map fs) h s =
     let all = sound_parts r.Flows (map fs) s in
     let main = flow_small h.0 (codes "main") h.3.0 h.3.2 (flow_sound (codes "main") fs h.3.0 all h.3.1) in

@@ -13,7 +13,8 @@ use std::alloc::Global;
 /// fault of the source, by its place.
 pub fn tokens(alloc: Global, src: &str) -> Result<Tokens<'_>, LexFault>
     requires { length src.now < 4294967296 }
-    ensures { MatchResult result (λ r. TokensFrom 0 src.now (token_list r)) (λ fault. IsFirstFault src.now fault) }
+    ensures { MatchResult result (λ r. TokensFrom 0 src.now (token_list r))
+        (λ fault. IsFirstFault src.now fault) }
 {
     let mut items = Vec::new(alloc);
     let mut rest = src;
@@ -40,8 +41,8 @@ fn first_token<'a>(source: &'a str, at: u32) -> Result<(Token<'a>, &'a str), Lex
     requires some { 0 < length source.now }
     requires no_blank { count_while is_blank source.now ≡ 0 }
     requires range { at + length source.now < 4294967296 }
-    ensures { MatchResult result
-        (λ r. (r.0.at ≡ at) × IsLongest source.now r.0.kind r.0.text.now r.1.now)
+    ensures { MatchResult result (λ r. (r.0.at ≡ at)
+        × IsLongest source.now r.0.kind r.0.text.now r.1.now)
         (λ fault. FaultAt at source.now fault) }
 {
     match piece(source.as_bytes()) {

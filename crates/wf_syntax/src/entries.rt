@@ -19,9 +19,8 @@ use wf_tree::{Tree, TreeMap};
 
 // The target that a key is.
 fn target(alloc: Global, key: &str) -> Result<Target, Stop>
-    ensures { MatchResult result
-        (λ x. Gives ATarget (text key.now) (IsTarget key.now (target_view x)))
-        (λ stop. Fails ATarget (text key.now) stop) }
+    ensures { MatchResult result (λ x. Gives ATarget (text key.now)
+        (IsTarget key.now (target_view x))) (λ stop. Fails ATarget (text key.now) stop) }
 {
     one_target();
     match parse_target(alloc, key) {
@@ -33,8 +32,8 @@ fn target(alloc: Global, key: &str) -> Result<Target, Stop>
 
 // An assignment: a map of one, whose key is a target.
 fn entry(alloc: Global, tree: &Tree) -> Result<Entry, Stop>
-    ensures { MatchResult result
-        (λ e. Gives AnEntry (plain_tree tree.now) (IsEntry (entry_view e) (plain_tree tree.now)))
+    ensures { MatchResult result (λ e. Gives AnEntry (plain_tree tree.now)
+        (IsEntry (entry_view e) (plain_tree tree.now)))
         (λ stop. Fails AnEntry (plain_tree tree.now) stop) }
 {
     let Some((key, tree)) = single(tree) else {
@@ -51,8 +50,8 @@ fn entry(alloc: Global, tree: &Tree) -> Result<Entry, Stop>
 }
 
 fn entries(alloc: Global, tree: &Tree) -> Result<Entries, Stop>
-    ensures { MatchResult result
-        (λ es. Gives AllEntries (plain_tree tree.now) (AreEntries (entries_view es) (plain_tree tree.now)))
+    ensures { MatchResult result (λ es. Gives AllEntries (plain_tree tree.now)
+        (AreEntries (entries_view es) (plain_tree tree.now)))
         (λ stop. Fails AllEntries (plain_tree tree.now) stop) }
 {
     let Tree::List(items) = tree else {
@@ -75,8 +74,8 @@ pub(crate) fn entries_at(
     fields: &TreeMap,
     key: &str,
 ) -> Result<Option<Entries>, Stop>
-    ensures { MatchResult result
-        (λ o. GivesAll (at key.now AllEntries (pairs_of fields.now)) (Maybe (option_map entries_view o) key.now (pairs_of fields.now) AreEntries))
+    ensures { MatchResult result (λ o. GivesAll (at key.now AllEntries (pairs_of fields.now))
+        (Maybe (option_map entries_view o) key.now (pairs_of fields.now) AreEntries))
         (λ stop. FailsAmong (at key.now AllEntries (pairs_of fields.now)) stop) }
 {
     match field(fields, key) {

@@ -12,7 +12,8 @@ use wf_tree::{Tree, TreeMap};
 
 // The pair of a map of one.
 pub(crate) fn single(tree: &Tree) -> Option<(&str, &Tree)>
-    ensures { option_map (λ p. (p.0.now, plain_tree p.1.now)) result ≡ rules.single_of (plain_tree tree.now) }
+    ensures { option_map (λ p. (p.0.now, plain_tree p.1.now)) result
+        ≡ rules.single_of (plain_tree tree.now) }
 {
     let Tree::Map(fields) = tree else {
         return None;
@@ -26,7 +27,8 @@ pub(crate) fn single(tree: &Tree) -> Option<(&str, &Tree)>
 
 // The tree at a key.
 pub(crate) fn field<'a>(fields: &'a TreeMap, key: &str) -> Option<&'a Tree>
-    ensures { option_map (λ t. plain_tree t.now) result ≡ rules.field key.now (pairs_of fields.now) }
+    ensures { option_map (λ t. plain_tree t.now) result
+        ≡ rules.field key.now (pairs_of fields.now) }
 {
     fields.get(key)
 }
@@ -50,7 +52,8 @@ fn has_all(fields: &TreeMap, keys: &[&str]) -> bool
 
 // Whether a map has keys of two lists alone.
 fn has_only(fields: &TreeMap, some: &[&str], others: &[&str]) -> bool
-    ensures { result ≡ rules.has_only (map (λ k. k.now) some.now ++ map (λ k. k.now) others.now) (pairs_of fields.now) }
+    ensures { result ≡ rules.has_only (map (λ k. k.now) some.now ++ map (λ k. k.now) others.now)
+        (pairs_of fields.now) }
 {
     for pair in fields.pairs() {
         if !is_in_either(pair.0.as_str(), some, others) {
@@ -68,7 +71,8 @@ fn is_in_either(key: &str, some: &[&str], others: &[&str]) -> bool
 
 // The fault of a map that must have some keys and may have others.
 pub(crate) fn map_fault(fields: &TreeMap, musts: &[&str], mays: &[&str]) -> Option<SyntaxKind>
-    ensures { result ≡ rules.map_fault (map (λ k. k.now) musts.now) (map (λ k. k.now) mays.now) (pairs_of fields.now) }
+    ensures { result ≡ rules.map_fault (map (λ k. k.now) musts.now) (map (λ k. k.now) mays.now)
+        (pairs_of fields.now) }
 {
     if !has_only(fields, musts, mays) {
         Some(SyntaxKind::UnknownField)
@@ -141,7 +145,9 @@ fn count_of(fields: &TreeMap, keys: &[&str]) -> usize
 
 // Whether a map has some keys and those of its form alone: `next` without a form, and none with two forms.
 fn has_only_of_form(fields: &TreeMap, others: &[&str]) -> bool
-    ensures { result ≡ rules.has_only (map (λ k. k.now) others.now ++ rules.body_fields (pairs_of fields.now)) (pairs_of fields.now) }
+    ensures { result ≡ rules.has_only
+        (map (λ k. k.now) others.now ++ rules.body_fields (pairs_of fields.now))
+        (pairs_of fields.now) }
 {
     if count_of(fields, &FORMS) > 1 {
         has_only(fields, others, &[])
@@ -152,7 +158,9 @@ fn has_only_of_form(fields: &TreeMap, others: &[&str]) -> bool
 
 // The same, by the first form that the map has.
 fn has_only_of_first(fields: &TreeMap, others: &[&str]) -> bool
-    ensures { result ≡ rules.has_only (map (λ k. k.now) others.now ++ first_fields rules.forms (pairs_of fields.now)) (pairs_of fields.now) }
+    ensures { result ≡ rules.has_only
+        (map (λ k. k.now) others.now ++ first_fields rules.forms (pairs_of fields.now))
+        (pairs_of fields.now) }
 {
     if has(fields, "assign") {
         has_only(fields, others, &["assign", "next"])

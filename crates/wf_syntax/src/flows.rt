@@ -23,8 +23,8 @@ use wf_tree::{Tree, TreeMap};
 
 // A parameter: its name, or a map of one from its name to its default.
 fn param(alloc: Global, tree: &Tree) -> Result<Param, Stop>
-    ensures { MatchResult result
-        (λ p. Gives Parameter (plain_tree tree.now) (IsParam (param_view p) (plain_tree tree.now)))
+    ensures { MatchResult result (λ p. Gives Parameter (plain_tree tree.now)
+        (IsParam (param_view p) (plain_tree tree.now)))
         (λ stop. Fails Parameter (plain_tree tree.now) stop) }
 {
     if let Tree::Text(name) = tree {
@@ -47,9 +47,8 @@ fn param(alloc: Global, tree: &Tree) -> Result<Param, Stop>
 
 // A parameter without a default.
 fn bare_param(alloc: Global, name: &str) -> Result<Param, Stop>
-    ensures { MatchResult result
-        (λ p. Gives Parameter (text name.now) (IsParam (param_view p) (text name.now)))
-        (λ stop. Fails Parameter (text name.now) stop) }
+    ensures { MatchResult result (λ p. Gives Parameter (text name.now)
+        (IsParam (param_view p) (text name.now))) (λ stop. Fails Parameter (text name.now) stop) }
 {
     if is_name(name) {
         Ok(Param {
@@ -62,8 +61,8 @@ fn bare_param(alloc: Global, name: &str) -> Result<Param, Stop>
 }
 
 fn params(alloc: Global, tree: &Tree) -> Result<Params, Stop>
-    ensures { MatchResult result
-        (λ ps. Gives Parameters (plain_tree tree.now) (AreParams (params_view ps) (plain_tree tree.now)))
+    ensures { MatchResult result (λ ps. Gives Parameters (plain_tree tree.now)
+        (AreParams (params_view ps) (plain_tree tree.now)))
         (λ stop. Fails Parameters (plain_tree tree.now) stop) }
 {
     let Tree::List(items) = tree else {
@@ -82,8 +81,8 @@ fn params(alloc: Global, tree: &Tree) -> Result<Params, Stop>
 
 // The parameters at a key, and none where they aren't there.
 fn params_at(alloc: Global, fields: &TreeMap, key: &str) -> Result<Params, Stop>
-    ensures { MatchResult result
-        (λ ps. GivesAll (at key.now Parameters (pairs_of fields.now)) (Else (params_view ps) [] key.now (pairs_of fields.now) AreParams))
+    ensures { MatchResult result (λ ps. GivesAll (at key.now Parameters (pairs_of fields.now))
+        (Else (params_view ps) [] key.now (pairs_of fields.now) AreParams))
         (λ stop. FailsAmong (at key.now Parameters (pairs_of fields.now)) stop) }
 {
     match field(fields, key) {
@@ -97,8 +96,8 @@ fn params_at(alloc: Global, fields: &TreeMap, key: &str) -> Result<Params, Stop>
 
 // The workflow of a name.
 fn flow(alloc: Global, name: &str, tree: &Tree) -> Result<Flow, Stop>
-    ensures { MatchResult result
-        (λ f. Gives (rules.Flow name.now) (plain_tree tree.now) (IsFlow (flow_view f) name.now (plain_tree tree.now)))
+    ensures { MatchResult result (λ f. Gives (rules.Flow name.now) (plain_tree tree.now)
+        (IsFlow (flow_view f) name.now (plain_tree tree.now)))
         (λ stop. Fails (rules.Flow name.now) (plain_tree tree.now) stop) }
 {
     let Tree::Map(fields) = tree else {
@@ -123,8 +122,8 @@ fn flow(alloc: Global, name: &str, tree: &Tree) -> Result<Flow, Stop>
 
 // The workflows of a map: `main` first, then the others by name.
 pub(crate) fn program(alloc: Global, fields: &TreeMap) -> Result<Program, Stop>
-    ensures { MatchResult result
-        (λ p. Gives AllFlows (map (pairs_of fields.now)) (IsProgram (program_view p) (map (pairs_of fields.now))))
+    ensures { MatchResult result (λ p. Gives AllFlows (map (pairs_of fields.now))
+        (IsProgram (program_view p) (map (pairs_of fields.now))))
         (λ stop. Fails AllFlows (map (pairs_of fields.now)) stop) }
 {
     if !has(fields, "main") {
@@ -158,9 +157,8 @@ pub(crate) fn program(alloc: Global, fields: &TreeMap) -> Result<Program, Stop>
 
 // `main`, then the others.
 fn in_order(alloc: Global, main: Flow, others: Vec<Flow>) -> Result<Flows, Stop>
-    ensures { MatchResult result
-        (λ fs. flows_view fs ≡ flow_view main ∷ list_map flow_view others.items)
-        (λ s. s ≡ stop.OutOfMemory) }
+    ensures { MatchResult result (λ fs. flows_view fs
+        ≡ flow_view main ∷ list_map flow_view others.items) (λ s. s ≡ stop.OutOfMemory) }
 {
     let mut flows = Flows::new(alloc)?;
     flows.push(main)?;
@@ -172,9 +170,10 @@ fn in_order(alloc: Global, main: Flow, others: Vec<Flow>) -> Result<Flows, Stop>
 
 // The program whose only workflow has these steps.
 pub(crate) fn main_alone(alloc: Global, tree: &Tree) -> Result<Program, Stop>
-    ensures { MatchResult result
-        (λ p. OfList (plain_tree tree.now) (λ xs. Gives AllFlows (rooted (list xs)) (IsProgram (program_view p) (rooted (list xs)))))
-        (λ stop. (xs : Items) → plain_tree tree.now ≡ list xs → Fails AllFlows (rooted (list xs)) stop) }
+    ensures { MatchResult result (λ p. OfList (plain_tree tree.now)
+        (λ xs. Gives AllFlows (rooted (list xs)) (IsProgram (program_view p) (rooted (list xs)))))
+        (λ stop. (xs : Items) → plain_tree tree.now ≡ list xs
+        → Fails AllFlows (rooted (list xs)) stop) }
 {
     let steps = match steps(alloc, tree) {
         Ok(steps) => steps,

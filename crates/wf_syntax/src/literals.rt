@@ -20,8 +20,8 @@ use wf_value::{List, Map, Text, Value};
 // A value without expressions.
 #[cycle(literal)]
 pub(crate) fn literal(alloc: Global, tree: &Tree) -> Result<Value, Stop>
-    ensures { MatchResult result
-        (λ v. Gives Literal (plain_tree tree.now) (IsLiteral (plain v) (plain_tree tree.now)))
+    ensures { MatchResult result (λ v. Gives Literal (plain_tree tree.now)
+        (IsLiteral (plain v) (plain_tree tree.now)))
         (λ stop. Fails Literal (plain_tree tree.now) stop) }
 {
     match tree {
@@ -43,8 +43,8 @@ pub(crate) fn literal(alloc: Global, tree: &Tree) -> Result<Value, Stop>
 
 #[cycle(literal)]
 fn literals(alloc: Global, items: &[Tree]) -> Result<List, Stop>
-    ensures { MatchResult result
-        (λ vs. GivesAll (each Literal 0 (items_of (plain_items items.now))) (AreLiterals (values.items_of vs) (items_of (plain_items items.now))))
+    ensures { MatchResult result (λ vs. GivesAll (each Literal 0 (items_of (plain_items items.now)))
+        (AreLiterals (values.items_of vs) (items_of (plain_items items.now))))
         (λ stop. FailsAmong (each Literal 0 (items_of (plain_items items.now))) stop) }
 {
     let mut made = List::new(alloc)?;
@@ -61,8 +61,9 @@ fn literals(alloc: Global, items: &[Tree]) -> Result<List, Stop>
 #[cycle(literal)]
 fn named_literals(alloc: Global, pairs: &[(Text, Tree)]) -> Result<Map, Stop>
     requires { IsInOrder pairs.now }
-    ensures { MatchResult result
-        (λ vs. GivesAll (every (λ x. Literal) (pairs_of (plain_pairs pairs.now))) (AreNamedLiterals (values.pairs_of vs) (pairs_of (plain_pairs pairs.now))))
+    ensures { MatchResult result (λ vs. GivesAll
+        (every (λ x. Literal) (pairs_of (plain_pairs pairs.now)))
+        (AreNamedLiterals (values.pairs_of vs) (pairs_of (plain_pairs pairs.now))))
         (λ stop. FailsAmong (every (λ x. Literal) (pairs_of (plain_pairs pairs.now))) stop) }
 {
     let mut made = Map::new(alloc)?;

@@ -79,7 +79,8 @@ fn of_decimal(text: &str) -> Option<u64>
 fn joined(whole: &str, part: &str) -> Option<u64>
     requires whole { numbers.is_digits 8 whole.now ≡ true }
     requires part { numbers.is_digits 3 part.now ≡ true }
-    ensures { result ≡ Some (digits_value 10 whole.now * 1000 + digits_value 10 part.now * 10 ^ (3 - length part.now)) }
+    ensures { result ≡ Some (digits_value 10 whole.now * 1000
+        + digits_value 10 part.now * 10 ^ (3 - length part.now)) }
 {
     Some(parsed(whole)? * 1000 + parsed(part)? * scale(part.len()))
 }

@@ -115,9 +115,9 @@ type Valued = (Option<Text>, Option<Policy>, Option<Body>);
 impl Parts {
     // The first form that is there, and what every form may have.
     pub(crate) fn body(self, alloc: Global) -> Result<Parted, Stop>
-        ensures { MatchResult result
-            (λ r. (r.0 ≡ self.calls.condition) × (body_view r.1 ≡ body_of self) × (r.2 ≡ self.loops.next))
-            (λ s. s ≡ stop.OutOfMemory) }
+        ensures { MatchResult result (λ r. (r.0 ≡ self.calls.condition)
+            × (body_view r.1 ≡ body_of self)
+            × (r.2 ≡ self.loops.next)) (λ s. s ≡ stop.OutOfMemory) }
     {
         let Parts {
             calls,
@@ -217,9 +217,8 @@ impl BlockParts {
         policy: Option<Policy>,
         except: Option<Except>,
     ) -> Result<Body, Stop>
-        ensures { MatchResult result
-            (λ b. body_view b ≡ block_form self policy except)
-            (λ s. s ≡ stop.OutOfMemory) }
+        ensures { MatchResult result (λ b. body_view b ≡ block_form self policy except) (λ s. s
+            ≡ stop.OutOfMemory) }
     {
         let BlockParts {
             steps,
@@ -253,9 +252,8 @@ fn try_body(
     policy: Option<Policy>,
     except: Option<Except>,
 ) -> Result<Body, Stop>
-    ensures { MatchResult result
-        (λ b. body_view b ≡ try_form tried policy except)
-        (λ s. s ≡ stop.OutOfMemory) }
+    ensures { MatchResult result (λ b. body_view b ≡ try_form tried policy except) (λ s. s
+        ≡ stop.OutOfMemory) }
 {
     let Some(tried) = tried else {
         return Ok(Body::Nothing);
@@ -275,8 +273,8 @@ fn try_body(
 
 // What stands in the fields from `args` to `condition`.
 pub(crate) fn call_parts(alloc: Global, fields: &TreeMap) -> Result<CallParts, Stop>
-    ensures { MatchResult result
-        (λ p. GivesAll (row (pairs_of fields.now) call_part_keys) (AreCallParts p (pairs_of fields.now)))
+    ensures { MatchResult result (λ p. GivesAll (row (pairs_of fields.now) call_part_keys)
+        (AreCallParts p (pairs_of fields.now)))
         (λ stop. FailsAmong (row (pairs_of fields.now) call_part_keys) stop) }
 {
     Ok(CallParts {
@@ -289,8 +287,8 @@ pub(crate) fn call_parts(alloc: Global, fields: &TreeMap) -> Result<CallParts, S
 
 // What stands in the fields from `raise` to `return`.
 pub(crate) fn value_parts(alloc: Global, fields: &TreeMap) -> Result<ValueParts, Stop>
-    ensures { MatchResult result
-        (λ p. GivesAll (row (pairs_of fields.now) value_part_keys) (AreValueParts p (pairs_of fields.now)))
+    ensures { MatchResult result (λ p. GivesAll (row (pairs_of fields.now) value_part_keys)
+        (AreValueParts p (pairs_of fields.now)))
         (λ stop. FailsAmong (row (pairs_of fields.now) value_part_keys) stop) }
 {
     Ok(ValueParts {

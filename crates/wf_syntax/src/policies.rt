@@ -37,8 +37,8 @@ const DEFAULT_BACKOFF: Backoff = Backoff {
 
 // A predefined policy, or a map of one's fields.
 fn policy(alloc: Global, tree: &Tree) -> Result<Policy, Stop>
-    ensures { MatchResult result
-        (λ p. Gives Retry (plain_tree tree.now) (IsPolicy (policy_view p) (plain_tree tree.now)))
+    ensures { MatchResult result (λ p. Gives Retry (plain_tree tree.now)
+        (IsPolicy (policy_view p) (plain_tree tree.now)))
         (λ stop. Fails Retry (plain_tree tree.now) stop) }
 {
     match tree {
@@ -53,9 +53,14 @@ fn policy(alloc: Global, tree: &Tree) -> Result<Policy, Stop>
 
 // The predefined policy of a name.
 fn predefined(name: &str) -> Option<Policy>
-    ensures { MatchOption result
-        (is_among name.now rules.policies ≡ false)
-        (λ p. (is_among name.now rules.policies ≡ true) × (policy_view p ≡ record { predicate = Predefined (policy_kind name.now); max_retries = most_retries; backoff = default_backoff })) }
+    ensures { MatchOption result (is_among name.now rules.policies
+        ≡ false) (λ p. (is_among name.now rules.policies ≡ true)
+        × (policy_view p ≡ record {
+          predicate = Predefined (policy_kind name.now);
+          max_retries = most_retries;
+          backoff =
+              default_backoff;
+        })) }
 {
     let kind = match name {
         "http.default_retry" => DefaultKind::Idempotent,
@@ -71,8 +76,8 @@ fn predefined(name: &str) -> Option<Policy>
 
 // A policy by its fields.
 fn own_policy(alloc: Global, fields: &TreeMap) -> Result<Policy, Stop>
-    ensures { MatchResult result
-        (λ p. Gives Retry (map (pairs_of fields.now)) (IsPolicy (policy_view p) (map (pairs_of fields.now))))
+    ensures { MatchResult result (λ p. Gives Retry (map (pairs_of fields.now))
+        (IsPolicy (policy_view p) (map (pairs_of fields.now))))
         (λ stop. Fails Retry (map (pairs_of fields.now)) stop) }
 {
     if let Some(kind) = map_fault(fields, &[], &["backoff", "max_retries", "predicate"]) {
@@ -90,8 +95,8 @@ fn own_policy(alloc: Global, fields: &TreeMap) -> Result<Policy, Stop>
 
 // Which errors are tried again: all where nothing is said.
 fn predicate_at(alloc: Global, fields: &TreeMap, key: &str) -> Result<Predicate, Stop>
-    ensures { MatchResult result
-        (λ q. GivesAll (at key.now rules.Predicate (pairs_of fields.now)) (Else (predicate_view q) Always key.now (pairs_of fields.now) IsPredicate))
+    ensures { MatchResult result (λ q. GivesAll (at key.now rules.Predicate (pairs_of fields.now))
+        (Else (predicate_view q) Always key.now (pairs_of fields.now) IsPredicate))
         (λ stop. FailsAmong (at key.now rules.Predicate (pairs_of fields.now)) stop) }
 {
     match field(fields, key) {
@@ -104,8 +109,8 @@ fn predicate_at(alloc: Global, fields: &TreeMap, key: &str) -> Result<Predicate,
 }
 
 fn predicate(alloc: Global, tree: &Tree) -> Result<Predicate, Stop>
-    ensures { MatchResult result
-        (λ q. Gives rules.Predicate (plain_tree tree.now) (IsPredicate (predicate_view q) (plain_tree tree.now)))
+    ensures { MatchResult result (λ q. Gives rules.Predicate (plain_tree tree.now)
+        (IsPredicate (predicate_view q) (plain_tree tree.now)))
         (λ stop. Fails rules.Predicate (plain_tree tree.now) stop) }
 {
     let Tree::Text(text) = tree else {
@@ -130,8 +135,8 @@ fn predicate(alloc: Global, tree: &Tree) -> Result<Predicate, Stop>
 
 // How often a body is tried again: five times where nothing is said.
 fn attempts_at(alloc: Global, fields: &TreeMap, key: &str) -> Result<u32, Stop>
-    ensures { MatchResult result
-        (λ n. GivesAll (at key.now rules.Attempts (pairs_of fields.now)) (Else n most_retries key.now (pairs_of fields.now) IsAttempts))
+    ensures { MatchResult result (λ n. GivesAll (at key.now rules.Attempts (pairs_of fields.now))
+        (Else n most_retries key.now (pairs_of fields.now) IsAttempts))
         (λ stop. FailsAmong (at key.now rules.Attempts (pairs_of fields.now)) stop) }
 {
     match field(fields, key) {
@@ -145,8 +150,8 @@ fn attempts_at(alloc: Global, fields: &TreeMap, key: &str) -> Result<u32, Stop>
 
 // The delays, or those that hold where nothing is said.
 fn backoff_at(alloc: Global, fields: &TreeMap, key: &str) -> Result<Backoff, Stop>
-    ensures { MatchResult result
-        (λ b. GivesAll (at key.now rules.Backoff (pairs_of fields.now)) (Else b default_backoff key.now (pairs_of fields.now) IsBackoff))
+    ensures { MatchResult result (λ b. GivesAll (at key.now rules.Backoff (pairs_of fields.now))
+        (Else b default_backoff key.now (pairs_of fields.now) IsBackoff))
         (λ stop. FailsAmong (at key.now rules.Backoff (pairs_of fields.now)) stop) }
 {
     match field(fields, key) {
@@ -159,8 +164,8 @@ fn backoff_at(alloc: Global, fields: &TreeMap, key: &str) -> Result<Backoff, Sto
 }
 
 fn backoff(alloc: Global, tree: &Tree) -> Result<Backoff, Stop>
-    ensures { MatchResult result
-        (λ b. Gives rules.Backoff (plain_tree tree.now) (IsBackoff b (plain_tree tree.now)))
+    ensures { MatchResult result (λ b. Gives rules.Backoff (plain_tree tree.now)
+        (IsBackoff b (plain_tree tree.now)))
         (λ stop. Fails rules.Backoff (plain_tree tree.now) stop) }
 {
     let Tree::Map(fields) = tree else {
@@ -178,8 +183,8 @@ fn backoff(alloc: Global, tree: &Tree) -> Result<Backoff, Stop>
 
 // A delay at a key, in milliseconds, or a default.
 fn delay_at(alloc: Global, fields: &TreeMap, key: &str, default: u64) -> Result<u64, Stop>
-    ensures { MatchResult result
-        (λ n. GivesAll (at key.now Seconds (pairs_of fields.now)) (Else n default key.now (pairs_of fields.now) IsThousandths))
+    ensures { MatchResult result (λ n. GivesAll (at key.now Seconds (pairs_of fields.now))
+        (Else n default key.now (pairs_of fields.now) IsThousandths))
         (λ stop. FailsAmong (at key.now Seconds (pairs_of fields.now)) stop) }
 {
     match field(fields, key) {
@@ -193,8 +198,8 @@ fn delay_at(alloc: Global, fields: &TreeMap, key: &str, default: u64) -> Result<
 
 // A factor at a key, in thousandths, or a default.
 fn factor_at(alloc: Global, fields: &TreeMap, key: &str, default: u64) -> Result<u64, Stop>
-    ensures { MatchResult result
-        (λ n. GivesAll (at key.now Factor (pairs_of fields.now)) (Else n default key.now (pairs_of fields.now) IsThousandths))
+    ensures { MatchResult result (λ n. GivesAll (at key.now Factor (pairs_of fields.now))
+        (Else n default key.now (pairs_of fields.now) IsThousandths))
         (λ stop. FailsAmong (at key.now Factor (pairs_of fields.now)) stop) }
 {
     match field(fields, key) {
@@ -208,8 +213,8 @@ fn factor_at(alloc: Global, fields: &TreeMap, key: &str, default: u64) -> Result
 
 // The policy at a key, if there is one.
 pub(crate) fn policy_at(alloc: Global, fields: &TreeMap, key: &str) -> Result<Option<Policy>, Stop>
-    ensures { MatchResult result
-        (λ o. GivesAll (at key.now Retry (pairs_of fields.now)) (Maybe (policy_option_view o) key.now (pairs_of fields.now) IsPolicy))
+    ensures { MatchResult result (λ o. GivesAll (at key.now Retry (pairs_of fields.now))
+        (Maybe (policy_option_view o) key.now (pairs_of fields.now) IsPolicy))
         (λ stop. FailsAmong (at key.now Retry (pairs_of fields.now)) stop) }
 {
     match field(fields, key) {

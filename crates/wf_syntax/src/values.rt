@@ -23,8 +23,8 @@ use wf_value::{Text, Value};
 // A value with expressions in it.
 #[cycle(value)]
 pub(crate) fn value(alloc: Global, tree: &Tree) -> Result<Template, Stop>
-    ensures { MatchResult result
-        (λ v. Gives AValue (plain_tree tree.now) (IsValue (template_view v) (plain_tree tree.now)))
+    ensures { MatchResult result (λ v. Gives AValue (plain_tree tree.now)
+        (IsValue (template_view v) (plain_tree tree.now)))
         (λ stop. Fails AValue (plain_tree tree.now) stop) }
 {
     match tree {
@@ -40,9 +40,8 @@ pub(crate) fn value(alloc: Global, tree: &Tree) -> Result<Template, Stop>
 
 // A text as a value.
 fn text_value(alloc: Global, text: &str) -> Result<Template, Stop>
-    ensures { MatchResult result
-        (λ v. Gives AValue (a_text text.now) (IsTemplateOf text.now (template_view v)))
-        (λ stop. Fails AValue (a_text text.now) stop) }
+    ensures { MatchResult result (λ v. Gives AValue (a_text text.now)
+        (IsTemplateOf text.now (template_view v))) (λ stop. Fails AValue (a_text text.now) stop) }
 {
     one_template();
     match parse_template(alloc, text) {
@@ -54,8 +53,8 @@ fn text_value(alloc: Global, text: &str) -> Result<Template, Stop>
 
 #[cycle(value)]
 fn values(alloc: Global, items: &[Tree]) -> Result<Templates, Stop>
-    ensures { MatchResult result
-        (λ vs. GivesAll (each AValue 0 (items_of (plain_items items.now))) (AreValues (templates (templates_view vs)) (items_of (plain_items items.now))))
+    ensures { MatchResult result (λ vs. GivesAll (each AValue 0 (items_of (plain_items items.now)))
+        (AreValues (templates (templates_view vs)) (items_of (plain_items items.now))))
         (λ stop. FailsAmong (each AValue 0 (items_of (plain_items items.now))) stop) }
 {
     let mut made = Templates::new(alloc)?;
@@ -70,8 +69,9 @@ fn values(alloc: Global, items: &[Tree]) -> Result<Templates, Stop>
 
 #[cycle(value)]
 fn named_values(alloc: Global, pairs: &[(Text, Tree)]) -> Result<NamedTemplates, Stop>
-    ensures { MatchResult result
-        (λ vs. GivesAll (every (λ x. AValue) (pairs_of (plain_pairs pairs.now))) (AreNamed (fields_of (fields_view vs)) (pairs_of (plain_pairs pairs.now))))
+    ensures { MatchResult result (λ vs. GivesAll
+        (every (λ x. AValue) (pairs_of (plain_pairs pairs.now)))
+        (AreNamed (fields_of (fields_view vs)) (pairs_of (plain_pairs pairs.now))))
         (λ stop. FailsAmong (every (λ x. AValue) (pairs_of (plain_pairs pairs.now))) stop) }
 {
     let mut made = NamedTemplates::new(alloc)?;
@@ -88,8 +88,8 @@ fn named_values(alloc: Global, pairs: &[(Text, Tree)]) -> Result<NamedTemplates,
 
 // Values by name.
 fn arguments(alloc: Global, tree: &Tree) -> Result<NamedTemplates, Stop>
-    ensures { MatchResult result
-        (λ vs. Gives Arguments (plain_tree tree.now) (AreArguments (fields_of (fields_view vs)) (plain_tree tree.now)))
+    ensures { MatchResult result (λ vs. Gives Arguments (plain_tree tree.now)
+        (AreArguments (fields_of (fields_view vs)) (plain_tree tree.now)))
         (λ stop. Fails Arguments (plain_tree tree.now) stop) }
 {
     match tree {
@@ -102,8 +102,8 @@ fn arguments(alloc: Global, tree: &Tree) -> Result<NamedTemplates, Stop>
 pub(crate) type Ends = (Template, Template);
 
 fn range(alloc: Global, tree: &Tree) -> Result<Ends, Stop>
-    ensures { MatchResult result
-        (λ r. Gives Range (plain_tree tree.now) (IsRange (template_view r.0) (template_view r.1) (plain_tree tree.now)))
+    ensures { MatchResult result (λ r. Gives Range (plain_tree tree.now)
+        (IsRange (template_view r.0) (template_view r.1) (plain_tree tree.now)))
         (λ stop. Fails Range (plain_tree tree.now) stop) }
 {
     let Tree::List(items) = tree else {
@@ -124,8 +124,8 @@ fn range(alloc: Global, tree: &Tree) -> Result<Ends, Stop>
 
 // The value at a key, if there is one.
 pub(crate) fn value_at(alloc: Global, fields: &TreeMap, key: &str) -> Result<Option<Template>, Stop>
-    ensures { MatchResult result
-        (λ o. GivesAll (at key.now AValue (pairs_of fields.now)) (Maybe (option_map template_view o) key.now (pairs_of fields.now) IsValue))
+    ensures { MatchResult result (λ o. GivesAll (at key.now AValue (pairs_of fields.now))
+        (Maybe (option_map template_view o) key.now (pairs_of fields.now) IsValue))
         (λ stop. FailsAmong (at key.now AValue (pairs_of fields.now)) stop) }
 {
     match field(fields, key) {
@@ -143,8 +143,8 @@ pub(crate) fn arguments_at(
     fields: &TreeMap,
     key: &str,
 ) -> Result<NamedTemplates, Stop>
-    ensures { MatchResult result
-        (λ vs. GivesAll (at key.now Arguments (pairs_of fields.now)) (Else (fields_of (fields_view vs)) no_fields key.now (pairs_of fields.now) AreArguments))
+    ensures { MatchResult result (λ vs. GivesAll (at key.now Arguments (pairs_of fields.now))
+        (Else (fields_of (fields_view vs)) no_fields key.now (pairs_of fields.now) AreArguments))
         (λ stop. FailsAmong (at key.now Arguments (pairs_of fields.now)) stop) }
 {
     match field(fields, key) {
@@ -158,8 +158,8 @@ pub(crate) fn arguments_at(
 
 // The two ends of the range at a key, if there is one.
 pub(crate) fn range_at(alloc: Global, fields: &TreeMap, key: &str) -> Result<Option<Ends>, Stop>
-    ensures { MatchResult result
-        (λ o. GivesAll (at key.now Range (pairs_of fields.now)) (Maybe (option_map ends_view o) key.now (pairs_of fields.now) (λ r x. IsRange r.0 r.1 x)))
+    ensures { MatchResult result (λ o. GivesAll (at key.now Range (pairs_of fields.now))
+        (Maybe (option_map ends_view o) key.now (pairs_of fields.now) (λ r x. IsRange r.0 r.1 x)))
         (λ stop. FailsAmong (at key.now Range (pairs_of fields.now)) stop) }
 {
     match field(fields, key) {

@@ -33,9 +33,8 @@ pub(crate) fn owned(alloc: Global, text: &str) -> Result<Text, Stop>
 
 // Any text.
 fn any_text(alloc: Global, tree: &Tree) -> Result<Text, Stop>
-    ensures { MatchResult result
-        (λ x. Gives AnyText (plain_tree tree.now) (IsText x (plain_tree tree.now)))
-        (λ stop. Fails AnyText (plain_tree tree.now) stop) }
+    ensures { MatchResult result (λ x. Gives AnyText (plain_tree tree.now)
+        (IsText x (plain_tree tree.now))) (λ stop. Fails AnyText (plain_tree tree.now) stop) }
 {
     match tree {
         Tree::Text(text) => owned(alloc, text.as_str()),
@@ -45,9 +44,8 @@ fn any_text(alloc: Global, tree: &Tree) -> Result<Text, Stop>
 
 // The name of a variable.
 fn variable_name(alloc: Global, tree: &Tree) -> Result<Text, Stop>
-    ensures { MatchResult result
-        (λ x. Gives VariableName (plain_tree tree.now) (IsText x (plain_tree tree.now)))
-        (λ stop. Fails VariableName (plain_tree tree.now) stop) }
+    ensures { MatchResult result (λ x. Gives VariableName (plain_tree tree.now)
+        (IsText x (plain_tree tree.now))) (λ stop. Fails VariableName (plain_tree tree.now) stop) }
 {
     match tree {
         Tree::Text(text) => {
@@ -63,8 +61,8 @@ fn variable_name(alloc: Global, tree: &Tree) -> Result<Text, Stop>
 
 // The text at a key, if there is one.
 pub(crate) fn text_at(alloc: Global, fields: &TreeMap, key: &str) -> Result<Option<Text>, Stop>
-    ensures { MatchResult result
-        (λ o. GivesAll (at key.now AnyText (pairs_of fields.now)) (Maybe o key.now (pairs_of fields.now) IsText))
+    ensures { MatchResult result (λ o. GivesAll (at key.now AnyText (pairs_of fields.now))
+        (Maybe o key.now (pairs_of fields.now) IsText))
         (λ stop. FailsAmong (at key.now AnyText (pairs_of fields.now)) stop) }
 {
     match field(fields, key) {
@@ -78,8 +76,8 @@ pub(crate) fn text_at(alloc: Global, fields: &TreeMap, key: &str) -> Result<Opti
 
 // The name of a variable at a key, if there is one.
 pub(crate) fn name_at(alloc: Global, fields: &TreeMap, key: &str) -> Result<Option<Text>, Stop>
-    ensures { MatchResult result
-        (λ o. GivesAll (at key.now VariableName (pairs_of fields.now)) (Maybe o key.now (pairs_of fields.now) IsText))
+    ensures { MatchResult result (λ o. GivesAll (at key.now VariableName (pairs_of fields.now))
+        (Maybe o key.now (pairs_of fields.now) IsText))
         (λ stop. FailsAmong (at key.now VariableName (pairs_of fields.now)) stop) }
 {
     match field(fields, key) {
@@ -93,8 +91,8 @@ pub(crate) fn name_at(alloc: Global, fields: &TreeMap, key: &str) -> Result<Opti
 
 // The names of variables in a list.
 fn names(alloc: Global, tree: &Tree) -> Result<Texts, Stop>
-    ensures { MatchResult result
-        (λ xs. Gives Shared (plain_tree tree.now) (AreTexts (texts_view xs) (plain_tree tree.now)))
+    ensures { MatchResult result (λ xs. Gives Shared (plain_tree tree.now)
+        (AreTexts (texts_view xs) (plain_tree tree.now)))
         (λ stop. Fails Shared (plain_tree tree.now) stop) }
 {
     let Tree::List(items) = tree else {
@@ -113,8 +111,8 @@ fn names(alloc: Global, tree: &Tree) -> Result<Texts, Stop>
 
 // The names of variables at a key, and none where it isn't there.
 pub(crate) fn names_at(alloc: Global, fields: &TreeMap, key: &str) -> Result<Texts, Stop>
-    ensures { MatchResult result
-        (λ xs. GivesAll (at key.now Shared (pairs_of fields.now)) (Else (texts_view xs) [] key.now (pairs_of fields.now) AreTexts))
+    ensures { MatchResult result (λ xs. GivesAll (at key.now Shared (pairs_of fields.now))
+        (Else (texts_view xs) [] key.now (pairs_of fields.now) AreTexts))
         (λ stop. FailsAmong (at key.now Shared (pairs_of fields.now)) stop) }
 {
     match field(fields, key) {
@@ -128,8 +126,8 @@ pub(crate) fn names_at(alloc: Global, fields: &TreeMap, key: &str) -> Result<Tex
 
 // The limit on parts at once at a key, if there is one.
 pub(crate) fn limit_at(alloc: Global, fields: &TreeMap, key: &str) -> Result<Option<u32>, Stop>
-    ensures { MatchResult result
-        (λ o. GivesAll (at key.now Limit (pairs_of fields.now)) (Maybe o key.now (pairs_of fields.now) IsLimit))
+    ensures { MatchResult result (λ o. GivesAll (at key.now Limit (pairs_of fields.now))
+        (Maybe o key.now (pairs_of fields.now) IsLimit))
         (λ stop. FailsAmong (at key.now Limit (pairs_of fields.now)) stop) }
 {
     match field(fields, key) {
@@ -143,8 +141,7 @@ pub(crate) fn limit_at(alloc: Global, fields: &TreeMap, key: &str) -> Result<Opt
 
 // Sees that the word at a key, if there is one, is the one that a policy on errors may be.
 pub(crate) fn policy_word_at(alloc: Global, fields: &TreeMap, key: &str) -> Result<(), Stop>
-    ensures { MatchResult result
-        (λ _. AreSound (at key.now Policy (pairs_of fields.now)))
+    ensures { MatchResult result (λ _. AreSound (at key.now Policy (pairs_of fields.now)))
         (λ stop. FailsAmong (at key.now Policy (pairs_of fields.now)) stop) }
 {
     match field(fields, key) {
@@ -157,8 +154,7 @@ pub(crate) fn policy_word_at(alloc: Global, fields: &TreeMap, key: &str) -> Resu
 }
 
 fn policy_word(alloc: Global, tree: &Tree) -> Result<(), Stop>
-    ensures { MatchResult result
-        (λ _. IsSound Policy (plain_tree tree.now))
+    ensures { MatchResult result (λ _. IsSound Policy (plain_tree tree.now))
         (λ stop. Fails Policy (plain_tree tree.now) stop) }
 {
     match tree {

@@ -30,9 +30,9 @@ pub(crate) fn pieces(alloc: Global, text: &str) -> Result<Vec<Piece<'_>>, OutOfM
 
 // The expression that a text begins with, and what stands behind its `}`.
 fn split_hole(text: &str) -> Option<(&str, &str)>
-    ensures { MatchOption result
-        (in_hole Bare text.now ≡ unclosed text.now ∷ [])
-        (λ r. (in_hole Bare text.now ≡ hole r.0.now ∷ pieces_of r.1.now) × (length r.1.now < length text.now)) }
+    ensures { MatchOption result (in_hole Bare text.now
+        ≡ unclosed text.now ∷ []) (λ r. (in_hole Bare text.now ≡ hole r.0.now ∷ pieces_of r.1.now)
+        × (length r.1.now < length text.now)) }
 {
     let length = hole_length(text.as_bytes())?;
     let (source, closed) = text.split_at(length);
@@ -40,7 +40,8 @@ fn split_hole(text: &str) -> Option<(&str, &str)>
 }
 
 fn add<'a>(pieces: &mut Vec<Piece<'a>>, piece: Piece<'a>) -> Result<(), OutOfMemory>
-    ensures { IfOk result (λ _. map piece_of pieces.new.items ≡ map piece_of pieces.old.items ++ piece_of piece.entry ∷ []) }
+    ensures { IfOk result (λ _. map piece_of pieces.new.items
+        ≡ map piece_of pieces.old.items ++ piece_of piece.entry ∷ []) }
 {
     match pieces.push(piece) {
         Ok(()) => Ok(()),
@@ -50,7 +51,8 @@ fn add<'a>(pieces: &mut Vec<Piece<'a>>, piece: Piece<'a>) -> Result<(), OutOfMem
 
 // Adds what is said, if anything is.
 fn add_said<'a>(pieces: &mut Vec<Piece<'a>>, text: &'a str) -> Result<(), OutOfMemory>
-    ensures { IfOk result (λ _. map piece_of pieces.new.items ≡ map piece_of pieces.old.items ++ said_in text.now) }
+    ensures { IfOk result (λ _. map piece_of pieces.new.items
+        ≡ map piece_of pieces.old.items ++ said_in text.now) }
 {
     if text.is_empty() {
         Ok(())

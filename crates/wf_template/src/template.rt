@@ -42,9 +42,8 @@ pub fn parse_template(alloc: Global, text: &str) -> Result<Template, ExprFault>
 
 // The expression that stands alone, if one does.
 fn alone<'a>(pieces: &[Piece<'a>]) -> Option<&'a str>
-    ensures { MatchOption result
-        (is_whole (map piece_of pieces.now) ≡ false)
-        (λ s. map piece_of pieces.now ≡ hole s.now ∷ []) }
+    ensures { MatchOption result (is_whole (map piece_of pieces.now)
+        ≡ false) (λ s. map piece_of pieces.now ≡ hole s.now ∷ []) }
 {
     match pieces {
         [Piece::Hole(source)] => Some(*source),
@@ -54,8 +53,7 @@ fn alone<'a>(pieces: &[Piece<'a>]) -> Option<&'a str>
 
 // The parts that pieces are.
 fn parts(alloc: Global, pieces: &[Piece<'_>]) -> Result<Parts, ExprFault>
-    ensures { MatchResult result
-        (λ xs. AreParts (map piece_of pieces.now) (parts_view xs))
+    ensures { MatchResult result (λ xs. AreParts (map piece_of pieces.now) (parts_view xs))
         (IsFaultIn (map piece_of pieces.now)) }
 {
     let mut parts = no_parts(alloc)?;
@@ -67,8 +65,7 @@ fn parts(alloc: Global, pieces: &[Piece<'_>]) -> Result<Parts, ExprFault>
 
 // The part that a piece is.
 fn part(alloc: Global, piece: &Piece<'_>) -> Result<Part, ExprFault>
-    ensures { MatchResult result
-        (λ x. IsPart (piece_of piece.now) (part_view x))
+    ensures { MatchResult result (λ x. IsPart (piece_of piece.now) (part_view x))
         (IsFaultIn (piece_of piece.now ∷ [])) }
 {
     match piece {
@@ -107,9 +104,8 @@ fn no_parts(alloc: Global) -> Result<Parts, ExprFault>
 }
 
 fn add(parts: &mut Parts, part: Part) -> Result<(), ExprFault>
-    ensures { MatchResult result
-        (λ _. parts_view parts.new ≡ parts_view parts.old ++ part_view part ∷ [])
-        (λ f. f ≡ fault.OutOfMemory) }
+    ensures { MatchResult result (λ _. parts_view parts.new
+        ≡ parts_view parts.old ++ part_view part ∷ []) (λ f. f ≡ fault.OutOfMemory) }
 {
     match parts.push(part) {
         Ok(()) => Ok(()),

@@ -183,7 +183,8 @@ fn member_at(alloc: Global, key: &Text, json: &Json) -> Result<Tree, NoTree>
 
 // A fault, seen from one step further out.
 fn outward(fault: NoTree, step: PathPart) -> NoTree
-    ensures { (first : Option (List _)) → IsNoTree first fault → IsNoTree (behind step first) result }
+    ensures { (first : Option (List _)) → IsNoTree first fault
+        → IsNoTree (behind step first) result }
 {
     match fault {
         NoTree::Decimal(steps) => {

@@ -47,7 +47,8 @@ impl PairsSoFar {
     /// Puts a tree at a key, and gives the tree that was there. Without memory the pairs stay, and
     /// the key and the tree are dropped.
     pub fn insert(&mut self, key: Text, item: Tree) -> Result<Option<Tree>, OutOfMemory>
-        ensures after { self.new ≡ (if is_ok result then with_value key (plain_tree item) self.old else self.old) }
+        ensures after { self.new ≡ (if is_ok result then with_value key (plain_tree item) self.old
+            else self.old) }
         ensures old { IfOk result (λ t. option_map plain_tree t ≡ value_at key self.old) }
     {
         match self.pairs.insert(Key { text: key }, item) {

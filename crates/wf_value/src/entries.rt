@@ -33,10 +33,14 @@ pub(crate) fn insert_pair(
     value: Value,
 ) -> Result<Option<Value>, OutOfMemory>
     requires order { IsInOrder entries.old.value.pairs.items }
-    requires measured { IsMeasure entries.old.value.measure (map (pairs_of (plain_pairs entries.old.value.pairs.items))) }
-    ensures after { entries.new.value.pairs.items ≡ (if is_ok result then with_value key value entries.old.value.pairs.items else entries.old.value.pairs.items) }
+    requires measured { IsMeasure entries.old.value.measure
+        (map (pairs_of (plain_pairs entries.old.value.pairs.items))) }
+    ensures after { entries.new.value.pairs.items
+        ≡ (if is_ok result then with_value key value entries.old.value.pairs.items else
+        entries.old.value.pairs.items) }
     ensures old { IfOk result (λ v. v ≡ value_at key entries.old.value.pairs.items) }
-    ensures measure { IsMeasure entries.new.value.measure (map (pairs_of (plain_pairs entries.new.value.pairs.items))) }
+    ensures measure { IsMeasure entries.new.value.measure
+        (map (pairs_of (plain_pairs entries.new.value.pairs.items))) }
 {
     own_entries(entries)?;
     match Rc::get_mut(entries) {
@@ -51,10 +55,14 @@ pub(crate) fn remove_pair(
     key: &str,
 ) -> Result<Option<Value>, OutOfMemory>
     requires order { IsInOrder entries.old.value.pairs.items }
-    requires measured { IsMeasure entries.old.value.measure (map (pairs_of (plain_pairs entries.old.value.pairs.items))) }
-    ensures after { entries.new.value.pairs.items ≡ (if is_ok result then without key.now entries.old.value.pairs.items else entries.old.value.pairs.items) }
+    requires measured { IsMeasure entries.old.value.measure
+        (map (pairs_of (plain_pairs entries.old.value.pairs.items))) }
+    ensures after { entries.new.value.pairs.items
+        ≡ (if is_ok result then without key.now entries.old.value.pairs.items else
+        entries.old.value.pairs.items) }
     ensures old { IfOk result (λ v. v ≡ value_at key.now entries.old.value.pairs.items) }
-    ensures measure { IsMeasure entries.new.value.measure (map (pairs_of (plain_pairs entries.new.value.pairs.items))) }
+    ensures measure { IsMeasure entries.new.value.measure
+        (map (pairs_of (plain_pairs entries.new.value.pairs.items))) }
 {
     if find(entries.pairs.as_slice(), key).is_none() {
         return Ok(None);
@@ -72,10 +80,14 @@ fn put_measured(
     value: Value,
 ) -> Result<Option<Value>, OutOfMemory>
     requires order { IsInOrder entries.old.pairs.items }
-    requires measured { IsMeasure entries.old.measure (map (pairs_of (plain_pairs entries.old.pairs.items))) }
-    ensures after { entries.new.pairs.items ≡ (if is_ok result then with_value key value entries.old.pairs.items else entries.old.pairs.items) }
+    requires measured { IsMeasure entries.old.measure
+        (map (pairs_of (plain_pairs entries.old.pairs.items))) }
+    ensures after { entries.new.pairs.items
+        ≡ (if is_ok result then with_value key value entries.old.pairs.items else
+        entries.old.pairs.items) }
     ensures old { IfOk result (λ v. v ≡ value_at key entries.old.pairs.items) }
-    ensures measure { IsMeasure entries.new.measure (map (pairs_of (plain_pairs entries.new.pairs.items))) }
+    ensures measure { IsMeasure entries.new.measure
+        (map (pairs_of (plain_pairs entries.new.pairs.items))) }
 {
     let new = Measure::of_value(&value);
     let with_pair = entries.measure.with_pair(&key, new);
@@ -100,7 +112,8 @@ fn take_measured(entries: &mut Entries, key: &str) -> Option<Value>
     requires order { IsInOrder entries.old.pairs.items }
     ensures after { entries.new.pairs.items ≡ without key.now entries.old.pairs.items }
     ensures old { result ≡ value_at key.now entries.old.pairs.items }
-    ensures measure { IsMeasure entries.new.measure (map (pairs_of (plain_pairs entries.new.pairs.items))) }
+    ensures measure { IsMeasure entries.new.measure
+        (map (pairs_of (plain_pairs entries.new.pairs.items))) }
 {
     let taken = take(&mut entries.pairs, key);
     entries.measure = Measure::of_pairs(entries.pairs.as_slice());
@@ -122,7 +135,8 @@ fn put(
     value: Value,
 ) -> Result<Option<Value>, OutOfMemory>
     requires { IsInOrder pairs.old.items }
-    ensures after { pairs.new.items ≡ (if is_ok result then with_value key value pairs.old.items else pairs.old.items) }
+    ensures after { pairs.new.items ≡ (if is_ok result then with_value key value pairs.old.items
+        else pairs.old.items) }
     ensures old { IfOk result (λ v. v ≡ value_at key pairs.old.items) }
 {
     match seek(pairs.as_slice(), key.as_str()) {

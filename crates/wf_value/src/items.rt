@@ -12,9 +12,13 @@ use std::rc::Rc;
 
 // Adds an item at the end.
 pub(crate) fn push_item(items: &mut Rc<Items>, item: Value) -> Result<(), OutOfMemory>
-    requires { IsMeasure items.old.value.measure (list (items_of (plain_items items.old.value.values.items))) }
-    ensures after { items.new.value.values.items ≡ (if is_ok result then items.old.value.values.items ++ item ∷ [] else items.old.value.values.items) }
-    ensures measure { IsMeasure items.new.value.measure (list (items_of (plain_items items.new.value.values.items))) }
+    requires { IsMeasure items.old.value.measure
+        (list (items_of (plain_items items.old.value.values.items))) }
+    ensures after { items.new.value.values.items
+        ≡ (if is_ok result then items.old.value.values.items
+        ++ item ∷ [] else items.old.value.values.items) }
+    ensures measure { IsMeasure items.new.value.measure
+        (list (items_of (plain_items items.new.value.values.items))) }
 {
     own_items(items)?;
     match Rc::get_mut(items) {
@@ -25,8 +29,10 @@ pub(crate) fn push_item(items: &mut Rc<Items>, item: Value) -> Result<(), OutOfM
 
 fn push(items: &mut Items, item: Value) -> Result<(), OutOfMemory>
     requires { IsMeasure items.old.measure (list (items_of (plain_items items.old.values.items))) }
-    ensures after { items.new.values.items ≡ (if is_ok result then items.old.values.items ++ item ∷ [] else items.old.values.items) }
-    ensures measure { IsMeasure items.new.measure (list (items_of (plain_items items.new.values.items))) }
+    ensures after { items.new.values.items
+        ≡ (if is_ok result then items.old.values.items ++ item ∷ [] else items.old.values.items) }
+    ensures measure { IsMeasure items.new.measure
+        (list (items_of (plain_items items.new.values.items))) }
 {
     let measure = items.measure.with_item(Measure::of_value(&item));
     let Ok(()) = items.values.push(item) else {

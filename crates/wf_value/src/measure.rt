@@ -55,7 +55,8 @@ impl Measure {
 
     // Of the map with this pair too.
     pub(crate) fn with_pair(self, key: &Text, value: Measure) -> Measure
-        ensures size { result.size ≡ min (self.size + (2 + length key.now + value.size)) 18446744073709551615 }
+        ensures size { result.size ≡ min (self.size + (2 + length key.now + value.size))
+            18446744073709551615 }
         ensures depth { result.depth ≡ max self.depth (min (1 + value.depth) 4294967295) }
     {
         let held = self.with_item(value);
@@ -71,9 +72,12 @@ impl Measure {
     // Of the map with the new value for the old one. None where the old one may have been what made
     // the map so deep, or where the size is no longer known.
     pub(crate) fn with_new(self, old: Measure, new: Measure) -> Option<Measure>
-        ensures known { IfSome result (λ m. (self.size < 18446744073709551615) × (old.depth ≤ new.depth)) }
-        ensures size { IfSome result (λ m. m.size ≡ min (self.size - old.size + new.size) 18446744073709551615) }
-        ensures depth { IfSome result (λ m. m.depth ≡ max self.depth (min (1 + new.depth) 4294967295)) }
+        ensures known { IfSome result (λ m. (self.size < 18446744073709551615)
+            × (old.depth ≤ new.depth)) }
+        ensures size { IfSome result (λ m. m.size
+            ≡ min (self.size - old.size + new.size) 18446744073709551615) }
+        ensures depth { IfSome result (λ m. m.depth
+            ≡ max self.depth (min (1 + new.depth) 4294967295)) }
     {
         if self.size == u64::MAX || new.depth < old.depth {
             return None;

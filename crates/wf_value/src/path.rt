@@ -80,7 +80,8 @@ fn printed(alloc: Global, parts: &[PathPart]) -> Result<String, AllocError>
 }
 
 fn push_first(alloc: Global, text: &mut String, part: &PathPart) -> Result<(), AllocError>
-    ensures { IfOk result (λ _. string_bytes text.new ≡ string_bytes text.old ++ first_text part.now) }
+    ensures { IfOk result (λ _. string_bytes text.new
+        ≡ string_bytes text.old ++ first_text part.now) }
 {
     match part {
         PathPart::Key(key) => text.push_str(key.as_str()),
@@ -90,7 +91,8 @@ fn push_first(alloc: Global, text: &mut String, part: &PathPart) -> Result<(), A
 
 // Writes what follows another part.
 fn push_part(alloc: Global, text: &mut String, part: &PathPart) -> Result<(), AllocError>
-    ensures { IfOk result (λ _. string_bytes text.new ≡ string_bytes text.old ++ part_text part.now) }
+    ensures { IfOk result (λ _. string_bytes text.new
+        ≡ string_bytes text.old ++ part_text part.now) }
 {
     match part {
         PathPart::Key(key) => {

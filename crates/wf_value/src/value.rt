@@ -219,7 +219,8 @@ impl Map {
     /// Puts a value at a key, and gives the value that was there. Without memory the map stays,
     /// and the key and the value are dropped.
     pub fn insert(&mut self, key: Text, value: Value) -> Result<Option<Value>, OutOfMemory>
-        ensures after { self.new ≡ (if is_ok result then with_value key (plain value) self.old else self.old) }
+        ensures after { self.new ≡ (if is_ok result then with_value key (plain value) self.old else
+            self.old) }
         ensures old { IfOk result (λ v. option_map plain v ≡ value_at key self.old) }
     {
         insert_pair(&mut self.entries, key, value)

@@ -26,7 +26,8 @@ pub(crate) fn block_scalar(
     text: &[char],
     behind: &[Row],
 ) -> Result<Tree, YamlFault>
-    ensures { Gives plain_tree result (scalars.block_scalar floor number text.now (see_all behind.now)) }
+    ensures { Gives plain_tree result
+        (scalars.block_scalar floor number text.now (see_all behind.now)) }
 {
     let tree = match scalar_indent(floor, behind) {
         Some(indent) => lines_tree(alloc, is_folded(text), is_stripped(text), indent, behind),
@@ -94,7 +95,8 @@ fn lines_tree(
     indent: usize,
     behind: &[Row],
 ) -> Result<Tree, YamlFault>
-    ensures { Gives plain_tree result (scalars.block_lines folded stripped (Some indent) (see_all behind.now)) }
+    ensures { Gives plain_tree result
+        (scalars.block_lines folded stripped (Some indent) (see_all behind.now)) }
 {
     let (inside, rest) = behind.split_at(inside_len(indent, behind));
     let fault = both_noted(blank_fault(folded, indent, inside), no_more(rest));
@@ -117,8 +119,10 @@ fn is_outside(indent: usize, row: &Row) -> bool
 // How many lines stand in the scalar with this indentation.
 fn inside_len(indent: usize, rows: &[Row]) -> usize
     ensures within { result ≤ length rows.now }
-    ensures inside { see_all (take result rows.now) ≡ scalars.scalar_rows indent (see_all rows.now) }
-    ensures behind { see_all (drop result rows.now) ≡ scalars.behind_scalar indent (see_all rows.now) }
+    ensures inside { see_all (take result rows.now)
+        ≡ scalars.scalar_rows indent (see_all rows.now) }
+    ensures behind { see_all (drop result rows.now)
+        ≡ scalars.behind_scalar indent (see_all rows.now) }
 {
     for i in 0..rows.len() {
         if is_outside(indent, &rows[i]) {
@@ -130,7 +134,8 @@ fn inside_len(indent: usize, rows: &[Row]) -> usize
 
 // Under `>` no line may start with a further blank.
 fn blank_fault(folded: bool, indent: usize, rows: &[Row]) -> Option<Fault>
-    ensures { noted result ≡ cond folded (scalars.no_further_blank indent false (see_all rows.now)) (Ok tt) }
+    ensures { noted result ≡ cond folded (scalars.no_further_blank indent false (see_all rows.now))
+        (Ok tt) }
 {
     if folded {
         no_further_blank(indent, rows)
@@ -157,7 +162,8 @@ fn no_further_blank(indent: usize, rows: &[Row]) -> Option<Fault>
 
 // Whether the line of the scalar in this row starts with a blank.
 fn starts_blank(begun: bool, indent: usize, row: &Row) -> bool
-    ensures { result ≡ marks.starts marks.is_blank (scalars.scalar_line indent begun (see row.now)) }
+    ensures { result ≡ marks.starts marks.is_blank
+        (scalars.scalar_line indent begun (see row.now)) }
 {
     match row.text.as_slice() {
         [] => begun && indent < row.indent,
@@ -180,7 +186,9 @@ fn block_text(
     indent: usize,
     rows: &[Row],
 ) -> Result<Vec<char>, AllocError>
-    ensures { IfOk result (λ t. t.items ≡ scalars.block_text folded stripped (scalars.scalar_lines indent false (see_all rows.now))) }
+    ensures { IfOk result (λ t. t.items
+        ≡ scalars.block_text folded stripped
+        (scalars.scalar_lines indent false (see_all rows.now))) }
 {
     let mut text = joined(alloc, folded, indent, rows)?;
     if !stripped && !text.is_empty() {
@@ -191,7 +199,8 @@ fn block_text(
 
 // The lines of the scalar in one text, with no line end behind the last that isn't empty.
 fn joined(alloc: Global, folded: bool, indent: usize, rows: &[Row]) -> Result<Vec<char>, AllocError>
-    ensures { IfOk result (λ t. t.items ≡ scalars.joined folded (scalars.scalar_lines indent false (see_all rows.now))) }
+    ensures { IfOk result (λ t. t.items
+        ≡ scalars.joined folded (scalars.scalar_lines indent false (see_all rows.now))) }
 {
     let mut text = Vec::new(alloc);
     let mut begun = false;

@@ -40,7 +40,9 @@ pub(crate) fn node(
     behind: &[Row],
 ) -> Result<Tree, YamlFault>
     requires { depth ≤ 101 }
-    ensures { Gives plain_tree result (blocks.node_at (blocks.inside (101 - depth)) floor depth delay (see_head head.entry ∷ see_all behind.now)) }
+    ensures { Gives plain_tree result
+        (blocks.node_at (blocks.inside (101 - depth)) floor depth delay
+        (see_head head.entry ∷ see_all behind.now)) }
 {
     if starts_tab(head.text) {
         return Err(YamlFault::Refused(Fault {
@@ -61,7 +63,9 @@ pub(crate) fn node(
 #[cycle(node)]
 fn block_map(alloc: Global, depth: u32, head: Head<'_>, behind: &[Row]) -> Result<Tree, YamlFault>
     requires { depth ≤ 101 }
-    ensures { Gives plain_tree result (blocks.block_map (blocks.inside (101 - depth)) depth (see_head head.entry) (see_all behind.now)) }
+    ensures { Gives plain_tree result
+        (blocks.block_map (blocks.inside (101 - depth)) depth (see_head head.entry)
+        (see_all behind.now)) }
 {
     let map = map_entries(alloc, depth, head, behind);
     noting(refuse_if(depth > 100, head.number, Kind::TooDeep), map)
@@ -75,7 +79,9 @@ fn map_entries<'a>(
     behind: &'a [Row],
 ) -> Result<Tree, YamlFault>
     requires { depth ≤ 101 }
-    ensures { Gives plain_tree result (blocks.map_of_entries (blocks.inside (101 - depth)) depth (see_head first.entry) (see_all behind.now)) }
+    ensures { Gives plain_tree result
+        (blocks.map_of_entries (blocks.inside (101 - depth)) depth (see_head first.entry)
+        (see_all behind.now)) }
 {
     let mut pairs = PairsSoFar::new(alloc)?;
     let mut keys = KeySet::new(alloc)?;
@@ -105,7 +111,9 @@ fn map_entries<'a>(
 
 // Adds the key of an entry, if it has one.
 fn add_key(keys: &mut KeySet, key: Option<Key<'_>>) -> Result<(), OutOfMemory>
-    ensures { IfOk result (λ _. (k : List ℕ) → is_one_of (keys_of keys.new) k ≡ is_one_of (blocks.with_key (option_map key_view key.entry) (keys_of keys.old)) k) }
+    ensures { IfOk result (λ _. (k : List ℕ)
+        → is_one_of (keys_of keys.new) k
+        ≡ is_one_of (blocks.with_key (option_map key_view key.entry) (keys_of keys.old)) k) }
 {
     match key {
         Some(key) => keys.add(key.text),
@@ -119,7 +127,9 @@ fn add_pair(
     found: Option<Fault>,
     entry: Result<(Text, Tree), YamlFault>,
 ) -> Result<Option<Fault>, OutOfMemory>
-    ensures { (read : Result (List ℕ × trees.Tree) Fault) → Gives see_pair entry read → IfOk result (λ f. so_far pairs.new f ≡ both (λ ps p. with_value p.0 p.1 ps) (so_far pairs.old found) read) }
+    ensures { (read : Result (List ℕ × trees.Tree) Fault) → Gives see_pair entry read
+        → IfOk result (λ f. so_far pairs.new f
+        ≡ both (λ ps p. with_value p.0 p.1 ps) (so_far pairs.old found) read) }
 {
     match entry {
         Ok((key, tree)) => {
@@ -145,7 +155,9 @@ fn map_entry(
     requires deep { depth ≤ 101 }
     requires block { indent < 4294967296 }
     requires key { option_map (λ k. key_view k.now) key ≡ key_of head.text.now }
-    ensures { Gives see_pair result (blocks.map_entry (blocks.inside (101 - depth)) indent depth (keys_of keys.now) (see_head head.entry, see_all body.now)) }
+    ensures { Gives see_pair result
+        (blocks.map_entry (blocks.inside (101 - depth)) indent depth (keys_of keys.now)
+        (see_head head.entry, see_all body.now)) }
 {
     if starts_tab(head.text) || head.column != indent {
         return Err(YamlFault::Refused(misplaced(head.number, head.text)));
@@ -182,7 +194,10 @@ fn pair_value(
 ) -> Result<Tree, YamlFault>
     requires deep { depth ≤ 101 }
     requires block { indent < 4294967296 }
-    ensures { Gives plain_tree result (blocks.pair_value (blocks.inside (101 - depth)) indent depth (scalars.is_delay_key (key_view key.now).text) number (key_view key.now).rest (see_all body.now)) }
+    ensures { Gives plain_tree result
+        (blocks.pair_value (blocks.inside (101 - depth)) indent depth
+        (scalars.is_delay_key (key_view key.now).text) number (key_view key.now).rest
+        (see_all body.now)) }
 {
     let delay = is_delay_key(key.text.as_str());
     if ends_line(key.rest) {
@@ -198,7 +213,8 @@ fn keyed(
     key: &Key<'_>,
     tree: Result<Tree, YamlFault>,
 ) -> Result<(Text, Tree), YamlFault>
-    ensures { (read : Result trees.Tree Fault) → Gives plain_tree tree read → Gives see_pair result (both (λ _ t. ((key_view key.now).text, t)) (noted fault) read) }
+    ensures { (read : Result trees.Tree Fault) → Gives plain_tree tree read
+        → Gives see_pair result (both (λ _ t. ((key_view key.now).text, t)) (noted fault) read) }
 {
     match noting(fault, tree) {
         Ok(tree) => Ok((key.text.copy()?, tree)),
@@ -228,7 +244,9 @@ fn stray(alloc: Global, depth: u32, number: u32, text: &[char]) -> Result<(Text,
 #[cycle(node)]
 fn block_list(alloc: Global, depth: u32, head: Head<'_>, behind: &[Row]) -> Result<Tree, YamlFault>
     requires { depth ≤ 101 }
-    ensures { Gives plain_tree result (blocks.block_list (blocks.inside (101 - depth)) depth (see_head head.entry) (see_all behind.now)) }
+    ensures { Gives plain_tree result
+        (blocks.block_list (blocks.inside (101 - depth)) depth (see_head head.entry)
+        (see_all behind.now)) }
 {
     let list = list_entries(alloc, depth, head, behind);
     noting(refuse_if(depth > 100, head.number, Kind::TooDeep), list)
@@ -242,7 +260,9 @@ fn list_entries<'a>(
     behind: &'a [Row],
 ) -> Result<Tree, YamlFault>
     requires { depth ≤ 101 }
-    ensures { Gives plain_tree result (blocks.list_of_entries (blocks.inside (101 - depth)) depth (see_head first.entry) (see_all behind.now)) }
+    ensures { Gives plain_tree result
+        (blocks.list_of_entries (blocks.inside (101 - depth)) depth (see_head first.entry)
+        (see_all behind.now)) }
 {
     let mut items = TreeList::new(alloc)?;
     let mut found: Option<Fault> = None;
@@ -273,7 +293,9 @@ fn add_item(
     found: Option<Fault>,
     entry: Result<Tree, YamlFault>,
 ) -> Result<Option<Fault>, OutOfMemory>
-    ensures { (read : Result trees.Tree Fault) → Gives plain_tree entry read → IfOk result (λ f. so_far items.new f ≡ both (λ ts t. ts ++ t ∷ []) (so_far items.old found) read) }
+    ensures { (read : Result trees.Tree Fault) → Gives plain_tree entry read
+        → IfOk result (λ f. so_far items.new f
+        ≡ both (λ ts t. ts ++ t ∷ []) (so_far items.old found) read) }
 {
     match entry {
         Ok(item) => {
@@ -296,7 +318,9 @@ fn list_entry(
 ) -> Result<Tree, YamlFault>
     requires deep { depth ≤ 101 }
     requires block { indent < 4294967296 }
-    ensures { Gives plain_tree result (blocks.list_entry (blocks.inside (101 - depth)) indent depth (see_head head.entry, see_all body.now)) }
+    ensures { Gives plain_tree result
+        (blocks.list_entry (blocks.inside (101 - depth)) indent depth
+        (see_head head.entry, see_all body.now)) }
 {
     if starts_tab(head.text) || head.column != indent || !is_item(head.text) {
         return Err(YamlFault::Refused(misplaced(head.number, head.text)));
@@ -335,7 +359,9 @@ fn block(
 ) -> Result<Tree, YamlFault>
     requires deep { depth ≤ 101 }
     requires block { indent < 4294967296 }
-    ensures { Gives plain_tree result (blocks.inside (101 - depth) (indent + 1) (depth + 1) delay (lines.counting (see_all body.now))) }
+    ensures { Gives plain_tree result
+        (blocks.inside (101 - depth) (indent + 1) (depth + 1) delay
+        (lines.counting (see_all body.now))) }
 {
     match counting(body) {
         [] => Ok(Tree::Null),

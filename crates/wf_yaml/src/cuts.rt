@@ -72,9 +72,12 @@ fn is_head(in_map: bool, indent: usize, row: &Row) -> bool
 // How many lines stand before the next head of a map or a list with this indentation.
 pub(crate) fn body_len(in_map: bool, indent: usize, rows: &[Row]) -> usize
     ensures within { result ≤ length rows.now }
-    ensures lead { (cuts.cut (cuts.heads in_map indent) (see_all rows.now)).lead ≡ see_all (take result rows.now) }
-    ensures entries { (cuts.cut (cuts.heads in_map indent) (see_all rows.now)).entries ≡ (cuts.cut (cuts.heads in_map indent) (see_all (drop result rows.now))).entries }
-    ensures head { IfSome (slice_get rows.now result) (λ r. cuts.heads in_map indent (see r) ≡ true) }
+    ensures lead { (cuts.cut (cuts.heads in_map indent) (see_all rows.now)).lead
+        ≡ see_all (take result rows.now) }
+    ensures entries { (cuts.cut (cuts.heads in_map indent) (see_all rows.now)).entries
+        ≡ (cuts.cut (cuts.heads in_map indent) (see_all (drop result rows.now))).entries }
+    ensures head { IfSome (slice_get rows.now result) (λ r. cuts.heads in_map indent (see r)
+        ≡ true) }
 {
     for i in 0..rows.len() {
         if is_head(in_map, indent, &rows[i]) {

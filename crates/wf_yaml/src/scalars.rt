@@ -57,7 +57,8 @@ pub(crate) fn scalar(
     behind: &[Row],
 ) -> Result<Tree, YamlFault>
     requires { depth ≤ 102 }
-    ensures { Gives plain_tree result (blocks.scalar floor depth delay number text.now (see_all behind.now)) }
+    ensures { Gives plain_tree result
+        (blocks.scalar floor depth delay number text.now (see_all behind.now)) }
 {
     if starts_scalar(text) {
         return block_scalar(alloc, floor, number, text, behind);

@@ -145,7 +145,8 @@ fn no_lone_return(rows: &[Row]) -> Option<Fault>
 
 // The node that all these lines are.
 fn content(alloc: Global, rows: &[Row]) -> Result<Tree, YamlFault>
-    ensures { Gives plain_tree result (blocks.node 100 0 1 reading.no_delay (lines.counting (see_all rows.now))) }
+    ensures { Gives plain_tree result
+        (blocks.node 100 0 1 reading.no_delay (lines.counting (see_all rows.now))) }
 {
     match counting(rows) {
         [] => Ok(Tree::Null),

@@ -68,7 +68,8 @@ pub(crate) fn has_tab_block(
     rest: &[char],
     content: &[char],
 ) -> Result<bool, OutOfMemory>
-    ensures { IfOk result (λ b. b ≡ (starts.has_tab_gap rest.now && starts.starts_block content.now)) }
+    ensures { IfOk result (λ b. b ≡
+        (starts.has_tab_gap rest.now && starts.starts_block content.now)) }
 {
     if has_tab_gap(rest) {
         return starts_block(alloc, content);

@@ -31,7 +31,8 @@ fn plain_line(alloc: Global, delay: bool, line: u32, s: &[char]) -> Result<Tree,
 
 // A quoted scalar, behind which nothing but a comment may stand.
 fn quoted_tree(alloc: Global, line: u32, found: &Quoted<'_>) -> Result<Tree, YamlFault>
-    ensures { Gives plain_tree result (lines.quoted_tree line (quoted_view found.now) (quoted_view found.now).rest) }
+    ensures { Gives plain_tree result
+        (lines.quoted_tree line (quoted_view found.now) (quoted_view found.now).rest) }
 {
     let Some(rest) = found.rest else {
         return refused(line, Kind::Quote);
@@ -102,7 +103,8 @@ fn marked_tree(alloc: Global, line: u32, depth: u32, s: &[char]) -> Result<Tree,
 
 // The tree of a text that starts with a quote.
 fn quoted_line(alloc: Global, line: u32, s: &[char]) -> Result<Tree, YamlFault>
-    ensures { Gives plain_tree result (lines.quoted_tree line (quotes.quoted s.now) (quotes.quoted s.now).rest) }
+    ensures { Gives plain_tree result
+        (lines.quoted_tree line (quotes.quoted s.now) (quotes.quoted s.now).rest) }
 {
     let found = read_quoted(alloc, s)?;
     quoted_tree(alloc, line, &found)

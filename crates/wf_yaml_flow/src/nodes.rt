@@ -32,8 +32,10 @@ pub(crate) fn stopped<'a>() -> Turn<'a>
 // The turn before which something else was noted.
 #[tactic(auto, using(crate::proofs::FlowJoins::noting_turn))]
 pub(crate) fn noting_first<'a>(fault: Option<Fault>, turn: Turn<'a>) -> Turn<'a>
-    ensures seen { (n d : ℕ) → walk.turned n d result ≡ walk.noting (noted fault) (walk.turned n d turn.entry) }
-    ensures same { walk.opened result.frame + walk.ahead result.place ≡ walk.opened turn.entry.frame + walk.ahead turn.entry.place }
+    ensures seen { (n d : ℕ) → walk.turned n d result
+        ≡ walk.noting (noted fault) (walk.turned n d turn.entry) }
+    ensures same { walk.opened result.frame + walk.ahead result.place
+        ≡ walk.opened turn.entry.frame + walk.ahead turn.entry.place }
 {
     Turn {
         fault: both_noted(fault, turn.fault),
@@ -45,7 +47,9 @@ pub(crate) fn noting_first<'a>(fault: Option<Fault>, turn: Turn<'a>) -> Turn<'a>
 // A node's bracket stands here.
 fn opens(s: &[char]) -> Turn<'_>
     requires { marks.starts marks.is_bracket s.now ≡ true }
-    ensures seen { (n d : ℕ) → walk.turned n d result ≡ walk.inner n d (marks.starts (λ b. b == marks.open_map) s.now) (marks.behind_first s.now) }
+    ensures seen { (n d : ℕ) → walk.turned n d result
+        ≡ walk.inner n d (marks.starts (λ b. b == marks.open_map) s.now)
+        (marks.behind_first s.now) }
     ensures less { walk.opened result.frame + walk.ahead result.place < 8 * length s.now + 3 }
 {
     Turn {
@@ -69,8 +73,11 @@ fn empty_node(s: &[char]) -> Turn<'_>
 // A scalar as a node, or the one pair of an item `k: v`.
 #[tactic(auto, using(crate::proofs::FlowFronts::word_rest))]
 fn item_word(alloc: Global, line: u32, depth: usize, s: &[char]) -> Result<Turn<'_>, OutOfMemory>
-    ensures seen { IfOk result (λ t. walk.turned line depth t ≡ flows.item_word (λ e is_map r. walk.inner line e is_map r) line depth (flows.flow_word s.now)) }
-    ensures less { IfOk result (λ t. walk.opened t.frame + walk.ahead t.place < 8 * length s.now + 3) }
+    ensures seen { IfOk result (λ t. walk.turned line depth t
+        ≡ flows.item_word (λ e is_map r. walk.inner line e is_map r) line depth
+        (flows.flow_word s.now)) }
+    ensures less { IfOk result (λ t. walk.opened t.frame + walk.ahead t.place
+        < 8 * length s.now + 3) }
 {
     let Some(word) = read_word(alloc, s)? else {
         return Ok(stopped());
@@ -93,8 +100,10 @@ fn item_word(alloc: Global, line: u32, depth: usize, s: &[char]) -> Result<Turn<
 }
 
 fn item_node(alloc: Global, line: u32, depth: usize, s: &[char]) -> Result<Turn<'_>, OutOfMemory>
-    ensures seen { IfOk result (λ t. walk.turned line depth t ≡ flows.item_node (λ e is_map r. walk.inner line e is_map r) line depth s.now) }
-    ensures less { IfOk result (λ t. walk.opened t.frame + walk.ahead t.place < 8 * length s.now + 3) }
+    ensures seen { IfOk result (λ t. walk.turned line depth t
+        ≡ flows.item_node (λ e is_map r. walk.inner line e is_map r) line depth s.now) }
+    ensures less { IfOk result (λ t. walk.opened t.frame + walk.ahead t.place
+        < 8 * length s.now + 3) }
 {
     if is_bracket(s) {
         return Ok(opens(s));
@@ -109,8 +118,10 @@ fn item_or_nothing(
     depth: usize,
     s: &[char],
 ) -> Result<Turn<'_>, OutOfMemory>
-    ensures seen { IfOk result (λ t. walk.turned line depth t ≡ walk.item_or_null line depth s.now) }
-    ensures less { IfOk result (λ t. walk.opened t.frame + walk.ahead t.place < 8 * length s.now + 3) }
+    ensures seen { IfOk result (λ t. walk.turned line depth t
+        ≡ walk.item_or_null line depth s.now) }
+    ensures less { IfOk result (λ t. walk.opened t.frame + walk.ahead t.place
+        < 8 * length s.now + 3) }
 {
     if ends_node(s) {
         return Ok(empty_node(s));
@@ -125,8 +136,10 @@ pub(crate) fn read_item(
     depth: usize,
     s: &[char],
 ) -> Result<Turn<'_>, OutOfMemory>
-    ensures seen { IfOk result (λ t. walk.turned line depth t ≡ flows.flow_item (λ e is_map r. walk.inner line e is_map r) line depth s.now) }
-    ensures less { IfOk result (λ t. walk.opened t.frame + walk.ahead t.place < 8 * length s.now + 3) }
+    ensures seen { IfOk result (λ t. walk.turned line depth t
+        ≡ flows.flow_item (λ e is_map r. walk.inner line e is_map r) line depth s.now) }
+    ensures less { IfOk result (λ t. walk.opened t.frame + walk.ahead t.place
+        < 8 * length s.now + 3) }
 {
     if !is_property(s) {
         return item_node(alloc, line, depth, s);
@@ -138,8 +151,10 @@ pub(crate) fn read_item(
 // A scalar as a value, behind which no other `:` may stand.
 #[tactic(auto, using(crate::proofs::FlowFronts::word_rest))]
 fn value_word(alloc: Global, delay: bool, line: u32, s: &[char]) -> Result<Turn<'_>, OutOfMemory>
-    ensures seen { (d : ℕ) → IfOk result (λ t. walk.turned line d t ≡ flows.value_word delay line (flows.flow_word s.now)) }
-    ensures less { IfOk result (λ t. walk.opened t.frame + walk.ahead t.place < 8 * length s.now + 3) }
+    ensures seen { (d : ℕ) → IfOk result (λ t. walk.turned line d t
+        ≡ flows.value_word delay line (flows.flow_word s.now)) }
+    ensures less { IfOk result (λ t. walk.opened t.frame + walk.ahead t.place
+        < 8 * length s.now + 3) }
 {
     let Some(word) = read_word(alloc, s)? else {
         return Ok(stopped());
@@ -156,8 +171,10 @@ fn value_word(alloc: Global, delay: bool, line: u32, s: &[char]) -> Result<Turn<
 }
 
 fn value_node(alloc: Global, delay: bool, line: u32, s: &[char]) -> Result<Turn<'_>, OutOfMemory>
-    ensures seen { (d : ℕ) → IfOk result (λ t. walk.turned line d t ≡ flows.value_node (λ e is_map r. walk.inner line e is_map r) line d delay s.now) }
-    ensures less { IfOk result (λ t. walk.opened t.frame + walk.ahead t.place < 8 * length s.now + 3) }
+    ensures seen { (d : ℕ) → IfOk result (λ t. walk.turned line d t
+        ≡ flows.value_node (λ e is_map r. walk.inner line e is_map r) line d delay s.now) }
+    ensures less { IfOk result (λ t. walk.opened t.frame + walk.ahead t.place
+        < 8 * length s.now + 3) }
 {
     if ends_node(s) {
         Ok(empty_node(s))
@@ -175,8 +192,10 @@ pub(crate) fn read_value(
     line: u32,
     r: &[char],
 ) -> Result<Turn<'_>, OutOfMemory>
-    ensures seen { (d : ℕ) → IfOk result (λ t. walk.turned line d t ≡ flows.flow_value (λ e is_map r. walk.inner line e is_map r) line d delay r.now) }
-    ensures less { IfOk result (λ t. walk.opened t.frame + walk.ahead t.place < 8 * length r.now + 3) }
+    ensures seen { (d : ℕ) → IfOk result (λ t. walk.turned line d t
+        ≡ flows.flow_value (λ e is_map r. walk.inner line e is_map r) line d delay r.now) }
+    ensures less { IfOk result (λ t. walk.opened t.frame + walk.ahead t.place
+        < 8 * length r.now + 3) }
 {
     let s = flow_blanks(r);
     if is_empty(s) {

@@ -98,7 +98,8 @@ pub(crate) fn property_fault(line: u32, s: &[char]) -> Option<Fault>
 }
 
 fn skip_property(s: &[char]) -> &[char]
-    ensures rest { result.now ≡ marks.skip (λ b. not (marks.is_blank b || marks.is_flow_mark b)) s.now }
+    ensures rest { result.now ≡ marks.skip (λ b. not (marks.is_blank b || marks.is_flow_mark b))
+        s.now }
     ensures len { length result.now ≤ length s.now }
 {
     let mut rest = s;

@@ -23,7 +23,8 @@ use wf_yaml_line::{Fault, KeySet, Kind, behind_first, both_noted, refuse_if};
 // An empty collection.
 #[tactic(auto, using(crate::proofs::FlowTurns::no_items, crate::proofs::FlowTurns::no_pairs))]
 fn empty_hand(alloc: Global, is_map: bool) -> Result<Hand, OutOfMemory>
-    ensures { IfOk result (λ h. (n d : ℕ) (s : List ℕ) → walk.from_element n d h s ≡ walk.from_first n d is_map s) }
+    ensures { IfOk result (λ h. (n d : ℕ) (s : List ℕ)
+        → walk.from_element n d h s ≡ walk.from_first n d is_map s) }
 {
     if is_map {
         Ok(Hand::Pairs(MapSoFar {
@@ -43,8 +44,10 @@ fn open_collection(
     is_map: bool,
     s: &[char],
 ) -> Result<Turn<'_>, OutOfMemory>
-    ensures seen { IfOk result (λ t. walk.turned line depth t ≡ walk.inner line depth is_map s.now) }
-    ensures less { IfOk result (λ t. walk.opened t.frame + walk.ahead t.place < 8 * length s.now + 7) }
+    ensures seen { IfOk result (λ t. walk.turned line depth t
+        ≡ walk.inner line depth is_map s.now) }
+    ensures less { IfOk result (λ t. walk.opened t.frame + walk.ahead t.place
+        < 8 * length s.now + 7) }
 {
     let hand = empty_hand(alloc, is_map)?;
     let rest = flow_blanks(s);
@@ -80,8 +83,10 @@ fn ended_tree(hand: Hand) -> Result<Tree, OutOfMemory>
 
 // Behind the bracket that closes a collection.
 fn finished(hand: Hand, rest: &[char]) -> Result<Turn<'_>, OutOfMemory>
-    ensures seen { (n d : ℕ) → IfOk result (λ t. walk.turned n d t ≡ flows.goes (Ok (walk.ended hand)) rest.now) }
-    ensures less { IfOk result (λ t. walk.opened t.frame + walk.ahead t.place ≡ 8 * length rest.now + 1) }
+    ensures seen { (n d : ℕ) → IfOk result (λ t. walk.turned n d t
+        ≡ flows.goes (Ok (walk.ended hand)) rest.now) }
+    ensures less { IfOk result (λ t. walk.opened t.frame + walk.ahead t.place
+        ≡ 8 * length rest.now + 1) }
 {
     let tree = ended_tree(hand)?;
     Ok(Turn {
@@ -93,7 +98,9 @@ fn finished(hand: Hand, rest: &[char]) -> Result<Turn<'_>, OutOfMemory>
 
 // The keys, and another one.
 fn with_key(keys: KeySet, key: &Text) -> Result<KeySet, OutOfMemory>
-    ensures { IfOk result (λ new. (k : List ℕ) → marks.is_one_of (keys_of new) k ≡ (marks.is_same key.now k || marks.is_one_of (keys_of keys) k)) }
+    ensures { IfOk result (λ new. (k : List ℕ)
+        → marks.is_one_of (keys_of new) k
+        ≡ (marks.is_same key.now k || marks.is_one_of (keys_of keys) k)) }
 {
     let mut keys = keys;
     let copy = key.copy()?;
@@ -104,8 +111,10 @@ fn with_key(keys: KeySet, key: &Text) -> Result<KeySet, OutOfMemory>
 // A pair of a map up to its `:`.
 #[tactic(auto, using(crate::proofs::FlowFronts::word_rest))]
 fn read_pair(alloc: Global, line: u32, map: MapSoFar, s: &[char]) -> Result<Turn<'_>, OutOfMemory>
-    ensures seen { (d : ℕ) → IfOk result (λ t. walk.turned line d t ≡ walk.from_pair line d map (flows.flow_word s.now)) }
-    ensures less { IfOk result (λ t. walk.opened t.frame + walk.ahead t.place < 8 * length s.now + 6) }
+    ensures seen { (d : ℕ) → IfOk result (λ t. walk.turned line d t
+        ≡ walk.from_pair line d map (flows.flow_word s.now)) }
+    ensures less { IfOk result (λ t. walk.opened t.frame + walk.ahead t.place
+        < 8 * length s.now + 6) }
 {
     let Some(word) = read_word(alloc, s)? else {
         return Ok(stopped());
@@ -135,9 +144,12 @@ fn read_pair(alloc: Global, line: u32, map: MapSoFar, s: &[char]) -> Result<Turn
 
 // Before an element of a collection, which doesn't close here.
 fn read_element(alloc: Global, line: u32, hand: Hand, s: &[char]) -> Result<Turn<'_>, OutOfMemory>
-    requires { (marks.is_empty s.now ≡ false) × (marks.starts (λ b. b == walk.closing hand) s.now ≡ false) }
-    ensures seen { (d : ℕ) → IfOk result (λ t. walk.turned line d t ≡ walk.from_element line d hand s.now) }
-    ensures less { IfOk result (λ t. walk.opened t.frame + walk.ahead t.place < 8 * length s.now + 6) }
+    requires { (marks.is_empty s.now ≡ false)
+        × (marks.starts (λ b. b == walk.closing hand) s.now ≡ false) }
+    ensures seen { (d : ℕ) → IfOk result (λ t. walk.turned line d t
+        ≡ walk.from_element line d hand s.now) }
+    ensures less { IfOk result (λ t. walk.opened t.frame + walk.ahead t.place
+        < 8 * length s.now + 6) }
 {
     match hand {
         Hand::Items(items) => Ok(Turn {
@@ -154,8 +166,10 @@ fn read_element(alloc: Global, line: u32, hand: Hand, s: &[char]) -> Result<Turn
 
 // Before an element of a collection, or its end.
 fn at_element(alloc: Global, line: u32, hand: Hand, s: &[char]) -> Result<Turn<'_>, OutOfMemory>
-    ensures seen { (d : ℕ) → IfOk result (λ t. walk.turned line d t ≡ walk.from_element line d hand s.now) }
-    ensures less { IfOk result (λ t. walk.opened t.frame + walk.ahead t.place < 8 * length s.now + 6) }
+    ensures seen { (d : ℕ) → IfOk result (λ t. walk.turned line d t
+        ≡ walk.from_element line d hand s.now) }
+    ensures less { IfOk result (λ t. walk.opened t.frame + walk.ahead t.place
+        < 8 * length s.now + 6) }
 {
     if is_empty(s) {
         return Ok(stopped());
@@ -168,8 +182,10 @@ fn at_element(alloc: Global, line: u32, hand: Hand, s: &[char]) -> Result<Turn<'
 
 // Behind an element of a collection: a comma and more, or the end.
 fn behind_element(hand: Hand, r: &[char]) -> Result<Turn<'_>, OutOfMemory>
-    ensures seen { (n d : ℕ) → IfOk result (λ t. walk.turned n d t ≡ walk.behind_one n d hand r.now) }
-    ensures less { IfOk result (λ t. walk.opened t.frame + walk.ahead t.place < 8 * length r.now + 2) }
+    ensures seen { (n d : ℕ) → IfOk result (λ t. walk.turned n d t
+        ≡ walk.behind_one n d hand r.now) }
+    ensures less { IfOk result (λ t. walk.opened t.frame + walk.ahead t.place
+        < 8 * length r.now + 2) }
 {
     let s = flow_blanks(r);
     if starts_comma(s) {
@@ -194,7 +210,8 @@ pub(crate) fn turn<'a>(
     spot: Spot<'a>,
 ) -> Result<Turn<'a>, OutOfMemory>
     ensures seen { IfOk result (λ t. walk.turned line depth t ≡ walk.next line depth spot.entry) }
-    ensures less { IfOk result (λ t. walk.opened t.frame + walk.ahead t.place < walk.left spot.entry) }
+    ensures less { IfOk result (λ t. walk.opened t.frame + walk.ahead t.place
+        < walk.left spot.entry) }
 {
     match spot {
         Spot::Open(is_map, s) => open_collection(alloc, line, depth, is_map, s),
@@ -213,7 +230,9 @@ pub(crate) fn put<'a>(
     tree: Tree,
     rest: &'a [char],
 ) -> Result<Place<'a>, OutOfMemory>
-    ensures seen { (n d : ℕ) (fault : Option Fault) → IfOk result (λ p. walk.noting (noted fault) (walk.here n d p) ≡ walk.complete n d frame (flows.goes (so_far (plain_tree tree) fault) rest.now)) }
+    ensures seen { (n d : ℕ) (fault : Option Fault)
+        → IfOk result (λ p. walk.noting (noted fault) (walk.here n d p)
+        ≡ walk.complete n d frame (flows.goes (so_far (plain_tree tree) fault) rest.now)) }
     ensures less { IfOk result (λ p. walk.ahead p < 8 * length rest.now + 3) }
 {
     match frame {

@@ -67,8 +67,10 @@ fn read_next<'a>(
     spot: Spot<'a>,
 ) -> Result<Place<'a>, OutOfMemory>
     requires { depth ≤ 102 }
-    ensures seen { IfOk result (λ p. walk.whole line depth frames.new.items fault.new p ≡ walk.whole line depth frames.old.items fault.old (place.Reading spot.entry)) }
-    ensures less { IfOk result (λ p. walk.ahead p + 2 * length frames.new.items < walk.left spot.entry + 2 * length frames.old.items) }
+    ensures seen { IfOk result (λ p. walk.whole line depth frames.new.items fault.new p
+        ≡ walk.whole line depth frames.old.items fault.old (place.Reading spot.entry)) }
+    ensures less { IfOk result (λ p. walk.ahead p + 2 * length frames.new.items
+        < walk.left spot.entry + 2 * length frames.old.items) }
 {
     let found = turn(alloc, line, depth + frames.len(), spot)?;
     *fault = both_noted(*fault, found.fault);

@@ -83,7 +83,8 @@ fn may_start_flow(s: &[char]) -> bool
 // stands before.
 fn behind_character(quote: char, escaped: bool, c: char) -> (char, bool)
     requires { walk.closes_expression quote escaped c ≡ false }
-    ensures { (r : List ℕ) → flows.expression_length quote escaped (c ∷ r) ≡ flows.one_more (flows.expression_length result.0 result.1 r) }
+    ensures { (r : List ℕ) → flows.expression_length quote escaped (c ∷ r)
+        ≡ flows.one_more (flows.expression_length result.0 result.1 r) }
 {
     if escaped {
         (quote, false)
@@ -133,7 +134,8 @@ fn starts_expression(s: &[char]) -> bool
 // A word that isn't quoted: so many characters at the start of a text.
 fn unquoted(alloc: Global, s: &[char], n: usize) -> Result<FlowWord<'_>, OutOfMemory>
     requires { n ≤ length s.now }
-    ensures { IfOk result (λ w. walk.found_word (Some w) ≡ flows.word (take n s.now) false true (drop n s.now)) }
+    ensures { IfOk result (λ w. walk.found_word (Some w)
+        ≡ flows.word (take n s.now) false true (drop n s.now)) }
 {
     let (front, rest) = s.split_at(n);
     match front.to_vec(alloc) {
@@ -148,7 +150,9 @@ fn unquoted(alloc: Global, s: &[char], n: usize) -> Result<FlowWord<'_>, OutOfMe
 }
 
 fn quoted_word(alloc: Global, s: &[char]) -> Result<Option<FlowWord<'_>>, OutOfMemory>
-    ensures { IfOk result (λ w. walk.found_word w ≡ flows.quoted_word (quotes.quoted s.now).chars (quotes.quoted s.now).rest (quotes.quoted s.now).good) }
+    ensures { IfOk result (λ w. walk.found_word w
+        ≡ flows.quoted_word (quotes.quoted s.now).chars (quotes.quoted s.now).rest
+        (quotes.quoted s.now).good) }
 {
     let found = read_quoted(alloc, s)?;
     match found.rest {
@@ -165,7 +169,10 @@ fn quoted_word(alloc: Global, s: &[char]) -> Result<Option<FlowWord<'_>>, OutOfM
 #[tactic(auto, using(crate::proofs::FlowFronts::two_first))]
 fn expression_word(alloc: Global, s: &[char]) -> Result<Option<FlowWord<'_>>, OutOfMemory>
     requires { flows.starts_expression s.now ≡ true }
-    ensures { IfOk result (λ w. walk.found_word w ≡ flows.expression_word s.now (flows.one_more (flows.one_more (flows.expression_length 0 false (marks.behind_first (marks.behind_first s.now)))))) }
+    ensures { IfOk result (λ w. walk.found_word w
+        ≡ flows.expression_word s.now
+        (flows.one_more (flows.one_more
+        (flows.expression_length 0 false (marks.behind_first (marks.behind_first s.now)))))) }
 {
     match expression_length(behind_first(behind_first(s))) {
         Some(n) => Ok(Some(unquoted(alloc, s, n + 2)?)),
@@ -174,7 +181,8 @@ fn expression_word(alloc: Global, s: &[char]) -> Result<Option<FlowWord<'_>>, Ou
 }
 
 fn plain_word(alloc: Global, s: &[char]) -> Result<Option<FlowWord<'_>>, OutOfMemory>
-    ensures { IfOk result (λ w. walk.found_word w ≡ flows.plain_word s.now (marks.trimmed (flows.plain_part false s.now))) }
+    ensures { IfOk result (λ w. walk.found_word w
+        ≡ flows.plain_word s.now (marks.trimmed (flows.plain_part false s.now))) }
 {
     let part = trimmed(plain_part(s));
     if ends_with_colon(part) {
@@ -213,7 +221,8 @@ pub(crate) fn has_delay(key: &Text) -> bool
 }
 
 fn plain_or_fault(read: Result<Tree, YamlFault>) -> Result<Scalar, OutOfMemory>
-    ensures { (told : Result trees.Tree Fault) → Gives plain_tree read told → IfOk result (λ r. so_far (plain_tree r.tree) r.fault ≡ told) }
+    ensures { (told : Result trees.Tree Fault) → Gives plain_tree read told
+        → IfOk result (λ r. so_far (plain_tree r.tree) r.fault ≡ told) }
 {
     match read {
         Ok(tree) => Ok(Scalar { tree, fault: None }),
@@ -232,7 +241,8 @@ pub(crate) fn word_tree(
     line: u32,
     word: &FlowWord<'_>,
 ) -> Result<Scalar, OutOfMemory>
-    ensures { IfOk result (λ r. so_far (plain_tree r.tree) r.fault ≡ flows.scalar_tree delay line word.now.chars.items word.now.quoted word.now.good) }
+    ensures { IfOk result (λ r. so_far (plain_tree r.tree) r.fault
+        ≡ flows.scalar_tree delay line word.now.chars.items word.now.quoted word.now.good) }
 {
     if !word.quoted {
         return plain_or_fault(plain_scalar(alloc, delay, line, word.chars.as_slice()));

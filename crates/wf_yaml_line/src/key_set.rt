@@ -35,7 +35,8 @@ impl KeySet {
 
     /// Adds a key. Without memory they stay.
     pub fn add(&mut self, key: Text) -> Result<(), OutOfMemory>
-        ensures added { OnOk result ((k : List ℕ) → is_one_of (keys_of self.new) k ≡ (is_same key k || is_one_of (keys_of self.old) k)) }
+        ensures added { OnOk result ((k : List ℕ)
+            → is_one_of (keys_of self.new) k ≡ (is_same key k || is_one_of (keys_of self.old) k)) }
         ensures kept { OnErr result (keys_of self.new ≡ keys_of self.old) }
     {
         let Ok(copy) = String::from_str(self.alloc, key.as_str()) else {

@@ -86,7 +86,8 @@ fn plain_fault(key: &[char]) -> Option<Kind>
 
 // The key of a pair that starts with a quote.
 fn quoted_key(alloc: Global, s: &[char]) -> Result<Option<Key<'_>>, OutOfMemory>
-    ensures { IfOk result (λ k. option_map key_view k ≡ keys.quoted_key (quotes.quoted s.now) (quotes.quoted s.now).rest) }
+    ensures { IfOk result (λ k. option_map key_view k
+        ≡ keys.quoted_key (quotes.quoted s.now) (quotes.quoted s.now).rest) }
 {
     let found = read_quoted(alloc, s)?;
     let Some(behind) = found.rest else {
@@ -104,7 +105,8 @@ fn quoted_key(alloc: Global, s: &[char]) -> Result<Option<Key<'_>>, OutOfMemory>
 
 // The key of a pair that starts with a plain scalar. Blanks at its end are no part of it.
 fn plain_key(alloc: Global, s: &[char]) -> Result<Option<Key<'_>>, OutOfMemory>
-    ensures { IfOk result (λ k. option_map key_view k ≡ keys.plain_key (texts.around_colon false s.now)) }
+    ensures { IfOk result (λ k. option_map key_view k
+        ≡ keys.plain_key (texts.around_colon false s.now)) }
 {
     match around_colon(s) {
         Some((before, rest)) => {

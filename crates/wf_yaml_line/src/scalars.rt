@@ -56,7 +56,8 @@ fn is_number(base: u64, s: &[char]) -> bool
 // The number that digits spell; none where it needs more than 64 bits.
 pub(crate) fn number(base: u64, s: &[char]) -> Option<u64>
     requires { 1 ≤ base }
-    ensures { MatchOption result (2 ^ 64 ≤ words.number_from base 0 s.now) (λ n. n ≡ words.number_from base 0 s.now) }
+    ensures { MatchOption result (2 ^ 64 ≤ words.number_from base 0 s.now) (λ n. n
+        ≡ words.number_from base 0 s.now) }
 {
     let mut n: u64 = 0;
     for c in s {

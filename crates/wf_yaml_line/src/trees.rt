@@ -42,7 +42,8 @@ pub fn refused(line: u32, kind: Kind) -> Result<Tree, YamlFault>
 
 /// A tree before which something else was noted. Of two refusals the first speaks.
 pub fn noting(fault: Option<Fault>, tree: Result<Tree, YamlFault>) -> Result<Tree, YamlFault>
-    ensures { (read : Result trees.Tree Fault) → Gives plain_tree tree read → Gives plain_tree result (both (λ _ t. t) (noted fault) read) }
+    ensures { (read : Result trees.Tree Fault) → Gives plain_tree tree read
+        → Gives plain_tree result (both (λ _ t. t) (noted fault) read) }
 {
     match tree {
         Ok(tree) => match fault {
@@ -56,7 +57,8 @@ pub fn noting(fault: Option<Fault>, tree: Result<Tree, YamlFault>) -> Result<Tre
 
 /// A tree behind which something else was noted. Of two refusals the first speaks.
 pub fn noting_after(tree: Result<Tree, YamlFault>, fault: Option<Fault>) -> Result<Tree, YamlFault>
-    ensures { (read : Result trees.Tree Fault) → Gives plain_tree tree read → Gives plain_tree result (both kept read (noted fault)) }
+    ensures { (read : Result trees.Tree Fault) → Gives plain_tree tree read
+        → Gives plain_tree result (both kept read (noted fault)) }
 {
     match tree {
         Ok(tree) => match fault {

@@ -22,7 +22,8 @@ use wf_value::{OutOfMemory, Text};
 pub fn write_yaml(alloc: Global, tree: &Tree) -> Result<Text, OutOfMemory>
     requires { depth (plain_tree tree.now) ≤ 100 }
     ensures text { IfOk result (λ t. t ≡ written (plain_tree tree.now)) }
-    ensures read_back { DecimalsFit false (plain_tree tree.now) → IfOk result (λ t. reading t ≡ Ok (plain_tree tree.now)) }
+    ensures read_back { DecimalsFit false (plain_tree tree.now)
+        → IfOk result (λ t. reading t ≡ Ok (plain_tree tree.now)) }
 {
     let mut out = String::new(alloc);
     match push_tree(alloc, &mut out, 0, tree) {
@@ -36,7 +37,8 @@ pub fn write_yaml(alloc: Global, tree: &Tree) -> Result<Text, OutOfMemory>
 #[cycle(write)]
 fn push_tree(alloc: Global, out: &mut String, indent: u32, tree: &Tree) -> Result<(), AllocError>
     requires { indent + 2 * depth (plain_tree tree.now) ≤ 200 }
-    ensures text { OnOk result (string_bytes out.new ≡ string_bytes out.old ++ laid indent (layout (plain_tree tree.now))) }
+    ensures text { OnOk result (string_bytes out.new
+        ≡ string_bytes out.old ++ laid indent (layout (plain_tree tree.now))) }
     ensures memory { OnOk result (IsInMemory (plain_tree tree.now)) }
 {
     match tree {
@@ -62,7 +64,8 @@ fn push_items(
     items: &[Tree],
 ) -> Result<(), AllocError>
     requires { indent + 2 * items_depth (items_of (plain_items items.now)) ≤ 198 }
-    ensures text { OnOk result (string_bytes out.new ≡ string_bytes out.old ++ laid indent (layout (list (items_of (plain_items items.now))))) }
+    ensures text { OnOk result (string_bytes out.new
+        ≡ string_bytes out.old ++ laid indent (layout (list (items_of (plain_items items.now))))) }
     ensures memory { OnOk result (AreInMemory (items_of (plain_items items.now))) }
 {
     match items {
@@ -83,7 +86,9 @@ fn push_more_items(
     items: &[Tree],
 ) -> Result<(), AllocError>
     requires { indent + 2 * items_depth (items_of (plain_items items.now)) ≤ 198 }
-    ensures text { OnOk result (string_bytes out.new ≡ string_bytes out.old ++ indented indent (items_layout (items_of (plain_items items.now)))) }
+    ensures text { OnOk result (string_bytes out.new
+        ≡ string_bytes out.old
+        ++ indented indent (items_layout (items_of (plain_items items.now)))) }
     ensures memory { OnOk result (AreInMemory (items_of (plain_items items.now))) }
 {
     for item in items {
@@ -96,7 +101,8 @@ fn push_more_items(
 #[cycle(write)]
 fn push_item(alloc: Global, out: &mut String, indent: u32, item: &Tree) -> Result<(), AllocError>
     requires { indent + 2 * depth (plain_tree item.now) ≤ 198 }
-    ensures text { OnOk result (string_bytes out.new ≡ string_bytes out.old ++ laid indent (as_item (layout (plain_tree item.now)))) }
+    ensures text { OnOk result (string_bytes out.new
+        ≡ string_bytes out.old ++ laid indent (as_item (layout (plain_tree item.now)))) }
     ensures memory { OnOk result (IsInMemory (plain_tree item.now)) }
 {
     out.push_str("- ")?;
@@ -111,7 +117,8 @@ fn push_pairs(
     pairs: &[(Text, Tree)],
 ) -> Result<(), AllocError>
     requires { indent + 2 * pairs_depth (pairs_of (plain_pairs pairs.now)) ≤ 198 }
-    ensures text { OnOk result (string_bytes out.new ≡ string_bytes out.old ++ laid indent (layout (map (pairs_of (plain_pairs pairs.now))))) }
+    ensures text { OnOk result (string_bytes out.new
+        ≡ string_bytes out.old ++ laid indent (layout (map (pairs_of (plain_pairs pairs.now))))) }
     ensures memory { OnOk result (ArePairsInMemory (pairs_of (plain_pairs pairs.now))) }
 {
     match pairs {
@@ -132,7 +139,9 @@ fn push_more_pairs(
     pairs: &[(Text, Tree)],
 ) -> Result<(), AllocError>
     requires { indent + 2 * pairs_depth (pairs_of (plain_pairs pairs.now)) ≤ 198 }
-    ensures text { OnOk result (string_bytes out.new ≡ string_bytes out.old ++ indented indent (pairs_layout (pairs_of (plain_pairs pairs.now)))) }
+    ensures text { OnOk result (string_bytes out.new
+        ≡ string_bytes out.old
+        ++ indented indent (pairs_layout (pairs_of (plain_pairs pairs.now)))) }
     ensures memory { OnOk result (ArePairsInMemory (pairs_of (plain_pairs pairs.now))) }
 {
     for pair in pairs {
@@ -151,7 +160,10 @@ fn push_pair(
     item: &Tree,
 ) -> Result<(), AllocError>
     requires { indent + 2 * depth (plain_tree item.now) ≤ 198 }
-    ensures text { OnOk result (string_bytes out.new ≡ string_bytes out.old ++ laid indent (as_pair key.now (is_block (plain_tree item.now)) (layout (plain_tree item.now)))) }
+    ensures text { OnOk result (string_bytes out.new
+        ≡ string_bytes out.old
+        ++ laid indent (as_pair key.now (is_block (plain_tree item.now))
+        (layout (plain_tree item.now)))) }
     ensures memory { OnOk result (IsUtf8 key.now × IsInMemory (plain_tree item.now)) }
 {
     push_text(alloc, out, key.as_str())?;
@@ -178,7 +190,8 @@ fn is_block(tree: &Tree) -> bool
 
 // Writes a number and ends the line.
 fn push_number(alloc: Global, out: &mut String, n: i64) -> Result<(), AllocError>
-    ensures { OnOk result (string_bytes out.new ≡ string_bytes out.old ++ signed_decimal n ++ codes "\n") }
+    ensures { OnOk result (string_bytes out.new
+        ≡ string_bytes out.old ++ signed_decimal n ++ codes "\n") }
 {
     push_line(out, n.to_string(alloc)?.as_str())
 }

@@ -87,7 +87,8 @@ fn hex_digit(digit: u8) -> char
 
 // A character in double quotes.
 fn push_escaped(out: &mut String, c: char) -> Result<(), AllocError>
-    ensures { OnOk result (string_bytes out.new ≡ string_bytes out.old ++ rules.all_escaped (encode_utf8 c)) }
+    ensures { OnOk result (string_bytes out.new
+        ≡ string_bytes out.old ++ rules.all_escaped (encode_utf8 c)) }
 {
     match c {
         '"' => out.push_str("\\\""),
@@ -102,7 +103,8 @@ fn push_escaped(out: &mut String, c: char) -> Result<(), AllocError>
 
 // A character of a byte, as `\xHH`.
 fn push_hex(out: &mut String, b: u8) -> Result<(), AllocError>
-    ensures { OnOk result (string_bytes out.new ≡ string_bytes out.old ++ codes "\\x" ++ rules.hex_digits b) }
+    ensures { OnOk result (string_bytes out.new
+        ≡ string_bytes out.old ++ codes "\\x" ++ rules.hex_digits b) }
 {
     out.push_str("\\x")?;
     out.push(hex_digit(b / 16))?;
@@ -121,7 +123,8 @@ fn push_quoted(out: &mut String, s: &str) -> Result<(), AllocError>
 
 // Writes a text or a key: plain where it may be, else in double quotes.
 pub(crate) fn push_text(alloc: Global, out: &mut String, s: &str) -> Result<(), AllocError>
-    ensures { OnOk result (string_bytes out.new ≡ string_bytes out.old ++ rules.written_text s.now) }
+    ensures { OnOk result (string_bytes out.new
+        ≡ string_bytes out.old ++ rules.written_text s.now) }
 {
     if is_plain(alloc, s)? {
         out.push_str(s)

@@ -7,6 +7,7 @@ use Rattle.wf_check.proofs.flows.program.Goals as goal
 use Rattle.wf_check.specs.Said.{said_among}
 
 pub returns-in-Err : goal.returns-in-Err
+unfolding nodes
 returns-in-Err c =
     let fs = map flow_view c.args.flows.now in
     let i = c.each.item-index in
@@ -15,6 +16,7 @@ returns-in-Err c =
     (c.each.invariant.told ∙ ap (λ l. said_among fs c.each.number [] (nodes (map flow_view l))) (item_at c.args.flows.now i x c.each-test.true c.item-item.is)) c.in-Err.ensures
 
 pub each-preserved : goal.each-preserved
+unfolding nodes
 each-preserved c =
     let fs = map flow_view c.args.flows.now in
     let i = c.each.item-index in

@@ -1,0 +1,28 @@
+-- Words for clauses of calls on a host, over its meanings `world` and `faults`.
+use Rattle.std.specs.Prelude.{◌≡◌, ℕ, List}
+use Rattle.wf_host.specs.World.{World, Faults, Told, LeavesOnly, NoneFell, Rose}
+use Rattle.wf_host.specs.declared.data.Deed.{Deed}
+
+-- at each moment of the call, where the host tells, a crash leaves only images and deeds that have this
+abbrev pub AtAnyMoment : {H : Type 0} → (H → World) → H → H → (List ℕ → List Deed → Type 0) → Type 0
+AtAnyMoment world old new P = Told (world old) (LeavesOnly (world old) (world new) P)
+
+-- where the host tells, the file reads as before
+abbrev pub ReadsAsBefore : {H : Type 0} → (H → World) → H → H → Type 0
+ReadsAsBefore world old new = Told (world old) ((world new).seen ≡ (world old).seen)
+
+-- where the host tells, nothing was done that others can notice
+abbrev pub DoesNoDeed : {H : Type 0} → (H → World) → H → H → Type 0
+DoesNoDeed world old new = Told (world old) ((world new).deeds ≡ (world old).deeds)
+
+-- whether the host tells stays
+abbrev pub TellsAsBefore : {H : Type 0} → (H → World) → H → H → Type 0
+TellsAsBefore world old new = (world new).tells ≡ (world old).tells
+
+-- a call of the disk failed
+abbrev pub DiskFailed : {H : Type 0} → (H → Faults) → H → H → Type 0
+DiskFailed faults old new = Rose (faults old).disk (faults new).disk
+
+-- no count of failed calls falls
+abbrev pub NoCountFalls : {H : Type 0} → (H → Faults) → H → H → Type 0
+NoCountFalls faults old new = NoneFell (faults old) (faults new)
