@@ -5,7 +5,7 @@ use Rattle.std.specs.Prelude.{if◌then◌else◌, IfOk, ◌==◌}
 use Rattle.std.specs.List.{list_all}
 use Rattle.std.proofs.lemmas.List.{drop-map}
 use Rattle.wf_ast.specs.Tree as t
-use Rattle.wf_ast.specs.Tree.{Template, Entry, Step, step, Steps, no_steps, more, Body, Program}
+use Rattle.wf_ast.specs.Tree.{Template, Entry, Step, step, Steps, more, Body, Program}
 use Rattle.wf_ast.specs.View.{body_view, entries_view, step_view, template_view}
 use Rattle.wf_ast.specs.declared.Body as body
 use Rattle.wf_ast.specs.declared.Entries.{Entries}

@@ -13,7 +13,7 @@ use Rattle.wf_eval.specs.Built.{is_built, calls_built, is_expr_built, is_part_bu
 use Rattle.wf_machine.specs.Answers.{IsValueTag}
 use Rattle.wf_machine.proofs.Sees.{and_left, and_right, built_left, built_right}
 use Rattle.wf_postfix.specs.Machine.{negate, invert, combine, member, index, call, and_skip, or_skip, check, many, code, all_code}
-use Rattle.wf_value.specs.Data.{Data, null, boolean, integer, text, bytes, list, map, item, depth, size}
+use Rattle.wf_value.specs.Data.{Data, boolean, integer, text, bytes, list, map, item, depth, size}
 use Rattle.wf_value.specs.Errors.{Answer, ◌>>=◌, or_error, kept}
 use Rattle.wf_value.specs.Numbers.{whole_sum, whole_difference, whole_product, whole_negative, exact_quotient, truncated_quotient, whole_rest, in_64_bits, as_answer}
 use Rattle.wf_value.specs.Pairs.{Text, items, get, put}

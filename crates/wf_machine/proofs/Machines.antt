@@ -1,5 +1,5 @@
 -- What a machine that runs can do.
-use Rattle.std.proofs.Common.{◌≡◌, ◌<◌, ◌≤◌, ◌⊎◌, inl, inr, ℕ, max, Bool, true, false, IsTrue, List, length, Option, Some, None, sym, refl, ◌∙◌, ap, subst, arith, ⊎_elim}
+use Rattle.std.proofs.Common.{◌≡◌, ◌<◌, ◌≤◌, ◌⊎◌, inl, inr, ℕ, max, Bool, true, false, List, length, Some, None, sym, refl, ◌∙◌, ap, subst, arith, ⊎_elim}
 use Rattle.std.specs.List.{list_all}
 use Rattle.wf_ast.specs.Tree as t
 use Rattle.wf_ast.specs.View.{program_view}

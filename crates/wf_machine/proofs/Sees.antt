@@ -1,7 +1,7 @@
 -- What the value of a template looks at: the names, and the clock where the template names it. The environment is looked at by no function
 -- that is built.
 use Rattle.std.proofs.Common.{◌≡◌, Bool, true, false, ◌&&◌, ◌||◌, List, [], ◌∷◌, ◌++◌, Ok, Err, pos, refl, sym, ◌∙◌, ap}
-use Rattle.std.specs.Prelude.{ℕ, ◌/◌, not, length}
+use Rattle.std.specs.Prelude.{◌/◌, not, length}
 use Rattle.std.specs.List.{list_all}
 use Rattle.wf_ast.specs.Apply.{View, shown, apply}
 use Rattle.wf_ast.specs.Eval.{truth, whole, operate, at_key, at_index, and_then, or_else, eval, eval_all, joined, fill, fill_all, fill_fields}

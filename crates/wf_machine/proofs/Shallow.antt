@@ -5,7 +5,7 @@ use Rattle.std.proofs.lemmas.Bool.{leb-true}
 use Rattle.wf_ast.specs.Apply.{View, apply}
 use Rattle.wf_ast.specs.Eval.{truth, whole, operate, at_key, at_index, eval, eval_all, joined, fill, fill_all, fill_fields}
 use Rattle.wf_ast.specs.Tree.{Expr, Template, Scalar, Whole, Joined, Listed, Mapped}
-use Rattle.wf_value.specs.Data.{Data, boolean, integer, text, list, map, depth, size}
+use Rattle.wf_value.specs.Data.{Data, boolean, text, list, map, depth, size}
 use Rattle.wf_value.specs.Errors.{Answer, ◌>>=◌, or_error, kept}
 use Rattle.wf_value.specs.Numbers.{whole_negative, as_answer}
 use Rattle.wf_value.specs.declared.NumFault.{NumFault}

@@ -1,5 +1,5 @@
 -- What names the clock, of lists, maps and calls as the code holds them.
-use Rattle.std.proofs.Common.{◌≡◌, Bool, ◌||◌, List, sym, ◌∙◌, ap}
+use Rattle.std.proofs.Common.{◌≡◌, ◌||◌, List, sym, ◌∙◌, ap}
 use Rattle.std.proofs.Common as seq
 use Rattle.wf_ast.proofs.Views.{view_call, view_list, view_map}
 use Rattle.wf_ast.specs.Tree.{exprs, fields, templates}

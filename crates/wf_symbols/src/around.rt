@@ -1,9 +1,9 @@
 // What stands around a node.
-ghost use Rattle.std.specs.Prelude.{◌≡◌, IfOk, OnOk, map};
+ghost use Rattle.std.specs.Prelude.{◌≡◌, IfOk, OnErr, OnOk, map};
 ghost use Rattle.wf_ast.specs.Accept.{is_visible};
 ghost use Rattle.wf_ast.specs.Nodes.{assigned};
 ghost use Rattle.wf_ast.specs.View.{steps_in};
-ghost use Rattle.wf_symbols.specs.Around.{IsBound, IsClosed, IsLayer, IsOpened, IsUnbound, layer_view};
+ghost use Rattle.wf_symbols.specs.Around.{IsBound, IsClosed, IsLayer, IsOpened, IsUnbound, Still, layer_view};
 
 use crate::names::Names;
 use crate::tables::{add_assigned, own_names};
@@ -58,7 +58,8 @@ impl Scopes {
         steps: &StepList,
         is_closed: bool,
     ) -> Result<(), OutOfMemory>
-        ensures { OnOk result (IsOpened self.old self.new (steps_in steps.now) is_closed) }
+        ensures opened { OnOk result (IsOpened self.old self.new (steps_in steps.now) is_closed) }
+        ensures kept { OnErr result (Still self.old self.new) }
     {
         let names = own_names(alloc, steps)?;
         match self.blocks.insert(0, Block { names, is_closed }) {
@@ -78,7 +79,8 @@ impl Scopes {
 
     /// Goes into a layer, which is then the innermost. Without memory the scopes stay as they were.
     pub fn bind(&mut self, layer: Layer) -> Result<(), OutOfMemory>
-        ensures { OnOk result (IsBound self.old self.new layer) }
+        ensures bound { OnOk result (IsBound self.old self.new layer) }
+        ensures kept { OnErr result (Still self.old self.new) }
     {
         match self.layers.insert(0, layer) {
             Ok(()) => Ok(()),
