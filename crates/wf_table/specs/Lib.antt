@@ -1,0 +1,6 @@
+pub mod Decoded
+pub mod Kinds
+pub mod Made
+pub mod Shapes
+pub mod Spots
+pub mod Table
