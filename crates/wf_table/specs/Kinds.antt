@@ -3,13 +3,9 @@ use Rattle.std.specs.Prelude.{ℕ, List, map, take, Option, Some, None}
 use Rattle.wf_ast.specs.Tree as Tree
 use Rattle.wf_ast.specs.Tree.{CallBody, Over, InList, InRange, Param, Policy, Template, exprs, fields}
 use Rattle.wf_ast.specs.View.{params_view, policy_option_view, texts_view}
-use Rattle.wf_postfix.specs.Instrs.{instrs}
-use Rattle.wf_postfix.specs.declared.code.Instr.{Instr}
 use Rattle.wf_value.specs.Pairs.{Text}
-use Rattle.wf_table.specs.Decoded.{decode}
-use Rattle.wf_table.specs.Shapes.{Compiled, fields_by, shape_by}
+use Rattle.wf_table.specs.Shapes.{Compiled, decoded, fields_by, shape_by}
 use Rattle.wf_table.specs.declared.node.Block.{Block as StepBlock}
-use Rattle.wf_table.specs.declared.node.BranchNode.{BranchNode}
 use Rattle.wf_table.specs.declared.node.CallNode.{CallNode}
 use Rattle.wf_table.specs.declared.node.EntryNode.{EntryNode}
 use Rattle.wf_table.specs.declared.node.ExceptNode.{ExceptNode}
@@ -51,7 +47,7 @@ pub record Handler : Type 0 where
   pub steps : Listed
 
 pub data Kind : Type 0 where
-  Flow : Text → List Param → Listed → Kind
+  Flow : List Param → Listed → Kind
   Nothing : Kind
   Assign : List ℕ → Kind
   Call : CallBody → Kind
@@ -64,7 +60,7 @@ pub data Kind : Type 0 where
   Return : Template → Kind
   Arm : Template → Kind
   Entry : Tree.Entry → Kind
-  Branch : Text → Listed → Kind
+  Branch : Listed → Kind
 
 -- ## Of nodes
 abbrev pub block_view : StepBlock → Listed
@@ -88,9 +84,6 @@ abbrev pub handler_view : Option ExceptNode → Option Handler
 handler_view None = None
 handler_view (Some x) = Some (record { name = x.name; steps = block_view x.block })
 
-abbrev pub decoded : List Instr → Tree.Expr
-decoded is = decode (instrs is)
-
 abbrev pub entry_by : Compiled → EntryNode → Tree.Entry
 entry_by cs e = record {
   target = record { name = e.name; places = exprs (map decoded (take e.places cs)); written = e.text };
@@ -98,7 +91,7 @@ entry_by cs e = record {
 }
 
 abbrev pub kind_by : Compiled → NodeKind → Kind
-kind_by cs (kind.Flow f) = Flow f.name (params_view f.params) (block_view f.block)
+kind_by cs (kind.Flow f) = Flow (params_view f.params) (block_view f.block)
 kind_by cs kind.Nothing = Nothing
 kind_by cs (kind.Assign v) = Assign v.items
 kind_by cs (kind.Call f) = Call (call_by cs f)
@@ -111,7 +104,7 @@ kind_by cs (kind.Raise x) = Raise (shape_by cs x)
 kind_by cs (kind.Return x) = Return (shape_by cs x)
 kind_by cs (kind.Arm x) = Arm (shape_by cs x)
 kind_by cs (kind.Entry e) = Entry (entry_by cs e)
-kind_by cs (kind.Branch b) = Branch b.name (block_view b.block)
+kind_by cs (kind.Branch b) = Branch (block_view b)
 
 -- a node but for where it jumps
 pub record View : Type 0 where

@@ -1,3 +1,4 @@
+pub mod Compiles
 pub mod Decoded
 pub mod Kinds
 pub mod Made

@@ -1,12 +1,18 @@
 -- The nodes that are made of parts, from a number on.
 use Rattle.std.specs.Prelude.{◌≡◌, ℕ, suc, ◌+◌, List, [], ◌∷◌, ◌++◌, length, map, Option, None, Some}
-use Rattle.wf_ast.specs.Tree.{Entry, Step, step, Steps, no_steps, more, Body, Arms, no_arms, arm, LoopBody, loop, ParallelBody, parallel, Work, OfBranches, OfLoop, Branches, no_branches, branch, TryBody, try, Except, no_except, except}
+use Rattle.wf_ast.specs.Tree.{Entry, Step, step, Steps, no_steps, more, Body, Arms, no_arms, arm, LoopBody, loop, ParallelBody, parallel, Work, OfBranches, OfLoop, Branches, no_branches, branch, TryBody, try, Except, no_except, except, Flow}
 use Rattle.wf_value.specs.Pairs.{Text}
 use Rattle.wf_table.specs.Kinds.{Handler, Kind, Listed, Repeated, Side, View, listed, node_view}
 use Rattle.wf_table.specs.Kinds as kind
 use Rattle.wf_table.specs.Spots.{Part, FlowAt, BodyAt, ArmAt, EntryAt, BranchAt, NoPart, Spot, body_size, step_size, steps_size, part_name, part_next}
 use Rattle.wf_table.specs.Table.{innermost}
+use Rattle.wf_table.specs.declared.around.Here.{Here}
 use Rattle.wf_table.specs.declared.node.Node.{Node}
+
+-- whose list a body stands in, and in how many, when these own the lists around it
+pub record StandsIn (h : Here) (os : List ℕ) : Type 0 where
+  pub owner : h.owner ≡ innermost os
+  pub depth : h.depth ≡ length os
 
 -- ## Numbers of parts, the first of which is n
 abbrev pub step_numbers : Steps → ℕ → List ℕ
@@ -24,6 +30,10 @@ arm_numbers (arm t body next rest) n = n ∷ arm_numbers rest (n + suc (suc (bod
 abbrev pub branch_numbers : Branches → ℕ → List ℕ
 branch_numbers no_branches n = []
 branch_numbers (branch x ss bs) n = n ∷ branch_numbers bs (n + suc (steps_size ss))
+
+abbrev pub flow_numbers : List Flow → ℕ → List ℕ
+flow_numbers [] n = []
+flow_numbers (f ∷ fs) n = n ∷ flow_numbers fs (n + suc (steps_size f.steps))
 
 -- ## Kinds of the part of number n, with so many lists around it
 abbrev pub loop_for : ℕ → LoopBody → Repeated
@@ -57,16 +67,20 @@ body_for n depth (Body.Raise t) = kind.Raise t
 body_for n depth (Body.Return t) = kind.Return t
 
 abbrev pub kind_for : ℕ → ℕ → Part → Kind
-kind_for n depth (FlowAt f) = kind.Flow f.name f.params (listed (step_numbers f.steps (suc n)) 1)
+kind_for n depth (FlowAt f) = kind.Flow f.params (listed (step_numbers f.steps (suc n)) 1)
 kind_for n depth (BodyAt x body next) = body_for n depth body
 kind_for n depth (ArmAt t) = kind.Arm t
 kind_for n depth (EntryAt e) = kind.Entry e
-kind_for n depth (BranchAt x ss) = kind.Branch x (listed (step_numbers ss (suc n)) 1)
+kind_for n depth (BranchAt x ss) = kind.Branch (listed (step_numbers ss (suc n)) 1)
 kind_for n depth NoPart = kind.Nothing
 
 -- ## Nodes
 abbrev pub view_for : ℕ → Spot → View
 view_for n s = record { kind = kind_for n (length s.owners) s.part; name = part_name s.part; next = part_next s.part; owner = innermost s.owners }
+
+-- a node that is no body
+abbrev pub leaf_view : Option ℕ → Kind → View
+leaf_view o k = record { kind = k; name = []; next = None; owner = o }
 
 abbrev pub views_for : ℕ → List Spot → List View
 views_for n [] = []

@@ -22,9 +22,13 @@ abbrev pub Compiled : Type 0
 Compiled = List (List Instr)
 
 -- ## Holes
+-- the expression whose code it is
+abbrev pub decoded : List Instr → t.Expr
+decoded is = decode (instrs is)
+
 abbrev pub expr_of : Option (List Instr) → t.Expr
 expr_of None = t.Expr.Lit null
-expr_of (Some is) = decode (instrs is)
+expr_of (Some is) = decoded is
 
 -- the expression at a place
 abbrev pub hole_by : Compiled → ℕ → t.Expr

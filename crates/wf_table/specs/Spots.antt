@@ -157,7 +157,9 @@ owners_at ns n = spot_owners (slice_get ns n)
 
 -- ## What a part is
 abbrev pub part_name : Part → Text
+part_name (FlowAt f) = f.name
 part_name (BodyAt x body next) = x
+part_name (BranchAt x ss) = x
 part_name p = []
 
 abbrev pub part_body : Part → Body

@@ -40,10 +40,10 @@ abbrev pub flow_of : List Spot → Text → List Param → Listed → Flow
 flow_of ns x params b = record { name = x; params = params; steps = steps_by ns b.steps }
 
 abbrev pub part_by : List Spot → Text → Option Text → Kind → Part
-part_by ns x next (kind.Flow name params b) = FlowAt (flow_of ns name params b)
+part_by ns x next (kind.Flow params b) = FlowAt (flow_of ns x params b)
 part_by ns x next (kind.Arm t) = ArmAt t
 part_by ns x next (kind.Entry e) = EntryAt e
-part_by ns x next (kind.Branch name b) = BranchAt name (steps_by ns b.steps)
+part_by ns x next (kind.Branch b) = BranchAt x (steps_by ns b.steps)
 part_by ns x next k = BodyAt x (body_of ns k) next
 
 -- ## The list of steps that a node owns
@@ -56,12 +56,12 @@ handler_list None = None
 handler_list (Some x) = Some x.steps
 
 abbrev pub kind_list : Kind → Option Listed
-kind_list (kind.Flow name params b) = Some b
+kind_list (kind.Flow params b) = Some b
 kind_list (kind.For l) = Some l.steps
 kind_list (kind.Parallel shared limit w) = side_list w
 kind_list (kind.Block b) = Some b
 kind_list (kind.Try n policy x) = handler_list x
-kind_list (kind.Branch name b) = Some b
+kind_list (kind.Branch b) = Some b
 kind_list k = None
 
 abbrev pub view_list : Option View → Option Listed

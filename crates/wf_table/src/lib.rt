@@ -1,14 +1,18 @@
 //! The table of a program: a node for each number, with its expressions compiled and its jumps resolved.
 #![tactic(auto)]
 
+mod around;
 mod codes;
+mod copies;
 mod grow;
+mod growing;
 mod node;
 mod shape;
+mod shaping;
 
 pub use codes::Codes;
 pub use node::{
-    Block, BranchNode, CallNode, EntryNode, ExceptNode, FlowNode, Jump, LoopNode, Node, NodeKind,
+    Block, CallNode, EntryNode, ExceptNode, FlowNode, Jump, LoopNode, Node, NodeKind,
     OverShape, ParallelNode, TryNode, WorkNode,
 };
 pub use shape::{NamedShape, NamedShapes, Piece, Pieces, Shape, Shapes};

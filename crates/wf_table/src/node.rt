@@ -22,7 +22,6 @@ pub struct Block {
 /// A workflow.
 #[derive(Drop)]
 pub struct FlowNode {
-    pub name: Text,
     pub params: Params,
     pub block: Block,
 }
@@ -91,13 +90,6 @@ pub struct EntryNode {
     pub value: Shape,
 }
 
-/// A branch of a parallel step.
-#[derive(Drop)]
-pub struct BranchNode {
-    pub name: Text,
-    pub block: Block,
-}
-
 /// What a node is. `Nothing` to `Return` are bodies: those of steps and of arms, and what stands under a `try`.
 #[derive(Drop)]
 pub enum NodeKind {
@@ -117,7 +109,8 @@ pub enum NodeKind {
     /// The condition of an arm.
     Arm(Shape),
     Entry(EntryNode),
-    Branch(BranchNode),
+    /// The steps of a branch.
+    Branch(Block),
 }
 
 /// A node of a program.
@@ -126,7 +119,7 @@ pub struct Node {
     pub kind: NodeKind,
     /// Its compiled expressions.
     pub codes: Codes,
-    /// The name of a step. Other nodes have the empty one.
+    /// The name of a workflow, a step or a branch. Other nodes have the empty one.
     pub name: Text,
     /// What is next behind a body, where the source says it: a step of a list around, or `end`, `continue` or `break`.
     pub next: Option<Text>,

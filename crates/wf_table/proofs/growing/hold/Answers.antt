@@ -1,0 +1,6 @@
+use Rattle.std.proofs.Common.{◌≡◌, [], ◌∷◌, ◌++◌}
+use Rattle.wf_table.proofs.Adding.{ok_then}
+use Rattle.wf_table.proofs.growing.hold.Goals as goal
+
+pub returns-clause-grown : goal.returns-clause-grown
+returns-clause-grown c = ok_then _ _ c.push.result (λ n h. (_, h)) c.push.ensures.grown
