@@ -1,7 +1,11 @@
 pub mod Adding
 pub mod Compiling
 pub mod Decoding
+pub mod Forms
+pub mod Found
 pub mod Going
 pub mod Laid
+pub mod Lying
 pub mod Sizes
+pub mod Sound
 pub mod Views

@@ -1,7 +1,9 @@
+pub mod Built
 pub mod Compiles
 pub mod Decoded
 pub mod Kinds
 pub mod Made
+pub mod Named
 pub mod Shapes
 pub mod Spots
 pub mod Table

@@ -2,7 +2,7 @@
 --     part_by      the part that a node is
 --     Leads        where a jump leads
 --     Resolves     each node is the part of its number, and its numbers are those of its parts
-use Rattle.std.specs.Prelude.{◌≡◌, ℕ, suc, ◌<◌, ◌≤◌, List, [], ◌∷◌, length, slice_get, Some, None, Option, option_map, ◌⊎◌}
+use Rattle.std.specs.Prelude.{◌≡◌, ℕ, suc, ◌<◌, ◌≤◌, List, [], ◌∷◌, length, map, slice_get, Some, None, Option, ◌⊎◌}
 use Rattle.wf_ast.specs.Tree.{Param, Step, Steps, no_steps, more, Body, LoopBody, loop, parallel, Work, OfBranches, OfLoop, try, Except, no_except, except, Flow}
 use Rattle.wf_model.specs.Unwind.{from_step}
 use Rattle.wf_value.specs.Pairs.{Text}
@@ -69,8 +69,8 @@ view_list None = None
 view_list (Some x) = kind_list x.kind
 
 -- the list that the node of a number owns
-abbrev pub list_at : List Node → ℕ → Option Listed
-list_at nodes n = view_list (option_map node_view (slice_get nodes n))
+abbrev pub list_at : List View → ℕ → Option Listed
+list_at views n = view_list (slice_get views n)
 
 -- what owns the lists around a node's own list, as far as a jump may lead, when these own those around the node
 abbrev pub outside : Kind → List ℕ → List ℕ
@@ -130,12 +130,12 @@ pub record Describes (ns : List Spot) (len i : ℕ) (x : View) : Type 0 where
 
 -- ## Jumps
 -- the list of this owner has the step first, and the jump is to it
-pub record LeadsInto (ns : List Spot) (nodes : List Node) (x : Text) (j : Jump) (o : ℕ) (depth : ℕ) : Type 0 where
+pub record LeadsInto (ns : List Spot) (views : List View) (x : Text) (j : Jump) (o : ℕ) (depth : ℕ) : Type 0 where
   pub to : Step
   pub rest : Steps
   pub list : Listed
   pub first : from_step x (part_list (part_at ns o)) ≡ more to rest
-  pub owned : list_at nodes o ≡ Some list
+  pub owned : list_at views o ≡ Some list
   pub keeps : j.keep ≡ depth
   pub has : (i : ℕ) × (slice_get list.steps i ≡ Some j.to)
   pub only : (i : ℕ) → slice_get list.steps i ≡ Some j.to → from i (part_list (part_at ns o)) ≡ more to rest
@@ -145,18 +145,22 @@ abbrev pub Lacks : List Spot → Text → ℕ → Type 0
 Lacks ns x o = from_step x (part_list (part_at ns o)) ≡ no_steps
 
 -- the jump is to the first of these lists, innermost first, that has the step; without a jump none has
-abbrev pub Leads : List Spot → List Node → Text → Option Jump → List ℕ → Type 0
-Leads ns nodes x None [] = Unit {0}
-Leads ns nodes x (Some j) [] = ⊥
-Leads ns nodes x None (o ∷ os) = Lacks ns x o × Leads ns nodes x None os
-Leads ns nodes x (Some j) (o ∷ os) = LeadsInto ns nodes x j o (suc (length os)) ⊎ (Lacks ns x o × Leads ns nodes x (Some j) os)
+abbrev pub Leads : List Spot → List View → Text → Option Jump → List ℕ → Type 0
+Leads ns views x None [] = Unit {0}
+Leads ns views x (Some j) [] = ⊥
+Leads ns views x None (o ∷ os) = Lacks ns x o × Leads ns views x None os
+Leads ns views x (Some j) (o ∷ os) = LeadsInto ns views x j o (suc (length os)) ⊎ (Lacks ns x o × Leads ns views x (Some j) os)
 
-abbrev pub NextLeads : List Spot → List Node → Option Text → Option Jump → List ℕ → Type 0
-NextLeads ns nodes None j os = j ≡ None
-NextLeads ns nodes (Some x) j os = Leads ns nodes x j os
+abbrev pub NextLeads : List Spot → List View → Option Text → Option Jump → List ℕ → Type 0
+NextLeads ns views None j os = j ≡ None
+NextLeads ns views (Some x) j os = Leads ns views x j os
+
+-- so does each node's
+abbrev pub EachLeads : List Spot → List Node → Type 0
+EachLeads ns nodes = (i : ℕ) (x : Node) → slice_get nodes i ≡ Some x → NextLeads ns (map node_view nodes) x.next x.jump (owners_at ns i)
 
 -- ## The table
 pub record Resolves (ns : List Spot) (nodes : List Node) : Type 0 where
   pub as_long : length nodes ≡ length ns
   pub each : (i : ℕ) (x : Node) → slice_get nodes i ≡ Some x → Describes ns (length nodes) i (node_view x)
-  pub jumps : (i : ℕ) (x : Node) → slice_get nodes i ≡ Some x → NextLeads ns nodes x.next x.jump (owners_at ns i)
+  pub jumps : EachLeads ns nodes

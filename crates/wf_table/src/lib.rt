@@ -2,13 +2,17 @@
 #![tactic(auto)]
 
 mod around;
+mod build;
 mod codes;
 mod copies;
 mod grow;
 mod growing;
+mod jumps;
+mod names;
 mod node;
 mod shape;
 mod shaping;
+mod table;
 
 pub use codes::Codes;
 pub use node::{
@@ -16,3 +20,4 @@ pub use node::{
     OverShape, ParallelNode, TryNode, WorkNode,
 };
 pub use shape::{NamedShape, NamedShapes, Piece, Pieces, Shape, Shapes};
+pub use table::{Table, table_of};
