@@ -10,7 +10,7 @@ pub record Lies (ns : List Spot) (n : ℕ) (xs : List Spot) : Type 0 where
 at_front : (ns : List Spot) (n : ℕ) (s : Spot) (l : List Spot) → drop n ns ≡ s ∷ l → slice_get ns n ≡ Some s
 at_front [] zero s l h = absurd (cc)
 at_front [] (suc n) s l h = absurd (cc)
-at_front (x ∷ ns) zero s l h = ap Some (cc)
+at_front (x ∷ ns) zero s l h = let e : x ≡ s = cc in ap Some e
 at_front (x ∷ ns) (suc n) s l h = at_front ns n s l h
 
 next_on : (ns : List Spot) (n : ℕ) (s : Spot) (l : List Spot) → drop n ns ≡ s ∷ l → drop (suc n) ns ≡ l

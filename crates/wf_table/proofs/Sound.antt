@@ -265,7 +265,7 @@ flows_sound ns (f ∷ fs) n h =
 
 at : (ns : List Spot) (xs : List Spot) (n i : ℕ) (s : Spot) → AllSound ns n xs → slice_get xs i ≡ Some s → Sound ns (n + i) s
 at ns [] n i s h is = absurd (cc)
-at ns (x ∷ xs) n zero s h is = subst (λ (m : ℕ). Sound ns m s) (sym (stay n)) (subst (λ (y : Spot). Sound ns n y) (cc) h.0)
+at ns (x ∷ xs) n zero s h is = let e : x ≡ s = cc in subst (λ (m : ℕ). Sound ns m s) (sym (stay n)) (subst (λ (y : Spot). Sound ns n y) e h.0)
 at ns (x ∷ xs) n (suc i) s h is = subst (λ (m : ℕ). Sound ns m s) (sym (moved n i)) (at ns xs (suc n) i s h.1 is)
 
 -- each part of a program

@@ -4,6 +4,7 @@ pub mod Decoded
 pub mod Kinds
 pub mod Made
 pub mod Named
+pub mod Preorder
 pub mod Shapes
 pub mod Spots
 pub mod Table

@@ -1,5 +1,5 @@
 -- Numbers by names.
-use Rattle.std.specs.Prelude.{◌≡◌, ℕ, List, [], ◌∷◌, slice_get, Option, None, Some, bytes_eq, nat_lt, if◌then◌else◌}
+use Rattle.std.specs.Prelude.{◌≡◌, ℕ, Bool, true, false, List, [], ◌∷◌, slice_get, Option, None, Some, bytes_eq, nat_lt, if◌then◌else◌}
 use Rattle.std.specs.BTreeMap.{get_by_text}
 use Rattle.wf_shared.specs.HttpUrl.{first_of_two}
 use Rattle.wf_value.specs.Pairs.{Text}
@@ -37,11 +37,15 @@ depth_of (Some b) = b.depth
 abbrev pub Finds : List View → List Names → Type 0
 Finds views lists = (n : ℕ) (names : Names) → slice_get lists n ≡ Some names → (x : Text) → number_of names x ≡ first_named views x (numbers_of (list_at views n))
 
+-- whether a jump leads out of the list that a node of this kind owns
+abbrev pub is_left : Kind → Bool
+is_left (kind.Block b) = true
+is_left (kind.Try n policy x) = true
+is_left k = false
+
 -- whose list a jump may reach from a node's own list
 abbrev pub owner_outside : Kind → Option ℕ → Option ℕ
-owner_outside (kind.Block b) o = o
-owner_outside (kind.Try n policy x) o = o
-owner_outside k o = None
+owner_outside k o = if is_left k then o else None
 
 abbrev pub outer_of : View → Option ℕ
 outer_of x = owner_outside x.kind x.owner

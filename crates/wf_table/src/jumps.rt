@@ -10,7 +10,7 @@ ghost use Rattle.wf_value.specs.Pairs.{Text as Bytes};
 
 use crate::grow::add;
 use crate::names::{Names, names_of};
-use crate::node::{Block, Jump, Node, NodeKind, WorkNode};
+use crate::node::{Jump, Node};
 use std::alloc::Global;
 use wf_value::OutOfMemory;
 
@@ -43,35 +43,10 @@ fn all_names(alloc: Global, nodes: &[Node]) -> Result<Vec<Names>, OutOfMemory>
 fn list_names(alloc: Global, nodes: &[Node], node: &Node) -> Result<Names, OutOfMemory>
     ensures { IfOk result (λ names. (x : Bytes) → number_of names x ≡ first_named (map node_view nodes.now) x (numbers_of (kind_list (node_view node.now).kind))) }
 {
-    match &node.kind {
-        NodeKind::Flow(flow) => block_names(alloc, nodes, &flow.block),
-        NodeKind::For(repeated) => block_names(alloc, nodes, &repeated.block),
-        NodeKind::Parallel(parallel) => match &parallel.work {
-            WorkNode::Branches(_) => Ok(Names::new(alloc)),
-            WorkNode::Loop(repeated) => block_names(alloc, nodes, &repeated.block),
-        },
-        NodeKind::Block(block) => block_names(alloc, nodes, block),
-        NodeKind::Try(tried) => match &tried.except {
-            None => Ok(Names::new(alloc)),
-            Some(except) => block_names(alloc, nodes, &except.block),
-        },
-        NodeKind::Branch(block) => block_names(alloc, nodes, block),
-        NodeKind::Nothing
-        | NodeKind::Assign(_)
-        | NodeKind::Call(_)
-        | NodeKind::Switch(_)
-        | NodeKind::Raise(_)
-        | NodeKind::Return(_)
-        | NodeKind::Arm(_)
-        | NodeKind::Entry(_) => Ok(Names::new(alloc)),
+    match node.kind.block() {
+        None => Ok(Names::new(alloc)),
+        Some(block) => names_of(alloc, nodes, block.steps.as_slice()),
     }
-}
-
-// The names of the steps of a list.
-fn block_names(alloc: Global, nodes: &[Node], block: &Block) -> Result<Names, OutOfMemory>
-    ensures { IfOk result (λ names. (x : Bytes) → number_of names x ≡ first_named (map node_view nodes.now) x block.now.steps.items) }
-{
-    names_of(alloc, nodes, block.steps.as_slice())
 }
 
 // Where a node jumps.
@@ -110,39 +85,28 @@ fn jump_to(nodes: &[Node], lists: &[Names], node: &Node, name: &str) -> Option<J
 fn depth(node: &Node) -> u32
     ensures { result ≡ depth_of (kind_list (node_view node.now).kind) }
 {
-    match &node.kind {
-        NodeKind::Flow(flow) => flow.block.depth,
-        NodeKind::For(repeated) => repeated.block.depth,
-        NodeKind::Parallel(parallel) => match &parallel.work {
-            WorkNode::Branches(_) => 0,
-            WorkNode::Loop(repeated) => repeated.block.depth,
-        },
-        NodeKind::Block(block) => block.depth,
-        NodeKind::Try(tried) => match &tried.except {
-            None => 0,
-            Some(except) => except.block.depth,
-        },
-        NodeKind::Branch(block) => block.depth,
-        NodeKind::Nothing
-        | NodeKind::Assign(_)
-        | NodeKind::Call(_)
-        | NodeKind::Switch(_)
-        | NodeKind::Raise(_)
-        | NodeKind::Return(_)
-        | NodeKind::Arm(_)
-        | NodeKind::Entry(_) => 0,
+    match node.kind.block() {
+        None => 0,
+        Some(block) => block.depth,
     }
 }
 
-// Whose list a jump may reach from the own list of the node of this number. Its number is less.
+// Whose list a jump may reach from a node's own list.
+fn outer(node: &Node) -> Option<u32>
+    ensures { result ≡ outer_of (node_view node.now) }
+{
+    if node.kind.is_left() {
+        node.owner
+    } else {
+        None
+    }
+}
+
+// The same, of the node of this number. A number that isn't less is none.
 fn outside(node: &Node, number: u32) -> Option<u32>
     ensures { result ≡ below number (outer_of (node_view node.now)) }
 {
-    let outer = match &node.kind {
-        NodeKind::Block(_) | NodeKind::Try(_) => node.owner,
-        _ => None,
-    };
-    match outer {
+    match outer(node) {
         Some(outer) if outer < number => Some(outer),
         _ => None,
     }

@@ -8,6 +8,7 @@ mod copies;
 mod grow;
 mod growing;
 mod jumps;
+mod laws;
 mod names;
 mod node;
 mod shape;
@@ -15,6 +16,7 @@ mod shaping;
 mod table;
 
 pub use codes::Codes;
+pub use laws::{codes_decode, preorder};
 pub use node::{
     Block, CallNode, EntryNode, ExceptNode, FlowNode, Jump, LoopNode, Node, NodeKind,
     OverShape, ParallelNode, TryNode, WorkNode,

@@ -1,8 +1,8 @@
 // The numbers of steps and workflows by their names.
-ghost use Rattle.std.specs.Prelude.{◌≡◌, None, Some, bytes_eq, if◌then◌else◌, IfOk, OnOk, map};
+ghost use Rattle.std.specs.Prelude.{◌≡◌, None, Some, bytes_eq, if◌then◌else◌, IfOk, OnOk, map, slice_get};
 ghost use Rattle.wf_shared.specs.HttpUrl.{first_of_two};
 ghost use Rattle.wf_table.specs.Kinds.{node_view};
-ghost use Rattle.wf_table.specs.Named.{first_named, number_of, when_named};
+ghost use Rattle.wf_table.specs.Named.{first_named, node_named, number_of, when_named};
 ghost use Rattle.wf_value.specs.Pairs.{Text as Bytes};
 
 use crate::node::Node;
@@ -42,16 +42,30 @@ impl Names {
     fn add(&mut self, name: &str, number: u32) -> Result<(), OutOfMemory>
         ensures { OnOk result ((x : Bytes) → number_of self.new x ≡ first_of_two (number_of self.old x) (when_named x name.now number)) }
     {
-        if self.find(name).is_some() {
-            return Ok(());
+        match self.find(name) {
+            Some(_) => return Ok(()),
+            None => {}
         }
         let Ok(copy) = String::from_str(self.alloc, name) else {
             return Err(OutOfMemory);
         };
         match self.numbers.insert(copy, number) {
-            Ok(_) => Ok(()),
-            Err(_) => Err(OutOfMemory),
+            Ok(_) => {}
+            Err(_) => return Err(OutOfMemory),
         }
+        Ok(())
+    }
+
+    // Adds the number of a node's name, unless the name has one. A number behind the last node has no name.
+    #[tactic(auto, using(crate::proofs::Naming::unnamed))]
+    fn add_node(&mut self, nodes: &[Node], number: u32) -> Result<(), OutOfMemory>
+        ensures { OnOk result ((x : Bytes) → number_of self.new x ≡ first_of_two (number_of self.old x) (node_named x number (slice_get (map node_view nodes.now) number))) }
+    {
+        let place = number as usize;
+        if place >= nodes.len() {
+            return Ok(());
+        }
+        self.add(nodes[place].name.as_str(), number)
     }
 }
 
@@ -65,9 +79,7 @@ pub(crate) fn names_of(
 {
     let mut names = Names::new(alloc);
     for number in numbers {
-        if (*number as usize) < nodes.len() {
-            names.add(nodes[*number as usize].name.as_str(), *number)?;
-        }
+        names.add_node(nodes, *number)?;
     }
     Ok(names)
 }

@@ -1,4 +1,10 @@
 //! Nodes.
+ghost use Rattle.std.specs.Prelude.{◌≡◌, option_copied, option_map};
+ghost use Rattle.wf_table.specs.Kinds.{block_view, handler_view, kind_by, side_by};
+ghost use Rattle.wf_table.specs.Named.{is_left};
+ghost use Rattle.wf_table.specs.Shapes.{Compiled};
+ghost use Rattle.wf_table.specs.Table.{handler_list, kind_list, side_list};
+
 use crate::codes::Codes;
 use crate::shape::{NamedShapes, Shape};
 use wf_ast::{Params, Policy, Texts};
@@ -127,4 +133,74 @@ pub struct Node {
     pub jump: Option<Jump>,
     /// Whose list of steps it stands in, if a jump from it may reach one.
     pub owner: Option<u32>,
+}
+
+impl NodeKind {
+    /// The list of steps that a node of this kind owns.
+    pub fn block(&self) -> Option<&Block>
+        ensures { (cs : Compiled) → option_map block_view (option_copied result) ≡ kind_list (kind_by cs self.now) }
+    {
+        match self {
+            NodeKind::Flow(flow) => Some(&flow.block),
+            NodeKind::Nothing => None,
+            NodeKind::Assign(_) => None,
+            NodeKind::Call(_) => None,
+            NodeKind::Switch(_) => None,
+            NodeKind::For(repeated) => Some(&repeated.block),
+            NodeKind::Parallel(parallel) => parallel.work.block(),
+            NodeKind::Block(block) => Some(block),
+            NodeKind::Try(tried) => tried.block(),
+            NodeKind::Raise(_) => None,
+            NodeKind::Return(_) => None,
+            NodeKind::Arm(_) => None,
+            NodeKind::Entry(_) => None,
+            NodeKind::Branch(block) => Some(block),
+        }
+    }
+
+    /// Whether a jump leads out of that list: it leads out of a block and of the steps that take an error.
+    pub fn is_left(&self) -> bool
+        ensures { (cs : Compiled) → result ≡ is_left (kind_by cs self.now) }
+    {
+        match self {
+            NodeKind::Flow(_) => false,
+            NodeKind::Nothing => false,
+            NodeKind::Assign(_) => false,
+            NodeKind::Call(_) => false,
+            NodeKind::Switch(_) => false,
+            NodeKind::For(_) => false,
+            NodeKind::Parallel(_) => false,
+            NodeKind::Block(_) => true,
+            NodeKind::Try(_) => true,
+            NodeKind::Raise(_) => false,
+            NodeKind::Return(_) => false,
+            NodeKind::Arm(_) => false,
+            NodeKind::Entry(_) => false,
+            NodeKind::Branch(_) => false,
+        }
+    }
+}
+
+impl WorkNode {
+    // The list of steps of a parallel loop.
+    fn block(&self) -> Option<&Block>
+        ensures { (cs : Compiled) → option_map block_view (option_copied result) ≡ side_list (side_by cs self.now) }
+    {
+        match self {
+            WorkNode::Branches(_) => None,
+            WorkNode::Loop(repeated) => Some(&repeated.block),
+        }
+    }
+}
+
+impl TryNode {
+    // The list of the steps that take an error.
+    fn block(&self) -> Option<&Block>
+        ensures { option_map block_view (option_copied result) ≡ handler_list (handler_view self.now.except) }
+    {
+        match &self.except {
+            None => None,
+            Some(except) => Some(&except.block),
+        }
+    }
 }
