@@ -75,6 +75,6 @@ placed a b c d p x s n xs held at h put is =
 pub held_next : (a b : List Node) (p : Node) (n : ℕ) → n ≡ length a → b ≡ a ++ p ∷ [] → suc n ≡ length b
 held_next a b p n at held = ap suc at ∙ (let e : suc (length a) ≡ length a + 1 = omega arith in e) ∙ sym (ap length held ∙ length-append a (p ∷ []))
 
-pub ok_then : {T E : Type 0} (P Q : T → Type 0) (r : Result T E) → ((x : T) → P x → Q x) → IfOk r P → IfOk r Q
-ok_then P Q (Ok x) f h = f x h
-ok_then P Q (Err e) f h = tt
+pub ok_then : {T E : Type 0} (P Q : T → Type 0) (r : Result T E) → IfOk r P → ((x : T) → P x → Q x) → IfOk r Q
+ok_then P Q (Ok x) h f = f x h
+ok_then P Q (Err e) h f = tt

@@ -20,8 +20,8 @@ pub record Going {X : Type 0} (parts : List X → ℕ → List Spot) (numbers : 
   pub rest : done ++ parts left (length b) ≡ parts all (length a)
   pub counted : found ++ numbers left (length b) ≡ numbers all (length a)
 
-pub begins : {X : Type 0} (parts : List X → ℕ → List Spot) (numbers : List X → ℕ → List ℕ) (a : List Node) (all : List X) → Going parts numbers a a all all []
-begins parts numbers a all = record { done = []; adds = nothing a; rest = refl; counted = refl }
+pub begins : {X : Type 0} (parts : List X → ℕ → List Spot) (numbers : List X → ℕ → List ℕ) (a : List Node) (all : List X) (found : List ℕ) → found ≡ [] → Going parts numbers a a all all found
+begins parts numbers a all found none = record { done = []; adds = nothing a; rest = refl; counted = ap (λ l. l ++ numbers all (length a)) none }
 
 pub goes : {X : Type 0} (parts : List X → ℕ → List Spot) (numbers : List X → ℕ → List ℕ) (own : X → ℕ → List Spot) → Lays parts numbers own → (a b c : List Node) (all : List X) (i : ℕ) (x : X) (found more : List ℕ) (n : ℕ)
     → i < length all → x ≡ get_or all i x → n ≡ length b → more ≡ found ++ n ∷ [] → Adds b c (own x (length b)) → Going parts numbers a b all (drop i all) found → Going parts numbers a c all (drop (i + 1) all) more

@@ -329,9 +329,9 @@ fn over(alloc: Global, over: &Over, codes: &mut Codes) -> Result<OverShape, OutO
 {
     match over {
         Over::List(items) => Ok(OverShape::List(shape(alloc, items, codes)?)),
-        Over::Range(first, last) => {
-            let first = shape(alloc, first, codes)?;
-            let last = shape(alloc, last, codes)?;
+        Over::Range(low, high) => {
+            let first = shape(alloc, low, codes)?;
+            let last = shape(alloc, high, codes)?;
             Ok(OverShape::Range(first, last))
         }
     }

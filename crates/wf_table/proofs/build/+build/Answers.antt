@@ -23,7 +23,7 @@ one_on n = omega arith
 
 -- ## Lists of steps
 pub block-loop-step-init : goal.block-loop-step-init
-block-loop-step-init t c = λ os st. begins (step_parts os) numbers_of_steps _ _
+block-loop-step-init t c = λ os st. begins (step_parts os) numbers_of_steps _ _ _ c.new-numbers.ensures.items
 
 pub block-loop-step-preserved : goal.block-loop-step-preserved
 block-loop-step-preserved t c = λ os st.
@@ -138,7 +138,7 @@ kind-returns-in_ok-shape-in-Return t c = λ os st at.
 
 -- ## Arms
 pub arms-loop-item-init : goal.arms-loop-item-init
-arms-loop-item-init t c = λ os st. begins (arm_parts os) numbers_of_arms _ _
+arms-loop-item-init t c = λ os st. begins (arm_parts os) numbers_of_arms _ _ _ c.new-numbers.ensures.items
 
 pub arms-loop-item-preserved : goal.arms-loop-item-preserved
 arms-loop-item-preserved t c = λ os st.
@@ -199,7 +199,7 @@ work-returns-in_ok-loop_node-in-Loop t c = λ os st at.
     (then kind.Iterations _ _ (λ cs. loop_by cs l) _ h.0) h.1
 
 pub branches-loop-item-init : goal.branches-loop-item-init
-branches-loop-item-init t c = λ os st. begins (branch_parts os) numbers_of_branches _ _
+branches-loop-item-init t c = λ os st. begins (branch_parts os) numbers_of_branches _ _ _ c.new-numbers.ensures.items
 
 pub branches-loop-item-preserved : goal.branches-loop-item-preserved
 branches-loop-item-preserved t c = λ os st.

@@ -3,7 +3,7 @@ use Rattle.wf_table.proofs.Laid.{flow_own, flow_parts, flows_lay, numbers_of_flo
 use Rattle.wf_table.proofs.build.flows.Goals as goal
 
 pub loop-flow-init : goal.loop-flow-init
-loop-flow-init c = begins flow_parts numbers_of_flows _ _
+loop-flow-init c = begins flow_parts numbers_of_flows _ _ _ c.new-numbers.ensures.items
 
 pub loop-flow-preserved : goal.loop-flow-preserved
 loop-flow-preserved c =

@@ -15,7 +15,7 @@ pub returns-in-Range : goal.returns-in-Range
 returns-in-Range c =
     let s = c.in_ok-first.first in
     let u = c.in_ok-last.last in
-    let x = template_view c.in-Range.first in
-    let y = template_view c.in-Range.last in
+    let x = template_view c.in-Range.low in
+    let y = template_view c.in-Range.high in
     alike _ _ (λ cs. tree.InRange (shape_by cs s) (shape_by cs u)) _ (tree.InRange x y) _ (λ cs. refl) (sym (ap over_view c.in-Range.is))
     (both tree.InRange _ _ _ (λ cs. shape_by cs s) (λ cs. shape_by cs u) x y c.in_ok-first.ensures c.in_ok-last.ensures)

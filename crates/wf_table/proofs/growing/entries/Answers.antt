@@ -3,7 +3,7 @@ use Rattle.wf_table.proofs.Laid.{entries_lay, entry_own, entry_parts, numbers_of
 use Rattle.wf_table.proofs.growing.entries.Goals as goal
 
 pub loop-entry-init : goal.loop-entry-init
-loop-entry-init c = λ os st. begins (entry_parts os) numbers_of_entries _ _
+loop-entry-init c = λ os st. begins (entry_parts os) numbers_of_entries _ _ _ c.new-numbers.ensures.items
 
 pub loop-entry-preserved : goal.loop-entry-preserved
 loop-entry-preserved c = λ os st.
