@@ -4,11 +4,11 @@ pub mod Decoding
 pub mod Forms
 pub mod Found
 pub mod Going
+pub mod InOrder
 pub mod Jumping
 pub mod Laid
 pub mod Lying
 pub mod Naming
-pub mod Preorder
 pub mod Sizes
 pub mod Sound
 pub mod Tabled

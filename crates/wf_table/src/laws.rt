@@ -6,7 +6,7 @@ ghost use Rattle.wf_table.specs.Preorder.{InPreorder};
 ghost use Rattle.std.specs.Prelude.{◌≡◌};
 
 /// The parts of a program are the nodes of the checker's rules, in the same order.
-#[tactic(auto, using(crate::proofs::Preorder::in_preorder))]
+#[tactic(auto, using(crate::proofs::InOrder::in_preorder))]
 pub fn preorder()
     ensures { InPreorder }
 {}
