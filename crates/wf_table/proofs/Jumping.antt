@@ -51,7 +51,7 @@ part_within (s ∷ ns) (suc n) h = part_within ns n (omega arith)
 
 -- ## Names
 -- a step's name is that of its node
-named_at : (views : List View) (ns : List Spot) (x : Text) (n : ℕ) → views ≡ views_for 0 ns → n < length ns → node_named x n (slice_get views n) ≡ when_named x (part_name (part_at ns n)) n
+pub named_at : (views : List View) (ns : List Spot) (x : Text) (n : ℕ) → views ≡ views_for 0 ns → n < length ns → node_named x n (slice_get views n) ≡ when_named x (part_name (part_at ns n)) n
 named_at views ns x n made h =
     let p = part_within ns n h in
     ap (node_named x n) (view_at views ns n made ∙ ap (option_map (view_for n)) p.1) ∙ ap (λ (o : Option Spot). when_named x (part_name (spot_part o)) n) (sym p.1)

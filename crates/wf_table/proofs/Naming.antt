@@ -1,7 +1,7 @@
 -- Numbers by names, as names are added.
 use Rattle.std.proofs.Common.{◌≡◌, ℕ, suc, ◌+◌, ◌<◌, ◌≤◌, Bool, true, false, cond, List, [], ◌∷◌, ◌++◌, drop, length, map, slice_get, get_or, Option, option_map, None, Some, is_some, Result, Ok, Err, OnOk, String, Global, string_bytes, refl, sym, ap, ◌∙◌, subst, bytes_eq}
 use Rattle.std.proofs.lemmas.List.{drop_all, drop_more}
-use Rattle.std.proofs.lemmas.Option.{slice_get-map, slice_get_past}
+use Rattle.std.proofs.lemmas.Option.{slice_get-map}
 use Rattle.std.proofs.lemmas.Slice.Eq.{bytes_eq-Decides}
 use Rattle.std.specs.Bool.{one_answer}
 use Rattle.wf_shared.specs.HttpUrl.{first_of_two}
@@ -45,17 +45,18 @@ takes_number s t l x name n is none new = new ∙ ap (λ (b : Bool). cond b (Som
     by true e = ap (λ o. first_of_two o (Some n)) (sym (ap (number_of s) ((bytes_eq-Decides x name).0 e) ∙ none))
     by false e = sym (none_behind (number_of s x))
 
-pub on_ok : {T E : Type 0} (P Q : Type 0) (r : Result T E) → (P → Q) → OnOk r P → OnOk r Q
-on_ok P Q (Ok x) f h = f h
-on_ok P Q (Err e) f h = tt
+pub on_ok : {T E : Type 0} (P Q : Type 0) (r : Result T E) → OnOk r P → (P → Q) → OnOk r Q
+on_ok P Q (Ok x) h f = f h
+on_ok P Q (Err e) h f = tt
 
 -- one number more
-pub name_turn : (views : List View) (numbers : List ℕ) (i n : ℕ) (s t : Names) (x : Text) → i < length numbers → n ≡ get_or numbers i n
+pub name_turn : (views : List View) (numbers : List ℕ) (i d : ℕ) (s t : Names) (x : Text) → i < length numbers
     → first_of_two (number_of s x) (first_named views x (drop i numbers)) ≡ first_named views x numbers
-    → number_of t x ≡ first_of_two (number_of s x) (node_named x n (slice_get views n))
+    → number_of t x ≡ first_of_two (number_of s x) (node_named x (get_or numbers i d) (slice_get views (get_or numbers i d)))
     → first_of_two (number_of t x) (first_named views x (drop (i + 1) numbers)) ≡ first_named views x numbers
-name_turn views numbers i n s t x within is so_far more =
-    let next : drop i numbers ≡ n ∷ drop (i + 1) numbers = drop_more numbers i n within ∙ ap (λ y. y ∷ drop (i + 1) numbers) (sym is) in
+name_turn views numbers i d s t x within so_far more =
+    let n = get_or numbers i d in
+    let next : drop i numbers ≡ n ∷ drop (i + 1) numbers = drop_more numbers i d within in
     ap (λ o. first_of_two o (first_named views x (drop (i + 1) numbers))) more
     ∙ sym (three (number_of s x) (node_named x n (slice_get views n)) (first_named views x (drop (i + 1) numbers)))
     ∙ ap (λ l. first_of_two (number_of s x) (first_named views x l)) (sym next)
@@ -70,8 +71,8 @@ pub name_start : (views : List View) (numbers : List ℕ) (s : Names) (x : Text)
 name_start views numbers s x none = ap (λ o. first_of_two o (first_named views x numbers)) none
 
 -- behind the last node there is no name
-pub unnamed : (nodes : List Node) (n : ℕ) (x : Text) (o : Option ℕ) → length nodes ≤ n → o ≡ first_of_two o (node_named x n (slice_get (map node_view nodes) n))
-unnamed nodes n x o past = sym (ap (λ v. first_of_two o (node_named x n v)) (slice_get-map node_view nodes n ∙ ap (option_map node_view) (slice_get_past nodes n past)) ∙ none_behind o)
+pub unnamed : (nodes : List Node) (n : ℕ) (x : Text) (o : Option ℕ) → slice_get nodes n ≡ None → o ≡ first_of_two o (node_named x n (slice_get (map node_view nodes) n))
+unnamed nodes n x o past = sym (ap (λ v. first_of_two o (node_named x n v)) (slice_get-map node_view nodes n ∙ ap (option_map node_view) past) ∙ none_behind o)
 
 -- a node's name
 pub named_node : (nodes : List Node) (n : ℕ) (x : Text) (node : Node) → slice_get nodes n ≡ Some node → when_named x node.name n ≡ node_named x n (slice_get (map node_view nodes) n)

@@ -43,7 +43,7 @@ all_append : (ns : List Spot) (xs ys : List Spot) (n m : ℕ) → n + length xs 
 all_append ns [] ys n m is h k = subst (λ (z : ℕ). AllSound ns z ys) (sym is ∙ stay n) k
 all_append ns (x ∷ xs) ys n m is h k = (h.0, all_append ns xs ys (suc n) m (sym (moved n (length xs)) ∙ is) h.1 k)
 
-later : (ns : List Spot) (os : List ℕ) (n m : ℕ) → n < suc m → Nested ns n os → Nested ns m os
+pub later : (ns : List Spot) (os : List ℕ) (n m : ℕ) → n < suc m → Nested ns n os → Nested ns m os
 later ns [] n m le h = tt
 later ns (o ∷ os) n m le h = (below h.0, h.1)
   where

@@ -1,7 +1,7 @@
 -- A table whose nodes are those of the parts of a program.
 use Rattle.std.proofs.Common.{◌≡◌, ℕ, zero, suc, ◌+◌, ◌<◌, ◌≤◌, List, [], ◌∷◌, ◌++◌, length, map, set, slice_get, Option, option_map, None, Some, ◌⊎◌, inl, inr, refl, sym, ap, ◌∙◌, subst, arith}
 use Rattle.std.proofs.lemmas.List.{append-nil, length-map}
-use Rattle.std.proofs.lemmas.Option.{slice_get-map}
+use Rattle.std.proofs.lemmas.Option.{slice_get-map, slice_get_within}
 use Rattle.wf_ast.specs.Tree.{Flow}
 use Rattle.wf_shared.specs.HttpUrl.{first_of_two}
 use Rattle.wf_table.proofs.Adding.{views_length}
@@ -13,7 +13,7 @@ use Rattle.wf_table.specs.Built.{flow_number}
 use Rattle.wf_table.specs.Kinds.{View, node_view}
 use Rattle.wf_table.specs.Made.{Adds, flow_numbers, view_for, views_for}
 use Rattle.wf_table.specs.Named.{Finds, first_named, number_of, numbers_of, when_named}
-use Rattle.wf_table.specs.Spots.{FlowAt, Spot, flow_spots, flows_spots, part_name, spots, steps_size}
+use Rattle.wf_table.specs.Spots.{FlowAt, Spot, flow_spots, flows_spots, owners_at, part_name, spots, steps_size}
 use Rattle.wf_table.specs.Table.{Describes, EachLeads, NextLeads, Resolves, kind_list, list_at, view_list}
 use Rattle.wf_table.specs.declared.names.Names.{Names}
 use Rattle.wf_table.specs.declared.node.Node.{Node}
@@ -60,6 +60,28 @@ written (x ∷ nodes) (suc i) (suc k) y z h is = on (written nodes i k y z (omeg
     on : ((k ≡ i) × (y ≡ z)) ⊎ ((k < i) × (slice_get nodes k ≡ Some z)) → ((suc k ≡ suc i) × (y ≡ z)) ⊎ ((suc k < suc i) × (slice_get nodes k ≡ Some z))
     on (inl e) = inl (ap suc e.0, e.1)
     on (inr e) = inr (let l : k < i = e.0 in omega arith, e.1)
+
+-- one node's jump more
+pub jumps_turn : (fs : List Flow) (first now new : List Node) (n : ℕ) (x y : Node) → slice_get now n ≡ Some x → new ≡ set now n y → y.next ≡ x.next
+    → map node_view now ≡ map node_view first → NextLeads (spots fs) (map node_view now) x.next y.jump (owners_at (spots fs) n)
+    → ((k : ℕ) (z : Node) → k < n → slice_get now k ≡ Some z → NextLeads (spots fs) (map node_view first) z.next z.jump (owners_at (spots fs) k))
+    → (k : ℕ) (z : Node) → k < n + 1 → slice_get new k ≡ Some z → NextLeads (spots fs) (map node_view first) z.next z.jump (owners_at (spots fs) k)
+jumps_turn fs first now new n x y is put next same leads before k z below there = by (written now n k y z below (ap (λ l. slice_get l k) (sym put) ∙ there))
+  where
+    by : ((k ≡ n) × (y ≡ z)) ⊎ ((k < n) × (slice_get now k ≡ Some z)) → NextLeads (spots fs) (map node_view first) z.next z.jump (owners_at (spots fs) k)
+    by (inr e) = before k z e.0 e.1
+    by (inl e) =
+        subst (λ (v : List View). NextLeads (spots fs) v z.next z.jump (owners_at (spots fs) k)) same
+        (subst (λ (w : Node). NextLeads (spots fs) (map node_view now) w.next w.jump (owners_at (spots fs) k)) e.1
+        (subst (λ (m : ℕ). NextLeads (spots fs) (map node_view now) y.next y.jump (owners_at (spots fs) m)) (sym e.0)
+        (subst (λ (o : Option Text). NextLeads (spots fs) (map node_view now) o y.jump (owners_at (spots fs) n)) (sym next) leads)))
+
+-- all of them
+pub each_leads : (fs : List Flow) (first now : List Node) (n : ℕ) → length now ≤ n → map node_view now ≡ map node_view first
+    → ((k : ℕ) (z : Node) → k < n → slice_get now k ≡ Some z → NextLeads (spots fs) (map node_view first) z.next z.jump (owners_at (spots fs) k)) → EachLeads (spots fs) now
+each_leads fs first now n past same h = λ i x is.
+    let l : i < length now = slice_get_within now i x is in
+    subst (λ (v : List View). NextLeads (spots fs) v x.next x.jump (owners_at (spots fs) i)) (sym same) (h i x (omega arith) is)
 
 -- ## The names of one list after another
 at_push : {X : Type 0} (xs : List X) (y z : X) (n : ℕ) → slice_get (xs ++ y ∷ []) n ≡ Some z → (slice_get xs n ≡ Some z) ⊎ ((n ≡ length xs) × (y ≡ z))

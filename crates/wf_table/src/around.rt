@@ -34,7 +34,8 @@ impl Here {
 
     // In the list of this node, within the others.
     pub(crate) fn inside(self, owner: u32) -> Result<Here, OutOfMemory>
-        ensures { IfOk result (λ inner. (os : List ℕ) → StandsIn self os → StandsIn inner (owner ∷ os)) }
+        ensures { IfOk result (λ inner. (os : List ℕ) → StandsIn self os
+            → StandsIn inner (owner ∷ os)) }
     {
         match self.depth.checked_add(1) {
             Some(depth) => Ok(Here {

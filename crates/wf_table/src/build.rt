@@ -30,8 +30,10 @@ pub(crate) fn flows(
     nodes: &mut Vec<Node>,
     flows: &[Flow],
 ) -> Result<Vec<u32>, OutOfMemory>
-    ensures numbers { IfOk result (λ v. v.items ≡ flow_numbers (map flow_view flows.now) (length nodes.old.items)) }
-    ensures adds { IfOk result (λ v. Adds nodes.old.items nodes.new.items (flows_spots (map flow_view flows.now) (length nodes.old.items))) }
+    ensures numbers { IfOk result (λ v. v.items
+        ≡ flow_numbers (map flow_view flows.now) (length nodes.old.items)) }
+    ensures adds { IfOk result (λ v. Adds nodes.old.items nodes.new.items
+        (flows_spots (map flow_view flows.now) (length nodes.old.items))) }
 {
     let mut numbers = Vec::new(alloc);
     for flow in flows {
@@ -43,7 +45,8 @@ pub(crate) fn flows(
 // The nodes of a workflow, and its number.
 fn flow_node(alloc: Global, nodes: &mut Vec<Node>, flow: &Flow) -> Result<u32, OutOfMemory>
     ensures number { IfOk result (λ n. n ≡ length nodes.old.items) }
-    ensures adds { IfOk result (λ n. Adds nodes.old.items nodes.new.items (flow_spots (flow_view flow.now) (length nodes.old.items))) }
+    ensures adds { IfOk result (λ n. Adds nodes.old.items nodes.new.items
+        (flow_spots (flow_view flow.now) (length nodes.old.items))) }
 {
     let number = hold(alloc, nodes)?;
     let block = block(alloc, nodes, Here::alone(number), &flow.steps)?;
@@ -69,8 +72,9 @@ fn block(
     steps: &StepList,
 ) -> Result<Block, OutOfMemory>
     ensures { IfOk result (λ b. (os : List ℕ) → StandsIn inner os
-        → (block_view b ≡ listed (step_numbers (steps_in steps.now) (length nodes.old.items)) (length os))
-        × Adds nodes.old.items nodes.new.items (steps_spots (steps_in steps.now) (length nodes.old.items) os)) }
+        → (block_view b ≡ listed (step_numbers (steps_in steps.now) (length nodes.old.items))
+        (length os)) × Adds nodes.old.items nodes.new.items
+        (steps_spots (steps_in steps.now) (length nodes.old.items) os)) }
 {
     let mut numbers = Vec::new(alloc);
     for step in steps.items() {
@@ -99,7 +103,8 @@ fn body(
 ) -> Result<u32, OutOfMemory>
     ensures number { IfOk result (λ n. n ≡ length nodes.old.items) }
     ensures adds { IfOk result (λ n. (os : List ℕ) → StandsIn here os
-        → Adds nodes.old.items nodes.new.items (step_spots (t.step name (body_view body.now) next) (length nodes.old.items) os)) }
+        → Adds nodes.old.items nodes.new.items
+        (step_spots (t.step name (body_view body.now) next) (length nodes.old.items) os)) }
 {
     let number = hold(alloc, nodes)?;
     let mut codes = Codes::new(alloc);
@@ -126,8 +131,10 @@ fn kind(
     body: &Body,
     codes: &mut Codes,
 ) -> Result<NodeKind, OutOfMemory>
-    ensures { IfOk result (λ k. (os : List ℕ) → StandsIn here os → suc number ≡ length nodes.old.items
-        → Compiles (code_list codes.old) (code_list codes.new) (λ cs. kind_by cs k) (body_for number (length os) (body_view body.now))
+    ensures { IfOk result (λ k. (os : List ℕ) → StandsIn here os
+        → suc number ≡ length nodes.old.items
+        → Compiles (code_list codes.old) (code_list codes.new) (λ cs. kind_by cs k)
+        (body_for number (length os) (body_view body.now))
         × Adds nodes.old.items nodes.new.items (body_spots (body_view body.now) number os)) }
 {
     match body {
@@ -167,7 +174,8 @@ fn arms(
 ) -> Result<Vec<u32>, OutOfMemory>
     ensures { IfOk result (λ v. (os : List ℕ) → StandsIn here os
         → (v.items ≡ arm_numbers (t.arms (map arm_view arms.now)) (length nodes.old.items))
-        × Adds nodes.old.items nodes.new.items (arms_spots (t.arms (map arm_view arms.now)) (length nodes.old.items) os)) }
+        × Adds nodes.old.items nodes.new.items
+        (arms_spots (t.arms (map arm_view arms.now)) (length nodes.old.items) os)) }
 {
     let mut numbers = Vec::new(alloc);
     for item in arms {
@@ -189,7 +197,8 @@ fn loop_node(
     codes: &mut Codes,
 ) -> Result<LoopNode, OutOfMemory>
     ensures { IfOk result (λ l. suc number ≡ length nodes.old.items
-        → Compiles (code_list codes.old) (code_list codes.new) (λ cs. loop_by cs l) (loop_for number (loop_view repeated.now))
+        → Compiles (code_list codes.old) (code_list codes.new) (λ cs. loop_by cs l)
+        (loop_for number (loop_view repeated.now))
         × Adds nodes.old.items nodes.new.items (loop_spots (loop_view repeated.now) number)) }
 {
     let over = over(alloc, &repeated.over, codes)?;
@@ -212,8 +221,10 @@ fn work(
     work: &Work,
     codes: &mut Codes,
 ) -> Result<WorkNode, OutOfMemory>
-    ensures { IfOk result (λ w. (os : List ℕ) → StandsIn here os → suc number ≡ length nodes.old.items
-        → Compiles (code_list codes.old) (code_list codes.new) (λ cs. side_by cs w) (side_for number (work_view work.now))
+    ensures { IfOk result (λ w. (os : List ℕ) → StandsIn here os
+        → suc number ≡ length nodes.old.items
+        → Compiles (code_list codes.old) (code_list codes.new) (λ cs. side_by cs w)
+        (side_for number (work_view work.now))
         × Adds nodes.old.items nodes.new.items (work_spots (work_view work.now) number os)) }
 {
     match work {
@@ -238,8 +249,10 @@ fn branches(
     branches: &[Branch],
 ) -> Result<Vec<u32>, OutOfMemory>
     ensures { IfOk result (λ v. (os : List ℕ) → StandsIn here os
-        → (v.items ≡ branch_numbers (t.branches (map branch_view branches.now)) (length nodes.old.items))
-        × Adds nodes.old.items nodes.new.items (branches_spots (t.branches (map branch_view branches.now)) (length nodes.old.items) os)) }
+        → (v.items ≡ branch_numbers (t.branches (map branch_view branches.now))
+        (length nodes.old.items))
+        × Adds nodes.old.items nodes.new.items
+        (branches_spots (t.branches (map branch_view branches.now)) (length nodes.old.items) os)) }
 {
     let mut numbers = Vec::new(alloc);
     for item in branches {
@@ -258,8 +271,9 @@ fn branch(
 ) -> Result<u32, OutOfMemory>
     ensures number { IfOk result (λ n. n ≡ length nodes.old.items) }
     ensures adds { IfOk result (λ n. (os : List ℕ) → StandsIn here os
-        → Adds nodes.old.items nodes.new.items (spot (BranchAt (branch_view branch.now).0 (branch_view branch.now).1) os
-        ∷ steps_spots (branch_view branch.now).1 (suc (length nodes.old.items)) (length nodes.old.items ∷ []))) }
+        → Adds nodes.old.items nodes.new.items
+        (spot (BranchAt (branch_view branch.now).0 (branch_view branch.now).1) os ∷ steps_spots
+        (branch_view branch.now).1 (suc (length nodes.old.items)) (length nodes.old.items ∷ []))) }
 {
     let number = hold(alloc, nodes)?;
     let block = block(alloc, nodes, Here::alone(number), &branch.steps)?;
@@ -284,8 +298,10 @@ fn try_node(
     number: u32,
     tried: &TryBody,
 ) -> Result<TryNode, OutOfMemory>
-    ensures { IfOk result (λ x. (os : List ℕ) → StandsIn here os → suc number ≡ length nodes.old.items
-        → (kind.Try x.body (policy_option_view x.policy) (handler_view x.except) ≡ try_for number (length os) (try_view tried.now))
+    ensures { IfOk result (λ x. (os : List ℕ) → StandsIn here os
+        → suc number ≡ length nodes.old.items
+        → (kind.Try x.body (policy_option_view x.policy) (handler_view x.except)
+        ≡ try_for number (length os) (try_view tried.now))
         × Adds nodes.old.items nodes.new.items (try_spots (try_view tried.now) number os)) }
 {
     let name = Text::new(alloc, "")?;
@@ -308,8 +324,10 @@ fn handler(
     except: &Option<Except>,
 ) -> Result<Option<ExceptNode>, OutOfMemory>
     ensures { IfOk result (λ x. (o : ℕ) (os : List ℕ) → StandsIn inner (o ∷ os)
-        → (handler_view x ≡ handler_for (length nodes.old.items) (length os) (except_option_view except.now))
-        × Adds nodes.old.items nodes.new.items (except_spots (except_option_view except.now) (length nodes.old.items) (o ∷ os))) }
+        → (handler_view x ≡ handler_for (length nodes.old.items) (length os)
+        (except_option_view except.now))
+        × Adds nodes.old.items nodes.new.items
+        (except_spots (except_option_view except.now) (length nodes.old.items) (o ∷ os))) }
 {
     match except {
         None => Ok(None),
@@ -325,7 +343,8 @@ fn handler(
 
 // What a loop runs over.
 fn over(alloc: Global, over: &Over, codes: &mut Codes) -> Result<OverShape, OutOfMemory>
-    ensures { IfOk result (λ o. Compiles (code_list codes.old) (code_list codes.new) (λ cs. over_by cs o) (over_view over.now)) }
+    ensures { IfOk result (λ o. Compiles (code_list codes.old) (code_list codes.new)
+        (λ cs. over_by cs o) (over_view over.now)) }
 {
     match over {
         Over::List(items) => Ok(OverShape::List(shape(alloc, items, codes)?)),
@@ -339,7 +358,8 @@ fn over(alloc: Global, over: &Over, codes: &mut Codes) -> Result<OverShape, OutO
 
 // What a node has of a call.
 fn call_node(alloc: Global, call: &CallBody, codes: &mut Codes) -> Result<CallNode, OutOfMemory>
-    ensures { IfOk result (λ x. Compiles (code_list codes.old) (code_list codes.new) (λ cs. call_by cs x) (call_view call.now)) }
+    ensures { IfOk result (λ x. Compiles (code_list codes.old) (code_list codes.new)
+        (λ cs. call_by cs x) (call_view call.now)) }
 {
     let args = named(alloc, call.args.items(), codes)?;
     Ok(CallNode {

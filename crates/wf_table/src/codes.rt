@@ -37,7 +37,8 @@ impl Codes {
 
     /// Adds the code of an expression, and says its place.
     pub(crate) fn add(&mut self, alloc: Global, e: &Expr) -> Result<u32, OutOfMemory>
-        ensures { IfOk result (λ n. (n ≡ length self.old.items.items) × AddsCode self.old.items.items self.new.items.items (expr_view e.now)) }
+        ensures { IfOk result (λ n. (n ≡ length self.old.items.items)
+            × AddsCode self.old.items.items self.new.items.items (expr_view e.now)) }
     {
         let Ok(place) = u32::try_from(self.items.len()) else {
             return Err(OutOfMemory);

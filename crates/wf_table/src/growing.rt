@@ -32,7 +32,8 @@ fn push(nodes: &mut Vec<Node>, node: Node) -> Result<u32, OutOfMemory>
 // A place at the end, for a node that is put there when its parts are.
 pub(crate) fn hold(alloc: Global, nodes: &mut Vec<Node>) -> Result<u32, OutOfMemory>
     ensures number { IfOk result (λ n. n ≡ length nodes.old.items) }
-    ensures grown { IfOk result (λ n. (p : TheNode) × (nodes.new.items ≡ nodes.old.items ++ p ∷ [])) }
+    ensures grown { IfOk result (λ n. (p : TheNode)
+        × (nodes.new.items ≡ nodes.old.items ++ p ∷ [])) }
 {
     let node = Node {
         kind: NodeKind::Nothing,
@@ -63,8 +64,9 @@ fn leaf(
     codes: Codes,
 ) -> Result<u32, OutOfMemory>
     ensures number { IfOk result (λ n. n ≡ length nodes.old.items) }
-    ensures adds { IfOk result (λ n. (s : Spot) → leaf_view here.owner (kind_by (code_list codes) kind) ≡ view_for (length nodes.old.items) s
-        → Adds nodes.old.items nodes.new.items (s ∷ [])) }
+    ensures adds { IfOk result (λ n. (s : Spot)
+        → leaf_view here.owner (kind_by (code_list codes) kind)
+        ≡ view_for (length nodes.old.items) s → Adds nodes.old.items nodes.new.items (s ∷ [])) }
 {
     let node = Node {
         kind,
@@ -85,7 +87,9 @@ pub(crate) fn arm(
     condition: &Template,
 ) -> Result<u32, OutOfMemory>
     ensures number { IfOk result (λ n. n ≡ length nodes.old.items) }
-    ensures adds { IfOk result (λ n. (os : List ℕ) → StandsIn here os → Adds nodes.old.items nodes.new.items (spot (ArmAt (template_view condition.now)) os ∷ [])) }
+    ensures adds { IfOk result (λ n. (os : List ℕ) → StandsIn here os
+        → Adds nodes.old.items nodes.new.items
+        (spot (ArmAt (template_view condition.now)) os ∷ [])) }
 {
     let mut codes = Codes::new(alloc);
     let condition = shape(alloc, condition, &mut codes)?;
@@ -100,7 +104,8 @@ pub(crate) fn entries(
     entries: &[Entry],
 ) -> Result<Vec<u32>, OutOfMemory>
     ensures { IfOk result (λ v. (os : List ℕ) → StandsIn here os
-        → (v.items ≡ entry_numbers (map entry_view entries.now) (length nodes.old.items)) × Adds nodes.old.items nodes.new.items (entries_spots (map entry_view entries.now) os)) }
+        → (v.items ≡ entry_numbers (map entry_view entries.now) (length nodes.old.items))
+        × Adds nodes.old.items nodes.new.items (entries_spots (map entry_view entries.now) os)) }
 {
     let mut numbers = Vec::new(alloc);
     for entry in entries {
@@ -117,7 +122,8 @@ fn entry_node(
     entry: &Entry,
 ) -> Result<u32, OutOfMemory>
     ensures number { IfOk result (λ n. n ≡ length nodes.old.items) }
-    ensures adds { IfOk result (λ n. (os : List ℕ) → StandsIn here os → Adds nodes.old.items nodes.new.items (spot (EntryAt (entry_view entry.now)) os ∷ [])) }
+    ensures adds { IfOk result (λ n. (os : List ℕ) → StandsIn here os
+        → Adds nodes.old.items nodes.new.items (spot (EntryAt (entry_view entry.now)) os ∷ [])) }
 {
     let mut codes = Codes::new(alloc);
     let form = entry_form(alloc, entry, &mut codes)?;
@@ -126,7 +132,9 @@ fn entry_node(
 
 // What a node has of an entry.
 fn entry_form(alloc: Global, entry: &Entry, codes: &mut Codes) -> Result<EntryNode, OutOfMemory>
-    ensures { IfOk result (λ e. code_list codes.old ≡ [] → Compiles (code_list codes.old) (code_list codes.new) (λ cs. entry_by cs e) (entry_view entry.now)) }
+    ensures { IfOk result (λ e. code_list codes.old ≡ []
+        → Compiles (code_list codes.old) (code_list codes.new) (λ cs. entry_by cs e)
+        (entry_view entry.now)) }
 {
     let places = places(alloc, entry.target.places.items(), codes)?;
     let value = shape(alloc, &entry.value, codes)?;
@@ -141,7 +149,8 @@ fn entry_form(alloc: Global, entry: &Entry, codes: &mut Codes) -> Result<EntryNo
 // The codes of places, and how many there are.
 fn places(alloc: Global, places: &[Expr], codes: &mut Codes) -> Result<u32, OutOfMemory>
     ensures count { IfOk result (λ n. n ≡ length places.now) }
-    ensures codes { IfOk result (λ n. Reads (code_list codes.old) (code_list codes.new) (map expr_view places.now)) }
+    ensures codes { IfOk result (λ n. Reads (code_list codes.old) (code_list codes.new)
+        (map expr_view places.now)) }
 {
     let Ok(count) = u32::try_from(places.len()) else {
         return Err(OutOfMemory);

@@ -17,7 +17,9 @@ use wf_value::OutOfMemory;
 // Puts where each node jumps.
 pub(crate) fn set_jumps(alloc: Global, nodes: &mut Vec<Node>) -> Result<(), OutOfMemory>
     ensures views { OnOk result (map node_view nodes.new.items ≡ map node_view nodes.old.items) }
-    ensures jumps { OnOk result ((fs : List Flow) → map node_view nodes.old.items ≡ views_for 0 (spots fs) → EachLeads (spots fs) nodes.new.items) }
+    ensures jumps { OnOk result ((fs : List Flow)
+        → map node_view nodes.old.items ≡ views_for 0 (spots fs)
+        → EachLeads (spots fs) nodes.new.items) }
 {
     let lists = all_names(alloc, nodes.as_slice())?;
     for index in 0..nodes.len() {
@@ -41,7 +43,9 @@ fn all_names(alloc: Global, nodes: &[Node]) -> Result<Vec<Names>, OutOfMemory>
 
 // The names of the steps of a node's list.
 fn list_names(alloc: Global, nodes: &[Node], node: &Node) -> Result<Names, OutOfMemory>
-    ensures { IfOk result (λ names. (x : Bytes) → number_of names x ≡ first_named (map node_view nodes.now) x (numbers_of (kind_list (node_view node.now).kind))) }
+    ensures { IfOk result (λ names. (x : Bytes)
+        → number_of names x ≡ first_named (map node_view nodes.now) x
+        (numbers_of (kind_list (node_view node.now).kind))) }
 {
     match node.kind.block() {
         None => Ok(Names::new(alloc)),
@@ -51,8 +55,11 @@ fn list_names(alloc: Global, nodes: &[Node], node: &Node) -> Result<Names, OutOf
 
 // Where a node jumps.
 fn jump_of(nodes: &[Node], lists: &[Names], node: &Node) -> Option<Jump>
-    ensures { (fs : List Flow) (i : ℕ) → map node_view nodes.now ≡ views_for 0 (spots fs) → length lists.now ≡ length nodes.now → Finds (map node_view nodes.now) lists.now → slice_get nodes.now i ≡ Some node.now
-        → NextLeads (spots fs) (map node_view nodes.now) node.now.next result (owners_at (spots fs) i) }
+    ensures { (fs : List Flow) (i : ℕ) → map node_view nodes.now ≡ views_for 0 (spots fs)
+        → length lists.now ≡ length nodes.now → Finds (map node_view nodes.now) lists.now
+        → slice_get nodes.now i ≡ Some node.now
+        → NextLeads (spots fs) (map node_view nodes.now) node.now.next result
+        (owners_at (spots fs) i) }
 {
     match &node.next {
         None => None,
@@ -62,21 +69,24 @@ fn jump_of(nodes: &[Node], lists: &[Names], node: &Node) -> Option<Jump>
 
 // Where a jump from a node leads: into the first of the lists around it, innermost first, that has a step of the name.
 fn jump_to(nodes: &[Node], lists: &[Names], node: &Node, name: &str) -> Option<Jump>
-    ensures { (fs : List Flow) (i : ℕ) → map node_view nodes.now ≡ views_for 0 (spots fs) → length lists.now ≡ length nodes.now → Finds (map node_view nodes.now) lists.now → slice_get nodes.now i ≡ Some node.now
+    ensures { (fs : List Flow) (i : ℕ) → map node_view nodes.now ≡ views_for 0 (spots fs)
+        → length lists.now ≡ length nodes.now → Finds (map node_view nodes.now) lists.now
+        → slice_get nodes.now i ≡ Some node.now
         → Leads (spots fs) (map node_view nodes.now) name.now result (owners_at (spots fs) i) }
 {
     let mut next = node.owner;
     while let Some(owner) = next {
-        let place = owner as usize;
-        if place >= nodes.len() || place >= lists.len() {
+        let Some(around) = nodes.get(owner as usize) else {
             return None;
-        }
-        let found = lists[place].find(name);
-        if let Some(to) = found {
-            let keep = depth(&nodes[place]);
+        };
+        let Some(names) = lists.get(owner as usize) else {
+            return None;
+        };
+        if let Some(to) = names.find(name) {
+            let keep = depth(around);
             return Some(Jump { keep, to });
         }
-        next = outside(&nodes[place], owner);
+        next = outside(around, owner);
     }
     None
 }

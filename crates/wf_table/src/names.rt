@@ -40,7 +40,9 @@ impl Names {
 
     // Adds the number of a name, unless the name has one.
     fn add(&mut self, name: &str, number: u32) -> Result<(), OutOfMemory>
-        ensures { OnOk result ((x : Bytes) → number_of self.new x ≡ first_of_two (number_of self.old x) (when_named x name.now number)) }
+        ensures { OnOk result ((x : Bytes)
+            → number_of self.new x
+            ≡ first_of_two (number_of self.old x) (when_named x name.now number)) }
     {
         match self.find(name) {
             Some(_) => return Ok(()),
@@ -57,15 +59,16 @@ impl Names {
     }
 
     // Adds the number of a node's name, unless the name has one. A number behind the last node has no name.
-    #[tactic(auto, using(crate::proofs::Naming::unnamed))]
     fn add_node(&mut self, nodes: &[Node], number: u32) -> Result<(), OutOfMemory>
-        ensures { OnOk result ((x : Bytes) → number_of self.new x ≡ first_of_two (number_of self.old x) (node_named x number (slice_get (map node_view nodes.now) number))) }
+        ensures { OnOk result ((x : Bytes)
+            → number_of self.new x
+            ≡ first_of_two (number_of self.old x)
+            (node_named x number (slice_get (map node_view nodes.now) number))) }
     {
-        let place = number as usize;
-        if place >= nodes.len() {
-            return Ok(());
+        match nodes.get(number as usize) {
+            None => Ok(()),
+            Some(node) => self.add(node.name.as_str(), number),
         }
-        self.add(nodes[place].name.as_str(), number)
     }
 }
 
@@ -75,7 +78,8 @@ pub(crate) fn names_of(
     nodes: &[Node],
     numbers: &[u32],
 ) -> Result<Names, OutOfMemory>
-    ensures { IfOk result (λ names. (x : Bytes) → number_of names x ≡ first_named (map node_view nodes.now) x numbers.now) }
+    ensures { IfOk result (λ names. (x : Bytes)
+        → number_of names x ≡ first_named (map node_view nodes.now) x numbers.now) }
 {
     let mut names = Names::new(alloc);
     for number in numbers {

@@ -138,7 +138,8 @@ pub struct Node {
 impl NodeKind {
     /// The list of steps that a node of this kind owns.
     pub fn block(&self) -> Option<&Block>
-        ensures { (cs : Compiled) → option_map block_view (option_copied result) ≡ kind_list (kind_by cs self.now) }
+        ensures { (cs : Compiled) → option_map block_view (option_copied result)
+            ≡ kind_list (kind_by cs self.now) }
     {
         match self {
             NodeKind::Flow(flow) => Some(&flow.block),
@@ -184,7 +185,8 @@ impl NodeKind {
 impl WorkNode {
     // The list of steps of a parallel loop.
     fn block(&self) -> Option<&Block>
-        ensures { (cs : Compiled) → option_map block_view (option_copied result) ≡ side_list (side_by cs self.now) }
+        ensures { (cs : Compiled) → option_map block_view (option_copied result)
+            ≡ side_list (side_by cs self.now) }
     {
         match self {
             WorkNode::Branches(_) => None,
@@ -196,7 +198,8 @@ impl WorkNode {
 impl TryNode {
     // The list of the steps that take an error.
     fn block(&self) -> Option<&Block>
-        ensures { option_map block_view (option_copied result) ≡ handler_list (handler_view self.now.except) }
+        ensures { option_map block_view (option_copied result)
+            ≡ handler_list (handler_view self.now.except) }
     {
         match &self.except {
             None => None,

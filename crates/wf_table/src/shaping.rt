@@ -15,7 +15,8 @@ use wf_value::OutOfMemory;
 // The shape of a template.
 #[cycle(shaping)]
 pub(crate) fn shape(alloc: Global, t: &Template, codes: &mut Codes) -> Result<Shape, OutOfMemory>
-    ensures { IfOk result (λ s. Compiles (code_list codes.old) (code_list codes.new) (λ cs. shape_by cs s) (template_view t.now)) }
+    ensures { IfOk result (λ s. Compiles (code_list codes.old) (code_list codes.new)
+        (λ cs. shape_by cs s) (template_view t.now)) }
 {
     match t {
         Template::Lit(v) => Ok(Shape::Lit(v.copy(alloc)?)),
@@ -29,7 +30,8 @@ pub(crate) fn shape(alloc: Global, t: &Template, codes: &mut Codes) -> Result<Sh
 // The shapes of templates.
 #[cycle(shaping)]
 fn shapes(alloc: Global, ts: &[Template], codes: &mut Codes) -> Result<Shapes, OutOfMemory>
-    ensures { IfOk result (λ ss. Compiles (code_list codes.old) (code_list codes.new) (λ cs. map (shape_by cs) (shape_list ss)) (map template_view ts.now)) }
+    ensures { IfOk result (λ ss. Compiles (code_list codes.old) (code_list codes.new)
+        (λ cs. map (shape_by cs) (shape_list ss)) (map template_view ts.now)) }
 {
     let mut items = Vec::new(alloc);
     for t in ts {
@@ -45,7 +47,8 @@ pub(crate) fn named(
     fs: &[NamedTemplate],
     codes: &mut Codes,
 ) -> Result<NamedShapes, OutOfMemory>
-    ensures { IfOk result (λ ns. Compiles (code_list codes.old) (code_list codes.new) (λ cs. map (named_by cs) (named_list ns)) (map field_view fs.now)) }
+    ensures { IfOk result (λ ns. Compiles (code_list codes.old) (code_list codes.new)
+        (λ cs. map (named_by cs) (named_list ns)) (map field_view fs.now)) }
 {
     let mut items = Vec::new(alloc);
     for f in fs {
@@ -58,7 +61,8 @@ pub(crate) fn named(
 
 // The pieces of a joined text.
 fn pieces(alloc: Global, parts: &[Part], codes: &mut Codes) -> Result<Pieces, OutOfMemory>
-    ensures { IfOk result (λ ps. Compiles (code_list codes.old) (code_list codes.new) (λ cs. map (piece_by cs) (piece_list ps)) (map part_view parts.now)) }
+    ensures { IfOk result (λ ps. Compiles (code_list codes.old) (code_list codes.new)
+        (λ cs. map (piece_by cs) (piece_list ps)) (map part_view parts.now)) }
 {
     let mut items = Vec::new(alloc);
     for part in parts {
@@ -69,7 +73,8 @@ fn pieces(alloc: Global, parts: &[Part], codes: &mut Codes) -> Result<Pieces, Ou
 
 // The piece of a part.
 fn piece(alloc: Global, part: &Part, codes: &mut Codes) -> Result<Piece, OutOfMemory>
-    ensures { IfOk result (λ p. Compiles (code_list codes.old) (code_list codes.new) (λ cs. piece_by cs p) (part_view part.now)) }
+    ensures { IfOk result (λ p. Compiles (code_list codes.old) (code_list codes.new)
+        (λ cs. piece_by cs p) (part_view part.now)) }
 {
     match part {
         Part::Text(x) => Ok(Piece::Text(x.copy()?)),

@@ -44,9 +44,11 @@ impl Table {
 /// There may be no memory for it.
 pub fn table_of(alloc: Global, program: &Program) -> Result<Table, OutOfMemory>
     // Each node is the part of its number, and jumps lead where the names of steps say.
-    ensures resolves { IfOk result (λ t. Resolves (spots (program_view program.now).flows) (node_list t)) }
+    ensures resolves { IfOk result (λ t. Resolves (spots (program_view program.now).flows)
+        (node_list t)) }
     // A workflow's number is that of the first of its name.
-    ensures flows { IfOk result (λ t. (x : Bytes) → flow_of t x ≡ flow_number x (program_view program.now).flows 0) }
+    ensures flows { IfOk result (λ t. (x : Bytes)
+        → flow_of t x ≡ flow_number x (program_view program.now).flows 0) }
 {
     let mut nodes = Vec::new(alloc);
     let numbers = flows(alloc, &mut nodes, program.flows.items())?;

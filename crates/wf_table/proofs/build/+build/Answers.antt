@@ -49,7 +49,7 @@ pub body-returns-clause-adds : goal.body-returns-clause-adds
 body-returns-clause-adds t c = λ os st.
     let x = body_view c.args.body.now in
     let a = c.args.nodes.now.items in
-    let b = c.hold-number.new.nodes.items in
+    let b = c.hold.new.nodes.items in
     let d = c.put.new.nodes.items in
     let n = c.in_ok-number.number in
     let at = c.in_ok-number.ensures.number in
@@ -57,10 +57,10 @@ body-returns-clause-adds t c = λ os st.
     let next = held_next a b p.0 n at p.1 in
     let h = c.in_ok-kind.ensures os st next in
     let s = spot (BodyAt c.args.name x c.args.next) os in
-    let codes = code_list c.kind-kind.new.codes in
+    let codes = code_list c.kind.new.codes in
     let is = in_all _ codes (λ cs. kind_by cs c.in_ok-kind.kind) (body_for n (length os) x) h.0 in
     of_these a d (s ∷ body_spots x n os) _ (ap (λ m. s ∷ body_spots x m os) at)
-    (placed a b c.kind-kind.new.nodes.items d p.0 _ s n (body_spots x n os) p.1 at h.1 c.put.ensures
+    (placed a b c.kind.new.nodes.items d p.0 _ s n (body_spots x n os) p.1 at h.1 c.put.ensures
     (λ i. record { kind = is i; name = c.args.name; next = c.args.next; owner = st.owner i }))
 
 -- ## Kinds
@@ -218,7 +218,7 @@ branch-returns-clause-adds t c = λ os st.
     let is = branch_is c.args.branch.now in
     let ss = steps_in r.steps in
     let a = c.args.nodes.now.items in
-    let b = c.hold-number.new.nodes.items in
+    let b = c.hold.new.nodes.items in
     let d = c.put.new.nodes.items in
     let n = c.in_ok-number.number in
     let at = c.in_ok-number.ensures.number in
@@ -227,7 +227,7 @@ branch-returns-clause-adds t c = λ os st.
     let h = c.in_ok-block.ensures (n ∷ []) c.alone.ensures in
     let s = spot (BranchAt r.name ss) os in
     of_these a d (s ∷ steps_spots ss (suc n) (n ∷ [])) _ (λ i. spot (BranchAt (sym is i).0 (sym is i).1) os ∷ steps_spots (sym is i).1 (suc (at i)) (at i ∷ []))
-    (placed a b c.block-block.new.nodes.items d p.0 _ s n (steps_spots ss (suc n) (n ∷ [])) p.1 at (of_these b c.block-block.new.nodes.items _ _ (ap (λ m. steps_spots ss m (n ∷ [])) (sym next)) h.1) c.put.ensures
+    (placed a b c.block.new.nodes.items d p.0 _ s n (steps_spots ss (suc n) (n ∷ [])) p.1 at (of_these b c.block.new.nodes.items _ _ (ap (λ m. steps_spots ss m (n ∷ [])) (sym next)) h.1) c.put.ensures
     (λ i. record { kind = kind.Branch ((h.0 ∙ ap (λ m. listed (step_numbers ss m) 1) (sym next)) i); name = c.in_ok-copy.ensures i; next = None; owner = st.owner i }))
 
 -- ## `try`
@@ -239,8 +239,8 @@ try_node-returns t c = λ os st at.
     let x = body_view r.body.value in
     let y = except_option_view r.except in
     let a = c.args.nodes.now.items in
-    let b = c.body-under.new.nodes.items in
-    let d = c.handler-except.new.nodes.items in
+    let b = c.body.new.nodes.items in
+    let d = c.handler.new.nodes.items in
     let first : Adds a b (step_spots (tree.step [] x None) (length a) os) = of_these a b _ _ (ap (λ z. step_spots (tree.step z x None) (length a) os) c.in_ok-name.ensures) (c.in_ok-under.ensures.adds os st) in
     let behind_it = behind a b n x os at first in
     let h = c.in_ok-except.ensures n os (c.in_ok-inner.ensures os st) in

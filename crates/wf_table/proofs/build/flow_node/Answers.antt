@@ -12,7 +12,7 @@ pub returns-clause-adds : goal.returns-clause-adds
 returns-clause-adds c =
     let f = c.args.flow.now in
     let a = c.args.nodes.now.items in
-    let b = c.hold-number.new.nodes.items in
+    let b = c.hold.new.nodes.items in
     let n = c.in_ok-number.number in
     let at = c.in_ok-number.ensures.number in
     let ss = steps_in f.steps in
@@ -20,8 +20,8 @@ returns-clause-adds c =
     let h = c.in_ok-block.ensures (n ∷ []) c.alone.ensures in
     of_these a c.put.new.nodes.items (spot (FlowAt (flow_view f)) [] ∷ steps_spots ss (suc n) (n ∷ [])) _
     (λ i. spot (FlowAt (flow_view f)) [] ∷ steps_spots (steps_level f.steps i) (suc (at i)) (at i ∷ []))
-    (placed a b c.block-block.new.nodes.items c.put.new.nodes.items c.in_ok-number.ensures.grown.0 _ (spot (FlowAt (flow_view f)) []) n (steps_spots ss (suc n) (n ∷ []))
-    c.in_ok-number.ensures.grown.1 at (of_these b c.block-block.new.nodes.items _ _ (ap (λ m. steps_spots ss m (n ∷ [])) (sym next)) h.1) c.put.ensures
+    (placed a b c.block.new.nodes.items c.put.new.nodes.items c.in_ok-number.ensures.grown.0 _ (spot (FlowAt (flow_view f)) []) n (steps_spots ss (suc n) (n ∷ []))
+    c.in_ok-number.ensures.grown.1 at (of_these b c.block.new.nodes.items _ _ (ap (λ m. steps_spots ss m (n ∷ [])) (sym next)) h.1) c.put.ensures
     (λ i. record {
       kind = kind.Flow (c.in_ok-params.ensures i) ((h.0 ∙ (λ j. listed (step_numbers (steps_level f.steps j) (sym next j)) 1)) i);
       name = c.in_ok-copy.ensures i;

@@ -10,4 +10,4 @@ returns-in-None c = λ x. c.new.ensures x ∙ ap (λ l. first_named (map node_vi
 
 pub returns-in-Some : goal.returns-in-Some
 returns-in-Some c =
-    ok_then _ _ c.names_of.result c.names_of.ensures (λ names h x. h x ∙ ap (λ l. first_named (map node_view c.args.nodes.now) x (numbers_of l)) (c.in-Some.ensures (code_list c.args.node.now.codes)))
+    ok_then _ _ c.names_of.result c.names_of.ensures (λ names h x. h x ∙ ap (first_named (map node_view c.args.nodes.now) x) c.as_slice.ensures.value ∙ ap (λ l. first_named (map node_view c.args.nodes.now) x (numbers_of l)) (c.in-Some.ensures (code_list c.args.node.now.codes)))

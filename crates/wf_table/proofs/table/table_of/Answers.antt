@@ -11,7 +11,7 @@ use Rattle.wf_table.specs.declared.node.Node.{Node}
 pub returns-clause-resolves : goal.returns-clause-resolves
 returns-clause-resolves c =
     let fs = (program_view c.args.program.now).flows in
-    let nodes = c.flows-numbers.new.nodes.items in
+    let nodes = c.flows.new.nodes.items in
     let items = map flow_view c.items.result.now in
     let made : map node_view nodes ≡ views_for 0 (spots fs) =
         c.in_ok-numbers.ensures.adds.views
@@ -22,7 +22,7 @@ returns-clause-resolves c =
 pub returns-clause-flows : goal.returns-clause-flows
 returns-clause-flows c = λ x.
     let fs = (program_view c.args.program.now).flows in
-    let nodes = c.flows-numbers.new.nodes.items in
+    let nodes = c.flows.new.nodes.items in
     let last = c.set_jumps.new.nodes.items in
     let items = map flow_view c.items.result.now in
     let made : map node_view nodes ≡ views_for 0 (spots fs) =
