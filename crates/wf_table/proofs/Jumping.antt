@@ -1,6 +1,7 @@
 -- Where a jump leads, by the names of the steps of each list.
 use Rattle.std.proofs.Common.{◌≡◌, ℕ, zero, suc, ◌+◌, ◌<◌, ◌≤◌, ltb, Bool, true, false, cond, List, [], ◌∷◌, ◌++◌, length, map, slice_get, Option, option_map, None, Some, ◌⊎◌, inl, inr, refl, sym, ap, ◌∙◌, subst, bytes_eq, arith}
 use Rattle.std.proofs.lemmas.Bool.Decides.{Decides-ltb}
+use Rattle.std.proofs.lemmas.List.{length-map}
 use Rattle.std.proofs.lemmas.Option.{slice_get-map, slice_get_within}
 use Rattle.wf_ast.specs.Tree.{Step, Steps, no_steps, more, Body, ParallelBody, parallel, Work, OfBranches, OfLoop, TryBody, try, Except, no_except, except, Flow}
 use Rattle.wf_model.specs.Unwind.{from_step}
@@ -320,6 +321,14 @@ leads_in fs nodes x all o node j made is some keeps h =
     h.leads (Some j) (inl (into views ns x j o h.os (outside k (owners_at ns o)) (kind_list k) made outer lists
     (ap part_list so.describes.part ∙ list_steps ns (part_name p) (part_next p) k) so.describes.list
     (ap (λ l. first_named views x (numbers_of l)) (sym lists) ∙ some) (keeps ∙ ap (λ (v : View). depth_of (kind_list v.kind)) s.2)))
+
+-- an owner has a node
+pub has_node : (fs : List Flow) (nodes : List Node) (x : Text) (all : List ℕ) (next : Option ℕ) (o : ℕ) → map node_view nodes ≡ views_for 0 (spots fs) → next ≡ Some o → Outward fs (map node_view nodes) x all next
+    → length nodes ≤ o → ⊥
+has_node fs nodes x all next o made some h past =
+    let long : length nodes ≡ length (spots fs) = sym (length-map nodes node_view) ∙ ap length made ∙ views_length 0 (spots fs) in
+    let bound : o < length (spots fs) = (inner fs (map node_view nodes) x all next o some h).bound in
+    omega arith
 
 -- ## That the way ends
 abbrev pub rank : Option ℕ → ℕ

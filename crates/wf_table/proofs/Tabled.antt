@@ -16,6 +16,7 @@ use Rattle.wf_table.specs.Named.{Finds, first_named, number_of, numbers_of, when
 use Rattle.wf_table.specs.Spots.{FlowAt, Spot, flow_spots, flows_spots, owners_at, part_name, spots, steps_size}
 use Rattle.wf_table.specs.Table.{Describes, EachLeads, NextLeads, Resolves, kind_list, list_at, view_list}
 use Rattle.wf_table.specs.declared.names.Names.{Names}
+use Rattle.wf_table.specs.declared.node.Jump.{Jump}
 use Rattle.wf_table.specs.declared.node.Node.{Node}
 use Rattle.wf_value.specs.Pairs.{Text}
 
@@ -60,6 +61,11 @@ written (x ∷ nodes) (suc i) (suc k) y z h is = on (written nodes i k y z (omeg
     on : ((k ≡ i) × (y ≡ z)) ⊎ ((k < i) × (slice_get nodes k ≡ Some z)) → ((suc k ≡ suc i) × (y ≡ z)) ⊎ ((suc k < suc i) × (slice_get nodes k ≡ Some z))
     on (inl e) = inl (ap suc e.0, e.1)
     on (inr e) = inr (let l : k < i = e.0 in omega arith, e.1)
+
+-- where a node jumps, in any program of these nodes
+abbrev pub JumpsTo : List Node → List Names → Node → Option Jump → Type 0
+JumpsTo nodes lists node j = (fs : List Flow) (i : ℕ) → map node_view nodes ≡ views_for 0 (spots fs) → length lists ≡ length nodes → Finds (map node_view nodes) lists → slice_get nodes i ≡ Some node
+    → NextLeads (spots fs) (map node_view nodes) node.next j (owners_at (spots fs) i)
 
 -- one node's jump more
 pub jumps_turn : (fs : List Flow) (first now new : List Node) (n : ℕ) (x y : Node) → slice_get now n ≡ Some x → new ≡ set now n y → y.next ≡ x.next

@@ -8,7 +8,7 @@ loop-number-init c = λ x. name_start (map node_view c.args.nodes.now) c.args.nu
 
 pub loop-number-preserved : goal.loop-number-preserved
 loop-number-preserved c = λ x.
-    name_turn (map node_view c.args.nodes.now) c.args.numbers.now c.loop-number.number-index 0 c.loop-number.names _ x c.loop-number-test.true (c.loop-number.invariant x) (c.in_ok-add_node.ensures x)
+    name_turn (map node_view c.args.nodes.now) c.args.numbers.now c.loop-number.number-index 0 c.loop-number.names c.add_node.new.self x c.loop-number-test.true (c.loop-number.invariant x) (c.in_ok-add_node.ensures x)
 
 pub returns : goal.returns
 returns c = λ x. name_end (map node_view c.args.nodes.now) c.args.numbers.now c.loop-number.number-index c.loop-number.names x c.loop-number-test.false (c.loop-number.invariant x)
