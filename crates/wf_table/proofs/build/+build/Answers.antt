@@ -99,22 +99,22 @@ kind-returns-in_ok-loop_node-in-For t c = λ os st at.
     formed _ _ _ _ (λ cs. kind.For (loop_by cs l)) c.args.number os (tree.Body.For (loop_view c.in-For.repeated)) _ (ap body_view c.in-For.is)
     (then kind.For _ _ (λ cs. loop_by cs l) _ h.0) h.1
 
-pub kind-returns-in-Parallel : goal.kind-returns-in-Parallel
-kind-returns-in-Parallel t c = λ os st at.
+pub kind-returns-in_ok-texts-in-Parallel : goal.kind-returns-in_ok-texts-in-Parallel
+kind-returns-in_ok-texts-in-Parallel t c = λ os st at.
     let p = c.in-Parallel.parallel in
-    let w = c.in_ok-work.field-0 in
-    let shared = texts_view c.in_ok-texts.field-0 in
-    let h = c.in_ok-work.ensures os st at in
+    let w = c.in_ok-work-in-Parallel.field-0 in
+    let shared = texts_view c.in_ok-texts-in-Parallel.field-0 in
+    let h = c.in_ok-work-in-Parallel.ensures os st at in
     let z = side_for c.args.number (work_view p.work) in
     formed _ _ _ _ (λ cs. kind.Parallel shared p.limit (side_by cs w)) c.args.number os (tree.Body.Parallel (tree.parallel (texts_view p.shared) p.limit (work_view p.work))) _ (ap body_view c.in-Parallel.is)
-    (alike _ _ (λ cs. kind.Parallel shared p.limit (side_by cs w)) _ (kind.Parallel shared p.limit z) _ (λ cs. refl) (ap (λ xs. kind.Parallel xs p.limit z) c.in_ok-texts.ensures) (then (kind.Parallel shared p.limit) _ _ (λ cs. side_by cs w) z h.0)) h.1
+    (alike _ _ (λ cs. kind.Parallel shared p.limit (side_by cs w)) _ (kind.Parallel shared p.limit z) _ (λ cs. refl) (ap (λ xs. kind.Parallel xs p.limit z) c.in_ok-texts-in-Parallel.ensures) (then (kind.Parallel shared p.limit) _ _ (λ cs. side_by cs w) z h.0)) h.1
 
 pub kind-returns-in_ok-block-in-Block : goal.kind-returns-in_ok-block-in-Block
 kind-returns-in_ok-block-in-Block t c = λ os st at.
     let n = c.args.number in
     let ss = steps_in c.in-Block.list in
     let b = c.in_ok-block-in-Block.field-0 in
-    let h = c.in_ok-block-in-Block.ensures (n ∷ os) (c.in_ok-inside.ensures os st) in
+    let h = c.in_ok-block-in-Block.ensures (n ∷ os) (c.in_ok-inside-in-Block.ensures os st) in
     formed _ _ _ _ (λ cs. kind.Block (block_view b)) n os (tree.Body.Block ss) _ (ap body_view c.in-Block.is)
     (plainly _ _ _ (λ cs. ap kind.Block (h.0 ∙ ap (λ m. listed (step_numbers ss m) (suc (length os))) (sym at)))) (of_these _ _ _ _ (ap (λ m. steps_spots ss m (n ∷ os)) (sym at)) h.1)
 
@@ -241,7 +241,7 @@ try_node-returns t c = λ os st at.
     let a = c.args.nodes.now.items in
     let b = c.body.new.nodes.items in
     let d = c.handler.new.nodes.items in
-    let first : Adds a b (step_spots (tree.step [] x None) (length a) os) = of_these a b _ _ (ap (λ z. step_spots (tree.step z x None) (length a) os) c.in_ok-name.ensures) (c.in_ok-under.ensures.adds os st) in
+    let first : Adds a b (step_spots (tree.step [] x None) (length a) os) = of_these a b _ _ (λ i. step_spots (tree.step (c.in_ok-name.ensures i) (body_view (c.deref.ensures i)) None) (length a) os) (c.in_ok-under.ensures.adds os st) in
     let behind_it = behind a b n x os at first in
     let h = c.in_ok-except.ensures n os (c.in_ok-inner.ensures os st) in
     let second = of_these b d _ _ (ap (λ m. except_spots y m (n ∷ os)) behind_it) h.1 in (
@@ -255,14 +255,14 @@ handler-returns-in-None t c = λ o os st. (
   of_these _ _ [] _ (ap (λ e. except_spots (except_option_view e) (length c.args.nodes.now.items) (o ∷ os)) (sym c.in-None.is)) (nothing _),
 )
 
-pub handler-returns-in-Some : goal.handler-returns-in-Some
-handler-returns-in-Some t c = λ o os st.
+pub handler-returns-in_ok-copy-in-Some : goal.handler-returns-in_ok-copy-in-Some
+handler-returns-in_ok-copy-in-Some t c = λ o os st.
     let x = c.in-Some.handler in
     let r = out-Except x in
     let ss = steps_in r.steps in
     let m = length c.args.nodes.now.items in
     let is = ap except_option_view c.in-Some.is ∙ except_is x in
-    let h = c.in_ok-block.ensures (o ∷ os) st in (
-      (λ i. Some (record { name = c.in_ok-copy.ensures i; steps = h.0 i })) ∙ ap (handler_for m (length os)) (sym is),
+    let h = c.in_ok-block-in-Some.ensures (o ∷ os) st in (
+      (λ i. Some (record { name = c.in_ok-copy-in-Some.ensures i; steps = h.0 i })) ∙ ap (handler_for m (length os)) (sym is),
       of_these _ _ (steps_spots ss m (o ∷ os)) _ (ap (λ e. except_spots e m (o ∷ os)) (sym is)) h.1,
     )
