@@ -1,7 +1,7 @@
 -- Nodes that are added one after another.
-use Rattle.std.proofs.Common.{◌≡◌, ℕ, zero, suc, ◌+◌, List, [], ◌∷◌, ◌++◌, length, map, set, refl, sym, ap, ◌∙◌, append_assoc, arith, length-append, Result, Ok, Err, IfOk}
+use Rattle.std.proofs.Common.{◌≡◌, ℕ, suc, ◌+◌, List, [], ◌∷◌, ◌++◌, length, map, set, refl, sym, ap, ◌∙◌, append_assoc, arith, length-append, Result, Ok, Err, IfOk}
 use Rattle.std.proofs.lemmas.List.{append-nil, length-map, map-append, map-set, set_at}
-use Rattle.wf_table.specs.Kinds.{View, node_view}
+use Rattle.wf_table.specs.Kinds.{node_view}
 use Rattle.wf_table.specs.Made.{Adds, view_for, views_for}
 use Rattle.wf_table.specs.Spots.{Spot}
 use Rattle.wf_table.specs.declared.node.Node.{Node}
@@ -56,7 +56,7 @@ pub placed : (a b c d : List Node) (p x : Node) (s : Spot) (n : ℕ) (xs : List 
 placed a b c d p x s n xs held at h put is =
     let front : map node_view b ≡ map node_view a ++ node_view p ∷ [] = ap (map node_view) held ∙ map-append node_view a (p ∷ []) in
     let all : map node_view c ≡ map node_view a ++ node_view p ∷ views_for (length b) xs =
-        h.views ∙ ap (λ l. l ++ views_for (length b) xs) front ∙ append_assoc (map node_view a) (node_view p ∷ []) (views_for (length b) xs) in
+    h.views ∙ ap (λ l. l ++ views_for (length b) xs) front ∙ append_assoc (map node_view a) (node_view p ∷ []) (views_for (length b) xs) in
     let count : length b ≡ suc (length a) = ap length held ∙ length-append a (p ∷ []) ∙ plus_one (length a) in
     record {
       views =

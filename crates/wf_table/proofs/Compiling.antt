@@ -2,8 +2,6 @@
 use Rattle.std.proofs.Common.{◌≡◌, ℕ, ◌+◌, ◌<◌, ◌≤◌, List, [], ◌∷◌, ◌++◌, length, map, take, get_or, Some, slice_get, refl, sym, ap, ◌∙◌, append_assoc}
 use Rattle.std.proofs.lemmas.List.{append-nil, length-map, map-append, map_more, take_all, take_at}
 use Rattle.wf_ast.specs.Tree as t
-use Rattle.wf_postfix.specs.Instrs.{instrs}
-use Rattle.wf_postfix.specs.Machine.{code}
 use Rattle.wf_table.proofs.Decoding.{decoded_code}
 use Rattle.wf_table.specs.Compiles.{Compiles, Reads}
 use Rattle.wf_table.specs.Decoded.{decode}

@@ -1,10 +1,9 @@
 -- The code of an expression is the code of that expression alone.
-use Rattle.std.proofs.Common.{◌≡◌, ℕ, zero, suc, ◌+◌, List, [], ◌∷◌, ◌++◌, drop, length, refl, sym, ap, ◌∙◌, append_assoc, arith}
-use Rattle.std.proofs.lemmas.List.{append-nil}
+use Rattle.std.proofs.Common.{◌≡◌, ℕ, suc, ◌+◌, List, [], ◌∷◌, ◌++◌, drop, length, refl, ap, ◌∙◌, arith}
 use Rattle.wf_ast.specs.Tree.{Expr, Exprs, no_exprs, expr}
 use Rattle.wf_ast.specs.declared.expr.Func.{Func}
-use Rattle.wf_postfix.specs.Machine.{Instr, push, load, negate, invert, combine, member, index, call, and_skip, or_skip, check, many, code, all_code}
-use Rattle.wf_table.specs.Decoded.{undo, undo_all, decode, topmost, rest, top}
+use Rattle.wf_postfix.specs.Machine.{Instr, negate, invert, combine, member, index, call, and_skip, or_skip, check, many, code, all_code}
+use Rattle.wf_table.specs.Decoded.{undo, undo_all, decode, topmost, top}
 
 -- ## Arguments
 pushed : Exprs → List Expr → List Expr
@@ -49,6 +48,7 @@ undo_append (i ∷ is) ys st = undo_append is ys (undo i st)
 
 mutual
   unfolding pushed
+
   undone : (e : Expr) (st : List Expr) → undo_all (code e) st ≡ e ∷ st
   undone (Expr.Lit v) st = refl
   undone (Expr.Name x) st = refl

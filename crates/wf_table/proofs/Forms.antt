@@ -1,15 +1,14 @@
 -- What a form and its nodes are, in other words.
-use Rattle.std.proofs.Common.{◌≡◌, ℕ, suc, ◌+◌, List, [], ◌∷◌, ◌++◌, length, map, refl, sym, ap, ◌∙◌, subst, None, arith}
-use Rattle.wf_ast.proofs.Views.{branch_level, except_level, loop_level, steps_level, try_level}
+use Rattle.std.proofs.Common.{◌≡◌, ℕ, suc, ◌+◌, List, [], length, map, sym, ap, ◌∙◌, subst, None, arith}
+use Rattle.wf_ast.proofs.Views.{branch_level, except_level, loop_level, steps_level}
 use Rattle.wf_ast.specs.Tree as t
-use Rattle.wf_ast.specs.View.{body_view, branch_view, except_option_view, except_view, loop_view, over_view, policy_option_view, step_view, steps_in, steps_view, try_view}
-use Rattle.wf_ast.specs.declared.body.Body.TheViews.{out-Branch, out-Except, out-LoopBody, out-TryBody}
+use Rattle.wf_ast.specs.View.{branch_view, except_view, loop_view, over_view, step_view, steps_in, steps_view}
+use Rattle.wf_ast.specs.declared.body.Body.TheViews.{out-Branch, out-Except, out-LoopBody}
 use Rattle.wf_ast.specs.declared.body.Branch.{Branch}
 use Rattle.wf_ast.specs.declared.body.Except.{Except}
 use Rattle.wf_ast.specs.declared.body.LoopBody.{LoopBody}
 use Rattle.wf_ast.specs.declared.body.Step.{Step}
 use Rattle.wf_ast.specs.declared.body.StepList.{StepList}
-use Rattle.wf_ast.specs.declared.body.TryBody.{TryBody}
 use Rattle.wf_table.proofs.Adding.{longer}
 use Rattle.wf_table.proofs.Sizes.{step_long}
 use Rattle.wf_table.specs.Compiles.{Compiles}
@@ -19,7 +18,6 @@ use Rattle.wf_table.specs.Made.{Adds, body_for, loop_for, side_for}
 use Rattle.wf_table.specs.Shapes.{Compiled}
 use Rattle.wf_table.specs.Spots.{body_size, body_spots, loop_spots, step_spots, work_spots}
 use Rattle.wf_table.specs.declared.node.Node.{Node}
-use Rattle.wf_value.specs.Pairs.{Text}
 
 pub formed : (a b : List Node) (p q : Compiled) (f : Compiled → Kind) (n : ℕ) (os : List ℕ) (x y : t.Body) → y ≡ x
     → Compiles p q f (body_for n (length os) x) → Adds a b (body_spots x n os) → Compiles p q f (body_for n (length os) y) × Adds a b (body_spots y n os)

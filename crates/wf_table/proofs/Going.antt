@@ -1,7 +1,7 @@
 -- The items of a list, each of which adds its nodes.
 --     Lays       what the nodes of a list are, and their numbers
 --     Going      how far it has come
-use Rattle.std.proofs.Common.{◌≡◌, ℕ, suc, ◌+◌, ◌<◌, ◌≤◌, List, [], ◌∷◌, ◌++◌, length, drop, get_or, refl, sym, ap, ◌∙◌, append_assoc}
+use Rattle.std.proofs.Common.{◌≡◌, ℕ, ◌+◌, ◌<◌, ◌≤◌, List, [], ◌∷◌, ◌++◌, length, drop, get_or, refl, sym, ap, ◌∙◌, append_assoc}
 use Rattle.std.proofs.lemmas.List.{append-nil, drop_all, drop_more}
 use Rattle.wf_table.proofs.Adding.{longer, nothing, of_these, then}
 use Rattle.wf_table.specs.Made.{Adds}
@@ -49,7 +49,7 @@ pub adds_all : {X : Type 0} (parts : List X → ℕ → List Spot) (numbers : Li
     → length all ≤ i → Going parts numbers a b all (drop i all) found → Adds a b (parts all (length a))
 adds_all parts numbers own lays a b all i found past h =
     let done : h.done ≡ parts all (length a) =
-        sym (append-nil h.done) ∙ ap (λ l. h.done ++ l) (sym (lays.no_parts (length b)) ∙ ap (λ l. parts l (length b)) (sym (drop_all i all past))) ∙ h.rest in
+    sym (append-nil h.done) ∙ ap (λ l. h.done ++ l) (sym (lays.no_parts (length b)) ∙ ap (λ l. parts l (length b)) (sym (drop_all i all past))) ∙ h.rest in
     of_these a b h.done (parts all (length a)) done h.adds
 
 pub all_numbers : {X : Type 0} (parts : List X → ℕ → List Spot) (numbers : List X → ℕ → List ℕ) (own : X → ℕ → List Spot) → Lays parts numbers own → (a b : List Node) (all : List X) (i : ℕ) (found : List ℕ)

@@ -1,20 +1,19 @@
 -- Where a jump leads, by the names of the steps of each list.
-use Rattle.std.proofs.Common.{◌≡◌, ℕ, zero, suc, ◌+◌, ◌<◌, ◌≤◌, ltb, Bool, true, false, cond, List, [], ◌∷◌, ◌++◌, length, map, slice_get, Option, option_map, None, Some, ◌⊎◌, inl, inr, refl, sym, ap, ◌∙◌, subst, bytes_eq, arith}
+use Rattle.std.proofs.Common.{◌≡◌, ℕ, zero, suc, ◌+◌, ◌<◌, ◌≤◌, ltb, Bool, true, false, cond, List, [], ◌∷◌, length, map, slice_get, Option, option_map, None, Some, ◌⊎◌, inl, inr, refl, sym, ap, ◌∙◌, subst, bytes_eq, arith}
 use Rattle.std.proofs.lemmas.Bool.Decides.{Decides-ltb}
 use Rattle.std.proofs.lemmas.List.{length-map}
 use Rattle.std.proofs.lemmas.Option.{slice_get-map, slice_get_within}
-use Rattle.wf_ast.specs.Tree.{Step, Steps, no_steps, more, Body, ParallelBody, parallel, Work, OfBranches, OfLoop, TryBody, try, Except, no_except, except, Flow}
+use Rattle.wf_ast.specs.Tree.{Step, Steps, no_steps, more, Body, parallel, try, Flow}
 use Rattle.wf_model.specs.Unwind.{from_step}
 use Rattle.wf_shared.specs.HttpUrl.{first_of_two}
 use Rattle.wf_table.proofs.Adding.{views_length}
-use Rattle.wf_table.proofs.Sound.{Nested, Sound, later, outside_of, sound}
+use Rattle.wf_table.proofs.Sound.{Nested, later, outside_of, sound}
 use Rattle.wf_table.specs.Kinds as kind
 use Rattle.wf_table.specs.Kinds.{Handler, Kind, Listed, Side, View, node_view}
-use Rattle.wf_table.specs.Made.{body_for, kind_for, view_for, views_for}
-use Rattle.wf_table.specs.Named.{Finds, below, depth_of, first_named, node_named, number_of, numbers_of, outer_of, owner_outside, when_named}
+use Rattle.wf_table.specs.Made.{kind_for, view_for, views_for}
+use Rattle.wf_table.specs.Named.{below, depth_of, first_named, node_named, numbers_of, outer_of, owner_outside, when_named}
 use Rattle.wf_table.specs.Spots.{Part, FlowAt, BodyAt, ArmAt, EntryAt, BranchAt, NoPart, Spot, except_list, from, owners_at, part_at, part_list, part_name, part_next, part_step, spot_owners, spot_part, spots, steps_by, work_list}
 use Rattle.wf_table.specs.Table.{AreAbove, AreBelow, AreRising, Lacks, Leads, LeadsInto, ListStands, except_of, handler_list, innermost, kind_list, list_at, outside, part_by, side_list, view_list, work_of}
-use Rattle.wf_table.specs.declared.names.Names.{Names}
 use Rattle.wf_table.specs.declared.node.Jump.{Jump}
 use Rattle.wf_table.specs.declared.node.Node.{Node}
 use Rattle.wf_value.specs.Pairs.{Text}
@@ -276,8 +275,8 @@ goes_out fs nodes x all o node made is none h =
     let owners : owners_at ns o ≡ s.0.owners = ap spot_owners s.1 in
     let outer : outside_of p s.0.owners ≡ h.os = (λ i. outside_of (sym part i) (sym owners i)) ∙ h.outer in
     let lacks : Lacks ns x o =
-        ap (λ q. from_step x (part_list q)) so.describes.part ∙ ap (from_step x) (list_steps ns (part_name p) (part_next p) k)
-        ∙ not_found views ns x (numbers_of (kind_list k)) made (stands_below ns (length ns) o _ (kind_list k) so.describes.list) (ap (λ l. first_named views x (numbers_of l)) (sym lists) ∙ none) in
+    ap (λ q. from_step x (part_list q)) so.describes.part ∙ ap (from_step x) (list_steps ns (part_name p) (part_next p) k)
+    ∙ not_found views ns x (numbers_of (kind_list k)) made (stands_below ns (length ns) o _ (kind_list k) so.describes.list) (ap (λ l. first_named views x (numbers_of l)) (sym lists) ∙ none) in
     let nested : Nested ns o h.os = subst (λ (os : List ℕ). Nested ns o os) outer (nested_outside ns o p s.0.owners so.nested) in
     record {
       os = h.os;

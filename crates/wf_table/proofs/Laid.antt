@@ -1,5 +1,5 @@
 -- How the nodes of each kind of list lie.
-use Rattle.std.proofs.Common.{◌≡◌, ℕ, suc, ◌+◌, List, [], ◌∷◌, ◌++◌, length, map, refl, sym, ap, arith}
+use Rattle.std.proofs.Common.{◌≡◌, ℕ, suc, ◌+◌, List, [], ◌∷◌, ◌++◌, map, refl, sym, ap, arith}
 use Rattle.wf_ast.specs.Tree as t
 use Rattle.wf_ast.specs.View.{arm_view, body_view, branch_view, entry_view, flow_view, step_view, template_view}
 use Rattle.wf_ast.specs.declared.body.Arm.{Arm}

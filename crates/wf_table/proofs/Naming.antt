@@ -1,5 +1,5 @@
 -- Numbers by names, as names are added.
-use Rattle.std.proofs.Common.{◌≡◌, ℕ, suc, ◌+◌, ◌<◌, ◌≤◌, Bool, true, false, cond, List, [], ◌∷◌, ◌++◌, drop, length, map, slice_get, get_or, Option, option_map, None, Some, is_some, Result, Ok, Err, OnOk, String, Global, string_bytes, refl, sym, ap, ◌∙◌, subst, bytes_eq}
+use Rattle.std.proofs.Common.{◌≡◌, ℕ, ◌+◌, ◌<◌, ◌≤◌, Bool, true, false, cond, List, ◌∷◌, drop, length, map, slice_get, get_or, Option, option_map, None, Some, is_some, Result, Ok, Err, OnOk, refl, sym, ap, ◌∙◌, bytes_eq}
 use Rattle.std.proofs.lemmas.List.{drop_all, drop_more}
 use Rattle.std.proofs.lemmas.Option.{slice_get-map}
 use Rattle.std.proofs.lemmas.Slice.Eq.{bytes_eq-Decides}

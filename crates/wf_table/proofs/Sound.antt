@@ -7,10 +7,10 @@ use Rattle.wf_ast.specs.Tree.{Template, Entry, Step, step, Steps, no_steps, more
 use Rattle.wf_value.specs.Pairs.{Text}
 use Rattle.wf_table.proofs.Found.{arm_body, arms_found, arms_stand, behind_arm, behind_branch, behind_step, branch_steps, branches_below, branches_found, entries_below, entries_found, steps_below, steps_found, steps_rising, steps_stand}
 use Rattle.wf_table.proofs.Lying.{Lies, behind, left, others, owners_are, part_is, within}
-use Rattle.wf_table.proofs.Sizes.{arms_long, body_long, branches_long, entries_long, step_long, steps_long}
+use Rattle.wf_table.proofs.Sizes.{body_long, step_long, steps_long}
 use Rattle.wf_table.specs.Kinds.{listed}
-use Rattle.wf_table.specs.Made.{arm_numbers, body_for, handler_for, step_numbers, view_for}
-use Rattle.wf_table.specs.Spots.{Part, FlowAt, BodyAt, ArmAt, EntryAt, BranchAt, NoPart, Spot, arms_spots, body_size, body_spots, branches_spots, entries_spots, except_spots, flow_spots, flows_spots, loop_spots, owners_at, parallel_spots, part_at, part_body, spot, spots, step_size, step_spots, steps_by, steps_size, steps_spots, try_spots, work_spots}
+use Rattle.wf_table.specs.Made.{arm_numbers, handler_for, step_numbers, view_for}
+use Rattle.wf_table.specs.Spots.{Part, FlowAt, BodyAt, ArmAt, EntryAt, BranchAt, Spot, arms_spots, body_size, body_spots, branches_spots, entries_spots, except_spots, flow_spots, flows_spots, loop_spots, owners_at, parallel_spots, part_at, part_body, spot, spots, step_size, step_spots, steps_size, steps_spots, try_spots, work_spots}
 use Rattle.wf_table.specs.Table.{ArmsStandIn, Describes, ListStands, handler_list, StandIn, except_of, innermost}
 
 -- ## What is said
@@ -208,8 +208,8 @@ mutual
         (
           record { describes = describes_body ns [] body next (suc n) os p o (others ns (suc n) _ _ k); nested = nest_body },
           all_append ns (body_spots body (suc n) os) (arms_spots rest m os) (suc (suc n)) m (ap (λ z. suc (suc n) + z) (body_long body (suc n) os) ∙ sym (over n (body_size body)))
-          (body_sound ns body [] next (suc n) os nest_body p o (others ns (suc n) _ _ k))
-          (arms_sound ns rest m os (later ns os n m (omega arith) nest) (behind_arm ns t body next rest n os h)),
+              (body_sound ns body [] next (suc n) os nest_body p o (others ns (suc n) _ _ k))
+              (arms_sound ns rest m os (later ns os n m (omega arith) nest) (behind_arm ns t body next rest n os h)),
         ),
       )
 
@@ -232,8 +232,8 @@ mutual
       let m = n + suc (steps_size ss) in (
         record { describes = describes_branch ns x ss n os _ h k; nested = nest },
         all_append ns (steps_spots ss (suc n) (n ∷ [])) (branches_spots bs m os) (suc n) m (ap (λ z. suc n + z) (steps_long ss (suc n) (n ∷ [])) ∙ sym (moved n (steps_size ss)))
-        (steps_sound ns ss (suc n) (n ∷ []) (omega arith, ap (λ q. outside_of q (owners_at ns n)) (part_is ns n (BranchAt x ss) os _ h)) k)
-        (branches_sound ns bs m os (later ns os n m (omega arith) nest) (behind_branch ns x ss bs n os h)),
+            (steps_sound ns ss (suc n) (n ∷ []) (omega arith, ap (λ q. outside_of q (owners_at ns n)) (part_is ns n (BranchAt x ss) os _ h)) k)
+            (branches_sound ns bs m os (later ns os n m (omega arith) nest) (behind_branch ns x ss bs n os h)),
       )
 
   try_sound : (ns : List Spot) (t : TryBody) (n : ℕ) (os : List ℕ) → Nested ns (suc n) os → outside_of (part_at ns n) (owners_at ns n) ≡ os → Lies ns (suc n) (try_spots t n os) → AllSound ns (suc n) (try_spots t n os)
@@ -244,8 +244,8 @@ mutual
       let o = owners_are ns (suc n) (BodyAt [] body None) os _ k in (
         record { describes = describes_body ns [] body None (suc n) os p o (others ns (suc n) _ _ k); nested = nest },
         all_append ns (body_spots body (suc n) os) (except_spots y m (n ∷ os)) (suc (suc n)) m (ap (λ z. suc (suc n) + z) (body_long body (suc n) os) ∙ sym (over n (body_size body)))
-        (body_sound ns body [] None (suc n) os nest p o (others ns (suc n) _ _ k))
-        (except_sound ns y m (n ∷ os) (omega arith, out) (handler_lies ns body policy y n os h)),
+            (body_sound ns body [] None (suc n) os nest p o (others ns (suc n) _ _ k))
+            (except_sound ns y m (n ∷ os) (omega arith, out) (handler_lies ns body policy y n os h)),
       )
 
   except_sound : (ns : List Spot) (y : Except) (n : ℕ) (os : List ℕ) → Nested ns n os → Lies ns n (except_spots y n os) → AllSound ns n (except_spots y n os)
@@ -258,9 +258,10 @@ flows_sound ns (f ∷ fs) n h =
     let m = n + suc (steps_size f.steps) in
     let own = left ns n (flow_spots f n) (flows_spots fs m) h in
     let k = others ns n _ _ own in
-    all_append ns (flow_spots f n) (flows_spots fs m) n m (ap (λ z. n + suc z) (steps_long f.steps (suc n) (n ∷ [])))
-    (record { describes = describes_flow ns f n _ own k; nested = tt },
-    steps_sound ns f.steps (suc n) (n ∷ []) (omega arith, ap (λ q. outside_of q (owners_at ns n)) (part_is ns n (FlowAt f) [] _ own)) k)
+    all_append ns (flow_spots f n) (flows_spots fs m) n m (ap (λ z. n + suc z) (steps_long f.steps (suc n) (n ∷ []))) (
+      record { describes = describes_flow ns f n _ own k; nested = tt },
+      steps_sound ns f.steps (suc n) (n ∷ []) (omega arith, ap (λ q. outside_of q (owners_at ns n)) (part_is ns n (FlowAt f) [] _ own)) k,
+    )
     (flows_sound ns fs m (behind ns (flow_spots f n) (flows_spots fs m) n m (ap (λ z. n + suc z) (sym (steps_long f.steps (suc n) (n ∷ [])))) h))
 
 at : (ns : List Spot) (xs : List Spot) (n i : ℕ) (s : Spot) → AllSound ns n xs → slice_get xs i ≡ Some s → Sound ns (n + i) s

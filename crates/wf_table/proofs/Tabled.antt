@@ -1,5 +1,5 @@
 -- A table whose nodes are those of the parts of a program.
-use Rattle.std.proofs.Common.{◌≡◌, ℕ, zero, suc, ◌+◌, ◌<◌, ◌≤◌, List, [], ◌∷◌, ◌++◌, length, map, set, slice_get, Option, option_map, None, Some, ◌⊎◌, inl, inr, refl, sym, ap, ◌∙◌, subst, arith}
+use Rattle.std.proofs.Common.{◌≡◌, ℕ, zero, suc, ◌+◌, ◌<◌, ◌≤◌, List, [], ◌∷◌, ◌++◌, length, map, set, slice_get, Option, option_map, Some, ◌⊎◌, inl, inr, refl, sym, ap, ◌∙◌, subst, arith}
 use Rattle.std.proofs.lemmas.List.{append-nil, length-map}
 use Rattle.std.proofs.lemmas.Option.{slice_get-map, slice_get_within}
 use Rattle.wf_ast.specs.Tree.{Flow}
@@ -11,7 +11,7 @@ use Rattle.wf_table.proofs.Sizes.{steps_long}
 use Rattle.wf_table.proofs.Sound.{sound}
 use Rattle.wf_table.specs.Built.{flow_number}
 use Rattle.wf_table.specs.Kinds.{View, node_view}
-use Rattle.wf_table.specs.Made.{Adds, flow_numbers, view_for, views_for}
+use Rattle.wf_table.specs.Made.{flow_numbers, views_for}
 use Rattle.wf_table.specs.Named.{Finds, first_named, number_of, numbers_of, when_named}
 use Rattle.wf_table.specs.Spots.{FlowAt, Spot, flow_spots, flows_spots, owners_at, part_name, spots, steps_size}
 use Rattle.wf_table.specs.Table.{Describes, EachLeads, NextLeads, Resolves, kind_list, list_at, view_list}

@@ -1,7 +1,7 @@
 -- One level of the template of a shape in terms of the list of the items.
 use Rattle.std.proofs.Common.{◌≡◌, ◌∙◌, refl, sym, ap, map}
 use Rattle.wf_ast.specs.Tree as t
-use Rattle.wf_table.specs.Shapes.{Compiled, fields_by, named_by, named_in, named_list, named_row, shape_by, shape_list, shape_row, shapes_by}
+use Rattle.wf_table.specs.Shapes.{Compiled, fields_by, named_by, named_in, named_list, named_row, shape_by, shape_row, shapes_by}
 use Rattle.wf_table.specs.declared.shape.NamedShapes.{NamedShapes, Row_of-NamedShape, end_of-NamedShape, more_of-NamedShape, items-the_row-NamedShape, items_hidden-the_row-NamedShape-1}
 use Rattle.wf_table.specs.declared.shape.Shape.{Map, Row_of-Shape, end_of-Shape, more_of-Shape, items-the_row-Shape, items_hidden-the_row-Shape-0}
 use Rattle.wf_table.specs.declared.shape.Shape.TheBlock.{hidden-the_row-Shape-0, hidden-the_row-NamedShape-1}

@@ -1,5 +1,5 @@
 -- What a table has.
-use Rattle.std.specs.Prelude.{ℕ, suc, ◌+◌, List, [], ◌∷◌, Option, None, Some}
+use Rattle.std.specs.Prelude.{ℕ, suc, ◌+◌, List, [], ◌∷◌, Option, None}
 use Rattle.wf_ast.specs.Tree.{Flow}
 use Rattle.wf_shared.specs.HttpUrl.{first_of_two}
 use Rattle.wf_table.specs.Named.{number_of, when_named}

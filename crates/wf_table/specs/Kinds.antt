@@ -9,15 +9,12 @@ use Rattle.wf_table.specs.declared.node.Block.{Block as StepBlock}
 use Rattle.wf_table.specs.declared.node.CallNode.{CallNode}
 use Rattle.wf_table.specs.declared.node.EntryNode.{EntryNode}
 use Rattle.wf_table.specs.declared.node.ExceptNode.{ExceptNode}
-use Rattle.wf_table.specs.declared.node.FlowNode.{FlowNode}
 use Rattle.wf_table.specs.declared.node.LoopNode.{LoopNode}
 use Rattle.wf_table.specs.declared.node.Node.{Node}
 use Rattle.wf_table.specs.declared.node.NodeKind.{NodeKind}
 use Rattle.wf_table.specs.declared.node.NodeKind.TheVariants as kind
 use Rattle.wf_table.specs.declared.node.OverShape.{OverShape}
 use Rattle.wf_table.specs.declared.node.OverShape.TheVariants as over
-use Rattle.wf_table.specs.declared.node.ParallelNode.{ParallelNode}
-use Rattle.wf_table.specs.declared.node.TryNode.{TryNode}
 use Rattle.wf_table.specs.declared.node.WorkNode.{WorkNode}
 use Rattle.wf_table.specs.declared.node.WorkNode.TheVariants as work
 

@@ -1,8 +1,7 @@
 -- The nodes that are made of parts, from a number on.
 use Rattle.std.specs.Prelude.{◌≡◌, ℕ, suc, ◌+◌, List, [], ◌∷◌, ◌++◌, length, map, Option, None, Some}
-use Rattle.wf_ast.specs.Tree.{Entry, Step, step, Steps, no_steps, more, Body, Arms, no_arms, arm, LoopBody, loop, ParallelBody, parallel, Work, OfBranches, OfLoop, Branches, no_branches, branch, TryBody, try, Except, no_except, except, Flow}
-use Rattle.wf_value.specs.Pairs.{Text}
-use Rattle.wf_table.specs.Kinds.{Handler, Kind, Listed, Repeated, Side, View, listed, node_view}
+use Rattle.wf_ast.specs.Tree.{Entry, Steps, no_steps, more, Body, Arms, no_arms, arm, LoopBody, loop, ParallelBody, parallel, Work, OfBranches, OfLoop, Branches, no_branches, branch, TryBody, try, Except, no_except, except, Flow}
+use Rattle.wf_table.specs.Kinds.{Handler, Kind, Repeated, Side, View, listed, node_view}
 use Rattle.wf_table.specs.Kinds as kind
 use Rattle.wf_table.specs.Spots.{Part, FlowAt, BodyAt, ArmAt, EntryAt, BranchAt, NoPart, Spot, body_size, step_size, steps_size, part_name, part_next}
 use Rattle.wf_table.specs.Table.{innermost}

@@ -3,7 +3,7 @@
 --     spots            the parts of a program
 --     part_at ..       a part by its number
 use Rattle.std.specs.Prelude.{ℕ, zero, suc, ◌+◌, List, [], ◌∷◌, ◌++◌, slice_get, Some, None, Option}
-use Rattle.wf_ast.specs.Tree.{no_exprs, InList, Template, Scalar, Entry, Step, step, Steps, no_steps, more, Body, Arms, no_arms, arm, LoopBody, loop, ParallelBody, parallel, Work, OfBranches, OfLoop, Branches, no_branches, branch, TryBody, try, Except, no_except, except, Flow}
+use Rattle.wf_ast.specs.Tree.{no_exprs, Template, Scalar, Entry, Step, step, Steps, no_steps, more, Body, Arms, no_arms, arm, LoopBody, loop, ParallelBody, parallel, Work, OfBranches, OfLoop, Branches, no_branches, branch, TryBody, try, Except, no_except, except, Flow}
 use Rattle.wf_value.specs.Data.{null}
 use Rattle.wf_value.specs.Pairs.{Text}
 

@@ -2,7 +2,7 @@
 --     part_by      the part that a node is
 --     Leads        where a jump leads
 --     Resolves     each node is the part of its number, and its numbers are those of its parts
-use Rattle.std.specs.Prelude.{◌≡◌, ℕ, suc, ◌<◌, ◌≤◌, List, [], ◌∷◌, length, map, slice_get, Some, None, Option, ◌⊎◌}
+use Rattle.std.specs.Prelude.{◌≡◌, ℕ, suc, ◌<◌, List, [], ◌∷◌, length, map, slice_get, Some, None, Option, ◌⊎◌}
 use Rattle.wf_ast.specs.Tree.{Param, Step, Steps, no_steps, more, Body, LoopBody, loop, parallel, Work, OfBranches, OfLoop, try, Except, no_except, except, Flow}
 use Rattle.wf_model.specs.Unwind.{from_step}
 use Rattle.wf_value.specs.Pairs.{Text}

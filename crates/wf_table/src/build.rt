@@ -11,17 +11,15 @@ ghost use Rattle.wf_table.specs.Spots.{BranchAt, arms_spots, body_spots, branche
 use crate::around::Here;
 use crate::codes::Codes;
 use crate::copies;
-use crate::grow::add;
-use crate::growing::{arm, entries, hold, put};
+use crate::grow::{add, put};
+use crate::growing::{arm, entries, hold};
 use crate::node::{
     Block, CallNode, ExceptNode, FlowNode, LoopNode, Node, NodeKind, OverShape, ParallelNode,
     TryNode, WorkNode,
 };
 use crate::shaping::{named, shape};
 use std::alloc::Global;
-use wf_ast::{
-    Arm, Body, Branch, CallBody, Except, Flow, LoopBody, Over, StepList, TryBody, Work,
-};
+use wf_ast::{Arm, Body, Branch, CallBody, Except, Flow, LoopBody, Over, StepList, TryBody, Work};
 use wf_value::{OutOfMemory, Text};
 
 // The nodes of workflows, and the workflows' numbers.
@@ -49,12 +47,13 @@ fn flow_node(alloc: Global, nodes: &mut Vec<Node>, flow: &Flow) -> Result<u32, O
         (flow_spots (flow_view flow.now) (length nodes.old.items))) }
 {
     let number = hold(alloc, nodes)?;
-    let block = block(alloc, nodes, Here::alone(number), &flow.steps)?;
+    let name = flow.name.copy()?;
     let params = copies::params(alloc, &flow.params)?;
+    let block = block(alloc, nodes, Here::alone(number), &flow.steps)?;
     let node = Node {
         kind: NodeKind::Flow(FlowNode { params, block }),
         codes: Codes::new(alloc),
-        name: flow.name.copy()?,
+        name,
         next: None,
         jump: None,
         owner: None,
@@ -142,23 +141,14 @@ fn kind(
         Body::Assign(list) => Ok(NodeKind::Assign(entries(alloc, nodes, here, list.items())?)),
         Body::Call(call) => Ok(NodeKind::Call(call_node(alloc, call, codes)?)),
         Body::Switch(list) => Ok(NodeKind::Switch(arms(alloc, nodes, here, list.items())?)),
-        Body::For(repeated) => Ok(NodeKind::For(loop_node(
-            alloc, nodes, number, repeated, codes,
-        )?)),
+        Body::For(repeated) => Ok(NodeKind::For(loop_node(alloc, nodes, number, repeated, codes)?)),
         Body::Parallel(parallel) => Ok(NodeKind::Parallel(ParallelNode {
-            work: work(alloc, nodes, here, number, &parallel.work, codes)?,
             shared: copies::texts(alloc, &parallel.shared)?,
             limit: parallel.limit,
+            work: work(alloc, nodes, here, number, &parallel.work, codes)?,
         })),
-        Body::Block(list) => Ok(NodeKind::Block(block(
-            alloc,
-            nodes,
-            here.inside(number)?,
-            list,
-        )?)),
-        Body::Try(tried) => Ok(NodeKind::Try(try_node(
-            alloc, nodes, here, number, tried,
-        )?)),
+        Body::Block(list) => Ok(NodeKind::Block(block(alloc, nodes, here.inside(number)?, list)?)),
+        Body::Try(tried) => Ok(NodeKind::Try(try_node(alloc, nodes, here, number, tried)?)),
         Body::Raise(template) => Ok(NodeKind::Raise(shape(alloc, template, codes)?)),
         Body::Return(template) => Ok(NodeKind::Return(shape(alloc, template, codes)?)),
     }
@@ -201,11 +191,13 @@ fn loop_node(
         (loop_for number (loop_view repeated.now))
         × Adds nodes.old.items nodes.new.items (loop_spots (loop_view repeated.now) number)) }
 {
+    let value = repeated.value.copy()?;
+    let index = copies::text(&repeated.index)?;
     let over = over(alloc, &repeated.over, codes)?;
     let block = block(alloc, nodes, Here::alone(number), &repeated.steps)?;
     Ok(LoopNode {
-        value: repeated.value.copy()?,
-        index: copies::text(&repeated.index)?,
+        value,
+        index,
         over,
         block,
     })
@@ -228,12 +220,7 @@ fn work(
         × Adds nodes.old.items nodes.new.items (work_spots (work_view work.now) number os)) }
 {
     match work {
-        Work::Branches(list) => Ok(WorkNode::Branches(branches(
-            alloc,
-            nodes,
-            here,
-            list.items(),
-        )?)),
+        Work::Branches(list) => Ok(WorkNode::Branches(branches(alloc, nodes, here, list.items())?)),
         Work::Loop(repeated) => Ok(WorkNode::Loop(loop_node(
             alloc, nodes, number, repeated, codes,
         )?)),
@@ -276,11 +263,12 @@ fn branch(
         (branch_view branch.now).1 (suc (length nodes.old.items)) (length nodes.old.items ∷ []))) }
 {
     let number = hold(alloc, nodes)?;
+    let name = branch.name.copy()?;
     let block = block(alloc, nodes, Here::alone(number), &branch.steps)?;
     let node = Node {
         kind: NodeKind::Branch(block),
         codes: Codes::new(alloc),
-        name: branch.name.copy()?,
+        name,
         next: None,
         jump: None,
         owner: here.owner,
@@ -305,12 +293,13 @@ fn try_node(
         × Adds nodes.old.items nodes.new.items (try_spots (try_view tried.now) number os)) }
 {
     let name = Text::new(alloc, "")?;
+    let policy = copies::policy(&tried.policy)?;
     let inner = here.inside(number)?;
     let under = body(alloc, nodes, here, name, &tried.body, None)?;
     let except = handler(alloc, nodes, inner, &tried.except)?;
     Ok(TryNode {
         body: under,
-        policy: copies::policy(&tried.policy)?,
+        policy,
         except,
     })
 }
@@ -332,11 +321,9 @@ fn handler(
     match except {
         None => Ok(None),
         Some(handler) => {
+            let name = handler.name.copy()?;
             let block = block(alloc, nodes, inner, &handler.steps)?;
-            Ok(Some(ExceptNode {
-                name: handler.name.copy()?,
-                block,
-            }))
+            Ok(Some(ExceptNode { name, block }))
         }
     }
 }

@@ -1,5 +1,5 @@
 // Nodes that are added to a table.
-ghost use Rattle.std.specs.Prelude.{◌≡◌, IfOk, ℕ, List, [], ◌∷◌, ◌++◌, length, map, slice_set};
+ghost use Rattle.std.specs.Prelude.{◌≡◌, IfOk, ℕ, List, [], ◌∷◌, ◌++◌, length, map};
 ghost use Rattle.wf_ast.specs.View.{entry_view, expr_view, template_view};
 ghost use Rattle.wf_table.specs.Compiles.{Compiles, Reads, code_list};
 ghost use Rattle.wf_table.specs.Kinds.{entry_by, kind_by};
@@ -9,25 +9,12 @@ ghost use Rattle.wf_table.specs.declared.node.Node.{Node as TheNode};
 
 use crate::around::Here;
 use crate::codes::Codes;
-use crate::grow::add;
+use crate::grow::{add, push};
 use crate::node::{EntryNode, Node, NodeKind};
 use crate::shaping::shape;
 use std::alloc::Global;
-use std::mem;
 use wf_ast::{Entry, Expr, Template};
 use wf_value::{OutOfMemory, Text};
-
-// A node at the end, and its number.
-fn push(nodes: &mut Vec<Node>, node: Node) -> Result<u32, OutOfMemory>
-    ensures number { IfOk result (λ n. n ≡ length nodes.old.items) }
-    ensures grown { IfOk result (λ n. nodes.new.items ≡ nodes.old.items ++ node ∷ []) }
-{
-    let Ok(number) = u32::try_from(nodes.len()) else {
-        return Err(OutOfMemory);
-    };
-    add(nodes, node)?;
-    Ok(number)
-}
 
 // A place at the end, for a node that is put there when its parts are.
 pub(crate) fn hold(alloc: Global, nodes: &mut Vec<Node>) -> Result<u32, OutOfMemory>
@@ -35,24 +22,16 @@ pub(crate) fn hold(alloc: Global, nodes: &mut Vec<Node>) -> Result<u32, OutOfMem
     ensures grown { IfOk result (λ n. (p : TheNode)
         × (nodes.new.items ≡ nodes.old.items ++ p ∷ [])) }
 {
+    let name = Text::new(alloc, "")?;
     let node = Node {
         kind: NodeKind::Nothing,
         codes: Codes::new(alloc),
-        name: Text::new(alloc, "")?,
+        name,
         next: None,
         jump: None,
         owner: None,
     };
     push(nodes, node)
-}
-
-// The node in its place. There is no place behind the last.
-pub(crate) fn put(nodes: &mut Vec<Node>, number: u32, node: Node)
-    ensures { nodes.new.items ≡ slice_set nodes.old.items number node }
-{
-    if (number as usize) < nodes.len() {
-        let _ = mem::replace(&mut nodes[number as usize], node);
-    }
 }
 
 // A node without a name, that has no parts, and its number.

@@ -18,8 +18,8 @@ mod table;
 pub use codes::Codes;
 pub use laws::{codes_decode, preorder};
 pub use node::{
-    Block, CallNode, EntryNode, ExceptNode, FlowNode, Jump, LoopNode, Node, NodeKind,
-    OverShape, ParallelNode, TryNode, WorkNode,
+    Block, CallNode, EntryNode, ExceptNode, FlowNode, Jump, LoopNode, Node, NodeKind, OverShape,
+    ParallelNode, TryNode, WorkNode,
 };
 pub use shape::{NamedShape, NamedShapes, Piece, Pieces, Shape, Shapes};
 pub use table::{Table, table_of};

@@ -73,11 +73,7 @@ impl Names {
 }
 
 // The numbers of nodes by their names: of nodes of one name the first's.
-pub(crate) fn names_of(
-    alloc: Global,
-    nodes: &[Node],
-    numbers: &[u32],
-) -> Result<Names, OutOfMemory>
+pub(crate) fn names_of(alloc: Global, nodes: &[Node], numbers: &[u32]) -> Result<Names, OutOfMemory>
     ensures { IfOk result (λ names. (x : Bytes)
         → number_of names x ≡ first_named (map node_view nodes.now) x numbers.now) }
 {

@@ -1,7 +1,7 @@
-use Rattle.std.proofs.Common.{◌≡◌, ℕ, suc, ◌+◌, arith, [], ◌∷◌, ◌++◌, List, Option, None, Some, length, map, refl, sym, ap, ◌∙◌}
+use Rattle.std.proofs.Common.{◌≡◌, ℕ, suc, ◌+◌, arith, [], ◌∷◌, ◌++◌, Option, None, Some, length, map, refl, sym, ap, ◌∙◌}
 use Rattle.wf_ast.proofs.Views.{arms_level, branches_level, try_level}
 use Rattle.wf_ast.specs.Tree as tree
-use Rattle.wf_ast.specs.View.{arm_view, arms_in, body_view, branch_view, branches_in, call_view, entry_view, except_option_view, loop_view, over_view, policy_option_view, step_view, steps_in, template_view, texts_view, try_view, work_view}
+use Rattle.wf_ast.specs.View.{arm_view, body_view, branch_view, call_view, entry_view, except_option_view, loop_view, over_view, policy_option_view, steps_in, template_view, texts_view, try_view, work_view}
 use Rattle.wf_ast.specs.declared.body.Body.TheViews.{out-Branch, out-Except, out-LoopBody, out-TryBody}
 use Rattle.wf_table.proofs.Adding.{held_next, longer, nothing, of_these, placed}
 use Rattle.wf_table.proofs.Adding as adding
@@ -12,10 +12,10 @@ use Rattle.wf_table.proofs.Laid.{arm_own, arm_parts, arms_lay, branch_own, branc
 use Rattle.wf_table.proofs.build.+build.Goals as goal
 use Rattle.wf_table.specs.Compiles.{code_list}
 use Rattle.wf_table.specs.Kinds as kind
-use Rattle.wf_table.specs.Kinds.{Kind, Listed, Repeated, block_view, call_by, handler_view, kind_by, listed, loop_by, over_by, side_by}
+use Rattle.wf_table.specs.Kinds.{Listed, Repeated, block_view, call_by, handler_view, kind_by, listed, loop_by, over_by, side_by}
 use Rattle.wf_table.specs.Made.{Adds, arm_numbers, body_for, branch_numbers, entry_numbers, handler_for, side_for, step_numbers, try_for}
 use Rattle.wf_table.specs.Shapes.{shape_by}
-use Rattle.wf_table.specs.Spots.{ArmAt, BodyAt, BranchAt, arms_spots, body_size, body_spots, branches_spots, entries_spots, except_spots, spot, step_spots, steps_spots, try_spots}
+use Rattle.wf_table.specs.Spots.{BodyAt, BranchAt, arms_spots, body_size, body_spots, branches_spots, except_spots, spot, step_spots, steps_spots, try_spots}
 use Rattle.wf_value.specs.Pairs.{Text}
 
 one_on : (n : ℕ) → n + 1 ≡ suc n
@@ -50,7 +50,7 @@ body-returns-clause-adds t c = λ os st.
     let x = body_view c.args.body.now in
     let a = c.args.nodes.now.items in
     let b = c.hold.new.nodes.items in
-    let d = c.put.new.nodes.items in
+    let d = c.put.new.items.items in
     let n = c.in_ok-number.number in
     let at = c.in_ok-number.ensures.number in
     let p = c.in_ok-number.ensures.grown in
@@ -99,8 +99,8 @@ kind-returns-in_ok-loop_node-in-For t c = λ os st at.
     formed _ _ _ _ (λ cs. kind.For (loop_by cs l)) c.args.number os (tree.Body.For (loop_view c.in-For.repeated)) _ (ap body_view c.in-For.is)
     (then kind.For _ _ (λ cs. loop_by cs l) _ h.0) h.1
 
-pub kind-returns-in_ok-texts-in-Parallel : goal.kind-returns-in_ok-texts-in-Parallel
-kind-returns-in_ok-texts-in-Parallel t c = λ os st at.
+pub kind-returns-in_ok-work-in-Parallel : goal.kind-returns-in_ok-work-in-Parallel
+kind-returns-in_ok-work-in-Parallel t c = λ os st at.
     let p = c.in-Parallel.parallel in
     let w = c.in_ok-work-in-Parallel.field-0 in
     let shared = texts_view c.in_ok-texts-in-Parallel.field-0 in
@@ -150,7 +150,7 @@ arms-loop-item-preserved t c = λ os st.
     let first = c.in_ok-arm.ensures.adds os st in
     let count = longer b m _ first in
     let second = of_these m d _ (step_spots (tree.step [] x a.next) (suc (length b)) os)
-        (λ i. step_spots (tree.step (c.in_ok-name.ensures i) x (c.in_ok-next.ensures i)) ((count ∙ one_on (length b)) i) os) (c.in_ok-body.ensures.adds os st) in
+    (λ i. step_spots (tree.step (c.in_ok-name.ensures i) x (c.in_ok-next.ensures i)) ((count ∙ one_on (length b)) i) os) (c.in_ok-body.ensures.adds os st) in
     goes (arm_parts os) numbers_of_arms (arm_own os) (arms_lay os) _ b d c.args.arms.now c.loop-item.item-index a c.loop-item.numbers.items _ c.in_ok-arm.field-0
     c.loop-item-test.true c.item-item.is c.in_ok-arm.ensures.number c.in_ok-add.ensures (adding.then b m d _ _ first second) (c.loop-item.invariant os st)
 
@@ -170,14 +170,14 @@ loop_node-returns t c = λ at.
     let r = out-LoopBody c.args.repeated.now in
     let n = c.args.number in
     let ss = steps_in r.steps in
-    let x = c.in_ok-copy.field-0 in
-    let y = c.in_ok-text.field-0 in
+    let x = c.in_ok-value.value in
+    let y = c.in_ok-index.index in
     let o = c.in_ok-over.over in
     let b = block_view c.in_ok-block.block in
     let h = c.in_ok-block.ensures (n ∷ []) c.alone.ensures in
     repeats _ _ _ _ (λ cs. repeated x y (over_by cs o) b) n (tree.loop r.value r.index (over_view r.over) ss) _ (loop_is c.args.repeated.now)
     (alike _ _ (λ cs. repeated x y (over_by cs o) b) _ (repeated x y (over_view r.over) b) _ (λ cs. refl)
-    (λ i. repeated (c.in_ok-copy.ensures i) (c.in_ok-text.ensures i) (over_view r.over) ((h.0 ∙ ap (λ m. listed (step_numbers ss m) 1) (sym at)) i))
+    (λ i. repeated (c.in_ok-value.ensures i) (c.in_ok-index.ensures i) (over_view r.over) ((h.0 ∙ ap (λ m. listed (step_numbers ss m) 1) (sym at)) i))
     (then (λ u. repeated x y u b) _ _ (λ cs. over_by cs o) (over_view r.over) c.in_ok-over.ensures))
     (of_these _ _ _ _ (ap (λ m. steps_spots ss m (n ∷ [])) (sym at)) h.1)
 
@@ -219,7 +219,7 @@ branch-returns-clause-adds t c = λ os st.
     let ss = steps_in r.steps in
     let a = c.args.nodes.now.items in
     let b = c.hold.new.nodes.items in
-    let d = c.put.new.nodes.items in
+    let d = c.put.new.items.items in
     let n = c.in_ok-number.number in
     let at = c.in_ok-number.ensures.number in
     let p = c.in_ok-number.ensures.grown in
@@ -228,7 +228,7 @@ branch-returns-clause-adds t c = λ os st.
     let s = spot (BranchAt r.name ss) os in
     of_these a d (s ∷ steps_spots ss (suc n) (n ∷ [])) _ (λ i. spot (BranchAt (sym is i).0 (sym is i).1) os ∷ steps_spots (sym is i).1 (suc (at i)) (at i ∷ []))
     (placed a b c.block.new.nodes.items d p.0 _ s n (steps_spots ss (suc n) (n ∷ [])) p.1 at (of_these b c.block.new.nodes.items _ _ (ap (λ m. steps_spots ss m (n ∷ [])) (sym next)) h.1) c.put.ensures
-    (λ i. record { kind = kind.Branch ((h.0 ∙ ap (λ m. listed (step_numbers ss m) 1) (sym next)) i); name = c.in_ok-copy.ensures i; next = None; owner = st.owner i }))
+    (λ i. record { kind = kind.Branch ((h.0 ∙ ap (λ m. listed (step_numbers ss m) 1) (sym next)) i); name = c.in_ok-name.ensures i; next = None; owner = st.owner i }))
 
 -- ## `try`
 pub try_node-returns : goal.try_node-returns
@@ -255,14 +255,14 @@ handler-returns-in-None t c = λ o os st. (
   of_these _ _ [] _ (ap (λ e. except_spots (except_option_view e) (length c.args.nodes.now.items) (o ∷ os)) (sym c.in-None.is)) (nothing _),
 )
 
-pub handler-returns-in_ok-copy-in-Some : goal.handler-returns-in_ok-copy-in-Some
-handler-returns-in_ok-copy-in-Some t c = λ o os st.
+pub handler-returns-in_ok-block-in-Some : goal.handler-returns-in_ok-block-in-Some
+handler-returns-in_ok-block-in-Some t c = λ o os st.
     let x = c.in-Some.handler in
     let r = out-Except x in
     let ss = steps_in r.steps in
     let m = length c.args.nodes.now.items in
     let is = ap except_option_view c.in-Some.is ∙ except_is x in
     let h = c.in_ok-block-in-Some.ensures (o ∷ os) st in (
-      (λ i. Some (record { name = c.in_ok-copy-in-Some.ensures i; steps = h.0 i })) ∙ ap (handler_for m (length os)) (sym is),
+      (λ i. Some (record { name = c.in_ok-name-in-Some.ensures i; steps = h.0 i })) ∙ ap (handler_for m (length os)) (sym is),
       of_these _ _ (steps_spots ss m (o ∷ os)) _ (ap (λ e. except_spots e m (o ∷ os)) (sym is)) h.1,
     )

@@ -1,6 +1,6 @@
-use Rattle.std.proofs.Common.{List, Option, map, refl, sym, ap}
+use Rattle.std.proofs.Common.{List, Option, map, refl}
 use Rattle.wf_ast.specs.Tree as tree
-use Rattle.wf_ast.specs.View.{call_view, field_view}
+use Rattle.wf_ast.specs.View.{field_view}
 use Rattle.wf_table.proofs.Compiling.{alike, then}
 use Rattle.wf_table.proofs.build.call_node.Goals as goal
 use Rattle.wf_table.specs.Shapes.{named_by, named_list}

@@ -1,7 +1,7 @@
-use Rattle.std.proofs.Common.{◌≡◌, List, map, take, refl, sym, ap, ◌∙◌, length}
+use Rattle.std.proofs.Common.{List, map, take, refl, sym, ◌∙◌}
 use Rattle.std.proofs.lemmas.List.{length-map}
 use Rattle.wf_ast.specs.Tree as tree
-use Rattle.wf_ast.specs.View.{entry_view, expr_view, template_view}
+use Rattle.wf_ast.specs.View.{expr_view, template_view}
 use Rattle.wf_table.proofs.Compiling.{alike, both, reads_first}
 use Rattle.wf_table.proofs.growing.entry_form.Goals as goal
 use Rattle.wf_table.specs.Shapes.{decoded, shape_by}

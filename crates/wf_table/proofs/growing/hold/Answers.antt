@@ -1,4 +1,3 @@
-use Rattle.std.proofs.Common.{◌≡◌, [], ◌∷◌, ◌++◌}
 use Rattle.wf_table.proofs.Adding.{ok_then}
 use Rattle.wf_table.proofs.growing.hold.Goals as goal
 

@@ -1,4 +1,4 @@
-use Rattle.std.proofs.Common.{◌≡◌, [], ◌∷◌, ◌++◌, None, ap, ◌∙◌}
+use Rattle.std.proofs.Common.{None, ◌∙◌}
 use Rattle.wf_table.proofs.Adding.{ok_then, one}
 use Rattle.wf_table.proofs.growing.leaf.Goals as goal
 use Rattle.wf_table.specs.Compiles.{code_list}

@@ -1,4 +1,4 @@
-use Rattle.std.proofs.Common.{◌≡◌, Option, None, map, refl, sym, subst}
+use Rattle.std.proofs.Common.{Option, None, map, refl, sym, subst}
 use Rattle.wf_table.proofs.jumps.jump_of.Goals as goal
 use Rattle.wf_table.specs.Kinds.{node_view}
 use Rattle.wf_table.specs.Spots.{owners_at, spots}

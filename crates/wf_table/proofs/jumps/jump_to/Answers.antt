@@ -1,6 +1,6 @@
-use Rattle.std.proofs.Common.{◌≡◌, ℕ, List, Option, Some, map, slice_get, refl, sym, ◌∙◌, subst}
+use Rattle.std.proofs.Common.{ℕ, Option, map, refl, sym, ◌∙◌, subst}
 use Rattle.std.proofs.lemmas.Option.{slice_get_read}
-use Rattle.wf_table.proofs.Jumping.{Outward, ends, falls, goes_out, has_node, inner, leads_in, rank, starts}
+use Rattle.wf_table.proofs.Jumping.{Outward, goes_out, has_node, inner, leads_in, starts}
 use Rattle.wf_table.proofs.jumps.jump_to.Goals as goal
 use Rattle.wf_table.specs.Kinds.{node_view}
 use Rattle.wf_table.specs.Spots.{owners_at, spots}

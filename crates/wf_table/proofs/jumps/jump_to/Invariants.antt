@@ -1,4 +1,4 @@
-use Rattle.std.proofs.Common.{◌≡◌, ℕ, suc, List, length, map, slice_get, Option, None, Some}
+use Rattle.std.proofs.Common.{◌≡◌, ℕ, List, length, map, slice_get, Some}
 use Rattle.wf_ast.specs.Tree.{Flow}
 use Rattle.wf_table.proofs.Jumping.{Outward, rank}
 use Rattle.wf_table.proofs.jumps.jump_to.Given as goal

@@ -1,4 +1,4 @@
-use Rattle.std.proofs.Common.{◌≡◌, ◌<◌, ◌≤◌, List, Some, length, map, refl, sym, ap, ◌∙◌, subst, arith}
+use Rattle.std.proofs.Common.{◌≡◌, ◌<◌, List, Some, length, map, refl, sym, ap, ◌∙◌, subst, arith}
 use Rattle.std.proofs.lemmas.List.{length-map}
 use Rattle.std.proofs.lemmas.Option.{slice_get_read}
 use Rattle.wf_table.proofs.Tabled.{JumpsTo, each_leads, jumps_turn, same_views}
@@ -28,8 +28,8 @@ loop-index-preserved c =
     let long : length lists ≡ length now = c.in_ok-lists.ensures.long ∙ ap length c.as_slice.ensures.value ∙ sym h.long in
     let finds : Finds (map node_view now) lists = subst (λ (v : List View). Finds v lists) (ap (map node_view) c.as_slice.ensures.value ∙ sym h.views) c.in_ok-lists.ensures.finds in
     let jumps : JumpsTo now lists x j =
-        subst (λ (l : List Names). JumpsTo now l x j) c.as_slice-in-loop-index-2.ensures.value
-        (subst (λ (l : List Node). JumpsTo l c.as_slice-in-loop-index-2.result.now x j) c.as_slice-in-loop-index.ensures.value c.jump_of-jump.ensures) in
+    subst (λ (l : List Names). JumpsTo now l x j) c.as_slice-in-loop-index-2.ensures.value
+    (subst (λ (l : List Node). JumpsTo l c.as_slice-in-loop-index-2.result.now x j) c.as_slice-in-loop-index.ensures.value c.jump_of-jump.ensures) in
     record {
       long = sym (length-map _ node_view) ∙ ap length views ∙ length-map first node_view;
       views = views;
