@@ -1,5 +1,6 @@
 -- Whole workflows.
-use Rattle.std.proofs.Common.{◌≡◌, ℕ, ◌+◌, List, [], ◌∷◌, ◌++◌, length, None, Err, refl, ap, ◌∙◌}
+use Rattle.std.proofs.Common.{◌≡◌, ℕ, ◌+◌, List, [], ◌∷◌, ◌++◌, length, None, Ok, Err, refl, ap, arith, ◌∙◌}
+use Rattle.wf_ast.specs.Accept.{fault, rules}
 use Rattle.wf_ast.specs.Nodes.{Node, nodes}
 use Rattle.wf_ast.specs.Tree.{Flow}
 use Rattle.wf_check.proofs.Walks.{behind, first_append}
@@ -17,7 +18,7 @@ counts_fails fs old new stop.OutOfMemory vs h = tt
 
 -- the names of steps begin anew
 pub anew : (fs : List Flow) (n : ℕ) (e : List Text) (ws : List Flow) → said_among fs n e (nodes ws) ≡ said_among fs n [] (nodes ws)
-unfolding nodes
+unfolding nodes fault rules
 anew fs n e [] = refl
 anew fs n e (f ∷ rest) = refl
 
@@ -27,3 +28,8 @@ counts_first fs number stop.OutOfMemory all xs ys e h = tt
 
 pub counted_on : (fs : List Flow) (number next : ℕ) (xs : List Node) (ws : List Flow) → said_among fs number [] xs ≡ None → next ≡ number + length xs → said_among fs number [] (xs ++ nodes ws) ≡ said_among fs next [] (nodes ws)
 counted_on fs number next xs ws none is = behind fs number next [] xs (nodes ws) none is ∙ anew fs next (after xs []) ws
+
+-- behind the last workflow nothing is left to say
+pub all_told : (fs : List Flow) (n : ℕ) (left : List Flow) → left ≡ [] → said_among fs 0 [] (nodes fs) ≡ said_among fs n [] (nodes left) → n + length (nodes left) ≡ length (nodes fs) → Counts fs 0 (Ok n) (nodes fs)
+unfolding nodes
+all_told fs n left none told counted = (told ∙ ap (λ r. said_among fs n [] (nodes r)) none, omega (arith, counted, ap (λ r. length (nodes r)) none))
