@@ -22,7 +22,8 @@ pub enum End {
 /// How many bytes were read, and what comes of them.
 #[derive(Debug, Clone, Copy, PartialEq, Eq)]
 pub struct Read {
-    /// The bytes that were read. The others are still to be read, with more behind them.
+    /// The bytes that were read, where more has to come: the others are still to be read, with more
+    /// behind them. Of another end it says nothing but that so many were heard.
     pub used: usize,
     /// What comes of the body.
     pub end: End,
