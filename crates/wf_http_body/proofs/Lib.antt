@@ -4,4 +4,5 @@ pub mod Fronts
 pub mod Lasting
 pub mod Naming
 pub mod Reading
+pub mod Steps
 pub mod Sizes
