@@ -1,10 +1,11 @@
 -- Chunks, one by one.
-use Rattle.std.proofs.Common.{◌≡◌, ◌≢◌, ℕ, ◌+◌, ◌-◌, ◌<◌, ◌≤◌, min, List, [], ◌∷◌, ◌++◌, length, get_or, take, drop, slice_range, refl, sym, ap, ◌∙◌, subst, arith, append_assoc, append-nil, length-append, length-take, length-drop, take-append-drop}
+use Rattle.std.proofs.Common.{◌≡◌, ◌≢◌, ℕ, ◌==◌, true, ◌+◌, ◌-◌, ◌<◌, ◌≤◌, min, List, [], ◌∷◌, ◌++◌, length, get_or, take, drop, slice_range, refl, sym, ap, ◌∙◌, subst, arith, append_assoc, append-nil, length-append, length-take, length-drop, take-append-drop}
 use Rattle.std.specs.List.{flat_map}
+use Rattle.std.proofs.lemmas.Bool.{false≢true, ne_eqb}
 use Rattle.std.proofs.lemmas.List.{drop-drop, drop_all, drop_more}
 use Rattle.std.proofs.lemmas.List.Concat.{flat_map-append}
 use Rattle.std.proofs.lemmas.List.Elements.{All-append, All-cons, All-nil}
-use Rattle.httparse.specs.Grammar.{ChunkLine, crlf, print_chunk_line, print_end, print_extension, HasNoChunkLine}
+use Rattle.httparse.specs.Grammar.{ChunkLine, IsChunkLine, crlf, print_chunk_line, print_end, print_extension, HasNoChunkLine}
 use Rattle.httparse.specs.Spans.{IsChunkLineAt}
 use Rattle.httparse.proofs.ChunkLemmas.{chunk_line_unique}
 use Rattle.wf_shared.specs.HttpBody.{Chunk, IsChunk, print_chunk, content_of, HasChunks, ReadsLine, EndsWrong, IsBadEnd, IsOver, line_limit}
@@ -49,15 +50,20 @@ pub reads_line : (b : List ℕ) (start size : ℕ) (l : ChunkLine) → IsChunkLi
 reads_line b start size l x short = (x.reads, let is = x.len_is in omega arith)
 
 -- it takes bytes
-pub line_takes : (b : List ℕ) (start size : ℕ) (l : ChunkLine) → IsChunkLineAt b start size l → (0 < start) × (start ≤ length b)
+pub line_some : (l : ChunkLine) → IsChunkLine l → 0 < length (print_chunk_line l)
 unfolding print_chunk_line
-line_takes b start size l x =
-    let le = line_within b start size l x in
-    let is = x.len_is in
-    let some = x.reads.0.digits.0 in
+line_some l is =
+    let some = is.digits.0 in
     let sum = length-append (l.digits ++ l.pad ++ print_extension l.extension) (print_end crlf) in
     let sum_front = length-append (l.digits ++ l.pad) (print_extension l.extension) in
     let sum_digits = length-append l.digits l.pad in
+    omega arith
+
+pub line_takes : (b : List ℕ) (start size : ℕ) (l : ChunkLine) → IsChunkLineAt b start size l → (0 < start) × (start ≤ length b)
+line_takes b start size l x =
+    let le = line_within b start size l x in
+    let is = x.len_is in
+    let some = line_some l x.reads.0 in
     (omega arith, le)
 
 -- ## Ends
@@ -69,9 +75,9 @@ pub wrong_second : (b : ℕ) (s : List ℕ) → b ≢ 10 → EndsWrong (13 ∷ b
 wrong_second b s ne = (omega arith, λ e. ne (cc e))
 
 -- at the end of what was heard
-pub begins_at_end : (b : List ℕ) → length b ≡ 0 → BeginsEnd b
+pub begins_at_end : (b : List ℕ) → true ≡ (length b == 0) → BeginsEnd b
 begins_at_end [] is = (13 ∷ 10 ∷ [], omega arith, refl)
-begins_at_end (a ∷ b) is = absurd (omega arith)
+begins_at_end (a ∷ b) is = absurd (false≢true (sym (ne_eqb (length (a ∷ b)) 0 (omega arith)) ∙ sym is))
 
 pub begins_before : (b : List ℕ) → length b ≡ 1 → get_or b 0 0 ≡ 13 → BeginsEnd b
 begins_before [] is cr = absurd (omega arith)

@@ -67,8 +67,7 @@ impl Chunks {
         let length = content.len();
         match read_piece(self.place, &mut self.unread, content, piece, limit) {
             Ok(read) => {
-                self.place = read.place;
-                self.pass(read.used);
+                self.settle(read);
                 Ok(read.end)
             }
             Err(error) => {
@@ -76,6 +75,20 @@ impl Chunks {
                 content.truncate(length);
                 Err(error)
             }
+        }
+    }
+
+    // Takes what was read. Of a body that is settled nothing is kept.
+    fn settle(&mut self, read: Read)
+        requires { read.used ≤ length self.old.unread.items }
+        ensures { (limit : ℕ) (all content : List ℕ)
+            → IsRead limit read.place all (drop read.used self.old.unread.items) content read.end
+            → ReadsBody limit self.new all content read.end }
+    {
+        self.place = read.place;
+        match read.end {
+            End::More => self.pass(read.used),
+            End::Whole | End::Bad | End::TooLarge => self.unread.clear(),
         }
     }
 
@@ -110,7 +123,11 @@ fn read_piece(
             content.new.items r.end) }
 {
     let (read, heard) = read_begun(place, unread, content, piece, limit)?;
-    if read.end != End::More || heard == piece.len() {
+    match read.end {
+        End::Whole | End::Bad | End::TooLarge => return Ok(read),
+        End::More => {}
+    }
+    if heard == piece.len() {
         return Ok(read);
     }
     let alloc = *unread.allocator();
@@ -146,25 +163,32 @@ fn read_begun(
         → drop r.0.used unread.new.items ≡ []) }
 {
     let alloc = *unread.allocator();
-    let mut read = Read {
-        used: 0,
-        place,
-        end: End::More,
-    };
+    let mut used = 0;
+    let mut next = place;
     let mut heard = 0;
-    while read.used < unread.len() && heard < piece.len() && read.end == End::More {
+    while used < unread.len() && heard < piece.len() {
         let (_, rest) = piece.split_at(heard);
-        let (front, _) = rest.split_at(read.place.front(rest));
+        let (front, _) = rest.split_at(next.front(rest));
         add(unread, front)?;
         heard += front.len();
-        let (_, open) = unread.as_slice().split_at(read.used);
-        let more = read_parts(alloc, read.place, content, open, limit)?;
-        read = Read {
-            used: read.used + more.used,
-            place: more.place,
-            end: more.end,
-        };
+        let (_, begun) = unread.as_slice().split_at(used);
+        let read = read_parts(alloc, next, content, begun, limit)?;
+        used += read.used;
+        next = read.place;
+        match read.end {
+            End::Whole | End::Bad | End::TooLarge => {
+                let end = read.end;
+                let place = next;
+                return Ok((Read { used, place, end }, heard));
+            }
+            End::More => {}
+        }
     }
+    let read = Read {
+        used,
+        place: next,
+        end: End::More,
+    };
     Ok((read, heard))
 }
 

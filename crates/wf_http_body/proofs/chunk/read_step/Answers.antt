@@ -11,7 +11,7 @@ returns-in-Line-clause-step c =
 
 pub returns-in-Content-eq0-clause-step : goal.returns-in-Content-eq0-clause-step
 returns-in-Content-eq0-clause-step c =
-    subst (λ (p : Place). Steps p c.args.heard.now c.args.room c.read_end.result) (sym (c.in-Content-eq0.is ∙ ap place.Content c.in-Content-eq0.field-0-is)) (c.read_end.ensures.step c.args.room)
+    subst (λ (p : Place). Steps p c.args.heard.now c.args.room c.read_end.result) (sym (c.in-Content-eq0.is ∙ ap place.Content (sym c.in-Content-eq0.field-0-is ∙ c.in-Content-eq0.field-0-test))) (c.read_end.ensures.step c.args.room)
 
 pub returns-in-Trailer-clause-step : goal.returns-in-Trailer-clause-step
 returns-in-Trailer-clause-step c = last_steps c.read_last.result c.args.place c.args.heard.now c.args.room c.in-Trailer.is c.read_last.ensures.step
