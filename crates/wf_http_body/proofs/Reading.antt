@@ -75,7 +75,7 @@ take_further n m piece =
     ∙ ap (λ (s : List ℕ). take n piece ++ s) (drop-take n m piece)
 
 -- a front is as long as it is
-own_front : (front rest piece : List ℕ) (k heard : ℕ) → front ≡ take k rest → rest ≡ drop heard piece → front ≡ take (length front) (drop heard piece)
+pub own_front : (front rest piece : List ℕ) (k heard : ℕ) → front ≡ take k rest → rest ≡ drop heard piece → front ≡ take (length front) (drop heard piece)
 own_front front rest piece k heard is begins =
     let size = ap length is ∙ length-take k rest in
     is ∙ sym (take_min k rest) ∙ ap (λ (n : ℕ). take n rest) (sym size) ∙ ap (take (length front)) begins

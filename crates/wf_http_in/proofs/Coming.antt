@@ -16,7 +16,7 @@ use Rattle.wf_http_body.specs.Chunks.{IsOpenChunked, IsChunkedBody}
 use Rattle.wf_http_body.specs.Parts.{IsFresh, IsSame as IsSameChunks}
 use Rattle.wf_http_body.proofs.Fronts.{front_of}
 use Rattle.wf_http_body.proofs.Opening.{fresh_body, open_body, same_body, same_fresh}
-use Rattle.wf_http_body.proofs.Reading.{take_further}
+use Rattle.wf_http_body.proofs.Reading.{read_within, take_further}
 use Rattle.wf_http_in.specs.declared.framing.Framing.{Framing}
 use Rattle.wf_http_in.specs.declared.framing.Framing.TheVariants as framing
 use Rattle.wf_http_in.specs.declared.heads.Heading.{Heading}
@@ -38,23 +38,29 @@ use Rattle.wf_http_in.proofs.Sizes.{head_some, may_begin, nothing_is_no_head}
 
 -- ## More is heard
 -- what is decided stays, whatever comes
-pub whole_stays : (s : Stage) (r : HeadData) (unread : List ℕ) (c : Chunks) (content heard piece : List ℕ) → s ≡ stage.Whole r → IsStage s unread c content heard
+whole_stays : (s : Stage) (r : HeadData) (unread : List ℕ) (c : Chunks) (content heard piece : List ℕ) → s ≡ stage.Whole r → IsStage s unread c content heard
     → IsStage s unread c content (heard ++ piece)
 whole_stays s r unread c content heard piece is at =
     subst (λ (t : Stage). IsStage t unread c content (heard ++ piece)) (sym is)
     (again heard piece (Response r.code r.fields content) (subst (λ (t : Stage). IsStage t unread c content heard) is at))
 
-pub bad_stays : (s : Stage) (unread : List ℕ) (c : Chunks) (content heard piece : List ℕ) → s ≡ stage.Bad → IsStage s unread c content heard
+bad_stays : (s : Stage) (unread : List ℕ) (c : Chunks) (content heard piece : List ℕ) → s ≡ stage.Bad → IsStage s unread c content heard
     → IsStage s unread c content (heard ++ piece)
 bad_stays s unread c content heard piece is at =
     subst (λ (t : Stage). IsStage t unread c content (heard ++ piece)) (sym is)
     (again heard piece Broken (subst (λ (t : Stage). IsStage t unread c content heard) is at))
 
-pub too_long_stays : (s : Stage) (unread : List ℕ) (c : Chunks) (content heard piece : List ℕ) → s ≡ stage.TooLong → IsStage s unread c content heard
+too_long_stays : (s : Stage) (unread : List ℕ) (c : Chunks) (content heard piece : List ℕ) → s ≡ stage.TooLong → IsStage s unread c content heard
     → IsStage s unread c content (heard ++ piece)
 too_long_stays s unread c content heard piece is at =
     subst (λ (t : Stage). IsStage t unread c content (heard ++ piece)) (sym is)
     (again heard piece TooLong (subst (λ (t : Stage). IsStage t unread c content heard) is at))
+
+pub decided_stays : (s : Stage) (unread : List ℕ) (c : Chunks) (content heard piece : List ℕ) → (((r : HeadData) × (s ≡ stage.Whole r)) ⊎ ((s ≡ stage.Bad) ⊎ (s ≡ stage.TooLong)))
+    → IsStage s unread c content heard → IsStage s unread c content (heard ++ piece)
+decided_stays s unread c content heard piece (inl (r, is)) at = whole_stays s r unread c content heard piece is at
+decided_stays s unread c content heard piece (inr (inl is)) at = bad_stays s unread c content heard piece is at
+decided_stays s unread c content heard piece (inr (inr is)) at = too_long_stays s unread c content heard piece is at
 
 behind_grows : (heard : List ℕ) (r : HeadData) (f : Framing) (all piece : List ℕ) → IsBehind heard r f all → IsBehind (heard ++ piece) r f (all ++ piece)
 behind_grows heard r f all piece x = record { head = x.head; has = head_stays heard piece x.head all x.has; taken = x.taken }
@@ -106,6 +112,7 @@ at_stage next s left was c grown new heard goes same is at =
 pub body_read : (s next : Stage) (r : HeadData) (f : Framing) (heard unread left content piece grown new : List ℕ) (was read now : Chunks) (e : End)
     → s ≡ stage.Body r f → IsStage s unread was content heard → Reads f was content piece read grown e
     → next ≡ settled e s → now ≡ read → new ≡ grown → IsStage next left now new (heard ++ piece)
+unfolding behind_grows
 body_read s next r f heard unread left content piece grown new was read now e is at reads goes same added =
     let body = subst (λ (t : Stage). IsStage t unread was content heard) is at in
     let behind = body.1 in
@@ -253,21 +260,25 @@ passed_further heard rest n more is (hs, skips) (gs, further_skips) =
     (hs ++ gs, subst (λ (s : List ℕ). SkipsHeads heard (hs ++ gs) s) (drop-drop more n heard)
         (further heard (drop n heard) (drop more (drop n heard)) hs gs skips (subst (λ (s : List ℕ). SkipsHeads s gs (drop more s)) is further_skips)))
 
+pub heard_more : (begun piece was front heard : List ℕ) (used k : ℕ) → was ≡ begun ++ take used piece → front ≡ take k (drop used piece) → heard ≡ was ++ front
+    → heard ≡ begun ++ take (used + k) piece
+heard_more begun piece was front heard used k was_is front_is heard_is =
+    heard_is ∙ ap (λ (s : List ℕ). s ++ front) was_is ∙ append_assoc begun (take used piece) front
+    ∙ ap (λ (s : List ℕ). begun ++ s) (ap (λ (s : List ℕ). take used piece ++ s) front_is ∙ sym (take_further used k piece))
+
+pub passed_behind : (was front heard rest : List ℕ) (n more : ℕ) → heard ≡ was ++ front → n ≤ length was → IsPassed was n → rest ≡ drop n heard → IsPassed rest more → IsPassed heard (n + more)
+passed_behind was front heard rest n more heard_is le passed rest_is passed_more =
+    passed_further heard rest n more rest_is (subst (λ (s : List ℕ). IsPassed s n) (sym heard_is) (passed_stay was front n le passed)) passed_more
+
 pub head_found : (begun piece was front heard rest : List ℕ) (used k n more : ℕ) (h : Heading) → was ≡ begun ++ take used piece → front ≡ take k (drop used piece)
     → heard ≡ was ++ front → n ≤ length was → IsPassed was n → rest ≡ drop n heard → more ≤ length rest → IsPassed rest more → IsHeading (drop more rest) h → IsFinal h
     → ((used + k ≡ length piece) ⊎ (is_settled h ≡ true)) → IsHeadFound begun piece heard (n + more) h
 head_found begun piece was front heard rest used k n more h was_is front_is heard_is le passed rest_is within passed_more told final done =
-    let all_is : heard ≡ begun ++ take (used + k) piece =
-    heard_is ∙ ap (λ (s : List ℕ). s ++ front) was_is ∙ append_assoc begun (take used piece) front
-    ∙ ap (λ (s : List ℕ). begun ++ s) (ap (λ (s : List ℕ). take used piece ++ s) front_is ∙ sym (take_further used k piece)) in
-    let size = ap length rest_is ∙ length-drop n heard in
-    let sum = ap length heard_is ∙ length-append was front in
-    let both = passed_further heard rest n more rest_is (subst (λ (s : List ℕ). IsPassed s n) (sym heard_is) (passed_stay was front n le passed)) passed_more in
     record {
       front = used + k;
-      heard_is = all_is;
-      within = omega arith;
-      passed = both;
+      heard_is = heard_more begun piece was front heard used k was_is front_is heard_is;
+      within = read_within was front heard rest n more le heard_is rest_is within;
+      passed = passed_behind was front heard rest n more heard_is le passed rest_is passed_more;
       heading_is = subst (λ (s : List ℕ). IsHeading s h) (ap (drop more) rest_is ∙ drop-drop more n heard) told;
       final = final;
       all = λ is_open. elim done [
@@ -394,31 +405,3 @@ is_to_the_end s r f unread c content heard close is ends at =
     let body = subst (λ (t : Stage). IsStage t unread c content heard) (is ∙ ap (stage.Body r) ends) at in
     let x = body.1 in
     at_end heard x.head r content close (body.0, x.has, to_the_end (answer.framing x.head) body.0 content close x.taken.framed body.2.0 body.2.1) x.taken.head
-
--- ## One feed
-pub heard_on : {A E : Type 0} (result : Result A E) (piece : List ℕ) (was new : Reading) (heard : List ℕ) (close : Close)
-    → HasHeard was heard close → is_ok result ≡ true → new.close ≡ was.close → OnOk result (GoesOn was piece new) → HasHeard new (if is_ok result then heard ++ piece else heard) close
-heard_on (Ok a) piece was new heard close h ok same go = record { stage = go heard h.stage; close_is = h.close_is ∙ ap close_view (sym same) }
-heard_on (Err e) piece was new heard close h ok same go = absurd (false≢true ok)
-
--- all stays
-part_same : (f : Framing) (was c : Chunks) (all content : List ℕ) → IsSameChunks was c → IsOpenPart f was all content → IsOpenPart f c all content
-part_same framing.Empty was c all content same part = absurd part
-part_same (framing.OfLength n) was c all content same part = part
-part_same framing.TooLong was c all content same part = absurd part
-part_same framing.InChunks was c all content same part = same_body answer_limit was c all content same part
-part_same framing.ToTheEnd was c all content same part = part
-part_same framing.Bad was c all content same part = absurd part
-
-chunks_same : (s : Stage) (unread : List ℕ) (was c : Chunks) (content heard : List ℕ) → IsSameChunks was c → IsStage s unread was content heard → IsStage s unread c content heard
-chunks_same stage.Head unread was c content heard same (skips, none, fresh) = (skips, none, same_fresh was c same fresh)
-chunks_same (stage.Body r f) unread was c content heard same (all, behind, part) = (all, behind, part_same f was c all content same part)
-chunks_same (stage.Whole r) unread was c content heard same at = at
-chunks_same stage.Bad unread was c content heard same at = at
-chunks_same stage.TooLong unread was c content heard same at = at
-
-pub stage_same : (s next : Stage) (unread left : List ℕ) (was c : Chunks) (content new heard : List ℕ) → next ≡ s → left ≡ unread → IsSameChunks was c → new ≡ content
-    → IsStage s unread was content heard → IsStage next left c new heard
-stage_same s next unread left was c content new heard stays kept same is at =
-    subst (λ (t : Stage). IsStage t left c new heard) (sym stays)
-    (subst (λ (u : List ℕ). IsStage s u c new heard) (sym kept) (subst (λ (b : List ℕ). IsStage s unread c b heard) (sym is) (chunks_same s unread was c content heard same at)))

@@ -95,12 +95,14 @@ impl Reading {
     {
         match &self.stage {
             Stage::Head => self.unfinished(),
-            Stage::Body(head, Framing::ToTheEnd) => match self.close {
-                Close::Open => None,
-                Close::Ended => Some(Answer::Response(head, self.content.as_slice())),
-                Close::Broke => Some(Answer::Broken),
+            Stage::Body(head, framing) => match framing {
+                Framing::ToTheEnd => match self.close {
+                    Close::Open => None,
+                    Close::Ended => Some(Answer::Response(head, self.content.as_slice())),
+                    Close::Broke => Some(Answer::Broken),
+                },
+                _ => self.unfinished(),
             },
-            Stage::Body(_, _) => self.unfinished(),
             Stage::Whole(head) => Some(Answer::Response(head, self.content.as_slice())),
             Stage::Bad => Some(Answer::Broken),
             Stage::TooLong => Some(Answer::TooLong),

@@ -1,5 +1,5 @@
 -- From what was read to what is known of a visit.
-use Rattle.std.proofs.Common.{◌≡◌, ℕ, ◌+◌, ◌-◌, ◌<◌, ◌≤◌, List, [], ◌++◌, length, take, drop, Result, Ok, Err, if◌then◌else◌, Bool, true, false, refl, sym, ap, ◌∙◌, subst, arith, inl, inr, append_assoc, append-nil, length-append, length-drop, length-take, take-append-drop}
+use Rattle.std.proofs.Common.{◌≡◌, ℕ, ◌+◌, ◌-◌, ◌<◌, ◌≤◌, List, [], ◌++◌, length, take, drop, Result, Ok, Err, if◌then◌else◌, Bool, true, false, refl, sym, ap, ◌∙◌, subst, arith, ◌⊎◌, inl, inr, append_assoc, append-nil, length-append, length-drop, length-take, take-append-drop}
 use Rattle.std.proofs.lemmas.Bool.{cases_lt, false≢true}
 use Rattle.std.proofs.lemmas.List.{drop-append-le, drop-drop, drop_at, take_all}
 use Rattle.std.specs.Prelude.{IfOk, OnOk, is_ok}
@@ -31,23 +31,29 @@ use Rattle.wf_http_serve.proofs.Sizes.{nothing_is_no_head}
 
 -- ## More is heard
 -- what is decided stays, whatever comes
-pub asked_stays : (s : Stage) (r : Request) (unread : List ℕ) (c : Chunks) (content heard piece : List ℕ) → s ≡ stage.Asked r → IsStage s unread c content heard
+asked_stays : (s : Stage) (r : Request) (unread : List ℕ) (c : Chunks) (content heard piece : List ℕ) → s ≡ stage.Asked r → IsStage s unread c content heard
     → IsStage s unread c content (heard ++ piece)
 asked_stays s r unread c content heard piece is at =
     subst (λ (t : Stage). IsStage t unread c content (heard ++ piece)) (sym is)
     (again heard piece (visits.Asks r.method r.target r.fields content) (subst (λ (t : Stage). IsStage t unread c content heard) is at))
 
-pub bad_stays : (s : Stage) (unread : List ℕ) (c : Chunks) (content heard piece : List ℕ) → s ≡ stage.Bad → IsStage s unread c content heard
+bad_stays : (s : Stage) (unread : List ℕ) (c : Chunks) (content heard piece : List ℕ) → s ≡ stage.Bad → IsStage s unread c content heard
     → IsStage s unread c content (heard ++ piece)
 bad_stays s unread c content heard piece is at =
     subst (λ (t : Stage). IsStage t unread c content (heard ++ piece)) (sym is)
     (again heard piece visits.Bad (subst (λ (t : Stage). IsStage t unread c content heard) is at))
 
-pub too_large_stays : (s : Stage) (unread : List ℕ) (c : Chunks) (content heard piece : List ℕ) → s ≡ stage.TooLarge → IsStage s unread c content heard
+too_large_stays : (s : Stage) (unread : List ℕ) (c : Chunks) (content heard piece : List ℕ) → s ≡ stage.TooLarge → IsStage s unread c content heard
     → IsStage s unread c content (heard ++ piece)
 too_large_stays s unread c content heard piece is at =
     subst (λ (t : Stage). IsStage t unread c content (heard ++ piece)) (sym is)
     (again heard piece visits.TooLarge (subst (λ (t : Stage). IsStage t unread c content heard) is at))
+
+pub decided_stays : (s : Stage) (unread : List ℕ) (c : Chunks) (content heard piece : List ℕ) → (((r : Request) × (s ≡ stage.Asked r)) ⊎ ((s ≡ stage.Bad) ⊎ (s ≡ stage.TooLarge)))
+    → IsStage s unread c content heard → IsStage s unread c content (heard ++ piece)
+decided_stays s unread c content heard piece (inl (r, is)) at = asked_stays s r unread c content heard piece is at
+decided_stays s unread c content heard piece (inr (inl is)) at = bad_stays s unread c content heard piece is at
+decided_stays s unread c content heard piece (inr (inr is)) at = too_large_stays s unread c content heard piece is at
 
 behind_grows : (heard : List ℕ) (r : Request) (f : Framing) (all piece : List ℕ) → IsBehind heard r f all → IsBehind (heard ++ piece) r f (all ++ piece)
 behind_grows heard r f all piece x = record { head = x.head; has = head_stays heard piece x.head all x.has; taken = x.taken }
@@ -97,6 +103,7 @@ at_stage next s left was c grown new heard goes same is at =
 pub body_read : (s next : Stage) (r : Request) (f : Framing) (heard unread left content piece grown new : List ℕ) (was read now : Chunks) (e : End)
     → s ≡ stage.Body r f → IsStage s unread was content heard → Reads f was content piece read grown e
     → next ≡ settled e s → now ≡ read → new ≡ grown → IsStage next left now new (heard ++ piece)
+unfolding behind_grows
 body_read s next r f heard unread left content piece grown new was read now e is at reads goes same added =
     let body = subst (λ (t : Stage). IsStage t unread was content heard) is at in
     let behind = body.1 in
@@ -213,24 +220,6 @@ head_open next h heard unread piece joined left content new was now (same_heard,
       subst IsHeadless joined_is (subst (IsHeading joined) is_open found.heading_is),
     )
 
--- a front of the piece is enough, or all of it is read
-pub found_front : (begun piece front heard : List ℕ) (k : ℕ) (h : Heading) → front ≡ take k piece → heard ≡ begun ++ front → IsHeading heard h → (h ≡ heading.NotYet → ⊥)
-    → IsHeadFound begun piece heard h
-found_front begun piece front heard k h is joins told done =
-    record { front = k; heard_is = joins ∙ ap (λ (s : List ℕ). begun ++ s) is; heading_is = told; all = λ is_open. absurd (done is_open) }
-
-pub found_all : (begun piece front rest joined heard : List ℕ) (k : ℕ) (h : Heading) → front ≡ take k piece → rest ≡ drop k piece → joined ≡ begun ++ front → heard ≡ joined ++ rest
-    → IsHeading heard h → IsHeadFound begun piece heard h
-found_all begun piece front rest joined heard k h is behind joins all told =
-    let every : take (length piece) piece ≡ piece = take_all (length piece) piece (omega arith) in
-    record {
-      front = length piece;
-      heard_is = all ∙ ap (λ (s : List ℕ). s ++ rest) joins ∙ append_assoc begun front rest
-          ∙ ap (λ (s : List ℕ). begun ++ s) (ap (λ (s : List ℕ). s ++ rest) is ∙ ap (λ (s : List ℕ). take k piece ++ s) behind ∙ take-append-drop k piece ∙ sym every);
-      heading_is = told;
-      all = λ is_open. every;
-    }
-
 -- nothing was heard
 pub fresh : (unread content : List ℕ) (c : Chunks) → unread ≡ [] → content ≡ [] → IsFresh c → IsStage stage.Head unread c content []
 fresh unread content c none empty is_fresh = (none, empty, is_fresh, record { none = nothing_is_no_head; possible = λ line. absurd (false≢true line); short = omega arith })
@@ -249,30 +238,3 @@ is_bad s unread c content heard close is at = known heard close visits.Bad (subs
 
 pub is_too_large : (s : Stage) (unread : List ℕ) (c : Chunks) (content heard : List ℕ) (close : Close) → s ≡ stage.TooLarge → IsStage s unread c content heard → VisitOf heard close visits.TooLarge
 is_too_large s unread c content heard close is at = known heard close visits.TooLarge (subst (λ (t : Stage). IsStage t unread c content heard) is at)
-
--- ## One feed
-pub heard_on : {A E : Type 0} (result : Result A E) (piece : List ℕ) (was new : Visit) (heard : List ℕ) (close : Close)
-    → HasHeard was heard close → is_ok result ≡ true → new.is_ended ≡ was.is_ended → OnOk result (GoesOn was piece new) → HasHeard new (if is_ok result then heard ++ piece else heard) close
-heard_on (Ok a) piece was new heard close h ok same go = record { stage = go heard h.stage; close_is = h.close_is ∙ ap close_of (sym same) }
-heard_on (Err e) piece was new heard close h ok same go = absurd (false≢true ok)
-
--- all stays
-part_same : (f : Framing) (was c : Chunks) (all content : List ℕ) → IsSameChunks was c → IsOpenPart f was all content → IsOpenPart f c all content
-part_same framing.Empty was c all content same part = absurd part
-part_same (framing.OfLength n) was c all content same part = part
-part_same framing.TooLarge was c all content same part = absurd part
-part_same framing.InChunks was c all content same part = same_body visit_limit was c all content same part
-part_same framing.Bad was c all content same part = absurd part
-
-chunks_same : (s : Stage) (unread : List ℕ) (was c : Chunks) (content heard : List ℕ) → IsSameChunks was c → IsStage s unread was content heard → IsStage s unread c content heard
-chunks_same stage.Head unread was c content heard same (is, none, fresh, less) = (is, none, same_fresh was c same fresh, less)
-chunks_same (stage.Body r f) unread was c content heard same (all, behind, part) = (all, behind, part_same f was c all content same part)
-chunks_same (stage.Asked r) unread was c content heard same at = at
-chunks_same stage.Bad unread was c content heard same at = at
-chunks_same stage.TooLarge unread was c content heard same at = at
-
-pub stage_same : (s next : Stage) (unread left : List ℕ) (was c : Chunks) (content new heard : List ℕ) → next ≡ s → left ≡ unread → IsSameChunks was c → new ≡ content
-    → IsStage s unread was content heard → IsStage next left c new heard
-stage_same s next unread left was c content new heard stays kept same is at =
-    subst (λ (t : Stage). IsStage t left c new heard) (sym stays)
-    (subst (λ (u : List ℕ). IsStage s u c new heard) (sym kept) (subst (λ (b : List ℕ). IsStage s unread c b heard) (sym is) (chunks_same s unread was c content heard same at)))

@@ -6,10 +6,10 @@ use Rattle.wf_http_serve.proofs.visit.Visit.state.Goals as goal
 pub returns-in-Asked : goal.returns-in-Asked
 returns-in-Asked c = λ heard close h.
     let r = c.in-Asked.request in
-    subst (λ (b : List ℕ). VisitOf heard close (Asks r.method r.target r.fields b)) (sym c.as_slice.ensures.value) (is_asked _ r _ _ heard close c.in-Asked.is h.stage)
+    subst (λ (b : List ℕ). VisitOf heard close (Asks r.method r.target r.fields b)) (sym c.as_slice.ensures.value) (is_asked _ r _ _ _ heard close c.in-Asked.is h.stage)
 
 pub returns-in-Bad : goal.returns-in-Bad
-returns-in-Bad c = λ heard close h. is_bad _ _ _ heard close c.in-Bad.is h.stage
+returns-in-Bad c = λ heard close h. is_bad _ _ _ _ heard close c.in-Bad.is h.stage
 
 pub returns-in-TooLarge : goal.returns-in-TooLarge
-returns-in-TooLarge c = λ heard close h. is_too_large _ _ _ heard close c.in-TooLarge.is h.stage
+returns-in-TooLarge c = λ heard close h. is_too_large _ _ _ _ heard close c.in-TooLarge.is h.stage
