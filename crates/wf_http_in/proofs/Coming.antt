@@ -13,9 +13,9 @@ use Rattle.wf_http_body.specs.declared.body.Chunks.{Chunks}
 use Rattle.wf_http_body.specs.declared.body.End.{End}
 use Rattle.wf_http_body.specs.declared.body.End.TheVariants as end
 use Rattle.wf_http_body.specs.Chunks.{IsOpenChunked, IsChunkedBody}
-use Rattle.wf_http_body.specs.Parts.{IsFresh, IsSame as IsSameChunks}
+use Rattle.wf_http_body.specs.Parts.{IsFresh}
 use Rattle.wf_http_body.proofs.Fronts.{front_of}
-use Rattle.wf_http_body.proofs.Opening.{fresh_body, open_body, same_body, same_fresh}
+use Rattle.wf_http_body.proofs.Opening.{fresh_body, open_body}
 use Rattle.wf_http_body.proofs.Reading.{read_within, take_further}
 use Rattle.wf_http_in.specs.declared.framing.Framing.{Framing}
 use Rattle.wf_http_in.specs.declared.framing.Framing.TheVariants as framing

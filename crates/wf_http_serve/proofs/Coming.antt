@@ -1,21 +1,21 @@
 -- From what was read to what is known of a visit.
-use Rattle.std.proofs.Common.{◌≡◌, ℕ, ◌+◌, ◌-◌, ◌<◌, ◌≤◌, List, [], ◌++◌, length, take, drop, Result, Ok, Err, if◌then◌else◌, Bool, true, false, refl, sym, ap, ◌∙◌, subst, arith, ◌⊎◌, inl, inr, append_assoc, append-nil, length-append, length-drop, length-take, take-append-drop}
-use Rattle.std.proofs.lemmas.Bool.{cases_lt, false≢true}
+use Rattle.std.proofs.Common.{◌≡◌, ℕ, ◌+◌, ◌-◌, ◌<◌, ◌≤◌, List, [], ◌++◌, length, take, drop, Result, Ok, Err, Bool, true, false, refl, sym, ap, ◌∙◌, subst, arith, ◌⊎◌, inl, inr, append_assoc, append-nil, length-append, length-drop, length-take, take-append-drop}
+use Rattle.std.proofs.lemmas.Bool.{cases_lt, false≢true, le-ltb, lt-leb}
 use Rattle.std.proofs.lemmas.List.{drop-append-le, drop-drop, drop_at, take_all}
-use Rattle.std.specs.Prelude.{IfOk, OnOk, is_ok}
+use Rattle.std.specs.Prelude.{◌≢◌, IfOk}
 use Rattle.httparse.specs.Grammar.{RequestHead, ReadsRequest, HasNoRequest, print_request}
 use Rattle.wf_shared.specs.HttpBody as plain
-use Rattle.wf_shared.specs.HttpBody.{Close, Complete, Malformed, Oversize, BodyState, headers_of}
+use Rattle.wf_shared.specs.HttpBody.{Close, Open, Ended, Broke, length_state, unless_closed, Complete, Malformed, Oversize, BodyState, headers_of}
 use Rattle.wf_http_body.specs.declared.body.Chunks.{Chunks}
 use Rattle.wf_http_body.specs.declared.body.End.{End}
 use Rattle.wf_http_body.specs.declared.body.End.TheVariants as end
+use Rattle.wf_http_body.specs.Chunks.{IsOpenChunked, IsChunkedBody}
 use Rattle.wf_http_body.specs.Lengths.{IsLengthPart, IsLengthRead}
-use Rattle.wf_http_body.specs.Parts.{IsFresh, IsOpenBody, ReadsBody, IsSame as IsSameChunks}
+use Rattle.wf_http_body.specs.Parts.{IsFresh, IsOpenBody, ReadsBody}
 use Rattle.wf_http_body.proofs.Fronts.{front_of}
-use Rattle.wf_http_body.proofs.Opening.{fresh_body, open_body, same_body, same_fresh}
+use Rattle.wf_http_body.proofs.Opening.{fresh_body, open_body}
 use Rattle.wf_http_serve.specs.declared.head.Heading.{Heading}
 use Rattle.wf_http_serve.specs.declared.head.Heading.TheVariants as heading
-use Rattle.wf_http_serve.specs.declared.visit.Visit.{Visit}
 use Rattle.wf_http_serve.specs.declared.framing.Framing.{Framing}
 use Rattle.wf_http_serve.specs.declared.framing.Framing.TheVariants as framing
 use Rattle.wf_http_serve.specs.declared.request.Request.{Request}
@@ -23,9 +23,9 @@ use Rattle.wf_http_serve.specs.declared.stage.Stage.{Stage}
 use Rattle.wf_http_serve.specs.declared.stage.Stage.TheVariants as stage
 use Rattle.wf_http_serve.specs.Found.{IsHeading, IsHeadFound, IsWholeHead}
 use Rattle.wf_http_serve.specs.Plain.{IsFramed, close_of}
-use Rattle.wf_http_serve.specs.Stages.{GoesOn, IsPartOf, IsOpenPart, IsRead, StaysBody, Stays, IsBehind, IsStage, settled, HasHeard}
+use Rattle.wf_http_serve.specs.Stages.{IsPartOf, IsOpenPart, IsRead, StaysBody, Stays, IsBehind, IsStage, settled}
 use Rattle.wf_http_serve.specs.Visits as visits
-use Rattle.wf_http_serve.specs.Visits.{visit_limit, VisitOf, HasBody, IsHeadless, IsVisitBody, HasHead}
+use Rattle.wf_http_serve.specs.Visits.{visit_limit, VisitOf, HasBody, HasSomeBody, IsHeadless, IsVisitBody, HasHead}
 use Rattle.wf_http_serve.proofs.Lasting.{head_stays, again, bad_heads}
 use Rattle.wf_http_serve.proofs.Sizes.{nothing_is_no_head}
 
@@ -238,3 +238,53 @@ is_bad s unread c content heard close is at = known heard close visits.Bad (subs
 
 pub is_too_large : (s : Stage) (unread : List ℕ) (c : Chunks) (content heard : List ℕ) (close : Close) → s ≡ stage.TooLarge → IsStage s unread c content heard → VisitOf heard close visits.TooLarge
 is_too_large s unread c content heard close is at = known heard close visits.TooLarge (subst (λ (t : Stage). IsStage t unread c content heard) is at)
+
+-- ## Not yet whole
+length_open : (limit n : ℕ) (close : Close) (b : List ℕ) → n ≤ limit → length b < n → length_state limit close b n ≡ unless_closed close
+length_open limit n close b fits short = rw (le-ltb limit n fits, lt-leb n (length b) short) refl
+
+ended_ne : Ended ≢ Open
+ended_ne e = cc e
+
+broke_ne : Broke ≢ Open
+broke_ne e = cc e
+
+open_chunked : (all : List ℕ) (close : Close) → IsOpenChunked visit_limit all → IsChunkedBody visit_limit close all (unless_closed close)
+open_chunked all Open x = (refl, x)
+open_chunked all Ended x = inr (ended_ne, x)
+open_chunked all Broke x = inr (broke_ne, x)
+
+open_body_at : (f : Framing) (g : plain.Framing) (c : Chunks) (all content : List ℕ) (close : Close) → IsOpenPart f c all content → IsFramed f g → IsVisitBody g close all (unless_closed close)
+open_body_at framing.Empty g c all content close part framed = absurd part
+open_body_at (framing.OfLength n) g c all content close (is, short) framed =
+    subst (λ (k : plain.Framing). IsVisitBody k close all (unless_closed close)) (sym framed.0)
+    (sym (length_open visit_limit n close all framed.1 (omega (arith, short, ap length is))))
+open_body_at framing.TooLarge g c all content close part framed = absurd part
+open_body_at framing.InChunks g c all content close part framed =
+    subst (λ (k : plain.Framing). IsVisitBody k close all (unless_closed close)) (sym framed) (open_chunked all close (open_body visit_limit c all content part))
+open_body_at framing.Bad g c all content close part framed = absurd part
+
+-- a head or a body isn't whole
+abbrev pub IsGoing : Stage → Type 0
+IsGoing s = (s ≡ stage.Head) ⊎ ((r : Request) × (f : Framing) × (s ≡ stage.Body r f))
+
+open_at : (s : Stage) (unread : List ℕ) (c : Chunks) (content heard : List ℕ) (close : Close) → IsGoing s → IsStage s unread c content heard
+    → HasSomeBody heard close (unless_closed close) ⊎ IsHeadless heard
+open_at s unread c content heard close (inl is) at = inr (subst (λ (t : Stage). IsStage t unread c content heard) is at).3
+open_at s unread c content heard close (inr (r, f, is)) at =
+    let body = subst (λ (t : Stage). IsStage t unread c content heard) is at in
+    let x = body.1 in
+    inl (x.head, record { rest = body.0; head = x.has; body = open_body_at f (visits.framing (headers_of x.head.fields)) c body.0 content close body.2 x.taken.framed })
+
+pub is_not_yet : (s : Stage) (unread : List ℕ) (c : Chunks) (content heard : List ℕ) (close : Close) (ended : Bool) → ended ≡ false → close ≡ close_of ended → IsGoing s
+    → IsStage s unread c content heard → VisitOf heard close visits.NotYet
+is_not_yet s unread c content heard close ended e same going at =
+    subst (λ (k : Close). VisitOf heard k visits.NotYet) (sym (same ∙ ap close_of e)) (refl, open_at s unread c content heard Open going at)
+
+pub is_cut : (s : Stage) (unread : List ℕ) (c : Chunks) (content heard : List ℕ) (close : Close) (ended : Bool) → ended ≡ true → close ≡ close_of ended → IsGoing s
+    → IsStage s unread c content heard → VisitOf heard close visits.Bad
+is_cut s unread c content heard close ended e same going at =
+    subst (λ (k : Close). VisitOf heard k visits.Bad) (sym (same ∙ ap close_of e)) (elim (open_at s unread c content heard Ended going at) [
+      | inl x ↦ inl x
+      | inr less ↦ inr (inr (ended_ne, less))
+    ])

@@ -1,7 +1,13 @@
 use Rattle.std.proofs.Common.{List, ℕ, subst, sym}
 use Rattle.wf_http_serve.specs.Visits.{VisitOf, Asks}
-use Rattle.wf_http_serve.proofs.Coming.{is_asked, is_bad, is_too_large}
+use Rattle.wf_http_serve.proofs.Coming.{is_asked, is_bad, is_cut, is_not_yet, is_too_large}
 use Rattle.wf_http_serve.proofs.visit.Visit.state.Goals as goal
+
+pub returns-then-self : goal.returns-then-self
+returns-then-self c = λ heard close h. is_cut _ _ _ _ heard close _ c.if-self.true h.close_is c.in-Head.is h.stage
+
+pub returns-else-self : goal.returns-else-self
+returns-else-self c = λ heard close h. is_not_yet _ _ _ _ heard close _ c.if-self.false h.close_is c.in-Head.is h.stage
 
 pub returns-in-Asked : goal.returns-in-Asked
 returns-in-Asked c = λ heard close h.
