@@ -8,10 +8,7 @@ use Rattle.wf_http_body.specs.declared.body.End.{End}
 use Rattle.wf_http_body.specs.declared.body.End.TheVariants as end
 use Rattle.wf_http_body.specs.declared.chunk.Place.{Place}
 use Rattle.wf_http_body.specs.declared.chunk.Place.TheVariants as place
-use Rattle.wf_http_body.specs.declared.chunk.Step.{Step}
-use Rattle.wf_http_body.specs.declared.chunk.Step.TheVariants as step
 use Rattle.wf_http_body.specs.Chunks.{IsChunkedBody}
-use Rattle.wf_http_body.specs.Found.{IsStep, Steps}
 use Rattle.wf_http_body.specs.Parts.{IsPart, IsOpenPart, IsRead, Stays}
 use Rattle.wf_http_body.proofs.Lasting.{chunks_stay}
 
@@ -144,37 +141,6 @@ settled_before limit p all unread content piece heard e done read =
 pub nothing_heard : (limit : ℕ) (p : Place) (all unread content piece : List ℕ) → IsOpenPart limit p all unread content
     → IsOpenPart limit p (all ++ take 0 piece) (drop 0 unread) content
 nothing_heard limit p all unread content piece at = subst (λ (s : List ℕ). IsOpenPart limit p s unread content) (sym (append-nil all)) at
-
--- ## Parts, one by one
-part_within : (p : Place) (limit : ℕ) (all unread content : List ℕ) → IsPart limit p all unread content → length content ≤ limit
-part_within place.Line limit all unread content at = let within = at.has.within in let same = ap length at.content_is in omega arith
-part_within (place.Content left) limit all unread content at = at.within
-part_within place.Trailer limit all unread content at = let within = at.has.within in let same = ap length at.content_is in omega arith
-
--- the step from a place, by what the code says
-step_at : (limit : ℕ) (p : Place) (all heard rest content : List ℕ) (used room : ℕ) (s t : Step) → rest ≡ drop used heard → s ≡ t → room ≡ limit - length content
-    → Steps p rest room s → IsPart limit p all (drop used heard) content → IsStep limit p all (drop used heard) content t
-step_at limit p all heard rest content used room s t same is left steps at =
-    let within = part_within p limit all (drop used heard) content at in
-    subst (IsStep limit p all (drop used heard) content) is
-    ((subst (λ (b : List ℕ). Steps p b room s) same steps) limit all content (omega arith) at)
-
-pub passes : (limit : ℕ) (p next : Place) (all heard rest content : List ℕ) (used n room : ℕ) (s : Step) → rest ≡ drop used heard → s ≡ step.Passes n next
-    → room ≡ limit - length content → Steps p rest room s → IsPart limit p all (drop used heard) content → IsPart limit next all (drop (used + n) heard) content
-passes limit p next all heard rest content used n room s same is left steps at =
-    subst (λ (b : List ℕ). IsPart limit next all b content) (drop-drop n used heard) (step_at limit p all heard rest content used room s (step.Passes n next) same is left steps at)
-
-pub takes_content : (limit : ℕ) (p next : Place) (all heard rest content taken new : List ℕ) (used n room : ℕ) (s : Step) → rest ≡ drop used heard
-    → s ≡ step.Takes n next → room ≡ limit - length content → Steps p rest room s → taken ≡ take n rest → new ≡ content ++ taken → IsPart limit p all (drop used heard) content
-    → IsPart limit next all (drop (used + n) heard) new
-takes_content limit p next all heard rest content taken new used n room s same is left steps took grown at =
-    let grown_is : content ++ take n (drop used heard) ≡ new = ap (λ (b : List ℕ). content ++ take n b) (sym same) ∙ ap (λ (b : List ℕ). content ++ b) (sym took) ∙ sym grown in
-    subst (λ (b : List ℕ). IsPart limit next all b new) (drop-drop n used heard)
-    (subst (λ (b : List ℕ). IsPart limit next all (drop n (drop used heard)) b) grown_is (step_at limit p all heard rest content used room s (step.Takes n next) same is left steps at))
-
-pub ends : (limit : ℕ) (p : Place) (all heard rest content : List ℕ) (used room : ℕ) (s : Step) (e : End) → rest ≡ drop used heard → s ≡ step.Ends e
-    → room ≡ limit - length content → Steps p rest room s → IsPart limit p all (drop used heard) content → IsRead limit p all (drop used heard) content e
-ends limit p all heard rest content used room s e same is left steps at = step_at limit p all heard rest content used room s (step.Ends e) same is left steps at
 
 -- ## Growth
 pub grown_more : (old content x new : List ℕ) → take (length old) content ≡ old → new ≡ content ++ x → take (length old) new ≡ old

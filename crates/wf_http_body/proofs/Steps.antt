@@ -18,37 +18,6 @@ use Rattle.wf_http_body.proofs.Lasting.{whole_chunked, over_chunked, bad_chunked
 pub bad_line : (limit : ℕ) (all heard content : List ℕ) → IsAtLine limit all heard content → IsBadLine heard → Stays limit all Malformed
 bad_line limit all heard content at bad more close = inl (bad_chunked limit all heard more at.chunks at.has (inl bad))
 
-pub to_trailer : (limit : ℕ) (all heard content : List ℕ) (start : ℕ) (l : ChunkLine) → IsChunkLineAt heard start 0 l → start ≤ line_limit
-    → IsAtLine limit all heard content → IsAtTrailer limit all (drop start heard) content
-to_trailer limit all heard content start l x short at = record {
-  chunks = at.chunks;
-  rest = heard;
-  line = l;
-  has = at.has;
-  reads = reads_line heard start 0 l x short;
-  size = sym x.size_is;
-  content_is = at.content_is;
-}
-
-pub to_content : (limit : ℕ) (all heard content : List ℕ) (start size : ℕ) (l : ChunkLine) → IsChunkLineAt heard start size l → start ≤ line_limit → 0 < size
-    → IsAtLine limit all heard content → IsInChunk limit all (drop start heard) content size
-to_content limit all heard content start size l x short some at =
-    let is = x.size_is in
-    let within = at.has.within in
-    let same = ap length at.content_is in
-    record {
-      chunks = at.chunks;
-      rest = heard;
-      line = l;
-      part = [];
-      has = at.has;
-      reads = reads_line heard start size l x short;
-      some = omega arith;
-      size = omega arith;
-      content_is = at.content_is ∙ sym (append-nil (content_of at.chunks));
-      within = omega arith;
-    }
-
 -- ## Content
 sizes : (limit : ℕ) (all heard content : List ℕ) (left : ℕ) (at : IsInChunk limit all heard content left) → length content ≡ length (content_of at.chunks) + length at.part
 sizes limit all heard content left at = ap length at.content_is ∙ length-append (content_of at.chunks) at.part
@@ -60,27 +29,6 @@ over limit room all heard content left at sum big more close =
     let joined = length-append at.part heard in
     let whole = sizes limit all heard content left at in
     over_chunked limit all at.rest more at.chunks at.has (record { line = at.line; content = at.part ++ heard; reads = at.reads; over = omega arith })
-
-pub takes : (limit room taken : ℕ) (all heard content : List ℕ) (left : ℕ) → IsInChunk limit all heard content left → length content + room ≡ limit
-    → taken ≤ room → taken ≤ left → taken ≤ length heard → IsInChunk limit all (drop taken heard) (content ++ take taken heard) (left - taken)
-takes limit room taken all heard content left at sum fits few here =
-    let size = at.size in
-    let front = length-take taken heard in
-    let joined = length-append at.part (take taken heard) in
-    let grown = length-append content (take taken heard) in
-    let again = append_assoc at.part (take taken heard) (drop taken heard) ∙ ap (λ (s : List ℕ). at.part ++ s) (take-append-drop taken heard) in
-    record {
-      chunks = at.chunks;
-      rest = at.rest;
-      line = at.line;
-      part = at.part ++ take taken heard;
-      has = at.has;
-      reads = subst (λ (s : List ℕ). ReadsLine at.rest at.line s) (sym again) at.reads;
-      some = at.some;
-      size = omega arith;
-      content_is = ap (λ (s : List ℕ). s ++ take taken heard) at.content_is ∙ append_assoc (content_of at.chunks) at.part (take taken heard);
-      within = omega arith;
-    }
 
 -- ## Ends
 pub whole_chunk : (limit : ℕ) (all heard content : List ℕ) → IsInChunk limit all heard content 0 → heard ≡ 13 ∷ 10 ∷ drop 2 heard → IsAtLine limit all (drop 2 heard) content
