@@ -16,7 +16,7 @@ use wf_cases::{CaseFault, case_of};
 fn answer(alloc: Global, line: &str) -> Result<String, CaseFault> {
     let case = case_of(alloc, line)?;
     match case.table {
-        "answers" => answers::answers(alloc, &case),
+        "answers" | "answers_at_edges" => answers::answers(alloc, &case),
         "answers_of_fronts" => answers::answers_of_fronts(alloc, &case),
         "urls" | "urls_at_edges" => urls::leads(alloc, &case),
         "requests" | "requests_at_edges" => requests::sends(alloc, &case),

@@ -3,5 +3,7 @@ pub mod Digits
 pub mod Fronts
 pub mod Lasting
 pub mod Naming
+pub mod Opening
 pub mod Reading
+pub mod Steps
 pub mod Sizes

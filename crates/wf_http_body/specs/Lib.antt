@@ -1,4 +1,5 @@
 pub mod Chunks
 pub mod Found
 pub mod Framed
+pub mod Lengths
 pub mod Parts

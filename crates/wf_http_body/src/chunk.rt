@@ -1,10 +1,9 @@
-// One chunk of a body (RFC 9112, section 7.1), of all bytes heard from its line on.
-ghost use Rattle.std.specs.Prelude.{◌≡◌, ◌+◌, ◌<◌, ◌≤◌, IfOk, List, ℕ, length};
-ghost use Rattle.httparse.specs.Grammar.{ChunkLine};
-ghost use Rattle.httparse.specs.Spans.{IsChunkLineAt};
-ghost use Rattle.wf_shared.specs.HttpBody.{Chunk, content_of};
-ghost use Rattle.wf_http_body.specs.Found.{IsFound, IsFoundWithin, IsLineEnd};
+// The parts of a body in chunks (RFC 9112, section 7.1), one by one.
+ghost use Rattle.std.specs.Prelude.{◌<◌, ◌≤◌, IfOk, ℕ, length};
+ghost use Rattle.wf_http_body.specs.declared.chunk.Place.TheVariants as place;
+ghost use Rattle.wf_http_body.specs.Found.{IsLineEnd, IsStepWithin, Steps};
 
+use crate::body::End;
 use crate::trailer::{Section, read_trailer};
 use httparse::{Status, parse_chunk_size};
 use std::alloc::Global;
@@ -16,75 +15,127 @@ const LINE_LIMIT: usize = 4096;
 // The greatest length of trailer fields.
 const TRAILER_LIMIT: usize = 65_536;
 
-// What stands behind whole chunks.
-#[derive(Clone, Copy)]
-pub(crate) enum Found {
-    // A whole chunk: where its content begins, and how long that is.
-    Chunk(usize, usize),
-    // The last chunk, with its trailer fields.
-    Last,
-    // More content than is taken.
-    TooLarge,
-    Bad,
-    NotYet,
+// What comes next of a body in chunks.
+#[derive(Debug, Clone, Copy, PartialEq, Eq)]
+pub(crate) enum Place {
+    // A chunk's line.
+    Line,
+    // So many bytes of a chunk's content, and the CR LF behind it.
+    Content(u64),
+    // The trailer fields, behind the last chunk's line.
+    Trailer,
 }
 
-// The body may have `room` bytes more.
-pub(crate) fn read_chunk(alloc: Global, heard: &[u8], room: usize) -> Result<Found, OutOfMemory>
-    ensures found { IfOk result (λ f. (limit : ℕ) (cs : List Chunk)
-        → length (content_of cs) + room ≡ limit → IsFound limit cs heard.now f) }
-    ensures within { IfOk result (IsFoundWithin heard.now) }
+impl Place {
+    // How many bytes of a piece are wanted here: to the end of a line, or all of them for the
+    // trailer fields.
+    pub(crate) fn front(self, piece: &[u8]) -> usize
+        requires { 0 < length piece.now }
+        ensures some { 0 < result }
+        ensures within { result ≤ length piece.now }
+    {
+        match self {
+            Place::Line | Place::Content(_) => line_length(piece),
+            Place::Trailer => piece.len(),
+        }
+    }
+}
+
+// How far the first line goes.
+fn line_length(piece: &[u8]) -> usize
+    requires { 0 < length piece.now }
+    ensures some { 0 < result }
+    ensures within { result ≤ length piece.now }
+{
+    for i in 0..piece.len() {
+        if piece[i] == b'\n' {
+            return i + 1;
+        }
+    }
+    piece.len()
+}
+
+// What stands at the front of bytes.
+#[derive(Clone, Copy)]
+pub(crate) enum Step {
+    // So many bytes that are no content, and what comes next.
+    Passes(usize, Place),
+    // So many bytes of content, and what comes next.
+    Takes(usize, Place),
+    // No whole part.
+    Ends(End),
+}
+
+// The content may have `room` bytes more.
+pub(crate) fn read_step(
+    alloc: Global,
+    place: Place,
+    heard: &[u8],
+    room: usize,
+) -> Result<Step, OutOfMemory>
+    ensures step { IfOk result (Steps place heard.now room) }
+    ensures within { IfOk result (IsStepWithin heard.now) }
+{
+    match place {
+        Place::Line => Ok(read_line(heard)),
+        Place::Content(0) => Ok(read_end(heard)),
+        Place::Content(left) => Ok(read_content(heard, left, room)),
+        Place::Trailer => read_last(alloc, heard),
+    }
+}
+
+fn read_line(heard: &[u8]) -> Step
+    ensures step { (room : ℕ) → Steps place.Line heard.now room result }
+    ensures within { IsStepWithin heard.now result }
 {
     match parse_chunk_size(heard) {
-        Ok(Status::Complete((start, _))) if start > LINE_LIMIT => Ok(Found::Bad),
-        Ok(Status::Complete((start, 0))) => last_chunk(alloc, heard, start),
-        Ok(Status::Complete((start, size))) => Ok(content_at(heard, start, size, room)),
-        Ok(Status::Partial) if heard.len() > LINE_LIMIT => Ok(Found::Bad),
-        Ok(Status::Partial) => Ok(Found::NotYet),
-        Err(_) => Ok(Found::Bad),
+        Ok(Status::Complete((start, _))) if start > LINE_LIMIT => Step::Ends(End::Bad),
+        Ok(Status::Complete((start, 0))) => Step::Passes(start, Place::Trailer),
+        Ok(Status::Complete((start, size))) => Step::Passes(start, Place::Content(size)),
+        Ok(Status::Partial) if heard.len() > LINE_LIMIT => Step::Ends(End::Bad),
+        Ok(Status::Partial) => Step::Ends(End::More),
+        Err(_) => Step::Ends(End::Bad),
+    }
+}
+
+// Of a chunk whose content isn't whole.
+fn read_content(heard: &[u8], left: u64, room: usize) -> Step
+    requires { 1 ≤ left }
+    ensures step { Steps (place.Content left) heard.now room result }
+    ensures within { IsStepWithin heard.now result }
+{
+    if heard.is_empty() {
+        return Step::Ends(End::More);
+    }
+    let taken = left.min(heard.len() as u64);
+    if taken > room as u64 {
+        return Step::Ends(End::TooLarge);
+    }
+    Step::Takes(taken as usize, Place::Content(left - taken))
+}
+
+// Behind a chunk's content.
+fn read_end(heard: &[u8]) -> Step
+    ensures step { (room : ℕ) → Steps (place.Content 0) heard.now room result }
+    ensures within { IsStepWithin heard.now result }
+{
+    match end_of(heard) {
+        LineEnd::Whole => Step::Passes(2, Place::Line),
+        LineEnd::NotYet => Step::Ends(End::More),
+        LineEnd::Wrong => Step::Ends(End::Bad),
     }
 }
 
 // Behind the line of the last chunk.
-fn last_chunk(alloc: Global, heard: &[u8], start: usize) -> Result<Found, OutOfMemory>
-    requires line { (l : ChunkLine) × IsChunkLineAt heard.now start 0 l }
-    requires short { start ≤ 4096 }
-    requires within { start ≤ length heard.now }
-    ensures found { IfOk result (λ f. (limit : ℕ) (cs : List Chunk)
-        → IsFound limit cs heard.now f) }
-    ensures within { IfOk result (IsFoundWithin heard.now) }
+fn read_last(alloc: Global, heard: &[u8]) -> Result<Step, OutOfMemory>
+    ensures step { IfOk result (λ s. (room : ℕ) → Steps place.Trailer heard.now room s) }
+    ensures within { IfOk result (IsStepWithin heard.now) }
 {
-    let (_, section) = heard.split_at(start);
-    Ok(match read_trailer(alloc, section, TRAILER_LIMIT)? {
-        Section::Whole => Found::Last,
-        Section::NotYet => Found::NotYet,
-        Section::Bad => Found::Bad,
+    Ok(match read_trailer(alloc, heard, TRAILER_LIMIT)? {
+        Section::Whole => Step::Ends(End::Whole),
+        Section::NotYet => Step::Ends(End::More),
+        Section::Bad => Step::Ends(End::Bad),
     })
-}
-
-// Behind the line of a chunk of `size` bytes.
-fn content_at(heard: &[u8], start: usize, size: u64, room: usize) -> Found
-    requires line { (l : ChunkLine) × IsChunkLineAt heard.now start size l }
-    requires short { start ≤ 4096 }
-    requires within { start ≤ length heard.now }
-    requires some { 0 < size }
-    ensures found { (limit : ℕ) (cs : List Chunk) → length (content_of cs) + room ≡ limit
-        → IsFound limit cs heard.now result }
-    ensures within { IsFoundWithin heard.now result }
-{
-    let content = (heard.len() - start) as u64;
-    if size.min(content) > room as u64 {
-        return Found::TooLarge;
-    }
-    if content < size {
-        return Found::NotYet;
-    }
-    let size = size as usize;
-    match end_at(heard, start + size) {
-        LineEnd::Whole => Found::Chunk(start, size),
-        LineEnd::NotYet => Found::NotYet,
-        LineEnd::Wrong => Found::Bad,
-    }
 }
 
 // The CR LF behind a chunk's content.
@@ -95,20 +146,19 @@ pub(crate) enum LineEnd {
     Wrong,
 }
 
-fn end_at(heard: &[u8], end: usize) -> LineEnd
-    requires { end ≤ length heard.now }
-    ensures { IsLineEnd heard.now end result }
+fn end_of(heard: &[u8]) -> LineEnd
+    ensures { IsLineEnd heard.now result }
 {
-    if end == heard.len() {
+    if heard.is_empty() {
         return LineEnd::NotYet;
     }
-    if heard[end] != b'\r' {
+    if heard[0] != b'\r' {
         return LineEnd::Wrong;
     }
-    if end + 1 == heard.len() {
+    if heard.len() == 1 {
         return LineEnd::NotYet;
     }
-    if heard[end + 1] != b'\n' {
+    if heard[1] != b'\n' {
         return LineEnd::Wrong;
     }
     LineEnd::Whole

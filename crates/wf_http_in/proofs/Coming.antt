@@ -1,32 +1,36 @@
 -- From what was read to the answer.
-use Rattle.std.proofs.Common.{◌≡◌, ℕ, ◌+◌, ◌-◌, ◌<◌, ◌≤◌, List, [], ◌∷◌, ◌++◌, length, drop, Result, Ok, Err, if◌then◌else◌, true, false, refl, sym, ap, ◌∙◌, subst, arith, inl, inr, append-nil, length-append, length-drop}
-use Rattle.std.proofs.lemmas.Bool.{false≢true}
-use Rattle.std.proofs.lemmas.List.{drop-drop}
-use Rattle.std.proofs.lemmas.List.Elements.{All-nil}
+use Rattle.std.proofs.Common.{◌≡◌, ℕ, ◌+◌, ◌-◌, ◌<◌, ◌≤◌, ◌⊎◌, List, [], ◌∷◌, ◌++◌, length, take, drop, Result, Ok, Err, if◌then◌else◌, true, false, refl, sym, ap, ◌∙◌, subst, arith, inl, inr, append_assoc, append-nil, length-append, length-drop, length-take, take-append-drop}
+use Rattle.std.proofs.lemmas.Bool.{cases_lt, false≢true}
+use Rattle.std.proofs.lemmas.List.{drop-append-le, drop-drop, drop_at, take_all}
+use Rattle.std.proofs.lemmas.List.Elements.{All-head, All-nil}
+use Rattle.std.specs.List.{flat_map}
 use Rattle.std.specs.Prelude.{OnOk, is_ok, IsTrue, IsFalse, ◌≢◌, Option, Some, None}
-use Rattle.httparse.specs.Grammar.{ResponseHead, IsResponseHead, print_response}
+use Rattle.httparse.specs.Grammar.{ResponseHead, IsResponseHead, ReadsResponse, HasNoResponse, print_response}
 use Rattle.wf_shared.specs.Events.{Reply, Response, Broken, TooLong}
 use Rattle.wf_shared.specs.HttpBody as plain
-use Rattle.wf_shared.specs.HttpBody.{Close, Open, Ended, Broke, Complete, Malformed, Oversize, BodyState, IsChunk, unless_closed, at_close, end_state}
+use Rattle.wf_shared.specs.HttpBody.{Close, Open, Ended, Broke, Complete, Malformed, Oversize, BodyState, unless_closed, at_close, end_state}
+use Rattle.wf_http_body.specs.declared.body.Chunks.{Chunks}
 use Rattle.wf_http_body.specs.declared.body.End.{End}
 use Rattle.wf_http_body.specs.declared.body.End.TheVariants as end
 use Rattle.wf_http_body.specs.Chunks.{IsOpenChunked, IsChunkedBody}
-use Rattle.wf_http_body.proofs.Lasting.{chunks_stay}
+use Rattle.wf_http_body.specs.Parts.{IsFresh}
+use Rattle.wf_http_body.proofs.Fronts.{front_of}
+use Rattle.wf_http_body.proofs.Opening.{fresh_body, open_body}
+use Rattle.wf_http_body.proofs.Reading.{read_within, take_further}
 use Rattle.wf_http_in.specs.declared.framing.Framing.{Framing}
 use Rattle.wf_http_in.specs.declared.framing.Framing.TheVariants as framing
 use Rattle.wf_http_in.specs.declared.heads.Heading.{Heading}
 use Rattle.wf_http_in.specs.declared.heads.Heading.TheVariants as heading
 use Rattle.wf_http_in.specs.declared.reading.Reading.{Reading}
-use Rattle.wf_http_in.specs.declared.reading.Close.{Close as Connection}
 use Rattle.wf_http_in.specs.declared.stage.Stage.{Stage}
 use Rattle.wf_http_in.specs.declared.stage.Stage.TheVariants as stage
 use Rattle.wf_http_in.specs.AnswerOf as answer
 use Rattle.wf_http_in.specs.AnswerOf.{AnswerOf, HasBody}
 use Rattle.wf_http_in.specs.Bodies.{answer_limit, IsBody}
-use Rattle.wf_http_in.specs.Found.{IsHeading, IsFinal, IsInterim, IsFramed, IsHeadOf, IsWholeHead}
+use Rattle.wf_http_in.specs.Found.{IsHeading, IsFinal, IsInterim, IsFramed, IsHeadFound, IsHeadOf, IsWholeHead, is_settled}
 use Rattle.wf_http_in.specs.HeadData.{HeadData}
 use Rattle.wf_http_in.specs.Heads.{IsPassed, BehindInterim, SkipsHeads, IsHeadless, IsSmallResponse, is_interim_code}
-use Rattle.wf_http_in.specs.Stages.{IsPartOf, IsOpenPart, IsRead, IsDirect, StaysBody, Stays, IsBehind, IsAt, IsStage, is_decided, settled, unfinished, HasHeard}
+use Rattle.wf_http_in.specs.Stages.{GoesOn, IsPartOf, IsOpenPart, IsRead, IsSame, StaysBody, Stays, IsBehind, IsStage, settled, unfinished, HasHeard}
 use Rattle.wf_http_in.specs.View.{close_view}
 use Rattle.wf_http_in.proofs.BodyStates.{length_open, until_end}
 use Rattle.wf_http_in.proofs.Lasting.{skips_stay, head_stays, again, bad_heads, further, one_more}
@@ -34,33 +38,32 @@ use Rattle.wf_http_in.proofs.Sizes.{head_some, may_begin, nothing_is_no_head}
 
 -- ## More is heard
 -- what is decided stays, whatever comes
-pub stays : (s : Stage) (unread content heard piece : List ℕ) → is_decided s ≡ true → IsStage s unread content heard → IsStage s unread content (heard ++ piece)
-stays stage.Head unread content heard piece decided at = absurd (false≢true decided)
-stays (stage.Body r f) unread content heard piece decided at = absurd (false≢true decided)
-stays (stage.Whole r) unread content heard piece decided at = again heard piece (Response r.code r.fields content) at
-stays stage.Bad unread content heard piece decided at = again heard piece Broken at
-stays stage.TooLong unread content heard piece decided at = again heard piece TooLong at
+whole_stays : (s : Stage) (r : HeadData) (unread : List ℕ) (c : Chunks) (content heard piece : List ℕ) → s ≡ stage.Whole r → IsStage s unread c content heard
+    → IsStage s unread c content (heard ++ piece)
+whole_stays s r unread c content heard piece is at =
+    subst (λ (t : Stage). IsStage t unread c content (heard ++ piece)) (sym is)
+    (again heard piece (Response r.code r.fields content) (subst (λ (t : Stage). IsStage t unread c content heard) is at))
 
-part_grows : (f : Framing) (all unread content piece : List ℕ) → IsOpenPart f all unread content → IsPartOf f (all ++ piece) (unread ++ piece) content
-part_grows framing.Empty all unread content piece x = absurd x
-part_grows (framing.OfLength n) all unread content piece (is, none, short) =
-    (cc (is, none), omega (arith, short))
-part_grows framing.TooLong all unread content piece x = absurd x
-part_grows framing.InChunks all unread content piece (cs, has, is, rest) = (cs, chunks_stay answer_limit all piece unread cs has, is)
-part_grows framing.ToTheEnd all unread content piece (is, none, short) = (cc (is, none), short)
-part_grows framing.Bad all unread content piece x = absurd x
+bad_stays : (s : Stage) (unread : List ℕ) (c : Chunks) (content heard piece : List ℕ) → s ≡ stage.Bad → IsStage s unread c content heard
+    → IsStage s unread c content (heard ++ piece)
+bad_stays s unread c content heard piece is at =
+    subst (λ (t : Stage). IsStage t unread c content (heard ++ piece)) (sym is)
+    (again heard piece Broken (subst (λ (t : Stage). IsStage t unread c content heard) is at))
+
+too_long_stays : (s : Stage) (unread : List ℕ) (c : Chunks) (content heard piece : List ℕ) → s ≡ stage.TooLong → IsStage s unread c content heard
+    → IsStage s unread c content (heard ++ piece)
+too_long_stays s unread c content heard piece is at =
+    subst (λ (t : Stage). IsStage t unread c content (heard ++ piece)) (sym is)
+    (again heard piece TooLong (subst (λ (t : Stage). IsStage t unread c content heard) is at))
+
+pub decided_stays : (s : Stage) (unread : List ℕ) (c : Chunks) (content heard piece : List ℕ) → (((r : HeadData) × (s ≡ stage.Whole r)) ⊎ ((s ≡ stage.Bad) ⊎ (s ≡ stage.TooLong)))
+    → IsStage s unread c content heard → IsStage s unread c content (heard ++ piece)
+decided_stays s unread c content heard piece (inl (r, is)) at = whole_stays s r unread c content heard piece is at
+decided_stays s unread c content heard piece (inr (inl is)) at = bad_stays s unread c content heard piece is at
+decided_stays s unread c content heard piece (inr (inr is)) at = too_long_stays s unread c content heard piece is at
 
 behind_grows : (heard : List ℕ) (r : HeadData) (f : Framing) (all piece : List ℕ) → IsBehind heard r f all → IsBehind (heard ++ piece) r f (all ++ piece)
 behind_grows heard r f all piece x = record { head = x.head; has = head_stays heard piece x.head all x.has; taken = x.taken }
-
--- else the piece is still to be read
-pub grows : (s : Stage) (unread content heard piece : List ℕ) → is_decided s ≡ false → IsStage s unread content heard → IsAt s (unread ++ piece) content (heard ++ piece)
-grows stage.Head unread content heard piece going ((hs, rest, skips, (is, less)), none) =
-    ((hs, rest ++ piece, skips_stay heard piece rest hs skips, ap (λ (s : List ℕ). s ++ piece) is), none)
-grows (stage.Body r f) unread content heard piece going (all, behind, part) = (all ++ piece, behind_grows heard r f all piece behind, part_grows f all unread content piece part)
-grows (stage.Whole r) unread content heard piece going at = absurd (false≢true (sym going))
-grows stage.Bad unread content heard piece going at = absurd (false≢true (sym going))
-grows stage.TooLong unread content heard piece going at = absurd (false≢true (sym going))
 
 -- ## What was read
 -- a body that stays makes an answer that stays
@@ -69,37 +72,53 @@ with_body : (heard : List ℕ) (r : HeadData) (f : Framing) (all : List ℕ) (s 
 with_body heard r f all s x stays more close = (all ++ more, head_stays heard more x.head all x.has, stays more close)
 
 -- from what was read of a body to the stage
-pub comes : (e : End) (r : HeadData) (f : Framing) (heard all unread content : List ℕ) (x : IsBehind heard r f all)
-    → IsRead f (answer.framing x.head) all unread content e → (left : List ℕ) → (e ≡ end.More → left ≡ unread)
-    → IsStage (settled e (stage.Body r f)) left content heard
-comes end.More r f heard all unread content x read left same = (all, x, subst (λ (u : List ℕ). IsOpenPart f all u content) (sym (same refl)) read)
-comes end.Whole r f heard all unread content x read left same = λ more close.
+comes : (e : End) (r : HeadData) (f : Framing) (c : Chunks) (heard all unread content : List ℕ) (x : IsBehind heard r f all)
+    → IsRead f (answer.framing x.head) c all content e → IsStage (settled e (stage.Body r f)) unread c content heard
+comes end.More r f c heard all unread content x read = (all, x, read)
+comes end.Whole r f c heard all unread content x read = λ more close.
     (x.head, with_body heard r f all (Complete content) x read more close, x.taken.head.code, x.taken.head.fields)
-comes end.Bad r f heard all unread content x read left same = λ more close. inl (x.head, with_body heard r f all Malformed x read more close)
-comes end.TooLarge r f heard all unread content x read left same = λ more close. (x.head, with_body heard r f all Oversize x read more close)
+comes end.Bad r f c heard all unread content x read = λ more close. inl (x.head, with_body heard r f all Malformed x read more close)
+comes end.TooLarge r f c heard all unread content x read = λ more close. (x.head, with_body heard r f all Oversize x read more close)
 
 -- nothing of a body was read
-nothing_read : (f : Framing) (all : List ℕ) → IsPartOf f all all []
-nothing_read framing.Empty all = (refl, refl)
-nothing_read (framing.OfLength n) all = (refl, omega arith)
-nothing_read framing.TooLong all = (refl, refl)
-nothing_read framing.InChunks all = ([], record { chunks = All-nil IsChunk; bytes = refl; within = omega arith }, refl)
-nothing_read framing.ToTheEnd all = (refl, omega arith)
-nothing_read framing.Bad all = (refl, refl)
+nothing_read : (f : Framing) (c : Chunks) (content : List ℕ) → content ≡ [] → IsFresh c → IsPartOf f c [] content
+nothing_read framing.Empty c content none fresh = none
+nothing_read (framing.OfLength n) c content none fresh = (sym none, (let size = ap length none in omega arith))
+nothing_read framing.TooLong c content none fresh = none
+nothing_read framing.InChunks c content none fresh = fresh_body answer_limit c content fresh none
+nothing_read framing.ToTheEnd c content none fresh = (sym none, (let size = ap length none in omega arith))
+nothing_read framing.Bad c content none fresh = none
+
+-- a body that isn't whole
+open_is_part : (f : Framing) (c : Chunks) (all content : List ℕ) → IsOpenPart f c all content → IsPartOf f c all content
+open_is_part framing.Empty c all content part = absurd part
+open_is_part (framing.OfLength n) c all content part = (part.0, (let short = part.1 in omega arith))
+open_is_part framing.TooLong c all content part = absurd part
+open_is_part framing.InChunks c all content part = part
+open_is_part framing.ToTheEnd c all content part = part
+open_is_part framing.Bad c all content part = absurd part
 
 -- what `read_body` says
-abbrev pub Reads : Framing → (unread content new : List ℕ) → ℕ → End → Type 0
-Reads f unread content new used e = (g : plain.Framing) (all : List ℕ) → IsFramed f g → IsPartOf f all unread content → IsRead f g all (drop used unread) new e
+abbrev pub Reads : Framing → Chunks → (content piece : List ℕ) → Chunks → (new : List ℕ) → End → Type 0
+Reads f was content piece c new e = (g : plain.Framing) (all : List ℕ) → IsFramed f g → IsPartOf f was all content → IsRead f g c (all ++ piece) new e
 
-pub body_read : (s next : Stage) (r : HeadData) (f : Framing) (heard unread content left grown new : List ℕ) (used : ℕ) (e : End)
-    → s ≡ stage.Body r f → IsAt s unread content heard → Reads f unread content grown used e
-    → next ≡ settled e s → (e ≡ end.More → left ≡ drop used unread) → new ≡ grown → IsStage next left new heard
-body_read s next r f heard unread content left grown new used e is at reads goes leaves same =
-    let body = subst (λ (t : Stage). IsAt t unread content heard) is at in
+-- the stage that the code is at
+at_stage : (next s : Stage) (left : List ℕ) (was c : Chunks) (grown new heard : List ℕ) → next ≡ s → c ≡ was → new ≡ grown → IsStage s left was grown heard
+    → IsStage next left c new heard
+at_stage next s left was c grown new heard goes same is at =
+    subst (λ (t : Stage). IsStage t left c new heard) (sym goes)
+    (subst (λ (d : Chunks). IsStage s left d new heard) (sym same) (subst (λ (b : List ℕ). IsStage s left was b heard) (sym is) at))
+
+pub body_read : (s next : Stage) (r : HeadData) (f : Framing) (heard unread left content piece grown new : List ℕ) (was read now : Chunks) (e : End)
+    → s ≡ stage.Body r f → IsStage s unread was content heard → Reads f was content piece read grown e
+    → next ≡ settled e s → now ≡ read → new ≡ grown → IsStage next left now new (heard ++ piece)
+unfolding behind_grows
+body_read s next r f heard unread left content piece grown new was read now e is at reads goes same added =
+    let body = subst (λ (t : Stage). IsStage t unread was content heard) is at in
     let behind = body.1 in
-    let read = reads (answer.framing behind.head) body.0 behind.taken.framed body.2 in
-    subst (λ (t : Stage). IsStage t left new heard) (sym (goes ∙ ap (settled e) is))
-    (subst (λ (c : List ℕ). IsStage (settled e (stage.Body r f)) left c heard) (sym same) (comes e r f heard body.0 (drop used unread) grown behind read left leaves))
+    let told = reads (answer.framing behind.head) body.0 behind.taken.framed (open_is_part f was body.0 content body.2) in
+    at_stage next (settled e (stage.Body r f)) left read now grown new (heard ++ piece) (goes ∙ ap (settled e) is) same added
+    (comes e r f read (heard ++ piece) (body.0 ++ piece) left grown (behind_grows heard r f body.0 piece behind) told)
 
 -- ## Heads
 -- the head of the answer stands behind interim ones
@@ -111,45 +130,115 @@ has_head heard rest hs r f len skips whole final = record {
   taken = whole.taken;
 }
 
--- the interim heads that were passed before come first
-passes : (heard unread rest : List ℕ) (hs gs : List ResponseHead) → SkipsHeads heard hs rest → rest ≡ unread → (n : ℕ) → SkipsHeads unread gs (drop n unread)
-    → SkipsHeads heard (hs ++ gs) (drop n unread)
-passes heard unread rest hs gs skips is n more = further heard unread (drop n unread) hs gs (subst (λ (s : List ℕ). SkipsHeads heard hs s) is skips) more
+-- interim heads behind those that were passed before
+joined_heads : (heard unread piece joined : List ℕ) (n : ℕ) (h : Heading) (found : IsHeadFound unread piece joined n h) → BehindInterim heard (λ rest. (rest ≡ unread) × IsHeadless unread)
+    → (hs : List ResponseHead) × SkipsHeads (heard ++ take found.front piece) hs (drop n joined)
+joined_heads heard unread piece joined n h found (hs, rest, skips, (is, less)) =
+    let grown = skips_stay heard (take found.front piece) rest hs skips in
+    let joined_is : rest ++ take found.front piece ≡ joined = ap (λ (s : List ℕ). s ++ take found.front piece) is ∙ sym found.heard_is in (
+      hs ++ found.passed.0,
+      further (heard ++ take found.front piece) joined (drop n joined) hs found.passed.0
+          (subst (λ (s : List ℕ). SkipsHeads (heard ++ take found.front piece) hs s) joined_is grown) found.passed.1,
+    )
 
-abbrev IsAtHead : (unread content heard : List ℕ) → Type 0
-IsAtHead unread content heard = BehindInterim heard (λ rest. rest ≡ unread) × (content ≡ [])
+piece_is : (heard piece : List ℕ) (front : ℕ) → (heard ++ take front piece) ++ drop front piece ≡ heard ++ piece
+piece_is heard piece front = append_assoc heard (take front piece) (drop front piece) ∙ ap (λ (s : List ℕ). heard ++ s) (take-append-drop front piece)
 
-pub head_read : (next : Stage) (h : Heading) (r : HeadData) (f : Framing) (passed len : ℕ) (heard unread rest content left grown new : List ℕ) (used : ℕ) (e : End)
-    → IsAtHead unread content heard → h ≡ heading.Whole r f len → IsHeading (drop passed unread) h → IsFinal h → IsPassed unread passed → rest ≡ drop (passed + len) unread
-    → Reads f rest content grown used e → next ≡ settled e (stage.Body r f) → (e ≡ end.More → left ≡ drop (passed + len + used) unread) → new ≡ grown → IsStage next left new heard
-head_read next h r f passed len heard unread rest content left grown new used e ((hs, before, skips, is), none) is_whole told last (gs, more) same_rest reads goes leaves same =
-    let whole = subst (IsHeading (drop passed unread)) is_whole told in
-    let final = subst IsFinal is_whole last in
-    let all = passes heard unread before hs gs skips is passed more in
-    let e_rest : drop len (drop passed unread) ≡ rest = drop-drop len passed unread ∙ sym same_rest in
-    let behind : IsBehind heard r f rest = subst (IsBehind heard r f) e_rest (has_head heard (drop passed unread) (hs ++ gs) r f len all whole final) in
-    let part : IsPartOf f rest rest content = subst (λ (c : List ℕ). IsPartOf f rest rest c) (sym none) (nothing_read f rest) in
-    let leaves_rest : e ≡ end.More → left ≡ drop used rest = λ m. leaves m ∙ sym (drop-drop used (passed + len) unread) ∙ ap (drop used) (sym same_rest) in
-    body_read (stage.Body r f) next r f heard rest content left grown new used e refl (rest, behind, part) reads goes leaves_rest same
+-- what stands behind a head ends where the piece does
+drop_past : (n : ℕ) (xs ys : List ℕ) → length xs ≤ n → drop n (xs ++ ys) ≡ drop (n - length xs) ys
+drop_past n xs ys le =
+    let e : length xs + (n - length xs) ≡ n = omega arith in
+    sym (ap (λ (k : ℕ). drop k (xs ++ ys)) e) ∙ sym (drop-drop (n - length xs) (length xs) (xs ++ ys)) ∙ ap (drop (n - length xs)) (drop_at xs ys (length xs) refl)
 
-pub head_bad : (next : Stage) (h : Heading) (passed : ℕ) (heard unread content left new : List ℕ) → IsAtHead unread content heard → h ≡ heading.Bad
-    → IsHeading (drop passed unread) h → IsPassed unread passed → next ≡ stage.Bad → IsStage next left new heard
-head_bad next h passed heard unread content left new ((hs, before, skips, is), none) is_bad told (gs, more) goes =
-    subst (λ (t : Stage). IsStage t left new heard) (sym goes)
-    (bad_heads heard (hs ++ gs, drop passed unread, passes heard unread before hs gs skips is passed more, subst (IsHeading (drop passed unread)) is_bad told))
+behind_head : (unread piece joined : List ℕ) (front n len : ℕ) → joined ≡ unread ++ take front piece → length unread ≤ n + len → n + len ≤ length joined
+    → drop len (drop n joined) ++ drop front piece ≡ drop (n + len - length unread) piece
+behind_head unread piece joined front n len is past within =
+    ap (λ (s : List ℕ). s ++ drop front piece) (drop-drop len n joined) ∙ sym (drop-append-le (n + len) joined (drop front piece) within)
+    ∙ ap (λ (s : List ℕ). drop (n + len) (s ++ drop front piece)) is ∙ ap (drop (n + len)) (piece_is unread piece front) ∙ drop_past (n + len) unread piece past
 
-pub head_open : (next : Stage) (h : Heading) (passed : ℕ) (heard unread content left new : List ℕ) → IsAtHead unread content heard → h ≡ heading.NotYet
-    → IsHeading (drop passed unread) h → IsPassed unread passed → next ≡ stage.Head → left ≡ drop passed unread → new ≡ content → IsStage next left new heard
-head_open next h passed heard unread content left new ((hs, before, skips, is), none) is_open told (gs, more) goes leaves same =
-    let headless = subst (IsHeading (drop passed unread)) is_open told in
-    subst (λ (t : Stage). IsStage t left new heard) (sym goes) (
-      (hs ++ gs, drop passed unread, passes heard unread before hs gs skips is passed more, (sym leaves, subst IsHeadless (sym leaves) headless)),
-      same ∙ none,
+-- no head is whole in bytes of which none was
+first_past : (unread more joined rest : List ℕ) (h : ResponseHead) → joined ≡ unread ++ more → HasNoResponse unread → ReadsResponse joined h rest → length unread < length (print_response h)
+first_past unread more joined rest h is none x = elim (cases_lt (length unread) (length (print_response h))) [
+  | inl lt ↦ lt
+  | inr le ↦ absurd (none h _ (x.0, front_of unread more (print_response h) rest (sym is ∙ x.1) le))
+]
+
+head_past : (unread more joined : List ℕ) (n len : ℕ) (r : HeadData) (f : Framing) (gs : List ResponseHead) → joined ≡ unread ++ more → HasNoResponse unread → n ≤ length joined
+    → SkipsHeads joined gs (drop n joined) → IsWholeHead (drop n joined) r f len → length unread ≤ n + len
+head_past unread more joined n len r f [] is none le skips whole =
+    let reads = subst (λ (s : List ℕ). ReadsResponse s whole.head (drop len (drop n joined))) (sym skips.bytes) whole.reads in
+    let past = first_past unread more joined (drop len (drop n joined)) whole.head is none reads in
+    let size = ap length whole.reads.1 ∙ length-append (print_response whole.head) (drop len (drop n joined)) in
+    let left = length-drop len (drop n joined) in
+    let here = whole.within in
+    omega arith
+head_past unread more joined n len r f (g ∷ gs) is none le skips whole =
+    let rest = flat_map print_response gs ++ drop n joined in
+    let bytes = skips.bytes ∙ append_assoc (print_response g) (flat_map print_response gs) (drop n joined) in
+    let past = first_past unread more joined rest g is none (All-head IsResponseHead g gs skips.heads, bytes) in
+    let size = ap length bytes ∙ length-append (print_response g) rest in
+    let sum = length-append (flat_map print_response gs) (drop n joined) in
+    let left = length-drop n joined in
+    omega arith
+
+-- how much of a piece a head takes
+pub takes_within : (begun piece heard : List ℕ) (n len : ℕ) (h : Heading) (r : HeadData) (f : Framing) → IsHeadFound begun piece heard n h → h ≡ heading.Whole r f len
+    → n + len - length begun ≤ length piece
+takes_within begun piece heard n len h r f found is =
+    let whole = subst (IsHeading (drop n heard)) is found.heading_is in
+    let here = whole.within in
+    let left = length-drop n heard in
+    let size = ap length found.heard_is ∙ length-append begun (take found.front piece) in
+    let front = length-take found.front piece in
+    let passed = found.within in
+    omega arith
+
+abbrev IsAtHead : (unread : List ℕ) → Chunks → (content heard : List ℕ) → Type 0
+IsAtHead unread c content heard = BehindInterim heard (λ rest. (rest ≡ unread) × IsHeadless unread) × (content ≡ []) × IsFresh c
+
+pub head_read : (next : Stage) (h : Heading) (r : HeadData) (f : Framing) (n len : ℕ) (heard unread piece joined rest left content grown new : List ℕ) (was read now : Chunks) (e : End)
+    → IsAtHead unread was content heard → h ≡ heading.Whole r f len → IsHeadFound unread piece joined n h → rest ≡ drop (n + len - length unread) piece
+    → Reads f was content rest read grown e → next ≡ settled e (stage.Body r f) → now ≡ read → new ≡ grown → IsStage next left now new (heard ++ piece)
+head_read next h r f n len heard unread piece joined rest left content grown new was read now e (behind_interim, none, fresh) is_whole found same_rest reads goes same added =
+    let whole = subst (IsHeading (drop n joined)) is_whole found.heading_is in
+    let final = subst IsFinal is_whole found.final in
+    let heads = joined_heads heard unread piece joined n h found behind_interim in
+    let behind = has_head (heard ++ take found.front piece) (drop n joined) heads.0 r f len heads.1 whole final in
+    let all = behind_grows (heard ++ take found.front piece) r f (drop len (drop n joined)) (drop found.front piece) behind in
+    let past = head_past unread (take found.front piece) joined n len r f found.passed.0 found.heard_is behind_interim.3.1.none found.within found.passed.1 whole in
+    let here = whole.within in
+    let left_size = length-drop n joined in
+    let passed = found.within in
+    let some = head_some whole.head whole.reads.0 in
+    let rest_is : drop len (drop n joined) ++ drop found.front piece ≡ rest = behind_head unread piece joined found.front n len found.heard_is past (omega arith) ∙ sym same_rest in
+    let at : IsBehind (heard ++ piece) r f rest = subst (IsBehind (heard ++ piece) r f) rest_is
+    (subst (λ (s : List ℕ). IsBehind s r f (drop len (drop n joined) ++ drop found.front piece)) (piece_is heard piece found.front) all) in
+    let told = reads (answer.framing at.head) [] at.taken.framed (nothing_read f was content none fresh) in
+    at_stage next (settled e (stage.Body r f)) left read now grown new (heard ++ piece) goes same added (comes e r f read (heard ++ piece) rest left grown at told)
+
+pub head_bad : (next : Stage) (h : Heading) (n : ℕ) (heard unread piece joined left content new : List ℕ) (was now : Chunks) → IsAtHead unread was content heard → h ≡ heading.Bad
+    → IsHeadFound unread piece joined n h → next ≡ stage.Bad → IsStage next left now new (heard ++ piece)
+head_bad next h n heard unread piece joined left content new was now (behind_interim, none, fresh) is_bad found goes =
+    let heads = joined_heads heard unread piece joined n h found behind_interim in
+    let bad = bad_heads (heard ++ take found.front piece) (heads.0, drop n joined, heads.1, subst (IsHeading (drop n joined)) is_bad found.heading_is) in
+    subst (λ (t : Stage). IsStage t left now new (heard ++ piece)) (sym goes)
+    (subst (λ (s : List ℕ). Stays s Broken) (piece_is heard piece found.front) (again (heard ++ take found.front piece) (drop found.front piece) Broken bad))
+
+pub head_open : (next : Stage) (h : Heading) (n : ℕ) (heard unread piece joined left content new : List ℕ) (was now : Chunks) → IsAtHead unread was content heard → h ≡ heading.NotYet
+    → IsHeadFound unread piece joined n h → next ≡ stage.Head → left ≡ drop n joined → now ≡ was → new ≡ content → IsStage next left now new (heard ++ piece)
+head_open next h n heard unread piece joined left content new was now (behind_interim, none, fresh) is_open found goes leaves same added =
+    let heads = joined_heads heard unread piece joined n h found behind_interim in
+    let skips = subst (λ (s : List ℕ). SkipsHeads (heard ++ s) heads.0 (drop n joined)) (found.all is_open) heads.1 in
+    let headless = subst (IsHeading (drop n joined)) is_open found.heading_is in
+    subst (λ (t : Stage). IsStage t left now new (heard ++ piece)) (sym goes) (
+      (heads.0, drop n joined, skips, (sym leaves, subst IsHeadless (sym leaves) headless)),
+      added ∙ none,
+      subst IsFresh (sym same) fresh,
     )
 
 -- nothing was heard
-pub fresh : (unread content : List ℕ) → unread ≡ [] → content ≡ [] → IsStage stage.Head unread content []
-fresh unread content none empty = (
+pub fresh : (unread content : List ℕ) (c : Chunks) → unread ≡ [] → content ≡ [] → IsFresh c → IsStage stage.Head unread c content []
+fresh unread content c none empty is_fresh = (
   (
     [],
     [],
@@ -157,7 +246,48 @@ fresh unread content none empty = (
     (sym none, subst IsHeadless (sym none) (record { none = nothing_is_no_head; possible = may_begin; short = omega arith })),
   ),
   empty,
+  is_fresh,
 )
+
+-- ## Finding heads
+-- more of a piece was added to heads
+pub passed_stay : (begun more : List ℕ) (n : ℕ) → n ≤ length begun → IsPassed begun n → IsPassed (begun ++ more) n
+passed_stay begun more n le (hs, skips) = (hs, subst (λ (s : List ℕ). SkipsHeads (begun ++ more) hs s) (sym (drop-append-le n begun more le)) (skips_stay begun more (drop n begun) hs skips))
+
+-- and more interim heads were passed behind those
+pub passed_further : (heard rest : List ℕ) (n more : ℕ) → rest ≡ drop n heard → IsPassed heard n → IsPassed rest more → IsPassed heard (n + more)
+passed_further heard rest n more is (hs, skips) (gs, further_skips) = (
+  hs ++ gs,
+  subst (λ (s : List ℕ). SkipsHeads heard (hs ++ gs) s) (drop-drop more n heard)
+      (further heard (drop n heard) (drop more (drop n heard)) hs gs skips (subst (λ (s : List ℕ). SkipsHeads s gs (drop more s)) is further_skips)),
+)
+
+pub heard_more : (begun piece was front heard : List ℕ) (used k : ℕ) → was ≡ begun ++ take used piece → front ≡ take k (drop used piece) → heard ≡ was ++ front
+    → heard ≡ begun ++ take (used + k) piece
+heard_more begun piece was front heard used k was_is front_is heard_is =
+    heard_is ∙ ap (λ (s : List ℕ). s ++ front) was_is ∙ append_assoc begun (take used piece) front
+    ∙ ap (λ (s : List ℕ). begun ++ s) (ap (λ (s : List ℕ). take used piece ++ s) front_is ∙ sym (take_further used k piece))
+
+pub passed_behind : (was front heard rest : List ℕ) (n more : ℕ) → heard ≡ was ++ front → n ≤ length was → IsPassed was n → rest ≡ drop n heard → IsPassed rest more → IsPassed heard (n + more)
+passed_behind was front heard rest n more heard_is le passed rest_is passed_more =
+    passed_further heard rest n more rest_is (subst (λ (s : List ℕ). IsPassed s n) (sym heard_is) (passed_stay was front n le passed)) passed_more
+
+pub head_found : (begun piece was front heard rest : List ℕ) (used k n more : ℕ) (h : Heading) → was ≡ begun ++ take used piece → front ≡ take k (drop used piece)
+    → heard ≡ was ++ front → n ≤ length was → IsPassed was n → rest ≡ drop n heard → more ≤ length rest → IsPassed rest more → IsHeading (drop more rest) h → IsFinal h
+    → ((used + k ≡ length piece) ⊎ (is_settled h ≡ true)) → IsHeadFound begun piece heard (n + more) h
+head_found begun piece was front heard rest used k n more h was_is front_is heard_is le passed rest_is within passed_more told final done =
+    record {
+      front = used + k;
+      heard_is = heard_more begun piece was front heard used k was_is front_is heard_is;
+      within = read_within was front heard rest n more le heard_is rest_is within;
+      passed = passed_behind was front heard rest n more heard_is le passed rest_is passed_more;
+      heading_is = subst (λ (s : List ℕ). IsHeading s h) (ap (drop more) rest_is ∙ drop-drop more n heard) told;
+      final = final;
+      all = λ is_open. elim done [
+        | inl whole ↦ take_all (used + k) piece (omega (arith, whole))
+        | inr settles ↦ absurd (false≢true (sym (ap is_settled is_open) ∙ settles))
+      ];
+    }
 
 -- one interim head is passed
 pub passed_more : (heard : List ℕ) (used len n : ℕ) (r : HeadData) (f : Framing) → IsPassed heard used → IsWholeHead (drop used heard) r f len
@@ -199,14 +329,14 @@ smaller a p n some le = omega arith
 known : (heard : List ℕ) (close : Close) (a : Reply) → Stays heard a → AnswerOf heard close (Some a)
 known heard close a stays = subst (λ (b : List ℕ). AnswerOf b close (Some a)) (append-nil heard) (stays [] close)
 
-pub is_whole : (s : Stage) (r : HeadData) (unread content heard : List ℕ) (close : Close) → s ≡ stage.Whole r → IsStage s unread content heard → AnswerOf heard close (Some (Response r.code r.fields content))
-is_whole s r unread content heard close is at = known heard close (Response r.code r.fields content) (subst (λ (t : Stage). IsStage t unread content heard) is at)
+pub is_whole : (s : Stage) (r : HeadData) (unread : List ℕ) (c : Chunks) (content heard : List ℕ) (close : Close) → s ≡ stage.Whole r → IsStage s unread c content heard → AnswerOf heard close (Some (Response r.code r.fields content))
+is_whole s r unread c content heard close is at = known heard close (Response r.code r.fields content) (subst (λ (t : Stage). IsStage t unread c content heard) is at)
 
-pub is_bad : (s : Stage) (unread content heard : List ℕ) (close : Close) → s ≡ stage.Bad → IsStage s unread content heard → AnswerOf heard close (Some Broken)
-is_bad s unread content heard close is at = known heard close Broken (subst (λ (t : Stage). IsStage t unread content heard) is at)
+pub is_bad : (s : Stage) (unread : List ℕ) (c : Chunks) (content heard : List ℕ) (close : Close) → s ≡ stage.Bad → IsStage s unread c content heard → AnswerOf heard close (Some Broken)
+is_bad s unread c content heard close is at = known heard close Broken (subst (λ (t : Stage). IsStage t unread c content heard) is at)
 
-pub is_too_long : (s : Stage) (unread content heard : List ℕ) (close : Close) → s ≡ stage.TooLong → IsStage s unread content heard → AnswerOf heard close (Some TooLong)
-is_too_long s unread content heard close is at = known heard close TooLong (subst (λ (t : Stage). IsStage t unread content heard) is at)
+pub is_too_long : (s : Stage) (unread : List ℕ) (c : Chunks) (content heard : List ℕ) (close : Close) → s ≡ stage.TooLong → IsStage s unread c content heard → AnswerOf heard close (Some TooLong)
+is_too_long s unread c content heard close is at = known heard close TooLong (subst (λ (t : Stage). IsStage t unread c content heard) is at)
 
 ended_ne : Ended ≢ Open
 ended_ne e = cc e
@@ -231,27 +361,27 @@ in_chunks all Open x = (refl, x)
 in_chunks all Ended x = inr (ended_ne, x)
 in_chunks all Broke x = inr (broke_ne, x)
 
-open_body : (f : Framing) (g : plain.Framing) (all unread content : List ℕ) (close : Close) → (f ≡ framing.ToTheEnd → ⊥) → IsOpenPart f all unread content → IsFramed f g
+open_body_at : (f : Framing) (g : plain.Framing) (c : Chunks) (all content : List ℕ) (close : Close) → (f ≡ framing.ToTheEnd → ⊥) → IsOpenPart f c all content → IsFramed f g
     → IsBody answer_limit g close all (unless_closed close)
-open_body framing.Empty g all unread content close other part framed = absurd part
-open_body (framing.OfLength n) g all unread content close other (is, none, short) framed =
+open_body_at framing.Empty g c all content close other part framed = absurd part
+open_body_at (framing.OfLength n) g c all content close other (is, short) framed =
     subst (λ (k : plain.Framing). IsBody answer_limit k close all (unless_closed close)) (sym framed.0)
     (sym (length_open answer_limit n close all framed.1 (omega (arith, short, ap length is))))
-open_body framing.TooLong g all unread content close other part framed = absurd part
-open_body framing.InChunks g all unread content close other (cs, has, is, rest) framed =
-    subst (λ (k : plain.Framing). IsBody answer_limit k close all (unless_closed close)) (sym framed) (in_chunks all close (cs, unread, has, rest))
-open_body framing.ToTheEnd g all unread content close other part framed = absurd (other refl)
-open_body framing.Bad g all unread content close other part framed = absurd part
+open_body_at framing.TooLong g c all content close other part framed = absurd part
+open_body_at framing.InChunks g c all content close other part framed =
+    subst (λ (k : plain.Framing). IsBody answer_limit k close all (unless_closed close)) (sym framed) (in_chunks all close (open_body answer_limit c all content part))
+open_body_at framing.ToTheEnd g c all content close other part framed = absurd (other refl)
+open_body_at framing.Bad g c all content close other part framed = absurd part
 
-pub is_open_head : (s : Stage) (unread content heard : List ℕ) (close : Close) → s ≡ stage.Head → IsStage s unread content heard → AnswerOf heard close (unfinished close)
-is_open_head s unread content heard close is at = no_head heard unread close (subst (λ (t : Stage). IsStage t unread content heard) is at).0
+pub is_open_head : (s : Stage) (unread : List ℕ) (c : Chunks) (content heard : List ℕ) (close : Close) → s ≡ stage.Head → IsStage s unread c content heard → AnswerOf heard close (unfinished close)
+is_open_head s unread c content heard close is at = no_head heard unread close (subst (λ (t : Stage). IsStage t unread c content heard) is at).0
 
-pub is_open_body : (s : Stage) (r : HeadData) (f : Framing) (unread content heard : List ℕ) (close : Close) → s ≡ stage.Body r f → (f ≡ framing.ToTheEnd → ⊥)
-    → IsStage s unread content heard → AnswerOf heard close (unfinished close)
-is_open_body s r f unread content heard close is other at =
-    let body = subst (λ (t : Stage). IsStage t unread content heard) is at in
+pub is_open_body : (s : Stage) (r : HeadData) (f : Framing) (unread : List ℕ) (c : Chunks) (content heard : List ℕ) (close : Close) → s ≡ stage.Body r f → (f ≡ framing.ToTheEnd → ⊥)
+    → IsStage s unread c content heard → AnswerOf heard close (unfinished close)
+is_open_body s r f unread c content heard close is other at =
+    let body = subst (λ (t : Stage). IsStage t unread c content heard) is at in
     let x = body.1 in
-    no_body heard x.head close (body.0, x.has, open_body f (answer.framing x.head) body.0 unread content close other body.2 x.taken.framed)
+    no_body heard x.head close (body.0, x.has, open_body_at f (answer.framing x.head) c body.0 content close other body.2 x.taken.framed)
 
 -- a body that goes to the connection's end
 to_the_end : (g : plain.Framing) (all content : List ℕ) (close : Close) → g ≡ plain.ToTheEnd → all ≡ content → length content ≤ answer_limit
@@ -271,42 +401,9 @@ at_end heard h r content Open x is = (refl, inl (h, x))
 at_end heard h r content Ended x is = (h, x, is.code, is.fields)
 at_end heard h r content Broke x is = inl (h, x)
 
-pub is_to_the_end : (s : Stage) (r : HeadData) (f : Framing) (unread content heard : List ℕ) (close : Close) → s ≡ stage.Body r f → f ≡ framing.ToTheEnd → IsStage s unread content heard
+pub is_to_the_end : (s : Stage) (r : HeadData) (f : Framing) (unread : List ℕ) (c : Chunks) (content heard : List ℕ) (close : Close) → s ≡ stage.Body r f → f ≡ framing.ToTheEnd → IsStage s unread c content heard
     → AnswerOf heard close (ends_at close r content)
-is_to_the_end s r f unread content heard close is ends at =
-    let body = subst (λ (t : Stage). IsStage t unread content heard) (is ∙ ap (stage.Body r) ends) at in
+is_to_the_end s r f unread c content heard close is ends at =
+    let body = subst (λ (t : Stage). IsStage t unread c content heard) (is ∙ ap (stage.Body r) ends) at in
     let x = body.1 in
-    at_end heard x.head r content close (body.0, x.has, to_the_end (answer.framing x.head) body.0 content close x.taken.framed body.2.0 body.2.2) x.taken.head
-
--- ## One feed
-pub fed : {A E : Type 0} (result : Result A E) (s : Stage) (unread content heard piece joined : List ℕ) (close : Close) (was : Connection) (new : Reading)
-    → is_decided s ≡ false → IsStage s unread content heard → close ≡ close_view was → joined ≡ unread ++ piece → is_ok result ≡ true → new.close ≡ was
-    → OnOk result ((h : List ℕ) → IsAt s joined content h → IsStage new.stage new.unread.items new.content.items h)
-    → HasHeard new (if is_ok result then heard ++ piece else heard) close
-fed (Ok a) s unread content heard piece joined close was new going at is joins ok same go = record {
-  stage = go (heard ++ piece) (subst (λ (u : List ℕ). IsAt s u content (heard ++ piece)) (sym joins) (grows s unread content heard piece going at));
-  close_is = is ∙ ap close_view (sym same);
-}
-fed (Err e) s unread content heard piece joined close was new going at is joins ok same go = absurd (false≢true ok)
-
--- bytes that are taken as they come leave nothing
-nothing_left : (f : Framing) (all unread content : List ℕ) → IsDirect f → IsOpenPart f all unread content → unread ≡ []
-nothing_left framing.Empty all unread content direct part = absurd part
-nothing_left (framing.OfLength n) all unread content direct part = part.1
-nothing_left framing.TooLong all unread content direct part = absurd part
-nothing_left framing.InChunks all unread content direct part = absurd direct
-nothing_left framing.ToTheEnd all unread content direct part = part.1
-nothing_left framing.Bad all unread content direct part = absurd part
-
-pub piece_read : (s next : Stage) (r : HeadData) (f : Framing) (heard unread content piece left grown new : List ℕ) (used : ℕ) (e : End)
-    → s ≡ stage.Body r f → IsDirect f → IsStage s unread content heard → Reads f piece content grown used e
-    → next ≡ settled e s → (e ≡ end.More → left ≡ drop 0 unread) → new ≡ grown → IsStage next left new (heard ++ piece)
-piece_read s next r f heard unread content piece left grown new used e is direct at reads goes leaves same =
-    let body = subst (λ (t : Stage). IsStage t unread content heard) is at in
-    let none = nothing_left f body.0 unread content direct body.2 in
-    let behind = behind_grows heard r f body.0 piece body.1 in
-    let part : IsPartOf f (body.0 ++ piece) piece content = subst (λ (u : List ℕ). IsPartOf f (body.0 ++ piece) (u ++ piece) content) none (part_grows f body.0 unread content piece body.2) in
-    let read = reads (answer.framing behind.head) (body.0 ++ piece) behind.taken.framed part in
-    let leaves_rest : e ≡ end.More → left ≡ drop used piece = λ m.
-    leaves m ∙ none ∙ sym (nothing_left f (body.0 ++ piece) (drop used piece) grown direct (subst (λ (x : End). IsRead f (answer.framing behind.head) (body.0 ++ piece) (drop used piece) grown x) m read)) in
-    body_read (stage.Body r f) next r f (heard ++ piece) piece content left grown new used e refl (body.0 ++ piece, behind, part) reads (goes ∙ ap (settled e) is) leaves_rest same
+    at_end heard x.head r content close (body.0, x.has, to_the_end (answer.framing x.head) body.0 content close x.taken.framed body.2.0 body.2.1) x.taken.head

@@ -1,5 +1,5 @@
 -- What the code finds at the front of bytes.
-use Rattle.std.specs.Prelude.{◌≡◌, ℕ, ◌<◌, ◌≤◌, List, length, drop, IsTrue, IsFalse, ⊤}
+use Rattle.std.specs.Prelude.{◌≡◌, ℕ, ◌<◌, ◌≤◌, Bool, true, false, List, ◌++◌, length, take, drop, IsTrue, IsFalse, ⊤}
 use Rattle.httparse.specs.Grammar.{ResponseHead, ReadsResponse, status_code, HasNoResponse, NeverHasResponse, MayBecomeResponse}
 use Rattle.wf_shared.specs.HttpBody as plain
 use Rattle.wf_shared.specs.HttpBody.{field_limit, headers_of}
@@ -12,7 +12,7 @@ use Rattle.wf_http_in.specs.declared.heads.Look.TheVariants as look
 use Rattle.wf_http_in.specs.AnswerOf as answer
 use Rattle.wf_http_in.specs.Bodies.{answer_limit}
 use Rattle.wf_http_in.specs.HeadData.{HeadData}
-use Rattle.wf_http_in.specs.Heads.{IsHeadless, IsBadHead, IsCrowdedHead, IsSmallResponse, is_interim_code}
+use Rattle.wf_http_in.specs.Heads.{IsHeadless, IsBadHead, IsCrowdedHead, IsSmallResponse, IsPassed, is_interim_code}
 
 -- the code's framing is this one
 abbrev pub IsFramed : Framing → plain.Framing → Type 0
@@ -69,3 +69,18 @@ IsFinal h = ⊤
 abbrev pub IsInterim : Heading → ℕ → Type 0
 IsInterim (heading.Whole r f len) n = IsTrue (is_interim_code r.code) × (n ≡ len)
 IsInterim h n = ⊥
+
+-- no more bytes are wanted for it
+abbrev pub is_settled : Heading → Bool
+is_settled heading.NotYet = false
+is_settled h = true
+
+-- behind the bytes begun and a front of the piece, which is all of it where no head is whole
+pub record IsHeadFound (begun piece heard : List ℕ) (n : ℕ) (h : Heading) : Type 0 where
+  pub front : ℕ
+  pub heard_is : heard ≡ begun ++ take front piece
+  pub within : n ≤ length heard
+  pub passed : IsPassed heard n
+  pub heading_is : IsHeading (drop n heard) h
+  pub final : IsFinal h
+  pub all : h ≡ heading.NotYet → take front piece ≡ piece

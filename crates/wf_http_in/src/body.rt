@@ -1,91 +1,49 @@
 // Bodies of answers, read as they come.
-ghost use Rattle.std.specs.Prelude.{◌≡◌, ◌++◌, ◌≤◌, IfOk, List, OnErr, OnOk, ℕ, drop, length};
+ghost use Rattle.std.specs.Prelude.{◌≡◌, ◌++◌, IfOk, List, OnErr, ℕ};
 ghost use Rattle.wf_shared.specs.HttpBody as plain;
-ghost use Rattle.wf_http_in.specs.declared.framing.Framing.TheVariants.{OfLength, ToTheEnd};
+ghost use Rattle.wf_http_body.specs.declared.body.Chunks.{Chunks as ChunksRead};
+ghost use Rattle.wf_http_body.specs.Parts.{IsSame};
+ghost use Rattle.wf_http_in.specs.declared.framing.Framing.TheVariants.{ToTheEnd};
 ghost use Rattle.wf_http_in.specs.Found.{IsFramed};
 ghost use Rattle.wf_http_in.specs.Stages.{IsPartOf, IsRead};
 
 use crate::framing::{BODY_LIMIT, Framing};
-use std::alloc::Global;
-use wf_http_body::{End, Read, read_chunks};
+use wf_http_body::{Chunks, End, add, read_length};
 use wf_value::OutOfMemory;
 
-// Adds what was heard to the content of a body. Without memory the content stays.
+// Hears a piece of a body, and adds its content to that so far. Without memory nothing is heard.
 pub(crate) fn read_body(
-    alloc: Global,
+    chunks: &mut Chunks,
     content: &mut Vec<u8>,
     framing: Framing,
-    heard: &[u8],
-) -> Result<Read, OutOfMemory>
-    ensures kept { OnErr result (content.new.items ≡ content.old.items) }
-    ensures within { IfOk result (λ r. r.used ≤ length heard.now) }
-    ensures read { IfOk result (λ r. (f : plain.Framing) (all : List ℕ) → IsFramed framing f
-        → IsPartOf framing all heard.now content.old.items
-        → IsRead framing f all (drop r.used heard.now) content.new.items r.end) }
+    piece: &[u8],
+) -> Result<End, OutOfMemory>
+    ensures kept { OnErr result (IsSame chunks.old chunks.new) }
+    ensures content { OnErr result (content.new.items ≡ content.old.items) }
+    ensures read { IfOk result (λ e. (f : plain.Framing) (all : List ℕ) → IsFramed framing f
+        → IsPartOf framing chunks.old all content.old.items
+        → IsRead framing f chunks.new (all ++ piece.now) content.new.items e) }
 {
     match framing {
-        Framing::Empty => Ok(nothing(End::Whole)),
-        Framing::TooLong => Ok(nothing(End::TooLarge)),
-        Framing::Bad => Ok(nothing(End::Bad)),
-        Framing::OfLength(length) => read_length(content, length, heard),
-        Framing::ToTheEnd => read_all(content, heard),
-        Framing::InChunks => read_chunks(alloc, content, heard, BODY_LIMIT),
+        Framing::Empty => Ok(End::Whole),
+        Framing::TooLong => Ok(End::TooLarge),
+        Framing::Bad => Ok(End::Bad),
+        Framing::OfLength(length) => read_length(content, length, piece),
+        Framing::ToTheEnd => read_all(content, piece),
+        Framing::InChunks => chunks.feed(content, piece, BODY_LIMIT),
     }
-}
-
-// Nothing was read.
-fn nothing(end: End) -> Read
-    ensures used { result.used ≡ 0 }
-    ensures end { result.end ≡ end }
-{
-    Read { used: 0, end }
-}
-
-// The same of a body of so many bytes.
-fn read_length(content: &mut Vec<u8>, size: usize, heard: &[u8]) -> Result<Read, OutOfMemory>
-    ensures kept { OnErr result (content.new.items ≡ content.old.items) }
-    ensures within { IfOk result (λ r. r.used ≤ length heard.now) }
-    ensures read { IfOk result (λ r. (f : plain.Framing) (all : List ℕ) → IsFramed (OfLength size) f
-        → IsPartOf (OfLength size) all heard.now content.old.items
-        → IsRead (OfLength size) f all (drop r.used heard.now) content.new.items r.end) }
-{
-    let missing = size.saturating_sub(content.len());
-    let used = heard.len().min(missing);
-    let (taken, _) = heard.split_at(used);
-    add(content, taken)?;
-    let end = if used == missing {
-        End::Whole
-    } else {
-        End::More
-    };
-    Ok(Read { used, end })
 }
 
 // The same of a body that goes to the connection's end.
-fn read_all(content: &mut Vec<u8>, heard: &[u8]) -> Result<Read, OutOfMemory>
+fn read_all(content: &mut Vec<u8>, piece: &[u8]) -> Result<End, OutOfMemory>
     ensures kept { OnErr result (content.new.items ≡ content.old.items) }
-    ensures within { IfOk result (λ r. r.used ≤ length heard.now) }
-    ensures read { IfOk result (λ r. (f : plain.Framing) (all : List ℕ) → IsFramed ToTheEnd f
-        → IsPartOf ToTheEnd all heard.now content.old.items
-        → IsRead ToTheEnd f all (drop r.used heard.now) content.new.items r.end) }
+    ensures read { IfOk result (λ e. (f : plain.Framing) (c : ChunksRead) (all : List ℕ)
+        → IsFramed ToTheEnd f → IsPartOf ToTheEnd c all content.old.items
+        → IsRead ToTheEnd f c (all ++ piece.now) content.new.items e) }
 {
-    if heard.len() > BODY_LIMIT.saturating_sub(content.len()) {
-        return Ok(nothing(End::TooLarge));
+    if piece.len() > BODY_LIMIT.saturating_sub(content.len()) {
+        return Ok(End::TooLarge);
     }
-    add(content, heard)?;
-    Ok(Read {
-        used: heard.len(),
-        end: End::More,
-    })
-}
-
-// Adds bytes at the end. Without memory the content stays.
-pub(crate) fn add(content: &mut Vec<u8>, bytes: &[u8]) -> Result<(), OutOfMemory>
-    ensures added { OnOk result (content.new.items ≡ content.old.items ++ bytes.now) }
-    ensures kept { OnErr result (content.new.items ≡ content.old.items) }
-{
-    match content.extend_from_slice(bytes) {
-        Ok(()) => Ok(()),
-        Err(_) => Err(OutOfMemory),
-    }
+    add(content, piece)?;
+    Ok(End::More)
 }

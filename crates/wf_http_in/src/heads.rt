@@ -1,7 +1,7 @@
 // Heads of answers, of all bytes heard (RFC 9112, sections 2 to 5).
-ghost use Rattle.std.specs.Prelude.{◌≡◌, ◌≤◌, IfOk, MatchOption, drop, length};
+ghost use Rattle.std.specs.Prelude.{◌≡◌, ◌≤◌, IfOk, MatchOption, drop, length, take};
 ghost use Rattle.httparse.specs.Spans.{ResponseOverflows};
-ghost use Rattle.wf_http_in.specs.Found.{IsFinal, IsHeading, IsInterim, IsLook};
+ghost use Rattle.wf_http_in.specs.Found.{IsFinal, IsHeadFound, IsHeading, IsInterim, IsLook, is_settled};
 ghost use Rattle.wf_http_in.specs.Heads.{IsPassed, is_interim_code};
 
 use crate::Head;
@@ -9,7 +9,7 @@ use crate::framing::{Framing, framing_of};
 use httparse::spans::{EMPTY_HEADER_SPAN, HeaderSpan, parse_response};
 use httparse::{Error, Status};
 use std::alloc::Global;
-use wf_http_body::{FIELD_LIMIT, LARGE_ROOM};
+use wf_http_body::{FIELD_LIMIT, LARGE_ROOM, add, head_length};
 use wf_value::OutOfMemory;
 
 // The bytes of a head, at most.
@@ -38,6 +38,16 @@ pub(crate) enum Look {
 }
 
 impl Heading {
+    // Whether no more bytes are wanted for it.
+    fn is_settled(&self) -> bool
+        ensures { result ≡ is_settled self.now }
+    {
+        match self {
+            Heading::NotYet => false,
+            Heading::Bad | Heading::Whole(_, _, _) => true,
+        }
+    }
+
     // How long an interim head is.
     fn interim(&self) -> Option<usize>
         ensures { MatchOption result (IsFinal self.now) (IsInterim self.now) }
@@ -56,8 +66,34 @@ fn is_interim(code: u16) -> bool
     code >= 100 && code <= 199
 }
 
+// Adds a front of a piece to the bytes of heads: to the end of the answer's head, or all of it.
+// Tells how long the interim heads are that come first, and what stands behind them. Without memory
+// bytes may have been added.
+pub(crate) fn find_head(heard: &mut Vec<u8>, piece: &[u8]) -> Result<(usize, Heading), OutOfMemory>
+    ensures grown { take (length heard.old.items) heard.new.items ≡ heard.old.items }
+    ensures found { IfOk result (λ r. IsHeadFound heard.old.items piece.now heard.new.items r.0
+        r.1) }
+{
+    let alloc = *heard.allocator();
+    let mut used = 0;
+    let mut passed = 0;
+    loop {
+        let (_, rest) = piece.split_at(used);
+        let (_, begun) = heard.as_slice().split_at(passed);
+        let (front, _) = rest.split_at(head_length(begun, rest));
+        add(heard, front)?;
+        used += front.len();
+        let (_, behind) = heard.as_slice().split_at(passed);
+        let (more, heading) = read_heads(alloc, behind)?;
+        passed += more;
+        if used == piece.len() || heading.is_settled() {
+            return Ok((passed, heading));
+        }
+    }
+}
+
 // How long the interim heads are that come first, and what stands behind them.
-pub(crate) fn read_heads(alloc: Global, heard: &[u8]) -> Result<(usize, Heading), OutOfMemory>
+fn read_heads(alloc: Global, heard: &[u8]) -> Result<(usize, Heading), OutOfMemory>
     ensures within { IfOk result (λ r. r.0 ≤ length heard.now) }
     ensures passed { IfOk result (λ r. IsPassed heard.now r.0) }
     ensures heading { IfOk result (λ r. IsHeading (drop r.0 heard.now) r.1) }

@@ -1,58 +1,62 @@
 -- From what was read to what is known of a visit.
-use Rattle.std.proofs.Common.{◌≡◌, ℕ, ◌+◌, List, [], ◌++◌, drop, Result, Ok, Err, if◌then◌else◌, Bool, true, false, refl, sym, ap, ◌∙◌, subst, arith, inl, append-nil}
-use Rattle.std.proofs.lemmas.Bool.{false≢true}
-use Rattle.std.proofs.lemmas.List.{drop-drop}
-use Rattle.std.proofs.lemmas.List.Elements.{All-nil}
-use Rattle.std.specs.Prelude.{IfOk, OnOk, is_ok}
+use Rattle.std.proofs.Common.{◌≡◌, ℕ, ◌+◌, ◌-◌, ◌<◌, ◌≤◌, List, [], ◌++◌, length, take, drop, Result, Ok, Err, Bool, true, false, refl, sym, ap, ◌∙◌, subst, arith, ◌⊎◌, inl, inr, append_assoc, append-nil, length-append, length-drop, length-take, take-append-drop}
+use Rattle.std.proofs.lemmas.Bool.{cases_lt, false≢true, le-ltb, lt-leb}
+use Rattle.std.proofs.lemmas.List.{drop-append-le, drop-drop, drop_at, take_all}
+use Rattle.std.specs.Prelude.{◌≢◌, IfOk}
+use Rattle.httparse.specs.Grammar.{RequestHead, ReadsRequest, HasNoRequest, print_request}
 use Rattle.wf_shared.specs.HttpBody as plain
-use Rattle.wf_shared.specs.HttpBody.{Close, Complete, Malformed, Oversize, BodyState, IsChunk, headers_of}
+use Rattle.wf_shared.specs.HttpBody.{Close, Open, Ended, Broke, length_state, unless_closed, Complete, Malformed, Oversize, BodyState, headers_of}
+use Rattle.wf_http_body.specs.declared.body.Chunks.{Chunks}
 use Rattle.wf_http_body.specs.declared.body.End.{End}
 use Rattle.wf_http_body.specs.declared.body.End.TheVariants as end
-use Rattle.wf_http_body.specs.declared.body.Read.{Read}
+use Rattle.wf_http_body.specs.Chunks.{IsOpenChunked, IsChunkedBody}
+use Rattle.wf_http_body.specs.Lengths.{IsLengthPart, IsLengthRead}
+use Rattle.wf_http_body.specs.Parts.{IsFresh, IsOpenBody, ReadsBody}
+use Rattle.wf_http_body.proofs.Fronts.{front_of}
+use Rattle.wf_http_body.proofs.Opening.{fresh_body, open_body}
 use Rattle.wf_http_serve.specs.declared.head.Heading.{Heading}
 use Rattle.wf_http_serve.specs.declared.head.Heading.TheVariants as heading
-use Rattle.wf_http_serve.specs.declared.visit.Visit.{Visit}
 use Rattle.wf_http_serve.specs.declared.framing.Framing.{Framing}
 use Rattle.wf_http_serve.specs.declared.framing.Framing.TheVariants as framing
 use Rattle.wf_http_serve.specs.declared.request.Request.{Request}
 use Rattle.wf_http_serve.specs.declared.stage.Stage.{Stage}
 use Rattle.wf_http_serve.specs.declared.stage.Stage.TheVariants as stage
+use Rattle.wf_http_serve.specs.Found.{IsHeading, IsHeadFound, IsWholeHead}
 use Rattle.wf_http_serve.specs.Plain.{IsFramed, close_of}
-use Rattle.wf_http_serve.specs.Stages.{IsPartOf, IsOpenPart, IsRead, StaysBody, Stays, IsBehind, IsAt, IsStage, is_decided, settled, HasHeard}
+use Rattle.wf_http_serve.specs.Stages.{IsPartOf, IsOpenPart, IsRead, StaysBody, Stays, IsBehind, IsStage, settled}
 use Rattle.wf_http_serve.specs.Visits as visits
-use Rattle.wf_http_serve.specs.Visits.{visit_limit, VisitOf, HasBody, IsVisitBody, HasHead}
+use Rattle.wf_http_serve.specs.Visits.{visit_limit, VisitOf, HasBody, HasSomeBody, IsHeadless, IsVisitBody, HasHead}
 use Rattle.wf_http_serve.proofs.Lasting.{head_stays, again, bad_heads}
-use Rattle.wf_http_serve.specs.Found.{IsHeading}
-use Rattle.wf_http_body.specs.Parts as parts
-use Rattle.wf_http_body.proofs.Lasting.{chunks_stay}
 use Rattle.wf_http_serve.proofs.Sizes.{nothing_is_no_head}
 
 -- ## More is heard
 -- what is decided stays, whatever comes
-pub stays : (s : Stage) (unread content heard piece : List ℕ) → is_decided s ≡ true → IsStage s unread content heard → IsStage s unread content (heard ++ piece)
-stays stage.Head unread content heard piece decided at = absurd (false≢true decided)
-stays (stage.Body r f) unread content heard piece decided at = absurd (false≢true decided)
-stays (stage.Asked r) unread content heard piece decided at = again heard piece (visits.Asks r.method r.target r.fields content) at
-stays stage.Bad unread content heard piece decided at = again heard piece visits.Bad at
-stays stage.TooLarge unread content heard piece decided at = again heard piece visits.TooLarge at
+asked_stays : (s : Stage) (r : Request) (unread : List ℕ) (c : Chunks) (content heard piece : List ℕ) → s ≡ stage.Asked r → IsStage s unread c content heard
+    → IsStage s unread c content (heard ++ piece)
+asked_stays s r unread c content heard piece is at =
+    subst (λ (t : Stage). IsStage t unread c content (heard ++ piece)) (sym is)
+    (again heard piece (visits.Asks r.method r.target r.fields content) (subst (λ (t : Stage). IsStage t unread c content heard) is at))
 
-part_grows : (f : Framing) (all unread content piece : List ℕ) → IsOpenPart f all unread content → IsPartOf f (all ++ piece) (unread ++ piece) content
-part_grows framing.Empty all unread content piece x = absurd x
-part_grows (framing.OfLength n) all unread content piece x = (ap (λ (s : List ℕ). s ++ piece) x.0, x.1)
-part_grows framing.TooLarge all unread content piece x = absurd x
-part_grows framing.InChunks all unread content piece (cs, has, is, rest) = (cs, chunks_stay visit_limit all piece unread cs has, is)
-part_grows framing.Bad all unread content piece x = absurd x
+bad_stays : (s : Stage) (unread : List ℕ) (c : Chunks) (content heard piece : List ℕ) → s ≡ stage.Bad → IsStage s unread c content heard
+    → IsStage s unread c content (heard ++ piece)
+bad_stays s unread c content heard piece is at =
+    subst (λ (t : Stage). IsStage t unread c content (heard ++ piece)) (sym is)
+    (again heard piece visits.Bad (subst (λ (t : Stage). IsStage t unread c content heard) is at))
+
+too_large_stays : (s : Stage) (unread : List ℕ) (c : Chunks) (content heard piece : List ℕ) → s ≡ stage.TooLarge → IsStage s unread c content heard
+    → IsStage s unread c content (heard ++ piece)
+too_large_stays s unread c content heard piece is at =
+    subst (λ (t : Stage). IsStage t unread c content (heard ++ piece)) (sym is)
+    (again heard piece visits.TooLarge (subst (λ (t : Stage). IsStage t unread c content heard) is at))
+
+pub decided_stays : (s : Stage) (unread : List ℕ) (c : Chunks) (content heard piece : List ℕ) → (((r : Request) × (s ≡ stage.Asked r)) ⊎ ((s ≡ stage.Bad) ⊎ (s ≡ stage.TooLarge)))
+    → IsStage s unread c content heard → IsStage s unread c content (heard ++ piece)
+decided_stays s unread c content heard piece (inl (r, is)) at = asked_stays s r unread c content heard piece is at
+decided_stays s unread c content heard piece (inr (inl is)) at = bad_stays s unread c content heard piece is at
+decided_stays s unread c content heard piece (inr (inr is)) at = too_large_stays s unread c content heard piece is at
 
 behind_grows : (heard : List ℕ) (r : Request) (f : Framing) (all piece : List ℕ) → IsBehind heard r f all → IsBehind (heard ++ piece) r f (all ++ piece)
 behind_grows heard r f all piece x = record { head = x.head; has = head_stays heard piece x.head all x.has; taken = x.taken }
-
--- else the piece is still to be read
-pub grows : (s : Stage) (unread content heard piece : List ℕ) → is_decided s ≡ false → IsStage s unread content heard → IsAt s (unread ++ piece) content (heard ++ piece)
-grows stage.Head unread content heard piece going at = (ap (λ (s : List ℕ). s ++ piece) at.0, at.1)
-grows (stage.Body r f) unread content heard piece going (all, behind, part) = (all ++ piece, behind_grows heard r f all piece behind, part_grows f all unread content piece part)
-grows (stage.Asked r) unread content heard piece going at = absurd (false≢true (sym going))
-grows stage.Bad unread content heard piece going at = absurd (false≢true (sym going))
-grows stage.TooLarge unread content heard piece going at = absurd (false≢true (sym going))
 
 -- ## What was read
 -- a body that stays makes a visit that stays
@@ -61,96 +65,226 @@ with_body : (heard : List ℕ) (r : Request) (f : Framing) (all : List ℕ) (s :
 with_body heard r f all s x stays more close = record { rest = all ++ more; head = head_stays heard more x.head all x.has; body = stays more close }
 
 -- from what was read of a body to the stage
-pub comes : (e : End) (r : Request) (f : Framing) (heard all unread content : List ℕ) (x : IsBehind heard r f all)
-    → IsRead f (visits.framing (headers_of x.head.fields)) all unread content e → (left : List ℕ) → (e ≡ end.More → left ≡ unread)
-    → IsStage (settled e (stage.Body r f)) left content heard
-comes end.More r f heard all unread content x read left same = (all, x, subst (λ (u : List ℕ). IsOpenPart f all u content) (sym (same refl)) read)
-comes end.Whole r f heard all unread content x read left same = λ more close.
+comes : (e : End) (r : Request) (f : Framing) (c : Chunks) (heard all unread content : List ℕ) (x : IsBehind heard r f all)
+    → IsRead f (visits.framing (headers_of x.head.fields)) c all content e → IsStage (settled e (stage.Body r f)) unread c content heard
+comes end.More r f c heard all unread content x read = (all, x, read)
+comes end.Whole r f c heard all unread content x read = λ more close.
     (x.head, with_body heard r f all (Complete content) x read more close, x.taken.asked.method, x.taken.asked.target, x.taken.asked.fields)
-comes end.Bad r f heard all unread content x read left same = λ more close. inl (x.head, with_body heard r f all Malformed x read more close)
-comes end.TooLarge r f heard all unread content x read left same = λ more close. (x.head, with_body heard r f all Oversize x read more close)
+comes end.Bad r f c heard all unread content x read = λ more close. inl (x.head, with_body heard r f all Malformed x read more close)
+comes end.TooLarge r f c heard all unread content x read = λ more close. (x.head, with_body heard r f all Oversize x read more close)
 
 -- nothing of a body was read
-pub nothing_read : (f : Framing) (all : List ℕ) → IsPartOf f all all []
-nothing_read framing.Empty all = (refl, refl)
-nothing_read (framing.OfLength n) all = (refl, refl)
-nothing_read framing.TooLarge all = (refl, refl)
-nothing_read framing.InChunks all = ([], record { chunks = All-nil IsChunk; bytes = refl; within = omega arith }, refl)
-nothing_read framing.Bad all = (refl, refl)
+nothing_read : (f : Framing) (c : Chunks) (content : List ℕ) → content ≡ [] → IsFresh c → IsPartOf f c [] content
+nothing_read framing.Empty c content none fresh = none
+nothing_read (framing.OfLength n) c content none fresh = (sym none, (let size = ap length none in omega arith))
+nothing_read framing.TooLarge c content none fresh = none
+nothing_read framing.InChunks c content none fresh = fresh_body visit_limit c content fresh none
+nothing_read framing.Bad c content none fresh = none
+
+-- a body that isn't whole
+open_is_part : (f : Framing) (c : Chunks) (all content : List ℕ) → IsOpenPart f c all content → IsPartOf f c all content
+open_is_part framing.Empty c all content part = absurd part
+open_is_part (framing.OfLength n) c all content part = (part.0, (let short = part.1 in omega arith))
+open_is_part framing.TooLarge c all content part = absurd part
+open_is_part framing.InChunks c all content part = part
+open_is_part framing.Bad c all content part = absurd part
+
+-- what `read_body` says
+abbrev pub Reads : Framing → Chunks → (content piece : List ℕ) → Chunks → (new : List ℕ) → End → Type 0
+Reads f was content piece c new e = (g : plain.Framing) (all : List ℕ) → IsFramed f g → IsPartOf f was all content → IsRead f g c (all ++ piece) new e
+
+-- the stage that the code is at
+at_stage : (next s : Stage) (left : List ℕ) (was c : Chunks) (grown new heard : List ℕ) → next ≡ s → c ≡ was → new ≡ grown → IsStage s left was grown heard
+    → IsStage next left c new heard
+at_stage next s left was c grown new heard goes same is at =
+    subst (λ (t : Stage). IsStage t left c new heard) (sym goes)
+    (subst (λ (d : Chunks). IsStage s left d new heard) (sym same) (subst (λ (b : List ℕ). IsStage s left was b heard) (sym is) at))
+
+pub body_read : (s next : Stage) (r : Request) (f : Framing) (heard unread left content piece grown new : List ℕ) (was read now : Chunks) (e : End)
+    → s ≡ stage.Body r f → IsStage s unread was content heard → Reads f was content piece read grown e
+    → next ≡ settled e s → now ≡ read → new ≡ grown → IsStage next left now new (heard ++ piece)
+unfolding behind_grows
+body_read s next r f heard unread left content piece grown new was read now e is at reads goes same added =
+    let body = subst (λ (t : Stage). IsStage t unread was content heard) is at in
+    let behind = body.1 in
+    let told = reads (visits.framing (headers_of behind.head.fields)) body.0 behind.taken.framed (open_is_part f was body.0 content body.2) in
+    at_stage next (settled e (stage.Body r f)) left read now grown new (heard ++ piece) (goes ∙ ap (settled e) is) same added
+    (comes e r f read (heard ++ piece) (body.0 ++ piece) left grown (behind_grows heard r f body.0 piece behind) told)
+
+-- ## Bodies
+length_read : (n : ℕ) (f : plain.Framing) (c : Chunks) (all content : List ℕ) (e : End) → f ≡ plain.OfLength n → IsLengthRead visit_limit n all content e
+    → IsRead (framing.OfLength n) f c all content e
+length_read n f c all content end.More is read = read
+length_read n f c all content end.Whole is read = λ more close. subst (λ (g : plain.Framing). IsVisitBody g close (all ++ more) (Complete content)) (sym is) (read more close)
+length_read n f c all content end.Bad is read = absurd read
+length_read n f c all content end.TooLarge is read = absurd read
+
+pub sized : {E : Type 0} (code : Framing) (n : ℕ) (was c : Chunks) (piece old new : List ℕ) (result : Result End E) → code ≡ framing.OfLength n
+    → IfOk result (λ e. (limit : ℕ) (all : List ℕ) → n ≤ limit → IsLengthPart n all old → IsLengthRead limit n (all ++ piece) new e)
+    → IfOk result (λ e. (f : plain.Framing) (all : List ℕ) → IsFramed code f → IsPartOf code was all old → IsRead code f c (all ++ piece) new e)
+sized code n was c piece old new (Ok e) is read = λ f all framed part.
+    let told = subst (λ (g : Framing). IsFramed g f) is framed in
+    let begun = subst (λ (g : Framing). IsPartOf g was all old) is part in
+    subst (λ (g : Framing). IsRead g f c (all ++ piece) new e) (sym is) (length_read n f c (all ++ piece) new e told.0 (read visit_limit all told.1 begun))
+sized code n was c piece old new (Err x) is read = tt
+
+in_chunks : (f : plain.Framing) (c : Chunks) (all content : List ℕ) (e : End) → f ≡ plain.InChunks → ReadsBody visit_limit c all content e → IsRead framing.InChunks f c all content e
+in_chunks f c all content end.More is read = read
+in_chunks f c all content end.Whole is read = λ more close. subst (λ (g : plain.Framing). IsVisitBody g close (all ++ more) (Complete content)) (sym is) (read more close)
+in_chunks f c all content end.Bad is read = λ more close. subst (λ (g : plain.Framing). IsVisitBody g close (all ++ more) Malformed) (sym is) (read more close)
+in_chunks f c all content end.TooLarge is read = λ more close. subst (λ (g : plain.Framing). IsVisitBody g close (all ++ more) Oversize) (sym is) (read more close)
+
+pub chunked : {E : Type 0} (code : Framing) (was c : Chunks) (piece old new : List ℕ) (result : Result End E) → code ≡ framing.InChunks
+    → IfOk result (λ e. (all : List ℕ) → IsOpenBody visit_limit was all old → ReadsBody visit_limit c (all ++ piece) new e)
+    → IfOk result (λ e. (f : plain.Framing) (all : List ℕ) → IsFramed code f → IsPartOf code was all old → IsRead code f c (all ++ piece) new e)
+chunked code was c piece old new (Ok e) is read = λ f all framed part.
+    subst (λ (g : Framing). IsRead g f c (all ++ piece) new e) (sym is)
+    (in_chunks f c (all ++ piece) new e (subst (λ (g : Framing). IsFramed g f) is framed) (read all (subst (λ (g : Framing). IsPartOf g was all old) is part)))
+chunked code was c piece old new (Err x) is read = tt
+
+-- ## Heads
+piece_is : (heard piece : List ℕ) (front : ℕ) → (heard ++ take front piece) ++ drop front piece ≡ heard ++ piece
+piece_is heard piece front = append_assoc heard (take front piece) (drop front piece) ∙ ap (λ (s : List ℕ). heard ++ s) (take-append-drop front piece)
+
+-- what stands behind a head ends where the piece does
+drop_past : (n : ℕ) (xs ys : List ℕ) → length xs ≤ n → drop n (xs ++ ys) ≡ drop (n - length xs) ys
+drop_past n xs ys le =
+    let e : length xs + (n - length xs) ≡ n = omega arith in
+    sym (ap (λ (k : ℕ). drop k (xs ++ ys)) e) ∙ sym (drop-drop (n - length xs) (length xs) (xs ++ ys)) ∙ ap (drop (n - length xs)) (drop_at xs ys (length xs) refl)
+
+behind_head : (unread piece joined : List ℕ) (front len : ℕ) → joined ≡ unread ++ take front piece → length unread ≤ len → len ≤ length joined
+    → drop len joined ++ drop front piece ≡ drop (len - length unread) piece
+behind_head unread piece joined front len is past within =
+    sym (drop-append-le len joined (drop front piece) within) ∙ ap (λ (s : List ℕ). drop len (s ++ drop front piece)) is
+    ∙ ap (drop len) (piece_is unread piece front) ∙ drop_past len unread piece past
+
+-- no head is whole in bytes of which none was
+head_past : (unread more joined : List ℕ) (len : ℕ) (r : Request) (f : Framing) → joined ≡ unread ++ more → HasNoRequest unread → IsWholeHead joined r f len → length unread ≤ len
+head_past unread more joined len r f is none whole = elim (cases_lt (length unread) (length (print_request whole.head))) [
+  | inl lt ↦
+      let size = ap length whole.has.reads.1 ∙ length-append (print_request whole.head) (drop len joined) in
+      let left = length-drop len joined in
+      let here = whole.within in
+      omega arith
+  | inr le ↦ absurd (none whole.head _ (whole.has.reads.0, front_of unread more (print_request whole.head) (drop len joined) (sym is ∙ whole.has.reads.1) le))
+]
+
+-- how much of a piece a head takes
+pub takes_within : (begun piece heard : List ℕ) (len : ℕ) (h : Heading) (r : Request) (f : Framing) → IsHeadFound begun piece heard h → h ≡ heading.Whole r f len
+    → len - length begun ≤ length piece
+takes_within begun piece heard len h r f found is =
+    let whole = subst (IsHeading heard) is found.heading_is in
+    let here = whole.within in
+    let size = ap length found.heard_is ∙ length-append begun (take found.front piece) in
+    let front = length-take found.front piece in
+    omega arith
+
+abbrev IsAtHead : (unread : List ℕ) → Chunks → (content heard : List ℕ) → Type 0
+IsAtHead unread c content heard = (unread ≡ heard) × (content ≡ []) × IsFresh c × IsHeadless heard
+
+pub head_read : (next : Stage) (h : Heading) (r : Request) (f : Framing) (len : ℕ) (heard unread piece joined rest left content grown new : List ℕ) (was read now : Chunks) (e : End)
+    → IsAtHead unread was content heard → h ≡ heading.Whole r f len → IsHeadFound unread piece joined h → rest ≡ drop (len - length unread) piece
+    → Reads f was content rest read grown e → next ≡ settled e (stage.Body r f) → now ≡ read → new ≡ grown → IsStage next left now new (heard ++ piece)
+head_read next h r f len heard unread piece joined rest left content grown new was read now e (same_heard, none, fresh, less) is_whole found same_rest reads goes same added =
+    let whole = subst (IsHeading joined) is_whole found.heading_is in
+    let past = head_past unread (take found.front piece) joined len r f found.heard_is (subst HasNoRequest (sym same_heard) less.none) whole in
+    let rest_is : drop len joined ++ drop found.front piece ≡ rest = behind_head unread piece joined found.front len found.heard_is past whole.within ∙ sym same_rest in
+    let joined_is : joined ++ drop found.front piece ≡ heard ++ piece =
+    ap (λ (s : List ℕ). s ++ drop found.front piece) found.heard_is ∙ piece_is unread piece found.front ∙ ap (λ (s : List ℕ). s ++ piece) same_heard in
+    let at : IsBehind (heard ++ piece) r f rest = record {
+      head = whole.head;
+      has = subst (λ (s : List ℕ). HasHead s whole.head rest) joined_is
+          (subst (λ (b : List ℕ). HasHead (joined ++ drop found.front piece) whole.head b) rest_is (head_stays joined (drop found.front piece) whole.head (drop len joined) whole.has));
+      taken = whole.taken;
+    } in
+    let told = reads (visits.framing (headers_of at.head.fields)) [] at.taken.framed (nothing_read f was content none fresh) in
+    at_stage next (settled e (stage.Body r f)) left read now grown new (heard ++ piece) goes same added (comes e r f read (heard ++ piece) rest left grown at told)
+
+pub head_bad : (next : Stage) (h : Heading) (heard unread piece joined left content new : List ℕ) (was now : Chunks) → IsAtHead unread was content heard → h ≡ heading.Bad
+    → IsHeadFound unread piece joined h → next ≡ stage.Bad → IsStage next left now new (heard ++ piece)
+head_bad next h heard unread piece joined left content new was now (same_heard, none, fresh, less) is_bad found goes =
+    let joined_is : joined ++ drop found.front piece ≡ heard ++ piece =
+    ap (λ (s : List ℕ). s ++ drop found.front piece) found.heard_is ∙ piece_is unread piece found.front ∙ ap (λ (s : List ℕ). s ++ piece) same_heard in
+    subst (λ (t : Stage). IsStage t left now new (heard ++ piece)) (sym goes)
+    (subst (λ (b : List ℕ). Stays b visits.Bad) joined_is
+    (again joined (drop found.front piece) visits.Bad (bad_heads joined (subst (IsHeading joined) is_bad found.heading_is))))
+
+pub head_open : (next : Stage) (h : Heading) (heard unread piece joined left content new : List ℕ) (was now : Chunks) → IsAtHead unread was content heard → h ≡ heading.NotYet
+    → IsHeadFound unread piece joined h → next ≡ stage.Head → left ≡ joined → now ≡ was → new ≡ content → IsStage next left now new (heard ++ piece)
+head_open next h heard unread piece joined left content new was now (same_heard, none, fresh, less) is_open found goes leaves same added =
+    let joined_is : joined ≡ heard ++ piece = found.heard_is ∙ ap (λ (s : List ℕ). unread ++ s) (found.all is_open) ∙ ap (λ (s : List ℕ). s ++ piece) same_heard in
+    subst (λ (t : Stage). IsStage t left now new (heard ++ piece)) (sym goes) (
+      leaves ∙ joined_is,
+      added ∙ none,
+      subst IsFresh (sym same) fresh,
+      subst IsHeadless joined_is (subst (IsHeading joined) is_open found.heading_is),
+    )
+
+-- nothing was heard
+pub fresh : (unread content : List ℕ) (c : Chunks) → unread ≡ [] → content ≡ [] → IsFresh c → IsStage stage.Head unread c content []
+fresh unread content c none empty is_fresh = (none, empty, is_fresh, record { none = nothing_is_no_head; possible = λ line. absurd (false≢true line); short = omega arith })
 
 -- ## What is known
 -- now, and whatever comes
 known : (heard : List ℕ) (close : Close) (s : visits.VisitState) → Stays heard s → VisitOf heard close s
 known heard close s stays = subst (λ (b : List ℕ). VisitOf b close s) (append-nil heard) (stays [] close)
 
-pub is_asked : (s : Stage) (r : Request) (unread content heard : List ℕ) (close : Close) → s ≡ stage.Asked r → IsStage s unread content heard → VisitOf heard close (visits.Asks r.method r.target r.fields content)
-is_asked s r unread content heard close is at = known heard close (visits.Asks r.method r.target r.fields content) (subst (λ (t : Stage). IsStage t unread content heard) is at)
+pub is_asked : (s : Stage) (r : Request) (unread : List ℕ) (c : Chunks) (content heard : List ℕ) (close : Close) → s ≡ stage.Asked r → IsStage s unread c content heard
+    → VisitOf heard close (visits.Asks r.method r.target r.fields content)
+is_asked s r unread c content heard close is at = known heard close (visits.Asks r.method r.target r.fields content) (subst (λ (t : Stage). IsStage t unread c content heard) is at)
 
-pub is_bad : (s : Stage) (unread content heard : List ℕ) (close : Close) → s ≡ stage.Bad → IsStage s unread content heard → VisitOf heard close visits.Bad
-is_bad s unread content heard close is at = known heard close visits.Bad (subst (λ (t : Stage). IsStage t unread content heard) is at)
+pub is_bad : (s : Stage) (unread : List ℕ) (c : Chunks) (content heard : List ℕ) (close : Close) → s ≡ stage.Bad → IsStage s unread c content heard → VisitOf heard close visits.Bad
+is_bad s unread c content heard close is at = known heard close visits.Bad (subst (λ (t : Stage). IsStage t unread c content heard) is at)
 
-pub is_too_large : (s : Stage) (unread content heard : List ℕ) (close : Close) → s ≡ stage.TooLarge → IsStage s unread content heard → VisitOf heard close visits.TooLarge
-is_too_large s unread content heard close is at = known heard close visits.TooLarge (subst (λ (t : Stage). IsStage t unread content heard) is at)
+pub is_too_large : (s : Stage) (unread : List ℕ) (c : Chunks) (content heard : List ℕ) (close : Close) → s ≡ stage.TooLarge → IsStage s unread c content heard → VisitOf heard close visits.TooLarge
+is_too_large s unread c content heard close is at = known heard close visits.TooLarge (subst (λ (t : Stage). IsStage t unread c content heard) is at)
 
--- nothing was heard
-pub fresh : (unread content : List ℕ) → unread ≡ [] → content ≡ [] → IsStage stage.Head unread content []
-fresh unread content none empty = (none, empty, record { none = nothing_is_no_head; possible = λ line. absurd (false≢true line); short = omega arith })
+-- ## Not yet whole
+length_open : (limit n : ℕ) (close : Close) (b : List ℕ) → n ≤ limit → length b < n → length_state limit close b n ≡ unless_closed close
+length_open limit n close b fits short = rw (le-ltb limit n fits, lt-leb n (length b) short) refl
 
--- ## One feed
--- a body in chunks
-in_chunks : (f : plain.Framing) (all unread content : List ℕ) (e : End) → f ≡ plain.InChunks → parts.IsRead visit_limit all unread content e → IsRead framing.InChunks f all unread content e
-in_chunks f all unread content end.More is read = read
-in_chunks f all unread content end.Whole is read = λ more close. subst (λ (g : plain.Framing). IsVisitBody g close (all ++ more) (Complete content)) (sym is) (read more close)
-in_chunks f all unread content end.Bad is read = λ more close. subst (λ (g : plain.Framing). IsVisitBody g close (all ++ more) Malformed) (sym is) (read more close)
-in_chunks f all unread content end.TooLarge is read = λ more close. subst (λ (g : plain.Framing). IsVisitBody g close (all ++ more) Oversize) (sym is) (read more close)
+ended_ne : Ended ≢ Open
+ended_ne e = cc e
 
-pub chunked : {E : Type 0} (code : Framing) (heard old new : List ℕ) (result : Result Read E) → code ≡ framing.InChunks
-    → IfOk result (λ r. (all : List ℕ) → parts.IsPart visit_limit all heard old → parts.IsRead visit_limit all (drop r.used heard) new r.end)
-    → IfOk result (λ r. (f : plain.Framing) (all : List ℕ) → IsFramed code f → IsPartOf code all heard old → IsRead code f all (drop r.used heard) new r.end)
-chunked code heard old new (Ok r) is read = λ f all framed part.
-    subst (λ (g : Framing). IsRead g f all (drop r.used heard) new r.end) (sym is)
-    (in_chunks f all (drop r.used heard) new r.end (subst (λ (g : Framing). IsFramed g f) is framed) (read all (subst (λ (g : Framing). IsPartOf g all heard old) is part)))
-chunked code heard old new (Err e) is read = tt
+broke_ne : Broke ≢ Open
+broke_ne e = cc e
 
--- what `read_body` says
-abbrev pub Reads : Framing → (unread content new : List ℕ) → ℕ → End → Type 0
-Reads f unread content new used e = (g : plain.Framing) (all : List ℕ) → IsFramed f g → IsPartOf f all unread content → IsRead f g all (drop used unread) new e
+open_chunked : (all : List ℕ) (close : Close) → IsOpenChunked visit_limit all → IsChunkedBody visit_limit close all (unless_closed close)
+open_chunked all Open x = (refl, x)
+open_chunked all Ended x = inr (ended_ne, x)
+open_chunked all Broke x = inr (broke_ne, x)
 
-pub body_read : (s next : Stage) (r : Request) (f : Framing) (heard unread content left grown new : List ℕ) (used : ℕ) (e : End)
-    → s ≡ stage.Body r f → IsAt s unread content heard → Reads f unread content grown used e
-    → next ≡ settled e s → (e ≡ end.More → left ≡ drop used unread) → new ≡ grown → IsStage next left new heard
-body_read s next r f heard unread content left grown new used e is at reads goes leaves same =
-    let body = subst (λ (t : Stage). IsAt t unread content heard) is at in
-    let behind = body.1 in
-    let read = reads (visits.framing (headers_of behind.head.fields)) body.0 behind.taken.framed body.2 in
-    subst (λ (t : Stage). IsStage t left new heard) (sym (goes ∙ ap (settled e) is))
-    (subst (λ (c : List ℕ). IsStage (settled e (stage.Body r f)) left c heard) (sym same) (comes e r f heard body.0 (drop used unread) grown behind read left leaves))
+open_body_at : (f : Framing) (g : plain.Framing) (c : Chunks) (all content : List ℕ) (close : Close) → IsOpenPart f c all content → IsFramed f g → IsVisitBody g close all (unless_closed close)
+open_body_at framing.Empty g c all content close part framed = absurd part
+open_body_at (framing.OfLength n) g c all content close (is, short) framed =
+    subst (λ (k : plain.Framing). IsVisitBody k close all (unless_closed close)) (sym framed.0)
+    (sym (length_open visit_limit n close all framed.1 (omega (arith, short, ap length is))))
+open_body_at framing.TooLarge g c all content close part framed = absurd part
+open_body_at framing.InChunks g c all content close part framed =
+    subst (λ (k : plain.Framing). IsVisitBody k close all (unless_closed close)) (sym framed) (open_chunked all close (open_body visit_limit c all content part))
+open_body_at framing.Bad g c all content close part framed = absurd part
 
-pub head_read : (next : Stage) (h : Heading) (r : Request) (f : Framing) (len : ℕ) (heard unread rest content left grown new : List ℕ) (used : ℕ) (e : End)
-    → (unread ≡ heard) × (content ≡ []) → h ≡ heading.Whole r f len → IsHeading unread h → rest ≡ drop len unread → Reads f rest content grown used e
-    → next ≡ settled e (stage.Body r f) → (e ≡ end.More → left ≡ drop (len + used) unread) → new ≡ grown → IsStage next left new heard
-head_read next h r f len heard unread rest content left grown new used e at is told same_rest reads goes leaves same =
-    let whole = subst (IsHeading unread) is told in
-    let behind : IsBehind heard r f rest = record {
-      head = whole.head;
-      has = subst (λ (b : List ℕ). HasHead b whole.head rest) at.0 (subst (λ (b : List ℕ). HasHead unread whole.head b) (sym same_rest) whole.has);
-      taken = whole.taken;
-    } in
-    let part : IsPartOf f rest rest content = subst (λ (c : List ℕ). IsPartOf f rest rest c) (sym at.1) (nothing_read f rest) in
-    let leaves_rest : e ≡ end.More → left ≡ drop used rest = λ more. leaves more ∙ sym (drop-drop used len unread) ∙ ap (drop used) (sym same_rest) in
-    body_read (stage.Body r f) next r f heard rest content left grown new used e refl (rest, behind, part) reads goes leaves_rest same
+-- a head or a body isn't whole
+abbrev pub IsGoing : Stage → Type 0
+IsGoing s = (s ≡ stage.Head) ⊎ ((r : Request) × (f : Framing) × (s ≡ stage.Body r f))
 
-pub head_bad : (next : Stage) (h : Heading) (heard unread content left new : List ℕ) → (unread ≡ heard) × (content ≡ []) → h ≡ heading.Bad → IsHeading unread h
-    → next ≡ stage.Bad → IsStage next left new heard
-head_bad next h heard unread content left new at is told goes =
-    subst (λ (t : Stage). IsStage t left new heard) (sym goes) (subst (λ (b : List ℕ). Stays b visits.Bad) at.0 (bad_heads unread (subst (IsHeading unread) is told)))
+open_at : (s : Stage) (unread : List ℕ) (c : Chunks) (content heard : List ℕ) (close : Close) → IsGoing s → IsStage s unread c content heard
+    → HasSomeBody heard close (unless_closed close) ⊎ IsHeadless heard
+open_at s unread c content heard close (inl is) at = inr (subst (λ (t : Stage). IsStage t unread c content heard) is at).3
+open_at s unread c content heard close (inr (r, f, is)) at =
+    let body = subst (λ (t : Stage). IsStage t unread c content heard) is at in
+    let x = body.1 in
+    inl (x.head, record { rest = body.0; head = x.has; body = open_body_at f (visits.framing (headers_of x.head.fields)) c body.0 content close body.2 x.taken.framed })
 
-pub fed : {A E : Type 0} (result : Result A E) (s : Stage) (unread content heard piece joined : List ℕ) (ended : Bool) (close : Close) (new : Visit)
-    → is_decided s ≡ false → IsStage s unread content heard → close ≡ close_of ended → joined ≡ unread ++ piece → is_ok result ≡ true → new.is_ended ≡ ended
-    → OnOk result ((h : List ℕ) → IsAt s joined content h → IsStage new.stage new.unread.items new.content.items h)
-    → HasHeard new (if is_ok result then heard ++ piece else heard) close
-fed (Ok a) s unread content heard piece joined ended close new going at is joins ok same go = record {
-  stage = go (heard ++ piece) (subst (λ (u : List ℕ). IsAt s u content (heard ++ piece)) (sym joins) (grows s unread content heard piece going at));
-  close_is = is ∙ ap close_of (sym same);
-}
-fed (Err e) s unread content heard piece joined ended close new going at is joins ok same go = absurd (false≢true ok)
+pub is_not_yet : (s : Stage) (unread : List ℕ) (c : Chunks) (content heard : List ℕ) (close : Close) (ended : Bool) → ended ≡ false → close ≡ close_of ended → IsGoing s
+    → IsStage s unread c content heard → VisitOf heard close visits.NotYet
+is_not_yet s unread c content heard close ended e same going at =
+    subst (λ (k : Close). VisitOf heard k visits.NotYet) (sym (same ∙ ap close_of e)) (refl, open_at s unread c content heard Open going at)
+
+pub is_cut : (s : Stage) (unread : List ℕ) (c : Chunks) (content heard : List ℕ) (close : Close) (ended : Bool) → ended ≡ true → close ≡ close_of ended → IsGoing s
+    → IsStage s unread c content heard → VisitOf heard close visits.Bad
+is_cut s unread c content heard close ended e same going at =
+    subst (λ (k : Close). VisitOf heard k visits.Bad) (sym (same ∙ ap close_of e)) (elim (open_at s unread c content heard Ended going at) [
+      | inl x ↦ inl x
+      | inr less ↦ inr (inr (ended_ne, less))
+    ])

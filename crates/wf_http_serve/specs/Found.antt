@@ -1,5 +1,5 @@
 -- What the code finds at the front of bytes.
-use Rattle.std.specs.Prelude.{ℕ, ◌≤◌, List, length, drop}
+use Rattle.std.specs.Prelude.{◌≡◌, ℕ, ◌≤◌, Bool, true, false, List, ◌++◌, length, take, drop}
 use Rattle.httparse.specs.Grammar.{RequestHead, ReadsRequest, HasNoRequest, NeverHasRequest, MayBecomeRequest}
 use Rattle.wf_shared.specs.HttpBody.{field_limit, headers_of}
 use Rattle.wf_http_serve.specs.declared.framing.Framing.{Framing}
@@ -42,3 +42,15 @@ abbrev pub IsHeading : List ℕ → Heading → Type 0
 IsHeading heard (heading.Whole r f len) = IsWholeHead heard r f len
 IsHeading heard heading.Bad = IsBadHead heard
 IsHeading heard heading.NotYet = IsHeadless heard
+
+-- no more bytes are wanted for it
+abbrev pub is_settled : Heading → Bool
+is_settled heading.NotYet = false
+is_settled h = true
+
+-- behind the bytes begun and a front of the piece, which is all of it where no head is whole
+pub record IsHeadFound (begun piece heard : List ℕ) (h : Heading) : Type 0 where
+  pub front : ℕ
+  pub heard_is : heard ≡ begun ++ take front piece
+  pub heading_is : IsHeading heard h
+  pub all : h ≡ heading.NotYet → take front piece ≡ piece

@@ -1,7 +1,7 @@
 // Heads of requests, of all bytes heard.
-ghost use Rattle.std.specs.Prelude.{◌≡◌, ◌≤◌, IfOk, length};
+ghost use Rattle.std.specs.Prelude.{◌≡◌, ◌≤◌, IfOk, length, take};
 ghost use Rattle.httparse.specs.Spans.{RequestOverflows};
-ghost use Rattle.wf_http_serve.specs.Found.{IsHeading, IsLook};
+ghost use Rattle.wf_http_serve.specs.Found.{IsHeadFound, IsHeading, IsLook, is_settled};
 
 use crate::first_line::has_first_line;
 use crate::framing::{Framing, framing_of};
@@ -9,8 +9,11 @@ use crate::request::Request;
 use httparse::spans::{EMPTY_HEADER_SPAN, HeaderSpan, parse_request};
 use httparse::{Error, Status};
 use std::alloc::Global;
-use wf_http_body::{FIELD_LIMIT, LARGE_ROOM};
+use wf_http_body::{FIELD_LIMIT, LARGE_ROOM, add, head_length};
 use wf_value::OutOfMemory;
+
+// The greatest length of a head.
+const HEAD_LIMIT: usize = 65_536;
 
 // What the bytes heard are.
 #[derive(Drop)]
@@ -34,8 +37,37 @@ pub(crate) enum Look {
     Never,
 }
 
+impl Heading {
+    // Whether no more bytes are wanted for it.
+    fn is_settled(&self) -> bool
+        ensures { result ≡ is_settled self.now }
+    {
+        match self {
+            Heading::NotYet => false,
+            Heading::Bad | Heading::Whole(_, _, _) => true,
+        }
+    }
+}
+
+// Adds a front of a piece to the bytes of a head: to the head's end, or all of it. Tells what they
+// are. Without memory bytes may have been added.
+pub(crate) fn find_head(heard: &mut Vec<u8>, piece: &[u8]) -> Result<Heading, OutOfMemory>
+    ensures grown { take (length heard.old.items) heard.new.items ≡ heard.old.items }
+    ensures found { IfOk result (IsHeadFound heard.old.items piece.now heard.new.items) }
+{
+    let alloc = *heard.allocator();
+    let (front, rest) = piece.split_at(head_length(heard.as_slice(), piece));
+    add(heard, front)?;
+    let heading = read_head(alloc, heard.as_slice(), HEAD_LIMIT)?;
+    if heading.is_settled() {
+        return Ok(heading);
+    }
+    add(heard, rest)?;
+    read_head(alloc, heard.as_slice(), HEAD_LIMIT)
+}
+
 // A head has at most `limit` bytes.
-pub(crate) fn read_head(alloc: Global, heard: &[u8], limit: usize) -> Result<Heading, OutOfMemory>
+fn read_head(alloc: Global, heard: &[u8], limit: usize) -> Result<Heading, OutOfMemory>
     requires { limit ≡ 65536 }
     ensures { IfOk result (IsHeading heard.now) }
 {

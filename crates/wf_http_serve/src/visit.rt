@@ -1,36 +1,34 @@
 // A request that comes in pieces.
-ghost use Rattle.std.specs.Prelude.{◌≡◌, ◌≤◌, [], ◌++◌, IfOk, List, ℕ, OnErr, OnOk, drop, if◌then◌else◌, is_ok, length};
+ghost use Rattle.std.specs.Prelude.{◌≡◌, [], ◌++◌, IfOk, List, ℕ, OnErr, OnOk, if◌then◌else◌, is_ok};
 ghost use Rattle.wf_shared.specs.HttpBody.{Close, Ended, Open};
-ghost use Rattle.wf_http_body.specs.declared.body.End.TheVariants.{More};
 ghost use Rattle.wf_http_serve.specs.Plain.{plain_state};
 ghost use Rattle.wf_http_serve.specs.declared.stage.Stage.TheVariants.{Head};
-ghost use Rattle.wf_http_serve.specs.Stages.{GoesOn, HasHeard, IsBodyBy, IsSame, is_decided, settled};
+ghost use Rattle.wf_http_serve.specs.Stages.{GoesOn, HasHeard, IsBodyBy, IsSame, settled};
 ghost use Rattle.wf_http_serve.specs.Visits.{VisitOf};
 
 use crate::asker::{Asker, VisitState};
 use crate::body::read_body;
 use crate::framing::Framing;
-use crate::head::{Heading, read_head};
+use crate::head::{Heading, find_head};
 use crate::stage::Stage;
 use std::alloc::Global;
 use std::mem;
-use wf_http_body::End;
+use wf_http_body::{Chunks, End};
 use wf_value::OutOfMemory;
-
-// The greatest length of a head.
-const HEAD_LIMIT: usize = 65_536;
 
 /// What of a request that comes to a callback was heard so far (RFC 9112). Its pieces may be cut
 /// anywhere: what is known depends on all bytes heard alone.
 ///
 /// A head that isn't whole is read anew with each piece, so one of 65,536 bytes that comes byte by
-/// byte costs some 2,000,000,000 steps; so does the line of a chunk, of at most 4,096 bytes, and the
-/// trailer fields, of at most 65,536. Else each byte is read once.
+/// byte costs some 2,000,000,000 steps; so are the line of a chunk, of at most 4,096 bytes, and the
+/// trailer fields, of at most 65,536. Else each byte is read once, and copied once.
 #[derive(Drop)]
 pub struct Visit {
     stage: Stage,
-    // Bytes that are still to be read.
+    // Bytes of a head that isn't whole.
     unread: Vec<u8>,
+    // How far a body in chunks was read.
+    chunks: Chunks,
     // The body so far.
     content: Vec<u8>,
     is_ended: bool,
@@ -44,6 +42,7 @@ impl Visit {
         Ok(Visit {
             stage: Stage::Head,
             unread: Vec::new(alloc),
+            chunks: Chunks::new(alloc),
             content: Vec::new(alloc),
             is_ended: false,
         })
@@ -54,18 +53,14 @@ impl Visit {
         ensures { (heard : List ℕ) (close : Close) → HasHeard self.old heard close
             → HasHeard self.new (if is_ok result then heard ++ piece.now else heard) close }
     {
-        if self.is_decided() {
-            return Ok(());
+        match &self.stage {
+            Stage::Head => self.hear_head(piece),
+            Stage::Body(_, framing) => {
+                let framing = *framing;
+                self.hear_body(framing, piece)
+            }
+            Stage::Asked(_) | Stage::Bad | Stage::TooLarge => Ok(()),
         }
-        let length = self.unread.len();
-        let Ok(()) = self.unread.extend_from_slice(piece) else {
-            return Err(OutOfMemory);
-        };
-        let read = self.read();
-        if read.is_err() {
-            self.unread.truncate(length);
-        }
-        read
     }
 
     /// Hears the end of the connection.
@@ -100,80 +95,63 @@ impl Visit {
 }
 
 impl Visit {
-    // Whether nothing that comes can change what is known.
-    fn is_decided(&self) -> bool
-        ensures { result ≡ is_decided self.now.stage }
+    // Hears a piece behind a head that isn't whole.
+    fn hear_head(&mut self, piece: &[u8]) -> Result<(), OutOfMemory>
+        requires { self.old.stage ≡ Head }
+        ensures { (heard : List ℕ) (close : Close) → HasHeard self.old heard close
+            → HasHeard self.new (if is_ok result then heard ++ piece.now else heard) close }
     {
-        match &self.stage {
-            Stage::Head | Stage::Body(_, _) => false,
-            Stage::Asked(_) | Stage::Bad | Stage::TooLarge => true,
+        let length = self.unread.len();
+        let read = self.read_head(piece);
+        if read.is_err() {
+            self.unread.truncate(length);
         }
+        read
     }
 
-    // Reads what wasn't read. Without memory all stays.
-    fn read(&mut self) -> Result<(), OutOfMemory>
-        ensures kept { OnErr result (IsSame self.old self.new) }
-        ensures ended { self.new.is_ended ≡ self.old.is_ended }
-        ensures read { OnOk result (GoesOn self.old self.new) }
-    {
-        match &self.stage {
-            Stage::Head => self.read_as_head(),
-            Stage::Body(_, framing) => {
-                let framing = *framing;
-                self.read_as_body(framing)
-            }
-            Stage::Asked(_) | Stage::Bad | Stage::TooLarge => Ok(()),
-        }
-    }
-
-    fn read_as_head(&mut self) -> Result<(), OutOfMemory>
+    // The same, where without memory more bytes may stand behind those of the head.
+    fn read_head(&mut self, piece: &[u8]) -> Result<(), OutOfMemory>
         requires { self.old.stage ≡ Head }
         ensures kept { OnErr result (IsSame self.old self.new) }
         ensures ended { self.new.is_ended ≡ self.old.is_ended }
-        ensures read { OnOk result (GoesOn self.old self.new) }
+        ensures read { OnOk result (GoesOn self.old piece.now self.new) }
     {
-        let alloc = *self.unread.allocator();
-        match read_head(alloc, self.unread.as_slice(), HEAD_LIMIT)? {
+        let begun = self.unread.len();
+        match find_head(&mut self.unread, piece)? {
             Heading::NotYet => {}
-            Heading::Bad => self.settle(0, End::Bad),
+            Heading::Bad => self.refuse(Stage::Bad),
             Heading::Whole(request, framing, len) => {
-                let (_, rest) = self.unread.as_slice().split_at(len);
-                let read = read_body(alloc, &mut self.content, framing, rest)?;
+                let (_, rest) = piece.split_at(len.saturating_sub(begun));
+                let end = read_body(&mut self.chunks, &mut self.content, framing, rest)?;
+                self.unread.clear();
                 self.stage = Stage::Body(request, framing);
-                self.settle(len + read.used, read.end);
+                self.settle(end);
             }
         }
         Ok(())
     }
 
-    fn read_as_body(&mut self, framing: Framing) -> Result<(), OutOfMemory>
+    // Hears a piece of a body.
+    fn hear_body(&mut self, framing: Framing, piece: &[u8]) -> Result<(), OutOfMemory>
         requires { IsBodyBy framing self.old.stage }
-        ensures kept { OnErr result (IsSame self.old self.new) }
-        ensures ended { self.new.is_ended ≡ self.old.is_ended }
-        ensures read { OnOk result (GoesOn self.old self.new) }
+        ensures { (heard : List ℕ) (close : Close) → HasHeard self.old heard close
+            → HasHeard self.new (if is_ok result then heard ++ piece.now else heard) close }
     {
-        let alloc = *self.unread.allocator();
-        let read = read_body(alloc, &mut self.content, framing, self.unread.as_slice())?;
-        self.settle(read.used, read.end);
+        let end = read_body(&mut self.chunks, &mut self.content, framing, piece)?;
+        self.settle(end);
         Ok(())
     }
 
-    // Takes what was read from the unread bytes, and goes to the stage behind an end.
-    fn settle(&mut self, used: usize, end: End)
-        requires { used ≤ length self.old.unread.items }
+    // Goes to the stage behind an end.
+    fn settle(&mut self, end: End)
         ensures stage { self.new.stage ≡ settled end self.old.stage }
-        ensures unread { end ≡ More → self.new.unread.items ≡ drop used self.old.unread.items }
+        ensures chunks { self.new.chunks ≡ self.old.chunks }
         ensures content { self.new.content.items ≡ self.old.content.items }
         ensures ended { self.new.is_ended ≡ self.old.is_ended }
     {
         match end {
-            End::More => {
-                let left = self.unread.len() - used;
-                self.unread.rotate_left(used);
-                self.unread.truncate(left);
-            }
+            End::More => {}
             End::Whole => {
-                self.unread.clear();
                 let stage = mem::replace(&mut self.stage, Stage::Bad);
                 self.stage = stage.whole();
             }
@@ -185,6 +163,7 @@ impl Visit {
     // What was heard isn't wanted any more.
     fn refuse(&mut self, stage: Stage)
         ensures stage { self.new.stage ≡ stage }
+        ensures chunks { self.new.chunks ≡ self.old.chunks }
         ensures content { self.new.content.items ≡ self.old.content.items }
         ensures ended { self.new.is_ended ≡ self.old.is_ended }
     {

@@ -55,12 +55,9 @@ fn policy(alloc: Global, tree: &Tree) -> Result<Policy, Stop>
 fn predefined(name: &str) -> Option<Policy>
     ensures { MatchOption result (is_among name.now rules.policies
         ≡ false) (λ p. (is_among name.now rules.policies ≡ true)
-        × (policy_view p ≡ record {
-          predicate = Predefined (policy_kind name.now);
-          max_retries = most_retries;
-          backoff =
-              default_backoff;
-        })) }
+        × (policy_view p ≡ record
+        { predicate = Predefined (policy_kind name.now); max_retries = most_retries; backoff =
+        default_backoff; })) }
 {
     let kind = match name {
         "http.default_retry" => DefaultKind::Idempotent,

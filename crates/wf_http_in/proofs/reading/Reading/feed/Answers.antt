@@ -1,9 +1,20 @@
-use Rattle.std.proofs.Common.{sym, ◌∙◌}
-use Rattle.wf_http_in.proofs.Coming.{stays}
+use Rattle.wf_http_in.proofs.Coming.{decided_stays}
 use Rattle.wf_http_in.proofs.reading.Reading.feed.Goals as goal
 
-pub returns-then-is_decided : goal.returns-then-is_decided
-returns-then-is_decided c = λ heard close h. record {
-  stage = stays c.args.self.now.stage _ _ heard c.args.piece.now (sym c.is_decided.ensures ∙ c.if-is_decided.true) h.stage;
+pub returns-in-Whole : goal.returns-in-Whole
+returns-in-Whole c = λ heard close h. record {
+  stage = decided_stays _ _ _ _ heard c.args.piece.now c.in-Whole.is h.stage;
+  close_is = h.close_is;
+}
+
+pub returns-in-Whole-2 : goal.returns-in-Whole-2
+returns-in-Whole-2 c = λ heard close h. record {
+  stage = decided_stays _ _ _ _ heard c.args.piece.now c.in-Whole.is h.stage;
+  close_is = h.close_is;
+}
+
+pub returns-in-Whole-3 : goal.returns-in-Whole-3
+returns-in-Whole-3 c = λ heard close h. record {
+  stage = decided_stays _ _ _ _ heard c.args.piece.now c.in-Whole.is h.stage;
   close_is = h.close_is;
 }
