@@ -36,8 +36,7 @@ pub(crate) fn hold(alloc: Global, nodes: &mut Vec<Node>) -> Result<u32, OutOfMem
 
 // The node of an arm or an entry. Its name is the empty one.
 fn leaf(here: Here, name: Text, kind: NodeKind, codes: Codes) -> Node
-    ensures { name ≡ []
-        → node_view result ≡ leaf_view here.owner (kind_by (code_list codes) kind) }
+    ensures { name ≡ [] → node_view result ≡ leaf_view here.owner (kind_by (code_list codes) kind) }
 {
     Node {
         kind,
