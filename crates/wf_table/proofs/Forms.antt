@@ -12,7 +12,6 @@ use Rattle.wf_ast.specs.declared.body.StepList.{StepList}
 use Rattle.wf_table.proofs.Adding.{longer}
 use Rattle.wf_table.proofs.Sizes.{step_long}
 use Rattle.wf_table.specs.Compiles.{Compiles}
-use Rattle.wf_table.specs.Kinds as kind
 use Rattle.wf_table.specs.Kinds.{Kind, Repeated, Side}
 use Rattle.wf_table.specs.Made.{Adds, body_for, loop_for, side_for}
 use Rattle.wf_table.specs.Shapes.{Compiled}

@@ -2,9 +2,9 @@
 ghost use Rattle.std.specs.Prelude.{◌≡◌, IfOk, ℕ, List, [], ◌∷◌, ◌++◌, length, map};
 ghost use Rattle.wf_ast.specs.View.{entry_view, expr_view, template_view};
 ghost use Rattle.wf_table.specs.Compiles.{Compiles, Reads, code_list};
-ghost use Rattle.wf_table.specs.Kinds.{entry_by, kind_by};
-ghost use Rattle.wf_table.specs.Made.{Adds, StandsIn, entry_numbers, leaf_view, view_for};
-ghost use Rattle.wf_table.specs.Spots.{ArmAt, EntryAt, Spot, entries_spots, spot};
+ghost use Rattle.wf_table.specs.Kinds.{entry_by, kind_by, node_view};
+ghost use Rattle.wf_table.specs.Made.{Adds, StandsIn, entry_numbers, leaf_view};
+ghost use Rattle.wf_table.specs.Spots.{ArmAt, EntryAt, entries_spots, spot};
 ghost use Rattle.wf_table.specs.declared.node.Node.{Node as TheNode};
 
 use crate::around::Here;
@@ -34,28 +34,18 @@ pub(crate) fn hold(alloc: Global, nodes: &mut Vec<Node>) -> Result<u32, OutOfMem
     push(nodes, node)
 }
 
-// A node without a name, that has no parts, and its number.
-fn leaf(
-    alloc: Global,
-    nodes: &mut Vec<Node>,
-    here: Here,
-    kind: NodeKind,
-    codes: Codes,
-) -> Result<u32, OutOfMemory>
-    ensures number { IfOk result (λ n. n ≡ length nodes.old.items) }
-    ensures adds { IfOk result (λ n. (s : Spot)
-        → leaf_view here.owner (kind_by (code_list codes) kind)
-        ≡ view_for (length nodes.old.items) s → Adds nodes.old.items nodes.new.items (s ∷ [])) }
+// The node of an arm or an entry. Its name is the empty one.
+fn leaf(here: Here, name: Text, kind: NodeKind, codes: Codes) -> Node
+    ensures { name ≡ [] → node_view result ≡ leaf_view here.owner (kind_by (code_list codes) kind) }
 {
-    let node = Node {
+    Node {
         kind,
         codes,
-        name: Text::new(alloc, "")?,
+        name,
         next: None,
         jump: None,
         owner: here.owner,
-    };
-    push(nodes, node)
+    }
 }
 
 // The node of an arm, but for its body.
@@ -70,9 +60,10 @@ pub(crate) fn arm(
         → Adds nodes.old.items nodes.new.items
         (spot (ArmAt (template_view condition.now)) os ∷ [])) }
 {
+    let name = Text::new(alloc, "")?;
     let mut codes = Codes::new(alloc);
     let condition = shape(alloc, condition, &mut codes)?;
-    leaf(alloc, nodes, here, NodeKind::Arm(condition), codes)
+    push(nodes, leaf(here, name, NodeKind::Arm(condition), codes))
 }
 
 // The nodes of entries, and their numbers.
@@ -104,9 +95,10 @@ fn entry_node(
     ensures adds { IfOk result (λ n. (os : List ℕ) → StandsIn here os
         → Adds nodes.old.items nodes.new.items (spot (EntryAt (entry_view entry.now)) os ∷ [])) }
 {
+    let name = Text::new(alloc, "")?;
     let mut codes = Codes::new(alloc);
     let form = entry_form(alloc, entry, &mut codes)?;
-    leaf(alloc, nodes, here, NodeKind::Entry(form), codes)
+    push(nodes, leaf(here, name, NodeKind::Entry(form), codes))
 }
 
 // What a node has of an entry.
