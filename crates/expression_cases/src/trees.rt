@@ -9,7 +9,7 @@
 // `["expression", e]` as each part, `["list", t ..]` or `["map", [key, t] ..]`.
 use crate::signs::{function, operator};
 use std::alloc::Global;
-use wf_ast::{Expr, Exprs, NamedTemplate, NamedTemplates, Part, Parts, Template, Templates};
+use wf_ast::{Expr, Exprs, NamedTemplate, NamedTemplates, Part, Parts, Template, Templates, boxed};
 use wf_cases::CaseFault;
 use wf_value::{Text, Value};
 
@@ -122,7 +122,7 @@ pub(crate) fn template(alloc: Global, tree: &Value, depth: u32) -> Result<Templa
     };
     match (head.as_str(), rest) {
         ("literal", [value]) => Ok(Template::Lit(value.copy(alloc)?)),
-        ("expression", [e]) => Ok(Template::Expr(expression(alloc, e, DEEPEST)?)),
+        ("expression", [e]) => Ok(Template::Expr(boxed(alloc, expression(alloc, e, DEEPEST)?)?)),
         ("join", parts) => joined(alloc, parts),
         ("list", trees) => {
             let mut all = Templates::new(alloc)?;

@@ -2,7 +2,7 @@
 use std::alloc::Global;
 use wf_cases::CaseFault;
 use wf_expr::ExprFault;
-use wf_rules::{SyntaxFault, SyntaxKind};
+use wf_syntax_rules::{SyntaxFault, SyntaxKind};
 use wf_span::LexFault;
 use wf_status::{Place, RefusalKind};
 use wf_syntax::build;

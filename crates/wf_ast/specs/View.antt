@@ -86,7 +86,7 @@ parts_view ps = map part_view (part_list ps)
 abbrev mutual
   pub template_view : Template → t.Template
   template_view (template.Lit x) = t.Scalar (plain x)
-  template_view (template.Expr e) = t.Whole (expr_view e)
+  template_view (template.Expr e) = t.Whole (expr_view e.value)
   template_view (template.Join ps) = t.Joined (parts_view ps)
   template_view (template.List' shape all) = t.Listed (template_row all)
   template_view (template.Map ns) = t.Mapped (fields_in ns)

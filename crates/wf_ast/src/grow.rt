@@ -1,6 +1,7 @@
-//! Growing a list by an item.
-ghost use Rattle.std.specs.Prelude.{◌≡◌, [], ◌∷◌, ◌++◌, is_ok, if◌then◌else◌};
+//! Growing a list by an item, and putting an item into a box.
+ghost use Rattle.std.specs.Prelude.{◌≡◌, [], ◌∷◌, ◌++◌, IfOk, is_ok, if◌then◌else◌};
 
+use std::alloc::Global;
 use wf_value::OutOfMemory;
 
 /// Adds an item at the end. Without memory the list stays as it was, and the item is let go: here, where nothing of its type is known, its
@@ -11,6 +12,16 @@ pub fn add<T: Drop>(items: &mut Vec<T>, item: T) -> Result<(), OutOfMemory>
 {
     match items.push(item) {
         Ok(()) => Ok(()),
+        Err(_) => Err(OutOfMemory),
+    }
+}
+
+/// The item in a box. Without memory it is let go here, where nothing of its type is known.
+pub fn boxed<T: Drop>(alloc: Global, item: T) -> Result<Box<T>, OutOfMemory>
+    ensures { IfOk result (λ held. held.value ≡ item) }
+{
+    match Box::new(alloc, item) {
+        Ok(held) => Ok(held),
         Err(_) => Err(OutOfMemory),
     }
 }

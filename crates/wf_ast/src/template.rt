@@ -52,7 +52,7 @@ impl Parts {
 #[cycle(template)]
 pub enum Template {
     Lit(Value),
-    Expr(Expr),
+    Expr(Box<Expr>),
     Join(Parts),
     List(Templates),
     Map(NamedTemplates),

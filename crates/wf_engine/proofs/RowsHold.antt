@@ -11,9 +11,9 @@ use Rattle.wf_events.specs.Reading.{meaning, record_of, whole_at, record_at, sta
 use Rattle.wf_events.specs.Spelling.{record_bytes}
 use Rattle.wf_expr.specs.Parser.{parse, parse_target}
 use Rattle.wf_journal_laws.specs.History.{history}
-use Rattle.wf_rules.specs.Built.{built}
-use Rattle.wf_rules.specs.First.{fault_within}
-use Rattle.wf_rules.specs.Made.{body_within}
+use Rattle.wf_syntax_rules.specs.Built.{built}
+use Rattle.wf_syntax_rules.specs.First.{fault_within}
+use Rattle.wf_syntax_rules.specs.Made.{body_within}
 use Rattle.wf_source.specs.Function.{source_of}
 use Rattle.wf_source.specs.Sources.{read_tree}
 use Rattle.wf_span.specs.Lexer.{lex_within}

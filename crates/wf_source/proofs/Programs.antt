@@ -4,10 +4,10 @@ use Rattle.std.proofs.lemmas.Bool.{leb-false}
 use Rattle.wf_ast.specs.Tree.{Program}
 use Rattle.wf_check.proofs.Accepted.{silent}
 use Rattle.wf_check.specs.Said.{Said, first_said}
-use Rattle.wf_rules.specs.Faults.{IsFirstFault}
-use Rattle.wf_rules.specs.Laws as rules
-use Rattle.wf_rules.specs.Meaning.{Builds}
-use Rattle.wf_rules.specs.declared.fault.SyntaxKind.{SyntaxKind}
+use Rattle.wf_syntax_rules.specs.Faults.{IsFirstFault}
+use Rattle.wf_syntax_rules.specs.Laws as rules
+use Rattle.wf_syntax_rules.specs.Meaning.{Builds}
+use Rattle.wf_syntax_rules.specs.declared.fault.SyntaxKind.{SyntaxKind}
 use Rattle.wf_source.specs.Laws.{OneProgram, OneRefusal, NotBoth, ProgramIsShort}
 use Rattle.wf_source.specs.Programs.{IsRefusalOf, IsSourceOf, no_tree, no_program, no_check, refusal_of, said_refusal}
 use Rattle.wf_source.specs.Sources.{content_tree, read_tree, refused, without_mark}

@@ -7,9 +7,9 @@ use Rattle.json.specs.Text.{content}
 use Rattle.json.specs.Word.{after_number, word}
 use lib.Utf8.{encode}
 use Rattle.wf_expr.specs.Parser.{parse, parse_target}
-use Rattle.wf_rules.specs.Built.{built}
-use Rattle.wf_rules.specs.First.{fault_within}
-use Rattle.wf_rules.specs.Made.{body_within}
+use Rattle.wf_syntax_rules.specs.Built.{built}
+use Rattle.wf_syntax_rules.specs.First.{fault_within}
+use Rattle.wf_syntax_rules.specs.Made.{body_within}
 use Rattle.wf_source.specs.Function.{source_of}
 use Rattle.wf_source.specs.Rows.{WorkedSources}
 use Rattle.wf_source.specs.Sources.{read_tree}

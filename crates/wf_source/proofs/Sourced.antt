@@ -4,12 +4,12 @@ use Rattle.std.specs.Prelude.{Result, Ok, Err, MatchResult}
 use Rattle.wf_ast.specs.Tree.{Program}
 use Rattle.wf_check.proofs.Accepted.{accepted_when}
 use Rattle.wf_check.specs.Said.{Said, first_said}
-use Rattle.wf_rules.proofs.BuiltTrees.{built_is_it}
-use Rattle.wf_rules.proofs.SmallBackoffs.{small_backoffs}
-use Rattle.wf_rules.specs.Built.{built}
-use Rattle.wf_rules.specs.Faults.{IsFirstFault}
-use Rattle.wf_rules.specs.First.{Found}
-use Rattle.wf_rules.specs.Meaning.{Builds}
+use Rattle.wf_syntax_rules.proofs.BuiltTrees.{built_is_it}
+use Rattle.wf_syntax_rules.proofs.SmallBackoffs.{small_backoffs}
+use Rattle.wf_syntax_rules.specs.Built.{built}
+use Rattle.wf_syntax_rules.specs.Faults.{IsFirstFault}
+use Rattle.wf_syntax_rules.specs.First.{Found}
+use Rattle.wf_syntax_rules.specs.Meaning.{Builds}
 use Rattle.wf_source.specs.Laws.{OneProgram, OneRefusal, NotBoth}
 use Rattle.wf_source.specs.Programs.{IsRefusalOf, IsSourceOf, no_tree, no_program, no_check}
 use Rattle.wf_source.specs.Sources.{read_tree}

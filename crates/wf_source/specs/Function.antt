@@ -2,8 +2,8 @@
 use Rattle.std.specs.Prelude.{◌≡◌, List, ℕ, Option, Some, None, Result, Ok, Err, MatchResult}
 use Rattle.wf_ast.specs.Tree.{Program}
 use Rattle.wf_check.specs.Said.{Said, first_said}
-use Rattle.wf_rules.specs.Built.{built}
-use Rattle.wf_rules.specs.First.{Found}
+use Rattle.wf_syntax_rules.specs.Built.{built}
+use Rattle.wf_syntax_rules.specs.First.{Found}
 use Rattle.wf_source.specs.Programs.{IsRefusalOf, IsSourceOf, refusal_of, said_refusal}
 use Rattle.wf_source.specs.Sources.{read_tree}
 use Rattle.wf_status.specs.declared.Refusal.{Refusal}

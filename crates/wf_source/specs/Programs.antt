@@ -8,10 +8,10 @@ use Rattle.wf_diagnostics.specs.declared.kind.CheckKind.{CheckKind}
 use Rattle.wf_diagnostics.specs.declared.kind.CheckKind.TheVariants as check
 use Rattle.wf_expr.specs.declared.fault.ExprFault.{ExprFault}
 use Rattle.wf_expr.specs.declared.fault.ExprFault.TheVariants as expr
-use Rattle.wf_rules.specs.Faults.{IsFirstFault}
-use Rattle.wf_rules.specs.Meaning.{Builds}
-use Rattle.wf_rules.specs.declared.fault.SyntaxKind.{SyntaxKind}
-use Rattle.wf_rules.specs.declared.fault.SyntaxKind.TheVariants as syntax
+use Rattle.wf_syntax_rules.specs.Faults.{IsFirstFault}
+use Rattle.wf_syntax_rules.specs.Meaning.{Builds}
+use Rattle.wf_syntax_rules.specs.declared.fault.SyntaxKind.{SyntaxKind}
+use Rattle.wf_syntax_rules.specs.declared.fault.SyntaxKind.TheVariants as syntax
 use Rattle.wf_source.specs.Sources.{read_tree}
 use Rattle.wf_span.specs.declared.token.LexFault.TheVariants as lex
 use Rattle.wf_status.specs.declared.Place.{Place}

@@ -2,7 +2,7 @@
 ghost use Rattle.wf_source.specs.Function.{SourceIsIt};
 ghost use Rattle.wf_source.specs.Laws.{OneProgram, OneRefusal, NotBoth, ProgramIsShort};
 
-use wf_rules::{one_fault, one_program};
+use wf_syntax_rules::{one_fault, one_program};
 
 /// Carries laws: a source is at most one program, is refused with at most one refusal, and not both; and a program has at most 131,072
 /// bytes.

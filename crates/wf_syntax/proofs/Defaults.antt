@@ -1,11 +1,11 @@
 -- Literals: what each kind of tree gives, and the loops over lists and maps.
 use Rattle.std.proofs.Common.{◌≡◌, ℕ, suc, ◌+◌, ◌<◌, ℤ, Bool, false, not, List, [], ◌∷◌, ◌++◌, take, length, get_or, refl, ap, sym, ◌∙◌, subst, arith}
 use Rattle.std.specs.Map.{keys_of}
-use Rattle.wf_rules.proofs.Sound.{node_is_sound}
-use Rattle.wf_rules.specs.Faults.{AreSound}
-use Rattle.wf_rules.specs.Meaning.{AreLiterals, AreNamedLiterals, IsLiteral}
-use Rattle.wf_rules.specs.Rules.{Literal, demand, each, every}
-use Rattle.wf_rules.specs.declared.fault.SyntaxKind.TheVariants.{WrongKind}
+use Rattle.wf_syntax_rules.proofs.Sound.{node_is_sound}
+use Rattle.wf_syntax_rules.specs.Faults.{AreSound}
+use Rattle.wf_syntax_rules.specs.Meaning.{AreLiterals, AreNamedLiterals, IsLiteral}
+use Rattle.wf_syntax_rules.specs.Rules.{Literal, demand, each, every}
+use Rattle.wf_syntax_rules.specs.declared.fault.SyntaxKind.TheVariants.{WrongKind}
 use Rattle.wf_syntax.proofs.Lists.{each_fails, each_next, every_fails, every_next, fails_below, take_next}
 use Rattle.wf_syntax.proofs.Ordered.{AllBelow, keys_below, put_last}
 use Rattle.wf_syntax.proofs.Valued.{Entry, item_plain, length_plain, plain_pair}

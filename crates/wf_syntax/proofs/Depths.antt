@@ -1,6 +1,6 @@
 -- How deep the parts of a node are.
 use Rattle.std.proofs.Common.{◌≡◌, ◌+◌, ◌≤◌, ◌<◌, ℕ, suc, max, Bool, true, false, if◌then◌else◌, bytes_eq, length, get_or, List, Option, Some, None, arith, ap, sym, ◌∙◌}
-use Rattle.wf_rules.specs.Rules.{field, single_of}
+use Rattle.wf_syntax_rules.specs.Rules.{field, single_of}
 use Rattle.wf_syntax.proofs.Targets.{single_is}
 use Rattle.wf_syntax.proofs.Valued.{item_deep}
 use Rattle.wf_tree.specs.Plain.{plain_items, plain_tree}

@@ -10,7 +10,7 @@ use Rattle.std.specs.Int.{IsInRange}
 use Rattle.std.specs.List.{list_all}
 use Rattle.std.specs.Result.{result_ok}
 use Rattle.std.specs.Str.Parse.{AllDigits, ParsesUnsigned, digits_value}
-use Rattle.wf_rules.specs.Numbers.{is_digits, at_most}
+use Rattle.wf_syntax_rules.specs.Numbers.{is_digits, at_most}
 use Rattle.wf_span.specs.Tokens.{is_digit}
 use Rattle.wf_value.specs.Pairs.{Text}
 

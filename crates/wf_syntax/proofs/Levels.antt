@@ -6,7 +6,7 @@ use Rattle.wf_ast.specs.View.{arms_in, arms_view, branches_in, branches_view, st
 use Rattle.wf_ast.specs.declared.body.Arms.{Arms}
 use Rattle.wf_ast.specs.declared.body.Branches.{Branches}
 use Rattle.wf_ast.specs.declared.body.StepList.{StepList}
-use Rattle.wf_rules.specs.Meaning.{ArmsIn, BranchesIn, Each, IsStep, StepsIn}
+use Rattle.wf_syntax_rules.specs.Meaning.{ArmsIn, BranchesIn, Each, IsStep, StepsIn}
 use Rattle.wf_syntax.specs.Forms.{IsArm, IsBranch}
 use Rattle.wf_tree.specs.Trees.{Items, no_items, item}
 use Rattle.wf_value.specs.Pairs.{Text}

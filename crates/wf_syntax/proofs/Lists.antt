@@ -1,9 +1,9 @@
 -- Parts in a row: their first fault, and none.
 use Rattle.std.proofs.Common.{◌≡◌, ℕ, zero, suc, ◌+◌, ◌<◌, List, [], ◌∷◌, ◌++◌, reverse, take, drop, length, get_or, Option, Some, None, refl, ap, sym, ◌∙◌, subst, arith}
 use Rattle.std.proofs.lemmas.List.{reverse-append}
-use Rattle.wf_rules.specs.Faults.{AreSound, FirstAt, IsOwn, IsSound}
-use Rattle.wf_rules.specs.Rules.{Role, Sub, each, every, own, parts, at, field, there}
-use Rattle.wf_rules.specs.declared.fault.SyntaxKind.{SyntaxKind}
+use Rattle.wf_syntax_rules.specs.Faults.{AreSound, FirstAt, IsOwn, IsSound}
+use Rattle.wf_syntax_rules.specs.Rules.{Role, Sub, each, every, own, parts, at, field, there}
+use Rattle.wf_syntax_rules.specs.declared.fault.SyntaxKind.{SyntaxKind}
 use Rattle.wf_syntax.specs.Answers.{Fails, FailsAmong, FirstAmong, IsHere, IsOutside}
 use Rattle.wf_syntax.specs.declared.stop.Stop.{Stop}
 use Rattle.wf_syntax.specs.declared.stop.Stop.TheVariants as stop

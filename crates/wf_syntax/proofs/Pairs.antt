@@ -4,7 +4,7 @@ use Rattle.std.proofs.lemmas.Bool.Decides.{nat_tests}
 use Rattle.std.proofs.lemmas.List.{get_or_default}
 use Rattle.std.proofs.lemmas.Map.Text.{is_eq-slice_cmp}
 use Rattle.std.specs.Prelude.{bytes_eq, slice_get, is_some, option_map}
-use Rattle.wf_rules.specs.Rules.{field, has, has_all, has_only, is_empty, single_of}
+use Rattle.wf_syntax_rules.specs.Rules.{field, has, has_all, has_only, is_empty, single_of}
 use Rattle.wf_tree.specs.Plain.{plain_pairs}
 use Rattle.wf_syntax.specs.Forms.{count_of}
 use Rattle.wf_tree.specs.Trees as trees

@@ -1,9 +1,9 @@
 -- The loop over the workflows of a map, as the code has it.
 use Rattle.std.proofs.Common.{◌≡◌, ℕ, suc, ◌+◌, ◌<◌, ◌≤◌, ◌++◌, true, false, List, [], ◌∷◌, take, take_all, length, get_or, map as mapped, Option, Some, codes, bytes_eq, refl, ap, subst, arith}
 use Rattle.wf_ast.specs.Tree as t
-use Rattle.wf_rules.specs.Faults.{AreSound}
-use Rattle.wf_rules.specs.Meaning.{IsFlow, IsProgram}
-use Rattle.wf_rules.specs.Rules.{Flow, Flows, has}
+use Rattle.wf_syntax_rules.specs.Faults.{AreSound}
+use Rattle.wf_syntax_rules.specs.Meaning.{IsFlow, IsProgram}
+use Rattle.wf_syntax_rules.specs.Rules.{Flow, Flows, has}
 use Rattle.wf_syntax.proofs.Defaults.{plain_order}
 use Rattle.wf_syntax.proofs.Mains as mains
 use Rattle.wf_syntax.proofs.Mains.{SoFar, flow_fails, main_next, other_next, program_given}

@@ -2,11 +2,11 @@
 use Rattle.std.proofs.Common.{◌≡◌, ◌||◌, ◌++◌, Bool, true, false, List, None, Result, MatchResult, bytes_eq, codes, if◌then◌else◌, refl, sym, ap, ◌∙◌, subst}
 use Rattle.std.specs.Result.{IsErr, IsErrAnd}
 use Rattle.wf_ast.specs.Tree as t
-use Rattle.wf_rules.specs.Faults.{AreSound}
-use Rattle.wf_rules.specs.Meaning.{Else, IsAttempts, IsBackoff, IsPolicy, IsPredicate, IsThousandths, default_backoff, most_retries, policy_kind, predicate_of}
-use Rattle.wf_rules.specs.Names.{is_name, unmarked}
-use Rattle.wf_rules.specs.Rules.{Attempts, Backoff, Factor, Predicate, Retry, Role, Seconds, Sub, at, demand, own, policies, predicates}
-use Rattle.wf_rules.specs.declared.fault.SyntaxKind.TheVariants.{WrongKind}
+use Rattle.wf_syntax_rules.specs.Faults.{AreSound}
+use Rattle.wf_syntax_rules.specs.Meaning.{Else, IsAttempts, IsBackoff, IsPolicy, IsPredicate, IsThousandths, default_backoff, most_retries, policy_kind, predicate_of}
+use Rattle.wf_syntax_rules.specs.Names.{is_name, unmarked}
+use Rattle.wf_syntax_rules.specs.Rules.{Attempts, Backoff, Factor, Predicate, Retry, Role, Seconds, Sub, at, demand, own, policies, predicates}
+use Rattle.wf_syntax_rules.specs.declared.fault.SyntaxKind.TheVariants.{WrongKind}
 use Rattle.wf_shared.specs.HttpRequest.{is_among}
 use Rattle.wf_syntax.proofs.Nodes.{both_sound, fails_first, fails_then, leaf_sound, map_fails, map_sound}
 use Rattle.wf_syntax.proofs.Rows.{told}

@@ -1,8 +1,8 @@
 -- Fields in a row: that none has a fault, and where the first one stands.
 use Rattle.std.proofs.Common.{◌≡◌, ℕ, zero, suc, List, [], ◌∷◌, ◌++◌, Result, Ok, Err, MatchResult, codes, refl, sym, subst, ap, ◌∙◌, append_assoc}
 use Rattle.std.specs.Result.{IsErr, IsErrAnd}
-use Rattle.wf_rules.specs.Faults.{AreSound}
-use Rattle.wf_rules.specs.Rules.{Role, AnyText, Arguments, Arms, Branches, Except, Limit, Loop, Parallel, Policy, Range, Retry, Shared, Steps, Sub, Try, Value, VariableName, at, body_parts}
+use Rattle.wf_syntax_rules.specs.Faults.{AreSound}
+use Rattle.wf_syntax_rules.specs.Rules.{Role, AnyText, Arguments, Arms, Branches, Except, Limit, Loop, Parallel, Policy, Range, Retry, Shared, Steps, Sub, Try, Value, VariableName, at, body_parts}
 use Rattle.wf_syntax.proofs.Nodes.{both_sound, fails_first, fails_then}
 use Rattle.wf_syntax.specs.Answers.{FailsAmong}
 use Rattle.wf_syntax.specs.Forms.{block_part_keys, call_part_keys, loop_part_keys, row, row_after, value_part_keys}

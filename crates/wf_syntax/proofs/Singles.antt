@@ -4,11 +4,11 @@ use Rattle.wf_ast.proofs.Views.{steps_level}
 use Rattle.wf_ast.specs.Tree as t
 use Rattle.wf_ast.specs.View.{steps_in, steps_view}
 use Rattle.wf_ast.specs.declared.body.StepList.{StepList}
-use Rattle.wf_rules.specs.Faults.{IsSound}
-use Rattle.wf_rules.specs.Meaning.{IsStep}
-use Rattle.wf_rules.specs.Names.{is_step_name}
-use Rattle.wf_rules.specs.Rules.{Role, Block, Body, Branch, Step, demand, own, parts, single_of}
-use Rattle.wf_rules.specs.declared.fault.SyntaxKind.TheVariants.{NotAStep}
+use Rattle.wf_syntax_rules.specs.Faults.{IsSound}
+use Rattle.wf_syntax_rules.specs.Meaning.{IsStep}
+use Rattle.wf_syntax_rules.specs.Names.{is_step_name}
+use Rattle.wf_syntax_rules.specs.Rules.{Role, Block, Body, Branch, Step, demand, own, parts, single_of}
+use Rattle.wf_syntax_rules.specs.declared.fault.SyntaxKind.TheVariants.{NotAStep}
 use Rattle.wf_syntax.proofs.Nodes.{fails_part, map_fails, map_sound, own_fails}
 use Rattle.wf_syntax.proofs.Targets.{single_is}
 use Rattle.wf_syntax.specs.Answers.{Fails, Gives, IsHere, IsOutside}

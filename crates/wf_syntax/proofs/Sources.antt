@@ -1,9 +1,9 @@
 -- Sources: their programs and their faults.
 use Rattle.std.proofs.Common.{◌≡◌, [], ◌∷◌, codes, refl, sym, ap, subst}
 use Rattle.wf_ast.specs.Tree as t
-use Rattle.wf_rules.specs.Faults.{rooted}
-use Rattle.wf_rules.specs.Meaning.{AreSteps, IsProgram, OfList}
-use Rattle.wf_rules.specs.Rules.{Flow, Flows, Steps, at, every}
+use Rattle.wf_syntax_rules.specs.Faults.{rooted}
+use Rattle.wf_syntax_rules.specs.Meaning.{AreSteps, IsProgram, OfList}
+use Rattle.wf_syntax_rules.specs.Rules.{Flow, Flows, Steps, at, every}
 use Rattle.wf_syntax.proofs.Nodes.{fails_part, map_fails, map_sound}
 use Rattle.wf_syntax.specs.Answers.{Fails, Gives, IsOutside}
 use Rattle.wf_syntax.specs.declared.stop.Stop.{Stop}

@@ -2,9 +2,9 @@
 use Rattle.std.proofs.Common.{◌≡◌, List, [], ◌∷◌, Option, Some, None, refl, sym, ap, subst}
 use Rattle.wf_ast.specs.Tree as t
 use Rattle.wf_expr.specs.Targets.{IsTarget, NotTargetAndRefused}
-use Rattle.wf_rules.specs.Faults.{IsSound}
-use Rattle.wf_rules.specs.Rules.{Entry, Target, Value, parts, single_of}
-use Rattle.wf_rules.specs.Meaning.{IsEntry, IsValue}
+use Rattle.wf_syntax_rules.specs.Faults.{IsSound}
+use Rattle.wf_syntax_rules.specs.Rules.{Entry, Target, Value, parts, single_of}
+use Rattle.wf_syntax_rules.specs.Meaning.{IsEntry, IsValue}
 use Rattle.wf_syntax.proofs.Nodes.{fails_part, leaf_sound, map_fails, map_sound}
 use Rattle.wf_syntax.specs.Answers.{Fails, Gives, IsOutside}
 use Rattle.wf_syntax.specs.declared.stop.Stop.{Stop}

@@ -1,14 +1,14 @@
 -- Texts and names.
 use Rattle.std.proofs.Common.{◌≡◌, Result, Ok, Err, MatchResult, Bool, true, false, None, bytes_eq, codes, refl, sym, ap, subst}
-use Rattle.wf_rules.specs.Faults.{IsSound}
-use Rattle.wf_rules.specs.Rules.{Role, AnyText, Policy, VariableName, demand}
-use Rattle.wf_rules.specs.declared.fault.SyntaxKind.TheVariants.{WrongKind}
-use Rattle.wf_rules.specs.Names.{is_name}
+use Rattle.wf_syntax_rules.specs.Faults.{IsSound}
+use Rattle.wf_syntax_rules.specs.Rules.{Role, AnyText, Policy, VariableName, demand}
+use Rattle.wf_syntax_rules.specs.declared.fault.SyntaxKind.TheVariants.{WrongKind}
+use Rattle.wf_syntax_rules.specs.Names.{is_name}
 use Rattle.wf_syntax.proofs.Nodes.{leaf_sound}
 use Rattle.wf_syntax.specs.Answers.{Fails, Gives}
 use Rattle.wf_syntax.specs.declared.stop.Stop.{Stop}
 use Rattle.wf_syntax.specs.declared.stop.Stop.TheVariants as stop
-use Rattle.wf_rules.specs.Meaning.{IsText}
+use Rattle.wf_syntax_rules.specs.Meaning.{IsText}
 use Rattle.wf_tree.specs.Trees.{Tree, text}
 use Rattle.wf_value.specs.Pairs.{Text}
 

@@ -9,12 +9,12 @@ use Rattle.wf_ast.specs.declared.template.Templates.{Templates}
 use Rattle.wf_ast.specs.declared.template.NamedTemplates.{NamedTemplates}
 use Rattle.wf_ast.proofs.Views.{view_list, view_map}
 use Rattle.wf_expr.specs.declared.fault.ExprFault.{ExprFault}
-use Rattle.wf_rules.proofs.Sound.{node_is_sound}
-use Rattle.wf_rules.specs.Faults.{AreSound, IsSound}
-use Rattle.wf_rules.specs.Meaning.{AreArguments, AreNamed, IsRange, AreValues, IsValue}
-use Rattle.wf_rules.specs.Rules.{Value, Arguments, Range, each, every}
+use Rattle.wf_syntax_rules.proofs.Sound.{node_is_sound}
+use Rattle.wf_syntax_rules.specs.Faults.{AreSound, IsSound}
+use Rattle.wf_syntax_rules.specs.Meaning.{AreArguments, AreNamed, IsRange, AreValues, IsValue}
+use Rattle.wf_syntax_rules.specs.Rules.{Value, Arguments, Range, each, every}
 use Rattle.wf_syntax.specs.Answers.{Fails, FailsAmong, Gives, GivesAll, IsHere, IsOutside}
-use Rattle.wf_rules.specs.declared.fault.SyntaxKind.TheVariants.{WrongKind}
+use Rattle.wf_syntax_rules.specs.declared.fault.SyntaxKind.TheVariants.{WrongKind}
 use Rattle.wf_value.specs.declared.path.PathPart.TheVariants.{Index, Key}
 use Rattle.std.proofs.Common.{Result, Ok, Err, MatchResult}
 use Rattle.wf_syntax.specs.declared.stop.Stop.{Stop}

@@ -6,12 +6,12 @@ use Rattle.wf_ast.proofs.Views.{steps_level}
 use Rattle.wf_ast.specs.Tree as t
 use Rattle.wf_ast.specs.View.{steps_in, steps_view}
 use Rattle.wf_ast.specs.declared.body.StepList.{StepList}
-use Rattle.wf_rules.specs.Faults.{AreSound}
-use Rattle.wf_rules.specs.Meaning.{AreParams, AreSteps, At, Else, IsFlow, IsLiteral, IsParam, Maybe}
-use Rattle.wf_rules.specs.Names.{is_name}
-use Rattle.wf_rules.specs.Rules.{Flow, Literal, Parameter, Parameters, Steps, Sub, at, demand, every, has, has_only, keys, map_fault, own, single_of, unless}
-use Rattle.wf_rules.specs.declared.fault.SyntaxKind.{SyntaxKind}
-use Rattle.wf_rules.specs.declared.fault.SyntaxKind.TheVariants.{MissingField, UnknownField, WrongKind}
+use Rattle.wf_syntax_rules.specs.Faults.{AreSound}
+use Rattle.wf_syntax_rules.specs.Meaning.{AreParams, AreSteps, At, Else, IsFlow, IsLiteral, IsParam, Maybe}
+use Rattle.wf_syntax_rules.specs.Names.{is_name}
+use Rattle.wf_syntax_rules.specs.Rules.{Flow, Literal, Parameter, Parameters, Steps, Sub, at, demand, every, has, has_only, keys, map_fault, own, single_of, unless}
+use Rattle.wf_syntax_rules.specs.declared.fault.SyntaxKind.{SyntaxKind}
+use Rattle.wf_syntax_rules.specs.declared.fault.SyntaxKind.TheVariants.{MissingField, UnknownField, WrongKind}
 use Rattle.wf_shared.specs.HttpRequest.{is_among}
 use Rattle.wf_syntax.proofs.Nodes.{both_sound, fails_first, fails_part, fails_then, leaf_sound, map_fails, map_sound, own_fails}
 use Rattle.wf_syntax.proofs.Targets.{single_is}

@@ -1,10 +1,10 @@
 -- What the builders answer.
 use Rattle.std.specs.Prelude.{◌≡◌, List, [], ◌∷◌, ◌++◌, reverse}
-use Rattle.wf_rules.specs.Faults.{AreSound, FirstAt, IsFirstFault, IsSound}
-use Rattle.wf_rules.specs.Rules.{Role, Sub}
-use Rattle.wf_rules.specs.declared.fault.SyntaxFault.{SyntaxFault}
-use Rattle.wf_rules.specs.declared.fault.SyntaxFault.TheVariants as fault
-use Rattle.wf_rules.specs.declared.fault.SyntaxKind.{SyntaxKind}
+use Rattle.wf_syntax_rules.specs.Faults.{AreSound, FirstAt, IsFirstFault, IsSound}
+use Rattle.wf_syntax_rules.specs.Rules.{Role, Sub}
+use Rattle.wf_syntax_rules.specs.declared.fault.SyntaxFault.{SyntaxFault}
+use Rattle.wf_syntax_rules.specs.declared.fault.SyntaxFault.TheVariants as fault
+use Rattle.wf_syntax_rules.specs.declared.fault.SyntaxKind.{SyntaxKind}
 use Rattle.wf_syntax.specs.declared.stop.Stop.{Stop}
 use Rattle.wf_syntax.specs.declared.stop.Stop.TheVariants as stop
 use Rattle.wf_tree.specs.Trees.{Tree}

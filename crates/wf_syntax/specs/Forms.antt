@@ -8,9 +8,9 @@ use Rattle.wf_ast.specs.declared.body.Except.{Except}
 use Rattle.wf_ast.specs.declared.body.ParallelBody.{ParallelBody}
 use Rattle.wf_ast.specs.declared.policy.Policy.{Policy}
 use Rattle.wf_ast.specs.declared.template.Template.{Template}
-use Rattle.wf_rules.specs.Meaning.{AreArguments, AreEntries, AreSteps, ArmsIn, At, BranchesIn, Else, IsBody, IsExcept, IsLoop, IsParallel, IsPolicy, IsText, IsTried, IsValue, Maybe, OfList, OfMap, OfSingle, StepsIn}
-use Rattle.wf_rules.specs.Rules as rules
-use Rattle.wf_rules.specs.Rules.{Role, Sub, at, has}
+use Rattle.wf_syntax_rules.specs.Meaning.{AreArguments, AreEntries, AreSteps, ArmsIn, At, BranchesIn, Else, IsBody, IsExcept, IsLoop, IsParallel, IsPolicy, IsText, IsTried, IsValue, Maybe, OfList, OfMap, OfSingle, StepsIn}
+use Rattle.wf_syntax_rules.specs.Rules as rules
+use Rattle.wf_syntax_rules.specs.Rules.{Role, Sub, at, has}
 use Rattle.wf_syntax.specs.declared.parts.BlockParts.{BlockParts}
 use Rattle.wf_syntax.specs.declared.parts.CallParts.{CallParts}
 use Rattle.wf_syntax.specs.declared.parts.LoopParts.{LoopParts}

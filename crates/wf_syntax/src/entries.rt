@@ -2,8 +2,8 @@
 ghost use Rattle.std.specs.Prelude.{◌≡◌, option_map, MatchResult};
 ghost use Rattle.wf_ast.specs.View.{entries_view, entry_view, target_view};
 ghost use Rattle.wf_expr.specs.Targets.{IsTarget};
-ghost use Rattle.wf_rules.specs.Meaning.{AreEntries, IsEntry, Maybe};
-ghost use Rattle.wf_rules.specs.Rules.{Entries as AllEntries, Entry as AnEntry, Target as ATarget, at};
+ghost use Rattle.wf_syntax_rules.specs.Meaning.{AreEntries, IsEntry, Maybe};
+ghost use Rattle.wf_syntax_rules.specs.Rules.{Entries as AllEntries, Entry as AnEntry, Target as ATarget, at};
 ghost use Rattle.wf_syntax.specs.Answers.{Fails, FailsAmong, Gives, GivesAll};
 ghost use Rattle.wf_tree.specs.Plain.{plain_tree};
 ghost use Rattle.wf_tree.specs.Trees.{pairs_of, text};
@@ -14,7 +14,7 @@ use crate::values::value;
 use std::alloc::Global;
 use wf_ast::{Entries, Entry, Target};
 use wf_expr::{ExprFault, one_target, parse_target};
-use wf_rules::SyntaxKind;
+use wf_syntax_rules::SyntaxKind;
 use wf_tree::{Tree, TreeMap};
 
 // The target that a key is.

@@ -1,13 +1,13 @@
 // Maps of the language.
 ghost use Rattle.std.specs.Prelude.{◌≡◌, ◌++◌, map, option_map};
-ghost use Rattle.wf_rules.specs.Rules as rules;
+ghost use Rattle.wf_syntax_rules.specs.Rules as rules;
 ghost use Rattle.wf_shared.specs.HttpRequest.{is_among as among};
 ghost use Rattle.wf_syntax.specs.Forms.{count_of, first_fields};
 ghost use Rattle.wf_tree.specs.Plain.{plain_tree};
 ghost use Rattle.wf_tree.specs.Trees.{pairs_of};
 
 use crate::names::is_among;
-use wf_rules::SyntaxKind;
+use wf_syntax_rules::SyntaxKind;
 use wf_tree::{Tree, TreeMap};
 
 // The pair of a map of one.

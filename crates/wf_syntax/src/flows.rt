@@ -1,10 +1,10 @@
 // Workflows.
 ghost use Rattle.std.specs.Prelude.{◌≡◌, [], ◌∷◌, map as list_map, MatchResult};
 ghost use Rattle.wf_ast.specs.View.{flow_view, flows_view, param_view, params_view, program_view};
-ghost use Rattle.wf_rules.specs.Meaning.{AreParams, Else, IsFlow, IsParam, IsProgram, OfList};
-ghost use Rattle.wf_rules.specs.Faults.{rooted};
-ghost use Rattle.wf_rules.specs.Rules as rules;
-ghost use Rattle.wf_rules.specs.Rules.{Flows as AllFlows, Parameter, Parameters, at};
+ghost use Rattle.wf_syntax_rules.specs.Meaning.{AreParams, Else, IsFlow, IsParam, IsProgram, OfList};
+ghost use Rattle.wf_syntax_rules.specs.Faults.{rooted};
+ghost use Rattle.wf_syntax_rules.specs.Rules as rules;
+ghost use Rattle.wf_syntax_rules.specs.Rules.{Flows as AllFlows, Parameter, Parameters, at};
 ghost use Rattle.wf_syntax.specs.Answers.{Fails, FailsAmong, Gives, GivesAll};
 ghost use Rattle.wf_syntax.specs.declared.stop.Stop.TheVariants as stop;
 ghost use Rattle.wf_tree.specs.Plain.{plain_tree};
@@ -18,7 +18,7 @@ use crate::stop::Stop;
 use crate::words::owned;
 use std::alloc::Global;
 use wf_ast::{Flow, Flows, Param, Params, Program};
-use wf_rules::SyntaxKind;
+use wf_syntax_rules::SyntaxKind;
 use wf_tree::{Tree, TreeMap};
 
 // A parameter: its name, or a map of one from its name to its default.

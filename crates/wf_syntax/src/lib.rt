@@ -1,4 +1,4 @@
-//! Programs built from a source's tree, by the rules of wf_rules.
+//! Programs built from a source's tree, by the rules of wf_syntax_rules.
 #![tactic(auto)]
 
 mod entries;

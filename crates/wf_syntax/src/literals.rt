@@ -1,7 +1,7 @@
 // Values without expressions: the defaults of parameters.
 ghost use Rattle.std.specs.Prelude.{◌≡◌, MatchResult};
-ghost use Rattle.wf_rules.specs.Meaning.{AreLiterals, AreNamedLiterals, IsLiteral};
-ghost use Rattle.wf_rules.specs.Rules.{Literal, each, every};
+ghost use Rattle.wf_syntax_rules.specs.Meaning.{AreLiterals, AreNamedLiterals, IsLiteral};
+ghost use Rattle.wf_syntax_rules.specs.Rules.{Literal, each, every};
 ghost use Rattle.wf_syntax.specs.Answers.{Fails, FailsAmong, Gives, GivesAll};
 ghost use Rattle.wf_tree.specs.Plain.{plain_items, plain_pairs, plain_tree};
 ghost use Rattle.wf_tree.specs.Trees.{items_of, pairs_of};
@@ -12,7 +12,7 @@ ghost use Rattle.wf_value.specs.Plain.{plain};
 use crate::stop::Stop;
 use crate::words::owned;
 use std::alloc::Global;
-use wf_rules::SyntaxKind;
+use wf_syntax_rules::SyntaxKind;
 use wf_template::has_expressions;
 use wf_tree::Tree;
 use wf_value::{List, Map, Text, Value};

@@ -3,7 +3,7 @@ ghost use Rattle.std.specs.Prelude.{◌≡◌, ◌*◌, ◌+◌, ◌-◌, ◌^�
 ghost use Rattle.std.specs.Str.Parse.{digits_value};
 ghost use Rattle.std.specs.List.{list_all};
 ghost use Rattle.wf_span.specs.Tokens.{is_digit};
-ghost use Rattle.wf_rules.specs.Numbers as numbers;
+ghost use Rattle.wf_syntax_rules.specs.Numbers as numbers;
 ghost use Rattle.wf_tree.specs.Plain.{plain_tree};
 ghost use Rattle.wf_tree.specs.Trees.{integer, text};
 

@@ -2,9 +2,9 @@
 ghost use Rattle.std.specs.Prelude.{◌≡◌, true, false, MatchOption, MatchResult};
 ghost use Rattle.wf_ast.specs.Tree.{Always, Predefined};
 ghost use Rattle.wf_ast.specs.View.{policy_option_view, policy_view, predicate_view};
-ghost use Rattle.wf_rules.specs.Meaning.{Else, IsAttempts, IsBackoff, IsPolicy, IsPredicate, IsThousandths, Maybe, default_backoff, most_retries, policy_kind};
-ghost use Rattle.wf_rules.specs.Rules as rules;
-ghost use Rattle.wf_rules.specs.Rules.{Factor, Retry, Seconds, at};
+ghost use Rattle.wf_syntax_rules.specs.Meaning.{Else, IsAttempts, IsBackoff, IsPolicy, IsPredicate, IsThousandths, Maybe, default_backoff, most_retries, policy_kind};
+ghost use Rattle.wf_syntax_rules.specs.Rules as rules;
+ghost use Rattle.wf_syntax_rules.specs.Rules.{Factor, Retry, Seconds, at};
 ghost use Rattle.wf_shared.specs.HttpRequest.{is_among};
 ghost use Rattle.wf_syntax.specs.Answers.{Fails, FailsAmong, Gives, GivesAll};
 ghost use Rattle.wf_tree.specs.Plain.{plain_tree};
@@ -17,7 +17,7 @@ use crate::stop::Stop;
 use crate::words::owned;
 use std::alloc::Global;
 use wf_ast::{Policy, Predicate};
-use wf_rules::SyntaxKind;
+use wf_syntax_rules::SyntaxKind;
 use wf_tree::{Tree, TreeMap};
 use wf_value::{Backoff, DefaultKind};
 
@@ -55,9 +55,12 @@ fn policy(alloc: Global, tree: &Tree) -> Result<Policy, Stop>
 fn predefined(name: &str) -> Option<Policy>
     ensures { MatchOption result (is_among name.now rules.policies
         ≡ false) (λ p. (is_among name.now rules.policies ≡ true)
-        × (policy_view p ≡ record
-        { predicate = Predefined (policy_kind name.now); max_retries = most_retries; backoff =
-        default_backoff; })) }
+        × (policy_view p ≡ record {
+          predicate = Predefined (policy_kind name.now);
+          max_retries = most_retries;
+          backoff =
+              default_backoff;
+        })) }
 {
     let kind = match name {
         "http.default_retry" => DefaultKind::Idempotent,

@@ -1,8 +1,8 @@
 // A source's tree as a program.
 ghost use Rattle.std.specs.Prelude.{◌≡◌, IfOk, IfErr, reverse};
 ghost use Rattle.wf_ast.specs.View.{program_view};
-ghost use Rattle.wf_rules.specs.Laws.{HasSmallBackoffs};
-ghost use Rattle.wf_rules.specs.Meaning.{Builds};
+ghost use Rattle.wf_syntax_rules.specs.Laws.{HasSmallBackoffs};
+ghost use Rattle.wf_syntax_rules.specs.Meaning.{Builds};
 ghost use Rattle.wf_syntax.specs.Answers.{IsSyntaxFault, IsToldOf};
 ghost use Rattle.wf_tree.specs.Plain.{plain_tree};
 
@@ -10,7 +10,7 @@ use crate::flows::{main_alone, program};
 use crate::stop::Stop;
 use std::alloc::Global;
 use wf_ast::Program;
-use wf_rules::{SyntaxFault, SyntaxKind};
+use wf_syntax_rules::{SyntaxFault, SyntaxKind};
 use wf_tree::Tree;
 use wf_value::Path;
 

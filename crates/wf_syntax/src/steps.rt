@@ -1,9 +1,9 @@
 // Steps and what they do.
 ghost use Rattle.std.specs.Prelude.{◌≡◌, codes, option_map, MatchResult};
 ghost use Rattle.wf_ast.specs.View.{arm_view, arms_in, body_view, branch_view, branches_in, except_option_view, except_view, loop_view, over_view, step_view, steps_in, template_view, work_view};
-ghost use Rattle.wf_rules.specs.Meaning.{AreSteps, IsExcept, IsStep, Maybe};
-ghost use Rattle.wf_rules.specs.Rules as rules;
-ghost use Rattle.wf_rules.specs.Rules.{at};
+ghost use Rattle.wf_syntax_rules.specs.Meaning.{AreSteps, IsExcept, IsStep, Maybe};
+ghost use Rattle.wf_syntax_rules.specs.Rules as rules;
+ghost use Rattle.wf_syntax_rules.specs.Rules.{at};
 ghost use Rattle.wf_syntax.specs.Answers.{Fails, FailsAmong, Gives, GivesAll};
 ghost use Rattle.wf_syntax.specs.Forms.{AreArms, AreBlockParts, AreBranches, AreLoopParts, ArePartsOf, IsArm, IsBlock, IsBranch, IsHandler, IsLoopMap, IsParallelMap, IsStepBody, IsTriedMap, block_part_keys, ends_view, loop_of, loop_part_keys, over_of, parallel_view, row, work_of};
 ghost use Rattle.wf_tree.specs.Plain.{plain_tree};
@@ -22,7 +22,7 @@ use wf_ast::{
     Arm, Arms, Body, Branch, Branches, CallBody, Except, LoopBody, Over, ParallelBody, Step,
     StepList, Template, Work,
 };
-use wf_rules::SyntaxKind;
+use wf_syntax_rules::SyntaxKind;
 use wf_tree::{Tree, TreeMap};
 use wf_value::Text;
 

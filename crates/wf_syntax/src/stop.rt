@@ -3,7 +3,7 @@ ghost use Rattle.wf_syntax.specs.Answers.{IsHere, IsOutside};
 ghost use Rattle.wf_value.specs.declared.path.PathPart.TheVariants.{Index, Key};
 
 use std::alloc::Global;
-use wf_rules::SyntaxKind;
+use wf_syntax_rules::SyntaxKind;
 use wf_value::{OutOfMemory, PathPart, Text};
 
 // A fault, with the way from the part to it, the last step first; or want of memory.

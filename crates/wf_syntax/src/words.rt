@@ -3,9 +3,9 @@ ghost use Rattle.std.specs.Prelude.{◌≡◌, [], MatchResult};
 ghost use Rattle.wf_ast.specs.View.{texts_view};
 ghost use Rattle.wf_syntax.specs.Answers.{Fails, FailsAmong, Gives, GivesAll};
 ghost use Rattle.wf_syntax.specs.declared.stop.Stop.TheVariants as stop;
-ghost use Rattle.wf_rules.specs.Faults.{AreSound, IsSound};
-ghost use Rattle.wf_rules.specs.Meaning.{AreTexts, Else, IsLimit, IsText, Maybe};
-ghost use Rattle.wf_rules.specs.Rules.{AnyText, Limit, Policy, Shared, VariableName, at};
+ghost use Rattle.wf_syntax_rules.specs.Faults.{AreSound, IsSound};
+ghost use Rattle.wf_syntax_rules.specs.Meaning.{AreTexts, Else, IsLimit, IsText, Maybe};
+ghost use Rattle.wf_syntax_rules.specs.Rules.{AnyText, Limit, Policy, Shared, VariableName, at};
 ghost use Rattle.wf_tree.specs.Plain.{plain_tree};
 ghost use Rattle.wf_tree.specs.Trees.{pairs_of};
 
@@ -15,7 +15,7 @@ use crate::numbers::whole_within;
 use crate::stop::Stop;
 use std::alloc::Global;
 use wf_ast::Texts;
-use wf_rules::SyntaxKind;
+use wf_syntax_rules::SyntaxKind;
 use wf_tree::{Tree, TreeMap};
 use wf_value::Text;
 

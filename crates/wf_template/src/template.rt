@@ -9,7 +9,7 @@ ghost use Rattle.wf_template.specs.Texts.{AreParts, IsFaultIn, IsFaultOf, IsPart
 use crate::piece::Piece;
 use crate::split::pieces;
 use std::alloc::Global;
-use wf_ast::{Part, Parts, Template};
+use wf_ast::{Expr, Part, Parts, Template, boxed};
 use wf_expr::{ExprFault, parse};
 use wf_value::{Text, Value};
 
@@ -35,8 +35,18 @@ pub fn parse_template(alloc: Global, text: &str) -> Result<Template, ExprFault>
         return Err(ExprFault::OutOfMemory);
     };
     match alone(&pieces) {
-        Some(source) => Ok(Template::Expr(parse(alloc, source)?)),
+        Some(source) => Ok(Template::Expr(in_box(alloc, parse(alloc, source)?)?)),
         None => Ok(Template::Join(parts(alloc, &pieces)?)),
+    }
+}
+
+// An expression in a box.
+fn in_box(alloc: Global, expr: Expr) -> Result<Box<Expr>, ExprFault>
+    ensures { MatchResult result (λ held. held.value ≡ expr) (λ f. f ≡ fault.OutOfMemory) }
+{
+    match boxed(alloc, expr) {
+        Ok(held) => Ok(held),
+        Err(_) => Err(ExprFault::OutOfMemory),
     }
 }
 

@@ -159,8 +159,8 @@ impl List {
         self.items.measure
     }
 
-    // An equal list, which shares the items.
-    fn copy(&self) -> Result<List, OutOfMemory>
+    /// An equal list, which shares the items.
+    pub fn copy(&self) -> Result<List, OutOfMemory>
         ensures { IfOk result (λ l. l ≡ self.now) }
     {
         match self.items.clone() {
@@ -249,8 +249,8 @@ impl Map {
         self.entries.measure
     }
 
-    // An equal map, which shares the pairs.
-    fn copy(&self) -> Result<Map, OutOfMemory>
+    /// An equal map, which shares the pairs.
+    pub fn copy(&self) -> Result<Map, OutOfMemory>
         ensures { IfOk result (λ m. m ≡ self.now) }
     {
         match self.entries.clone() {

@@ -3,7 +3,7 @@ use Rattle.wf_ast.specs.View.{program_view}
 use Rattle.wf_check.specs.Check.{IsCheckFault}
 use Rattle.wf_check.specs.Said.{Said}
 use Rattle.wf_check.specs.declared.top.CheckFault.TheVariants as check
-use Rattle.wf_rules.specs.declared.fault.SyntaxFault.TheVariants as syntax
+use Rattle.wf_syntax_rules.specs.declared.fault.SyntaxFault.TheVariants as syntax
 use Rattle.wf_source.specs.Programs.{IsRefusalOf, no_program, no_check, refusal_of, said_refusal}
 use Rattle.wf_source.specs.Views.{TellsOf}
 use Rattle.wf_source.proofs.Programs.{refused_as_tree}

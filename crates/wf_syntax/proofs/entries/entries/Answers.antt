@@ -1,8 +1,8 @@
 use Rattle.std.proofs.Common.{is_ok, refl, sym, ap, ◌∙◌, subst}
 use Rattle.wf_ast.specs.View.{entries_view}
-use Rattle.wf_rules.specs.Faults.{AreSound}
-use Rattle.wf_rules.specs.Meaning.{AreEntries, Each, IsEntry}
-use Rattle.wf_rules.specs.Rules.{Entries, Entry, each}
+use Rattle.wf_syntax_rules.specs.Faults.{AreSound}
+use Rattle.wf_syntax_rules.specs.Meaning.{AreEntries, Each, IsEntry}
+use Rattle.wf_syntax_rules.specs.Rules.{Entries, Entry, each}
 use Rattle.wf_syntax.proofs.Nodes.{all_items, each_more, item_at, item_fails, items_sound, list_fails, list_sound, within}
 use Rattle.wf_syntax.proofs.entries.entries.Goals as goal
 use Rattle.wf_tree.specs.Plain.{plain_tree, plain_items}

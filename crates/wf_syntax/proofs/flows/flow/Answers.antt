@@ -1,7 +1,7 @@
 use Rattle.std.proofs.Common.{sym, ap, ◌∙◌}
 use Rattle.wf_ast.specs.Tree.{steps}
 use Rattle.wf_ast.specs.View.{params_view, steps_view}
-use Rattle.wf_rules.specs.Rules.{Flow}
+use Rattle.wf_syntax_rules.specs.Rules.{Flow}
 use Rattle.wf_syntax.proofs.Retries.{passed}
 use Rattle.wf_syntax.proofs.Workflows.{flow_given, flow_unnamed, flow_wrong, params_fail, steps_fail, steps_there}
 use Rattle.wf_syntax.proofs.flows.flow.Goals as goal

@@ -2,7 +2,7 @@ use Rattle.std.proofs.Common.{◌∷◌, map, ap, sym, ◌∙◌, subst}
 use Rattle.wf_ast.proofs.Views.{steps_level}
 use Rattle.wf_ast.specs.Tree as t
 use Rattle.wf_ast.specs.View.{flow_view, flows_view, params_view, steps_in, steps_view}
-use Rattle.wf_rules.specs.Rules.{Steps}
+use Rattle.wf_syntax_rules.specs.Rules.{Steps}
 use Rattle.wf_syntax.proofs.Sources.{alone_fails, alone_given}
 use Rattle.wf_syntax.proofs.flows.main_alone.Goals as goal
 use Rattle.wf_syntax.specs.Answers.{Fails}

@@ -1,8 +1,8 @@
 use Rattle.std.proofs.Common.{is_ok, refl, sym, ap, ◌∙◌, subst}
 use Rattle.wf_ast.specs.View.{params_view}
-use Rattle.wf_rules.specs.Faults.{AreSound}
-use Rattle.wf_rules.specs.Meaning.{AreParams, Each, IsParam}
-use Rattle.wf_rules.specs.Rules.{Parameters, Parameter, each}
+use Rattle.wf_syntax_rules.specs.Faults.{AreSound}
+use Rattle.wf_syntax_rules.specs.Meaning.{AreParams, Each, IsParam}
+use Rattle.wf_syntax_rules.specs.Rules.{Parameters, Parameter, each}
 use Rattle.wf_syntax.proofs.Nodes.{all_items, each_more, item_at, item_fails, items_sound, list_fails, list_sound, within}
 use Rattle.wf_syntax.proofs.flows.params.Goals as goal
 use Rattle.wf_tree.specs.Plain.{plain_tree, plain_items}

@@ -1,8 +1,8 @@
 use Rattle.std.proofs.Common.{◌≡◌, ◌+◌, ◌++◌, ◌∷◌, [], Some, rules, bytes_eq, codes, map, take, sym, ap, ◌∙◌, subst}
 use Rattle.std.specs.Prelude.{option_map}
 use Rattle.wf_ast.specs.View.{flow_view, flows_view}
-use Rattle.wf_rules.specs.Meaning.{IsFlow}
-use Rattle.wf_rules.specs.Rules.{Flow}
+use Rattle.wf_syntax_rules.specs.Meaning.{IsFlow}
+use Rattle.wf_syntax_rules.specs.Rules.{Flow}
 use Rattle.wf_syntax.proofs.Mains.{SoFar}
 use Rattle.wf_syntax.proofs.Programs.{flow_stops, main_step, mapped_end, other_step, program_is}
 use Rattle.wf_syntax.proofs.flows.program.Goals as goal

@@ -1,7 +1,7 @@
 use Rattle.std.proofs.Common.{◌+◌, ◌*◌, take}
-use Rattle.wf_rules.specs.Faults.{AreSound}
-use Rattle.wf_rules.specs.Meaning.{AreLiterals, AreNamedLiterals}
-use Rattle.wf_rules.specs.Rules.{Literal, each, every}
+use Rattle.wf_syntax_rules.specs.Faults.{AreSound}
+use Rattle.wf_syntax_rules.specs.Meaning.{AreLiterals, AreNamedLiterals}
+use Rattle.wf_syntax_rules.specs.Rules.{Literal, each, every}
 use Rattle.wf_tree.specs.Trees.{depth, items_of, items_depth, pairs_of, pairs_depth}
 use Rattle.wf_tree.specs.Plain.{plain_tree, plain_items, plain_pairs}
 use Rattle.wf_value.specs.Data as values

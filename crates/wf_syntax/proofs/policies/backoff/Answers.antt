@@ -1,5 +1,5 @@
 use Rattle.std.proofs.Common.{sym, ap}
-use Rattle.wf_rules.specs.Rules.{Backoff}
+use Rattle.wf_syntax_rules.specs.Rules.{Backoff}
 use Rattle.wf_syntax.proofs.Retries.{backoff_given, initial_fails, max_fails, multiplier_fails, passed}
 use Rattle.wf_syntax.proofs.policies.backoff.Goals as goal
 use Rattle.wf_tree.specs.Plain.{plain_tree}

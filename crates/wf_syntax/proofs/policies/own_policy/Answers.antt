@@ -1,6 +1,6 @@
 use Rattle.std.proofs.Common.{sym}
 use Rattle.wf_ast.specs.View.{predicate_view}
-use Rattle.wf_rules.specs.Rules.{Retry}
+use Rattle.wf_syntax_rules.specs.Rules.{Retry}
 use Rattle.wf_syntax.proofs.Retries.{attempts_fails, backoff_fails, own_given, passed, predicate_fails}
 use Rattle.wf_syntax.proofs.policies.own_policy.Goals as goal
 use Rattle.wf_tree.specs.Trees.{pairs_of}

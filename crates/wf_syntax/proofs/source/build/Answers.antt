@@ -1,7 +1,7 @@
 use Rattle.std.proofs.Common.{rules}
 use Rattle.wf_ast.specs.View.{program_view}
-use Rattle.wf_rules.proofs.SmallBackoffs.{small_backoffs}
-use Rattle.wf_rules.specs.Meaning.{Builds}
+use Rattle.wf_syntax_rules.proofs.SmallBackoffs.{small_backoffs}
+use Rattle.wf_syntax_rules.specs.Meaning.{Builds}
 use Rattle.wf_syntax.proofs.source.build.Goals as goal
 use Rattle.wf_tree.specs.Plain.{plain_tree}
 

@@ -2,9 +2,9 @@ use Rattle.std.proofs.Common.{◌≡◌, [], ◌∷◌, codes, Result, Err, Some
 use Rattle.wf_ast.proofs.Views.{branch_made, except_made}
 use Rattle.wf_ast.specs.Tree as plain
 use Rattle.wf_ast.specs.View.{arms_in, arms_view, branches_in, branches_view, fields_view, steps_in, steps_view}
-use Rattle.wf_rules.specs.Faults.{AreSound}
-use Rattle.wf_rules.specs.Meaning.{AreSteps, Each, IsStep, IsText, Maybe}
-use Rattle.wf_rules.specs.Rules.{Arm, Arms, Branch, Branches, Except, Loop, Parallel, Step, Steps, Try, arm_fault, each, loop_fault, map_fault, parallel_fault, step_fault, try_fault}
+use Rattle.wf_syntax_rules.specs.Faults.{AreSound}
+use Rattle.wf_syntax_rules.specs.Meaning.{AreSteps, Each, IsStep, IsText, Maybe}
+use Rattle.wf_syntax_rules.specs.Rules.{Arm, Arms, Branch, Branches, Except, Loop, Parallel, Step, Steps, Try, arm_fault, each, loop_fault, map_fault, parallel_fault, step_fault, try_fault}
 use Rattle.wf_syntax.proofs.Bodies.{arm_given, no_condition, step_body_given}
 use Rattle.wf_syntax.proofs.Depths.{field_deep, list_item_deep}
 use Rattle.wf_syntax.proofs.Levels.{arms_are, branches_are, steps_are}

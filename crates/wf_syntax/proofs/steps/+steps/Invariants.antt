@@ -1,8 +1,8 @@
 use Rattle.std.proofs.Common.{◌+◌, ◌*◌, take}
 use Rattle.wf_ast.specs.View.{arms_view, branches_view, steps_view}
-use Rattle.wf_rules.specs.Faults.{AreSound}
-use Rattle.wf_rules.specs.Meaning.{Each, IsStep}
-use Rattle.wf_rules.specs.Rules.{Arm, Branch, Step, each}
+use Rattle.wf_syntax_rules.specs.Faults.{AreSound}
+use Rattle.wf_syntax_rules.specs.Meaning.{Each, IsStep}
+use Rattle.wf_syntax_rules.specs.Rules.{Arm, Branch, Step, each}
 use Rattle.wf_syntax.proofs.steps.+steps.Given as goal
 use Rattle.wf_syntax.specs.Forms.{IsArm, IsBranch}
 use Rattle.wf_tree.specs.Plain.{plain_items, plain_tree}

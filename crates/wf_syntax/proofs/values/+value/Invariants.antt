@@ -1,9 +1,9 @@
 use Rattle.std.proofs.Common.{◌+◌, ◌*◌, take}
 use Rattle.wf_ast.specs.Tree.{fields, templates}
 use Rattle.wf_ast.specs.View.{fields_view, templates_view}
-use Rattle.wf_rules.specs.Faults.{AreSound}
-use Rattle.wf_rules.specs.Meaning.{AreNamed, AreValues}
-use Rattle.wf_rules.specs.Rules.{Value, each, every}
+use Rattle.wf_syntax_rules.specs.Faults.{AreSound}
+use Rattle.wf_syntax_rules.specs.Meaning.{AreNamed, AreValues}
+use Rattle.wf_syntax_rules.specs.Rules.{Value, each, every}
 use Rattle.wf_tree.specs.Trees.{depth, items_of, items_depth, pairs_of, pairs_depth}
 use Rattle.wf_tree.specs.Plain.{plain_tree, plain_items, plain_pairs}
 use Rattle.wf_syntax.proofs.values.+value.Given as goal

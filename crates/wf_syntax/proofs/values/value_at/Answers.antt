@@ -1,5 +1,5 @@
 use Rattle.std.proofs.Common.{◌≡◌, sym}
-use Rattle.wf_rules.specs.Rules.{Value}
+use Rattle.wf_syntax_rules.specs.Rules.{Value}
 use Rattle.wf_syntax.proofs.Lists.{at_fails}
 use Rattle.wf_tree.specs.Plain.{plain_tree}
 use Rattle.wf_tree.specs.Trees.{pairs_of}

@@ -1,5 +1,0 @@
-use Rattle.wf_rules.proofs.Finding.{first_fault_is_it}
-use Rattle.wf_rules.proofs.laws.first_fault_is_it.Goals as goal
-
-pub returns : goal.returns
-returns c = first_fault_is_it

@@ -1,5 +1,0 @@
-use Rattle.wf_rules.proofs.OneFault.{one_fault}
-use Rattle.wf_rules.proofs.laws.one_fault.Goals as goal
-
-pub returns : goal.returns
-returns c = one_fault

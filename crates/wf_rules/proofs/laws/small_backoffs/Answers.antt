@@ -1,5 +1,0 @@
-use Rattle.wf_rules.proofs.SmallBackoffs.{small_backoffs}
-use Rattle.wf_rules.proofs.laws.small_backoffs.Goals as goal
-
-pub returns : goal.returns
-returns c = small_backoffs
