@@ -136,8 +136,8 @@ fn keep_map(alloc: Global, pairs: Result<Vec<(Text, Value)>, Raise>) -> Result<V
     keep(Value::Map(map_of(alloc, pairs?)?))
 }
 
-// The map of some pairs. The last is put first, as each earlier one is put into those behind it.
-fn map_of(alloc: Global, mut pairs: Vec<(Text, Value)>) -> Result<Map, Raise>
+/// The map of some pairs. The last is put first, as each earlier one is put into those behind it.
+pub fn map_of(alloc: Global, mut pairs: Vec<(Text, Value)>) -> Result<Map, Raise>
     ensures { Answers (λ m. pairs_of m) result (Ok (put_all pairs.items no_pairs)) }
 {
     let Ok(mut made) = Map::new(alloc) else {
