@@ -231,6 +231,7 @@ not_beside n f vs lt is =
     cc other
 
 flows_straight : (fs : List Flow) → nodes_built 0 (nodes fs) ≡ true → are_straight_flows fs ≡ true
+unfolding nodes
 flows_straight [] is = refl
 flows_straight (f ∷ []) is =
     let whole = front 0 (flow_nodes f) [] is in
