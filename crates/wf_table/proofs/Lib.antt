@@ -1,0 +1,15 @@
+pub mod Adding
+pub mod Compiling
+pub mod Decoding
+pub mod Forms
+pub mod Found
+pub mod Going
+pub mod InOrder
+pub mod Jumping
+pub mod Laid
+pub mod Lying
+pub mod Naming
+pub mod Sizes
+pub mod Sound
+pub mod Tabled
+pub mod Views
