@@ -204,8 +204,10 @@ linked_in ks o os ls l r h n e =
         stand = ((l, find_last l.number l refl ls none, e), own_stand_same ls (ls ++ l ∷ []) (first_key ks) (o ∷ os) stay h.stand);
         keys = keys_stand_same ls (ls ++ l ∷ []) ks keys h.keys;
         apart = (subst (λ (m : ℕ). AreOthers m (numbers (o ∷ os) ks)) (sym n) (others_own (first_key ks) (o ∷ os) ks ls h.stand h.keys), h.apart);
-        alone = (only_more None l.number ls l (none_missing l.number ls ls none r) (λ q. let same : o.number ≡ l.number = cc (sym e ∙ q) in absurd (omega (arith, there, same, n))),
-        (only_more (Some l.number) o.number ls l (none_any (Some l.number) o.number ls h.alone.0) (λ q. refl), alone_more (Some o.number) o.number os ks ls l e h.apart.0 h.alone.1));
+        alone = (
+          only_more None l.number ls l (none_missing l.number ls ls none r) (λ q. let same : o.number ≡ l.number = cc (sym e ∙ q) in absurd (omega (arith, there, same, n))),
+          (only_more (Some l.number) o.number ls l (none_any (Some l.number) o.number ls h.alone.0) (λ q. refl), alone_more (Some o.number) o.number os ks ls l e h.apart.0 h.alone.1),
+        );
       };
       own_layers_are = own_same ls (ls ++ l ∷ []) (o ∷ os) stay;
       far_layers_are = keys_same ls (ls ++ l ∷ []) ks keys;
@@ -252,12 +254,14 @@ module _ (a : Around) (p : ℕ) (fs : List Frame) (x : Scopes) (o d : ℕ) (xs :
     entered_so s lim sum =
         let new = layers_of x ++ fitted.2.layer ∷ [] in
         let none : find fitted.2.layer.number (layers_of x) ≡ None = ap (λ (n : ℕ). find n (layers_of x)) fitted.2.number ∙ fresh_none (layers_of x) in
-        let vars : pairs_of (vars_at (fresh (layers_of x)) new) ≡ fitted.0 = ap (λ (n : ℕ). pairs_of (vars_at n new)) (sym fitted.2.number) ∙ ap (λ g. pairs_of (vars_in g)) (find_last fitted.2.layer.number fitted.2.layer refl (layers_of x) none) ∙ fitted.2.vars in
-        (fitted.0, opened_so s lim sum ∙ fitted.1,
-        ap (held_of a.keys (own (fresh (layers_of x)) false ∷ owned p fs)) fitted.2.is
-        ∙ ap {B = Held} (λ (ps : Pairs). record { own = record { vars = ps; by_call = false } ∷ own_layers (owned p fs) new; outside = far_layers a.keys new }) vars
-        ∙ ap {B = Held} (λ os. record { own = record { vars = fitted.0; by_call = false } ∷ os; outside = far_layers a.keys new }) links.own_layers_are
-        ∙ ap {B = Held} (λ os. record { own = record { vars = fitted.0; by_call = false } ∷ own_layers (owned p fs) (layers_of x); outside = os }) links.far_layers_are)
+        let vars : pairs_of (vars_at (fresh (layers_of x)) new) ≡ fitted.0 = ap (λ (n : ℕ). pairs_of (vars_at n new)) (sym fitted.2.number) ∙ ap (λ g. pairs_of (vars_in g)) (find_last fitted.2.layer.number fitted.2.layer refl (layers_of x) none) ∙ fitted.2.vars in (
+          fitted.0,
+          opened_so s lim sum ∙ fitted.1,
+          ap (held_of a.keys (own (fresh (layers_of x)) false ∷ owned p fs)) fitted.2.is
+              ∙ ap {B = Held} (λ (ps : Pairs). record { own = record { vars = ps; by_call = false } ∷ own_layers (owned p fs) new; outside = far_layers a.keys new }) vars
+              ∙ ap {B = Held} (λ os. record { own = record { vars = fitted.0; by_call = false } ∷ os; outside = far_layers a.keys new }) links.own_layers_are
+              ∙ ap {B = Held} (λ os. record { own = record { vars = fitted.0; by_call = false } ∷ own_layers (owned p fs) (layers_of x); outside = os }) links.far_layers_are,
+        )
 
   -- they don't
   pub refused_so : (y : Scopes) → bound_all x.limit (fresh (layers_of x)) xs (opened (Some o) d (layers_of x)) ≡ Err fault.TooLarge → layers_of y ≡ layers_of x → (s : Scene) → (limits s.facts.rules).variables ≡ a.limit

@@ -73,10 +73,13 @@ module _ (a : Around) (p q first : ℕ) (f : Frame) (n : ℕ) (old new : List Fr
   mark_closes = closes a.keys (own n false) (owned first new) (layers_of x) r (subst (λ os. Linked a.keys os (layers_of x)) opens h.layers)
 
   pub mark_left : (y : Scopes) → layers_of y ≡ closed n (layers_of x) → Leaves true old (held_of a.keys (owned p old) (layers_of x)) new (held_of a.keys (owned q new) (layers_of y))
-  mark_left y e =
-      (f, is, ap (λ (k : ℕ). held_of a.keys (owned k new) (layers_of y)) same ∙ ap (λ ls. held_of a.keys (owned first new) ls) e ∙ ap {B = Held} (λ os. record { own = os; outside = (held_of a.keys (owned first new) (closed n (layers_of x))).outside }) mark_closes.own
-      ∙ ap {B = Held} (λ os. record { own = (held_of a.keys (owned first new) (layers_of x)).own; outside = os }) mark_closes.outside
-      ∙ sym (dropped_mark f n (held_of a.keys (owned p old) (layers_of x)) mark ∙ ap {B = Held} (λ os. record { own = drop 1 (held_of a.keys os (layers_of x)).own; outside = (held_of a.keys (owned p old) (layers_of x)).outside }) opens))
+  mark_left y e = (
+    f,
+    is,
+    ap (λ (k : ℕ). held_of a.keys (owned k new) (layers_of y)) same ∙ ap (λ ls. held_of a.keys (owned first new) ls) e ∙ ap {B = Held} (λ os. record { own = os; outside = (held_of a.keys (owned first new) (closed n (layers_of x))).outside }) mark_closes.own
+        ∙ ap {B = Held} (λ os. record { own = (held_of a.keys (owned first new) (layers_of x)).own; outside = os }) mark_closes.outside
+        ∙ sym (dropped_mark f n (held_of a.keys (owned p old) (layers_of x)) mark ∙ ap {B = Held} (λ os. record { own = drop 1 (held_of a.keys os (layers_of x)).own; outside = (held_of a.keys (owned p old) (layers_of x)).outside }) opens),
+  )
 
   pub mark_linked : (y : Scopes) → layers_of y ≡ closed n (layers_of x) → y.limit ≡ x.limit → IsLinked a (owned q new) y
   mark_linked y e l = record {

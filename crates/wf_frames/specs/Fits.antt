@@ -5,13 +5,13 @@
 use Rattle.std.specs.Prelude.{◌≡◌, ℕ, ◌<◌, ◌≤◌, Bool, true, false, List, [], ◌∷◌, length, slice_get, is_some, Some, None, Option, option_map}
 use Rattle.wf_frames.specs.declared.frames.Frame.{Frame}
 use Rattle.wf_frames.specs.declared.frames.Frame.TheVariants as frame
-use Rattle.wf_table.specs.Kinds as kind
-use Rattle.wf_table.specs.Kinds.{Kind, Listed, View, node_view}
-use Rattle.wf_table.specs.Spots.{Spot, owners_at}
-use Rattle.wf_table.specs.Table.{list_at, outside}
-use Rattle.wf_table.specs.declared.node.LoopNode.{LoopNode}
-use Rattle.wf_table.specs.declared.node.Node.{Node}
-use Rattle.wf_table.specs.declared.node.NodeKind.TheVariants as variant
+use Rattle.wf_nodes.specs.Kinds as kind
+use Rattle.wf_nodes.specs.Kinds.{Kind, Listed, View, node_view}
+use Rattle.wf_nodes.specs.Spots.{Spot, owners_at}
+use Rattle.wf_nodes.specs.Table.{list_at, outside}
+use Rattle.wf_nodes.specs.declared.node.LoopNode.{LoopNode}
+use Rattle.wf_nodes.specs.declared.node.Node.{Node}
+use Rattle.wf_nodes.specs.declared.node.NodeKind.TheVariants as variant
 
 -- innermost first
 abbrev pub reach : List Frame → List ℕ

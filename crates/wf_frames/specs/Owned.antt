@@ -14,7 +14,7 @@ use Rattle.wf_scope.specs.Store.{layers_of}
 use Rattle.wf_scope.specs.Tasks.{AreApart, Far, Own, far_layers, numbers, own_layers}
 use Rattle.wf_scope.specs.declared.layer.Layer.{Layer}
 use Rattle.wf_scope.specs.declared.scopes.Scopes.{Scopes}
-use Rattle.wf_table.specs.Spots.{Spot}
+use Rattle.wf_nodes.specs.Spots.{Spot}
 use Rattle.wf_value.specs.Maps.{IsInOrder}
 
 -- ## Layers by number

@@ -15,10 +15,10 @@ use Rattle.wf_moves.proofs.Parts.{below_get, entries_is, list_is, list_stands, s
 use Rattle.wf_moves.specs.Steps.{CarriesOut, Moves}
 use Rattle.wf_moves.specs.declared.step.Step.{Step}
 use Rattle.wf_moves.specs.declared.step.Step.TheVariants as step
-use Rattle.wf_table.specs.Kinds.{Listed}
-use Rattle.wf_table.specs.Spots.{Spot, part_at, part_body, part_next, part_step, part_list, part_entry, entries_by, steps_by, from, owners_at}
-use Rattle.wf_table.specs.Table.{Resolves, list_at}
-use Rattle.wf_table.specs.declared.node.Node.{Node}
+use Rattle.wf_nodes.specs.Kinds.{Listed}
+use Rattle.wf_nodes.specs.Spots.{Spot, part_at, part_body, part_next, part_step, part_list, part_entry, entries_by, steps_by, from, owners_at}
+use Rattle.wf_nodes.specs.Table.{Resolves, list_at}
+use Rattle.wf_nodes.specs.declared.node.Node.{Node}
 
 -- the steps from one that is there
 pub from_next : (ns : List Spot) (xs : List ℕ) (i : ℕ) → i < length xs → from i (steps_by ns xs) ≡ more (part_step (part_at ns (get_or xs i 0))) (from (suc i) (steps_by ns xs))
@@ -66,7 +66,6 @@ entry_moves ns nodes n at m e v rest mid r h lt is go s l same =
     ap (drop at) list ∙ entries_next ns e at lt ∙ ap (λ (i : ℕ). part_entry (part_at ns i) ∷ drop (suc at) (entries_by ns e)) is
     ∙ ap (λ es. part_entry (part_at ns m) ∷ drop (suc at) es) (sym list) ∙ ap (λ (i : ℕ). part_entry (part_at ns m) ∷ drop i (body_entries (part_body (part_at ns n)))) (sym (add-one at)) in
     ap (λ es. moves s (Entries es ∷ control ns rest) l) next ∙ ap (λ fs. assigns s (part_entry (part_at ns m)) (control ns fs) l) (sym go)
-
 
 pub same_entries : (nodes : List Node) (n : ℕ) (b d : List ℕ) → entries_at nodes n ≡ Some b → entries_at nodes n ≡ Some d → b ≡ d
 same_entries nodes n b d p q = cc (sym p ∙ q)

@@ -8,11 +8,11 @@ use Rattle.wf_ast.specs.Eval.{fill, truth}
 use Rattle.wf_ast.specs.Tree.{Body, Template, Scalar}
 use Rattle.wf_eval.specs.Answers.{Answers, Gives, GivesBool}
 use Rattle.wf_moves.proofs.Evaluated.{gave, failed}
-use Rattle.wf_table.specs.Spots.{Spot, part_at, part_body, part_next, part_condition, arms_by}
+use Rattle.wf_nodes.specs.Spots.{Spot, part_at, part_body, part_next, part_condition, arms_by}
 use Rattle.wf_moves.specs.Steps.{arm_in, Holds, is_idle, is_idle_kind}
-use Rattle.wf_table.specs.declared.node.Node.{Node}
-use Rattle.wf_table.specs.declared.node.NodeKind.{NodeKind}
-use Rattle.wf_table.specs.declared.node.NodeKind.TheVariants as kind
+use Rattle.wf_nodes.specs.declared.node.Node.{Node}
+use Rattle.wf_nodes.specs.declared.node.NodeKind.{NodeKind}
+use Rattle.wf_nodes.specs.declared.node.NodeKind.TheVariants as kind
 use Rattle.wf_model.specs.Move.{chosen}
 use Rattle.wf_value.specs.Data.{Data, null, boolean}
 use Rattle.wf_value.specs.Errors.{Answer, ◌>>=◌}
@@ -26,10 +26,10 @@ use Rattle.wf_value.specs.declared.Value.TheVariants as value
 use Rattle.wf_value.specs.Pairs.{Text}
 use Rattle.wf_moves.proofs.Parts.{as_part, part_is}
 use Rattle.wf_moves.specs.Built.{Tells}
-use Rattle.wf_table.specs.Kinds.{kind_by}
-use Rattle.wf_table.specs.Shapes.{Compiled, shape_by}
-use Rattle.wf_table.specs.Table.{Resolves, part_by}
-use Rattle.wf_table.specs.declared.shape.Shape.{Shape}
+use Rattle.wf_nodes.specs.Kinds.{kind_by}
+use Rattle.wf_nodes.specs.Shapes.{Compiled, shape_by}
+use Rattle.wf_nodes.specs.Table.{Resolves, part_by}
+use Rattle.wf_nodes.specs.declared.shape.Shape.{Shape}
 
 -- ## Conditions
 condition_in : (ns : List Spot) (cs : Compiled) (x : Text) (next : Option Text) (k : NodeKind) → ((t : Shape) → k ≡ kind.Arm t → ⊥) → part_condition (part_by ns x next (kind_by cs k)) ≡ Scalar null

@@ -11,14 +11,14 @@ use Rattle.wf_model.specs.Kinds.{Plainly, body_kind, by_clock, entry_now, next_k
 use Rattle.wf_moves.proofs.Advancing.{entries_next, from_next}
 use Rattle.wf_moves.proofs.Leaving.{drop_end, from_end}
 use Rattle.wf_moves.proofs.Parts.{as_part, entries_is, list_is, part_is}
-use Rattle.wf_table.specs.Kinds.{Listed, entry_by, kind_by}
-use Rattle.wf_table.specs.Shapes.{Compiled}
-use Rattle.wf_table.specs.Spots.{Spot, from, part_at, part_body, part_entry, part_list, steps_by}
-use Rattle.wf_table.specs.Table.{Resolves, list_at, part_by}
-use Rattle.wf_table.specs.declared.node.EntryNode.{EntryNode}
-use Rattle.wf_table.specs.declared.node.Node.{Node}
-use Rattle.wf_table.specs.declared.node.NodeKind.{NodeKind}
-use Rattle.wf_table.specs.declared.node.NodeKind.TheVariants as kind
+use Rattle.wf_nodes.specs.Kinds.{Listed, entry_by, kind_by}
+use Rattle.wf_nodes.specs.Shapes.{Compiled}
+use Rattle.wf_nodes.specs.Spots.{Spot, from, part_at, part_body, part_entry, part_list, steps_by}
+use Rattle.wf_nodes.specs.Table.{Resolves, list_at, part_by}
+use Rattle.wf_nodes.specs.declared.node.EntryNode.{EntryNode}
+use Rattle.wf_nodes.specs.declared.node.Node.{Node}
+use Rattle.wf_nodes.specs.declared.node.NodeKind.{NodeKind}
+use Rattle.wf_nodes.specs.declared.node.NodeKind.TheVariants as kind
 use Rattle.wf_value.specs.Pairs.{Text}
 
 -- ## Frames

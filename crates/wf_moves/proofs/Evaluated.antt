@@ -6,12 +6,12 @@ use Rattle.wf_ast.specs.Apply.{View}
 use Rattle.wf_ast.specs.Eval.{fill}
 use Rattle.wf_ast.specs.Tree.{Template, InList}
 use Rattle.wf_frames.specs.Frames.{left_view}
-use Rattle.wf_table.specs.Table.{ArmsStandIn}
+use Rattle.wf_nodes.specs.Table.{ArmsStandIn}
 use Rattle.wf_frames.specs.declared.frames.Left.TheVariants as left
 use Rattle.wf_model.specs.Config.{OfList}
 use Rattle.wf_value.specs.declared.Value.TheVariants as value
 use Rattle.wf_eval.specs.Answers.{Answers, Gives}
-use Rattle.wf_table.specs.Spots.{Spot, owners_at}
+use Rattle.wf_nodes.specs.Spots.{Spot, owners_at}
 use Rattle.wf_moves.specs.Steps.{Fails, come}
 use Rattle.wf_moves.specs.declared.step.Step.{Step}
 use Rattle.wf_model.specs.Config.{Item}

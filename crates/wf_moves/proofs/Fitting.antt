@@ -11,15 +11,15 @@ use Rattle.wf_moves.proofs.Parts.{below_get, entries_of, list_of, view_is}
 use Rattle.wf_moves.specs.Steps.{IsDone, IsJump, IsReady}
 use Rattle.wf_moves.specs.declared.step.Step.{Step}
 use Rattle.wf_moves.specs.declared.step.Step.TheVariants as step
-use Rattle.wf_table.specs.Kinds as view
-use Rattle.wf_table.specs.Kinds.{Kind, block_view, kind_by, node_view}
-use Rattle.wf_table.specs.Spots.{Spot, owners_at}
-use Rattle.wf_table.specs.Table.{AreBelow, PartsStand, Resolves, kind_list, outside}
-use Rattle.wf_table.specs.declared.node.Block.{Block}
-use Rattle.wf_table.specs.declared.node.LoopNode.{LoopNode}
-use Rattle.wf_table.specs.declared.node.Node.{Node}
-use Rattle.wf_table.specs.declared.node.NodeKind.{NodeKind}
-use Rattle.wf_table.specs.declared.node.NodeKind.TheVariants as kind
+use Rattle.wf_nodes.specs.Kinds as view
+use Rattle.wf_nodes.specs.Kinds.{Kind, block_view, kind_by, node_view}
+use Rattle.wf_nodes.specs.Spots.{Spot, owners_at}
+use Rattle.wf_nodes.specs.Table.{AreBelow, PartsStand, Resolves, kind_list, outside}
+use Rattle.wf_nodes.specs.declared.node.Block.{Block}
+use Rattle.wf_nodes.specs.declared.node.LoopNode.{LoopNode}
+use Rattle.wf_nodes.specs.declared.node.Node.{Node}
+use Rattle.wf_nodes.specs.declared.node.NodeKind.{NodeKind}
+use Rattle.wf_nodes.specs.declared.node.NodeKind.TheVariants as kind
 use Rattle.wf_value.specs.Pairs.{Text}
 
 module _ (ns : List Spot) (nodes : List Node) (n : ℕ) (x : Node) (old new : List Frame) (at : slice_get nodes n ≡ Some x) (fits : Fits ns nodes old) where

@@ -20,11 +20,11 @@ use Rattle.wf_moves.proofs.Parts.{list_stands}
 use Rattle.wf_moves.specs.Moved.{FoundIn, IsLoopTop, IsMove, if_at, is_loop, loop_found, target}
 use Rattle.wf_moves.specs.declared.finish.Went.{Went}
 use Rattle.wf_moves.specs.declared.finish.Went.TheVariants as went
-use Rattle.wf_table.specs.Kinds.{Listed}
-use Rattle.wf_table.specs.Spots.{Spot, part_at, part_list}
-use Rattle.wf_table.specs.Table.{Lacks, Leads, LeadsInto, Resolves, list_at}
-use Rattle.wf_table.specs.declared.node.Jump.{Jump}
-use Rattle.wf_table.specs.declared.node.Node.{Node}
+use Rattle.wf_nodes.specs.Kinds.{Listed}
+use Rattle.wf_nodes.specs.Spots.{Spot, part_at, part_list}
+use Rattle.wf_nodes.specs.Table.{Lacks, Leads, LeadsInto, Resolves, list_at}
+use Rattle.wf_nodes.specs.declared.node.Jump.{Jump}
+use Rattle.wf_nodes.specs.declared.node.Node.{Node}
 use Rattle.wf_value.specs.Pairs.{Text}
 
 -- ## How many lists stand around one

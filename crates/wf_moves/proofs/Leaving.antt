@@ -17,10 +17,10 @@ use Rattle.wf_model.specs.Unwind.{unwind, to_back}
 use Rattle.wf_moves.proofs.Parts.{entries_is, list_is}
 use Rattle.wf_moves.specs.Moved.{HasMove, IsGoing, IsSettled, Settled}
 use Rattle.wf_moves.specs.Steps.{HasStep, IsBefore, IsBeforeEntry}
-use Rattle.wf_table.specs.Kinds.{Listed}
-use Rattle.wf_table.specs.Spots.{Spot, part_at, part_list, part_body, steps_by, entries_by, from}
-use Rattle.wf_table.specs.Table.{Resolves, list_at}
-use Rattle.wf_table.specs.declared.node.Node.{Node}
+use Rattle.wf_nodes.specs.Kinds.{Listed}
+use Rattle.wf_nodes.specs.Spots.{Spot, part_at, part_list, part_body, steps_by, entries_by, from}
+use Rattle.wf_nodes.specs.Table.{Resolves, list_at}
+use Rattle.wf_nodes.specs.declared.node.Node.{Node}
 use Rattle.wf_value.specs.Data.{Data}
 
 -- ## One frame

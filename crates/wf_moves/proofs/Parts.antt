@@ -10,14 +10,14 @@ use Rattle.wf_frames.specs.Fits.{IsLoop, entries_at, has_next, kind_entries, out
 use Rattle.wf_frames.specs.Frames.{body_entries}
 use Rattle.wf_moves.specs.Built.{Tells, is_node_built, is_table_built, kind_built}
 use Rattle.wf_shapes.specs.Built.{are_built}
-use Rattle.wf_table.specs.Kinds as view
-use Rattle.wf_table.specs.Kinds.{Handler, Kind, Listed, Repeated, Side, View, block_view, kind_by, node_view}
-use Rattle.wf_table.specs.Spots.{Spot, entries_by, owners_at, part_at, part_body, part_list, steps_by}
-use Rattle.wf_table.specs.Table.{AreBelow, ListStands, Resolves, StandIn, handler_list, kind_list, list_at, outside, part_by, side_list, view_list}
-use Rattle.wf_table.specs.declared.node.LoopNode.{LoopNode}
-use Rattle.wf_table.specs.declared.node.Node.{Node}
-use Rattle.wf_table.specs.declared.node.NodeKind.{NodeKind}
-use Rattle.wf_table.specs.declared.node.NodeKind.TheVariants as kind
+use Rattle.wf_nodes.specs.Kinds as view
+use Rattle.wf_nodes.specs.Kinds.{Handler, Kind, Listed, Repeated, Side, View, block_view, kind_by, node_view}
+use Rattle.wf_nodes.specs.Spots.{Spot, entries_by, owners_at, part_at, part_body, part_list, steps_by}
+use Rattle.wf_nodes.specs.Table.{AreBelow, ListStands, Resolves, StandIn, handler_list, kind_list, list_at, outside, part_by, side_list, view_list}
+use Rattle.wf_nodes.specs.declared.node.LoopNode.{LoopNode}
+use Rattle.wf_nodes.specs.declared.node.Node.{Node}
+use Rattle.wf_nodes.specs.declared.node.NodeKind.{NodeKind}
+use Rattle.wf_nodes.specs.declared.node.NodeKind.TheVariants as kind
 use Rattle.wf_value.specs.Pairs.{Text}
 
 -- the node that stands at a number

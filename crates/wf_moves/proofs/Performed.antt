@@ -1,17 +1,17 @@
 -- What a body does to the frames.
 use Rattle.std.proofs.Common.{◌≡◌, ℕ, ◌<◌, ◌≤◌, get_or, arith, Bool, true, false, List, [], ◌∷◌, length, drop, Ok, Err, Some, None, refl, sym, ap, subst, ◌∙◌}
 use Rattle.std.specs.Prelude.{zero, suc, Result, Option, IfOk, unwrap_or}
-use Rattle.wf_table.specs.Kinds.{kind_by}
-use Rattle.wf_table.specs.Shapes.{Compiled}
-use Rattle.wf_table.specs.Table.{part_by}
-use Rattle.wf_table.specs.declared.node.CallNode.{CallNode}
-use Rattle.wf_table.specs.declared.node.ParallelNode.{ParallelNode}
-use Rattle.wf_table.specs.declared.node.TryNode.{TryNode}
-use Rattle.wf_table.specs.declared.shape.Shape.{Shape}
-use Rattle.wf_table.specs.declared.node.NodeKind.{NodeKind}
-use Rattle.wf_table.specs.declared.node.NodeKind.TheVariants as kind
-use Rattle.wf_table.specs.declared.node.Block.{Block}
-use Rattle.wf_table.specs.declared.node.LoopNode.{LoopNode}
+use Rattle.wf_nodes.specs.Kinds.{kind_by}
+use Rattle.wf_nodes.specs.Shapes.{Compiled}
+use Rattle.wf_nodes.specs.Table.{part_by}
+use Rattle.wf_nodes.specs.declared.node.CallNode.{CallNode}
+use Rattle.wf_nodes.specs.declared.node.ParallelNode.{ParallelNode}
+use Rattle.wf_nodes.specs.declared.node.TryNode.{TryNode}
+use Rattle.wf_nodes.specs.declared.shape.Shape.{Shape}
+use Rattle.wf_nodes.specs.declared.node.NodeKind.{NodeKind}
+use Rattle.wf_nodes.specs.declared.node.NodeKind.TheVariants as kind
+use Rattle.wf_nodes.specs.declared.node.Block.{Block}
+use Rattle.wf_nodes.specs.declared.node.LoopNode.{LoopNode}
 use Rattle.std.specs.Prelude.{Vec}
 use Rattle.std.specs.declared.alloc.Global.{Global}
 use Rattle.wf_ast.specs.Apply.{View}
@@ -19,7 +19,7 @@ use Rattle.wf_ast.specs.Tree.{Body, Template, Entry, Over, Steps, Arms, loop}
 use Rattle.wf_eval.specs.Answers.{Answers}
 use Rattle.wf_moves.proofs.Evaluated.{gave, failed, raised_error}
 use Rattle.wf_frames.specs.Frames.{body_entries, body_loop, control, item, left_view}
-use Rattle.wf_table.specs.Spots.{Spot, BodyAt, Part, part_at, part_body, part_next, part_list, part_entry, arms_by, entries_by, from}
+use Rattle.wf_nodes.specs.Spots.{Spot, BodyAt, Part, part_at, part_body, part_next, part_list, part_entry, arms_by, entries_by, from}
 use Rattle.wf_moves.specs.Steps.{Fails, Performs, CarriesOut, ReturnsValue, RaisesValue, arm_in, come, is_idle_kind}
 use Rattle.wf_frames.specs.declared.frames.Frame.{Frame}
 use Rattle.wf_frames.specs.declared.frames.Frame.TheVariants as frame

@@ -5,10 +5,10 @@ use Rattle.wf_frames.specs.declared.frames.Frame.{Frame}
 use Rattle.wf_frames.specs.declared.frames.Frame.TheVariants as frame
 use Rattle.wf_moves.specs.Moved.{IsGoing}
 use Rattle.wf_moves.specs.Tasks.{IsFlow}
-use Rattle.wf_table.specs.Kinds.{Kind}
-use Rattle.wf_table.specs.Spots.{Spot, owners_at}
-use Rattle.wf_table.specs.Table.{kind_list, list_at, outside, view_list}
-use Rattle.wf_table.specs.declared.node.Node.{Node}
+use Rattle.wf_nodes.specs.Kinds.{Kind}
+use Rattle.wf_nodes.specs.Spots.{Spot, owners_at}
+use Rattle.wf_nodes.specs.Table.{kind_list, list_at, outside, view_list}
+use Rattle.wf_nodes.specs.declared.node.Node.{Node}
 
 flow_list : (nodes : List Node) (n : ℕ) (f : IsFlow nodes n) → list_at nodes n ≡ Some f.list
 flow_list nodes n f = ap view_list f.at ∙ ap kind_list f.is

@@ -24,13 +24,13 @@ use Rattle.wf_scope.specs.Layers.{total_of}
 use Rattle.wf_scope.specs.Tasks.{Own}
 use Rattle.wf_scope.specs.declared.layer.Layer.{Layer}
 use Rattle.wf_moves.specs.declared.finish.Went.{Went}
-use Rattle.wf_table.specs.Kinds.{block_view, kind_by, node_view, over_by}
-use Rattle.wf_table.specs.Spots.{Spot, BodyAt, Part, owners_at, part_at, part_body, part_list, steps_by}
-use Rattle.wf_table.specs.Table.{Resolves, kind_list, list_at, outside}
-use Rattle.wf_table.specs.declared.node.LoopNode.{LoopNode}
-use Rattle.wf_table.specs.declared.node.Node.{Node}
-use Rattle.wf_table.specs.declared.node.NodeKind.{NodeKind}
-use Rattle.wf_table.specs.declared.node.NodeKind.TheVariants as kind
+use Rattle.wf_nodes.specs.Kinds.{block_view, kind_by, node_view, over_by}
+use Rattle.wf_nodes.specs.Spots.{Spot, BodyAt, Part, owners_at, part_at, part_body, part_list, steps_by}
+use Rattle.wf_nodes.specs.Table.{Resolves, kind_list, list_at, outside}
+use Rattle.wf_nodes.specs.declared.node.LoopNode.{LoopNode}
+use Rattle.wf_nodes.specs.declared.node.Node.{Node}
+use Rattle.wf_nodes.specs.declared.node.NodeKind.{NodeKind}
+use Rattle.wf_nodes.specs.declared.node.NodeKind.TheVariants as kind
 use Rattle.wf_value.specs.Data.{Data}
 use Rattle.wf_value.specs.Errors.{error_map}
 use Rattle.wf_value.specs.Pairs.{Text}

@@ -4,11 +4,11 @@
 use Rattle.std.specs.Prelude.{◌≡◌, ℕ, Bool, true, false, List, slice_get, Some}
 use Rattle.std.specs.List.{list_all}
 use Rattle.wf_shapes.specs.Built.{are_built}
-use Rattle.wf_table.specs.Spots.{Spot, part_at, part_next}
-use Rattle.wf_table.specs.Table.{Resolves}
-use Rattle.wf_table.specs.declared.node.Node.{Node}
-use Rattle.wf_table.specs.declared.node.NodeKind.{NodeKind}
-use Rattle.wf_table.specs.declared.node.NodeKind.TheVariants as kind
+use Rattle.wf_nodes.specs.Spots.{Spot, part_at, part_next}
+use Rattle.wf_nodes.specs.Table.{Resolves}
+use Rattle.wf_nodes.specs.declared.node.Node.{Node}
+use Rattle.wf_nodes.specs.declared.node.NodeKind.{NodeKind}
+use Rattle.wf_nodes.specs.declared.node.NodeKind.TheVariants as kind
 
 abbrev pub kind_built : NodeKind → Bool → Bool
 kind_built (kind.Call f) b = false

@@ -16,11 +16,11 @@ use Rattle.wf_moves.specs.declared.finish.End.{End}
 use Rattle.wf_moves.specs.declared.finish.End.TheVariants as end
 use Rattle.wf_moves.specs.declared.finish.Went.{Went}
 use Rattle.wf_moves.specs.declared.finish.Went.TheVariants as went
-use Rattle.wf_table.specs.Kinds.{Listed}
-use Rattle.wf_table.specs.Spots.{Spot}
-use Rattle.wf_table.specs.Table.{list_at}
-use Rattle.wf_table.specs.declared.node.Jump.{Jump}
-use Rattle.wf_table.specs.declared.node.Node.{Node}
+use Rattle.wf_nodes.specs.Kinds.{Listed}
+use Rattle.wf_nodes.specs.Spots.{Spot}
+use Rattle.wf_nodes.specs.Table.{list_at}
+use Rattle.wf_nodes.specs.declared.node.Jump.{Jump}
+use Rattle.wf_nodes.specs.declared.node.Node.{Node}
 use Rattle.wf_value.specs.Pairs.{Text}
 use Rattle.wf_value.specs.Plain.{plain}
 

@@ -18,12 +18,12 @@ use Rattle.wf_model.specs.Local.{Local, Scene, Moved, goes}
 use Rattle.wf_model.specs.Move.{assigns, moves, performs, steps_on}
 use Rattle.wf_moves.specs.declared.step.Step.{Step}
 use Rattle.wf_moves.specs.declared.step.Step.TheVariants as step
-use Rattle.wf_table.specs.Kinds.{Listed}
-use Rattle.wf_table.specs.Spots.{Spot, owners_at, part_at, part_body, part_condition, part_entry, part_next}
-use Rattle.wf_table.specs.Table.{list_at}
-use Rattle.wf_table.specs.declared.node.Node.{Node}
-use Rattle.wf_table.specs.declared.node.NodeKind.{NodeKind}
-use Rattle.wf_table.specs.declared.node.NodeKind.TheVariants as kind
+use Rattle.wf_nodes.specs.Kinds.{Listed}
+use Rattle.wf_nodes.specs.Spots.{Spot, owners_at, part_at, part_body, part_condition, part_entry, part_next}
+use Rattle.wf_nodes.specs.Table.{list_at}
+use Rattle.wf_nodes.specs.declared.node.Node.{Node}
+use Rattle.wf_nodes.specs.declared.node.NodeKind.{NodeKind}
+use Rattle.wf_nodes.specs.declared.node.NodeKind.TheVariants as kind
 use Rattle.wf_value.specs.Data.{Data}
 use Rattle.wf_value.specs.Errors.{error_map, Answer, ◌>>=◌}
 use Rattle.wf_value.specs.Pairs.{Text}

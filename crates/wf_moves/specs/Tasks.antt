@@ -8,9 +8,9 @@ use Rattle.wf_moves.specs.declared.finish.Went.{Went}
 use Rattle.wf_moves.specs.declared.finish.Went.TheVariants as went
 use Rattle.wf_moves.specs.declared.task.Move.{Move}
 use Rattle.wf_moves.specs.declared.task.Move.TheVariants as move
-use Rattle.wf_table.specs.Kinds as kind
-use Rattle.wf_table.specs.Kinds.{Listed, View}
-use Rattle.wf_table.specs.declared.node.Node.{Node}
+use Rattle.wf_nodes.specs.Kinds as kind
+use Rattle.wf_nodes.specs.Kinds.{Listed, View}
+use Rattle.wf_nodes.specs.declared.node.Node.{Node}
 use Rattle.wf_value.specs.Pairs.{Text}
 
 -- the node is a workflow with a step

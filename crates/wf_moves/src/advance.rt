@@ -8,14 +8,14 @@ ghost use Rattle.wf_frames.specs.Owned.{own_of};
 ghost use Rattle.wf_frames.specs.declared.frames.Frame.TheVariants as frame;
 ghost use Rattle.wf_moves.specs.Built.{Tells};
 ghost use Rattle.wf_moves.specs.Steps.{HasStep, IsBefore, IsBeforeEntry, IsReady, Moves};
-ghost use Rattle.wf_table.specs.Spots.{Spot, owners_at};
+ghost use Rattle.wf_nodes.specs.Spots.{Spot, owners_at};
 
 use crate::nodes::{block, entries};
 use crate::step::{Step, carry_out};
 use std::alloc::Global;
 use wf_eval::Look;
 use wf_frames::{Frame, Frames};
-use wf_table::Node;
+use wf_nodes::Node;
 use wf_value::OutOfMemory;
 
 // The next step of a list. Its frame was taken.
@@ -66,12 +66,7 @@ fn lone_step<K: Look>(
 }
 
 // The next entry of an assign. Its frame was taken.
-fn entry_step(
-    nodes: &[Node],
-    n: u32,
-    at: usize,
-    frames: &mut Frames,
-) -> Result<Step, OutOfMemory>
+fn entry_step(nodes: &[Node], n: u32, at: usize, frames: &mut Frames) -> Result<Step, OutOfMemory>
     ghost ns: { List Spot }
     requires tells { Tells ns nodes.now }
     requires before { IsBeforeEntry nodes.now n at }

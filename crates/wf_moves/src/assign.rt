@@ -16,8 +16,8 @@ ghost use Rattle.wf_moves.specs.Assigned.{entry_values, values_of};
 ghost use Rattle.wf_moves.specs.Built.{Tells};
 ghost use Rattle.wf_moves.specs.Moved.{IsMove, IsSettled};
 ghost use Rattle.wf_shapes.specs.Built.{are_built};
-ghost use Rattle.wf_table.specs.Kinds.{entry_by};
-ghost use Rattle.wf_table.specs.Spots.{part_at, part_entry};
+ghost use Rattle.wf_nodes.specs.Kinds.{entry_by};
+ghost use Rattle.wf_nodes.specs.Spots.{part_at, part_entry};
 ghost use Rattle.wf_value.specs.Errors.{error_map};
 ghost use Rattle.wf_value.specs.declared.Raise.TheVariants as raised;
 ghost use Rattle.wf_value.specs.declared.Tag.{Tag};
@@ -28,10 +28,10 @@ use crate::step::map_of;
 use std::alloc::Global;
 use wf_eval::Look;
 use wf_frames::{Facts, Frames, assign as put, seen};
+use wf_nodes::{EntryNode, Node, NodeKind};
 use wf_postfix::Postfix;
 use wf_scope::Scopes;
 use wf_shapes::{fill_shape, values};
-use wf_table::{EntryNode, Node, NodeKind};
 use wf_value::{OutOfMemory, Raise, Text, Value};
 
 // The value of an assignment, and those of the places of its target.

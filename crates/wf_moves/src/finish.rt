@@ -11,14 +11,14 @@ ghost use Rattle.wf_model.specs.Local as local;
 ghost use Rattle.wf_model.specs.Unwind.{unwind, to_back, AtEnd};
 ghost use Rattle.wf_moves.specs.Built.{Tells};
 ghost use Rattle.wf_moves.specs.Moved.{HasMove, IsMove, IsSettled, Settled};
-ghost use Rattle.wf_table.specs.Spots.{Spot};
+ghost use Rattle.wf_nodes.specs.Spots.{Spot};
 ghost use Rattle.wf_value.specs.Data.{Data};
 ghost use Rattle.wf_value.specs.Plain.{plain};
 
 use crate::nodes::{block, entries};
 use wf_frames::{Frame, Frames, leave};
+use wf_nodes::Node;
 use wf_scope::Scopes;
-use wf_table::Node;
 use wf_value::Value;
 
 /// How a task has ended.

@@ -12,16 +12,16 @@ ghost use Rattle.wf_model.specs.Unwind as found;
 ghost use Rattle.wf_moves.specs.Built.{Tells};
 ghost use Rattle.wf_moves.specs.Moved.{FoundIn, IsLoopTop, IsMove, IsSettled, is_loop, loop_found, target};
 ghost use Rattle.wf_moves.specs.Steps.{IsJump};
-ghost use Rattle.wf_table.specs.Spots.{part_at, part_next};
-ghost use Rattle.wf_table.specs.Table.{Leads, list_at};
-ghost use Rattle.wf_table.specs.declared.node.Node.{Node};
+ghost use Rattle.wf_nodes.specs.Spots.{part_at, part_next};
+ghost use Rattle.wf_nodes.specs.Table.{Leads, list_at};
+ghost use Rattle.wf_nodes.specs.declared.node.Node.{Node};
 ghost use Rattle.wf_value.specs.Pairs.{Text};
 
 use crate::finish::{Went, goes, returns};
 use crate::nodes::block;
 use wf_frames::{Frame, Frames, leave};
+use wf_nodes::{Jump, Node};
 use wf_scope::Scopes;
-use wf_table::{Jump, Node};
 use wf_value::{OutOfMemory, Value};
 
 // Where a number stands among others, if it does.

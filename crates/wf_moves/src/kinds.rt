@@ -8,16 +8,16 @@ ghost use Rattle.wf_model.specs.Kinds.{arms_now, body_kind, by_clock, entry_now,
 ghost use Rattle.wf_moves.specs.Built.{Tells};
 ghost use Rattle.wf_moves.specs.Kinds.{kind_view};
 ghost use Rattle.wf_moves.specs.Steps.{Within};
-ghost use Rattle.wf_table.specs.Kinds.{entry_by, over_by};
-ghost use Rattle.wf_table.specs.Shapes.{shape_by};
-ghost use Rattle.wf_table.specs.Spots.{Spot, arms_by, entries_by, part_at, part_body, part_condition, part_entry};
-ghost use Rattle.wf_table.specs.Table.{AreBelow, ArmsStandIn};
+ghost use Rattle.wf_nodes.specs.Kinds.{entry_by, over_by};
+ghost use Rattle.wf_nodes.specs.Shapes.{shape_by};
+ghost use Rattle.wf_nodes.specs.Spots.{Spot, arms_by, entries_by, part_at, part_body, part_condition, part_entry};
+ghost use Rattle.wf_nodes.specs.Table.{AreBelow, ArmsStandIn};
 
 use crate::nodes::{block, entries, first_of};
 use wf_frames::Frame;
+use wf_nodes::{EntryNode, Node, NodeKind, OverShape};
 use wf_postfix::Postfix;
 use wf_shapes::{is_clock_among, is_clock_in};
-use wf_table::{EntryNode, Node, NodeKind, OverShape};
 
 /// The event that a move wants: a plain one, one with a reading of the clock, or one that makes a request.
 #[derive(Debug, Clone, Copy, PartialEq, Eq)]

@@ -21,8 +21,8 @@ use crate::step::Step;
 use crate::turn::turn;
 use std::alloc::Global;
 use wf_frames::{Facts, Frame, Frames, seen};
+use wf_nodes::Node;
 use wf_scope::Scopes;
-use wf_table::Node;
 use wf_value::OutOfMemory;
 
 // What is left of a step, beside its frames.
@@ -74,7 +74,16 @@ pub(crate) fn advance(
     };
     match frame {
         Frame::Loop(n, left, index) => {
-            turn(alloc, nodes, n, loop_node(nodes, n), left, index, frames, scopes)
+            turn(
+                alloc,
+                nodes,
+                n,
+                loop_node(nodes, n),
+                left,
+                index,
+                frames,
+                scopes,
+            )
         }
         frame => {
             let look = seen(frames, scopes, facts);

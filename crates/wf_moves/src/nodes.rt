@@ -2,13 +2,13 @@
 ghost use Rattle.std.specs.Prelude.{◌≡◌, Some, is_some, take, true};
 ghost use Rattle.wf_frames.specs.Fits.{IsLoop, entries_at};
 ghost use Rattle.wf_moves.specs.Built.{is_node_built, is_table_built};
-ghost use Rattle.wf_table.specs.Kinds.{block_view};
-ghost use Rattle.wf_table.specs.Table.{list_at};
-ghost use Rattle.wf_table.specs.declared.node.LoopNode as loop_node;
+ghost use Rattle.wf_nodes.specs.Kinds.{block_view};
+ghost use Rattle.wf_nodes.specs.Table.{list_at};
+ghost use Rattle.wf_nodes.specs.declared.node.LoopNode as loop_node;
 
+use wf_nodes::{Block, LoopNode, Node, NodeKind};
 use wf_postfix::Postfix;
 use wf_shapes::are_codes_built;
-use wf_table::{Block, LoopNode, Node, NodeKind};
 
 /// Whether moves over this table are built: it has no call, no `try` and no parallel step, and calls only functions that are built.
 pub fn are_built(nodes: &[Node]) -> bool

@@ -11,15 +11,15 @@ ghost use Rattle.wf_model.specs.Local.{Scene};
 ghost use Rattle.wf_model.specs.Move.{move};
 ghost use Rattle.wf_moves.specs.Built.{Tells};
 ghost use Rattle.wf_moves.specs.Moved.{IsGoing, IsSettled};
-ghost use Rattle.wf_table.specs.Spots.{part_at, part_list};
+ghost use Rattle.wf_nodes.specs.Spots.{part_at, part_list};
 
 use crate::finish::{End, Went};
 use crate::kinds::{Kind, frame_kind};
 use crate::moves::advance;
 use std::alloc::Global;
 use wf_frames::{Facts, Frame, Frames};
+use wf_nodes::Node;
 use wf_scope::{Chain, Scopes};
-use wf_table::Node;
 use wf_value::OutOfMemory;
 
 /// What a move has done.
@@ -45,12 +45,7 @@ impl Task {
     ghost use Rattle.wf_moves.specs.Tasks.{IsFlow, MovesSo};
 
     /// A task that stands before the first step of a workflow, whose node has this number. Its variables are those of a layer.
-    pub fn new(
-        alloc: Global,
-        nodes: &[Node],
-        flow: u32,
-        layer: Chain,
-    ) -> Result<Task, OutOfMemory>
+    pub fn new(alloc: Global, nodes: &[Node], flow: u32, layer: Chain) -> Result<Task, OutOfMemory>
         ghost around: { Around }
         requires tells { Tells around.spots nodes.now }
         requires start { IsFlow nodes.now flow }

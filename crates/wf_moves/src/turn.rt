@@ -18,8 +18,8 @@ use crate::finish::{Went, goes, raises};
 use crate::step::map_of;
 use std::alloc::Global;
 use wf_frames::{Frame, Frames, Left, enter};
+use wf_nodes::{LoopNode, Node};
 use wf_scope::Scopes;
-use wf_table::{LoopNode, Node};
 use wf_value::{List, OutOfMemory, Tag, Value};
 
 // No execution makes so many iterations; an index below it is a whole number of the language.

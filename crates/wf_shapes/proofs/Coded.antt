@@ -11,9 +11,9 @@ use Rattle.wf_postfix.specs.Instrs.{instrs}
 use Rattle.wf_postfix.specs.Machine.{code}
 use Rattle.wf_postfix.specs.declared.code.Instr.{Instr}
 use Rattle.wf_shapes.specs.Built.{are_built, is_code_built}
-use Rattle.wf_table.proofs.Decoding.{decoded_code}
-use Rattle.wf_table.specs.Decoded.{decode}
-use Rattle.wf_table.specs.Shapes.{Compiled, decoded, expr_of, hole_by}
+use Rattle.wf_nodes.proofs.Decoding.{decoded_code}
+use Rattle.wf_nodes.specs.Decoded.{decode}
+use Rattle.wf_nodes.specs.Shapes.{Compiled, decoded, expr_of, hole_by}
 use Rattle.wf_value.specs.Data.{Data}
 use Rattle.wf_value.specs.Errors.{Answer, ◌>>=◌}
 use Rattle.wf_value.specs.Plain.{plain}

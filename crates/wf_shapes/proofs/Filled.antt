@@ -8,13 +8,13 @@ use Rattle.wf_ast.specs.Tree as t
 use Rattle.wf_ast.specs.Tree.{templates, fields}
 use Rattle.wf_eval.proofs.Filled.{onto, onto_last, onto_none, put_last, height, heights, field_heights}
 use Rattle.wf_eval.specs.Answers.{Answers, Gives, GivesText, kept_list, kept_map, put_all}
-use Rattle.wf_table.proofs.Views.{view_list, view_map}
-use Rattle.wf_table.specs.Shapes.{Compiled, named_by, named_list, shape_by, shape_list}
-use Rattle.wf_table.specs.declared.shape.NamedShape.{NamedShape}
-use Rattle.wf_table.specs.declared.shape.NamedShapes.{NamedShapes}
-use Rattle.wf_table.specs.declared.shape.Shape.{Shape, Map}
-use Rattle.wf_table.specs.declared.shape.Shape.TheViews as shape
-use Rattle.wf_table.specs.declared.shape.Shapes.{Shapes}
+use Rattle.wf_nodes.proofs.Views.{view_list, view_map}
+use Rattle.wf_nodes.specs.Shapes.{Compiled, named_by, named_list, shape_by, shape_list}
+use Rattle.wf_nodes.specs.declared.shape.NamedShape.{NamedShape}
+use Rattle.wf_nodes.specs.declared.shape.NamedShapes.{NamedShapes}
+use Rattle.wf_nodes.specs.declared.shape.Shape.{Shape, Map}
+use Rattle.wf_nodes.specs.declared.shape.Shape.TheViews as shape
+use Rattle.wf_nodes.specs.declared.shape.Shapes.{Shapes}
 use Rattle.wf_value.specs.Data.{Data, Items, item, Pairs, items_of}
 use Rattle.wf_value.specs.Errors.{Answer, ◌>>=◌}
 use Rattle.wf_value.specs.Pairs.{Text, put}

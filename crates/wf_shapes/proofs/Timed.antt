@@ -10,16 +10,16 @@ use Rattle.wf_postfix.specs.Machine.{Instr, and_skip, call, check, code, all_cod
 use Rattle.wf_postfix.specs.declared.code.Instr as declared
 use Rattle.wf_shapes.proofs.Coded.{coded, next}
 use Rattle.wf_shapes.specs.Clocks.{any_now, call_now}
-use Rattle.wf_table.proofs.Decoding.{decoded_code}
-use Rattle.wf_table.proofs.Views.{view_list, view_map}
-use Rattle.wf_table.specs.Decoded.{decode}
-use Rattle.wf_table.specs.Shapes.{Compiled, decoded, named_by, named_list, piece_by, shape_by, shape_list}
-use Rattle.wf_table.specs.declared.shape.NamedShape.{NamedShape}
-use Rattle.wf_table.specs.declared.shape.NamedShapes.{NamedShapes}
-use Rattle.wf_table.specs.declared.shape.Piece.{Piece}
-use Rattle.wf_table.specs.declared.shape.Shape.{Shape, Map}
-use Rattle.wf_table.specs.declared.shape.Shape.TheViews as shape
-use Rattle.wf_table.specs.declared.shape.Shapes.{Shapes}
+use Rattle.wf_nodes.proofs.Decoding.{decoded_code}
+use Rattle.wf_nodes.proofs.Views.{view_list, view_map}
+use Rattle.wf_nodes.specs.Decoded.{decode}
+use Rattle.wf_nodes.specs.Shapes.{Compiled, decoded, named_by, named_list, piece_by, shape_by, shape_list}
+use Rattle.wf_nodes.specs.declared.shape.NamedShape.{NamedShape}
+use Rattle.wf_nodes.specs.declared.shape.NamedShapes.{NamedShapes}
+use Rattle.wf_nodes.specs.declared.shape.Piece.{Piece}
+use Rattle.wf_nodes.specs.declared.shape.Shape.{Shape, Map}
+use Rattle.wf_nodes.specs.declared.shape.Shape.TheViews as shape
+use Rattle.wf_nodes.specs.declared.shape.Shapes.{Shapes}
 
 or_assoc : (a b c : Bool) → a || (b || c) ≡ (a || b) || c
 or_assoc true b c = refl

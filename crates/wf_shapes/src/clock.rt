@@ -5,11 +5,11 @@ ghost use Rattle.wf_ast.specs.Tree.{exprs, fields, templates};
 ghost use Rattle.wf_model.specs.Kinds.{expr_now, exprs_now, fields_now, is_now, parts_now, template_now, templates_now};
 ghost use Rattle.wf_postfix.specs.Instrs.{instr};
 ghost use Rattle.wf_shapes.specs.Clocks.{call_now};
-ghost use Rattle.wf_table.specs.Shapes.{decoded, hole_by, named_by, piece_by, shape_by};
+ghost use Rattle.wf_nodes.specs.Shapes.{decoded, hole_by, named_by, piece_by, shape_by};
 
 use wf_ast::Func;
+use wf_nodes::{NamedShape, Piece, Shape};
 use wf_postfix::{Instr, Postfix};
-use wf_table::{NamedShape, Piece, Shape};
 
 /// Whether a shape names the clock, with the compiled expressions of its node.
 #[cycle(clock)]

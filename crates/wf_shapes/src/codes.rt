@@ -5,7 +5,7 @@ ghost use Rattle.wf_ast.specs.Tree.{exprs};
 ghost use Rattle.wf_eval.specs.Answers.{Answers, Gives};
 ghost use Rattle.wf_eval.specs.Sight.{seen};
 ghost use Rattle.wf_shapes.specs.Built.{are_built, is_code_built};
-ghost use Rattle.wf_table.specs.Shapes.{decoded, hole_by};
+ghost use Rattle.wf_nodes.specs.Shapes.{decoded, hole_by};
 ghost use Rattle.wf_value.specs.Plain.{plain};
 
 use std::alloc::Global;

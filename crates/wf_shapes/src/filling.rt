@@ -9,13 +9,13 @@ ghost use Rattle.wf_ast.specs.Tree.{templates, fields};
 ghost use Rattle.wf_eval.specs.Answers.{Answers, Gives, GivesText, kept_list, kept_map, put_all};
 ghost use Rattle.wf_eval.specs.Sight.{seen};
 ghost use Rattle.wf_shapes.specs.Built.{are_built};
-ghost use Rattle.wf_table.specs.Shapes.{named_by, piece_by, shape_by};
+ghost use Rattle.wf_nodes.specs.Shapes.{named_by, piece_by, shape_by};
 
 use crate::codes::value_at;
 use std::alloc::Global;
 use wf_eval::{Look, copied, keep, map_of, owned, shown};
+use wf_nodes::{NamedShape, Piece, Shape};
 use wf_postfix::Postfix;
-use wf_table::{NamedShape, Piece, Shape};
 use wf_value::{List, Raise, Text, Value};
 
 /// The value of the template that a shape stands for with the compiled expressions of its node, or its first error: members of lists in

@@ -8,5 +8,5 @@ mod filling;
 
 pub use built::are_codes_built;
 pub use clock::{is_clock_among, is_clock_in};
-pub use codes::{values, value_at};
+pub use codes::{value_at, values};
 pub use filling::fill_shape;

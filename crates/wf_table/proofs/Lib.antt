@@ -1,6 +1,4 @@
 pub mod Adding
-pub mod Compiling
-pub mod Decoding
 pub mod Forms
 pub mod Found
 pub mod Going
@@ -12,4 +10,3 @@ pub mod Naming
 pub mod Sizes
 pub mod Sound
 pub mod Tabled
-pub mod Views

@@ -1,10 +1,4 @@
 pub mod Built
-pub mod Compiles
-pub mod Decoded
-pub mod Kinds
 pub mod Made
 pub mod Named
 pub mod Preorder
-pub mod Shapes
-pub mod Spots
-pub mod Table

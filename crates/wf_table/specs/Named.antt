@@ -3,9 +3,9 @@ use Rattle.std.specs.Prelude.{◌≡◌, ℕ, Bool, true, false, List, [], ◌�
 use Rattle.std.specs.BTreeMap.{get_by_text}
 use Rattle.wf_shared.specs.HttpUrl.{first_of_two}
 use Rattle.wf_value.specs.Pairs.{Text}
-use Rattle.wf_table.specs.Kinds.{Kind, Listed, View}
-use Rattle.wf_table.specs.Kinds as kind
-use Rattle.wf_table.specs.Table.{list_at}
+use Rattle.wf_nodes.specs.Kinds.{Kind, Listed, View, is_left}
+use Rattle.wf_nodes.specs.Kinds as kind
+use Rattle.wf_nodes.specs.Table.{list_at}
 use Rattle.wf_table.specs.declared.names.Names.{Names}
 
 -- the number of a name
@@ -36,12 +36,6 @@ depth_of (Some b) = b.depth
 -- these have the names of the steps of each node's list
 abbrev pub Finds : List View → List Names → Type 0
 Finds views lists = (n : ℕ) (names : Names) → slice_get lists n ≡ Some names → (x : Text) → number_of names x ≡ first_named views x (numbers_of (list_at views n))
-
--- whether a jump leads out of the list that a node of this kind owns
-abbrev pub is_left : Kind → Bool
-is_left (kind.Block b) = true
-is_left (kind.Try n policy x) = true
-is_left k = false
 
 -- whose list a jump may reach from a node's own list
 abbrev pub owner_outside : Kind → Option ℕ → Option ℕ

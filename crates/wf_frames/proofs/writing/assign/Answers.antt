@@ -18,7 +18,9 @@ returns-in-None-clause-written g c s agrees =
     let x = c.args.scopes.now in
     let name = c.as_str.result.now in
     let h = held_by g.around c.args.frames.now x in
-    subst (λ (n : Text). Writes s (Some c.fault_of.result) h n (plain_items c.args.places.now) (plain c.args.value) h) c.as_str.ensures
-    (refl, inr (refused_walk s name (plain_items c.args.places.now) (plain c.args.value) c.fault_of.result (standing [] h)
-    (ap (λ o. changed o (plain_items c.args.places.now) (plain c.args.value)) (sym (c.look.ensures ∙ looks_so g.around c.args.frames.now.first (inner c.args.frames.now) x c.layer.result.number c.requires c.layer.ensures x.standing name))
-    ∙ c.fault_of.ensures (plain c.args.value))))
+    subst (λ (n : Text). Writes s (Some c.fault_of.result) h n (plain_items c.args.places.now) (plain c.args.value) h) c.as_str.ensures (
+      refl,
+      inr (refused_walk s name (plain_items c.args.places.now) (plain c.args.value) c.fault_of.result (standing [] h)
+          (ap (λ o. changed o (plain_items c.args.places.now) (plain c.args.value)) (sym (c.look.ensures ∙ looks_so g.around c.args.frames.now.first (inner c.args.frames.now) x c.layer.result.number c.requires c.layer.ensures x.standing name))
+          ∙ c.fault_of.ensures (plain c.args.value))),
+    )

@@ -5,7 +5,7 @@ use Rattle.wf_frames.specs.Fits.{HasNode}
 use Rattle.wf_frames.specs.declared.frames.Frame.TheVariants as frame
 use Rattle.wf_moves.proofs.Leaving.{do_has, do_settled, entries_have, entries_settled, has_entries, has_list}
 use Rattle.wf_moves.specs.Moved.{HasMove, Settled}
-use Rattle.wf_table.specs.Kinds.{block_view}
+use Rattle.wf_nodes.specs.Kinds.{block_view}
 use Rattle.wf_moves.proofs.finish.is_ended.Goals as goal
 
 pub block-requires-clause-list : goal.block-requires-clause-list

@@ -27,8 +27,8 @@ returns-clause-stands g c =
     let need = c.requires.1.1 in
     record {
       fits = subst (Fits g.around.spots c.args.nodes.now) (sym c.in_ok-push.ensures.pushed)
-      (before_fits g.around.spots c.args.nodes.now need.0 c.args.jump c.in-Some.list c.place_of.result _ c.as_slice.result.now (inner c.args.frames.now) (inner mid)
-      (held_by g.around c.args.frames.now c.args.scopes.now) (held_by g.around mid c.leave_to.new.scopes) (c.in-Some.ensures.found need.0 need.1) c.block.ensures c.as_slice.ensures.value c.place_of.ensures c.in-Some.ensures.inside c.in-Some.ensures.stands.fits);
+          (before_fits g.around.spots c.args.nodes.now need.0 c.args.jump c.in-Some.list c.place_of.result _ c.as_slice.result.now (inner c.args.frames.now) (inner mid)
+          (held_by g.around c.args.frames.now c.args.scopes.now) (held_by g.around mid c.leave_to.new.scopes) (c.in-Some.ensures.found need.0 need.1) c.block.ensures c.as_slice.ensures.value c.place_of.ensures c.in-Some.ensures.inside c.in-Some.ensures.stands.fits);
       linked = subst (λ os. IsLinked g.around os c.leave_to.new.scopes) (sym same) c.in-Some.ensures.stands.linked;
     }
 

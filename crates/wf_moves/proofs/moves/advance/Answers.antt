@@ -37,5 +37,5 @@ returns-in-Loop-clause-moved g c =
     let fs = c.in-Some.ensures.popped ∙ ap (λ f. f ∷ inner c.pop.new.self) c.in-Loop.is in
     with_ok _ _ c.turn.result
     (λ w h s d sees agrees. moved_same g.around s (own_of c.args.frames.now) (own_of c.pop.new.self) (layers_of c.args.scopes.now) own d (inner c.args.frames.now) (frame.Loop c.in-Loop.n c.in-Loop.left c.in-Loop.index ∷ inner c.pop.new.self) w (local_of g.around c.turn.new.frames c.turn.new.scopes) fs
-      (h s d (agrees_same g.around s (own_of c.args.frames.now) (own_of c.pop.new.self) (layers_of c.args.scopes.now) own agrees)))
+    (h s d (agrees_same g.around s (own_of c.args.frames.now) (own_of c.pop.new.self) (layers_of c.args.scopes.now) own agrees)))
     c.turn.ensures.moved

@@ -8,7 +8,7 @@ use Rattle.wf_moves.proofs.Fitting.{jump_ready, then_fits}
 use Rattle.wf_moves.proofs.Parts.{node_at, part_is}
 use Rattle.wf_moves.proofs.Performed.{carries_beside, carries_jump, carries_plainly, with_ok}
 use Rattle.wf_moves.specs.Steps.{CarriesOut, Performs}
-use Rattle.wf_table.specs.Spots.{part_at, part_body, part_next}
+use Rattle.wf_nodes.specs.Spots.{part_at, part_body, part_next}
 use Rattle.wf_moves.proofs.step.carry_out.Goals as goal
 
 pub returns-in-None-clause-carried : goal.returns-in-None-clause-carried
@@ -36,11 +36,17 @@ returns-then-does_nothing-clause-ready g c =
 pub perform-requires-2 : goal.perform-requires-2
 perform-requires-2 g c κs within =
     let x = c.index-nodes-n.result in
-    let there = node_at c.args.nodes.now c.args.n x c.requires.1.1.0 c.index-nodes-n.is in
-    (within, (c.requires.1.0, (c.requires.1.1.0,
-      then_fits g.ns c.args.nodes.now c.args.n x (inner c.args.frames.now) (inner c.push.new.self) there c.requires.1.1.1.0 c.in-Some.field-0 c.in-Some.is c.requires.1.1.1.1 c.in_ok-push.ensures.pushed,
-      c.requires.1.1.1.1 ∙ ap reach (sym c.in_ok-push.ensures.pushed),
-    )))
+    let there = node_at c.args.nodes.now c.args.n x c.requires.1.1.0 c.index-nodes-n.is in (
+      within,
+      (
+        c.requires.1.0,
+        (
+          c.requires.1.1.0,
+          then_fits g.ns c.args.nodes.now c.args.n x (inner c.args.frames.now) (inner c.push.new.self) there c.requires.1.1.1.0 c.in-Some.field-0 c.in-Some.is c.requires.1.1.1.1 c.in_ok-push.ensures.pushed,
+          c.requires.1.1.1.1 ∙ ap reach (sym c.in_ok-push.ensures.pushed),
+        ),
+      ),
+    )
 
 pub returns-clause-carried : goal.returns-clause-carried
 returns-clause-carried g c =
@@ -49,5 +55,5 @@ returns-clause-carried g c =
     let there = node_at c.args.nodes.now c.args.n x c.requires.1.1.0 c.index-nodes-n.is in
     with_ok (Performs g.ns (part_body (part_at g.ns c.args.n)) v (inner c.push.new.self) (inner c.perform-2.new.frames)) (CarriesOut g.ns (part_body (part_at g.ns c.args.n)) (part_next (part_at g.ns c.args.n)) v (inner c.args.frames.now) (inner c.perform-2.new.frames)) c.perform-2.result
     (λ st h. carries_beside g.ns c.args.n v (inner c.args.frames.now) (inner c.push.new.self) (inner c.perform-2.new.frames) c.in-Some.field-0 st (c.requires.1.0.nexts c.args.n x there ∙ c.in-Some.is)
-      (λ e. busy_body g.ns x.codes.items.items x.name x.next x.kind (sym c.does_nothing.ensures ∙ c.if-does_nothing.false) (sym (ap part_body (part_is g.ns c.args.nodes.now c.args.n x c.requires.1.0.resolves there)) ∙ e))
-      c.in_ok-push.ensures.pushed h) c.perform-2.ensures.performed
+    (λ e. busy_body g.ns x.codes.items.items x.name x.next x.kind (sym c.does_nothing.ensures ∙ c.if-does_nothing.false) (sym (ap part_body (part_is g.ns c.args.nodes.now c.args.n x c.requires.1.0.resolves there)) ∙ e))
+    c.in_ok-push.ensures.pushed h) c.perform-2.ensures.performed

@@ -1,7 +1,7 @@
 use Rattle.std.proofs.Common.{◌≡◌, drop}
 use Rattle.wf_eval.specs.Sight.{seen}
 use Rattle.wf_model.specs.Move.{chosen}
-use Rattle.wf_table.specs.Spots.{arms_by}
+use Rattle.wf_nodes.specs.Spots.{arms_by}
 use Rattle.wf_moves.proofs.step.choose.Given as goal
 
 abbrev pub invariant-loop-arm : goal.invariant-loop-arm

@@ -1,6 +1,6 @@
 use Rattle.std.proofs.Common.{length, ap, ◌∙◌}
 use Rattle.wf_shapes.specs.Built.{are_built}
-use Rattle.wf_table.specs.Shapes.{shape_by}
+use Rattle.wf_nodes.specs.Shapes.{shape_by}
 use Rattle.wf_eval.specs.Sight.{seen}
 use Rattle.wf_moves.proofs.Choices.{no_condition, condition_is, null_holds, truth_holds, error_holds}
 use Rattle.wf_moves.proofs.Parts.{codes_built, node_at}

@@ -1,5 +1,5 @@
 use Rattle.std.proofs.Common.{sym}
-use Rattle.wf_table.specs.Shapes.{shape_by}
+use Rattle.wf_nodes.specs.Shapes.{shape_by}
 use Rattle.wf_eval.specs.Sight.{seen}
 use Rattle.wf_moves.proofs.Evaluated.{left_items}
 use Rattle.wf_moves.proofs.step.left_of.Goals as goal

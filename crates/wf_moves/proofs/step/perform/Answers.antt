@@ -10,11 +10,11 @@ use Rattle.wf_moves.proofs.Parts.{as_part, codes_built, node_at}
 use Rattle.wf_moves.proofs.Performed.{nothing_done, default_body, loop_body, none_left, one_left, with_ok, block_put, none_assigned, first_assigned, performs_return, performs_raise}
 use Rattle.wf_moves.specs.Steps.{Performs, ReturnsValue, RaisesValue}
 use Rattle.wf_shapes.specs.Built.{are_built}
-use Rattle.wf_table.specs.Kinds.{kind_by}
-use Rattle.wf_table.specs.Shapes.{shape_by}
-use Rattle.wf_table.specs.Spots.{arms_by, entries_by, steps_by, owners_at, part_at, part_body}
-use Rattle.wf_table.specs.Table.{ArmsStandIn, PartsStand}
-use Rattle.wf_table.specs.declared.node.NodeKind.TheVariants as kind
+use Rattle.wf_nodes.specs.Kinds.{kind_by}
+use Rattle.wf_nodes.specs.Shapes.{shape_by}
+use Rattle.wf_nodes.specs.Spots.{arms_by, entries_by, steps_by, owners_at, part_at, part_body}
+use Rattle.wf_nodes.specs.Table.{ArmsStandIn, PartsStand}
+use Rattle.wf_nodes.specs.declared.node.NodeKind.TheVariants as kind
 use Rattle.wf_moves.proofs.step.perform.Goals as goal
 
 pub switch-requires : goal.switch-requires

@@ -1,4 +1,4 @@
-use Rattle.wf_table.specs.Spots.{owners_at}
+use Rattle.wf_nodes.specs.Spots.{owners_at}
 use Rattle.wf_moves.proofs.step.perform.Given as goal
 
 abbrev pub ghost-switch : goal.ghost-switch

@@ -10,7 +10,7 @@ use Rattle.wf_moves.proofs.Choices.{idle_is, busy_is}
 use Rattle.wf_moves.proofs.Parts.{node_at}
 use Rattle.wf_moves.proofs.Performed.{none_chosen, empty_chosen, body_chosen}
 use Rattle.wf_moves.specs.Steps.{arm_in}
-use Rattle.wf_table.specs.Spots.{arms_by, owners_at}
+use Rattle.wf_nodes.specs.Spots.{arms_by, owners_at}
 use Rattle.wf_moves.proofs.step.switch.Goals as goal
 
 pub returns-then-is_idle-clause-performed : goal.returns-then-is_idle-clause-performed

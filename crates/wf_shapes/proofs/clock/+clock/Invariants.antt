@@ -1,7 +1,7 @@
 use Rattle.std.proofs.Common.{◌≡◌, drop, map}
 use Rattle.wf_ast.specs.Tree.{fields, templates}
 use Rattle.wf_model.specs.Kinds.{fields_now, templates_now}
-use Rattle.wf_table.specs.Shapes.{named_by, shape_by}
+use Rattle.wf_nodes.specs.Shapes.{named_by, shape_by}
 use Rattle.wf_shapes.proofs.clock.+clock.Given as goal
 
 -- what is left tells

@@ -1,7 +1,7 @@
 use Rattle.std.proofs.Common.{◌≡◌, drop, map}
 use Rattle.wf_ast.specs.Tree.{exprs}
 use Rattle.wf_model.specs.Kinds.{exprs_now}
-use Rattle.wf_table.specs.Shapes.{decoded}
+use Rattle.wf_nodes.specs.Shapes.{decoded}
 use Rattle.wf_shapes.proofs.clock.is_clock_among.Given as goal
 
 -- what is left tells

@@ -1,6 +1,6 @@
 use Rattle.std.proofs.Common.{◌≡◌, drop, map}
 use Rattle.wf_model.specs.Kinds.{parts_now}
-use Rattle.wf_table.specs.Shapes.{piece_by}
+use Rattle.wf_nodes.specs.Shapes.{piece_by}
 use Rattle.wf_shapes.proofs.clock.is_in_pieces.Given as goal
 
 -- what is left tells

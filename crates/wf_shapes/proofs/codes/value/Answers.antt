@@ -1,4 +1,4 @@
-use Rattle.wf_table.specs.Shapes.{decoded}
+use Rattle.wf_nodes.specs.Shapes.{decoded}
 use Rattle.wf_shapes.proofs.Coded.{coded}
 use Rattle.wf_shapes.proofs.codes.value.Goals as goal
 

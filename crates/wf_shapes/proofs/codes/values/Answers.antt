@@ -3,7 +3,7 @@ use Rattle.wf_ast.specs.Eval.{eval_all}
 use Rattle.wf_ast.specs.Tree.{exprs}
 use Rattle.wf_eval.specs.Answers.{Answers}
 use Rattle.wf_eval.specs.Sight.{seen}
-use Rattle.wf_table.specs.Shapes.{decoded}
+use Rattle.wf_nodes.specs.Shapes.{decoded}
 use Rattle.wf_value.specs.Plain.{plain}
 use Rattle.wf_value.specs.declared.errors.Raise.{Raise}
 use Rattle.wf_value.specs.declared.value.Value.{Value}

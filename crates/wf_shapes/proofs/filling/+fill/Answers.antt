@@ -3,7 +3,7 @@ use Rattle.wf_ast.specs.Eval.{fill_all}
 use Rattle.wf_ast.specs.Tree.{templates}
 use Rattle.wf_eval.specs.Answers.{Answers}
 use Rattle.wf_eval.specs.Sight.{seen}
-use Rattle.wf_table.specs.Shapes.{shape_by}
+use Rattle.wf_nodes.specs.Shapes.{shape_by}
 use Rattle.wf_value.specs.Data.{Data, items_of}
 use Rattle.wf_value.specs.declared.errors.Raise.{Raise}
 use Rattle.wf_shapes.proofs.Filled.{field_falls, item_falls, list_falls, map_falls, list_filled, list_done, list_step, list_stops, map_filled, map_step}

@@ -4,7 +4,7 @@ use Rattle.wf_ast.specs.Tree.{templates, fields}
 use Rattle.wf_eval.proofs.Filled.{onto, height, heights, field_heights}
 use Rattle.wf_eval.specs.Answers.{put_all}
 use Rattle.wf_eval.specs.Sight.{seen}
-use Rattle.wf_table.specs.Shapes.{named_by, shape_by}
+use Rattle.wf_nodes.specs.Shapes.{named_by, shape_by}
 use Rattle.wf_value.specs.Errors.{◌>>=◌}
 use Rattle.wf_shapes.proofs.filling.+fill.Given as goal
 

@@ -2,7 +2,7 @@ use Rattle.std.proofs.Common.{◌≡◌, ◌++◌, drop, map, Ok}
 use Rattle.std.specs.String.{string_bytes}
 use Rattle.wf_ast.specs.Eval.{joined}
 use Rattle.wf_eval.specs.Sight.{seen}
-use Rattle.wf_table.specs.Shapes.{piece_by}
+use Rattle.wf_nodes.specs.Shapes.{piece_by}
 use Rattle.wf_value.specs.Errors.{◌>>=◌}
 use Rattle.wf_shapes.proofs.filling.joined.Given as goal
 
