@@ -3,4 +3,5 @@ pub mod Coming
 pub mod Fronts
 pub mod Lasting
 pub mod Names
+pub mod OneAnswer
 pub mod Sizes
