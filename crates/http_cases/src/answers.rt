@@ -56,7 +56,7 @@ fn close_of(name: &str) -> Result<Close, CaseFault> {
 
 /// The answer of bytes fed whole. Where it is another one if they are cut, both are told.
 fn heard(alloc: Global, bytes: &[u8], close: Close) -> Result<String, CaseFault> {
-    let mut whole = Reading::new(alloc)?;
+    let mut whole = Reading::new(alloc);
     whole.feed(bytes)?;
     let whole = told(alloc, whole, close)?;
     let cut = told(alloc, fed_in_pieces(alloc, bytes)?, close)?;
@@ -68,7 +68,7 @@ fn heard(alloc: Global, bytes: &[u8], close: Close) -> Result<String, CaseFault>
 
 /// A reading that heard the bytes one by one; of many bytes all but the last came in long pieces.
 fn fed_in_pieces(alloc: Global, bytes: &[u8]) -> Result<Reading, CaseFault> {
-    let mut reading = Reading::new(alloc)?;
+    let mut reading = Reading::new(alloc);
     let mut rest = bytes;
     while !rest.is_empty() {
         let length = if rest.len() > 3000 { 2500 } else { 1 };

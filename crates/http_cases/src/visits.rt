@@ -49,7 +49,7 @@ fn is_ended(close: &str) -> Result<bool, CaseFault> {
 /// What is known where the bytes came whole. Where something else is known if they are cut, both
 /// are told.
 fn known(alloc: Global, bytes: &[u8], is_ended: bool) -> Result<String, CaseFault> {
-    let mut whole = Visit::new(alloc)?;
+    let mut whole = Visit::new(alloc);
     whole.feed(bytes)?;
     let whole = told(alloc, whole, is_ended)?;
     let cut = told(alloc, fed_in_pieces(alloc, bytes)?, is_ended)?;
@@ -61,7 +61,7 @@ fn known(alloc: Global, bytes: &[u8], is_ended: bool) -> Result<String, CaseFaul
 
 /// A visit of which the bytes came one by one; of many bytes all but the last came in long pieces.
 fn fed_in_pieces(alloc: Global, bytes: &[u8]) -> Result<Visit, CaseFault> {
-    let mut visit = Visit::new(alloc)?;
+    let mut visit = Visit::new(alloc);
     let mut rest = bytes;
     while !rest.is_empty() {
         let length = if rest.len() > 3000 { 2500 } else { 1 };

@@ -1,4 +1,5 @@
 pub mod BodyStates
+pub mod Codes
 pub mod Coming
 pub mod Fronts
 pub mod Lasting
