@@ -8,7 +8,9 @@ use wf_http_serve::{Asker, ReplyCode, Visit, VisitState, reply_bytes};
 /// are cut.
 pub(crate) fn knows(alloc: Global, case: &Case<'_>) -> Result<String, CaseFault> {
     let bytes = bytes_of(alloc, case.item(0)?)?;
-    known(alloc, bytes.as_slice(), is_ended(case.text(1)?)?)
+    let is_ended = is_ended(case.text(1)?)?;
+    let whole = known(alloc, bytes.as_slice(), is_ended)?;
+    cut_once(alloc, bytes.as_slice(), is_ended, whole)
 }
 
 /// The same of each front of the bytes, from none of them to all, with `;` behind each of them.
@@ -57,6 +59,36 @@ fn known(alloc: Global, bytes: &[u8], is_ended: bool) -> Result<String, CaseFaul
         return Ok(whole);
     }
     Ok(format!(in alloc; "whole {} cut {}", whole.as_str(), cut.as_str())?)
+}
+
+/// What is known where the bytes came whole. Where something else is known if they come in two
+/// pieces, both are told. Of over 256 bytes nothing is tried.
+fn cut_once(
+    alloc: Global,
+    bytes: &[u8],
+    is_ended: bool,
+    whole: String,
+) -> Result<String, CaseFault> {
+    if bytes.len() > 256 {
+        return Ok(whole);
+    }
+    for length in 0..=bytes.len() {
+        let cut = told(alloc, fed_in_two(alloc, bytes, length)?, is_ended)?;
+        if cut.as_str() != whole.as_str() {
+            let both = format!(in alloc; "whole {} at {length} {}", whole.as_str(), cut.as_str())?;
+            return Ok(both);
+        }
+    }
+    Ok(whole)
+}
+
+/// A visit of which so many bytes came, and then the others.
+fn fed_in_two(alloc: Global, bytes: &[u8], length: usize) -> Result<Visit, CaseFault> {
+    let (front, rest) = bytes.split_at(length.min(bytes.len()));
+    let mut visit = Visit::new(alloc);
+    visit.feed(front)?;
+    visit.feed(rest)?;
+    Ok(visit)
 }
 
 /// A visit of which the bytes came one by one; of many bytes all but the last came in long pieces.
