@@ -1,0 +1,7 @@
+pub mod Names
+pub mod Owning
+pub mod Placing
+pub mod Reversed
+pub mod Seeing
+pub mod Storing
+pub mod Stores

@@ -1,0 +1,81 @@
+-- Frames, innermost first, and the items that they stand for.
+--     control        the items
+--     owned          the task's own layers
+use Rattle.std.specs.Prelude.{ℕ, Bool, true, false, List, [], ◌∷◌, drop, reverse, Some, None, Option, unwrap_or}
+use Rattle.wf_ast.specs.Tree.{Body, Entry, InList, LoopBody, Scalar, Steps, loop, no_steps, unnamed}
+use Rattle.wf_model.specs.Config.{Item, Do, Entries, Then, Loop, Mark, Left, OfList, OfRange}
+use Rattle.wf_frames.specs.declared.frames.Frame.{Frame}
+use Rattle.wf_frames.specs.declared.frames.Frame.TheVariants as frame
+use Rattle.wf_frames.specs.declared.frames.Frames.{Frames}
+use Rattle.wf_frames.specs.declared.frames.Left as declared
+use Rattle.wf_frames.specs.declared.frames.Left.TheVariants as left
+use Rattle.wf_scope.specs.Tasks.{Own}
+use Rattle.wf_nodes.specs.Spots.{Spot, from, part_at, part_body, part_list, part_next}
+use Rattle.wf_value.specs.Data.{null}
+
+-- ## As a list
+abbrev pub inner : Frames → List Frame
+inner fs = reverse fs.items.items
+
+abbrev pub popped : Option Frame → List Frame → List Frame
+popped None fs = fs
+popped (Some f) fs = f ∷ fs
+
+abbrev pub topped : List Frame → Option Frame
+topped [] = None
+topped (f ∷ fs) = Some f
+
+-- ## Items
+abbrev pub left_view : declared.Left → Left
+left_view left.Nothing = OfList []
+left_view (left.Items vs at) = OfList (drop at vs)
+left_view (left.Range a b) = OfRange a b
+
+-- the entries of an assign
+abbrev pub body_entries : Body → List Entry
+body_entries (Body.Assign es) = es
+body_entries body = []
+
+-- the loop that a body is
+abbrev pub body_loop : Body → LoopBody
+body_loop (Body.For l) = l
+body_loop body = loop [] None (InList (Scalar null)) no_steps
+
+-- the step of a body that stands alone, if it isn't carried out yet
+abbrev pub lone_steps : List Spot → ℕ → Bool → Steps
+lone_steps ns n true = no_steps
+lone_steps ns n false = unnamed (part_body (part_at ns n)) (part_next (part_at ns n))
+
+abbrev pub item : List Spot → Frame → Item
+item ns (frame.Do n at) = Do (part_list (part_at ns n)) (from at (part_list (part_at ns n)))
+item ns (frame.Lone n done) = Do no_steps (lone_steps ns n done)
+item ns (frame.Entries n at) = Entries (drop at (body_entries (part_body (part_at ns n))))
+item ns (frame.Then n) = Then (unwrap_or (part_next (part_at ns n)) [])
+item ns (frame.Loop n l i) = Loop (body_loop (part_body (part_at ns n))) (left_view l) i
+item ns (frame.Mark number) = Mark
+
+abbrev pub control : List Spot → List Frame → List Item
+control ns [] = []
+control ns (f ∷ fs) = item ns f ∷ control ns fs
+
+-- ## Own layers
+-- the number of the layer that ends with a frame
+abbrev pub mark_of : Frame → Option ℕ
+mark_of (frame.Mark number) = Some number
+mark_of f = None
+
+-- an own layer, which a call opened or not
+abbrev pub own : ℕ → Bool → Own
+own n b = record { number = n; by_call = b }
+
+-- innermost first; one is around all frames
+abbrev pub owned : ℕ → List Frame → List Own
+owned first [] = own first false ∷ []
+owned first (frame.Mark number ∷ fs) = own number false ∷ owned first fs
+owned first (f ∷ fs) = owned first fs
+
+-- the number of the innermost
+abbrev pub innermost : ℕ → List Frame → ℕ
+innermost first [] = first
+innermost first (frame.Mark number ∷ fs) = number
+innermost first (f ∷ fs) = innermost first fs

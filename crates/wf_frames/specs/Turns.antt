@@ -1,0 +1,76 @@
+-- Layers that a task enters, leaves and writes.
+--     Leaves       the innermost frame is left, with its layer if it has one
+--     Enters       a layer of a loop's names begins
+--     Writes       a value is assigned
+use Rattle.std.specs.Prelude.{◌≡◌, ℕ, ℤ, Bool, true, false, List, [], ◌∷◌, drop, Some, None, Ok, Err, Option, Result, ◌⊎◌}
+use Rattle.wf_frames.specs.Frames.{own}
+use Rattle.wf_frames.specs.Held.{Held, standing}
+use Rattle.wf_frames.specs.Owned.{Around, beside}
+use Rattle.wf_frames.specs.declared.frames.Frame.{Frame}
+use Rattle.wf_frames.specs.declared.frames.Frame.TheVariants as frame
+use Rattle.wf_frames.specs.declared.frames.Frames.{Frames}
+use Rattle.wf_model.specs.Config.{Item, limits}
+use Rattle.wf_model.specs.Layers.{opened, assign, Done, Refused, Undeclared}
+use Rattle.wf_model.specs.Local.{Local, Scene, total, leave}
+use Rattle.wf_scope.specs.Changes.{bound}
+use Rattle.wf_scope.specs.Layers.{total_of}
+use Rattle.wf_scope.specs.Store.{layers_of}
+use Rattle.wf_scope.specs.Tasks.{Own}
+use Rattle.wf_scope.specs.declared.fault.AssignFault.{AssignFault}
+use Rattle.wf_scope.specs.declared.layer.Layer.{Layer}
+use Rattle.wf_scope.specs.declared.scopes.Scopes.{Scopes}
+use Rattle.wf_value.specs.Data.{Data, integer, Pairs}
+use Rattle.wf_value.specs.Errors.{error_map}
+use Rattle.wf_value.specs.Pairs.{Text}
+use Rattle.wf_value.specs.declared.Tag.{Tag}
+use Rattle.wf_value.specs.declared.Tag.TheVariants.{ResourceLimitError}
+
+-- ## Leaving
+-- the task without this frame
+abbrev pub left_by : Frame → Local → Local
+left_by (frame.Mark number) l = leave l
+left_by f l = l
+
+abbrev pub dropped : Frame → Held → Held
+dropped (frame.Mark number) h = record h { own = drop 1 h.own }
+dropped f h = h
+
+abbrev pub Leaves : Bool → List Frame → Held → List Frame → Held → Type 0
+Leaves false old h new g = (old ≡ []) × (new ≡ []) × (h ≡ g)
+Leaves true old h new g = (f : Frame) × (old ≡ f ∷ new) × (g ≡ dropped f h)
+
+-- ## Entering
+-- the names that an iteration binds, the value before the index
+abbrev pub names_of : Text → Data → Option Text → ℤ → List (Text × Data)
+names_of x v None i = (x, v) ∷ []
+names_of x v (Some y) i = (x, v) ∷ (y, integer i) ∷ []
+
+-- a new layer stands inside the own ones
+abbrev pub with_layer : Pairs → Held → Held
+with_layer ps h = record h { own = record { vars = ps; by_call = false } ∷ h.own }
+
+-- the own layers, with a new one of this number if there is one
+abbrev pub with_own : Option ℕ → List Own → List Own
+with_own None os = os
+with_own (Some n) os = own n false ∷ os
+
+-- the names fit into a new layer, which has this number, or don't
+abbrev pub Enters : Scene → Option ℕ → Held → List (Text × Data) → Held → Type 0
+Enters s (Some n) h xs g = (ps : Pairs) × (opened s (standing [] h) xs ≡ Ok ps) × (g ≡ with_layer ps h)
+Enters s None h xs g = (opened s (standing [] h) xs ≡ Err ResourceLimitError) × (g ≡ h)
+
+-- some names are bound one after another in a layer of a store
+abbrev pub bound_all : ℕ → ℕ → List (Text × Data) → List Layer → Result (List Layer) AssignFault
+bound_all limit n [] ls = Ok ls
+bound_all limit n (x ∷ xs) ls = elim (bound limit n x.0 x.1 ls) [ Ok ms ↦ bound_all limit n xs ms | Err f ↦ Err f ]
+
+-- ## Writing
+-- an assignment is done, or refused with this error's tag, or no accepted program makes it
+abbrev pub Writes : Scene → Option Tag → Held → Text → List Data → Data → Held → Type 0
+Writes s None h x ks v g = (assign s x ks v (standing [] h) ≡ Undeclared) ⊎ (assign s x ks v (standing [] h) ≡ Done (standing [] g))
+Writes s (Some t) h x ks v g = (g ≡ h) × ((assign s x ks v (standing [] h) ≡ Undeclared) ⊎ (assign s x ks v (standing [] h) ≡ Refused t))
+
+-- ## Sums
+-- the scene's limit and total of variables are those of the store
+abbrev pub Agrees : Scene → Around → Frames → Scopes → Type 0
+Agrees s a fs x = ((limits s.facts.rules).variables ≡ a.limit) × (total s (beside [] a fs x) ≡ total_of (layers_of x))

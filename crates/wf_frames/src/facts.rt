@@ -1,0 +1,23 @@
+// What a step may read of its execution.
+use wf_value::{Pairs, Text};
+
+/// What a step may read of its execution: the last reading of the clock in milliseconds, the address under which callbacks come, the id,
+/// and the environment.
+pub struct Facts {
+    pub now: u64,
+    pub base: Text,
+    pub id: Text,
+    pub env: Pairs,
+}
+
+// Written, and not derived: it is one call wherever facts are let go.
+impl Drop for Facts {
+    fn drop(self) {
+        let Facts {
+            now: _,
+            base: _,
+            id: _,
+            env: _,
+        } = self;
+    }
+}

@@ -1,0 +1,113 @@
+// A task's frames.
+ghost use Rattle.std.specs.Prelude.{◌≡◌, [], ◌∷◌, IfNone, is_ok, option_map, if◌then◌else◌};
+ghost use Rattle.wf_frames.specs.Frames.{inner, innermost, popped, topped};
+
+use std::alloc::Global;
+use wf_scope::Chain;
+use wf_value::{List, OutOfMemory};
+
+/// The values that a loop has left.
+#[derive(Drop)]
+pub enum Left {
+    Nothing,
+    /// The items of a list from this one on.
+    Items(List, usize),
+    /// The whole numbers from one to another.
+    Range(i64, i64),
+}
+
+/// What a task has still to do, by the number of the node that it belongs to.
+#[derive(Drop)]
+pub enum Frame {
+    /// The steps of the list that the node owns, from this one on.
+    Do(u32, usize),
+    /// A body that stands alone: that of an arm, or one under a `try`; and whether it was carried out.
+    Lone(u32, bool),
+    /// The entries of an assign, from this one on.
+    Entries(u32, usize),
+    /// The node's `next`.
+    Then(u32),
+    /// A loop between two iterations, with the index of the next.
+    Loop(u32, Left, u64),
+    /// The layer of this number ends here.
+    Mark(u64),
+}
+
+impl Frame {
+    ghost use Rattle.wf_frames.specs.Frames.{mark_of};
+
+    // The number of the layer that ends with it.
+    pub(crate) fn mark(&self) -> Option<u64>
+        ensures { result ≡ mark_of self.now }
+    {
+        match self {
+            Frame::Mark(number) => Some(*number),
+            _ => None,
+        }
+    }
+}
+
+/// A task's frames, and the layer around them all.
+#[derive(Drop)]
+pub struct Frames {
+    // the innermost at the end
+    items: Vec<Frame>,
+    first: u64,
+}
+
+impl Frames {
+    /// None, inside this layer. It allocates nothing.
+    pub fn new(alloc: Global, first: Chain) -> Frames
+        ensures none { inner result ≡ [] }
+        ensures first { result.first ≡ first.number }
+    {
+        Frames {
+            items: Vec::new(alloc),
+            first: first.number,
+        }
+    }
+
+    /// Puts a frame inside all others. Without memory all stays, and the frame is dropped.
+    pub fn push(&mut self, frame: Frame) -> Result<(), OutOfMemory>
+        ensures pushed { inner self.new ≡ (if is_ok result then frame ∷ inner self.old else inner self.old) }
+        ensures first { self.new.first ≡ self.old.first }
+    {
+        match self.items.push(frame) {
+            Ok(()) => Ok(()),
+            Err(_) => Err(OutOfMemory),
+        }
+    }
+
+    /// Takes the innermost frame.
+    pub fn pop(&mut self) -> Option<Frame>
+        ensures popped { inner self.old ≡ popped result (inner self.new) }
+        ensures none { IfNone result (inner self.new ≡ []) }
+        ensures first { self.new.first ≡ self.old.first }
+    {
+        self.items.pop()
+    }
+
+    /// The innermost frame.
+    #[tactic(auto, using(crate::proofs::Reversed::reverse_top))]
+    pub fn top(&self) -> Option<&Frame>
+        ensures { topped (inner self.now) ≡ option_map (λ f. f.now) result }
+    {
+        self.items.last()
+    }
+
+    /// The innermost of the task's own layers.
+    pub fn layer(&self) -> Chain
+        ensures { result.number ≡ innermost self.now.first (inner self.now) }
+    {
+        let items = self.items.as_slice();
+        let mut at = items.len();
+        while at > 0 {
+            at -= 1;
+            let frame = &items[at];
+            if let Some(number) = frame.mark() {
+                return Chain { number };
+            }
+        }
+        Chain { number: self.first }
+    }
+}

@@ -1,0 +1,41 @@
+use Rattle.std.proofs.Common.{◌≡◌, ◌∷◌, refl, sym, subst, ap, ◌∙◌, absurd}
+use Rattle.wf_eval.specs.Sight.{seen}
+use Rattle.wf_frames.proofs.Owning.{own_pushed}
+use Rattle.wf_frames.specs.Fits.{Fits}
+use Rattle.wf_frames.specs.Frames.{inner}
+use Rattle.wf_frames.specs.Owned.{IsLinked, local_of, own_of}
+use Rattle.wf_frames.specs.Sights.{sight_of}
+use Rattle.wf_frames.specs.declared.frames.Frame.TheVariants as frame
+use Rattle.wf_moves.proofs.Leaving.{going_has, going_plain, going_step}
+use Rattle.wf_moves.proofs.Performed.{with_ok}
+use Rattle.wf_moves.proofs.Turning.{agrees_same, loop_there, moved_on, moved_same}
+use Rattle.wf_scope.specs.Store.{layers_of}
+use Rattle.wf_moves.proofs.moves.advance.Goals as goal
+
+pub loop_node-requires : goal.loop_node-requires
+loop_node-requires g c =
+    let fits = subst (Fits g.around.spots c.args.nodes.now) c.in-Some.ensures.popped c.requires.1.0.fits in
+    loop_there c.args.nodes.now c.in-Some.frame c.in-Loop.n c.in-Loop.left c.in-Loop.index c.in-Loop.is fits.0.0
+
+pub turn-requires-clause-stands : goal.turn-requires-clause-stands
+turn-requires-clause-stands g c =
+    let fits = subst (Fits g.around.spots c.args.nodes.now) c.in-Some.ensures.popped c.requires.1.0.fits in
+    let has = going_has c.args.nodes.now c.in-Some.frame (inner c.args.frames.now) (inner c.pop.new.self) c.in-Some.ensures.popped c.requires.1.1 in
+    let own = own_pushed c.pop.new.self.first c.args.frames.now.first c.in-Some.frame (inner c.pop.new.self) (inner c.args.frames.now) (sym c.in-Some.ensures.first) (going_plain c.args.nodes.now c.in-Some.frame has) c.in-Some.ensures.popped in
+    record { fits = fits.1; linked = subst (λ os. IsLinked g.around os c.args.scopes.now) own c.requires.1.0.linked }
+
+pub seen-requires : goal.seen-requires
+seen-requires g c =
+    let has = going_has c.args.nodes.now c.in-Some.frame (inner c.args.frames.now) (inner c.pop.new.self) c.in-Some.ensures.popped c.requires.1.1 in
+    let own = own_pushed c.pop.new.self.first c.args.frames.now.first c.in-Some.frame (inner c.pop.new.self) (inner c.args.frames.now) (sym c.in-Some.ensures.first) (going_plain c.args.nodes.now c.in-Some.frame has) c.in-Some.ensures.popped in
+    subst (λ os. IsLinked g.around os c.args.scopes.now) own c.requires.1.0.linked
+
+pub returns-in-Loop-clause-moved : goal.returns-in-Loop-clause-moved
+returns-in-Loop-clause-moved g c =
+    let has = going_has c.args.nodes.now c.in-Some.frame (inner c.args.frames.now) (inner c.pop.new.self) c.in-Some.ensures.popped c.requires.1.1 in
+    let own = own_pushed c.pop.new.self.first c.args.frames.now.first c.in-Some.frame (inner c.pop.new.self) (inner c.args.frames.now) (sym c.in-Some.ensures.first) (going_plain c.args.nodes.now c.in-Some.frame has) c.in-Some.ensures.popped in
+    let fs = c.in-Some.ensures.popped ∙ ap (λ f. f ∷ inner c.pop.new.self) c.in-Loop.is in
+    with_ok _ _ c.turn.result
+    (λ w h s d sees agrees. moved_same g.around s (own_of c.args.frames.now) (own_of c.pop.new.self) (layers_of c.args.scopes.now) own d (inner c.args.frames.now) (frame.Loop c.in-Loop.n c.in-Loop.left c.in-Loop.index ∷ inner c.pop.new.self) w (local_of g.around c.turn.new.frames c.turn.new.scopes) fs
+    (h s d (agrees_same g.around s (own_of c.args.frames.now) (own_of c.pop.new.self) (layers_of c.args.scopes.now) own agrees)))
+    c.turn.ensures.moved

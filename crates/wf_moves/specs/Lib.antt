@@ -1,0 +1,6 @@
+pub mod Assigned
+pub mod Built
+pub mod Kinds
+pub mod Moved
+pub mod Steps
+pub mod Tasks

@@ -1,0 +1,6 @@
+pub mod Compiles
+pub mod Decoded
+pub mod Kinds
+pub mod Shapes
+pub mod Spots
+pub mod Table

@@ -1,0 +1,12 @@
+//! The values of shapes, and of compiled expressions.
+#![tactic(auto)]
+
+mod built;
+mod clock;
+mod codes;
+mod filling;
+
+pub use built::are_codes_built;
+pub use clock::{is_clock_among, is_clock_in};
+pub use codes::{value_at, values};
+pub use filling::fill_shape;

@@ -1,0 +1,12 @@
+pub mod Adding
+pub mod Forms
+pub mod Found
+pub mod Going
+pub mod InOrder
+pub mod Jumping
+pub mod Laid
+pub mod Lying
+pub mod Naming
+pub mod Sizes
+pub mod Sound
+pub mod Tabled

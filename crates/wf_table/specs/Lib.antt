@@ -1,0 +1,4 @@
+pub mod Built
+pub mod Made
+pub mod Named
+pub mod Preorder
