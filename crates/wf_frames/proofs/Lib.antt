@@ -5,3 +5,4 @@ pub mod Reversed
 pub mod Seeing
 pub mod Storing
 pub mod Stores
+pub mod Sums

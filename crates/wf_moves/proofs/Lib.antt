@@ -8,5 +8,6 @@ pub mod Jumps
 pub mod Leaving
 pub mod Parts
 pub mod Performed
+pub mod Shallow
 pub mod Starting
 pub mod Turning
