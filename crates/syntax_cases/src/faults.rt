@@ -2,10 +2,10 @@
 use std::alloc::Global;
 use wf_cases::CaseFault;
 use wf_expr::ExprFault;
-use wf_syntax_rules::{SyntaxFault, SyntaxKind};
 use wf_span::LexFault;
 use wf_status::{Place, RefusalKind};
 use wf_syntax::build;
+use wf_syntax_rules::{SyntaxFault, SyntaxKind};
 use wf_tree::Tree;
 use wf_value::Path;
 

@@ -31,8 +31,16 @@ impl Progress {
         stop: Option<u64>,
         print_room: Option<u64>,
     ) -> Progress
-        ensures { result ≡ record { fail = fail.items; stop = stop; clock = clock.items; print_room
-            = print_room; calls = 0; changes = 0; ticks = 0; } }
+        ensures { result ≡ record {
+          fail = fail.items;
+          stop = stop;
+          clock = clock.items;
+          print_room
+              = print_room;
+          calls = 0;
+          changes = 0;
+          ticks = 0;
+        } }
     {
         Progress {
             clock,

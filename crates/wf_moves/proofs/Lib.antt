@@ -4,6 +4,7 @@ pub mod Choices
 pub mod Clocked
 pub mod Evaluated
 pub mod Fitting
+pub mod Going
 pub mod Jumps
 pub mod Leaving
 pub mod Parts

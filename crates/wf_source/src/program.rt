@@ -8,8 +8,8 @@ use crate::refusing::{refusal_of, said_refusal};
 use crate::{SourceFault, read_tree};
 use std::alloc::Global;
 use wf_check::{CheckFault, Checked, check};
-use wf_syntax_rules::SyntaxFault;
 use wf_syntax::build;
+use wf_syntax_rules::SyntaxFault;
 
 /// The program of a source, checked, or why it is refused: as [`read_tree`] refuses it; or for the first rule of the syntax that
 /// its tree breaks, at the path of its node, and in an expression at a byte of it; or else for what [`check`] says first of the

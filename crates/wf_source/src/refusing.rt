@@ -4,9 +4,9 @@ ghost use Rattle.wf_source.specs.Programs as programs;
 
 use wf_check::CheckKind;
 use wf_expr::ExprFault;
-use wf_syntax_rules::SyntaxKind;
 use wf_span::LexFault;
 use wf_status::{Place, Refusal, RefusalKind};
+use wf_syntax_rules::SyntaxKind;
 use wf_value::Path;
 
 // The kind of an expression's fault.
