@@ -9,5 +9,5 @@ use Rattle.wf_moves.proofs.assign.assign.Goals as goal
 
 pub evaluate-requires : goal.evaluate-requires
 evaluate-requires g c =
-    let there = node_at c.args.nodes.now c.args.n c.index-nodes-n.result c.requires.within c.index-nodes-n.is in
-    ap are_built c.items.ensures ∙ codes_built c.args.nodes.now c.args.n c.index-nodes-n.result c.requires.tells.built there
+    let there = node_at c.args.nodes.now c.args.n c.index-nodes-n.result c.requires.1.1 c.index-nodes-n.is in
+    ap are_built c.items.ensures ∙ codes_built c.args.nodes.now c.args.n c.index-nodes-n.result c.requires.0.built there
