@@ -3,7 +3,7 @@ use Rattle.std.proofs.Common.{◌≡◌, ℕ, ◌<◌, ◌≤◌, Bool, false, L
 use Rattle.std.specs.Prelude.{slice_get, Option}
 use Rattle.std.proofs.lemmas.Option.{get_or_from_slice_get, slice_get_within}
 use Rattle.wf_ast.specs.Tree.{Program, no_exprs, no_steps, Scalar}
-use Rattle.wf_frames.specs.Fits.{entries_at}
+use Rattle.wf_frames.specs.Fits.{entries_at, list_at}
 use Rattle.wf_frames.specs.Frames.{body_entries, item}
 use Rattle.wf_frames.specs.declared.frames.Frame.TheVariants as frame
 use Rattle.wf_model.specs.Config.{Item, Do, Entries}
@@ -14,7 +14,7 @@ use Rattle.wf_moves.proofs.Parts.{as_part, entries_is, list_is, part_is}
 use Rattle.wf_nodes.specs.Kinds.{Listed, entry_by, kind_by}
 use Rattle.wf_nodes.specs.Shapes.{Compiled}
 use Rattle.wf_nodes.specs.Spots.{Spot, from, part_at, part_body, part_entry, part_list, steps_by}
-use Rattle.wf_nodes.specs.Table.{Resolves, list_at, part_by}
+use Rattle.wf_nodes.specs.Table.{Resolves, part_by}
 use Rattle.wf_nodes.specs.declared.node.EntryNode.{EntryNode}
 use Rattle.wf_nodes.specs.declared.node.Node.{Node}
 use Rattle.wf_nodes.specs.declared.node.NodeKind.{NodeKind}
@@ -60,3 +60,9 @@ entry_absent ns nodes n x r at h = ap (λ p. entry_now (part_entry p)) (part_is 
 
 pub entry_there : (ns : List Spot) (nodes : List Node) (n : ℕ) (x : Node) (e : EntryNode) → Resolves ns nodes → slice_get nodes n ≡ Some x → x.kind ≡ kind.Entry e → part_entry (part_at ns n) ≡ entry_by x.codes.items.items e
 entry_there ns nodes n x e r at h = ap part_entry (as_part ns nodes n x (kind.Entry e) r at h)
+
+-- ## Bodies
+module _ (ns : List Spot) (nodes : List Node) (n : ℕ) (x : Node) (r : Resolves ns nodes) (at : slice_get nodes n ≡ Some x) (p : Program) where
+  -- the kind of a body, by the node's
+  pub body_so : (k : NodeKind) → x.kind ≡ k → body_kind p (part_body (part_at ns n)) ≡ body_kind p (part_body (part_by ns x.name x.next (kind_by x.codes.items.items k)))
+  body_so k is = ap (λ q. body_kind p (part_body q)) (as_part ns nodes n x k r at is)

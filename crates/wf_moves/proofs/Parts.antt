@@ -1,19 +1,20 @@
 -- Nodes by their numbers, and the parts that they are.
 use Rattle.std.proofs.Common.{◌≡◌, ℕ, ◌+◌, ◌<◌, ◌≤◌, Bool, true, false, List, [], ◌∷◌, length, drop, get_or, Some, None, refl, sym, ap, subst, ◌∙◌, arith}
 use Rattle.std.specs.List.{list_all}
-use Rattle.std.specs.Prelude.{zero, suc, is_some, slice_get, Option, Vec}
+use Rattle.std.specs.Prelude.{zero, suc, is_some, option_map, slice_get, Option, Vec}
 use Rattle.std.specs.declared.alloc.Global.{Global}
 use Rattle.std.proofs.lemmas.Bool.{and_parts}
 use Rattle.std.proofs.lemmas.Option.{slice_get_read, slice_get_within}
 use Rattle.wf_ast.specs.Tree.{Body, Entry}
-use Rattle.wf_frames.specs.Fits.{IsLoop, entries_at, has_next, kind_entries, outside_at, view_at, view_entries, view_outside}
+use Rattle.wf_frames.specs.Fits.{IsLoop, entries_at, has_next, kind_entries, list_at, outside_at, view_at, view_entries, view_outside}
 use Rattle.wf_frames.specs.Frames.{body_entries}
 use Rattle.wf_moves.specs.Built.{Tells, is_node_built, is_table_built, kind_built}
 use Rattle.wf_shapes.specs.Built.{are_built}
 use Rattle.wf_nodes.specs.Kinds as view
 use Rattle.wf_nodes.specs.Kinds.{Handler, Kind, Listed, Repeated, Side, View, block_view, kind_by, node_view}
+use Rattle.wf_nodes.specs.Shapes.{Compiled}
 use Rattle.wf_nodes.specs.Spots.{Spot, entries_by, owners_at, part_at, part_body, part_list, steps_by}
-use Rattle.wf_nodes.specs.Table.{AreBelow, ListStands, Resolves, StandIn, handler_list, kind_list, list_at, outside, part_by, side_list, view_list}
+use Rattle.wf_nodes.specs.Table.{AreBelow, ListStands, Resolves, StandIn, handler_list, kind_list, outside, part_by, side_list, view_list}
 use Rattle.wf_nodes.specs.declared.node.LoopNode.{LoopNode}
 use Rattle.wf_nodes.specs.declared.node.Node.{Node}
 use Rattle.wf_nodes.specs.declared.node.NodeKind.{NodeKind}
@@ -33,18 +34,18 @@ pub seen_list : (nodes : List Node) (n : ℕ) (b : Listed) → list_at nodes n �
 seen_list nodes n b h = by (slice_get nodes n) refl
   where
     by : (o : Option Node) → slice_get nodes n ≡ o → Seen nodes n
-    by None e = absurd (cc (sym (ap (λ (p : Option Node). view_list (elim p [ None ↦ None | Some y ↦ Some (node_view y) ])) e) ∙ h))
+    by None e = absurd (cc (sym (ap (λ (p : Option Node). view_list (option_map node_view p)) e) ∙ h))
     by (Some x) e = record { node = x; at = e }
 
 pub seen_entries : (nodes : List Node) (n : ℕ) (b : List ℕ) → entries_at nodes n ≡ Some b → Seen nodes n
 seen_entries nodes n b h = by (slice_get nodes n) refl
   where
     by : (o : Option Node) → slice_get nodes n ≡ o → Seen nodes n
-    by None e = absurd (cc (sym (ap (λ (p : Option Node). view_entries (elim p [ None ↦ None | Some y ↦ Some (node_view y) ])) e) ∙ h))
+    by None e = absurd (cc (sym (ap (λ (p : Option Node). view_entries (option_map node_view p)) e) ∙ h))
     by (Some x) e = record { node = x; at = e }
 
 pub view_is : (nodes : List Node) (n : ℕ) (x : Node) → slice_get nodes n ≡ Some x → view_at nodes n ≡ Some (node_view x)
-view_is nodes n x e = ap (λ (p : Option Node). elim p [ None ↦ None | Some y ↦ Some (node_view y) ]) e
+view_is nodes n x e = ap (λ (p : Option Node). option_map node_view p) e
 
 pub list_of : (nodes : List Node) (n : ℕ) (x : Node) → slice_get nodes n ≡ Some x → list_at nodes n ≡ kind_list (node_view x).kind
 list_of nodes n x e = ap view_list (view_is nodes n x e)
@@ -57,6 +58,23 @@ within_list nodes n b h = let s = seen_list nodes n b h in slice_get_within node
 
 pub within_entries : (nodes : List Node) (n : ℕ) (b : List ℕ) → entries_at nodes n ≡ Some b → n < length nodes
 within_entries nodes n b h = let s = seen_entries nodes n b h in slice_get_within nodes n s.node s.at
+
+pub list_within : (nodes : List Node) (n : ℕ) → is_some (list_at nodes n) ≡ true → n < length nodes
+list_within nodes n h = by (slice_get nodes n) refl
+  where
+    by : (o : Option Node) → slice_get nodes n ≡ o → n < length nodes
+    by None e = absurd (cc (sym (ap (λ (p : Option Node). is_some (view_list (option_map node_view p))) e) ∙ h))
+    by (Some x) e = slice_get_within nodes n x e
+
+pub entries_within : (nodes : List Node) (n : ℕ) → is_some (entries_at nodes n) ≡ true → n < length nodes
+entries_within nodes n h = by (slice_get nodes n) refl
+  where
+    by : (o : Option Node) → slice_get nodes n ≡ o → n < length nodes
+    by None e = absurd (cc (sym (ap (λ (p : Option Node). is_some (view_entries (option_map node_view p))) e) ∙ h))
+    by (Some x) e = slice_get_within nodes n x e
+
+pub loop_within : (nodes : List Node) (n : ℕ) → (b : LoopNode) × IsLoop nodes n b → n < length nodes
+loop_within nodes n h = slice_get_within nodes n h.1.node h.1.at
 
 -- ## The part of a node
 pub part_is : (ns : List Spot) (nodes : List Node) (n : ℕ) (x : Node) → Resolves ns nodes → slice_get nodes n ≡ Some x → part_at ns n ≡ part_by ns x.name x.next (kind_by x.codes.items.items x.kind)
@@ -109,16 +127,33 @@ never_built nodes n x k b h e f = by k (ap (λ (y : NodeKind). kind_built y (are
     by (kind.Entry s) p q = cc q
     by (kind.Branch d) p q = cc q
 
+-- no other node has entries
+pub only_entries : (cs : Compiled) (k : NodeKind) → is_some (kind_entries (kind_by cs k)) ≡ true → ((v : Vec ℕ Global) → k ≡ kind.Assign v → ⊥) → ⊥
+only_entries cs (kind.Assign v) h other = other v refl
+only_entries cs (kind.Flow f) h other = cc h
+only_entries cs kind.Nothing h other = cc h
+only_entries cs (kind.Call f) h other = cc h
+only_entries cs (kind.Switch v) h other = cc h
+only_entries cs (kind.For l) h other = cc h
+only_entries cs (kind.Parallel p) h other = cc h
+only_entries cs (kind.Block d) h other = cc h
+only_entries cs (kind.Try t) h other = cc h
+only_entries cs (kind.Raise t) h other = cc h
+only_entries cs (kind.Return t) h other = cc h
+only_entries cs (kind.Arm t) h other = cc h
+only_entries cs (kind.Entry e) h other = cc h
+only_entries cs (kind.Branch d) h other = cc h
+
 -- ## Lists of steps
 list_in : (ns : List Spot) (x : Text) (next : Option Text) (k : Kind) (b : Listed) → kind_list k ≡ Some b → part_list (part_by ns x next k) ≡ steps_by ns b.steps
-list_in ns x next (view.Flow name params d) b h = let e : d ≡ b = cc h in ap (λ (y : Listed). steps_by ns y.steps) e
+list_in ns x next (view.Flow params d) b h = let e : d ≡ b = cc h in ap (λ (y : Listed). steps_by ns y.steps) e
 list_in ns x next (view.For l) b h = let e : l.steps ≡ b = cc h in ap (λ (y : Listed). steps_by ns y.steps) e
 list_in ns x next (view.Parallel shared limit (view.Iterations l)) b h = let e : l.steps ≡ b = cc h in ap (λ (y : Listed). steps_by ns y.steps) e
 list_in ns x next (view.Parallel shared limit (view.Branches numbers)) b h = absurd (cc h)
 list_in ns x next (view.Block d) b h = let e : d ≡ b = cc h in ap (λ (y : Listed). steps_by ns y.steps) e
 list_in ns x next (view.Try n policy (Some y)) b h = let e : y.steps ≡ b = cc h in ap (λ (z : Listed). steps_by ns z.steps) e
 list_in ns x next (view.Try n policy None) b h = absurd (cc h)
-list_in ns x next (view.Branch name d) b h = let e : d ≡ b = cc h in ap (λ (y : Listed). steps_by ns y.steps) e
+list_in ns x next (view.Branch d) b h = let e : d ≡ b = cc h in ap (λ (y : Listed). steps_by ns y.steps) e
 list_in ns x next view.Nothing b h = absurd (cc h)
 list_in ns x next (view.Assign numbers) b h = absurd (cc h)
 list_in ns x next (view.Call f) b h = absurd (cc h)
@@ -164,12 +199,12 @@ stand_get ns os (x ∷ xs) (suc i) a h = stand_get ns os xs i a.1 (omega (arith,
 -- ## Entries
 entries_in : (ns : List Spot) (x : Text) (next : Option Text) (k : Kind) (b : List ℕ) → kind_entries k ≡ Some b → part_by ns x next k ≡ part_by ns x next (view.Assign b)
 entries_in ns x next (view.Assign numbers) b h = let e : numbers ≡ b = cc h in ap (λ (ys : List ℕ). part_by ns x next (view.Assign ys)) e
-entries_in ns x next (view.Flow name params d) b h = absurd (cc h)
+entries_in ns x next (view.Flow params d) b h = absurd (cc h)
 entries_in ns x next (view.For l) b h = absurd (cc h)
 entries_in ns x next (view.Parallel shared limit w) b h = absurd (cc h)
 entries_in ns x next (view.Block d) b h = absurd (cc h)
 entries_in ns x next (view.Try n policy y) b h = absurd (cc h)
-entries_in ns x next (view.Branch name d) b h = absurd (cc h)
+entries_in ns x next (view.Branch d) b h = absurd (cc h)
 entries_in ns x next view.Nothing b h = absurd (cc h)
 entries_in ns x next (view.Call f) b h = absurd (cc h)
 entries_in ns x next (view.Switch numbers) b h = absurd (cc h)

@@ -1,5 +1,5 @@
 // The turns of a loop.
-ghost use Rattle.std.specs.Prelude.{◌≡◌, ◌∷◌, List as Seq, IfOk, OnOk, option_map};
+ghost use Rattle.std.specs.Prelude.{◌≡◌, ◌+ℤ◌, ◌∷◌, [], List as Seq, IfOk, OnOk, if◌then◌else◌, int_lt, option_map, pos};
 ghost use Rattle.wf_frames.specs.Fits.{Fits, IsLoop};
 ghost use Rattle.wf_frames.specs.Frames.{control, inner, left_view};
 ghost use Rattle.wf_frames.specs.Owned.{Around, beside, local_of};
@@ -7,11 +7,11 @@ ghost use Rattle.wf_frames.specs.Stands.{Stands};
 ghost use Rattle.wf_frames.specs.Turns.{Agrees};
 ghost use Rattle.wf_frames.specs.declared.frames.Frame.TheVariants as frame;
 ghost use Rattle.wf_frames.specs.declared.frames.Left.TheVariants as left;
-ghost use Rattle.wf_model.specs.Config.{Item, next_of};
+ghost use Rattle.wf_model.specs.Config.{Item, OfList, OfRange, next_of};
 ghost use Rattle.wf_model.specs.Local.{Scene};
 ghost use Rattle.wf_model.specs.Move.{moves};
 ghost use Rattle.wf_moves.specs.Built.{Tells};
-ghost use Rattle.wf_moves.specs.Moved.{IsMove, IsSettled};
+ghost use Rattle.wf_moves.specs.Moved.{IsLeft, IsMove};
 ghost use Rattle.wf_value.specs.Plain.{plain};
 
 use crate::finish::{Went, goes, raises};
@@ -32,14 +32,18 @@ fn next_of(alloc: Global, left: Left) -> Result<Option<(Value, Left)>, OutOfMemo
     match left {
         Left::Nothing => Ok(None),
         Left::Items(list, at) => next_item(alloc, list, at),
-        Left::Range(first, last) => {
-            let rest = if first < last {
-                Left::Range(first + 1, last)
-            } else {
-                Left::Nothing
-            };
-            Ok(Some((Value::Int(first), rest)))
-        }
+        Left::Range(first, last) => Ok(Some((Value::Int(first), behind(first, last)))),
+    }
+}
+
+// What a range has left behind its first number.
+fn behind(first: i64, last: i64) -> Left
+    ensures { left_view result ≡ (if int_lt first last then OfRange (first +ℤ pos 1) last else OfList []) }
+{
+    if first < last {
+        Left::Range(first + 1, last)
+    } else {
+        Left::Nothing
     }
 }
 
@@ -70,10 +74,10 @@ pub(crate) fn turn(
     requires tells { Tells around.spots nodes.now }
     requires stands { Stands around nodes.now frames.old scopes.old }
     requires is { IsLoop nodes.now n body.now }
-    ensures moved { IfOk result (λ w. (s : Scene) (c : Seq Item) → Agrees s around frames.old scopes.old
+    ensures moved { IfOk result (λ w. (s : Scene) (c : Seq Item) → Agrees s around
         → IsMove (moves s (control around.spots (frame.Loop n left index ∷ inner frames.old)) (beside c around frames.old scopes.old)) w (local_of around frames.new scopes.new)) }
     ensures stands { OnOk result (Stands around nodes.now frames.new scopes.new) }
-    ensures settled { OnOk result (IsSettled nodes.now (inner frames.new)) }
+    ensures left { IfOk result (λ w. IsLeft nodes.now w (inner frames.new)) }
 {
     let found = next_of(alloc, left)?;
     let Some(both) = found else {

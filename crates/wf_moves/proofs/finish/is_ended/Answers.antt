@@ -3,13 +3,13 @@ use Rattle.std.proofs.Math.Dec.{leb}
 use Rattle.std.specs.Prelude.{is_some}
 use Rattle.wf_frames.specs.Fits.{HasNode}
 use Rattle.wf_frames.specs.declared.frames.Frame.TheVariants as frame
-use Rattle.wf_moves.proofs.Leaving.{do_has, do_settled, entries_have, entries_settled, has_entries, has_list}
+use Rattle.wf_moves.proofs.Leaving.{do_has, do_settled, entries_have, entries_settled, has_entries, has_list, lone_has, lone_settled}
 use Rattle.wf_moves.specs.Moved.{HasMove, Settled}
 use Rattle.wf_nodes.specs.Kinds.{block_view}
 use Rattle.wf_moves.proofs.finish.is_ended.Goals as goal
 
-pub block-requires-clause-list : goal.block-requires-clause-list
-block-requires-clause-list g c = has_list c.args.nodes.now c.args.frame.now c.in-Do.list c.in-Do.at c.requires.1 c.in-Do.is
+pub block-requires : goal.block-requires
+block-requires g c = has_list c.args.nodes.now c.args.frame.now c.in-Do.list c.in-Do.at c.requires.1 c.in-Do.is
 
 pub entries-requires : goal.entries-requires
 entries-requires g c = has_entries c.args.nodes.now c.args.frame.now c.in-Entries.n c.in-Entries.at c.requires.1 c.in-Entries.is
@@ -33,3 +33,9 @@ pub returns-in-Entries-clause-moves : goal.returns-in-Entries-clause-moves
 returns-in-Entries-clause-moves g c q =
     subst (HasMove c.args.nodes.now) (sym c.in-Entries.is)
     (entries_have c.args.nodes.now c.in-Entries.n c.in-Entries.at c.entries.result.now c.len-in-Entries.result c.entries.ensures c.len-in-Entries.ensures q)
+
+pub returns-in-Lone-clause-settled : goal.returns-in-Lone-clause-settled
+returns-in-Lone-clause-settled g c = subst (λ f. Settled g.ns c.in-Lone.done f) (sym c.in-Lone.is) (lone_settled g.ns c.in-Lone.field-0 c.in-Lone.done)
+
+pub returns-in-Lone-clause-moves : goal.returns-in-Lone-clause-moves
+returns-in-Lone-clause-moves g c q = subst (HasMove c.args.nodes.now) (sym c.in-Lone.is) (lone_has c.args.nodes.now c.in-Lone.field-0 c.in-Lone.done q)
