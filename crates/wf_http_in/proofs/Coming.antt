@@ -127,6 +127,9 @@ body_read s next r f heard unread left content piece grown new was read now e is
     (comes e r f read (heard ++ piece) (body.0 ++ piece) left grown (behind_grows heard r f body.0 piece behind) told)
 
 -- ## What is kept
+pub head_little : (s : Stage) (unread content : List ℕ) (c : Chunks) → s ≡ stage.Head → KeepsLittle s unread c content
+head_little s unread content c is = subst (λ (t : Stage). KeepsLittle t unread c content) (sym is) tt
+
 -- of a body that comes
 pub body_little : (s : Stage) (r : HeadData) (f : Framing) (unread content new : List ℕ) (was c : Chunks) → s ≡ stage.Body r f → ((f ≢ framing.InChunks) → c ≡ was)
     → KeepsLittle s unread was content → KeepsLittle s unread c new

@@ -2,8 +2,8 @@ use Rattle.std.proofs.Common.{ℕ, ap, arith, drop, inl, refl, subst, sym, ◌�
 use Rattle.wf_http_body.specs.Parts.{IsFresh}
 use Rattle.wf_http_in.specs.declared.stage.Stage.{Stage}
 use Rattle.wf_http_in.specs.declared.stage.Stage.TheVariants as stage
-use Rattle.wf_http_in.specs.Stages.{IsStage, KeepsLittle}
-use Rattle.wf_http_in.proofs.Coming.{head_bad, head_open, head_read, refused_little}
+use Rattle.wf_http_in.specs.Stages.{IsStage}
+use Rattle.wf_http_in.proofs.Coming.{head_bad, head_little, head_open, head_read, refused_little}
 use Rattle.wf_http_in.proofs.reading.Reading.read_head.Goals as goal
 
 pub returns-in-NotYet-clause-read : goal.returns-in-NotYet-clause-read
@@ -13,7 +13,7 @@ returns-in-NotYet-clause-read c = λ heard at.
     (
       head_open _ c.in_ok-passed.heading c.in_ok-passed.passed heard r.unread.items c.args.piece.now c.find_head.new.heard.items _ r.content.items _ r.chunks _ at_head c.in-NotYet.is c.in_ok-passed.ensures.found
     (c.pass.ensures.stage ∙ c.requires) c.pass.ensures.unread c.pass.ensures.chunks c.pass.ensures.content,
-      subst (λ (s : Stage). KeepsLittle s _ _ _) (sym (c.pass.ensures.stage ∙ c.requires)) tt,
+      head_little _ _ _ _ (c.pass.ensures.stage ∙ c.requires),
     )
 
 pub returns-in-Bad-clause-read : goal.returns-in-Bad-clause-read
