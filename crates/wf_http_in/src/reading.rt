@@ -177,10 +177,9 @@ impl Reading {
         ensures stage { self.new.stage ≡ settled end self.old.stage }
         ensures left { Leaves end self.old.chunks self.new.chunks
             self.old.content.items self.new.content.items }
-        ensures little {
-            KeepsLittle self.old.stage self.old.unread.items self.old.chunks self.old.content.items
+        ensures little { KeepsLittle self.old.stage self.old.unread.items self.old.chunks self.old.content.items
             → KeepsLittle self.new.stage self.new.unread.items
-                self.new.chunks self.new.content.items }
+            self.new.chunks self.new.content.items }
         ensures close { self.new.close ≡ self.old.close }
     {
         match end {

@@ -150,10 +150,9 @@ impl Visit {
         ensures stage { self.new.stage ≡ settled end self.old.stage }
         ensures left { Leaves end self.old.chunks self.new.chunks
             self.old.content.items self.new.content.items }
-        ensures little {
-            KeepsLittle self.old.stage self.old.unread.items self.old.chunks self.old.content.items
+        ensures little { KeepsLittle self.old.stage self.old.unread.items self.old.chunks self.old.content.items
             → KeepsLittle self.new.stage self.new.unread.items
-                self.new.chunks self.new.content.items }
+            self.new.chunks self.new.content.items }
         ensures ended { self.new.is_ended ≡ self.old.is_ended }
     {
         match end {

@@ -9,20 +9,18 @@ use Rattle.wf_http_in.proofs.reading.Reading.read_head.Goals as goal
 pub returns-in-NotYet-clause-read : goal.returns-in-NotYet-clause-read
 returns-in-NotYet-clause-read c = λ heard at.
     let r = c.args.self.now in
-    let at_head = subst (λ (s : Stage). IsStage s r.unread.items r.chunks r.content.items heard) c.requires at in
-    (
+    let at_head = subst (λ (s : Stage). IsStage s r.unread.items r.chunks r.content.items heard) c.requires at in (
       head_open _ c.in_ok-passed.heading c.in_ok-passed.passed heard r.unread.items c.args.piece.now c.find_head.new.heard.items _ r.content.items _ r.chunks _ at_head c.in-NotYet.is c.in_ok-passed.ensures.found
-    (c.pass.ensures.stage ∙ c.requires) c.pass.ensures.unread c.pass.ensures.chunks c.pass.ensures.content,
+          (c.pass.ensures.stage ∙ c.requires) c.pass.ensures.unread c.pass.ensures.chunks c.pass.ensures.content,
       head_little _ _ _ _ (c.pass.ensures.stage ∙ c.requires),
     )
 
 pub returns-in-Bad-clause-read : goal.returns-in-Bad-clause-read
 returns-in-Bad-clause-read c = λ heard at.
     let r = c.args.self.now in
-    let at_head = subst (λ (s : Stage). IsStage s r.unread.items r.chunks r.content.items heard) c.requires at in
-    (
+    let at_head = subst (λ (s : Stage). IsStage s r.unread.items r.chunks r.content.items heard) c.requires at in (
       head_bad _ c.in_ok-passed.heading c.in_ok-passed.passed heard r.unread.items c.args.piece.now c.find_head.new.heard.items _ r.content.items _ r.chunks _ at_head c.in-Bad.is c.in_ok-passed.ensures.found
-    c.refuse.ensures.stage,
+          c.refuse.ensures.stage,
       refused_little stage.Bad _ _ _ _ c.refuse.ensures.stage (inl refl) c.refuse.ensures.unread c.refuse.ensures.chunks c.refuse.ensures.content,
     )
 
@@ -30,10 +28,9 @@ pub returns-in_ok-end-in-Whole-clause-read : goal.returns-in_ok-end-in-Whole-cla
 returns-in_ok-end-in-Whole-clause-read c = λ heard at.
     let r = c.args.self.now in
     let at_head = subst (λ (s : Stage). IsStage s r.unread.items r.chunks r.content.items heard) c.requires at in
-    let rest_is = c.split_at.ensures.back ∙ ap (λ (k : ℕ). drop k c.args.piece.now) (omega arith) in
-    (
+    let rest_is = c.split_at.ensures.back ∙ ap (λ (k : ℕ). drop k c.args.piece.now) (omega arith) in (
       head_read _ c.in_ok-passed.heading c.in-Whole.head c.in-Whole.framing c.in_ok-passed.passed c.in-Whole.len heard r.unread.items c.args.piece.now c.find_head.new.heard.items c.split_at.result.1.now _
-    r.content.items c.read_body.new.content.items _ r.chunks c.read_body.new.chunks _ c.in_ok-end-in-Whole.end at_head c.in-Whole.is c.in_ok-passed.ensures.found rest_is c.in_ok-end-in-Whole.ensures.read
-    c.settle.ensures.stage c.settle.ensures.left,
+          r.content.items c.read_body.new.content.items _ r.chunks c.read_body.new.chunks _ c.in_ok-end-in-Whole.end at_head c.in-Whole.is c.in_ok-passed.ensures.found rest_is c.in_ok-end-in-Whole.ensures.read
+          c.settle.ensures.stage c.settle.ensures.left,
       c.settle.ensures.little (c.new.ensures.items, λ other. subst IsFresh (sym (c.in_ok-end-in-Whole.ensures.chunks other)) at_head.2),
     )
