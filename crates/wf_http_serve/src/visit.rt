@@ -148,11 +148,12 @@ impl Visit {
     // Goes to the stage behind an end.
     fn settle(&mut self, end: End)
         ensures stage { self.new.stage ≡ settled end self.old.stage }
-        ensures left { Leaves end self.old.chunks self.new.chunks
-            self.old.content.items self.new.content.items }
-        ensures little { KeepsLittle self.old.stage self.old.unread.items self.old.chunks self.old.content.items
-            → KeepsLittle self.new.stage self.new.unread.items
-            self.new.chunks self.new.content.items }
+        ensures left { Leaves end self.old.chunks self.new.chunks self.old.content.items
+            self.new.content.items }
+        ensures little { KeepsLittle self.old.stage self.old.unread.items self.old.chunks
+            self.old.content.items
+            → KeepsLittle self.new.stage self.new.unread.items self.new.chunks
+            self.new.content.items }
         ensures ended { self.new.is_ended ≡ self.old.is_ended }
     {
         match end {
