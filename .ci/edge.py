@@ -1,6 +1,6 @@
 #!/usr/bin/env python3
 """Tries the built program at the edges that no clause speaks of: closed descriptors, two processes on one journal, files that must not be made, a
-journal that can only be read, the folder of a new journal, what it costs to read a large value, and what to check a large source.
+journal that can only be read, the folder of a new journal, what it costs to read a large value, to check a large source, and to hear a body in pieces.
 
 Nothing here rests on time. Every process ends by itself or is ended by its own handle.
 """
@@ -15,6 +15,7 @@ import sys
 import tempfile
 
 PROGRAM = os.path.abspath(sys.argv[1] if len(sys.argv) > 1 else "crates/workflow/out/workflow")
+ANSWERS = os.path.abspath("crates/http_cases/out/http_cases")
 SOURCE = b'[{"a":{"assign":[{"t":"${sys.now()}"}]}},{"b":{"return":"${t}"}}]'
 SEVEN = b'[{"a":{"return":7}}]'
 ROUNDS = 60
@@ -228,8 +229,38 @@ def cost_of_a_source(folder):
             assert count <= MOST_INSTRUCTIONS, f"{shape}: {count} instructions"
 
 
+def answers_of(count):
+    """Answers with so many bytes of body: by their length, in one chunk, and in chunks of ten bytes."""
+    chunked = b"HTTP/1.1 200 OK\r\nTransfer-Encoding: chunked\r\n\r\n"
+    return {
+        "by length": b"HTTP/1.1 200 OK\r\nContent-Length: %d\r\n\r\n" % count + b"x" * count,
+        "in one chunk": chunked + b"%x\r\n" % count + b"x" * count + b"\r\n0\r\n\r\n",
+        "in chunks": chunked + (b"a\r\n" + b"x" * 10 + b"\r\n") * (count // 10) + b"0\r\n\r\n",
+    }
+
+
+def hearing(answer):
+    """How many instructions http_cases takes to hear an answer whole and in pieces: one by one up to 3,000 bytes, else 2,500 at a time."""
+    case = f'answers ["{answer.hex()}","open"]\n'.encode()
+    shell = ["valgrind", "--tool=callgrind", "--callgrind-out-file=/dev/null", ANSWERS]
+    ended = subprocess.run(shell, input=case, stdout=subprocess.PIPE, stderr=subprocess.PIPE, timeout=300)
+    assert ended.returncode == 0, ended
+    return int(re.search(rb"Collected : (\d+)", ended.stderr).group(1))
+
+
+def cost_of_an_answer(folder):
+    """A body that comes in pieces costs what its bytes do: twice as many cost twice as much, where valgrind is there."""
+    if not shutil.which("valgrind"):
+        print("edge: valgrind isn't there, so the cost of hearing a body isn't looked at")
+        return
+    for shape in answers_of(0):
+        for size in [400, 50000]:
+            first, second, third = (hearing(answers_of(times * size)[shape]) for times in [1, 2, 4])
+            assert third - second <= 2.2 * (second - first), f"{shape}, from {size} bytes: {first}, {second}, {third} instructions"
+
+
 def main():
-    tries = [closed_descriptors, held_journal, two_at_once, no_file_is_made, read_only, synced_folder, large_value, cost_of_a_source]
+    tries = [closed_descriptors, held_journal, two_at_once, no_file_is_made, read_only, synced_folder, large_value, cost_of_a_source, cost_of_an_answer]
     for it in tries:
         with tempfile.TemporaryDirectory() as folder:
             it(folder)
