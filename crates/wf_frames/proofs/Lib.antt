@@ -3,5 +3,7 @@ pub mod Owning
 pub mod Placing
 pub mod Reversed
 pub mod Seeing
+pub mod Standing
 pub mod Storing
 pub mod Stores
+pub mod Sums

@@ -4,13 +4,14 @@ use Rattle.std.specs.Prelude.{nat_eq, nat_le, if◌then◌else◌, map as each, 
 use Rattle.std.proofs.lemmas.Bool.{and_parts, eqb-true, eq-eqb, ne_eqb, false≢true}
 use Rattle.wf_frames.proofs.Stores.{OwnStay, KeysStay, Stays, keys_same, keys_stand_same, own_same, own_stand_same}
 use Rattle.wf_frames.proofs.Owning.{innermost_own}
+use Rattle.wf_frames.proofs.Sums.{SumIs, sum_more, total_so}
 use Rattle.wf_frames.specs.Frames.{innermost, own, owned}
 use Rattle.wf_frames.specs.Held.{Held, standing}
 use Rattle.wf_frames.specs.Owned.{AreAlone, Around, IsInside, IsLinked, KeysStand, Linked, OnlyInside, OwnStand, first_key, held_of, next_own, outer_for}
 use Rattle.wf_frames.specs.Turns.{Enters, bound_all, names_of}
 use Rattle.wf_frames.specs.declared.frames.Frame.{Frame}
 use Rattle.wf_model.specs.Config.{limits}
-use Rattle.wf_model.specs.Local.{Scene, total}
+use Rattle.wf_model.specs.Local.{Scene, layers_total, outers_total, total}
 use Rattle.wf_model.specs.Layers as model
 use Rattle.wf_scope.proofs.Kept.{find_more}
 use Rattle.wf_scope.proofs.Numbers.{find_head, find_tail, found_cases, number_found}
@@ -227,9 +228,9 @@ module _ (a : Around) (p : ℕ) (fs : List Frame) (x : Scopes) (o d : ℕ) (xs :
       sym (ap (λ (k : ℕ). bound_all k n xs ms) l ∙ ap (λ (k : ℕ). bound_all x.limit k xs ms) e ∙ ap (bound_all x.limit (fresh (layers_of x)) xs) m) ∙ t
 
   -- the model's layer is bound within the same limit
-  opened_so : (s : Scene) → (limits s.facts.rules).variables ≡ a.limit → total s (standing [] (held_of a.keys (owned p fs) (layers_of x))) ≡ total_of (layers_of x)
+  opened_so : (s : Scene) → (limits s.facts.rules).variables ≡ a.limit → s.others ≡ a.others
       → model.opened s (standing [] (held_of a.keys (owned p fs) (layers_of x))) xs ≡ model.bound x.limit (total_of (layers_of x)) xs no_pairs
-  opened_so s lim sum = ap (λ (k : ℕ). model.bound k (total s (standing [] (held_of a.keys (owned p fs) (layers_of x)))) xs no_pairs) (lim ∙ sym h.limit) ∙ ap (λ (k : ℕ). model.bound x.limit k xs no_pairs) sum
+  opened_so s lim sum = ap (λ (k : ℕ). model.bound k (total s (standing [] (held_of a.keys (owned p fs) (layers_of x)))) xs no_pairs) (lim ∙ sym h.limit) ∙ ap (λ (k : ℕ). model.bound x.limit k xs no_pairs) (total_so a (owned p fs) x s h sum)
 
   -- the names fit
   module _ (y : Scopes) (told : bound_all x.limit (fresh (layers_of x)) xs (opened (Some o) d (layers_of x)) ≡ Ok (layers_of y)) (limit : y.limit ≡ x.limit) where
@@ -242,19 +243,27 @@ module _ (a : Around) (p : ℕ) (fs : List Frame) (x : Scopes) (o d : ℕ) (xs :
         subst (λ os. Links a.keys os (layers_of x) fitted.2.layer) (sym i.is)
         (linked_in a.keys i.top i.rest (layers_of x) fitted.2.layer all (subst (λ os. Linked a.keys os (layers_of x)) i.is h.layers) fitted.2.number (fitted.2.inside ∙ ap Some (is ∙ sym i.number)))
 
+    last_vars : vars_at (fresh (layers_of x)) (layers_of x ++ fitted.2.layer ∷ []) ≡ fitted.2.layer.vars
+    last_vars =
+        let none : find fitted.2.layer.number (layers_of x) ≡ None = ap (λ (n : ℕ). find n (layers_of x)) fitted.2.number ∙ fresh_none (layers_of x) in
+        ap (λ (n : ℕ). vars_at n (layers_of x ++ fitted.2.layer ∷ [])) (sym fitted.2.number) ∙ ap vars_in (find_last fitted.2.layer.number fitted.2.layer refl (layers_of x) none)
+
     pub entered_linked : IsLinked a (own (fresh (layers_of x)) false ∷ owned p fs) y
     entered_linked = record {
       layers = subst (λ ls. Linked a.keys (own (fresh (layers_of x)) false ∷ owned p fs) ls) (sym fitted.2.is) (subst (λ (n : ℕ). Linked a.keys (own n false ∷ owned p fs) (layers_of x ++ fitted.2.layer ∷ [])) fitted.2.number links.linked);
       limit = limit ∙ h.limit;
       order = λ m. subst (λ ls. IsInOrder (vars_at m ls)) (sym fitted.2.is) (order_last (layers_of x) fitted.2.layer fitted.2.order m (h.order m));
+      sum = subst (λ ls. SumIs a (own (fresh (layers_of x)) false ∷ owned p fs) ls) (sym fitted.2.is)
+          (sum_more (pairs_size (pairs_of (vars_at (fresh (layers_of x)) (layers_of x ++ fitted.2.layer ∷ [])))) (layers_total (own_layers (owned p fs) (layers_of x))) (outers_total (far_layers a.keys (layers_of x))) a.others (total_of (layers_of x))
+          (layers_total (own_layers (owned p fs) (layers_of x ++ fitted.2.layer ∷ []))) (outers_total (far_layers a.keys (layers_of x ++ fitted.2.layer ∷ []))) (total_of (layers_of x ++ fitted.2.layer ∷ []))
+          h.sum (total_last (layers_of x) fitted.2.layer ∙ ap (λ ps. total_of (layers_of x) + pairs_size (pairs_of ps)) (sym last_vars)) (ap layers_total links.own_layers_are) (ap outers_total links.far_layers_are));
     }
 
-    pub entered_so : (s : Scene) → (limits s.facts.rules).variables ≡ a.limit → total s (standing [] (held_of a.keys (owned p fs) (layers_of x))) ≡ total_of (layers_of x)
+    pub entered_so : (s : Scene) → (limits s.facts.rules).variables ≡ a.limit → s.others ≡ a.others
         → Enters s (Some (fresh (layers_of x))) (held_of a.keys (owned p fs) (layers_of x)) xs (held_of a.keys (own (fresh (layers_of x)) false ∷ owned p fs) (layers_of y))
     entered_so s lim sum =
         let new = layers_of x ++ fitted.2.layer ∷ [] in
-        let none : find fitted.2.layer.number (layers_of x) ≡ None = ap (λ (n : ℕ). find n (layers_of x)) fitted.2.number ∙ fresh_none (layers_of x) in
-        let vars : pairs_of (vars_at (fresh (layers_of x)) new) ≡ fitted.0 = ap (λ (n : ℕ). pairs_of (vars_at n new)) (sym fitted.2.number) ∙ ap (λ g. pairs_of (vars_in g)) (find_last fitted.2.layer.number fitted.2.layer refl (layers_of x) none) ∙ fitted.2.vars in (
+        let vars : pairs_of (vars_at (fresh (layers_of x)) new) ≡ fitted.0 = ap pairs_of last_vars ∙ fitted.2.vars in (
           fitted.0,
           opened_so s lim sum ∙ fitted.1,
           ap (held_of a.keys (own (fresh (layers_of x)) false ∷ owned p fs)) fitted.2.is
@@ -265,7 +274,7 @@ module _ (a : Around) (p : ℕ) (fs : List Frame) (x : Scopes) (o d : ℕ) (xs :
 
   -- they don't
   pub refused_so : (y : Scopes) → bound_all x.limit (fresh (layers_of x)) xs (opened (Some o) d (layers_of x)) ≡ Err fault.TooLarge → layers_of y ≡ layers_of x → (s : Scene) → (limits s.facts.rules).variables ≡ a.limit
-      → total s (standing [] (held_of a.keys (owned p fs) (layers_of x))) ≡ total_of (layers_of x) → Enters s None (held_of a.keys (owned p fs) (layers_of x)) xs (held_of a.keys (owned p fs) (layers_of y))
+      → s.others ≡ a.others → Enters s None (held_of a.keys (owned p fs) (layers_of x)) xs (held_of a.keys (owned p fs) (layers_of y))
   refused_so y told same s lim sum =
       (opened_so s lim sum ∙ subst (λ r. Same x.limit (fresh (layers_of x)) (layers_of x) (fresh_none (layers_of x)) (Some o) r (model.bound x.limit (total_of (layers_of x)) xs no_pairs)) told bound_so, ap (held_of a.keys (owned p fs)) same)
 

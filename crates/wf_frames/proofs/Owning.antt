@@ -1,18 +1,23 @@
 -- A task's layers, by its frames.
-use Rattle.std.proofs.Common.{◌≡◌, ◌<◌, ℕ, zero, suc, Bool, true, false, List, [], ◌∷◌, ◌++◌, length, take, get_or, Option, Some, None, refl, sym, ap, subst, ◌∙◌, arith}
+use Rattle.std.proofs.Common.{◌≡◌, ◌<◌, ℕ, zero, suc, ◌+◌, Bool, true, false, List, [], ◌∷◌, ◌++◌, length, take, get_or, Option, Some, None, refl, sym, ap, subst, ◌∙◌, arith}
 use Rattle.std.specs.Prelude.{drop, reverse}
 use Rattle.wf_frames.proofs.Reversed.{reverse_push}
 use Rattle.wf_frames.proofs.Stores.{Closes, closes, order_closed}
+use Rattle.wf_frames.proofs.Sums.{SumIs, sum_closed}
 use Rattle.wf_frames.specs.Frames.{innermost, mark_of, own, owned, popped}
 use Rattle.wf_frames.specs.Held.{Held}
 use Rattle.wf_frames.specs.Owned.{Around, IsLinked, Linked, held_of}
 use Rattle.wf_frames.specs.Turns.{Leaves, dropped}
 use Rattle.wf_frames.specs.declared.frames.Frame.{Frame}
 use Rattle.wf_frames.specs.declared.frames.Frame.TheVariants as frame
-use Rattle.wf_scope.specs.Layers.{closed, rises, vars_at}
+use Rattle.wf_model.specs.Local.{layers_total, outers_total}
+use Rattle.wf_scope.proofs.Seen.{vars_found}
+use Rattle.wf_scope.proofs.Totals.{total_closed}
+use Rattle.wf_scope.specs.Layers.{closed, rises, total_of, vars_at}
 use Rattle.wf_scope.specs.Store.{layers_of}
-use Rattle.wf_scope.specs.Tasks.{Own}
+use Rattle.wf_scope.specs.Tasks.{Own, far_layers, own_layers}
 use Rattle.wf_scope.specs.declared.scopes.Scopes.{Scopes}
+use Rattle.wf_value.specs.Data.{pairs_of, pairs_size}
 use Rattle.wf_value.specs.Maps.{IsInOrder}
 
 pub owned_mark : (first : ℕ) (f : Frame) (n : ℕ) (fs : List Frame) → mark_of f ≡ Some n → owned first (f ∷ fs) ≡ own n false ∷ owned first fs
@@ -72,6 +77,15 @@ module _ (a : Around) (p q first : ℕ) (f : Frame) (n : ℕ) (old new : List Fr
   pub mark_closes : Closes a.keys (own n false) (owned first new) (layers_of x)
   mark_closes = closes a.keys (own n false) (owned first new) (layers_of x) r (subst (λ os. Linked a.keys os (layers_of x)) opens h.layers)
 
+  mark_sum : SumIs a (owned first new) (closed n (layers_of x))
+  mark_sum =
+      let ls = layers_of x in
+      let os = owned first new in
+      let i = (subst (λ os. Linked a.keys os ls) opens h.layers).stand.0 in
+      sum_closed (pairs_size (pairs_of (vars_at n ls))) (layers_total (own_layers os ls)) (outers_total (far_layers a.keys ls)) a.others (total_of ls) (total_of (closed n ls)) (layers_total (own_layers os (closed n ls))) (outers_total (far_layers a.keys (closed n ls)))
+      (subst (λ ys. SumIs a ys ls) opens h.sum) (total_closed n ls i.0 i.1 ∙ ap (λ ps. pairs_size (pairs_of ps) + total_of (closed n ls)) (sym (vars_found n ls i.0 i.1)))
+      (ap layers_total mark_closes.own) (ap outers_total mark_closes.outside)
+
   pub mark_left : (y : Scopes) → layers_of y ≡ closed n (layers_of x) → Leaves true old (held_of a.keys (owned p old) (layers_of x)) new (held_of a.keys (owned q new) (layers_of y))
   mark_left y e = (
     f,
@@ -86,6 +100,7 @@ module _ (a : Around) (p q first : ℕ) (f : Frame) (n : ℕ) (old new : List Fr
     layers = subst (λ (k : ℕ). Linked a.keys (owned k new) (layers_of y)) (sym same) (subst (λ ls. Linked a.keys (owned first new) ls) (sym e) mark_closes.linked);
     limit = l ∙ h.limit;
     order = λ m. subst (λ ls. IsInOrder (vars_at m ls)) (sym e) (order_closed n (layers_of x) r h.order m);
+    sum = subst (λ (k : ℕ). SumIs a (owned k new) (layers_of y)) (sym same) (subst (λ ls. SumIs a (owned first new) ls) (sym e) mark_sum);
   }
 
 -- it has none

@@ -4,6 +4,7 @@ use Rattle.std.specs.Prelude.{nat_eq, nat_le, if◌then◌else◌, ◌⊎◌}
 use Rattle.wf_frames.proofs.Owning.{innermost_own}
 use Rattle.wf_frames.proofs.Seeing.{sight_is}
 use Rattle.wf_frames.proofs.Stores.{inside_live}
+use Rattle.wf_frames.proofs.Sums.{SumIs, found_among, put_head, put_tail, sum_put, target_among, total_so}
 use Rattle.wf_frames.specs.Frames.{innermost, owned}
 use Rattle.wf_frames.specs.Held.{standing}
 use Rattle.wf_frames.specs.Owned.{AreAlone, Around, IsInside, IsLinked, KeysStand, Linked, OnlyInside, OwnStand, first_key, held_of, next_own, outer_for}
@@ -15,6 +16,7 @@ use Rattle.wf_model.specs.Layers.{Assigned, Done, Held, Refused, Undeclared, all
 use Rattle.wf_model.specs.Local.{Local, Scene, total}
 use Rattle.wf_scope.proofs.Assigns.{assigns}
 use Rattle.wf_scope.proofs.Numbers.{find_head, find_tail, found_cases}
+use Rattle.wf_scope.proofs.Seen.{vars_found}
 use Rattle.wf_scope.specs.Changes.{Answers, assigned, bound, bound_to, changed, target}
 use Rattle.wf_scope.specs.Faults.{faulted, raised}
 use Rattle.wf_scope.specs.Layers.{all_stand, find, put_at, total_of, vars_at, vars_in, with_variable}
@@ -33,24 +35,18 @@ use Rattle.wf_value.specs.declared.Tag.{Tag}
 
 -- ## A variable is put
 module _ (t : ℕ) (x : Text) (u : Data) where
-  put_head : (y : Layer) (ls : List Layer) → nat_eq y.number t ≡ true → put_at t x u (y ∷ ls) ≡ with_variable x u y ∷ ls
-  put_head y ls h = ap (λ (b : Bool). if b then with_variable x u y ∷ ls else y ∷ put_at t x u ls) h
-
-  put_tail : (y : Layer) (ls : List Layer) → nat_eq y.number t ≡ false → put_at t x u (y ∷ ls) ≡ y ∷ put_at t x u ls
-  put_tail y ls h = ap (λ (b : Bool). if b then with_variable x u y ∷ ls else y ∷ put_at t x u ls) h
-
   find_put : (m : ℕ) (ls : List Layer) (l : Layer) → find m ls ≡ Some l → (k : Layer) × (find m (put_at t x u ls) ≡ Some k) × (k.outer ≡ l.outer)
   find_put m [] l e = cc
   find_put m (y ∷ ls) l e = by (nat_eq y.number t) refl (λ q. find_put m ls l q)
     where
       by : (b : Bool) → nat_eq y.number t ≡ b → (find m ls ≡ Some l → (k : Layer) × (find m (put_at t x u ls) ≡ Some k) × (k.outer ≡ l.outer)) → (k : Layer) × (find m (put_at t x u (y ∷ ls)) ≡ Some k) × (k.outer ≡ l.outer)
       by true h later = elim (found_cases m y ls l e) [
-        | inl c ↦ (with_variable x u y, ap (find m) (put_head y ls h) ∙ find_head m (with_variable x u y) ls c.0, ap (λ (z : Layer). z.outer) c.1)
-        | inr c ↦ (l, ap (find m) (put_head y ls h) ∙ find_tail m (with_variable x u y) ls c.0 ∙ c.1, refl)
+        | inl c ↦ (with_variable x u y, ap (find m) (put_head t x u y ls h) ∙ find_head m (with_variable x u y) ls c.0, ap (λ (z : Layer). z.outer) c.1)
+        | inr c ↦ (l, ap (find m) (put_head t x u y ls h) ∙ find_tail m (with_variable x u y) ls c.0 ∙ c.1, refl)
       ]
       by false h later = elim (found_cases m y ls l e) [
-        | inl c ↦ (y, ap (find m) (put_tail y ls h) ∙ find_head m y (put_at t x u ls) c.0, ap (λ (z : Layer). z.outer) c.1)
-        | inr c ↦ let r = later c.1 in (r.0, ap (find m) (put_tail y ls h) ∙ find_tail m y (put_at t x u ls) c.0 ∙ r.1, r.2)
+        | inl c ↦ (y, ap (find m) (put_tail t x u y ls h) ∙ find_head m y (put_at t x u ls) c.0, ap (λ (z : Layer). z.outer) c.1)
+        | inr c ↦ let r = later c.1 in (r.0, ap (find m) (put_tail t x u y ls h) ∙ find_tail m y (put_at t x u ls) c.0 ∙ r.1, r.2)
       ]
 
   inside_put : (n : ℕ) (o : Option ℕ) (ls : List Layer) → IsInside n o ls → IsInside n o (put_at t x u ls)
@@ -101,34 +97,43 @@ module _ (t : ℕ) (x : Text) (u : Data) where
   }
 
 -- ## An assignment
--- what it leaves
-record Put (x : Text) (ls new : List Layer) : Type 0 where
-  number : ℕ
-  value : Data
-  is : new ≡ put_at number x value ls
-
-bound_put : (limit n : ℕ) (x : Text) (v : Data) (ls new : List Layer) → bound limit n x v ls ≡ Ok new → Put x ls new
+bound_put : (limit n : ℕ) (x : Text) (v : Data) (ls new : List Layer) → bound limit n x v ls ≡ Ok new → new ≡ put_at n x v ls
 bound_put limit n x v ls new e = by (nat_le (total_of (put_at n x v ls)) limit) (nat_le (depth v) 100) e
   where
-    by : (b c : Bool) → (if b then (if c then Ok (put_at n x v ls) else Err fault.TooDeep) else Err fault.TooLarge) ≡ Ok new → Put x ls new
-    by true true h = record { number = n; value = v; is = cc h }
+    by : (b c : Bool) → (if b then (if c then Ok (put_at n x v ls) else Err fault.TooDeep) else Err fault.TooLarge) ≡ Ok new → new ≡ put_at n x v ls
+    by true true h = cc h
     by true false h = absurd (cc h)
     by false c h = absurd (cc h)
 
-assigned_put : (limit n : ℕ) (x : Text) (path : List Data) (v : Data) (ls new : List Layer) → assigned limit n x path v ls ≡ Ok new → Put x ls new
+assigned_put : (limit n : ℕ) (x : Text) (path : List Data) (v : Data) (ls new : List Layer) → assigned limit n x path v ls ≡ Ok new → (u : Data) × (new ≡ put_at (target x n ls) x u ls)
 assigned_put limit n x path v ls new e = by (faulted (changed (value_at x (vars_at (target x n ls) ls)) path v)) e
   where
-    by : (r : Result Data AssignFault) → bound_to limit (target x n ls) x r ls ≡ Ok new → Put x ls new
-    by (Ok u) h = bound_put limit (target x n ls) x u ls new h
+    by : (r : Result Data AssignFault) → bound_to limit (target x n ls) x r ls ≡ Ok new → (u : Data) × (new ≡ put_at (target x n ls) x u ls)
+    by (Ok u) h = (u, bound_put limit (target x n ls) x u ls new h)
     by (Err f) h = absurd (cc h)
 
-pub assigned_linked : (a : Around) (os : List Own) (x y : Scopes) (limit n : ℕ) (name : Text) (path : List Data) (v : Data) → IsLinked a os x → assigned limit n name path v (layers_of x) ≡ Ok (layers_of y) → y.limit ≡ x.limit → IsLinked a os y
-assigned_linked a os x y limit n name path v h e l =
+-- the variable's layer is one of the task's
+sum_assigned : (a : Around) (o : Own) (os : List Own) (x : Scopes) (name : Text) (u : Data) → all_stand (layers_of x) (layers_of x) ≡ true → IsLinked a (o ∷ os) x
+    → SumIs a (o ∷ os) (put_at (target name o.number (layers_of x)) name u (layers_of x))
+sum_assigned a o os x name u all h =
+    let ls = layers_of x in
+    let m = target name o.number ls in
+    let among = target_among name o os a.keys ls (sight_is ls all a.keys o os h.layers.stand h.layers.keys) in
+    let d = found_among (first_key a.keys) (o ∷ os) a.keys ls m h.layers.stand h.layers.keys among in
+    sum_put a (o ∷ os) ls m name u d.0 d.1 (subst (λ ps. IsInOrder ps) (vars_found m ls d.0 d.1) (h.order m)) h.layers.apart among h.sum
+
+pub assigned_linked : (a : Around) (first : ℕ) (fs : List Frame) (x y : Scopes) (limit n : ℕ) (name : Text) (path : List Data) (v : Data) → all_stand (layers_of x) (layers_of x) ≡ true → IsLinked a (owned first fs) x → n ≡ innermost first fs
+    → assigned limit n name path v (layers_of x) ≡ Ok (layers_of y) → y.limit ≡ x.limit → IsLinked a (owned first fs) y
+assigned_linked a first fs x y limit n name path v all h is e l =
     let p = assigned_put limit n name path v (layers_of x) (layers_of y) e in
+    let i = innermost_own first fs in
     record {
-      layers = subst (λ ls. Linked a.keys os ls) (sym p.is) (linked_put p.number name p.value a.keys os (layers_of x) h.layers);
+      layers = subst (λ ls. Linked a.keys (owned first fs) ls) (sym p.1) (linked_put (target name n (layers_of x)) name p.0 a.keys (owned first fs) (layers_of x) h.layers);
       limit = l ∙ h.limit;
-      order = λ m. subst (λ ls. IsInOrder (vars_at m ls)) (sym p.is) (order_put p.number name p.value m (layers_of x) (h.order m));
+      order = λ m. subst (λ ls. IsInOrder (vars_at m ls)) (sym p.1) (order_put (target name n (layers_of x)) name p.0 m (layers_of x) (h.order m));
+      sum = subst (λ ls. SumIs a (owned first fs) ls) (sym p.1) (subst (λ os. SumIs a os (put_at (target name n (layers_of x)) name p.0 (layers_of x))) (sym i.is)
+          (subst (λ (k : ℕ). SumIs a (i.top ∷ i.rest) (put_at (target name k (layers_of x)) name p.0 (layers_of x))) (i.number ∙ sym is)
+          (sum_assigned a i.top i.rest x name p.0 all (subst (λ os. IsLinked a os x) i.is h))));
     }
 
 pub same_linked : (a : Around) (os : List Own) (x y : Scopes) → IsLinked a os x → layers_of y ≡ layers_of x → y.limit ≡ x.limit → IsLinked a os y
@@ -136,11 +141,12 @@ same_linked a os x y h e l = record {
   layers = subst (λ ls. Linked a.keys os ls) (sym e) h.layers;
   limit = l ∙ h.limit;
   order = λ m. subst (λ ls. IsInOrder (vars_at m ls)) (sym e) (h.order m);
+  sum = subst (λ ls. SumIs a os ls) (sym e) h.sum;
 }
 
 -- the store's answer is that of the task
 pub answers_same : (a : Around) (first : ℕ) (fs : List Frame) (x : Scopes) (n : ℕ) (s : Scene) → all_stand (layers_of x) (layers_of x) ≡ true → IsLinked a (owned first fs) x → n ≡ innermost first fs → (limits s.facts.rules).variables ≡ a.limit
-    → total s (standing [] (held_of a.keys (owned first fs) (layers_of x))) ≡ total_of (layers_of x) → (name : Text) (path : List Data) (v : Data)
+    → s.others ≡ a.others → (name : Text) (path : List Data) (v : Data)
     → SameAnswer (λ ls. standing [] (held_of a.keys (owned first fs) ls)) (assigned x.limit n name path v (layers_of x)) (assign s name path v (standing [] (held_of a.keys (owned first fs) (layers_of x))))
 answers_same a first fs x n s all h is limit sum name path v =
     let ls = layers_of x in
@@ -151,7 +157,7 @@ answers_same a first fs x n s all h is limit sum name path v =
       sight = sight_is ls all a.keys i.top i.rest l.stand l.keys;
       apart = l.apart;
       order = h.order;
-      sum = ap (λ os. total s (standing [] (held_of a.keys os ls))) (sym i.is) ∙ sum;
+      sum = ap (λ os. total s (standing [] (held_of a.keys os ls))) (sym i.is) ∙ total_so a (owned first fs) x s h sum;
     }) name path v in
     subst (λ os. SameAnswer (λ ys. standing [] (held_of a.keys os ys)) (assigned x.limit n name path v ls) (assign s name path v (standing [] (held_of a.keys os ls)))) (sym i.is)
     (subst (λ (k : ℕ). SameAnswer (λ ys. standing [] (held_of a.keys (i.top ∷ i.rest) ys)) (assigned x.limit k name path v ls) (assign s name path v (standing [] (held_of a.keys (i.top ∷ i.rest) ls)))) (i.number ∙ sym is)

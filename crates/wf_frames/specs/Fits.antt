@@ -2,13 +2,13 @@
 -- stands in.
 --     reach        what owns the lists that a jump may lead to
 --     Fits         for frames, innermost first
-use Rattle.std.specs.Prelude.{◌≡◌, ℕ, ◌<◌, ◌≤◌, Bool, true, false, List, [], ◌∷◌, length, slice_get, is_some, Some, None, Option, option_map}
+use Rattle.std.specs.Prelude.{◌≡◌, ℕ, ◌<◌, ◌≤◌, Bool, true, false, List, [], ◌∷◌, length, map, slice_get, is_some, Some, None, Option, option_map}
 use Rattle.wf_frames.specs.declared.frames.Frame.{Frame}
 use Rattle.wf_frames.specs.declared.frames.Frame.TheVariants as frame
 use Rattle.wf_nodes.specs.Kinds as kind
 use Rattle.wf_nodes.specs.Kinds.{Kind, Listed, View, node_view}
 use Rattle.wf_nodes.specs.Spots.{Spot, owners_at}
-use Rattle.wf_nodes.specs.Table.{list_at, outside}
+use Rattle.wf_nodes.specs.Table.{outside, view_list}
 use Rattle.wf_nodes.specs.declared.node.LoopNode.{LoopNode}
 use Rattle.wf_nodes.specs.declared.node.Node.{Node}
 use Rattle.wf_nodes.specs.declared.node.NodeKind.TheVariants as variant
@@ -23,6 +23,13 @@ reach (f ∷ fs) = reach fs
 -- ## Nodes
 abbrev pub view_at : List Node → ℕ → Option View
 view_at nodes n = option_map node_view (slice_get nodes n)
+
+abbrev pub views : List Node → List View
+views nodes = map node_view nodes
+
+-- the list of steps that the node of a number owns
+abbrev pub list_at : List Node → ℕ → Option Listed
+list_at nodes n = view_list (view_at nodes n)
 
 -- the numbers of an assign's entries
 abbrev pub kind_entries : Kind → Option (List ℕ)

@@ -4,5 +4,6 @@ pub mod Held
 pub mod Keys
 pub mod Owned
 pub mod Sights
+pub mod Standing
 pub mod Stands
 pub mod Turns

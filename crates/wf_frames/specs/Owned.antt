@@ -3,13 +3,13 @@
 --     held_of         the layers, by what the store holds
 --     Linked          how they stand in each other, and that nothing else stands inside the task's own
 --     local_of        the task by itself
-use Rattle.std.specs.Prelude.{◌≡◌, ℕ, Bool, true, false, List, [], ◌∷◌, Some, None, Option}
+use Rattle.std.specs.Prelude.{◌≡◌, ℕ, ◌+◌, Bool, true, false, List, [], ◌∷◌, Some, None, Option}
 use Rattle.wf_frames.specs.Frames.{control, inner, owned}
 use Rattle.wf_frames.specs.Held.{Held, standing}
 use Rattle.wf_frames.specs.declared.frames.Frames.{Frames}
 use Rattle.wf_model.specs.Config.{Item}
-use Rattle.wf_model.specs.Local.{Local}
-use Rattle.wf_scope.specs.Layers.{find, vars_at}
+use Rattle.wf_model.specs.Local.{Local, layers_total, outers_total}
+use Rattle.wf_scope.specs.Layers.{find, total_of, vars_at}
 use Rattle.wf_scope.specs.Store.{layers_of}
 use Rattle.wf_scope.specs.Tasks.{AreApart, Far, Own, far_layers, numbers, own_layers}
 use Rattle.wf_scope.specs.declared.layer.Layer.{Layer}
@@ -68,11 +68,13 @@ pub record Linked (ks : List Far) (os : List Own) (ls : List Layer) : Type 0 whe
   pub alone : AreAlone None os ls
 
 -- ## Of a task
--- what stands around a task: the parts of its program, the layers that it sees outside, and the limit on variables
+-- what stands around a task: the parts of its program, the layers that it sees outside, the limit on variables, and what those come to
+-- that it doesn't see
 pub record Around : Type 0 where
   pub spots : List Spot
   pub keys : List Far
   pub limit : ℕ
+  pub others : ℕ
 
 abbrev pub own_of : Frames → List Own
 own_of fs = owned fs.first (inner fs)
@@ -80,11 +82,13 @@ own_of fs = owned fs.first (inner fs)
 abbrev pub held_by : Around → Frames → Scopes → Held
 held_by a fs x = held_of a.keys (own_of fs) (layers_of x)
 
--- its layers stand in the store, where the limit is this one and each layer has its variables in order
+-- its layers stand in the store, where the limit is this one, each layer has its variables in order, and those that it doesn't see come to
+-- what is left
 pub record IsLinked (a : Around) (os : List Own) (x : Scopes) : Type 0 where
   pub layers : Linked a.keys os (layers_of x)
   pub limit : x.limit ≡ a.limit
   pub order : (n : ℕ) → IsInOrder (vars_at n (layers_of x))
+  pub sum : layers_total (own_layers os (layers_of x)) + outers_total (far_layers a.keys (layers_of x)) + a.others ≡ total_of (layers_of x)
 
 abbrev pub control_of : Around → Frames → List Item
 control_of a fs = control a.spots (inner fs)

@@ -5,20 +5,16 @@
 use Rattle.std.specs.Prelude.{◌≡◌, ℕ, ℤ, Bool, true, false, List, [], ◌∷◌, drop, Some, None, Ok, Err, Option, Result, ◌⊎◌}
 use Rattle.wf_frames.specs.Frames.{own}
 use Rattle.wf_frames.specs.Held.{Held, standing}
-use Rattle.wf_frames.specs.Owned.{Around, beside}
+use Rattle.wf_frames.specs.Owned.{Around}
 use Rattle.wf_frames.specs.declared.frames.Frame.{Frame}
 use Rattle.wf_frames.specs.declared.frames.Frame.TheVariants as frame
-use Rattle.wf_frames.specs.declared.frames.Frames.{Frames}
 use Rattle.wf_model.specs.Config.{Item, limits}
 use Rattle.wf_model.specs.Layers.{opened, assign, Done, Refused, Undeclared}
-use Rattle.wf_model.specs.Local.{Local, Scene, total, leave}
+use Rattle.wf_model.specs.Local.{Local, Scene, leave}
 use Rattle.wf_scope.specs.Changes.{bound}
-use Rattle.wf_scope.specs.Layers.{total_of}
-use Rattle.wf_scope.specs.Store.{layers_of}
 use Rattle.wf_scope.specs.Tasks.{Own}
 use Rattle.wf_scope.specs.declared.fault.AssignFault.{AssignFault}
 use Rattle.wf_scope.specs.declared.layer.Layer.{Layer}
-use Rattle.wf_scope.specs.declared.scopes.Scopes.{Scopes}
 use Rattle.wf_value.specs.Data.{Data, integer, Pairs}
 use Rattle.wf_value.specs.Errors.{error_map}
 use Rattle.wf_value.specs.Pairs.{Text}
@@ -71,6 +67,6 @@ Writes s None h x ks v g = (assign s x ks v (standing [] h) ≡ Undeclared) ⊎ 
 Writes s (Some t) h x ks v g = (g ≡ h) × ((assign s x ks v (standing [] h) ≡ Undeclared) ⊎ (assign s x ks v (standing [] h) ≡ Refused t))
 
 -- ## Sums
--- the scene's limit and total of variables are those of the store
-abbrev pub Agrees : Scene → Around → Frames → Scopes → Type 0
-Agrees s a fs x = ((limits s.facts.rules).variables ≡ a.limit) × (total s (beside [] a fs x) ≡ total_of (layers_of x))
+-- the scene's limit on variables, and what those come to that the task doesn't see
+abbrev pub Agrees : Scene → Around → Type 0
+Agrees s a = ((limits s.facts.rules).variables ≡ a.limit) × (s.others ≡ a.others)

@@ -26,7 +26,7 @@ pub fn enter(
     ghost around: { Around }
     requires linked { IsLinked around (own_of frames.now) scopes.old }
     requires at { at < 9223372036854775808 }
-    ensures entered { IfOk result (λ o. (s : Scene) → Agrees s around frames.now scopes.old
+    ensures entered { IfOk result (λ o. (s : Scene) → Agrees s around
         → Enters s o (held_by around frames.now scopes.old) (names_of name.now (plain value) index.now (pos at)) (held_of around.keys (with_own o (own_of frames.now)) (layers_of scopes.new))) }
     ensures linked { IfOk result (λ o. IsLinked around (with_own o (own_of frames.now)) scopes.new) }
 {

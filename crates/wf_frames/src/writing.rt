@@ -24,7 +24,7 @@ pub fn assign(
 ) -> Result<Option<Tag>, OutOfMemory>
     ghost around: { Around }
     requires { IsLinked around (own_of frames.now) scopes.old }
-    ensures written { IfOk result (λ o. (s : Scene) → Agrees s around frames.now scopes.old
+    ensures written { IfOk result (λ o. (s : Scene) → Agrees s around
         → Writes s o (held_by around frames.now scopes.old) name.now (plain_items places.now) (plain value) (held_by around frames.now scopes.new)) }
     ensures linked { IfOk result (λ o. IsLinked around (own_of frames.now) scopes.new) }
 {
@@ -44,7 +44,7 @@ fn put(
 ) -> Result<Option<Tag>, OutOfMemory>
     ghost around: { Around }
     requires { IsLinked around (own_of frames.now) scopes.old }
-    ensures written { IfOk result (λ o. (s : Scene) → Agrees s around frames.now scopes.old
+    ensures written { IfOk result (λ o. (s : Scene) → Agrees s around
         → Writes s o (held_by around frames.now scopes.old) name.now (map key_data path.now) (plain value) (held_by around frames.now scopes.new)) }
     ensures linked { IfOk result (λ o. IsLinked around (own_of frames.now) scopes.new) }
 {

@@ -3,7 +3,7 @@ use Rattle.std.proofs.Common.{◌≡◌, ℕ, ◌+◌, ◌<◌, List, [], ◌∷
 use Rattle.std.specs.Prelude.{zero, suc, drop}
 use Rattle.wf_ast.specs.Apply.{View}
 use Rattle.wf_ast.specs.Tree.{more}
-use Rattle.wf_frames.specs.Fits.{Fits, entries_at, outside_at, reach}
+use Rattle.wf_frames.specs.Fits.{Fits, entries_at, list_at, outside_at, reach}
 use Rattle.wf_frames.specs.Frames.{body_entries, control}
 use Rattle.wf_frames.specs.declared.frames.Frame.{Frame}
 use Rattle.wf_frames.specs.declared.frames.Frame.TheVariants as frame
@@ -17,7 +17,7 @@ use Rattle.wf_moves.specs.declared.step.Step.{Step}
 use Rattle.wf_moves.specs.declared.step.Step.TheVariants as step
 use Rattle.wf_nodes.specs.Kinds.{Listed}
 use Rattle.wf_nodes.specs.Spots.{Spot, part_at, part_body, part_next, part_step, part_list, part_entry, entries_by, steps_by, from, owners_at}
-use Rattle.wf_nodes.specs.Table.{Resolves, list_at}
+use Rattle.wf_nodes.specs.Table.{Resolves}
 use Rattle.wf_nodes.specs.declared.node.Node.{Node}
 
 -- the steps from one that is there

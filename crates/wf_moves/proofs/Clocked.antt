@@ -3,7 +3,7 @@ use Rattle.std.proofs.Common.{◌≡◌, ℕ, ◌<◌, ◌≤◌, Bool, false, L
 use Rattle.std.specs.Prelude.{slice_get, Option}
 use Rattle.std.proofs.lemmas.Option.{get_or_from_slice_get, slice_get_within}
 use Rattle.wf_ast.specs.Tree.{Program, no_exprs, no_steps, Scalar}
-use Rattle.wf_frames.specs.Fits.{entries_at}
+use Rattle.wf_frames.specs.Fits.{entries_at, list_at}
 use Rattle.wf_frames.specs.Frames.{body_entries, item}
 use Rattle.wf_frames.specs.declared.frames.Frame.TheVariants as frame
 use Rattle.wf_model.specs.Config.{Item, Do, Entries}
@@ -14,7 +14,7 @@ use Rattle.wf_moves.proofs.Parts.{as_part, entries_is, list_is, part_is}
 use Rattle.wf_nodes.specs.Kinds.{Listed, entry_by, kind_by}
 use Rattle.wf_nodes.specs.Shapes.{Compiled}
 use Rattle.wf_nodes.specs.Spots.{Spot, from, part_at, part_body, part_entry, part_list, steps_by}
-use Rattle.wf_nodes.specs.Table.{Resolves, list_at, part_by}
+use Rattle.wf_nodes.specs.Table.{Resolves, part_by}
 use Rattle.wf_nodes.specs.declared.node.EntryNode.{EntryNode}
 use Rattle.wf_nodes.specs.declared.node.Node.{Node}
 use Rattle.wf_nodes.specs.declared.node.NodeKind.{NodeKind}

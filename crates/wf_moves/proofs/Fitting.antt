@@ -55,12 +55,12 @@ entry_below ns nodes n i b x r at is h = below_get (length nodes) b i (by (node_
   where
     by : (k : Kind) → kind_entries k ≡ Some b → PartsStand ns (length nodes) (owners_at ns n) k → AreBelow (length nodes) b
     by (view.Assign numbers) q p = let same : numbers ≡ b = cc q in subst (AreBelow (length nodes)) same p
-    by (view.Flow name params d) q p = absurd (cc q)
+    by (view.Flow params d) q p = absurd (cc q)
     by (view.For l) q p = absurd (cc q)
     by (view.Parallel shared limit w) q p = absurd (cc q)
     by (view.Block d) q p = absurd (cc q)
     by (view.Try m policy y) q p = absurd (cc q)
-    by (view.Branch name d) q p = absurd (cc q)
+    by (view.Branch d) q p = absurd (cc q)
     by view.Nothing q p = absurd (cc q)
     by (view.Call f) q p = absurd (cc q)
     by (view.Switch numbers) q p = absurd (cc q)
@@ -72,7 +72,7 @@ entry_below ns nodes n i b x r at is h = below_get (length nodes) b i (by (node_
 -- what is neither a jump nor an assignment is ready
 pub done_ready : (ns : List Spot) (nodes : List Node) (fs : List Frame) (st : Step) → IsDone st → IsReady ns nodes fs st
 done_ready ns nodes fs step.Goes h = tt
-done_ready ns nodes fs (step.Raises v) h = tt
-done_ready ns nodes fs (step.Returns v) h = tt
+done_ready ns nodes fs (step.Raises v) h = h
+done_ready ns nodes fs (step.Returns v) h = h
 done_ready ns nodes fs (step.Jumps n) h = absurd h
 done_ready ns nodes fs (step.Assigns n) h = absurd h

@@ -1,11 +1,11 @@
 -- The way of a jump.
 use Rattle.std.proofs.Common.{◌≡◌, ℕ, ◌<◌, ◌≤◌, Bool, true, false, List, [], ◌∷◌, length, Some, None, refl, sym, ap, subst, ◌∙◌, arith}
 use Rattle.std.proofs.lemmas.Bool.{eqb-true, eq-eqb}
-use Rattle.std.proofs.lemmas.Option.{slice_get_within}
+use Rattle.std.proofs.lemmas.Option.{slice_get-map, slice_get_within}
 use mathlib.Core.Logic.{inl, inr}
 use Rattle.std.specs.Prelude.{◌⊎◌, suc, Option, slice_get, nat_eq, if◌then◌else◌, is_ok, is_some, OnOk, Result, Ok, Err}
 use Rattle.wf_ast.specs.Accept.{BreakOutsideLoop}
-use Rattle.wf_frames.specs.Fits.{Fits, FrameFits, outside_at, reach}
+use Rattle.wf_frames.specs.Fits.{Fits, FrameFits, list_at, outside_at, reach, views}
 use Rattle.wf_frames.specs.Frames.{control, item, topped}
 use Rattle.wf_frames.specs.Held.{Held, standing}
 use Rattle.wf_frames.specs.Turns.{Leaves, dropped, left_by}
@@ -20,15 +20,20 @@ use Rattle.wf_moves.proofs.Parts.{list_stands}
 use Rattle.wf_moves.specs.Moved.{FoundIn, IsLoopTop, IsMove, if_at, is_loop, loop_found, target}
 use Rattle.wf_moves.specs.declared.finish.Went.{Went}
 use Rattle.wf_moves.specs.declared.finish.Went.TheVariants as went
-use Rattle.wf_nodes.specs.Kinds.{Listed}
+use Rattle.wf_nodes.specs.Kinds.{Listed, node_view}
 use Rattle.wf_nodes.specs.Spots.{Spot, part_at, part_list}
-use Rattle.wf_nodes.specs.Table.{Lacks, Leads, LeadsInto, Resolves, list_at}
+use Rattle.wf_nodes.specs.Table as table
+use Rattle.wf_nodes.specs.Table.{Leads, Resolves, view_list}
 use Rattle.wf_nodes.specs.declared.node.Jump.{Jump}
 use Rattle.wf_nodes.specs.declared.node.Node.{Node}
 use Rattle.wf_value.specs.Pairs.{Text}
 
+-- the list of an owner, by the views of all nodes
+owned_at : (nodes : List Node) (o : ℕ) (b : Listed) → table.list_at (views nodes) o ≡ Some b → list_at nodes o ≡ Some b
+owned_at nodes o b h = ap view_list (sym (slice_get-map node_view nodes o)) ∙ h
+
 -- ## How many lists stand around one
-keep_most : (ns : List Spot) (nodes : List Node) (x : Text) (j : Jump) (os : List ℕ) → Leads ns nodes x (Some j) os → j.keep ≤ length os
+keep_most : (ns : List Spot) (nodes : List Node) (x : Text) (j : Jump) (os : List ℕ) → Leads ns (views nodes) x (Some j) os → j.keep ≤ length os
 keep_most ns nodes x j [] h = absurd h
 keep_most ns nodes x j (o ∷ os) (inl i) = omega (arith, i.keeps)
 keep_most ns nodes x j (o ∷ os) (inr r) = omega (arith, keep_most ns nodes x j os r.1)
@@ -40,16 +45,16 @@ if_not n b keep h e = absurd (cc (sym (ap (λ (t : Bool). if t then Some n else 
 module _ (ns : List Spot) (nodes : List Node) (x : Text) (j : Jump) (r : Resolves ns nodes) where
   pub record Passes (f : Frame) (fs : List Frame) : Type 0 where
     pub goes : (k : List Item) (l : Local) → to_step x (item ns f ∷ k) l ≡ to_step x k (left_by f l)
-    pub leads : Leads ns nodes x (Some j) (reach fs)
+    pub leads : Leads ns (views nodes) x (Some j) (reach fs)
 
-  do_passes : (o at : ℕ) (fs : List Frame) → FrameFits ns nodes (frame.Do o at) fs → target nodes j.keep (frame.Do o at) ≡ None → Leads ns nodes x (Some j) (o ∷ reach fs) → Passes (frame.Do o at) fs
+  do_passes : (o at : ℕ) (fs : List Frame) → FrameFits ns nodes (frame.Do o at) fs → target nodes j.keep (frame.Do o at) ≡ None → Leads ns (views nodes) x (Some j) (o ∷ reach fs) → Passes (frame.Do o at) fs
   do_passes o at fs h t (inl i) =
-      let deep : i.list.depth ≡ suc (length (reach fs)) = (list_stands ns nodes o i.list r i.owned).depth ∙ ap (λ (os : List ℕ). suc (length os)) h.1 in
-      absurd (if_not o i.list j.keep (sym (ap (λ b. if_at o b j.keep) i.owned) ∙ t) (deep ∙ sym i.keeps))
+      let deep : i.list.depth ≡ suc (length (reach fs)) = (list_stands ns nodes o i.list r (owned_at nodes o i.list i.owned)).depth ∙ ap (λ (os : List ℕ). suc (length os)) h.1 in
+      absurd (if_not o i.list j.keep (sym (ap (λ b. if_at o b j.keep) (owned_at nodes o i.list i.owned)) ∙ t) (deep ∙ sym i.keeps))
   do_passes o at fs h t (inr q) =
       record { goes = λ k l. ap (λ ss. cut_at (part_list (part_at ns o)) ss k l (to_step x k l)) q.0; leads = q.1 }
 
-  pub passes : (f : Frame) (fs : List Frame) → FrameFits ns nodes f fs → target nodes j.keep f ≡ None → Leads ns nodes x (Some j) (reach (f ∷ fs)) → Passes f fs
+  pub passes : (f : Frame) (fs : List Frame) → FrameFits ns nodes f fs → target nodes j.keep f ≡ None → Leads ns (views nodes) x (Some j) (reach (f ∷ fs)) → Passes f fs
   passes (frame.Do o at) fs h t w = do_passes o at fs h t w
   passes (frame.Lone n b) fs h t w = record { goes = λ k l. refl; leads = w }
   passes (frame.Entries n at) fs h t w = record { goes = λ k l. refl; leads = w }
@@ -69,13 +74,13 @@ module _ (ns : List Spot) (nodes : List Node) (x : Text) (j : Jump) (r : Resolve
       by_test true q = (eqb-true b.depth keep q, let e : Some n ≡ Some m = sym (ap (λ (t : Bool). if t then Some n else None) q) ∙ h in cc e)
       by_test false q = let e : None ≡ Some m = sym (ap (λ (t : Bool). if t then Some n else None) q) ∙ h in absurd (cc e)
 
-  do_found : (o at m : ℕ) (fs : List Frame) → FrameFits ns nodes (frame.Do o at) fs → target nodes j.keep (frame.Do o at) ≡ Some m → Leads ns nodes x (Some j) (o ∷ reach fs)
+  do_found : (o at m : ℕ) (fs : List Frame) → FrameFits ns nodes (frame.Do o at) fs → target nodes j.keep (frame.Do o at) ≡ Some m → Leads ns (views nodes) x (Some j) (o ∷ reach fs)
       → (h : Held) → FoundIn ns nodes x j (Some m) (frame.Do o at ∷ fs) h fs h
   do_found o at m fs f t (inl i) h =
-      let two = if_is o m i.list j.keep (sym (ap (λ b. if_at o b j.keep) i.owned) ∙ t) in
+      let two = if_is o m i.list j.keep (sym (ap (λ b. if_at o b j.keep) (owned_at nodes o i.list i.owned)) ∙ t) in
       subst (λ (n : ℕ). FoundIn ns nodes x j (Some n) (frame.Do o at ∷ fs) h fs h) two.1 (
         i.list,
-        i.owned,
+        (owned_at nodes o i.list i.owned),
         i.has,
         λ p e c. ap (λ ss. cut_at (part_list (part_at ns o)) ss (control ns fs) (standing c h) (to_step x (control ns fs) (standing c h))) i.first
             ∙ ap (λ ss. Stands (Do (part_list (part_at ns o)) ss ∷ control ns fs) (standing c h)) (sym (i.only p e)),
@@ -86,7 +91,7 @@ module _ (ns : List Spot) (nodes : List Node) (x : Text) (j : Jump) (r : Resolve
       let deep : b.depth ≡ suc (length (reach fs)) = (list_stands ns nodes o b r f.0.1).depth ∙ ap (λ (os : List ℕ). suc (length os)) f.1 in
       absurd (omega (arith, keep_most ns nodes x j (reach fs) q.1, two.0, deep))
 
-  pub found_at : (f : Frame) (m : ℕ) (fs : List Frame) → FrameFits ns nodes f fs → target nodes j.keep f ≡ Some m → Leads ns nodes x (Some j) (reach (f ∷ fs)) → (h : Held) → FoundIn ns nodes x j (Some m) (f ∷ fs) h fs h
+  pub found_at : (f : Frame) (m : ℕ) (fs : List Frame) → FrameFits ns nodes f fs → target nodes j.keep f ≡ Some m → Leads ns (views nodes) x (Some j) (reach (f ∷ fs)) → (h : Held) → FoundIn ns nodes x j (Some m) (f ∷ fs) h fs h
   found_at (frame.Do o at) m fs f t w h = do_found o at m fs f t w h
   found_at (frame.Lone n b) m fs f t w h = absurd (cc t)
   found_at (frame.Entries n at) m fs f t w h = absurd (cc t)
@@ -97,14 +102,14 @@ module _ (ns : List Spot) (nodes : List Node) (x : Text) (j : Jump) (r : Resolve
   pub record Turned (old new : List Frame) (h g : Held) : Type 0 where
     pub fits : Fits ns nodes new
     pub goes : (c : List Item) → to_step x (control ns old) (standing c h) ≡ to_step x (control ns new) (standing c g)
-    pub leads : Leads ns nodes x (Some j) (reach new)
+    pub leads : Leads ns (views nodes) x (Some j) (reach new)
 
-  pub turned : (f : Frame) (b : Bool) (old new : List Frame) (h g : Held) → topped old ≡ Some f → target nodes j.keep f ≡ None → Leaves b old h new g → Fits ns nodes old → Leads ns nodes x (Some j) (reach old) → Turned old new h g
+  pub turned : (f : Frame) (b : Bool) (old new : List Frame) (h g : Held) → topped old ≡ Some f → target nodes j.keep f ≡ None → Leaves b old h new g → Fits ns nodes old → Leads ns (views nodes) x (Some j) (reach old) → Turned old new h g
   turned f false old new h g t other w fits lead = absurd (cc (sym t ∙ ap topped w.0))
   turned f true old new h g t other w fits lead =
       let same : w.0 ≡ f = cc (sym (ap topped w.1) ∙ t) in
       let all : Fits ns nodes (w.0 ∷ new) = subst (Fits ns nodes) w.1 fits in
-      let p = passes w.0 new all.0 (ap (target nodes j.keep) same ∙ other) (subst (λ fs. Leads ns nodes x (Some j) (reach fs)) w.1 lead) in
+      let p = passes w.0 new all.0 (ap (target nodes j.keep) same ∙ other) (subst (λ fs. Leads ns (views nodes) x (Some j) (reach fs)) w.1 lead) in
       record { fits = all.1; goes = λ c. ap (λ fs. to_step x (control ns fs) (standing c h)) w.1 ∙ passes_on w.0 new c h g p w.2; leads = p.leads }
 
   kept_held : (f : Frame) (m : ℕ) (h : Held) → target nodes j.keep f ≡ Some m → dropped f h ≡ h
@@ -115,14 +120,14 @@ module _ (ns : List Spot) (nodes : List Node) (x : Text) (j : Jump) (r : Resolve
   kept_held (frame.Loop n w0 i) m h t = refl
   kept_held (frame.Mark mk) m h t = absurd (cc t)
 
-  pub found_in : (f : Frame) (m : ℕ) (b : Bool) (start old new : List Frame) (k h g : Held) → topped old ≡ Some f → target nodes j.keep f ≡ Some m → Leaves b old h new g → Fits ns nodes old → Leads ns nodes x (Some j) (reach old)
+  pub found_in : (f : Frame) (m : ℕ) (b : Bool) (start old new : List Frame) (k h g : Held) → topped old ≡ Some f → target nodes j.keep f ≡ Some m → Leaves b old h new g → Fits ns nodes old → Leads ns (views nodes) x (Some j) (reach old)
       → ((c : List Item) → to_step x (control ns start) (standing c k) ≡ to_step x (control ns old) (standing c h)) → FoundIn ns nodes x j (Some m) start k new g
   found_in f m false start old new k h g t is w fits lead on = absurd (cc (sym t ∙ ap topped w.0))
   found_in f m true start old new k h g t is w fits lead on =
       let same : w.0 ≡ f = cc (sym (ap topped w.1) ∙ t) in
       let here : target nodes j.keep w.0 ≡ Some m = ap (target nodes j.keep) same ∙ is in
       let all : Fits ns nodes (w.0 ∷ new) = subst (Fits ns nodes) w.1 fits in
-      let q = found_at w.0 m new all.0 here (subst (λ fs. Leads ns nodes x (Some j) (reach fs)) w.1 lead) h in
+      let q = found_at w.0 m new all.0 here (subst (λ fs. Leads ns (views nodes) x (Some j) (reach fs)) w.1 lead) h in
       let e : g ≡ h = w.2 ∙ kept_held w.0 m h here in
       (q.0, q.1, q.2, λ i p c. on c ∙ ap (λ fs. to_step x (control ns fs) (standing c h)) w.1 ∙ q.3 i p c ∙ ap (λ y. Stands (control ns (frame.Do m i ∷ new)) (standing c y)) (sym e))
 
@@ -144,7 +149,7 @@ module _ (ns : List Spot) (nodes : List Node) (x : Text) (j : Jump) (r : Resolve
       let all : Fits ns nodes (w.0 ∷ new) = subst (Fits ns nodes) w.1 fits in
       target_in w.0 m new (ap (target nodes j.keep) same ∙ is) all.0
 
-  pub no_top : (fs : List Frame) → topped fs ≡ None → Leads ns nodes x (Some j) (reach fs) → ⊥
+  pub no_top : (fs : List Frame) → topped fs ≡ None → Leads ns (views nodes) x (Some j) (reach fs) → ⊥
   no_top [] t w = w
   no_top (f ∷ fs) t w = absurd (cc t)
 
@@ -195,7 +200,7 @@ loop_turned f true old new h g t other w =
     }
 
 ends_so : (h g : Held) (w : Went) (l : Local) → g.outside ≡ h.outside → IsMove (goes [] (standing [] g)) w l → IsMove (goes [] (standing [] h)) w l
-ends_so h g (went.Ended e) l o m = (m.0, sym o ∙ m.1)
+ends_so h g (went.Ended e) l o m = (m.0, m.1, sym o ∙ m.2)
 ends_so h g went.Goes l o m = absurd m
 
 by_root : (r : Root) (h g : Held) (d : List Item) (w : Went) (l : Local) → g.outside ≡ h.outside → IsMove (goes [] (standing [] g)) w l → IsMove (elim r [ Iteration ↦ goes [] (standing d h) | _ ↦ Breaks BreakOutsideLoop ]) w l
@@ -228,7 +233,7 @@ broken ns true (f ∷ fs) new d h g w l top left m =
 
 -- ## Without a step of the name
 module _ (ns : List Spot) (nodes : List Node) (x : Text) where
-  pub nowhere : (fs : List Frame) (l : Local) → Leads ns nodes x None (reach fs) → to_step x (control ns fs) l ≡ NotFound
+  pub nowhere : (fs : List Frame) (l : Local) → Leads ns (views nodes) x None (reach fs) → to_step x (control ns fs) l ≡ NotFound
   nowhere [] l h = refl
   nowhere (frame.Do n at ∷ fs) l h = ap (λ ss. cut_at (part_list (part_at ns n)) ss (control ns fs) l (to_step x (control ns fs) l)) h.0 ∙ nowhere fs l h.1
   nowhere (frame.Lone n b ∷ fs) l h = nowhere fs l h
@@ -237,5 +242,5 @@ module _ (ns : List Spot) (nodes : List Node) (x : Text) where
   nowhere (frame.Loop n w i ∷ fs) l h = refl
   nowhere (frame.Mark m ∷ fs) l h = nowhere fs (leave l) h
 
-  pub breaks_so : (s : Scene) (fs : List Frame) (l m : Local) (w : Went) → Leads ns nodes x None (reach fs) → IsMove (jumps_to s x (to_step x (control ns fs) l)) w m
+  pub breaks_so : (s : Scene) (fs : List Frame) (l m : Local) (w : Went) → Leads ns (views nodes) x None (reach fs) → IsMove (jumps_to s x (to_step x (control ns fs) l)) w m
   breaks_so s fs l m w h = subst (λ f. IsMove (jumps_to s x f) w m) (sym (nowhere fs l h)) tt

@@ -4,7 +4,7 @@ use Rattle.std.specs.Prelude.{zero, suc, is_some}
 use Rattle.std.proofs.Math.Dec.{leb}
 use Rattle.std.proofs.lemmas.Bool.{leb-true, leb-false}
 use Rattle.wf_ast.specs.Tree.{Step, Steps, no_steps, more, Entry, Body}
-use Rattle.wf_frames.specs.Fits.{Fits, HasNode, entries_at}
+use Rattle.wf_frames.specs.Fits.{Fits, HasNode, entries_at, list_at}
 use Rattle.wf_frames.specs.Frames.{body_entries, control, item, mark_of, topped}
 use Rattle.wf_frames.specs.Held.{Held, standing}
 use Rattle.wf_frames.specs.Turns.{Leaves, dropped, left_by}
@@ -19,7 +19,7 @@ use Rattle.wf_moves.specs.Moved.{HasMove, IsGoing, IsSettled, Settled}
 use Rattle.wf_moves.specs.Steps.{HasStep, IsBefore, IsBeforeEntry}
 use Rattle.wf_nodes.specs.Kinds.{Listed}
 use Rattle.wf_nodes.specs.Spots.{Spot, part_at, part_list, part_body, steps_by, entries_by, from}
-use Rattle.wf_nodes.specs.Table.{Resolves, list_at}
+use Rattle.wf_nodes.specs.Table.{Resolves}
 use Rattle.wf_nodes.specs.declared.node.Node.{Node}
 use Rattle.wf_value.specs.Data.{Data}
 

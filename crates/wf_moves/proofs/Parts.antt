@@ -1,19 +1,19 @@
 -- Nodes by their numbers, and the parts that they are.
 use Rattle.std.proofs.Common.{◌≡◌, ℕ, ◌+◌, ◌<◌, ◌≤◌, Bool, true, false, List, [], ◌∷◌, length, drop, get_or, Some, None, refl, sym, ap, subst, ◌∙◌, arith}
 use Rattle.std.specs.List.{list_all}
-use Rattle.std.specs.Prelude.{zero, suc, is_some, slice_get, Option, Vec}
+use Rattle.std.specs.Prelude.{zero, suc, is_some, option_map, slice_get, Option, Vec}
 use Rattle.std.specs.declared.alloc.Global.{Global}
 use Rattle.std.proofs.lemmas.Bool.{and_parts}
 use Rattle.std.proofs.lemmas.Option.{slice_get_read, slice_get_within}
 use Rattle.wf_ast.specs.Tree.{Body, Entry}
-use Rattle.wf_frames.specs.Fits.{IsLoop, entries_at, has_next, kind_entries, outside_at, view_at, view_entries, view_outside}
+use Rattle.wf_frames.specs.Fits.{IsLoop, entries_at, has_next, kind_entries, list_at, outside_at, view_at, view_entries, view_outside}
 use Rattle.wf_frames.specs.Frames.{body_entries}
 use Rattle.wf_moves.specs.Built.{Tells, is_node_built, is_table_built, kind_built}
 use Rattle.wf_shapes.specs.Built.{are_built}
 use Rattle.wf_nodes.specs.Kinds as view
 use Rattle.wf_nodes.specs.Kinds.{Handler, Kind, Listed, Repeated, Side, View, block_view, kind_by, node_view}
 use Rattle.wf_nodes.specs.Spots.{Spot, entries_by, owners_at, part_at, part_body, part_list, steps_by}
-use Rattle.wf_nodes.specs.Table.{AreBelow, ListStands, Resolves, StandIn, handler_list, kind_list, list_at, outside, part_by, side_list, view_list}
+use Rattle.wf_nodes.specs.Table.{AreBelow, ListStands, Resolves, StandIn, handler_list, kind_list, outside, part_by, side_list, view_list}
 use Rattle.wf_nodes.specs.declared.node.LoopNode.{LoopNode}
 use Rattle.wf_nodes.specs.declared.node.Node.{Node}
 use Rattle.wf_nodes.specs.declared.node.NodeKind.{NodeKind}
@@ -33,18 +33,18 @@ pub seen_list : (nodes : List Node) (n : ℕ) (b : Listed) → list_at nodes n �
 seen_list nodes n b h = by (slice_get nodes n) refl
   where
     by : (o : Option Node) → slice_get nodes n ≡ o → Seen nodes n
-    by None e = absurd (cc (sym (ap (λ (p : Option Node). view_list (elim p [ None ↦ None | Some y ↦ Some (node_view y) ])) e) ∙ h))
+    by None e = absurd (cc (sym (ap (λ (p : Option Node). view_list (option_map node_view p)) e) ∙ h))
     by (Some x) e = record { node = x; at = e }
 
 pub seen_entries : (nodes : List Node) (n : ℕ) (b : List ℕ) → entries_at nodes n ≡ Some b → Seen nodes n
 seen_entries nodes n b h = by (slice_get nodes n) refl
   where
     by : (o : Option Node) → slice_get nodes n ≡ o → Seen nodes n
-    by None e = absurd (cc (sym (ap (λ (p : Option Node). view_entries (elim p [ None ↦ None | Some y ↦ Some (node_view y) ])) e) ∙ h))
+    by None e = absurd (cc (sym (ap (λ (p : Option Node). view_entries (option_map node_view p)) e) ∙ h))
     by (Some x) e = record { node = x; at = e }
 
 pub view_is : (nodes : List Node) (n : ℕ) (x : Node) → slice_get nodes n ≡ Some x → view_at nodes n ≡ Some (node_view x)
-view_is nodes n x e = ap (λ (p : Option Node). elim p [ None ↦ None | Some y ↦ Some (node_view y) ]) e
+view_is nodes n x e = ap (λ (p : Option Node). option_map node_view p) e
 
 pub list_of : (nodes : List Node) (n : ℕ) (x : Node) → slice_get nodes n ≡ Some x → list_at nodes n ≡ kind_list (node_view x).kind
 list_of nodes n x e = ap view_list (view_is nodes n x e)
@@ -111,14 +111,14 @@ never_built nodes n x k b h e f = by k (ap (λ (y : NodeKind). kind_built y (are
 
 -- ## Lists of steps
 list_in : (ns : List Spot) (x : Text) (next : Option Text) (k : Kind) (b : Listed) → kind_list k ≡ Some b → part_list (part_by ns x next k) ≡ steps_by ns b.steps
-list_in ns x next (view.Flow name params d) b h = let e : d ≡ b = cc h in ap (λ (y : Listed). steps_by ns y.steps) e
+list_in ns x next (view.Flow params d) b h = let e : d ≡ b = cc h in ap (λ (y : Listed). steps_by ns y.steps) e
 list_in ns x next (view.For l) b h = let e : l.steps ≡ b = cc h in ap (λ (y : Listed). steps_by ns y.steps) e
 list_in ns x next (view.Parallel shared limit (view.Iterations l)) b h = let e : l.steps ≡ b = cc h in ap (λ (y : Listed). steps_by ns y.steps) e
 list_in ns x next (view.Parallel shared limit (view.Branches numbers)) b h = absurd (cc h)
 list_in ns x next (view.Block d) b h = let e : d ≡ b = cc h in ap (λ (y : Listed). steps_by ns y.steps) e
 list_in ns x next (view.Try n policy (Some y)) b h = let e : y.steps ≡ b = cc h in ap (λ (z : Listed). steps_by ns z.steps) e
 list_in ns x next (view.Try n policy None) b h = absurd (cc h)
-list_in ns x next (view.Branch name d) b h = let e : d ≡ b = cc h in ap (λ (y : Listed). steps_by ns y.steps) e
+list_in ns x next (view.Branch d) b h = let e : d ≡ b = cc h in ap (λ (y : Listed). steps_by ns y.steps) e
 list_in ns x next view.Nothing b h = absurd (cc h)
 list_in ns x next (view.Assign numbers) b h = absurd (cc h)
 list_in ns x next (view.Call f) b h = absurd (cc h)
@@ -164,12 +164,12 @@ stand_get ns os (x ∷ xs) (suc i) a h = stand_get ns os xs i a.1 (omega (arith,
 -- ## Entries
 entries_in : (ns : List Spot) (x : Text) (next : Option Text) (k : Kind) (b : List ℕ) → kind_entries k ≡ Some b → part_by ns x next k ≡ part_by ns x next (view.Assign b)
 entries_in ns x next (view.Assign numbers) b h = let e : numbers ≡ b = cc h in ap (λ (ys : List ℕ). part_by ns x next (view.Assign ys)) e
-entries_in ns x next (view.Flow name params d) b h = absurd (cc h)
+entries_in ns x next (view.Flow params d) b h = absurd (cc h)
 entries_in ns x next (view.For l) b h = absurd (cc h)
 entries_in ns x next (view.Parallel shared limit w) b h = absurd (cc h)
 entries_in ns x next (view.Block d) b h = absurd (cc h)
 entries_in ns x next (view.Try n policy y) b h = absurd (cc h)
-entries_in ns x next (view.Branch name d) b h = absurd (cc h)
+entries_in ns x next (view.Branch d) b h = absurd (cc h)
 entries_in ns x next view.Nothing b h = absurd (cc h)
 entries_in ns x next (view.Call f) b h = absurd (cc h)
 entries_in ns x next (view.Switch numbers) b h = absurd (cc h)

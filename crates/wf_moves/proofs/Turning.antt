@@ -3,7 +3,7 @@ use Rattle.std.proofs.Common.{◌≡◌, ℕ, ◌+◌, ◌<◌, false, List, [],
 use Rattle.std.specs.Prelude.{zero, suc, pos, Option, slice_get}
 use Rattle.wf_ast.specs.Apply.{View}
 use Rattle.wf_ast.specs.Tree.{Body, LoopBody, loop}
-use Rattle.wf_frames.specs.Fits.{Fits, HasNode, IsLoop, outside_at, view_outside}
+use Rattle.wf_frames.specs.Fits.{Fits, HasNode, IsLoop, list_at, outside_at, view_outside}
 use Rattle.wf_frames.specs.Frames.{body_loop, control, left_view, own, owned}
 use Rattle.wf_frames.specs.Held.{Held, standing}
 use Rattle.wf_frames.specs.Owned.{Around, held_of}
@@ -11,22 +11,21 @@ use Rattle.wf_frames.specs.Turns.{Enters, names_of, with_layer}
 use Rattle.wf_frames.specs.declared.frames.Frame.{Frame}
 use Rattle.wf_frames.specs.declared.frames.Frame.TheVariants as frame
 use Rattle.wf_frames.specs.declared.frames.Left as declared
-use Rattle.wf_model.specs.Config.{Item, Do, Loop, Mark, OfList, limits, next_of}
+use Rattle.wf_model.specs.Config.{Item, Do, Loop, Mark, OfList, next_of}
 use Rattle.wf_model.specs.Layers.{opened, view}
 use Rattle.wf_model.specs.Leave.{on, raises}
-use Rattle.wf_model.specs.Local.{Local, Scene, Moved, goes, total}
+use Rattle.wf_model.specs.Local.{Local, Scene, Moved, goes}
 use Rattle.wf_model.specs.Move.{loop_names, moves, turns}
 use Rattle.wf_moves.proofs.Parts.{as_part, list_of, view_is}
 use Rattle.wf_moves.specs.Moved.{IsMove}
 use Rattle.wf_moves.specs.Steps.{Moves, come}
 use Rattle.wf_moves.specs.declared.step.Step.{Step}
-use Rattle.wf_scope.specs.Layers.{total_of}
 use Rattle.wf_scope.specs.Tasks.{Own}
 use Rattle.wf_scope.specs.declared.layer.Layer.{Layer}
 use Rattle.wf_moves.specs.declared.finish.Went.{Went}
 use Rattle.wf_nodes.specs.Kinds.{block_view, kind_by, node_view, over_by}
 use Rattle.wf_nodes.specs.Spots.{Spot, BodyAt, Part, owners_at, part_at, part_body, part_list, steps_by}
-use Rattle.wf_nodes.specs.Table.{Resolves, kind_list, list_at, outside}
+use Rattle.wf_nodes.specs.Table.{Resolves, kind_list, outside}
 use Rattle.wf_nodes.specs.declared.node.LoopNode.{LoopNode}
 use Rattle.wf_nodes.specs.declared.node.Node.{Node}
 use Rattle.wf_nodes.specs.declared.node.NodeKind.{NodeKind}
@@ -105,9 +104,6 @@ loop_there nodes f n w i e h = subst (HasNode nodes) e h
 
 -- ## The same frames and layers
 module _ (a : Around) (s : Scene) (os ps : List Own) (ls : List Layer) (same : os ≡ ps) where
-  pub agrees_same : ((limits s.facts.rules).variables ≡ a.limit) × (total s (standing [] (held_of a.keys os ls)) ≡ total_of ls) → ((limits s.facts.rules).variables ≡ a.limit) × (total s (standing [] (held_of a.keys ps ls)) ≡ total_of ls)
-  agrees_same h = (h.0, subst (λ qs. total s (standing [] (held_of a.keys qs ls)) ≡ total_of ls) same h.1)
-
   pub moved_same : (d : List Item) (fs gs : List Frame) (w : Went) (l : Local) → fs ≡ gs → IsMove (moves s (control a.spots gs) (standing d (held_of a.keys ps ls))) w l → IsMove (moves s (control a.spots fs) (standing d (held_of a.keys os ls))) w l
   moved_same d fs gs w l e m =
       subst (λ qs. IsMove (moves s (control a.spots fs) (standing d (held_of a.keys qs ls))) w l) (sym same) (subst (λ hs. IsMove (moves s (control a.spots hs) (standing d (held_of a.keys ps ls))) w l) (sym e) m)

@@ -1,7 +1,8 @@
 -- What a move gives.
 --     Settled     what has ended is left
 --     IsMove      a move of the model, by what a call gives and leaves
-use Rattle.std.specs.Prelude.{◌≡◌, ℕ, Bool, true, false, List, [], ◌∷◌, nat_eq, slice_get, if◌then◌else◌, Some, None, Option}
+use Rattle.std.specs.Prelude.{◌≡◌, ◌≤◌, ℕ, Bool, true, false, List, [], ◌∷◌, nat_eq, slice_get, if◌then◌else◌, Some, None, Option}
+use Rattle.wf_frames.specs.Fits.{list_at}
 use Rattle.wf_frames.specs.Frames.{control, item}
 use Rattle.wf_frames.specs.Held.{Held, standing}
 use Rattle.wf_frames.specs.Turns.{left_by}
@@ -18,9 +19,9 @@ use Rattle.wf_moves.specs.declared.finish.Went.{Went}
 use Rattle.wf_moves.specs.declared.finish.Went.TheVariants as went
 use Rattle.wf_nodes.specs.Kinds.{Listed}
 use Rattle.wf_nodes.specs.Spots.{Spot}
-use Rattle.wf_nodes.specs.Table.{list_at}
 use Rattle.wf_nodes.specs.declared.node.Jump.{Jump}
 use Rattle.wf_nodes.specs.declared.node.Node.{Node}
+use Rattle.wf_value.specs.Data.{Data, depth}
 use Rattle.wf_value.specs.Pairs.{Text}
 use Rattle.wf_value.specs.Plain.{plain}
 
@@ -54,11 +55,16 @@ abbrev pub end_view : End → model.End
 end_view (end.Value v) = Gives (plain v)
 end_view (end.Error e) = Fails (plain e)
 
--- the model's move, where it isn't one that no accepted program makes: of a task that has ended, the layers outside count alone
+abbrev pub end_data : model.End → Data
+end_data (Gives v) = v
+end_data (Fails e) = e
+
+-- the model's move, where it isn't one that no accepted program makes: of a task that has ended, the layers outside count alone, and what it
+-- ends with nests within the limit
 abbrev pub IsMove : Moved → Went → Local → Type 0
 IsMove (Breaks kind) w l = Unit {0}
 IsMove (Goes m) went.Goes l = m ≡ l
-IsMove (Ends e m) (went.Ended f) l = (e ≡ end_view f) × (m.outer ≡ l.outer)
+IsMove (Ends e m) (went.Ended f) l = (e ≡ end_view f) × (depth (end_data e) ≤ 100) × (m.outer ≡ l.outer)
 IsMove m w l = ⊥
 
 -- ## Ways outward

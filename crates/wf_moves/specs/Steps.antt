@@ -2,12 +2,12 @@
 --     come              what is left of a step leads on so
 --     Performs ..       a body, a step and a frame, by the frames before and behind and what is left to be done
 --     IsReady           what is left can be done
-use Rattle.std.specs.Prelude.{◌≡◌, ◌<◌, ℕ, Bool, true, false, ◌&&◌, is_none, List, [], ◌∷◌, length, Some, None, Ok, Option, Result, unwrap_or}
+use Rattle.std.specs.Prelude.{◌≡◌, ◌<◌, ◌≤◌, ℕ, Bool, true, false, ◌&&◌, is_none, List, [], ◌∷◌, length, Some, None, Ok, Option, Result, unwrap_or}
 use Rattle.wf_ast.specs.Apply.{View}
 use Rattle.wf_ast.specs.Eval.{fill, truth, whole}
 use Rattle.wf_ast.specs.Tree.{Body, Template}
 use Rattle.wf_eval.specs.Answers.{Answers}
-use Rattle.wf_frames.specs.Fits.{entries_at, has_next, reach, view_at}
+use Rattle.wf_frames.specs.Fits.{entries_at, has_next, list_at, reach, view_at}
 use Rattle.wf_frames.specs.Frames.{control}
 use Rattle.wf_frames.specs.declared.frames.Frame.{Frame}
 use Rattle.wf_frames.specs.declared.frames.Frame.TheVariants as frame
@@ -20,11 +20,10 @@ use Rattle.wf_moves.specs.declared.step.Step.{Step}
 use Rattle.wf_moves.specs.declared.step.Step.TheVariants as step
 use Rattle.wf_nodes.specs.Kinds.{Listed}
 use Rattle.wf_nodes.specs.Spots.{Spot, owners_at, part_at, part_body, part_condition, part_entry, part_next}
-use Rattle.wf_nodes.specs.Table.{list_at}
 use Rattle.wf_nodes.specs.declared.node.Node.{Node}
 use Rattle.wf_nodes.specs.declared.node.NodeKind.{NodeKind}
 use Rattle.wf_nodes.specs.declared.node.NodeKind.TheVariants as kind
-use Rattle.wf_value.specs.Data.{Data}
+use Rattle.wf_value.specs.Data.{Data, depth}
 use Rattle.wf_value.specs.Errors.{error_map, Answer, ◌>>=◌}
 use Rattle.wf_value.specs.Pairs.{Text}
 use Rattle.wf_value.specs.Plain.{plain}
@@ -119,11 +118,13 @@ abbrev pub Moves : List Spot → List Frame → View → List Frame → Step →
 Moves ns old v new st = (s : Scene) (l : Local) → view s l ≡ v → moves s (control ns old) l ≡ come ns st s (control ns new) l
 
 -- ## What is left of a step
--- neither a jump nor an assignment
+-- neither a jump nor an assignment, and a value or an error nests within the limit
 abbrev pub IsDone : Step → Type 0
+IsDone step.Goes = Unit {0}
+IsDone (step.Raises v) = depth (plain v) ≤ 100
+IsDone (step.Returns v) = depth (plain v) ≤ 100
 IsDone (step.Jumps n) = ⊥
 IsDone (step.Assigns n) = ⊥
-IsDone st = Unit {0}
 
 -- the node says what is next, and stands where the frames stand
 pub record IsJump (ns : List Spot) (nodes : List Node) (n : ℕ) (fs : List Frame) : Type 0 where
@@ -134,4 +135,6 @@ pub record IsJump (ns : List Spot) (nodes : List Node) (n : ℕ) (fs : List Fram
 abbrev pub IsReady : List Spot → List Node → List Frame → Step → Type 0
 IsReady ns nodes fs (step.Jumps n) = IsJump ns nodes n fs
 IsReady ns nodes fs (step.Assigns n) = n < length nodes
-IsReady ns nodes fs st = Unit {0}
+IsReady ns nodes fs (step.Raises v) = depth (plain v) ≤ 100
+IsReady ns nodes fs (step.Returns v) = depth (plain v) ≤ 100
+IsReady ns nodes fs step.Goes = Unit {0}

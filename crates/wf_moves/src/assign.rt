@@ -69,7 +69,7 @@ fn store(
     ghost around: { Around }
     requires tells { Tells around.spots nodes.now }
     requires stands { Stands around nodes.now frames.old scopes.old }
-    ensures moved { IfOk result (λ w. (s : Scene) (c : List Item) → Agrees s around frames.old scopes.old
+    ensures moved { IfOk result (λ w. (s : Scene) (c : List Item) → Agrees s around
         → IsMove (leave.on_assigned s (control_of around frames.old) (beside c around frames.old scopes.old) (layers.assign s name.now (values_of assigned).1 (values_of assigned).0 (beside c around frames.old scopes.old))) w (local_of around frames.new scopes.new)) }
     ensures stands { OnOk result (Stands around nodes.now frames.new scopes.new) }
     ensures settled { OnOk result (IsSettled nodes.now (inner frames.new)) }
@@ -121,7 +121,7 @@ pub(crate) fn assign(
     requires tells { Tells around.spots nodes.now }
     requires stands { Stands around nodes.now frames.old scopes.old }
     requires within { n < length nodes.now }
-    ensures moved { IfOk result (λ w. (s : Scene) (c : List Item) → Sees s facts.entry.now → Agrees s around frames.old scopes.old
+    ensures moved { IfOk result (λ w. (s : Scene) (c : List Item) → Sees s facts.entry.now → Agrees s around
         → IsMove (move.assigns s (part_entry (part_at around.spots n)) (control_of around frames.old) (beside c around frames.old scopes.old)) w (local_of around frames.new scopes.new)) }
     ensures stands { OnOk result (Stands around nodes.now frames.new scopes.new) }
     ensures settled { OnOk result (IsSettled nodes.now (inner frames.new)) }

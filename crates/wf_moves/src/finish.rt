@@ -1,5 +1,5 @@
 // How a task goes on: what has ended is left, and errors and returns go outward.
-ghost use Rattle.std.specs.Prelude.{◌≡◌, [], List, false};
+ghost use Rattle.std.specs.Prelude.{◌≡◌, ◌≤◌, [], List, false};
 ghost use Rattle.wf_frames.specs.Fits.{HasNode};
 ghost use Rattle.wf_frames.specs.Frames.{inner};
 ghost use Rattle.wf_frames.specs.Owned.{Around, IsLinked, beside, control_of, held_by, local_of, own_of};
@@ -12,7 +12,7 @@ ghost use Rattle.wf_model.specs.Unwind.{unwind, to_back, AtEnd};
 ghost use Rattle.wf_moves.specs.Built.{Tells};
 ghost use Rattle.wf_moves.specs.Moved.{HasMove, IsMove, IsSettled, Settled};
 ghost use Rattle.wf_nodes.specs.Spots.{Spot};
-ghost use Rattle.wf_value.specs.Data.{Data};
+ghost use Rattle.wf_value.specs.Data.{Data, depth};
 ghost use Rattle.wf_value.specs.Plain.{plain};
 
 use crate::nodes::{block, entries};
@@ -53,8 +53,8 @@ fn is_ended(frame: &Frame, nodes: &[Node]) -> bool
     }
 }
 
-// What has ended is left.
-fn settle(frames: &mut Frames, nodes: &[Node], scopes: &mut Scopes)
+/// What has ended is left.
+pub(crate) fn settle(frames: &mut Frames, nodes: &[Node], scopes: &mut Scopes)
     ghost around: { Around }
     requires tells { Tells around.spots nodes.now }
     requires stands { Stands around nodes.now frames.old scopes.old }
@@ -103,6 +103,7 @@ fn leave_all(frames: &mut Frames, scopes: &mut Scopes)
 pub(crate) fn raises(frames: &mut Frames, scopes: &mut Scopes, error: Value) -> Went
     ghost around: { Around }
     requires linked { IsLinked around (own_of frames.old) scopes.old }
+    requires shallow { depth (plain error) ≤ 100 }
     ensures linked { IsLinked around (own_of frames.new) scopes.new }
     ensures empty { inner frames.new ≡ [] }
     ensures moved { (s : Scene) (c : List Item) → IsMove (leave.raises s (control_of around frames.old) (beside c around frames.old scopes.old) (plain error)) result (local_of around frames.new scopes.new) }
@@ -115,6 +116,7 @@ pub(crate) fn raises(frames: &mut Frames, scopes: &mut Scopes, error: Value) -> 
 pub(crate) fn returns(frames: &mut Frames, scopes: &mut Scopes, value: Value) -> Went
     ghost around: { Around }
     requires linked { IsLinked around (own_of frames.old) scopes.old }
+    requires shallow { depth (plain value) ≤ 100 }
     ensures linked { IsLinked around (own_of frames.new) scopes.new }
     ensures empty { inner frames.new ≡ [] }
     ensures moved { (s : Scene) (c : List Item) → IsMove (leave.returns s (plain value) (control_of around frames.old) (beside c around frames.old scopes.old)) result (local_of around frames.new scopes.new) }

@@ -1,6 +1,6 @@
 // Jumps.
 ghost use Rattle.std.specs.Prelude.{◌≡◌, ℕ, List, [], Some, IfOk, IfSome, OnOk, is_some, slice_get, true, unwrap_or};
-ghost use Rattle.wf_frames.specs.Fits.{Fits, HasNode, outside_at, reach};
+ghost use Rattle.wf_frames.specs.Fits.{Fits, HasNode, list_at, outside_at, reach, views};
 ghost use Rattle.wf_frames.specs.Frames.{inner};
 ghost use Rattle.wf_frames.specs.Owned.{Around, IsLinked, beside, control_of, held_by, local_of, own_of};
 ghost use Rattle.wf_frames.specs.Stands.{Stands};
@@ -13,7 +13,7 @@ ghost use Rattle.wf_moves.specs.Built.{Tells};
 ghost use Rattle.wf_moves.specs.Moved.{FoundIn, IsLoopTop, IsMove, IsSettled, is_loop, loop_found, target};
 ghost use Rattle.wf_moves.specs.Steps.{IsJump};
 ghost use Rattle.wf_nodes.specs.Spots.{part_at, part_next};
-ghost use Rattle.wf_nodes.specs.Table.{Leads, list_at};
+ghost use Rattle.wf_nodes.specs.Table.{Leads};
 ghost use Rattle.wf_nodes.specs.declared.node.Node.{Node};
 ghost use Rattle.wf_value.specs.Pairs.{Text};
 
@@ -62,7 +62,7 @@ fn leave_to(frames: &mut Frames, nodes: &[Node], scopes: &mut Scopes, jump: Jump
     requires stands { Stands around nodes.now frames.old scopes.old }
     ensures list { IfSome result (λ n. is_some (list_at nodes.now n) ≡ true) }
     ensures inside { IfSome result (λ n. outside_at around.spots nodes.now n ≡ reach (inner frames.new)) }
-    ensures found { (x : Text) → Leads around.spots nodes.now x (Some jump) (reach (inner frames.old))
+    ensures found { (x : Text) → Leads around.spots (views nodes.now) x (Some jump) (reach (inner frames.old))
         → FoundIn around.spots nodes.now x jump result (inner frames.old) (held_by around frames.old scopes.old) (inner frames.new) (held_by around frames.new scopes.new) }
     ensures stands { Stands around nodes.now frames.new scopes.new }
 {
@@ -86,8 +86,8 @@ fn jump_to(
     ghost around: { Around }
     requires tells { Tells around.spots nodes.now }
     requires stands { Stands around nodes.now frames.old scopes.old }
-    requires leads { (x : Text) × Leads around.spots nodes.now x (Some jump) (reach (inner frames.old)) }
-    ensures found { (x : Text) → Leads around.spots nodes.now x (Some jump) (reach (inner frames.old)) → (c : List Item)
+    requires leads { (x : Text) × Leads around.spots (views nodes.now) x (Some jump) (reach (inner frames.old)) }
+    ensures found { (x : Text) → Leads around.spots (views nodes.now) x (Some jump) (reach (inner frames.old)) → (c : List Item)
         → OnOk result (to_step x (control_of around frames.old) (beside c around frames.old scopes.old) ≡ found.Stands (control_of around frames.new) (beside c around frames.new scopes.new)) }
     ensures stands { OnOk result (Stands around nodes.now frames.new scopes.new) }
 {
@@ -164,8 +164,8 @@ fn go_to(
     ghost around: { Around }
     requires tells { Tells around.spots nodes.now }
     requires stands { Stands around nodes.now frames.old scopes.old }
-    requires leads { (x : Text) × Leads around.spots nodes.now x jump (reach (inner frames.old)) }
-    ensures moved { IfOk result (λ w. (x : Text) → Leads around.spots nodes.now x jump (reach (inner frames.old)) → (s : Scene) (c : List Item)
+    requires leads { (x : Text) × Leads around.spots (views nodes.now) x jump (reach (inner frames.old)) }
+    ensures moved { IfOk result (λ w. (x : Text) → Leads around.spots (views nodes.now) x jump (reach (inner frames.old)) → (s : Scene) (c : List Item)
         → IsMove (leave.jumps_to s x (to_step x (control_of around frames.old) (beside c around frames.old scopes.old))) w (local_of around frames.new scopes.new)) }
     ensures stands { OnOk result (Stands around nodes.now frames.new scopes.new) }
     ensures settled { OnOk result (IsSettled nodes.now (inner frames.new)) }

@@ -11,6 +11,7 @@ mod jump;
 mod kinds;
 mod moves;
 mod nodes;
+mod start;
 mod step;
 mod task;
 mod turn;

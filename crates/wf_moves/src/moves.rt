@@ -38,7 +38,7 @@ fn finish(
     requires tells { Tells around.spots nodes.now }
     requires stands { Stands around nodes.now frames.old scopes.old }
     requires ready { IsReady around.spots nodes.now (inner frames.old) step }
-    ensures moved { IfOk result (λ w. (s : Scene) (c : List Item) → Sees s facts.entry.now → Agrees s around frames.old scopes.old
+    ensures moved { IfOk result (λ w. (s : Scene) (c : List Item) → Sees s facts.entry.now → Agrees s around
         → IsMove (come around.spots step s (control_of around frames.old) (beside c around frames.old scopes.old)) w (local_of around frames.new scopes.new)) }
     ensures stands { OnOk result (Stands around nodes.now frames.new scopes.new) }
     ensures settled { OnOk result (IsSettled nodes.now (inner frames.new)) }
@@ -64,7 +64,7 @@ pub(crate) fn advance(
     requires tells { Tells around.spots nodes.now }
     requires stands { Stands around nodes.now frames.old scopes.old }
     requires going { IsGoing nodes.now (inner frames.old) }
-    ensures moved { IfOk result (λ w. (s : Scene) (c : List Item) → Sees s facts.entry.now → Agrees s around frames.old scopes.old
+    ensures moved { IfOk result (λ w. (s : Scene) (c : List Item) → Sees s facts.entry.now → Agrees s around
         → IsMove (moves s (control_of around frames.old) (beside c around frames.old scopes.old)) w (local_of around frames.new scopes.new)) }
     ensures stands { OnOk result (Stands around nodes.now frames.new scopes.new) }
     ensures settled { OnOk result (IsSettled nodes.now (inner frames.new)) }

@@ -1,9 +1,8 @@
 // Nodes by their numbers.
 ghost use Rattle.std.specs.Prelude.{◌≡◌, Some, is_some, take, true};
-ghost use Rattle.wf_frames.specs.Fits.{IsLoop, entries_at};
+ghost use Rattle.wf_frames.specs.Fits.{IsLoop, entries_at, list_at};
 ghost use Rattle.wf_moves.specs.Built.{is_node_built, is_table_built};
 ghost use Rattle.wf_nodes.specs.Kinds.{block_view};
-ghost use Rattle.wf_nodes.specs.Table.{list_at};
 ghost use Rattle.wf_nodes.specs.declared.node.LoopNode as loop_node;
 
 use wf_nodes::{Block, LoopNode, Node, NodeKind};

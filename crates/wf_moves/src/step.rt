@@ -1,5 +1,5 @@
 // What a step does to a task's frames.
-ghost use Rattle.std.specs.Prelude.{◌≡◌, ◌<◌, ℕ, List, Option, length, IfOk, IfSome, OnOk, true};
+ghost use Rattle.std.specs.Prelude.{◌≡◌, ◌<◌, ◌≤◌, ℕ, List, Option, length, IfOk, IfSome, OnOk, true};
 ghost use Rattle.wf_ast.specs.Eval.{truth};
 ghost use Rattle.wf_ast.specs.Tree.{Body, Steps, loop};
 ghost use Rattle.wf_eval.specs.Answers.{Answers, GivesBool};
@@ -17,6 +17,7 @@ ghost use Rattle.wf_nodes.specs.Spots.{Spot, arms_by, owners_at, part_at, part_b
 ghost use Rattle.wf_nodes.specs.Table.{ArmsStandIn};
 ghost use Rattle.wf_nodes.specs.declared.node.LoopNode.{LoopNode};
 ghost use Rattle.wf_nodes.specs.declared.node.Node.{Node};
+ghost use Rattle.wf_value.specs.Data.{depth};
 ghost use Rattle.wf_value.specs.Errors.{error_map};
 ghost use Rattle.wf_value.specs.Pairs.{Text};
 ghost use Rattle.wf_value.specs.Plain.{plain};
@@ -46,7 +47,8 @@ pub(crate) enum Step {
 
 /// The map of an error. It is asked for no error of a request and of branches, whose maps hold more: no evaluation raises one.
 pub(crate) fn map_of(alloc: Global, tag: Tag) -> Result<Value, OutOfMemory>
-    ensures { IfOk result (λ v. plain v ≡ error_map tag) }
+    ensures error { IfOk result (λ v. plain v ≡ error_map tag) }
+    ensures shallow { IfOk result (λ v. depth (plain v) ≤ 100) }
 {
     match tag {
         Tag::HttpError => Err(OutOfMemory),

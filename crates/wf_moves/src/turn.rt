@@ -70,7 +70,7 @@ pub(crate) fn turn(
     requires tells { Tells around.spots nodes.now }
     requires stands { Stands around nodes.now frames.old scopes.old }
     requires is { IsLoop nodes.now n body.now }
-    ensures moved { IfOk result (λ w. (s : Scene) (c : Seq Item) → Agrees s around frames.old scopes.old
+    ensures moved { IfOk result (λ w. (s : Scene) (c : Seq Item) → Agrees s around
         → IsMove (moves s (control around.spots (frame.Loop n left index ∷ inner frames.old)) (beside c around frames.old scopes.old)) w (local_of around frames.new scopes.new)) }
     ensures stands { OnOk result (Stands around nodes.now frames.new scopes.new) }
     ensures settled { OnOk result (IsSettled nodes.now (inner frames.new)) }

@@ -27,7 +27,7 @@ returns-in-Ok-clause-written g c s agrees =
 pub returns-in-Ok-clause-linked : goal.returns-in-Ok-clause-linked
 returns-in-Ok-clause-linked g c =
     let x = c.args.scopes.now in
-    assigned_linked g.around (own_of c.args.frames.now) x c.assign.new.self x.limit c.layer.result.number c.as_str.result.now (map key_data c.args.path.now) (plain c.args.value) c.requires c.in-Ok.ensures.outcome c.in-Ok.ensures.limit
+    assigned_linked g.around c.args.frames.now.first (inner c.args.frames.now) x c.assign.new.self x.limit c.layer.result.number c.as_str.result.now (map key_data c.args.path.now) (plain c.args.value) x.standing c.requires c.layer.ensures c.in-Ok.ensures.outcome c.in-Ok.ensures.limit
 
 pub returns-in-Error-clause-written : goal.returns-in-Error-clause-written
 returns-in-Error-clause-written g c s agrees =

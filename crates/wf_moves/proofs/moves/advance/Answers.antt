@@ -8,7 +8,7 @@ use Rattle.wf_frames.specs.Sights.{sight_of}
 use Rattle.wf_frames.specs.declared.frames.Frame.TheVariants as frame
 use Rattle.wf_moves.proofs.Leaving.{going_has, going_plain, going_step}
 use Rattle.wf_moves.proofs.Performed.{with_ok}
-use Rattle.wf_moves.proofs.Turning.{agrees_same, loop_there, moved_on, moved_same}
+use Rattle.wf_moves.proofs.Turning.{loop_there, moved_on, moved_same}
 use Rattle.wf_scope.specs.Store.{layers_of}
 use Rattle.wf_moves.proofs.moves.advance.Goals as goal
 
@@ -37,5 +37,5 @@ returns-in-Loop-clause-moved g c =
     let fs = c.in-Some.ensures.popped ∙ ap (λ f. f ∷ inner c.pop.new.self) c.in-Loop.is in
     with_ok _ _ c.turn.result
     (λ w h s d sees agrees. moved_same g.around s (own_of c.args.frames.now) (own_of c.pop.new.self) (layers_of c.args.scopes.now) own d (inner c.args.frames.now) (frame.Loop c.in-Loop.n c.in-Loop.left c.in-Loop.index ∷ inner c.pop.new.self) w (local_of g.around c.turn.new.frames c.turn.new.scopes) fs
-    (h s d (agrees_same g.around s (own_of c.args.frames.now) (own_of c.pop.new.self) (layers_of c.args.scopes.now) own agrees)))
+    (h s d agrees))
     c.turn.ensures.moved

@@ -16,8 +16,8 @@ use Rattle.wf_value.specs.Plain.{plain}
 use Rattle.wf_value.specs.declared.Value.{Value}
 use Rattle.wf_moves.proofs.turn.turn.Goals as goal
 
-pub raises-requires : goal.raises-requires
-raises-requires g c = subst (λ o. IsLinked g.around (with_own o (own_of c.args.frames.now)) c.enter.new.scopes) c.in_default-entered.is c.in_ok-entered.ensures.linked
+pub raises-requires-clause-linked : goal.raises-requires-clause-linked
+raises-requires-clause-linked g c = subst (λ o. IsLinked g.around (with_own o (own_of c.args.frames.now)) c.enter.new.scopes) c.in_default-entered.is c.in_ok-entered.ensures.linked
 
 pub returns-in_default-entered-clause-moved : goal.returns-in_default-entered-clause-moved
 returns-in_default-entered-clause-moved g c s d agrees =
@@ -28,7 +28,7 @@ returns-in_default-entered-clause-moved g c s d agrees =
     turn_refused g.around.spots c.args.n c.args.left c.args.index (inner c.args.frames.now) s d h c.args.nodes.now is.node c.args.body.now c.requires.0.resolves is.at is.is (plain c.in-Some.both.0) c.in-Some.both.1 next
     (held_by g.around c.args.frames.now c.enter.new.scopes) c.raises.result (local_of g.around c.raises.new.frames c.raises.new.scopes) c.in_ok-error.error
     (subst (λ (o : Option ℕ). Enters s o h names (held_of g.around.keys (with_own o (own_of c.args.frames.now)) (layers_of c.enter.new.scopes))) c.in_default-entered.is (c.in_ok-entered.ensures.entered s agrees))
-    c.in_ok-error.ensures (c.raises.ensures.moved s d)
+    c.in_ok-error.ensures.error (c.raises.ensures.moved s d)
 
 pub goes-requires-2-clause-stands : goal.goes-requires-2-clause-stands
 goes-requires-2-clause-stands g c =
