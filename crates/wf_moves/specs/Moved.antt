@@ -67,6 +67,11 @@ IsMove (Goes m) went.Goes l = m ≡ l
 IsMove (Ends e m) (went.Ended f) l = (e ≡ end_view f) × (depth (end_data e) ≤ 100) × (m.outer ≡ l.outer)
 IsMove m w l = ⊥
 
+-- where the task goes on its innermost frame has something to do, and where it has ended none is left
+abbrev pub IsLeft : List Node → Went → List Frame → Type 0
+IsLeft nodes went.Goes fs = IsGoing nodes fs
+IsLeft nodes (went.Ended e) fs = fs ≡ []
+
 -- ## Ways outward
 -- where an innermost loop was looked for: there are these frames from it on, or there is none
 abbrev pub loop_found : List Spot → List Frame → Local → Found

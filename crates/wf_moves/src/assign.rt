@@ -14,7 +14,7 @@ ghost use Rattle.wf_model.specs.Local.{Scene};
 ghost use Rattle.wf_model.specs.Move as move;
 ghost use Rattle.wf_moves.specs.Assigned.{entry_values, values_of};
 ghost use Rattle.wf_moves.specs.Built.{Tells};
-ghost use Rattle.wf_moves.specs.Moved.{IsMove, IsSettled};
+ghost use Rattle.wf_moves.specs.Moved.{IsLeft, IsMove};
 ghost use Rattle.wf_shapes.specs.Built.{are_built};
 ghost use Rattle.wf_nodes.specs.Kinds.{entry_by};
 ghost use Rattle.wf_nodes.specs.Spots.{part_at, part_entry};
@@ -72,7 +72,7 @@ fn store(
     ensures moved { IfOk result (λ w. (s : Scene) (c : List Item) → Agrees s around
         → IsMove (leave.on_assigned s (control_of around frames.old) (beside c around frames.old scopes.old) (layers.assign s name.now (values_of assigned).1 (values_of assigned).0 (beside c around frames.old scopes.old))) w (local_of around frames.new scopes.new)) }
     ensures stands { OnOk result (Stands around nodes.now frames.new scopes.new) }
-    ensures settled { OnOk result (IsSettled nodes.now (inner frames.new)) }
+    ensures left { IfOk result (λ w. IsLeft nodes.now w (inner frames.new)) }
 {
     let Assigned { value, places } = assigned;
     match put(alloc, frames, scopes, name, places.as_slice(), value)? {
@@ -124,7 +124,7 @@ pub(crate) fn assign(
     ensures moved { IfOk result (λ w. (s : Scene) (c : List Item) → Sees s facts.entry.now → Agrees s around
         → IsMove (move.assigns s (part_entry (part_at around.spots n)) (control_of around frames.old) (beside c around frames.old scopes.old)) w (local_of around frames.new scopes.new)) }
     ensures stands { OnOk result (Stands around nodes.now frames.new scopes.new) }
-    ensures settled { OnOk result (IsSettled nodes.now (inner frames.new)) }
+    ensures left { IfOk result (λ w. IsLeft nodes.now w (inner frames.new)) }
 {
     let node = &nodes[n as usize];
     let NodeKind::Entry(entry) = &node.kind else {

@@ -10,8 +10,9 @@ ghost use Rattle.wf_model.specs.Local.{Scene, Ends, Fails as Failing};
 ghost use Rattle.wf_model.specs.Local as local;
 ghost use Rattle.wf_model.specs.Unwind.{unwind, to_back, AtEnd};
 ghost use Rattle.wf_moves.specs.Built.{Tells};
-ghost use Rattle.wf_moves.specs.Moved.{HasMove, IsMove, IsSettled, Settled};
+ghost use Rattle.wf_moves.specs.Moved.{HasMove, IsLeft, IsMove, IsSettled, Settled};
 ghost use Rattle.wf_nodes.specs.Spots.{Spot};
+ghost use Rattle.wf_nodes.specs.declared.node.Node.{Node};
 ghost use Rattle.wf_value.specs.Data.{Data, depth};
 ghost use Rattle.wf_value.specs.Plain.{plain};
 
@@ -76,7 +77,7 @@ pub(crate) fn goes(frames: &mut Frames, nodes: &[Node], scopes: &mut Scopes) -> 
     requires tells { Tells around.spots nodes.now }
     requires stands { Stands around nodes.now frames.old scopes.old }
     ensures stands { Stands around nodes.now frames.new scopes.new }
-    ensures settled { IsSettled nodes.now (inner frames.new) }
+    ensures left { IsLeft nodes.now result (inner frames.new) }
     ensures moved { (c : List Item) → IsMove (local.goes (control_of around frames.old) (beside c around frames.old scopes.old)) result (local_of around frames.new scopes.new) }
 {
     settle(frames, nodes, scopes);
@@ -106,6 +107,7 @@ pub(crate) fn raises(frames: &mut Frames, scopes: &mut Scopes, error: Value) -> 
     requires shallow { depth (plain error) ≤ 100 }
     ensures linked { IsLinked around (own_of frames.new) scopes.new }
     ensures empty { inner frames.new ≡ [] }
+    ensures left { (nodes : List Node) → IsLeft nodes result (inner frames.new) }
     ensures moved { (s : Scene) (c : List Item) → IsMove (leave.raises s (control_of around frames.old) (beside c around frames.old scopes.old) (plain error)) result (local_of around frames.new scopes.new) }
 {
     leave_all(frames, scopes);
@@ -119,6 +121,7 @@ pub(crate) fn returns(frames: &mut Frames, scopes: &mut Scopes, value: Value) ->
     requires shallow { depth (plain value) ≤ 100 }
     ensures linked { IsLinked around (own_of frames.new) scopes.new }
     ensures empty { inner frames.new ≡ [] }
+    ensures left { (nodes : List Node) → IsLeft nodes result (inner frames.new) }
     ensures moved { (s : Scene) (c : List Item) → IsMove (leave.returns s (plain value) (control_of around frames.old) (beside c around frames.old scopes.old)) result (local_of around frames.new scopes.new) }
 {
     leave_all(frames, scopes);

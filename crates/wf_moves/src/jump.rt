@@ -10,7 +10,7 @@ ghost use Rattle.wf_model.specs.Local.{Scene};
 ghost use Rattle.wf_model.specs.Unwind.{to_loop, to_step};
 ghost use Rattle.wf_model.specs.Unwind as found;
 ghost use Rattle.wf_moves.specs.Built.{Tells};
-ghost use Rattle.wf_moves.specs.Moved.{FoundIn, IsLoopTop, IsMove, IsSettled, is_loop, loop_found, target};
+ghost use Rattle.wf_moves.specs.Moved.{FoundIn, IsLeft, IsLoopTop, IsMove, is_loop, loop_found, target};
 ghost use Rattle.wf_moves.specs.Steps.{IsJump};
 ghost use Rattle.wf_nodes.specs.Spots.{part_at, part_next};
 ghost use Rattle.wf_nodes.specs.Table.{Leads};
@@ -134,7 +134,7 @@ fn go_on_loop(frames: &mut Frames, nodes: &[Node], scopes: &mut Scopes) -> Went
     requires stands { Stands around nodes.now frames.old scopes.old }
     ensures moved { (s : Scene) (c : List Item) → IsMove (leave.continues s (beside c around frames.old scopes.old) (to_loop (control_of around frames.old) (beside c around frames.old scopes.old))) result (local_of around frames.new scopes.new) }
     ensures stands { Stands around nodes.now frames.new scopes.new }
-    ensures settled { IsSettled nodes.now (inner frames.new) }
+    ensures left { IsLeft nodes.now result (inner frames.new) }
 {
     leave_to_loop(frames, scopes);
     goes(frames, nodes, scopes)
@@ -147,7 +147,7 @@ fn end_loop(frames: &mut Frames, nodes: &[Node], scopes: &mut Scopes) -> Went
     requires stands { Stands around nodes.now frames.old scopes.old }
     ensures moved { (c : List Item) → IsMove (leave.breaks (to_loop (control_of around frames.old) (beside c around frames.old scopes.old))) result (local_of around frames.new scopes.new) }
     ensures stands { Stands around nodes.now frames.new scopes.new }
-    ensures settled { IsSettled nodes.now (inner frames.new) }
+    ensures left { IsLeft nodes.now result (inner frames.new) }
 {
     leave_to_loop(frames, scopes);
     leave(frames, scopes);
@@ -168,7 +168,7 @@ fn go_to(
     ensures moved { IfOk result (λ w. (x : Text) → Leads around.spots (views nodes.now) x jump (reach (inner frames.old)) → (s : Scene) (c : List Item)
         → IsMove (leave.jumps_to s x (to_step x (control_of around frames.old) (beside c around frames.old scopes.old))) w (local_of around frames.new scopes.new)) }
     ensures stands { OnOk result (Stands around nodes.now frames.new scopes.new) }
-    ensures settled { OnOk result (IsSettled nodes.now (inner frames.new)) }
+    ensures left { IfOk result (λ w. IsLeft nodes.now w (inner frames.new)) }
 {
     match jump {
         Some(jump) => jump_to(frames, nodes, scopes, jump)?,
@@ -191,7 +191,7 @@ pub(crate) fn jump(
     ensures moved { IfOk result (λ w. (s : Scene) (c : List Item)
         → IsMove (leave.jumps s (unwrap_or (part_next (part_at around.spots n)) []) (control_of around frames.old) (beside c around frames.old scopes.old)) w (local_of around frames.new scopes.new)) }
     ensures stands { OnOk result (Stands around nodes.now frames.new scopes.new) }
-    ensures settled { OnOk result (IsSettled nodes.now (inner frames.new)) }
+    ensures left { IfOk result (λ w. IsLeft nodes.now w (inner frames.new)) }
 {
     let node = &nodes[n as usize];
     let Some(next) = &node.next else {

@@ -9,7 +9,7 @@ ghost use Rattle.wf_model.specs.Config.{Item};
 ghost use Rattle.wf_model.specs.Local.{Scene};
 ghost use Rattle.wf_model.specs.Move.{moves};
 ghost use Rattle.wf_moves.specs.Built.{Tells};
-ghost use Rattle.wf_moves.specs.Moved.{IsGoing, IsMove, IsSettled};
+ghost use Rattle.wf_moves.specs.Moved.{IsGoing, IsLeft, IsMove};
 ghost use Rattle.wf_moves.specs.Steps.{IsReady, come};
 
 use crate::advance::step_of;
@@ -41,7 +41,7 @@ fn finish(
     ensures moved { IfOk result (λ w. (s : Scene) (c : List Item) → Sees s facts.entry.now → Agrees s around
         → IsMove (come around.spots step s (control_of around frames.old) (beside c around frames.old scopes.old)) w (local_of around frames.new scopes.new)) }
     ensures stands { OnOk result (Stands around nodes.now frames.new scopes.new) }
-    ensures settled { OnOk result (IsSettled nodes.now (inner frames.new)) }
+    ensures left { IfOk result (λ w. IsLeft nodes.now w (inner frames.new)) }
 {
     match step {
         Step::Goes => Ok(goes(frames, nodes, scopes)),
@@ -67,7 +67,7 @@ pub(crate) fn advance(
     ensures moved { IfOk result (λ w. (s : Scene) (c : List Item) → Sees s facts.entry.now → Agrees s around
         → IsMove (moves s (control_of around frames.old) (beside c around frames.old scopes.old)) w (local_of around frames.new scopes.new)) }
     ensures stands { OnOk result (Stands around nodes.now frames.new scopes.new) }
-    ensures settled { OnOk result (IsSettled nodes.now (inner frames.new)) }
+    ensures left { IfOk result (λ w. IsLeft nodes.now w (inner frames.new)) }
 {
     let Some(frame) = frames.pop() else {
         unreachable!()

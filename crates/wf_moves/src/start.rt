@@ -58,7 +58,7 @@ pub(crate) fn first_layer(
 ) -> Result<Chain, OutOfMemory>
     ghost around: { Around }
     requires { IsFirst around scopes.old }
-    ensures begun { IfOk result (λ c. begun (map param_view params.now) (plain argument) ≡ standing [] (held_of around.keys (own c.number false ∷ []) (layers_of scopes.new))) }
+    ensures begins { IfOk result (λ c. begun (map param_view params.now) (plain argument) ≡ standing [] (held_of around.keys (own c.number false ∷ []) (layers_of scopes.new))) }
     ensures linked { IfOk result (λ c. IsLinked around (own c.number false ∷ []) scopes.new) }
 {
     let layer = scopes.root()?;

@@ -7,10 +7,11 @@ ghost use Rattle.wf_frames.specs.Sights.{Sees};
 ghost use Rattle.wf_frames.specs.Stands.{Stands};
 ghost use Rattle.wf_frames.specs.Turns.{Agrees};
 ghost use Rattle.wf_model.specs.Config.{Do};
-ghost use Rattle.wf_model.specs.Local.{Scene, settle};
+ghost use Rattle.wf_model.specs.Local as local;
+ghost use Rattle.wf_model.specs.Local.{Scene};
 ghost use Rattle.wf_model.specs.Move.{move};
 ghost use Rattle.wf_moves.specs.Built.{Tells};
-ghost use Rattle.wf_moves.specs.Moved.{IsGoing, IsSettled};
+ghost use Rattle.wf_moves.specs.Moved.{IsGoing, IsLeft, IsSettled};
 ghost use Rattle.wf_nodes.specs.Spots.{part_at, part_list};
 ghost use Rattle.wf_value.specs.Plain.{plain};
 
@@ -44,7 +45,7 @@ impl Task {
     ghost use Rattle.wf_ast.specs.Tree.{Program};
     ghost use Rattle.wf_model.specs.Kinds.{next_kind};
     ghost use Rattle.wf_moves.specs.Kinds.{kind_view};
-    ghost use Rattle.wf_moves.specs.Tasks.{IsFirst, IsFlow, MovesSo, begun, has_ended, part_params};
+    ghost use Rattle.wf_moves.specs.Tasks.{IsFirst, IsFlow, MovesSo, begun, has_ended, part_params, went_of};
 
     /// The first task, which stands before the steps of a workflow: that of the node with this number. Its first layer is made, and holds
     /// the argument where the workflow has a parameter. Without memory, or where the argument passes the limit on variables, there is no
@@ -60,7 +61,7 @@ impl Task {
         requires tells { Tells around.spots nodes.now }
         requires start { IsFlow nodes.now flow }
         requires first { IsFirst around scopes.old }
-        ensures begun { IfOk result (λ t. settle (Do (part_list (part_at around.spots flow)) (part_list (part_at around.spots flow)) ∷ [])
+        ensures begins { IfOk result (λ t. local.settle (Do (part_list (part_at around.spots flow)) (part_list (part_at around.spots flow)) ∷ [])
             (begun (part_params (part_at around.spots flow)) (plain argument)) ≡ local_of around t.frames scopes.new) }
         ensures stands { IfOk result (λ t. Stands around nodes.now t.frames scopes.new) }
         ensures settled { IfOk result (λ t. IsSettled nodes.now (inner t.frames)) }
@@ -109,7 +110,7 @@ impl Task {
         ensures moved { IfOk result (λ m. (s : Scene) → Sees s facts.entry.now → Agrees s around
             → MovesSo (move s (local_of around self.old.frames scopes.old)) m (local_of around self.new.frames scopes.new)) }
         ensures stands { OnOk result (Stands around nodes.now self.new.frames scopes.new) }
-        ensures settled { OnOk result (IsSettled nodes.now (inner self.new.frames)) }
+        ensures left { IfOk result (λ m. IsLeft nodes.now (went_of m) (inner self.new.frames)) }
     {
         match advance(self.alloc, nodes, &mut self.frames, scopes, facts)? {
             Went::Goes => Ok(Move::Went),

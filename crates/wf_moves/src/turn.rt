@@ -11,7 +11,7 @@ ghost use Rattle.wf_model.specs.Config.{Item, next_of};
 ghost use Rattle.wf_model.specs.Local.{Scene};
 ghost use Rattle.wf_model.specs.Move.{moves};
 ghost use Rattle.wf_moves.specs.Built.{Tells};
-ghost use Rattle.wf_moves.specs.Moved.{IsMove, IsSettled};
+ghost use Rattle.wf_moves.specs.Moved.{IsLeft, IsMove};
 ghost use Rattle.wf_value.specs.Plain.{plain};
 
 use crate::finish::{Went, goes, raises};
@@ -73,7 +73,7 @@ pub(crate) fn turn(
     ensures moved { IfOk result (λ w. (s : Scene) (c : Seq Item) → Agrees s around
         → IsMove (moves s (control around.spots (frame.Loop n left index ∷ inner frames.old)) (beside c around frames.old scopes.old)) w (local_of around frames.new scopes.new)) }
     ensures stands { OnOk result (Stands around nodes.now frames.new scopes.new) }
-    ensures settled { OnOk result (IsSettled nodes.now (inner frames.new)) }
+    ensures left { IfOk result (λ w. IsLeft nodes.now w (inner frames.new)) }
 {
     let found = next_of(alloc, left)?;
     let Some(both) = found else {

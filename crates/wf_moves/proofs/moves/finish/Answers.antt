@@ -2,7 +2,7 @@ use Rattle.std.proofs.Common.{sym, subst}
 use Rattle.wf_frames.specs.Frames.{inner}
 use Rattle.wf_frames.specs.Fits.{Fits}
 use Rattle.wf_frames.specs.Owned.{beside, control_of, local_of}
-use Rattle.wf_moves.proofs.Leaving.{empty_fits, empty_settled}
+use Rattle.wf_moves.proofs.Leaving.{empty_fits}
 use Rattle.wf_moves.specs.Moved.{IsMove}
 use Rattle.wf_moves.specs.Steps.{IsReady, come}
 use Rattle.wf_moves.proofs.moves.finish.Goals as goal
@@ -20,11 +20,5 @@ returns-in-Goes-clause-moved g c s d sees agrees =
 pub returns-in-Raises-clause-stands : goal.returns-in-Raises-clause-stands
 returns-in-Raises-clause-stands g c = record { fits = empty_fits g.around.spots c.args.nodes.now (inner c.raises.new.frames) c.raises.ensures.empty; linked = c.raises.ensures.linked }
 
-pub returns-in-Raises-clause-settled : goal.returns-in-Raises-clause-settled
-returns-in-Raises-clause-settled g c = empty_settled c.args.nodes.now (inner c.raises.new.frames) c.raises.ensures.empty
-
 pub returns-in-Returns-clause-stands : goal.returns-in-Returns-clause-stands
 returns-in-Returns-clause-stands g c = record { fits = empty_fits g.around.spots c.args.nodes.now (inner c.returns.new.frames) c.returns.ensures.empty; linked = c.returns.ensures.linked }
-
-pub returns-in-Returns-clause-settled : goal.returns-in-Returns-clause-settled
-returns-in-Returns-clause-settled g c = empty_settled c.args.nodes.now (inner c.returns.new.frames) c.returns.ensures.empty
