@@ -1,3 +1,4 @@
 pub mod Compiling
 pub mod Decoding
 pub mod Views
+pub mod Told

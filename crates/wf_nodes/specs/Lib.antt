@@ -4,3 +4,5 @@ pub mod Kinds
 pub mod Shapes
 pub mod Spots
 pub mod Table
+pub mod Sets
+pub mod Told
