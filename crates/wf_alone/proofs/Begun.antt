@@ -2,8 +2,7 @@
 --     initial_to           each program starts
 --     begun, begun_ended   what with
 use Rattle.std.proofs.Common.{◌≡◌, false, List, [], ◌∷◌, None, refl, sym, ◌∙◌, ap}
-use Rattle.wf_alone.specs.Laws.{main_at}
-use Rattle.wf_alone.specs.Machine.{argument_of, config_by, facts_of, main_local}
+use Rattle.wf_alone.specs.Machine.{argument_of, config_by, facts_of, main_at, main_local}
 use Rattle.wf_ast.specs.Tree.{Program, Step, Steps, more, no_steps}
 use Rattle.wf_model.specs.Config.{After, Config, Do, Item, Returned, To}
 use Rattle.wf_model.specs.Local.{Local, ended, goes, settle}

@@ -6,8 +6,7 @@
 use Rattle.std.proofs.Common.{◌≡◌, ◌<◌, ◌≤◌, ℕ, suc, ◌+◌, ◌-◌, Bool, true, false, List, [], ◌∷◌, None, refl, sym, ◌∙◌, ap, subst, arith}
 use Rattle.std.specs.Prelude.{if◌then◌else◌, nat_lt}
 use Rattle.std.proofs.lemmas.Bool.{lt-ltb, ltb-true}
-use Rattle.wf_alone.specs.Laws.{main_at}
-use Rattle.wf_alone.specs.Machine.{main_task, config_by, main_scene, main_local}
+use Rattle.wf_alone.specs.Machine.{config_by, main_at, main_local, main_scene}
 use Rattle.wf_alone.specs.Plain.{IsReal}
 use Rattle.wf_ast.specs.Accept.{Kind}
 use Rattle.wf_ast.specs.Tree.{Program}
@@ -26,15 +25,15 @@ module _ (p : Program) (facts : Facts) (last now m : ℕ) (k : List Item) (ls : 
   Here = main_at facts last m k ls
 
   -- its move there
-  abbrev It : Moved
-  It = move (main_scene p facts last now) (main_local k ls)
+  abbrev ItsMove : Moved
+  ItsMove = move (main_scene p facts last now) (main_local k ls)
 
   -- no other task has variables
   no_others : (n : ℕ) → (n + 0) - (n + 0) ≡ 0
   no_others n = omega arith
 
   -- it reads and changes this
-  pub by_main : by_itself p 0 now move Here ≡ merged 0 None It Here
+  pub by_main : by_itself p 0 now move Here ≡ merged 0 None ItsMove Here
   by_main = ap (λ n. merged 0 None (move (record (main_scene p facts last now) { others = n }) (main_local k ls)) Here) (no_others (layers_total ls))
 
   -- put back, with no layer outside and no wait
@@ -43,15 +42,15 @@ module _ (p : Program) (facts : Facts) (last now m : ℕ) (k : List Item) (ls : 
   put_here l os w none awake = rw (none, awake) refl
 
   -- the task goes on
-  pub goes_on : (l : Local) → It ≡ Goes l → l.outer ≡ [] → l.wait ≡ Awake → by_itself p 0 now move Here ≡ To (main_at facts last m l.control l.layers)
+  pub goes_on : (l : Local) → ItsMove ≡ Goes l → l.outer ≡ [] → l.wait ≡ Awake → by_itself p 0 now move Here ≡ To (main_at facts last m l.control l.layers)
   goes_on l is none awake = by_main ∙ ap (λ a. merged 0 None a Here) is ∙ put_here l l.outer l.wait none awake
 
   -- the task has ended, and so has the execution
-  pub ends : (e : End) (l : Local) → It ≡ Ends e l → l.outer ≡ [] → by_itself p 0 now move Here ≡ To (config_by facts last [] m (outcome_of e))
+  pub ends : (e : End) (l : Local) → ItsMove ≡ Ends e l → l.outer ≡ [] → by_itself p 0 now move Here ≡ To (config_by facts last [] m (outcome_of e))
   ends e l is none = by_main ∙ ap (λ a. merged 0 None a Here) is ∙ ap (λ os. To (finish 0 None e (put_outer os Here))) none
 
   -- what no accepted program does
-  pub breaks : (kind : Kind) → It ≡ Breaks kind → by_itself p 0 now move Here ≡ Wrong kind
+  pub breaks : (kind : Kind) → ItsMove ≡ Breaks kind → by_itself p 0 now move Here ≡ Wrong kind
   breaks kind is = by_main ∙ ap (λ a. merged 0 None a Here) is
 
 -- ## What it comes to
@@ -95,17 +94,17 @@ at_least m le = not_less (suc m) move_limit (omega (arith, le))
 
 module _ (facts : Facts) (last : ℕ) (tasks : List (ℕ × Task)) (m : ℕ) (o : Outcome) (f : Config → After) where
   -- with so many counted events
-  abbrev So : ℕ → Config
-  So n = config_by facts last tasks n o
+  abbrev At : ℕ → Config
+  At n = config_by facts last tasks n o
 
   -- the event at the limit isn't carried out
   pub limit_here : 100000 ≤ m + 1 → counted (config_by facts last tasks m o) f ≡ To (config_by facts last tasks (m + 1) (Raised (error_map ResourceLimitError)))
   limit_here le =
-      ap (λ b. if b then f (So (suc m)) else To (stopped (So (suc m)))) (at_least m le)
+      ap (λ b. if b then f (At (suc m)) else To (stopped (At (suc m)))) (at_least m le)
       ∙ ap (λ n. To (config_by facts last tasks n (Raised (error_map ResourceLimitError)))) (sym (one_more m))
 
   -- one below it is
   pub below_limit : m + 1 < 100000 → counted (config_by facts last tasks m o) f ≡ f (config_by facts last tasks (m + 1) o)
   below_limit lt =
-      ap (λ b. if b then f (So (suc m)) else To (stopped (So (suc m)))) (below m lt)
-      ∙ ap (λ n. f (So n)) (sym (one_more m))
+      ap (λ b. if b then f (At (suc m)) else To (stopped (At (suc m)))) (below m lt)
+      ∙ ap (λ n. f (At n)) (sym (one_more m))

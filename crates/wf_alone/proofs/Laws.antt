@@ -12,4 +12,4 @@ pub main_only_moves : MainOnlyMoves
 main_only_moves p facts last m k ls plain has = only_moves p facts last m k ls plain has
 
 pub main_can_move : MainCanMove
-main_can_move law p facts last m k ls clock accepted plain has kind reached r le = can_come p facts last m k ls plain has law accepted reached clock r kind le
+main_can_move law p facts last m k ls clock accepted reached plain has kind r le = can_come p facts last m k ls plain has law accepted reached clock r kind le

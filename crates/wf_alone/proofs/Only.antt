@@ -3,11 +3,10 @@
 --     main_alone               nothing but `main`'s move, and a cancelling
 --     plain_next, clock_next   where that move leads
 --     choice                   that it is chosen
-use Rattle.std.proofs.Common.{◌≡◌, ◌⊎◌, ℕ, zero, suc, max, ◌%◌, Bool, true, false, not, ◌&&◌, inl, inr, List, [], ◌∷◌, None, Some, option_map, refl, sym, ◌∙◌, ap, subst}
+use Rattle.std.proofs.Common.{◌≡◌, ◌⊎◌, ℕ, zero, suc, max, ◌%◌, Bool, true, false, not, ◌&&◌, inl, inr, List, None, Some, option_map, refl, sym, ◌∙◌, ap}
 use Rattle.std.proofs.Math.Dec.{eqb-zero-suc}
 use Rattle.std.specs.Prelude.{nat_le, nat_eq, if◌then◌else◌}
-use Rattle.wf_alone.specs.Laws.{main_at}
-use Rattle.wf_alone.specs.Machine.{main_event, main_task}
+use Rattle.wf_alone.specs.Machine.{main_at, main_event, main_task}
 use Rattle.wf_alone.specs.OnlyMoves.{IsAlone}
 use Rattle.wf_ast.specs.Tree.{Program}
 use Rattle.wf_model.proofs.After.{nowhere_is_no_config, same_config}
@@ -68,8 +67,8 @@ module _ (p : Program) (facts : Facts) (reading m : ℕ) (k : List Item) (layers
   Here = main_at facts reading m k layers
 
   -- its task
-  abbrev T : ℕ × Task
-  T = (0, main_task k layers)
+  abbrev ItsTask : ℕ × Task
+  ItsTask = (0, main_task k layers)
 
   -- ## What can't come
   -- there is no other task
@@ -131,12 +130,12 @@ module _ (p : Program) (facts : Facts) (reading m : ℕ) (k : List Item) (layers
 
   -- of one task that may move, its event is chosen
   chosen : (f : ℕ × Task → Event) (a b w : Bool) → b ≡ false → w ≡ false
-      → first_of_two (option_map Event.Begin (if b then Some 0 else None)) (option_map f (first_of_two (if a && not w then Some T else None) (if not w then Some T else None))) ≡ Some (f T)
+      → first_of_two (option_map Event.Begin (if b then Some 0 else None)) (option_map f (first_of_two (if a && not w then Some ItsTask else None) (if not w then Some ItsTask else None))) ≡ Some (f ItsTask)
   chosen f a b w not_b not_w =
-      ap (λ c. first_of_two (option_map Event.Begin (if c then Some 0 else None)) (option_map f (first_of_two (if a && not w then Some T else None) (if not w then Some T else None)))) not_b
-      ∙ ap (λ c. option_map f (first_of_two (if a && not c then Some T else None) (if not c then Some T else None))) not_w ∙ either a
+      ap (λ c. first_of_two (option_map Event.Begin (if c then Some 0 else None)) (option_map f (first_of_two (if a && not w then Some ItsTask else None) (if not w then Some ItsTask else None)))) not_b
+      ∙ ap (λ c. option_map f (first_of_two (if a && not c then Some ItsTask else None) (if not c then Some ItsTask else None))) not_w ∙ either a
     where
-      either : (a : Bool) → option_map f (first_of_two (if a && true then Some T else None) (Some T)) ≡ Some (f T)
+      either : (a : Bool) → option_map f (first_of_two (if a && true then Some ItsTask else None) (Some ItsTask)) ≡ Some (f ItsTask)
       either true = refl
       either false = refl
 

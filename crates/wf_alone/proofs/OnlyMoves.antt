@@ -1,18 +1,17 @@
 -- While `main` alone stands at a control of plain forms, its execution only moves.
-use Rattle.std.proofs.Common.{◌≡◌, ℕ, max, Bool, true, false, not, List, [], ◌∷◌, Option, None, Some, refl, sym, ◌∙◌, ap, subst}
+use Rattle.std.proofs.Common.{◌≡◌, ℕ, max, Bool, true, false, not, List, Option, None, Some, refl, sym, ◌∙◌, subst}
 use Rattle.std.specs.Prelude.{◌&&◌, ◌||◌, IsTrue}
 use Rattle.wf_alone.proofs.Only.{choice, main_alone}
 use Rattle.wf_alone.proofs.Real.{begins_none, kind, waits}
 use Rattle.wf_alone.specs.Counts.{counts}
-use Rattle.wf_alone.specs.Laws.{main_at}
-use Rattle.wf_alone.specs.Machine.{main_event}
+use Rattle.wf_alone.specs.Machine.{main_at, main_event}
 use Rattle.wf_alone.specs.OnlyMoves.{IsAlone, OnlyMoves}
 use Rattle.wf_alone.specs.Plain.{ArePlain, Moves}
 use Rattle.wf_ast.specs.Tree.{Program}
 use Rattle.wf_model.specs.Choose.{choose, chosen_event}
 use Rattle.wf_model.specs.Config.{Active, Awake, Cancelled, Config, Facts, Item, Layer, Outcome, Raised, Returned}
 use Rattle.wf_model.specs.Kinds.{by_clock, next_kind}
-use Rattle.wf_model.specs.Ready.{begins, is_due, quiet, stands_waiting}
+use Rattle.wf_model.specs.Ready.{begins, is_due, stands_waiting}
 use Rattle.wf_shared.specs.Events.{Event}
 
 -- a move counts
@@ -39,19 +38,19 @@ module _ (p : Program) (facts : Facts) (last m : ℕ) (k : List Item) (ls : List
   Here = main_at facts last m k ls
 
   -- its move reads the clock, or doesn't
-  abbrev Its : (clock : Bool) × (next_kind p k ≡ by_clock clock)
-  Its = kind p k has
+  abbrev ItsKind : (clock : Bool) × (next_kind p k ≡ by_clock clock)
+  ItsKind = kind p k has
 
   -- what is chosen is its move
-  is_chosen : (P : Event → Type 0) → ((now : ℕ) → P (main_event Its.0 now)) → (r : ℕ) (e : Event) → choose p Here r ≡ Some e → P e
+  is_chosen : (P : Event → Type 0) → ((now : ℕ) → P (main_event ItsKind.0 now)) → (r : ℕ) (e : Event) → choose p Here r ≡ Some e → P e
   is_chosen P holds r e is =
-      subst P (same_event (main_event Its.0 (max r last)) e (sym (choice p facts last m k ls Its.0 r (waits k plain) (begins_none k plain) Its.1) ∙ is)) (holds (max r last))
+      subst P (same_event (main_event ItsKind.0 (max r last)) e (sym (choice p facts last m k ls ItsKind.0 r (waits k plain) (begins_none k plain) ItsKind.1) ∙ is)) (holds (max r last))
 
   pub only_moves : OnlyMoves p Here
   only_moves = record {
     busy = λ active r still. ready_moves (stands_waiting k) (begins k) (is_due Here r Awake) (waits k plain) still;
-    counted = is_chosen (λ e. counts e ≡ 1) (counts_one Its.0);
-    alone = is_chosen (IsAlone p Here) (λ now. main_alone p facts last m k ls Its.0 now (waits k plain) (begins_none k plain) Its.1);
+    counted = is_chosen (λ e. counts e ≡ 1) (counts_one ItsKind.0);
+    alone = is_chosen (IsAlone p Here) (λ now. main_alone p facts last m k ls ItsKind.0 now (waits k plain) (begins_none k plain) ItsKind.1);
   }
 
 -- what is chosen by whether there is an outcome

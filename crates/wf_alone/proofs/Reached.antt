@@ -1,12 +1,11 @@
 -- What is reached in runs: it never goes wrong, each event goes on from it, and `main`'s move can come.
-use Rattle.std.proofs.Common.{◌≡◌, ◌≤◌, ℕ, suc, Bool, true, false, List, [], ◌∷◌, ◌++◌, None, refl, sym, ◌∙◌, ap}
-use Rattle.std.specs.Prelude.{if◌then◌else◌, nat_lt, nat_le}
+use Rattle.std.proofs.Common.{◌≡◌, ◌≤◌, ℕ, suc, Bool, true, false, List, [], ◌∷◌, ◌++◌, refl, sym, ◌∙◌, ap}
+use Rattle.std.specs.Prelude.{if◌then◌else◌, nat_lt}
 use Rattle.std.proofs.lemmas.Bool.{le-leb}
 use Rattle.wf_alone.proofs.Carried.{by_main, not_nowhere}
 use Rattle.wf_alone.proofs.Only.{clock_next, plain_next}
 use Rattle.wf_alone.proofs.Real.{real, waits}
-use Rattle.wf_alone.specs.Laws.{main_at}
-use Rattle.wf_alone.specs.Machine.{IsReached, main_event, main_local, main_scene}
+use Rattle.wf_alone.specs.Machine.{IsReached, main_at, main_event, main_local, main_scene}
 use Rattle.wf_alone.specs.Plain.{ArePlain, Moves}
 use Rattle.wf_ast.specs.Accept.{Accept, Kind}
 use Rattle.wf_ast.specs.Tree.{Program}
@@ -14,7 +13,7 @@ use Rattle.wf_model.proofs.Runs.{runs_join, step_goes_on}
 use Rattle.wf_model.specs.Config.{After, Config, Facts, Item, Layer, NotNow, To, Wrong, move_limit}
 use Rattle.wf_model.specs.Kinds.{by_clock, next_kind}
 use Rattle.wf_model.specs.Law.{NeverWrong}
-use Rattle.wf_model.specs.Move.{move, moves}
+use Rattle.wf_model.specs.Move.{move}
 use Rattle.wf_model.specs.Run.{initial, run_on}
 use Rattle.wf_model.specs.Step.{counted, next, one_more, stopped}
 use Rattle.wf_model.specs.Taken.{by_itself}

@@ -7,12 +7,12 @@ use Rattle.std.specs.Prelude.{if◌then◌else◌, codes, bytes_eq}
 use Rattle.wf_alone.specs.Plain.{is_plain_body, ArePlain, Moves, IsReal}
 use Rattle.wf_ast.specs.Accept.{BreakOutsideLoop}
 use Rattle.wf_ast.specs.Eval.{eval_all, fill}
-use Rattle.wf_ast.specs.Tree.{Entry, loop, LoopBody, step, Steps, no_steps, more, Body, Program}
+use Rattle.wf_ast.specs.Tree.{Entry, loop, LoopBody, step, no_steps, more, Body, Program}
 use Rattle.wf_model.specs.Config.{Item, Do, Entries, Then, Loop, Try, Judge, Mark, Back, Join, Left, next_of}
 use Rattle.wf_model.specs.Kinds.{next_kind, by_clock, arms_now, body_kind, entry_now, over_now, template_now}
 use Rattle.wf_model.specs.Layers.{Assigned, Done, Refused, Undeclared, assign, enter, opened, view}
 use Rattle.wf_model.specs.Leave.{raises, on, on_assigned, returns, returns_in, returned, continues, breaks, jumps, jumps_to}
-use Rattle.wf_model.specs.Local.{Local, Root, Main, Branch, Iteration, Scene, Moved, Goes, Ends, Does, Breaks, Not, leave, settle, ended, goes}
+use Rattle.wf_model.specs.Local.{Local, Root, Main, Branch, Iteration, Scene, Moved, Breaks, leave, settle, ended, goes}
 use Rattle.wf_model.specs.Move.{assigns, chosen, in_arm, loop_names, loop_steps, moves, over, performs, raised, steps_on, then_item, turns}
 use Rattle.wf_model.specs.Ready.{stands_waiting, begins}
 use Rattle.wf_model.specs.Unwind.{Found, Stands, AtEnd, NotFound, to_back, to_loop, to_step}

@@ -2,7 +2,8 @@
 use Rattle.std.specs.Prelude.{ℕ, ◌+◌, List, [], ◌∷◌}
 use Rattle.wf_shared.specs.Events.{Event}
 
--- what a task does counts one; an answer, a due moment, a request that comes and a cancelling count nothing
+-- what a task does counts one; an answer, a due moment, a request that comes and a cancelling count
+-- nothing
 abbrev pub counts : Event → ℕ
 counts (Event.Move b) = 1
 counts (Event.MoveAt b r) = 1

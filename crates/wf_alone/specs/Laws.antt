@@ -1,35 +1,46 @@
 -- Laws of executions in which `main` is the only task, and what it has still to do is of plain forms.
-use Rattle.std.specs.Prelude.{◌≡◌, ◌≤◌, ℕ, Bool, List, [], ◌∷◌, Some, max}
-use Rattle.wf_alone.specs.Machine.{main_task, config_by, main_event, IsReached}
+use Rattle.std.specs.Prelude.{◌≡◌, ◌≤◌, ℕ, Bool, List, Some, max}
+use Rattle.wf_alone.specs.Machine.{main_at, main_event, IsReached}
 use Rattle.wf_alone.specs.OnlyMoves.{OnlyMoves}
 use Rattle.wf_alone.specs.Plain.{ArePlain, Moves}
 use Rattle.wf_ast.specs.Accept.{Accept}
 use Rattle.wf_ast.specs.Tree.{Program}
 use Rattle.wf_model.specs.Choose.{choose}
-use Rattle.wf_model.specs.Config.{Active, Config, Facts, Item, Layer, To}
+use Rattle.wf_model.specs.Config.{Config, Facts, Item, Layer, To}
 use Rattle.wf_model.specs.Kinds.{next_kind, by_clock}
 use Rattle.wf_model.specs.Law.{NeverWrong}
 use Rattle.wf_model.specs.Run.{initial}
 use Rattle.wf_model.specs.Step.{next}
 use Rattle.wf_shared.specs.Events.{Start}
 
--- `main` stands at this control, with these layers
-abbrev pub main_at : Facts → ℕ → ℕ → List Item → List Layer → Config
-main_at facts last moves control layers = config_by facts last ((0, main_task control layers) ∷ []) moves Active
-
 -- `main`'s move is chosen, at the given reading or the last one, whichever is greater
 abbrev pub MainIsChosen : Type 0
-MainIsChosen = (p : Program) (facts : Facts) (last m : ℕ) (k : List Item) (ls : List Layer) (clock : Bool) → ArePlain k → next_kind p k ≡ by_clock clock
+MainIsChosen =
+    (p : Program) (facts : Facts) (last m : ℕ) (k : List Item) (ls : List Layer) (clock : Bool)
+    → ArePlain k
+    → next_kind p k ≡ by_clock clock
     → (r : ℕ) → choose p (main_at facts last m k ls) r ≡ Some (main_event clock (max r last))
 
 -- it counts, and nothing else can come but a cancelling
 abbrev pub MainOnlyMoves : Type 0
-MainOnlyMoves = (p : Program) (facts : Facts) (last m : ℕ) (k : List Item) (ls : List Layer) → ArePlain k → Moves k → OnlyMoves p (main_at facts last m k ls)
+MainOnlyMoves =
+    (p : Program) (facts : Facts) (last m : ℕ) (k : List Item) (ls : List Layer)
+    → ArePlain k
+    → Moves k
+    → OnlyMoves p (main_at facts last m k ls)
 
--- and in a run of an accepted program it comes at each reading that isn't below the last one
+-- and in a run of an accepted program it can come, at each reading that isn't below the last one
 abbrev pub MainCanMove : Type 0
-MainCanMove = NeverWrong → (p : Program) (facts : Facts) (last m : ℕ) (k : List Item) (ls : List Layer) (clock : Bool) → Accept p → ArePlain k → Moves k → next_kind p k ≡ by_clock clock
-    → IsReached p (main_at facts last m k ls) → (r : ℕ) → last ≤ r → (d : Config) × (next p (main_at facts last m k ls) (main_event clock r) ≡ To d)
+MainCanMove =
+    NeverWrong
+    → (p : Program) (facts : Facts) (last m : ℕ) (k : List Item) (ls : List Layer) (clock : Bool)
+    → Accept p
+    → IsReached p (main_at facts last m k ls)
+    → ArePlain k
+    → Moves k
+    → next_kind p k ≡ by_clock clock
+    → (r : ℕ) → last ≤ r
+    → (d : Config) × (next p (main_at facts last m k ls) (main_event clock r) ≡ To d)
 
 -- each program starts
 abbrev pub EachProgramStarts : Type 0

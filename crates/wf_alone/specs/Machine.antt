@@ -1,13 +1,13 @@
 -- A configuration in which `main` is the only task.
 --     main_task                the task, at a control and with layers of its own
---     config_by                a configuration of some live tasks, in which nothing was sent, awaited or logged
+--     config_by, main_at       a configuration of some live tasks, and of that one
 --     main_scene, main_local   what `main`'s move reads, and what it changes
 --     main_event               the event of `main`'s move
 --     facts_of, argument_of    what a start tells
-use Rattle.std.specs.Prelude.{◌≡◌, ℕ, Bool, List, [], ◌∷◌, None, unwrap_or}
+use Rattle.std.specs.Prelude.{ℕ, Bool, List, [], ◌∷◌, None, unwrap_or}
 use Rattle.wf_ast.specs.Tree.{Program}
 use Rattle.wf_model.specs.Choose.{wanted}
-use Rattle.wf_model.specs.Config.{Awake, Config, Facts, Item, Layer, Outcome, To}
+use Rattle.wf_model.specs.Config.{Active, Awake, Config, Facts, Item, Layer, Outcome}
 use Rattle.wf_model.specs.Config as model
 use Rattle.wf_model.specs.Kinds.{by_clock}
 use Rattle.wf_model.specs.Local.{Local, Main, Scene}
@@ -22,7 +22,7 @@ use Rattle.wf_value.specs.Decode.{json_value}
 abbrev pub main_task : List Item → List Layer → model.Task
 main_task control layers = record { parent = None; control = control; layers = layers; wait = Awake }
 
--- a configuration of these live tasks
+-- a configuration of these live tasks, in which nothing was sent, awaited or logged
 abbrev pub config_by : Facts → ℕ → List (ℕ × model.Task) → ℕ → Outcome → Config
 config_by facts reading tasks moves outcome = record {
   facts = facts;
@@ -36,6 +36,11 @@ config_by facts reading tasks moves outcome = record {
   last = reading;
   outcome = outcome;
 }
+
+-- `main` stands at this control, with these layers, after so many counted events
+abbrev pub main_at : Facts → ℕ → ℕ → List Item → List Layer → Config
+main_at facts reading moves control layers =
+    config_by facts reading ((0, main_task control layers) ∷ []) moves Active
 
 -- ## A move
 -- what `main`'s move reads beside the task, where the clock reads `now`

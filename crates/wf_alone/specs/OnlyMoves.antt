@@ -18,7 +18,9 @@ IsSameMove f e = ⊥
 
 -- no event can come in place of this one but the same move at another reading, and a cancelling
 abbrev pub IsAlone : Program → Config → Event → Type 0
-IsAlone p c e = (other : Event) (d : Config) → next p c other ≡ To d → IsSameMove e other ⊎ (d.outcome ≡ Cancelled)
+IsAlone p c e =
+    (other : Event) (d : Config) → next p c other ≡ To d
+    → IsSameMove e other ⊎ (d.outcome ≡ Cancelled)
 
 -- while there is no outcome it is never quiet, what is chosen counts, and no other event can come
 pub record OnlyMoves (p : Program) (c : Config) : Type 0 where

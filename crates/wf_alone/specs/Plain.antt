@@ -1,9 +1,10 @@
--- Control that neither calls nor waits: what the frames of a task stand for while no call, no `try` and no parallel step is built.
---     is_plain       of an item
---     is_ready_item  from which a move is made
+-- Control that neither calls nor waits: no call, no `try` and no parallel step stands in it.
+--     is_plain, ArePlain   an item of these forms, and a control
+--     has_move, Moves      an item that has something to do, and a control whose innermost item has
+--     IsReal               a move that isn't ruled out
 use Rattle.std.specs.Prelude.{◌≡◌, Bool, true, false, List, [], ◌∷◌}
 use Rattle.std.specs.List.{list_all}
-use Rattle.wf_ast.specs.Tree.{Body, no_steps, more, step}
+use Rattle.wf_ast.specs.Tree.{Body, more, step}
 use Rattle.wf_model.specs.Config.{Item, Do, Entries, Then, Loop, Mark}
 use Rattle.wf_model.specs.Local.{Moved, Goes, Ends, Does, Breaks, Not}
 
