@@ -5,7 +5,8 @@ use Rattle.std.specs.Prelude.{◌≡◌, ℕ, suc, ◌<◌, ◌==◌, Bool, true
 use Rattle.std.specs.List.{list_any}
 use Rattle.std.proofs.Common.{sym, ap, ◌∙◌, inl, inr}
 use Rattle.std.proofs.lemmas.Bool.{true≢false}
-use Rattle.std.specs.Coded.{×_prop, Π_prop, Unit-prop, le_prop, Coded-set, coded_ℕ, coded_bool, coded_list, prop_coded}
+use Rattle.std.specs.Coded.{×_prop, Unit-prop, le_prop, Coded-set, coded_ℕ, coded_bool, coded_list}
+use mathlib.Core.HLevel.{×₃_prop}
 use Rattle.wf_ast.specs.Tree.{Steps, no_steps, more}
 use Rattle.wf_model.specs.Unwind.{from_step}
 use Rattle.wf_nodes.specs.Kinds as kind
@@ -86,12 +87,11 @@ StandIn-prop ns os (n ∷ others) = ×_prop (numbers-set (owners_at ns n) os) (S
 
 ArmsStandIn-prop : (ns : List Spot) (len : ℕ) (os xs : List ℕ) → IsProp (ArmsStandIn ns len os xs)
 ArmsStandIn-prop ns len os [] = Unit-prop
-ArmsStandIn-prop ns len os (n ∷ others) = ×_prop (numbers-set (owners_at ns (suc n)) os) (×_prop le_prop (ArmsStandIn-prop ns len os others))
+ArmsStandIn-prop ns len os (n ∷ others) = ×₃_prop (numbers-set (owners_at ns (suc n)) os) le_prop (ArmsStandIn-prop ns len os others)
 
 ListStands-prop : (ns : List Spot) (len i : ℕ) (out : List ℕ) (b : Option Listed) → IsProp (ListStands ns len i out b)
 ListStands-prop ns len i out None = Unit-prop
-ListStands-prop ns len i out (Some b) =
-    ×_prop (AreBelow-prop len b.steps) (×_prop (AreRising-prop b.steps) (×_prop (StandIn-prop ns (i ∷ out) b.steps) (ℕ-set b.depth (suc (length out)))))
+ListStands-prop ns len i out (Some b) = hlevel (AreBelow-prop, AreRising-prop, StandIn-prop, ℕ-set)
 
 PartsStand-prop : (ns : List Spot) (len : ℕ) (os : List ℕ) (k : Kind) → IsProp (PartsStand ns len os k)
 PartsStand-prop ns len os (kind.Assign xs) = AreBelow-prop len xs
@@ -118,10 +118,10 @@ TellsInto-prop ns views x j o depth = hlevel (Bool-set, ℕ-set, Steps-set)
 
 -- one of two that exclude each other
 either : {A B : Type 0} → IsProp A → IsProp B → (A → B → ⊥) → IsProp (A ⊎ B)
-either a b no (inl x) (inl y) = ap inl (a x y)
-either a b no (inr x) (inr y) = ap inr (b x y)
-either a b no (inl x) (inr y) = absurd (no x y)
-either a b no (inr x) (inl y) = absurd (no y x)
+either a b never (inl x) (inl y) = ap inl (a x y)
+either a b never (inr x) (inr y) = ap inr (b x y)
+either a b never (inl x) (inr y) = absurd (never x y)
+either a b never (inr x) (inl y) = absurd (never y x)
 
 Tells-prop : (ns : List Spot) (views : List View) (x : Text) (j : Option Jump) (os : List ℕ) → IsProp (Tells ns views x j os)
 Tells-prop ns views x None [] = Unit-prop

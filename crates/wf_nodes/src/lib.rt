@@ -15,4 +15,4 @@ pub use node::{
     ParallelNode, TryNode, WorkNode,
 };
 pub use shape::{NamedShape, NamedShapes, Piece, Pieces, Shape, Shapes};
-pub use shaping::{named, shape};
+pub use shaping::{named_of, shape_of};

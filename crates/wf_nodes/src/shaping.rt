@@ -14,7 +14,7 @@ use wf_value::OutOfMemory;
 
 /// The shape of a template: its expressions are compiled into the codes.
 #[cycle(shaping)]
-pub fn shape(alloc: Global, t: &Template, codes: &mut Codes) -> Result<Shape, OutOfMemory>
+pub fn shape_of(alloc: Global, t: &Template, codes: &mut Codes) -> Result<Shape, OutOfMemory>
     ensures { IfOk result (λ s. Compiles (code_list codes.old) (code_list codes.new)
         (λ cs. shape_by cs s) (template_view t.now)) }
 {
@@ -23,7 +23,7 @@ pub fn shape(alloc: Global, t: &Template, codes: &mut Codes) -> Result<Shape, Ou
         Template::Expr(e) => Ok(Shape::Hole(codes.add(alloc, e)?)),
         Template::Join(parts) => Ok(Shape::Join(pieces(alloc, parts.items(), codes)?)),
         Template::List(ts) => Ok(Shape::List(shapes(alloc, ts.items(), codes)?)),
-        Template::Map(fs) => Ok(Shape::Map(named(alloc, fs.items(), codes)?)),
+        Template::Map(fs) => Ok(Shape::Map(named_of(alloc, fs.items(), codes)?)),
     }
 }
 
@@ -35,14 +35,14 @@ fn shapes(alloc: Global, ts: &[Template], codes: &mut Codes) -> Result<Shapes, O
 {
     let mut items = Vec::new(alloc);
     for t in ts {
-        add(&mut items, shape(alloc, t, codes)?)?;
+        add(&mut items, shape_of(alloc, t, codes)?)?;
     }
     Ok(Shapes { items })
 }
 
-// The shapes of named templates.
+/// The shapes of named templates.
 #[cycle(shaping)]
-pub fn named(
+pub fn named_of(
     alloc: Global,
     fs: &[NamedTemplate],
     codes: &mut Codes,
@@ -52,7 +52,7 @@ pub fn named(
 {
     let mut items = Vec::new(alloc);
     for f in fs {
-        let shape = shape(alloc, &f.template, codes)?;
+        let shape = shape_of(alloc, &f.template, codes)?;
         let name = f.name.copy()?;
         add(&mut items, NamedShape { name, shape })?;
     }

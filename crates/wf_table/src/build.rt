@@ -16,7 +16,7 @@ use wf_ast::{Arm, Body, Branch, CallBody, Except, Flow, LoopBody, Over, StepList
 use wf_nodes::grow::{add, put};
 use wf_nodes::{
     Block, CallNode, Codes, ExceptNode, FlowNode, LoopNode, Node, NodeKind, OverShape,
-    ParallelNode, TryNode, WorkNode, named, shape,
+    ParallelNode, TryNode, WorkNode, named_of, shape_of,
 };
 use wf_value::{OutOfMemory, Text};
 
@@ -147,8 +147,8 @@ fn kind(
         })),
         Body::Block(list) => Ok(NodeKind::Block(block(alloc, nodes, here.inside(number)?, list)?)),
         Body::Try(tried) => Ok(NodeKind::Try(try_node(alloc, nodes, here, number, tried)?)),
-        Body::Raise(template) => Ok(NodeKind::Raise(shape(alloc, template, codes)?)),
-        Body::Return(template) => Ok(NodeKind::Return(shape(alloc, template, codes)?)),
+        Body::Raise(template) => Ok(NodeKind::Raise(shape_of(alloc, template, codes)?)),
+        Body::Return(template) => Ok(NodeKind::Return(shape_of(alloc, template, codes)?)),
     }
 }
 
@@ -332,10 +332,10 @@ fn over(alloc: Global, over: &Over, codes: &mut Codes) -> Result<OverShape, OutO
         (λ cs. over_by cs o) (over_view over.now)) }
 {
     match over {
-        Over::List(items) => Ok(OverShape::List(shape(alloc, items, codes)?)),
+        Over::List(items) => Ok(OverShape::List(shape_of(alloc, items, codes)?)),
         Over::Range(low, high) => {
-            let first = shape(alloc, low, codes)?;
-            let last = shape(alloc, high, codes)?;
+            let first = shape_of(alloc, low, codes)?;
+            let last = shape_of(alloc, high, codes)?;
             Ok(OverShape::Range(first, last))
         }
     }
@@ -346,7 +346,7 @@ fn call_node(alloc: Global, call: &CallBody, codes: &mut Codes) -> Result<CallNo
     ensures { IfOk result (λ x. Compiles (code_list codes.old) (code_list codes.new)
         (λ cs. call_by cs x) (call_view call.now)) }
 {
-    let args = named(alloc, call.args.items(), codes)?;
+    let args = named_of(alloc, call.args.items(), codes)?;
     Ok(CallNode {
         name: call.name.copy()?,
         args,

@@ -11,7 +11,7 @@ use crate::around::Here;
 use std::alloc::Global;
 use wf_ast::{Entry, Expr, Template};
 use wf_nodes::grow::{add, push};
-use wf_nodes::{Codes, EntryNode, Node, NodeKind, shape};
+use wf_nodes::{Codes, EntryNode, Node, NodeKind, shape_of};
 use wf_value::{OutOfMemory, Text};
 
 // A place at the end, for a node that is put there when its parts are.
@@ -60,7 +60,7 @@ pub(crate) fn arm(
 {
     let name = Text::new(alloc, "")?;
     let mut codes = Codes::new(alloc);
-    let condition = shape(alloc, condition, &mut codes)?;
+    let condition = shape_of(alloc, condition, &mut codes)?;
     push(nodes, leaf(here, name, NodeKind::Arm(condition), codes))
 }
 
@@ -106,7 +106,7 @@ fn entry_form(alloc: Global, entry: &Entry, codes: &mut Codes) -> Result<EntryNo
         (entry_view entry.now)) }
 {
     let places = places(alloc, entry.target.places.items(), codes)?;
-    let value = shape(alloc, &entry.value, codes)?;
+    let value = shape_of(alloc, &entry.value, codes)?;
     Ok(EntryNode {
         name: entry.target.name.copy()?,
         places,

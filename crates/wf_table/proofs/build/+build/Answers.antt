@@ -124,17 +124,17 @@ kind-returns-in_ok-try_node-in-Try t c = λ os st at.
     let h = c.in_ok-try_node-in-Try.ensures os st at in
     formed _ _ _ _ (λ cs. kind.Try x.body (policy_option_view x.policy) (handler_view x.except)) c.args.number os (tree.Body.Try (try_view c.in-Try.tried)) _ (ap body_view c.in-Try.is) (plainly _ _ _ (λ cs. h.0)) h.1
 
-pub kind-returns-in_ok-shape-in-Raise : goal.kind-returns-in_ok-shape-in-Raise
-kind-returns-in_ok-shape-in-Raise t c = λ os st at.
-    let s = c.in_ok-shape-in-Raise.field-0 in
+pub kind-returns-in_ok-shape_of-in-Raise : goal.kind-returns-in_ok-shape_of-in-Raise
+kind-returns-in_ok-shape_of-in-Raise t c = λ os st at.
+    let s = c.in_ok-shape_of-in-Raise.field-0 in
     let x = template_view c.in-Raise.template in
-    formed _ _ _ _ (λ cs. kind.Raise (shape_by cs s)) c.args.number os (tree.Body.Raise x) _ (ap body_view c.in-Raise.is) (then kind.Raise _ _ (λ cs. shape_by cs s) x c.in_ok-shape-in-Raise.ensures) (nothing _)
+    formed _ _ _ _ (λ cs. kind.Raise (shape_by cs s)) c.args.number os (tree.Body.Raise x) _ (ap body_view c.in-Raise.is) (then kind.Raise _ _ (λ cs. shape_by cs s) x c.in_ok-shape_of-in-Raise.ensures) (nothing _)
 
-pub kind-returns-in_ok-shape-in-Return : goal.kind-returns-in_ok-shape-in-Return
-kind-returns-in_ok-shape-in-Return t c = λ os st at.
-    let s = c.in_ok-shape-in-Return.field-0 in
+pub kind-returns-in_ok-shape_of-in-Return : goal.kind-returns-in_ok-shape_of-in-Return
+kind-returns-in_ok-shape_of-in-Return t c = λ os st at.
+    let s = c.in_ok-shape_of-in-Return.field-0 in
     let x = template_view c.in-Return.template in
-    formed _ _ _ _ (λ cs. kind.Return (shape_by cs s)) c.args.number os (tree.Body.Return x) _ (ap body_view c.in-Return.is) (then kind.Return _ _ (λ cs. shape_by cs s) x c.in_ok-shape-in-Return.ensures) (nothing _)
+    formed _ _ _ _ (λ cs. kind.Return (shape_by cs s)) c.args.number os (tree.Body.Return x) _ (ap body_view c.in-Return.is) (then kind.Return _ _ (λ cs. shape_by cs s) x c.in_ok-shape_of-in-Return.ensures) (nothing _)
 
 -- ## Arms
 pub arms-loop-item-init : goal.arms-loop-item-init

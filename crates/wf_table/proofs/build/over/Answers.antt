@@ -5,11 +5,11 @@ use Rattle.wf_nodes.proofs.Compiling.{alike, both, then}
 use Rattle.wf_table.proofs.build.over.Goals as goal
 use Rattle.wf_nodes.specs.Shapes.{shape_by}
 
-pub returns-in_ok-shape-in-List : goal.returns-in_ok-shape-in-List
-returns-in_ok-shape-in-List c =
-    let s = c.in_ok-shape-in-List.field-0 in
+pub returns-in_ok-shape_of-in-List : goal.returns-in_ok-shape_of-in-List
+returns-in_ok-shape_of-in-List c =
+    let s = c.in_ok-shape_of-in-List.field-0 in
     let x = template_view c.in-List.items in
-    alike _ _ (λ cs. tree.InList (shape_by cs s)) _ (tree.InList x) _ (λ cs. refl) (sym (ap over_view c.in-List.is)) (then tree.InList _ _ (λ cs. shape_by cs s) x c.in_ok-shape-in-List.ensures)
+    alike _ _ (λ cs. tree.InList (shape_by cs s)) _ (tree.InList x) _ (λ cs. refl) (sym (ap over_view c.in-List.is)) (then tree.InList _ _ (λ cs. shape_by cs s) x c.in_ok-shape_of-in-List.ensures)
 
 pub returns-in_ok-last-in-Range : goal.returns-in_ok-last-in-Range
 returns-in_ok-last-in-Range c =

@@ -12,4 +12,4 @@ use Rattle.wf_nodes.specs.Spots.{ArmAt, spot}
 pub returns-clause-adds : goal.returns-clause-adds
 returns-clause-adds c =
     ok_then _ _ c.push.result c.push.ensures.grown (λ n h os st. one _ _ _ (spot (ArmAt (template_view c.args.condition.now)) os) h
-    (c.leaf.ensures c.in_ok-name.ensures ∙ (λ i. leaf_view (st.owner i) (kind.Arm (in_all _ (code_list c.shape.new.codes) (λ cs. shape_by cs c.in_ok-condition.condition) (template_view c.args.condition.now) c.in_ok-condition.ensures i)))))
+    (c.leaf.ensures c.in_ok-name.ensures ∙ (λ i. leaf_view (st.owner i) (kind.Arm (in_all _ (code_list c.shape_of.new.codes) (λ cs. shape_by cs c.in_ok-condition.condition) (template_view c.args.condition.now) c.in_ok-condition.ensures i)))))
