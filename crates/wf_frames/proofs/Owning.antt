@@ -81,7 +81,8 @@ module _ (a : Around) (p q first : ℕ) (f : Frame) (n : ℕ) (old new : List Fr
   mark_sum =
       let ls = layers_of x in
       let os = owned first new in
-      let i = (subst (λ os. Linked a.keys os ls) opens h.layers).stand.0 in
+      let l = subst (λ os. Linked a.keys os ls) opens h.layers in
+      let i = l.stand.0 in
       sum_closed (pairs_size (pairs_of (vars_at n ls))) (layers_total (own_layers os ls)) (outers_total (far_layers a.keys ls)) a.others (total_of ls) (total_of (closed n ls)) (layers_total (own_layers os (closed n ls))) (outers_total (far_layers a.keys (closed n ls)))
       (subst (λ ys. SumIs a ys ls) opens h.sum) (total_closed n ls i.0 i.1 ∙ ap (λ ps. pairs_size (pairs_of ps) + total_of (closed n ls)) (sym (vars_found n ls i.0 i.1)))
       (ap layers_total mark_closes.own) (ap outers_total mark_closes.outside)

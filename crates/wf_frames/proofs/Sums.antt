@@ -33,11 +33,11 @@ IsAmong m (n ∷ ns) = (m ≡ n) ⊎ IsAmong m ns
 
 holder_among : (x : Text) (ls : List Layer) (m : ℕ) → holder_in x ls ≡ Some m → IsAmong m (each (λ l. l.number) ls)
 holder_among x [] m e = absurd (cc e)
-holder_among x (l ∷ ls) m e = by (value_at x l.vars) e
+holder_among x (l ∷ ls) m e = by (value_at x l.vars) e (λ q. holder_among x ls m q)
   where
-    by : (o : Option Data) → elim o [ None ↦ holder_in x ls | Some v ↦ Some l.number ] ≡ Some m → IsAmong m (each (λ l. l.number) (l ∷ ls))
-    by None h = inr (holder_among x ls m h)
-    by (Some v) h = let same : m ≡ l.number = cc h in inl same
+    by : (o : Option Data) → elim o [ None ↦ holder_in x ls | Some v ↦ Some l.number ] ≡ Some m → (holder_in x ls ≡ Some m → IsAmong m (each (λ l. l.number) ls)) → IsAmong m (each (λ l. l.number) (l ∷ ls))
+    by None h later = inr (later h)
+    by (Some v) h later = let same : m ≡ l.number = cc h in inl same
 
 seen_among : (os : List Own) (ks : List Far) (m : ℕ) → IsAmong m (numbers_seen os ks) → IsAmong m (numbers os ks)
 seen_among [] ks m h = h
@@ -57,7 +57,7 @@ target_among x o os ks ls e = by (holder_in x (chain o.number ls)) refl
     by (Some m) q = seen_among (o ∷ os) ks m (subst (λ (ns : List ℕ). IsAmong m ns) e (holder_among x (chain o.number ls) m q))
 
 -- and live
-abbrev Found : ℕ → List Layer → Type 0
+abbrev pub Found : ℕ → List Layer → Type 0
 Found m ls = (l : Layer) × (find m ls ≡ Some l)
 
 found_far : (ks : List Far) (ls : List Layer) (m : ℕ) → KeysStand ks ls → IsAmong m (each (λ k. k.number) ks) → Found m ls

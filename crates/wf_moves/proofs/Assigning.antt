@@ -1,6 +1,8 @@
 -- Assignments.
-use Rattle.std.proofs.Common.{◌≡◌, inl, inr, ℕ, Bool, true, false, List, [], ◌∷◌, take, min, length, Option, Some, None, Ok, Err, refl, sym, ap, subst, ◌∙◌, zero, suc, arith}
-use Rattle.std.specs.Prelude.{◌⊎◌, ◌&&◌, if◌then◌else◌, nat_le}
+use Rattle.std.proofs.Common.{◌≡◌, inl, inr, ℕ, Bool, true, false, List, [], ◌∷◌, map, take, min, length, Option, Some, None, Ok, Err, refl, sym, ap, subst, ◌∙◌, zero, suc, arith}
+use Rattle.std.specs.Prelude.{◌⊎◌, ◌&&◌, if◌then◌else◌, nat_le, Vec}
+use Rattle.std.specs.declared.alloc.Global.{Global}
+use Rattle.std.proofs.lemmas.Bool.{and_parts}
 use Rattle.wf_ast.specs.Apply.{View}
 use Rattle.wf_ast.specs.Eval.{eval_all, fill}
 use Rattle.wf_ast.specs.Tree.{Entry}
@@ -22,7 +24,10 @@ use Rattle.wf_value.specs.Data.{Data, depth}
 use Rattle.wf_value.specs.Errors.{Answer, ◌>>=◌, error_map}
 use Rattle.wf_value.specs.Pairs.{Text}
 use Rattle.wf_value.specs.Plain.{plain}
-use Rattle.wf_value.specs.declared.Raise.TheVariants.{Error}
+use Rattle.wf_shapes.specs.Built.{are_built, is_code_built}
+use Rattle.wf_nodes.specs.Shapes.{Compiled}
+use Rattle.wf_value.specs.declared.Raise.{Raise}
+use Rattle.wf_value.specs.declared.Raise.TheVariants.{Error, OutOfMemory}
 use Rattle.wf_value.specs.declared.Tag.{Tag}
 use Rattle.wf_value.specs.declared.Value.{Value}
 
@@ -96,8 +101,31 @@ module _ (s : Scene) (e : Entry) (k : List Item) (l : Local) (v : View) (same : 
       subst (λ y. IsMove y w m) (sym (assigns_by ∙ ap (λ r. on s k l r (λ p. on_assigned s k l (assign s e.target.name p.1 p.0 l))) (failed values_of t (entry_values e v) g))) h
 
 -- ## The first codes
-take_min : {A : Type 0} (n : ℕ) (xs : List A) → take (min (length xs) n) xs ≡ take n xs
+pub take_min : {A : Type 0} (n : ℕ) (xs : List A) → take (min (length xs) n) xs ≡ take n xs
 take_min zero [] = refl
 take_min zero (x ∷ xs) = refl
 take_min (suc n) [] = refl
 take_min (suc n) (x ∷ xs) = ap (λ ys. x ∷ ys) (take_min n xs)
+
+pub take_built : (n : ℕ) (cs : Compiled) → are_built cs ≡ true → are_built (take n cs) ≡ true
+take_built zero [] b = refl
+take_built zero (c ∷ cs) b = refl
+take_built (suc n) [] b = refl
+take_built (suc n) (c ∷ cs) b = let two = and_parts (is_code_built c) (are_built cs) b in ap (λ t. t && are_built (take n cs)) two.0 ∙ take_built n cs two.1
+
+-- ## The value, and then the places
+pub both_given : (a : declared.Assigned) (d : Answer Data) (ds : Answer (List Data)) → Answers plain (Ok a.value) d → Answers (λ vs. map plain vs.items) (Ok a.places) ds → Answers values_of (Ok a) (d >>= λ x. ds >>= λ ys. Ok (x, ys))
+both_given a (Err t) ds p q = absurd p
+both_given a (Ok x) (Err t) p q = absurd q
+both_given a (Ok x) (Ok ys) p q = ap (λ (y : Data). (y, map plain a.places.items)) p ∙ ap (λ (zs : List Data). (x, zs)) q
+
+pub value_failed : (r : Raise) (d : Answer Data) (f : Data → Answer (Data × List Data)) → Answers plain (Err r) d → Answers values_of (Err r) (d >>= f)
+value_failed OutOfMemory d f p = tt
+value_failed (Error t) (Ok x) f p = absurd p
+value_failed (Error t) (Err u) f p = p
+
+pub places_failed : (r : Raise) (v : Value) (d : Answer Data) (ds : Answer (List Data)) → Answers plain (Ok v) d → Answers (λ (vs : Vec Value Global). map plain vs.items) (Err r) ds → Answers values_of (Err r) (d >>= λ x. ds >>= λ ys. Ok (x, ys))
+places_failed OutOfMemory v d ds p q = tt
+places_failed (Error t) v (Err u) ds p q = absurd p
+places_failed (Error t) v (Ok x) (Ok ys) p q = absurd q
+places_failed (Error t) v (Ok x) (Err u) p q = q

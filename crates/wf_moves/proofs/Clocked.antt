@@ -60,3 +60,9 @@ entry_absent ns nodes n x r at h = ap (λ p. entry_now (part_entry p)) (part_is 
 
 pub entry_there : (ns : List Spot) (nodes : List Node) (n : ℕ) (x : Node) (e : EntryNode) → Resolves ns nodes → slice_get nodes n ≡ Some x → x.kind ≡ kind.Entry e → part_entry (part_at ns n) ≡ entry_by x.codes.items.items e
 entry_there ns nodes n x e r at h = ap part_entry (as_part ns nodes n x (kind.Entry e) r at h)
+
+-- ## Bodies
+module _ (ns : List Spot) (nodes : List Node) (n : ℕ) (x : Node) (r : Resolves ns nodes) (at : slice_get nodes n ≡ Some x) (p : Program) where
+  -- the kind of a body, by the node's
+  pub body_so : (k : NodeKind) → x.kind ≡ k → body_kind p (part_body (part_at ns n)) ≡ body_kind p (part_body (part_by ns x.name x.next (kind_by x.codes.items.items k)))
+  body_so k is = ap (λ q. body_kind p (part_body q)) (as_part ns nodes n x k r at is)

@@ -58,6 +58,23 @@ within_list nodes n b h = let s = seen_list nodes n b h in slice_get_within node
 pub within_entries : (nodes : List Node) (n : ℕ) (b : List ℕ) → entries_at nodes n ≡ Some b → n < length nodes
 within_entries nodes n b h = let s = seen_entries nodes n b h in slice_get_within nodes n s.node s.at
 
+pub list_within : (nodes : List Node) (n : ℕ) → is_some (list_at nodes n) ≡ true → n < length nodes
+list_within nodes n h = by (slice_get nodes n) refl
+  where
+    by : (o : Option Node) → slice_get nodes n ≡ o → n < length nodes
+    by None e = absurd (cc (sym (ap (λ (p : Option Node). is_some (view_list (option_map node_view p))) e) ∙ h))
+    by (Some x) e = slice_get_within nodes n x e
+
+pub entries_within : (nodes : List Node) (n : ℕ) → is_some (entries_at nodes n) ≡ true → n < length nodes
+entries_within nodes n h = by (slice_get nodes n) refl
+  where
+    by : (o : Option Node) → slice_get nodes n ≡ o → n < length nodes
+    by None e = absurd (cc (sym (ap (λ (p : Option Node). is_some (view_entries (option_map node_view p))) e) ∙ h))
+    by (Some x) e = slice_get_within nodes n x e
+
+pub loop_within : (nodes : List Node) (n : ℕ) → (b : LoopNode) × IsLoop nodes n b → n < length nodes
+loop_within nodes n h = slice_get_within nodes n h.1.node h.1.at
+
 -- ## The part of a node
 pub part_is : (ns : List Spot) (nodes : List Node) (n : ℕ) (x : Node) → Resolves ns nodes → slice_get nodes n ≡ Some x → part_at ns n ≡ part_by ns x.name x.next (kind_by x.codes.items.items x.kind)
 part_is ns nodes n x r e = (r.each n x e).part

@@ -1,26 +1,31 @@
 -- A task at the start of a workflow.
 use Rattle.std.proofs.Common.{◌≡◌, ℕ, ◌+◌, ◌<◌, ◌≤◌, Bool, true, false, List, [], ◌∷◌, length, Option, Some, None, refl, sym, ap, subst, ◌∙◌, arith}
-use Rattle.std.specs.Prelude.{if◌then◌else◌, nat_eq, slice_get}
+use Rattle.std.specs.Prelude.{if◌then◌else◌, is_some, nat_eq, slice_get}
 use Rattle.wf_ast.specs.Tree.{Param}
 use Rattle.wf_frames.proofs.Sums.{SumIs}
 use Rattle.wf_frames.specs.Fits.{Fits, list_at, outside_at, view_at, view_outside}
-use Rattle.wf_frames.specs.Frames.{own, topped}
+use Rattle.wf_frames.specs.Frames.{control, own, topped}
 use Rattle.wf_frames.specs.Held.{standing}
 use Rattle.wf_frames.specs.Owned.{Around, IsLinked, Linked, held_of}
 use Rattle.wf_frames.specs.declared.frames.Frame.{Frame}
 use Rattle.wf_frames.specs.declared.frames.Frame.TheVariants as frame
-use Rattle.wf_model.specs.Local.{outers_total}
+use Rattle.wf_model.specs.Config.{Do}
+use Rattle.wf_model.specs.Local.{Local, outers_total, settle}
 use Rattle.wf_model.specs.Run.{argument_in}
-use Rattle.wf_moves.proofs.Parts.{part_is, view_is}
+use Rattle.wf_moves.proofs.Parts.{list_within, part_is, view_is}
 use Rattle.wf_moves.specs.Tasks.{IsFirst, IsFlow, argued, begun, has_ended, part_params}
 use Rattle.wf_nodes.specs.Kinds as view
 use Rattle.wf_nodes.specs.Kinds.{Kind, Listed, View, kind_by, node_view}
-use Rattle.wf_nodes.specs.Spots.{Spot, owners_at, part_at}
+use Rattle.wf_nodes.specs.Shapes.{Compiled}
+use Rattle.wf_nodes.specs.Spots.{Spot, owners_at, part_at, part_list}
 use Rattle.wf_nodes.specs.Table.{Resolves, kind_list, outside, part_by, view_list}
+use Rattle.wf_nodes.specs.declared.node.FlowNode.{FlowNode}
 use Rattle.wf_nodes.specs.declared.node.Node.{Node}
+use Rattle.wf_nodes.specs.declared.node.NodeKind.{NodeKind}
+use Rattle.wf_nodes.specs.declared.node.NodeKind.TheVariants as kind
 use Rattle.wf_scope.specs.Layers.{opened, vars_at, vars_in}
 use Rattle.wf_scope.specs.Store.{layers_of}
-use Rattle.wf_scope.specs.Tasks.{Far, far_layers}
+use Rattle.wf_scope.specs.Tasks.{Far, Own, far_layers}
 use Rattle.wf_scope.specs.declared.layer.Layer.{Layer}
 use Rattle.wf_scope.specs.declared.scopes.Scopes.{Scopes}
 use Rattle.wf_value.proofs.Order.{in_order_empty, in_order_with_value}
@@ -46,6 +51,25 @@ pub flow_is : (nodes : List Node) (n : ℕ) (x : Node) (f : IsFlow nodes n) → 
 flow_is nodes n x f at =
     let same : node_view x ≡ f.view = cc (sym (view_is nodes n x at) ∙ f.at) in
     ap (λ (v : View). v.kind) same ∙ f.is
+
+pub flow_within : (nodes : List Node) (n : ℕ) → IsFlow nodes n → n < length nodes
+flow_within nodes n f = list_within nodes n (ap is_some (flow_list nodes n f))
+
+pub only_flow : (cs : Compiled) (k : NodeKind) (ps : List Param) (b : Listed) → kind_by cs k ≡ view.Flow ps b → ((f : FlowNode) → k ≡ kind.Flow f → ⊥) → ⊥
+only_flow cs (kind.Flow f) ps b e h = h f refl
+only_flow cs kind.Nothing ps b e h = cc e
+only_flow cs (kind.Assign v) ps b e h = cc e
+only_flow cs (kind.Call f) ps b e h = cc e
+only_flow cs (kind.Switch v) ps b e h = cc e
+only_flow cs (kind.For l) ps b e h = cc e
+only_flow cs (kind.Parallel p) ps b e h = cc e
+only_flow cs (kind.Block d) ps b e h = cc e
+only_flow cs (kind.Try t) ps b e h = cc e
+only_flow cs (kind.Raise t) ps b e h = cc e
+only_flow cs (kind.Return t) ps b e h = cc e
+only_flow cs (kind.Arm t) ps b e h = cc e
+only_flow cs (kind.Entry x) ps b e h = cc e
+only_flow cs (kind.Branch d) ps b e h = cc e
 
 -- ## The layer
 layer_with : List (Text × Data) → Layer
@@ -103,6 +127,14 @@ module _ (a : Around) (x y : Scopes) (n : ℕ) (ps : List Param) (v : Data) (f :
 
       shift : (p k o : ℕ) → k ≡ 0 → o ≡ 0 → (p + 0) + k + o ≡ p + 0
       shift p k o e h = omega (arith, e, h)
+
+-- ## The steps
+pub begins_so : (a : Around) (n number : ℕ) (fs : List Frame) (os : List Own) (ls : List Layer) (qs ps : List Param) (v : Data) (l : Local) → fs ≡ frame.Do n 0 ∷ [] → os ≡ own number false ∷ [] → qs ≡ ps
+    → begun qs v ≡ standing [] (held_of a.keys (own number false ∷ []) ls) → settle (control a.spots fs) (standing [] (held_of a.keys os ls)) ≡ l
+    → settle (Do (part_list (part_at a.spots n)) (part_list (part_at a.spots n)) ∷ []) (begun ps v) ≡ l
+begins_so a n number fs os ls qs ps v l f o q b s =
+    ap (settle (Do (part_list (part_at a.spots n)) (part_list (part_at a.spots n)) ∷ [])) (ap (λ (ys : List Param). begun ys v) (sym q) ∙ b ∙ ap (λ (ys : List Own). standing [] (held_of a.keys ys ls)) (sym o))
+    ∙ ap (λ ys. settle (control a.spots ys) (standing [] (held_of a.keys os ls))) (sym f) ∙ s
 
 -- ## The end
 pub none_left : (fs : List Frame) → topped fs ≡ None → true ≡ has_ended fs

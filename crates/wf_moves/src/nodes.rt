@@ -31,22 +31,20 @@ fn is_built(node: &Node) -> bool
 }
 
 /// The list of steps that a node owns.
+#[tactic(auto, using(crate::proofs::Parts::list_within))]
 pub(crate) fn block(nodes: &[Node], n: u32) -> &Block
-    requires list { is_some (list_at nodes.now n) ≡ true }
-    requires built { is_table_built nodes.now ≡ true }
+    requires { is_some (list_at nodes.now n) ≡ true }
     ensures { list_at nodes.now n ≡ Some (block_view result.now) }
 {
     let node = &nodes[n as usize];
-    match &node.kind {
-        NodeKind::Flow(flow) => &flow.block,
-        NodeKind::For(body) => &body.block,
-        NodeKind::Block(block) => block,
-        NodeKind::Branch(branch) => &branch.block,
-        _ => unreachable!(),
+    match node.kind.block() {
+        Some(block) => block,
+        None => unreachable!(),
     }
 }
 
 /// The numbers of an assign's entries.
+#[tactic(auto, using(crate::proofs::Parts::entries_within))]
 pub(crate) fn entries(nodes: &[Node], n: u32) -> &[u32]
     requires { is_some (entries_at nodes.now n) ≡ true }
     ensures { entries_at nodes.now n ≡ Some result.now }
@@ -59,6 +57,7 @@ pub(crate) fn entries(nodes: &[Node], n: u32) -> &[u32]
 }
 
 /// The loop that a node is.
+#[tactic(auto, using(crate::proofs::Parts::loop_within))]
 pub(crate) fn loop_node(nodes: &[Node], n: u32) -> &LoopNode
     requires { (b : loop_node.LoopNode) × IsLoop nodes.now n b }
     ensures { IsLoop nodes.now n result.now }

@@ -12,8 +12,8 @@ use Rattle.wf_nodes.specs.Kinds.{Listed, block_view}
 use Rattle.wf_nodes.specs.Spots.{owners_at, part_at, part_body, part_next}
 use Rattle.wf_moves.proofs.advance.do_step.Goals as goal
 
-pub block-requires-clause-list : goal.block-requires-clause-list
-block-requires-clause-list g c = ap is_some c.requires.1.1.0.1
+pub block-requires : goal.block-requires
+block-requires g c = ap is_some c.requires.1.1.0.1
 
 pub carry_out-requires : goal.carry_out-requires
 carry_out-requires g c κs within =

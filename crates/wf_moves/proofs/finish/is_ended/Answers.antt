@@ -8,8 +8,8 @@ use Rattle.wf_moves.specs.Moved.{HasMove, Settled}
 use Rattle.wf_nodes.specs.Kinds.{block_view}
 use Rattle.wf_moves.proofs.finish.is_ended.Goals as goal
 
-pub block-requires-clause-list : goal.block-requires-clause-list
-block-requires-clause-list g c = has_list c.args.nodes.now c.args.frame.now c.in-Do.list c.in-Do.at c.requires.1 c.in-Do.is
+pub block-requires : goal.block-requires
+block-requires g c = has_list c.args.nodes.now c.args.frame.now c.in-Do.list c.in-Do.at c.requires.1 c.in-Do.is
 
 pub entries-requires : goal.entries-requires
 entries-requires g c = has_entries c.args.nodes.now c.args.frame.now c.in-Entries.n c.in-Entries.at c.requires.1 c.in-Entries.is
