@@ -6,6 +6,8 @@ use Rattle.json.specs.Lex.{lex, punctuate}
 use Rattle.json.specs.Text.{content}
 use Rattle.json.specs.Word.{after_number, word}
 use lib.Utf8.{encode}
+use Rattle.wf_ast.specs.Accept.{fault, rules}
+use Rattle.wf_ast.specs.Nodes.{nodes}
 use Rattle.wf_expr.specs.Parser.{parse, parse_target}
 use Rattle.wf_syntax_rules.specs.Built.{built}
 use Rattle.wf_syntax_rules.specs.First.{fault_within}
@@ -18,7 +20,7 @@ use Rattle.wf_template.specs.Templates.{template_of}
 use Rattle.wf_yaml.specs.Reading.{reading}
 
 pub worked_sources : WorkedSources
-unfolding source_of read_tree reading chars is_utf8 encode value lex punctuate content word after_number built fault_within body_within template_of parse parse_target lex_within
+unfolding source_of read_tree reading chars is_utf8 encode value lex punctuate content word after_number built fault_within body_within template_of parse parse_target lex_within nodes rules fault
 worked_sources = record {
   yaml = refl;
   json = refl;
