@@ -12,13 +12,13 @@ use Rattle.wf_alone.specs.Laws.{main_at}
 use Rattle.wf_alone.specs.Machine.{IsReached, main_event}
 use Rattle.wf_alone.specs.Plain.{ArePlain, Moves}
 use Rattle.wf_ast.specs.Tree.{Program}
-use Rattle.wf_check.specs.Seen.{program_of}
+use Rattle.wf_check.specs.Seen.{nodes_of, program_of}
 use Rattle.wf_frames.specs.Frames.{inner}
 use Rattle.wf_frames.specs.Owned.{control_of, own_of}
 use Rattle.wf_frames.specs.Standing.{Standing}
 use Rattle.wf_machine.proofs.Plainly.{are_plain, moves}
 use Rattle.wf_machine.specs.Facts.{facts_view}
-use Rattle.wf_machine.specs.Main.{IsStanding, around, config_of, nodes_of}
+use Rattle.wf_machine.specs.Main.{IsStanding, around, config_of}
 use Rattle.wf_machine.specs.Seen.{state_of}
 use Rattle.wf_machine.specs.State.{outcome_by}
 use Rattle.wf_machine.specs.declared.machine.Ending.{Ending}

@@ -5,7 +5,6 @@
 use Rattle.std.specs.Prelude.{◌≡◌, ℕ, List, [], ◌∷◌, None, Some, Option}
 use Rattle.std.specs.Coded.{×_prop, Unit-prop}
 use Rattle.wf_ast.specs.Tree.{Program}
-use Rattle.wf_check.specs.declared.checked.Checked.{Checked}
 use Rattle.wf_frames.specs.Frames.{inner}
 use Rattle.wf_frames.specs.Owned.{Around, control_of, local_of, own_of}
 use Rattle.wf_frames.specs.Standing.{Standing, Standing-prop}
@@ -30,11 +29,6 @@ use Rattle.wf_nodes.specs.declared.node.Node.{Node}
 use Rattle.wf_scope.specs.Store.{layers_of}
 use Rattle.wf_scope.specs.Tasks.{own_layers}
 use Rattle.wf_scope.specs.declared.scopes.Scopes.{Scopes}
-use Rattle.wf_table.specs.Built.{node_list}
-
--- the nodes of a checked program
-abbrev pub nodes_of : Checked → List Node
-nodes_of c = node_list c.table
 
 -- the parts of its program, no layer outside, and the limit of the first rules
 abbrev pub around : Program → Around

@@ -2,9 +2,9 @@
 ghost use Rattle.std.specs.Prelude.{◌≡◌, ◌≤◌, ◌<◌, ◌↔◌, ◌+◌, ℕ, true, false, is_some, length, IfOk, OnOk, OnErr, IsErrOf, IfSome, IsSome, IsNone, IsTrue, Some, max, option_map, unwrap_or, IsErr};
 ghost use Rattle.wf_alone.specs.Machine.{IsReached};
 ghost use Rattle.wf_ast.specs.View.{program_view};
-ghost use Rattle.wf_check.specs.Seen.{program_of};
+ghost use Rattle.wf_check.specs.Seen.{nodes_of, program_of};
 ghost use Rattle.wf_ast.specs.Tree.{Program as PlainProgram};
-ghost use Rattle.wf_machine.specs.Main.{Begins, IsStanding, IsStanding-prop, around, config_of, nodes_of, outcome_behind};
+ghost use Rattle.wf_machine.specs.Main.{Begins, IsStanding, IsStanding-prop, around, config_of, outcome_behind};
 ghost use Rattle.wf_machine.specs.State.{is_running, outcome_by, outcome_depth};
 ghost use Rattle.wf_machine.specs.declared.machine.Ending.TheVariants.{Running};
 ghost use Rattle.wf_moves.specs.Built.{Tells, is_table_built};

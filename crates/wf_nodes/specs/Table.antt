@@ -8,7 +8,7 @@ use Rattle.wf_model.specs.Unwind.{from_step}
 use Rattle.wf_value.specs.Pairs.{Text}
 use Rattle.wf_nodes.specs.Kinds as kind
 use Rattle.wf_nodes.specs.Kinds.{Handler, Kind, Listed, Repeated, Side, View, node_view}
-use Rattle.wf_nodes.specs.Spots.{Part, FlowAt, BodyAt, ArmAt, EntryAt, BranchAt, Spot, part_at, part_body, part_list, owners_at, steps_by, arms_by, entries_by, branches_by, from}
+use Rattle.wf_nodes.specs.Spots.{Part, FlowAt, BodyAt, ArmAt, EntryAt, BranchAt, Spot, part_at, part_body, part_list, part_next, owners_at, steps_by, arms_by, entries_by, branches_by, from}
 use Rattle.wf_nodes.specs.declared.node.Jump.{Jump}
 use Rattle.wf_nodes.specs.declared.node.Node.{Node}
 
@@ -124,6 +124,7 @@ innermost (o ∷ os) = Some o
 -- a node is the part of this number
 pub record Describes (ns : List Spot) (len i : ℕ) (x : View) : Type 0 where
   pub part : part_at ns i ≡ part_by ns x.name x.next x.kind
+  pub next : x.next ≡ part_next (part_at ns i)
   pub owner : x.owner ≡ innermost (owners_at ns i)
   pub list : ListStands ns len i (outside x.kind (owners_at ns i)) (kind_list x.kind)
   pub parts : PartsStand ns len (owners_at ns i) x.kind

@@ -10,7 +10,7 @@ use Rattle.wf_table.proofs.Lying.{Lies, behind, left, others, owners_are, part_i
 use Rattle.wf_table.proofs.Sizes.{body_long, step_long, steps_long}
 use Rattle.wf_nodes.specs.Kinds.{listed}
 use Rattle.wf_table.specs.Made.{arm_numbers, handler_for, step_numbers, view_for}
-use Rattle.wf_nodes.specs.Spots.{Part, FlowAt, BodyAt, ArmAt, EntryAt, BranchAt, Spot, arms_spots, body_size, body_spots, branches_spots, entries_spots, except_spots, flow_spots, flows_spots, loop_spots, owners_at, parallel_spots, part_at, part_body, spot, spots, step_size, step_spots, steps_size, steps_spots, try_spots, work_spots}
+use Rattle.wf_nodes.specs.Spots.{Part, part_next, FlowAt, BodyAt, ArmAt, EntryAt, BranchAt, Spot, arms_spots, body_size, body_spots, branches_spots, entries_spots, except_spots, flow_spots, flows_spots, loop_spots, owners_at, parallel_spots, part_at, part_body, part_next, spot, spots, step_size, step_spots, steps_size, steps_spots, try_spots, work_spots}
 use Rattle.wf_nodes.specs.Table.{ArmsStandIn, Describes, ListStands, handler_list, StandIn, except_of, innermost}
 
 -- ## What is said
@@ -88,40 +88,46 @@ handler_stands ns (except y ss) n m os out is h = list_inside ns ss n m os out i
 
 describes_body : (ns : List Spot) (x : Text) (body : Body) (next : Option Text) (n : ℕ) (os : List ℕ) → part_at ns n ≡ BodyAt x body next → owners_at ns n ≡ os → Lies ns (suc n) (body_spots body n os)
     → Describes ns (length ns) n (view_for n (spot (BodyAt x body next) os))
-describes_body ns x Body.Nothing next n os p o h = record { part = p; owner = ap innermost (sym o); list = tt; parts = tt }
+describes_body ns x Body.Nothing next n os p o h = record { part = p; next = sym (ap part_next p); owner = ap innermost (sym o); list = tt; parts = tt }
 describes_body ns x (Body.Assign es) next n os p o h = record {
   part = p ∙ ap (λ l. BodyAt x (Body.Assign l) next) (sym (entries_found ns es (suc n) os h));
+  next = sym (ap part_next p);
   owner = ap innermost (sym o);
   list = tt;
   parts = entries_below ns es (suc n) os h;
 }
-describes_body ns x (Body.Call f) next n os p o h = record { part = p; owner = ap innermost (sym o); list = tt; parts = tt }
+describes_body ns x (Body.Call f) next n os p o h = record { part = p; next = sym (ap part_next p); owner = ap innermost (sym o); list = tt; parts = tt }
 describes_body ns x (Body.Switch arms) next n os p o h = record {
   part = p ∙ ap (λ l. BodyAt x (Body.Switch l) next) (sym (arms_found ns arms (suc n) os h));
+  next = sym (ap part_next p);
   owner = ap innermost (sym o);
   list = tt;
   parts = subst (λ (z : List ℕ). ArmsStandIn ns (length ns) z (arm_numbers arms (suc n))) (sym o) (arms_stand ns arms (suc n) os h);
 }
 describes_body ns x (Body.For (loop v i e ss)) next n os p o h = record {
   part = p ∙ ap (λ l. BodyAt x (Body.For (loop v i e l)) next) (sym (steps_found ns ss (suc n) (n ∷ []) h));
+  next = sym (ap part_next p);
   owner = ap innermost (sym o);
   list = list_alone ns ss n (suc n) h;
   parts = tt;
 }
 describes_body ns x (Body.Parallel (parallel shared limit (OfBranches bs))) next n os p o h = record {
   part = p ∙ ap (λ l. BodyAt x (Body.Parallel (parallel shared limit (OfBranches l))) next) (sym (branches_found ns bs (suc n) os h));
+  next = sym (ap part_next p);
   owner = ap innermost (sym o);
   list = tt;
   parts = branches_below ns bs (suc n) os h;
 }
 describes_body ns x (Body.Parallel (parallel shared limit (OfLoop (loop v i e ss)))) next n os p o h = record {
   part = p ∙ ap (λ l. BodyAt x (Body.Parallel (parallel shared limit (OfLoop (loop v i e l)))) next) (sym (steps_found ns ss (suc n) (n ∷ []) h));
+  next = sym (ap part_next p);
   owner = ap innermost (sym o);
   list = list_alone ns ss n (suc n) h;
   parts = tt;
 }
 describes_body ns x (Body.Block ss) next n os p o h = record {
   part = p ∙ ap (λ l. BodyAt x (Body.Block l) next) (sym (steps_found ns ss (suc n) (n ∷ os) h));
+  next = sym (ap part_next p);
   owner = ap innermost (sym o);
   list = list_inside ns ss n (suc n) os (owners_at ns n) o h;
   parts = tt;
@@ -131,17 +137,19 @@ describes_body ns x (Body.Try (try body policy y)) next n os p o h = record {
       p
       ∙ (λ i. BodyAt x (Body.Try (try (part_body (sym (part_is ns (suc n) (BodyAt [] body None) os _ h) i)) policy
       (sym (handler_found ns y (n + suc (suc (body_size body))) (length os) (n ∷ os) (handler_lies ns body policy y n os h)) i))) next);
+  next = sym (ap part_next p);
   owner = ap innermost (sym o);
   list = handler_stands ns y n (n + suc (suc (body_size body))) os (owners_at ns n) o (handler_lies ns body policy y n os h);
   parts = (within ns (suc n) _ _ h, owners_are ns (suc n) (BodyAt [] body None) os _ h ∙ sym o);
 }
-describes_body ns x (Body.Raise t) next n os p o h = record { part = p; owner = ap innermost (sym o); list = tt; parts = tt }
-describes_body ns x (Body.Return t) next n os p o h = record { part = p; owner = ap innermost (sym o); list = tt; parts = tt }
+describes_body ns x (Body.Raise t) next n os p o h = record { part = p; next = sym (ap part_next p); owner = ap innermost (sym o); list = tt; parts = tt }
+describes_body ns x (Body.Return t) next n os p o h = record { part = p; next = sym (ap part_next p); owner = ap innermost (sym o); list = tt; parts = tt }
 
 describes_flow : (ns : List Spot) (f : Flow) (n : ℕ) (xs : List Spot) → Lies ns n (spot (FlowAt f) [] ∷ xs) → Lies ns (suc n) (steps_spots f.steps (suc n) (n ∷ []))
     → Describes ns (length ns) n (view_for n (spot (FlowAt f) []))
 describes_flow ns f n xs h k = record {
   part = part_is ns n (FlowAt f) [] xs h ∙ ap (λ l. FlowAt (record { name = f.name; params = f.params; steps = l })) (sym (steps_found ns f.steps (suc n) (n ∷ []) k));
+  next = sym (ap part_next (part_is ns n (FlowAt f) [] xs h));
   owner = ap innermost (sym (owners_are ns n (FlowAt f) [] xs h));
   list = list_alone ns f.steps n (suc n) k;
   parts = tt;
@@ -151,6 +159,7 @@ describes_branch : (ns : List Spot) (x : Text) (ss : Steps) (n : ℕ) (os : List
     → Describes ns (length ns) n (view_for n (spot (BranchAt x ss) os))
 describes_branch ns x ss n os xs h k = record {
   part = part_is ns n (BranchAt x ss) os xs h ∙ ap (BranchAt x) (sym (steps_found ns ss (suc n) (n ∷ []) k));
+  next = sym (ap part_next (part_is ns n (BranchAt x ss) os xs h));
   owner = ap innermost (sym (owners_are ns n (BranchAt x ss) os xs h));
   list = list_alone ns ss n (suc n) k;
   parts = tt;
@@ -158,10 +167,10 @@ describes_branch ns x ss n os xs h k = record {
 
 -- an arm or an entry
 describes_arm : (ns : List Spot) (t : Template) (n : ℕ) (os : List ℕ) (xs : List Spot) → Lies ns n (spot (ArmAt t) os ∷ xs) → Describes ns (length ns) n (view_for n (spot (ArmAt t) os))
-describes_arm ns t n os xs h = record { part = part_is ns n (ArmAt t) os xs h; owner = ap innermost (sym (owners_are ns n (ArmAt t) os xs h)); list = tt; parts = tt }
+describes_arm ns t n os xs h = record { part = part_is ns n (ArmAt t) os xs h; next = sym (ap part_next (part_is ns n (ArmAt t) os xs h)); owner = ap innermost (sym (owners_are ns n (ArmAt t) os xs h)); list = tt; parts = tt }
 
 describes_entry : (ns : List Spot) (e : Entry) (n : ℕ) (os : List ℕ) (xs : List Spot) → Lies ns n (spot (EntryAt e) os ∷ xs) → Describes ns (length ns) n (view_for n (spot (EntryAt e) os))
-describes_entry ns e n os xs h = record { part = part_is ns n (EntryAt e) os xs h; owner = ap innermost (sym (owners_are ns n (EntryAt e) os xs h)); list = tt; parts = tt }
+describes_entry ns e n os xs h = record { part = part_is ns n (EntryAt e) os xs h; next = sym (ap part_next (part_is ns n (EntryAt e) os xs h)); owner = ap innermost (sym (owners_are ns n (EntryAt e) os xs h)); list = tt; parts = tt }
 
 -- ## All parts
 entries_sound : (ns : List Spot) (es : List Entry) (n : ℕ) (os : List ℕ) → Nested ns n os → Lies ns n (entries_spots es os) → AllSound ns n (entries_spots es os)
