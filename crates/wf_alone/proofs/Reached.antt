@@ -54,7 +54,7 @@ module _ (p : Program) (facts : Facts) (last m : ℕ) (k : List Item) (ls : List
       (sym (by_main p facts reading now n k ls) ∙ none)
 
   -- so does the event
-  event_comes : (clock : Bool) (r : ℕ) → next_kind p k ≡ by_clock clock → last ≤ r → next p Here (main_event clock r) ≡ NotNow → ⊥
+  pub event_comes : (clock : Bool) (r : ℕ) → next_kind p k ≡ by_clock clock → last ≤ r → next p Here (main_event clock r) ≡ NotNow → ⊥
   event_comes false r kind le none =
       counted_not_nowhere Here (by_itself p 0 0 move) (move_comes last 0 (suc m)) (sym (plain_next p facts last m k ls (waits k plain) kind) ∙ none)
   event_comes true r kind le none =

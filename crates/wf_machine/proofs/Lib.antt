@@ -1,4 +1,6 @@
 -- The lemmas of the machine.
+pub mod Begun
 pub mod Counts
-pub mod Plainly
+pub mod Moving
 pub mod Places
+pub mod Plainly

@@ -3,13 +3,16 @@
 --     here               the configuration in which it stands
 --     plain ..           its control
 --     chosen, can_come   what comes next
-use Rattle.std.proofs.Common.{◌≡◌, ◌<◌, ◌≤◌, ◌⊎◌, inl, inr, ℕ, max, Bool, true, false, List, [], ◌∷◌, Some, None, refl, sym, ap, ◌∙◌, subst, arith}
+use Rattle.std.specs.Prelude.{is_some, nat_le}
+use Rattle.std.proofs.lemmas.Bool.{le-leb, lt-leb}
+use Rattle.std.proofs.Common.{◌≡◌, ◌<◌, ◌≤◌, ◌⊎◌, inl, inr, ⊎_elim, ℕ, max, Bool, true, false, List, [], ◌∷◌, Some, None, refl, sym, ap, ◌∙◌, subst, arith}
 use Rattle.std.proofs.Math.Logic.{∥∥₁_elim}
-use Rattle.wf_alone.proofs.Only.{choice, clock_next, main_alone, no_move, no_move_at, plain_next}
+use Rattle.wf_alone.proofs.Only.{choice, clock_next, no_move, no_move_at, plain_next}
 use Rattle.wf_alone.proofs.Reached.{event_comes, never}
-use Rattle.wf_alone.proofs.Real.{begins_none, kind, waits}
-use Rattle.wf_alone.specs.Laws.{main_at}
-use Rattle.wf_alone.specs.Machine.{IsReached, main_event}
+use Rattle.wf_ast.specs.Accept.{Kind}
+use Rattle.wf_check.proofs.Accepted.{accept_of}
+use Rattle.wf_alone.proofs.Real.{begins_none, waits}
+use Rattle.wf_alone.specs.Machine.{config_by, main_at, main_event}
 use Rattle.wf_alone.specs.Plain.{ArePlain, Moves}
 use Rattle.wf_ast.specs.Tree.{Program}
 use Rattle.wf_check.specs.Seen.{nodes_of, program_of}
@@ -28,7 +31,7 @@ use Rattle.wf_model.specs.Choose.{choose}
 use Rattle.wf_model.specs.Config.{Active, After, Config, Item, Layer, NotNow, To, Wrong}
 use Rattle.wf_model.specs.Kinds.{by_clock, next_kind}
 use Rattle.wf_model.specs.Move.{move}
-use Rattle.wf_model.specs.Step.{counted, next, read_at}
+use Rattle.wf_model.specs.Step.{counted, next, read_at, when}
 use Rattle.wf_model.specs.Taken.{by_itself}
 use Rattle.wf_moves.specs.Built.{Tells}
 use Rattle.wf_moves.specs.Going.{Going}
@@ -72,3 +75,75 @@ module _ (m : Machine) (t : Task) (is : m.task ≡ Some t) where
   here active =
       ap (λ o. config_of P m.facts m.last o m.scopes m.moves m.ending) is
       ∙ ap (λ e. config_of P m.facts m.last (Some t) m.scopes m.moves e) (running_of m.ending active)
+
+  -- its event, at a reading where it reads the clock
+  pub chosen : (state_of m).config.outcome ≡ Active → (clock : Bool) → next_kind P K ≡ by_clock clock → (r : ℕ) → choose P (state_of m).config r ≡ Some (main_event clock (max r m.last))
+  chosen active clock is_kind r =
+      ap (λ c. choose P c r) (here active) ∙ choice P (facts_view m.facts) m.last m.moves K Ls clock r (waits K plain) (begins_none K plain) is_kind
+
+  -- no event goes wrong
+  pub goes_right : (e : Event) (k : Kind) → next P (state_of m).config e ≡ Wrong k → ⊥
+  goes_right e k wrong =
+      ∥∥₁_elim m.reached (λ a b. absurd a)
+      (λ reached. never never_wrong P (state_of m).config (accept_of P m.program.accepted) (reached (ap is_some is)) e k wrong)
+
+  -- and its move can come
+  pub can_come : Tells (spots P.flows) (nodes_of m.program) → (state_of m).config.outcome ≡ Active → (clock : Bool) → next_kind P K ≡ by_clock clock → (r : ℕ) → m.last ≤ r
+      → (d : Config) × (next P (state_of m).config (main_event clock r) ≡ To d)
+  can_come tells active clock is_kind r le = by (next P (state_of m).config (main_event clock r)) refl
+    where
+      by : (a : After) → next P (state_of m).config (main_event clock r) ≡ a → (d : Config) × (next P (state_of m).config (main_event clock r) ≡ To d)
+      by (To d) comes = (d, comes)
+      by (Wrong k) comes = absurd (goes_right (main_event clock r) k comes)
+      by NotNow comes =
+          absurd (event_comes P (facts_view m.facts) m.last m.moves K Ls plain (has_move tells) clock r is_kind le (ap (λ c. next P c (main_event clock r)) (sym (here active)) ∙ comes))
+
+  -- a move that reads no clock
+  pub plain_comes : (state_of m).config.outcome ≡ Active → next_kind P K ≡ by_clock false → next P (state_of m).config (Event.Move 0) ≡ counted (read_at m.last (state_of m).config) (by_itself P 0 0 move)
+  plain_comes active still =
+      subst (λ c. next P c (Event.Move 0) ≡ counted (read_at m.last c) (by_itself P 0 0 move)) (sym (here active)) (plain_next P (facts_view m.facts) m.last m.moves K Ls (waits K plain) still)
+
+  -- and one that does
+  pub clock_comes : (state_of m).config.outcome ≡ Active → next_kind P K ≡ by_clock true → (now : ℕ) → m.last ≤ now
+      → next P (state_of m).config (Event.MoveAt 0 now) ≡ counted (read_at now (state_of m).config) (by_itself P 0 now move)
+  clock_comes active timed now le =
+      subst (λ c. next P c (Event.MoveAt 0 now) ≡ counted (read_at now c) (by_itself P 0 now move)) (sym (here active))
+      (clock_next P (facts_view m.facts) m.last m.moves K Ls now (waits K plain) timed (le-leb m.last now le))
+
+  -- moves that can't come
+  pub plain_never : (state_of m).config.outcome ≡ Active → (b : ℕ) (d : Config) → ((b ≡ 0 → ⊥) ⊎ (next_kind P K ≡ by_clock true)) → next P (state_of m).config (Event.Move b) ≡ To d → ⊥
+  plain_never active b d why comes = no_move P (facts_view m.facts) m.last m.moves K Ls b d why (ap (λ c. next P c (Event.Move b)) (sym (here active)) ∙ comes)
+
+  pub clock_never : (state_of m).config.outcome ≡ Active → (b now : ℕ) (d : Config) → ((b ≡ 0 → ⊥) ⊎ (next_kind P K ≡ by_clock false) ⊎ (now < m.last)) → next P (state_of m).config (Event.MoveAt b now) ≡ To d → ⊥
+  clock_never active b now d why comes =
+      no_move_at P (facts_view m.facts) m.last m.moves K Ls b now d (⊎_elim (λ other. inl other) (λ rest. inr (⊎_elim (λ still. inl still) (λ below. inr (lt-leb m.last now below)) rest)) why)
+      (ap (λ c. next P c (Event.MoveAt b now)) (sym (here active)) ∙ comes)
+
+-- ## Without `main`
+none_to : (d : Config) → NotNow ≡ To d → ⊥
+none_to d is = absurd (cc is)
+
+when_none : (b : Bool) (d : Config) → when b NotNow ≡ To d → ⊥
+when_none true d is = none_to d is
+when_none false d is = none_to d is
+
+module _ (m : Machine) (none : m.task ≡ None) (active : (state_of m).config.outcome ≡ Active) where
+  -- where it stands
+  abbrev Empty : Config
+  Empty = config_by (facts_view m.facts) m.last [] m.moves Active
+
+  empty : (state_of m).config ≡ Empty
+  empty =
+      ap (λ o. config_of (program_of m.program) m.facts m.last o m.scopes m.moves m.ending) none
+      ∙ ap (λ e. config_of (program_of m.program) m.facts m.last None m.scopes m.moves e) (running_of m.ending active)
+
+  -- no move can come
+  pub no_plain : (b : ℕ) (d : Config) → next (program_of m.program) (state_of m).config (Event.Move b) ≡ To d → ⊥
+  no_plain b d comes = none_to d (ap (λ c. next (program_of m.program) c (Event.Move b)) (sym empty) ∙ comes)
+
+  pub no_clock : (b r : ℕ) (d : Config) → next (program_of m.program) (state_of m).config (Event.MoveAt b r) ≡ To d → ⊥
+  no_clock b r d comes = when_none (nat_le m.last r) d (ap (λ c. next (program_of m.program) c (Event.MoveAt b r)) (sym empty) ∙ comes)
+
+  -- and none is chosen
+  pub none_chosen : (r : ℕ) → choose (program_of m.program) (state_of m).config r ≡ None
+  none_chosen r = ap (λ c. choose (program_of m.program) c r) empty

@@ -110,8 +110,11 @@ PartsStand-prop ns len os (kind.Arm t) = Unit-prop
 PartsStand-prop ns len os (kind.Entry e) = Unit-prop
 PartsStand-prop ns len os (kind.Branch b) = Unit-prop
 
+Text-set : IsSet Text
+Text-set = numbers-set
+
 Describes-prop : (ns : List Spot) (len i : ℕ) (x : View) → IsProp (Describes ns len i x)
-Describes-prop ns len i x = hlevel (Part-set, Option-set, ℕ-set, ListStands-prop, PartsStand-prop)
+Describes-prop ns len i x = hlevel (Part-set, Option-set, Text-set, ℕ-set, ListStands-prop, PartsStand-prop)
 
 TellsInto-prop : (ns : List Spot) (views : List View) (x : Text) (j : Jump) (o depth : ℕ) → IsProp (TellsInto ns views x j o depth)
 TellsInto-prop ns views x j o depth = hlevel (Bool-set, ℕ-set, Steps-set)
