@@ -5,6 +5,8 @@ use Rattle.json.specs.Json.{value}
 use Rattle.json.specs.Lex.{lex, punctuate}
 use Rattle.json.specs.Word.{word}
 use lib.Utf8.{encode}
+use Rattle.wf_ast.specs.Accept.{fault, rules}
+use Rattle.wf_ast.specs.Nodes.{nodes}
 use Rattle.wf_engine.specs.Rows.{WorkedHistories}
 use Rattle.wf_engine.specs.TheLanguage.{the_language}
 use Rattle.wf_events.specs.Reading.{meaning, record_of, whole_at, record_at, start_at, turn_at, events_at, event_at, move_at, text_at, string_at, argument_at, is_argument, list_at, items_at}
@@ -21,7 +23,7 @@ use Rattle.wf_template.specs.Templates.{template_of}
 use Rattle.wf_yaml.specs.Reading.{reading}
 
 pub worked_histories : WorkedHistories
-unfolding the_language source_of read_tree reading chars is_utf8 encode built fault_within body_within template_of parse parse_target lex_within history meaning record_bytes record_of whole_at record_at start_at turn_at events_at event_at move_at text_at string_at argument_at is_argument value punctuate lex word list_at items_at
+unfolding the_language source_of read_tree reading chars is_utf8 encode built fault_within body_within template_of parse parse_target lex_within history meaning record_bytes record_of whole_at record_at start_at turn_at events_at event_at move_at text_at string_at argument_at is_argument value punctuate lex word list_at items_at nodes fault rules
 worked_histories = record {
   nothing = refl;
   start_alone = refl;
