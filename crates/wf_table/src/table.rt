@@ -22,6 +22,13 @@ pub struct Table {
 }
 
 impl Table {
+    /// The nodes by their numbers.
+    pub fn nodes(&self) -> &[Node]
+        ensures { result.now ≡ node_list self.now }
+    {
+        self.nodes.as_slice()
+    }
+
     /// The node of a number.
     pub fn node(&self, n: u32) -> Option<&Node>
         ensures { option_copied result ≡ slice_get (node_list self.now) n }
