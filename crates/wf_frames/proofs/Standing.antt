@@ -1,5 +1,5 @@
 -- A task stands in the one form where it stands in the other.
-use Rattle.std.proofs.Common.{◌≡◌, ℕ, ◌≤◌, Bool, true, false, List, [], ◌∷◌, length, Option, Some, None, is_some, refl, sym, ap, subst, ◌∙◌}
+use Rattle.std.proofs.Common.{◌≡◌, ℕ, ◌≤◌, true, List, [], ◌∷◌, length, Option, Some, None, is_some, refl, sym, ap, subst, ◌∙◌}
 use Rattle.std.specs.Prelude.{option_map, slice_get, unwrap_or}
 use Rattle.wf_frames.specs.Fits.{Fits, HasNode, IsLoop, entries_at, list_at}
 use Rattle.wf_frames.specs.Frames.{inner}

@@ -1,11 +1,11 @@
 -- Where a task stands, as a fact with at most one proof: what `Stands` says, with tests in place of the nodes and layers that are there.
 --     Standing          the frames fit the table, and the layers stand in the store
 --     Standing-prop     it has at most one proof
-use Rattle.std.specs.Prelude.{◌≡◌, ℕ, ◌+◌, ◌<◌, ◌≤◌, Bool, true, false, List, [], ◌∷◌, length, map as each, slice_get, is_some, Some, None, Option, option_map, unwrap_or}
+use Rattle.std.specs.Prelude.{◌≡◌, ℕ, ◌+◌, ◌<◌, ◌≤◌, Bool, true, false, List, [], ◌∷◌, length, slice_get, is_some, Some, None, Option, option_map, unwrap_or}
 use Rattle.std.specs.Coded.{Coded-set, coded_bool, coded_list, coded_option, coded_ℕ, le_prop, Unit-prop, ×_prop, Π_prop, →_prop}
 use Rattle.std.specs.List.Sorted.{IsStrictlySortedBy-prop}
 use Rattle.std.specs.Map.{keys_of}
-use Rattle.wf_frames.specs.Fits.{Nests, entries_at, has_next, list_at, outside_at, reach, view_at}
+use Rattle.wf_frames.specs.Fits.{Nests, entries_at, has_next, list_at, view_at}
 use Rattle.wf_frames.specs.Frames.{inner}
 use Rattle.wf_frames.specs.Owned.{AreAlone, Around, OnlyInside, first_key, next_own, outer_for, own_of}
 use Rattle.wf_frames.specs.declared.frames.Frame.{Frame}
@@ -13,7 +13,7 @@ use Rattle.wf_frames.specs.declared.frames.Frame.TheVariants as frame
 use Rattle.wf_frames.specs.declared.frames.Frames.{Frames}
 use Rattle.wf_model.specs.Local.{layers_total, outers_total}
 use Rattle.wf_nodes.specs.Kinds.{Listed}
-use Rattle.wf_nodes.specs.Spots.{Spot, owners_at}
+use Rattle.wf_nodes.specs.Spots.{Spot}
 use Rattle.wf_nodes.specs.declared.node.Node.{Node}
 use Rattle.wf_nodes.specs.declared.node.NodeKind.{NodeKind}
 use Rattle.wf_nodes.specs.declared.node.NodeKind.TheVariants as variant

@@ -1,5 +1,5 @@
 -- The move of the innermost frame.
-use Rattle.std.proofs.Common.{◌≡◌, ℕ, ◌+◌, ◌<◌, List, [], ◌∷◌, length, get_or, Some, refl, sym, ap, subst, ◌∙◌, arith, add-one}
+use Rattle.std.proofs.Common.{◌≡◌, ℕ, ◌+◌, ◌<◌, Bool, true, false, List, [], ◌∷◌, length, get_or, Some, refl, sym, ap, subst, ◌∙◌, arith, add-one}
 use Rattle.std.specs.Prelude.{zero, suc, drop}
 use Rattle.wf_ast.specs.Apply.{View}
 use Rattle.wf_ast.specs.Tree.{more}
@@ -12,7 +12,7 @@ use Rattle.wf_model.specs.Layers.{view}
 use Rattle.wf_model.specs.Local.{Local, Scene}
 use Rattle.wf_model.specs.Move.{assigns, moves}
 use Rattle.wf_moves.proofs.Parts.{below_get, entries_is, list_is, list_stands, stand_get}
-use Rattle.wf_moves.specs.Steps.{CarriesOut, Moves}
+use Rattle.wf_moves.specs.Steps.{CarriesOut, HasStep, Moves}
 use Rattle.wf_moves.specs.declared.step.Step.{Step}
 use Rattle.wf_moves.specs.declared.step.Step.TheVariants as step
 use Rattle.wf_nodes.specs.Kinds.{Listed}
@@ -72,3 +72,17 @@ same_entries nodes n b d p q = cc (sym p ∙ q)
 
 pub entry_fits : (ns : List Spot) (nodes : List Node) (n at : ℕ) (b : List ℕ) (fs new : List Frame) → entries_at nodes n ≡ Some b → at < length b → new ≡ frame.Entries n (at + 1) ∷ fs → Fits ns nodes fs → Fits ns nodes new
 entry_fits ns nodes n at b fs new h lt e fits = subst (Fits ns nodes) (sym e) (((b, h, omega (arith, lt)), tt), fits)
+
+-- ## The innermost frame
+-- a body that stands alone and has a step isn't carried out yet
+pub lone_first : (nodes : List Node) (f : Frame) (n : ℕ) (done : Bool) → HasStep nodes f → f ≡ frame.Lone n done → f ≡ frame.Lone n false
+lone_first nodes f n true h e = let there : HasStep nodes (frame.Lone n true) = subst (HasStep nodes) e h in absurd there
+lone_first nodes f n false h e = e
+
+pub some_step : (nodes : List Node) (f : Frame) → HasStep nodes f → ((n at : ℕ) → f ≡ frame.Do n at → ⊥) → ((n : ℕ) (b : Bool) → f ≡ frame.Lone n b → ⊥) → ((n at : ℕ) → f ≡ frame.Entries n at → ⊥) → ((n : ℕ) → f ≡ frame.Then n → ⊥) → ⊥
+some_step nodes (frame.Do n at) h d l e t = d n at refl
+some_step nodes (frame.Lone n b) h d l e t = l n b refl
+some_step nodes (frame.Entries n at) h d l e t = e n at refl
+some_step nodes (frame.Then n) h d l e t = t n refl
+some_step nodes (frame.Loop n w i) h d l e t = h
+some_step nodes (frame.Mark m) h d l e t = h

@@ -12,16 +12,19 @@ use Rattle.wf_frames.specs.declared.frames.Frame.{Frame}
 use Rattle.wf_frames.specs.declared.frames.Frame.TheVariants as frame
 use Rattle.wf_frames.specs.declared.frames.Left.{Left}
 use Rattle.wf_model.specs.Config.{Item, Do, Entries}
-use Rattle.wf_model.specs.Local.{Local, Scene, settle}
+use Rattle.wf_model.specs.Local.{Local, Scene, settle, settled}
 use Rattle.wf_model.specs.Unwind.{unwind, to_back}
 use Rattle.wf_moves.proofs.Parts.{entries_is, list_is}
-use Rattle.wf_moves.specs.Moved.{HasMove, IsGoing, IsSettled, Settled}
+use Rattle.wf_moves.specs.Moved.{HasMove, IsGoing, IsMove, IsSettled, Settled}
+use Rattle.wf_moves.specs.declared.finish.End.TheVariants as end
+use Rattle.wf_moves.specs.declared.finish.Went.TheVariants as went
 use Rattle.wf_moves.specs.Steps.{HasStep, IsBefore, IsBeforeEntry}
 use Rattle.wf_nodes.specs.Kinds.{Listed}
 use Rattle.wf_nodes.specs.Spots.{Spot, part_at, part_list, part_body, steps_by, entries_by, from}
 use Rattle.wf_nodes.specs.Table.{Resolves}
 use Rattle.wf_nodes.specs.declared.node.Node.{Node}
 use Rattle.wf_value.specs.Data.{Data}
+use Rattle.wf_value.specs.declared.Value.TheVariants as value
 
 -- ## One frame
 pub stands_on : (f : Frame) (c : List Item) (h : Held) → left_by f (standing c h) ≡ standing c (dropped f h)
@@ -215,3 +218,16 @@ going_step nodes (frame.Entries n at) h other = h
 going_step nodes (frame.Then n) h other = h
 going_step nodes (frame.Loop n w i) h other = absurd (other n w i refl)
 going_step nodes (frame.Mark m) h other = absurd h
+
+-- the task goes on, or has ended
+pub going_there : (nodes : List Node) (f : Frame) (fs : List Frame) → topped fs ≡ Some f → IsSettled nodes fs → IsGoing nodes fs
+going_there nodes f [] t h = absurd (cc t)
+going_there nodes f (g ∷ fs) t h = h
+
+pub went_on : (ns : List Spot) (f : Frame) (fs : List Frame) (h : Held) → topped fs ≡ Some f → IsMove (settled (standing (control ns fs) h)) went.Goes (standing (control ns fs) h)
+went_on ns f [] h t = absurd (cc t)
+went_on ns f (g ∷ fs) h t = refl
+
+pub went_out : (ns : List Spot) (fs : List Frame) (h : Held) → topped fs ≡ None → IsMove (settled (standing (control ns fs) h)) (went.Ended (end.Value value.Null)) (standing (control ns fs) h)
+went_out ns [] h t = (refl, omega arith, refl)
+went_out ns (g ∷ fs) h t = absurd (cc t)

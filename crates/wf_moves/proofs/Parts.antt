@@ -12,6 +12,7 @@ use Rattle.wf_moves.specs.Built.{Tells, is_node_built, is_table_built, kind_buil
 use Rattle.wf_shapes.specs.Built.{are_built}
 use Rattle.wf_nodes.specs.Kinds as view
 use Rattle.wf_nodes.specs.Kinds.{Handler, Kind, Listed, Repeated, Side, View, block_view, kind_by, node_view}
+use Rattle.wf_nodes.specs.Shapes.{Compiled}
 use Rattle.wf_nodes.specs.Spots.{Spot, entries_by, owners_at, part_at, part_body, part_list, steps_by}
 use Rattle.wf_nodes.specs.Table.{AreBelow, ListStands, Resolves, StandIn, handler_list, kind_list, outside, part_by, side_list, view_list}
 use Rattle.wf_nodes.specs.declared.node.LoopNode.{LoopNode}
@@ -125,6 +126,23 @@ never_built nodes n x k b h e f = by k (ap (λ (y : NodeKind). kind_built y (are
     by (kind.Arm s) p q = cc q
     by (kind.Entry s) p q = cc q
     by (kind.Branch d) p q = cc q
+
+-- no other node has entries
+pub only_entries : (cs : Compiled) (k : NodeKind) → is_some (kind_entries (kind_by cs k)) ≡ true → ((v : Vec ℕ Global) → k ≡ kind.Assign v → ⊥) → ⊥
+only_entries cs (kind.Assign v) h other = other v refl
+only_entries cs (kind.Flow f) h other = cc h
+only_entries cs kind.Nothing h other = cc h
+only_entries cs (kind.Call f) h other = cc h
+only_entries cs (kind.Switch v) h other = cc h
+only_entries cs (kind.For l) h other = cc h
+only_entries cs (kind.Parallel p) h other = cc h
+only_entries cs (kind.Block d) h other = cc h
+only_entries cs (kind.Try t) h other = cc h
+only_entries cs (kind.Raise t) h other = cc h
+only_entries cs (kind.Return t) h other = cc h
+only_entries cs (kind.Arm t) h other = cc h
+only_entries cs (kind.Entry e) h other = cc h
+only_entries cs (kind.Branch d) h other = cc h
 
 -- ## Lists of steps
 list_in : (ns : List Spot) (x : Text) (next : Option Text) (k : Kind) (b : Listed) → kind_list k ≡ Some b → part_list (part_by ns x next k) ≡ steps_by ns b.steps

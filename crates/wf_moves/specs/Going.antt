@@ -1,7 +1,7 @@
 -- That a task goes on, as a fact with at most one proof: what `IsGoing` says, with tests in place of the lists that are there.
 --     Going          a move is made from the innermost frame
 --     Going-prop     it has at most one proof
-use Rattle.std.specs.Prelude.{◌≡◌, ℕ, ◌<◌, false, List, [], ◌∷◌, length, unwrap_or}
+use Rattle.std.specs.Prelude.{◌≡◌, ◌<◌, false, List, [], ◌∷◌, length, unwrap_or}
 use Rattle.std.specs.Coded.{Coded-set, coded_bool, le_prop, Unit-prop}
 use Rattle.wf_frames.specs.Fits.{entries_at, list_at}
 use Rattle.wf_frames.specs.Standing.{steps_of}

@@ -171,10 +171,12 @@ fn go_to(
     ensures left { IfOk result (λ w. IsLeft nodes.now w (inner frames.new)) }
 {
     match jump {
-        Some(jump) => jump_to(frames, nodes, scopes, jump)?,
-        None => {}
+        Some(jump) => {
+            jump_to(frames, nodes, scopes, jump)?;
+            Ok(goes(frames, nodes, scopes))
+        }
+        None => Ok(goes(frames, nodes, scopes)),
     }
-    Ok(goes(frames, nodes, scopes))
 }
 
 /// The jump of a node's `next`.

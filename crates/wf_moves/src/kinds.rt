@@ -120,7 +120,9 @@ fn node_kind(nodes: &[Node], n: u32) -> Kind
         NodeKind::Assign(numbers) => first_kind(nodes, numbers.as_slice()),
         NodeKind::Switch(arms) => by_clock(are_arms(nodes, arms.as_slice())),
         NodeKind::For(body) => by_clock(is_over(&body.over, codes)),
-        NodeKind::Raise(shape) | NodeKind::Return(shape) => by_clock(is_clock_in(shape, codes)),
+        NodeKind::Raise(shape) => by_clock(is_clock_in(shape, codes)),
+        NodeKind::Return(shape) => by_clock(is_clock_in(shape, codes)),
+        NodeKind::Block(_) => Kind::Plain,
         NodeKind::Call(_) | NodeKind::Parallel(_) | NodeKind::Try(_) => unreachable!(),
         _ => Kind::Plain,
     }

@@ -1,7 +1,7 @@
 // Nodes by their numbers.
 ghost use Rattle.std.specs.Prelude.{◌≡◌, Some, is_some, take, true};
 ghost use Rattle.wf_frames.specs.Fits.{IsLoop, entries_at, list_at};
-ghost use Rattle.wf_moves.specs.Built.{is_node_built, is_table_built};
+ghost use Rattle.wf_moves.specs.Built.{is_node_built, is_table_built, kind_built};
 ghost use Rattle.wf_nodes.specs.Kinds.{block_view};
 ghost use Rattle.wf_nodes.specs.declared.node.LoopNode as loop_node;
 
@@ -24,9 +24,19 @@ pub fn are_built(nodes: &[Node]) -> bool
 fn is_built(node: &Node) -> bool
     ensures { result ≡ is_node_built node.now }
 {
-    match &node.kind {
+    let codes = are_codes_built(node.codes.items());
+    is_kind_built(&node.kind, codes)
+}
+
+// Whether a node of this kind is built, if its codes are or aren't.
+fn is_kind_built(kind: &NodeKind, codes: bool) -> bool
+    ensures { result ≡ kind_built kind.now codes }
+{
+    match kind {
         NodeKind::Call(_) | NodeKind::Try(_) | NodeKind::Parallel(_) => false,
-        _ => are_codes_built(node.codes.items()),
+        NodeKind::Flow(_) | NodeKind::Branch(_) | NodeKind::Block(_) | NodeKind::For(_) => codes,
+        NodeKind::Nothing | NodeKind::Assign(_) | NodeKind::Switch(_) | NodeKind::Raise(_) => codes,
+        NodeKind::Return(_) | NodeKind::Arm(_) | NodeKind::Entry(_) => codes,
     }
 }
 

@@ -218,7 +218,8 @@ fn does_nothing(kind: &NodeKind) -> bool
         NodeKind::Assign(_) | NodeKind::Call(_) | NodeKind::Switch(_) | NodeKind::For(_) => false,
         NodeKind::Parallel(_) | NodeKind::Block(_) | NodeKind::Try(_) => false,
         NodeKind::Raise(_) | NodeKind::Return(_) => false,
-        _ => true,
+        NodeKind::Nothing | NodeKind::Flow(_) | NodeKind::Branch(_) => true,
+        NodeKind::Arm(_) | NodeKind::Entry(_) => true,
     }
 }
 

@@ -3,15 +3,17 @@ use Rattle.std.proofs.Common.{◌≡◌, ℕ, ◌+◌, ◌<◌, ◌≤◌, List,
 use Rattle.std.proofs.Common as seq
 use Rattle.std.proofs.lemmas.List.{drop_all}
 use Rattle.wf_ast.specs.Apply.{View}
-use Rattle.wf_ast.specs.Eval.{fill, fill_all, fill_fields}
+use Rattle.std.proofs.lemmas.List.{append_assoc}
+use Rattle.wf_ast.specs.Eval.{fill, fill_all, fill_fields, joined, part_text}
 use Rattle.wf_ast.specs.Tree as t
 use Rattle.wf_ast.specs.Tree.{templates, fields}
 use Rattle.wf_eval.proofs.Filled.{onto, onto_last, onto_none, put_last, height, heights, field_heights}
 use Rattle.wf_eval.specs.Answers.{Answers, Gives, GivesText, kept_list, kept_map, put_all}
 use Rattle.wf_nodes.proofs.Views.{view_list, view_map}
-use Rattle.wf_nodes.specs.Shapes.{Compiled, named_by, named_list, shape_by, shape_list}
+use Rattle.wf_nodes.specs.Shapes.{Compiled, named_by, named_list, piece_by, shape_by, shape_list}
 use Rattle.wf_nodes.specs.declared.shape.NamedShape.{NamedShape}
 use Rattle.wf_nodes.specs.declared.shape.NamedShapes.{NamedShapes}
+use Rattle.wf_nodes.specs.declared.shape.Piece.{Piece}
 use Rattle.wf_nodes.specs.declared.shape.Shape.{Shape, Map}
 use Rattle.wf_nodes.specs.declared.shape.Shape.TheViews as shape
 use Rattle.wf_nodes.specs.declared.shape.Shapes.{Shapes}
@@ -32,6 +34,29 @@ module _ {A B : Type 0} where
   stops : {X C D : Type 0} (f : A → B) (g : X → C) (e : Raise) (first : Answer C) (left : C → Answer D) (add : D → B) (all : Answer B) → Answers g (Err e) first → all ≡ ((first >>= left) >>= λ d. Ok (add d)) → Answers f (Err e) all
   stops f g OutOfMemory first left add all h seen = tt {0}
   stops f g (Error t) first left add all h seen = subst (λ (x : Answer B). Answers f (Err (Error t)) x) (sym (seen ∙ ap (λ m. (m >>= left) >>= λ d. Ok (add d)) (raised g t first h))) refl
+
+-- ## A text
+-- the text with one more piece
+text_put : (m : Answer Text) (t old new : Text) → new ≡ old ++ t → ((m >>= λ u. Ok (t ++ u)) >>= λ u. Ok (old ++ u)) ≡ (m >>= λ u. Ok (new ++ u))
+text_put (Ok u) t old new n = ap Ok (sym (append_assoc old t u) ∙ ap (λ (l : Text). l ++ u) (sym n))
+text_put (Err e) t old new n = refl
+
+module _ (cs : Compiled) (s : View) (xs : List Piece) where
+  -- what the pieces of a text give
+  abbrev texts_of : List Piece → Answer Text
+  texts_of l = joined s (seq.map (piece_by cs) l)
+
+  module _ (i : ℕ) (x : Piece) (old : Text) (within : i < length xs) (is : x ≡ get_or xs i x) (seen : texts_of xs ≡ (texts_of (drop i xs) >>= λ u. Ok (old ++ u))) where
+    text_next : texts_of xs ≡ ((part_text s (piece_by cs x) >>= λ t. texts_of (drop (i + 1) xs) >>= λ u. Ok (t ++ u)) >>= λ u. Ok (old ++ u))
+    text_next = seen ∙ ap (λ l. texts_of l >>= λ u. Ok (old ++ u)) (next xs i x within is)
+
+    pub text_step : (new t : Text) → GivesText (Ok t) (part_text s (piece_by cs x)) → new ≡ old ++ t → texts_of xs ≡ (texts_of (drop (i + 1) xs) >>= λ u. Ok (new ++ u))
+    text_step new t h n =
+        text_next ∙ ap (λ m. (m >>= λ v. texts_of (drop (i + 1) xs) >>= λ u. Ok (v ++ u)) >>= λ u. Ok (old ++ u)) (answered (λ (v : Text). v) t (part_text s (piece_by cs x)) h)
+        ∙ text_put (texts_of (drop (i + 1) xs)) t old new n
+
+    pub text_stops : (e : Raise) → GivesText (Err e) (part_text s (piece_by cs x)) → GivesText (Err e) (texts_of xs)
+    text_stops e h = stops (λ (v : Text). v) (λ (v : Text). v) e (part_text s (piece_by cs x)) (λ t. texts_of (drop (i + 1) xs) >>= λ u. Ok (t ++ u)) (λ (u : Text). old ++ u) (texts_of xs) h text_next
 
 -- ## A list
 list_is : (cs : Compiled) (x : Shape) (ss : Shapes) (xs : List Shape) → x ≡ shape.List ss → xs ≡ shape_list ss → shape_by cs x ≡ t.Listed (templates (seq.map (shape_by cs) xs))

@@ -79,3 +79,14 @@ list_told cs x ss xs is seen = sym (ap (λ y. template_now (shape_by cs y)) is �
 
 pub map_told : (cs : Compiled) (x : Shape) (ns : NamedShapes) (xs : List NamedShape) → x ≡ Map ns → xs ≡ named_list ns → fields_now (fields (seq.map (named_by cs) xs)) ≡ template_now (shape_by cs x)
 map_told cs x ns xs is seen = sym (ap (λ y. template_now (shape_by cs y)) is ∙ ap template_now (view_map cs ns) ∙ ap (λ l. fields_now (fields (seq.map (named_by cs) l))) (sym seen))
+
+-- ## Instruction by instruction
+module _ (is items : List declared.Instr) (i : ℕ) (e : Expr) (same : items ≡ is) (of : instrs is ≡ code e) (seen : any_now (instrs items) ≡ any_now (instrs (drop i items))) where
+  tells : any_now (instrs (drop i items)) ≡ expr_now (decoded is)
+  tells = sym seen ∙ ap (λ l. any_now (instrs l)) same ∙ clock_told is e of
+
+  pub told_there : (x : declared.Instr) → i < length items → x ≡ get_or items i x → call_now (instr x) ≡ true → true ≡ expr_now (decoded is)
+  told_there x within here t = sym (ap (λ (c : Bool). c || any_now (instrs (drop (i + 1) items))) t) ∙ sym (ap (λ l. any_now (instrs l)) (next items i x within here)) ∙ tells
+
+  pub told_nowhere : length items ≤ i → false ≡ expr_now (decoded is)
+  told_nowhere past = sym (ap (λ l. any_now (instrs l)) (drop_all i items past)) ∙ tells

@@ -8,6 +8,6 @@ use Rattle.wf_shapes.specs.Built.{are_built}
 use Rattle.wf_moves.proofs.assign.assign.Goals as goal
 
 pub evaluate-requires : goal.evaluate-requires
-evaluate-requires g c κs within =
+evaluate-requires g c =
     let there = node_at c.args.nodes.now c.args.n c.index-nodes-n.result c.requires.1.1 c.index-nodes-n.is in
-    (within, ap are_built c.items.ensures ∙ codes_built c.args.nodes.now c.args.n c.index-nodes-n.result c.requires.0.built there)
+    ap are_built c.items.ensures ∙ codes_built c.args.nodes.now c.args.n c.index-nodes-n.result c.requires.0.built there

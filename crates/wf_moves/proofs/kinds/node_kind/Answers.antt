@@ -14,34 +14,61 @@ use Rattle.wf_moves.proofs.kinds.node_kind.Goals as goal
 pub first_kind-requires-clause-entries : goal.first_kind-requires-clause-entries
 first_kind-requires-clause-entries g c =
     let x = c.index-nodes-n.result in
-    let there = node_at c.args.nodes.now c.args.n x c.requires.within c.index-nodes-n.is in
+    let there = node_at c.args.nodes.now c.args.n x c.requires.1 c.index-nodes-n.is in
     subst (AreBelow (length c.args.nodes.now)) (sym c.as_slice.ensures.value)
-    (subst (λ k. PartsStand g.ns (length c.args.nodes.now) (owners_at g.ns c.args.n) (kind_by x.codes.items.items k)) c.in-Assign.is (c.requires.tells.resolves.each c.args.n x there).parts)
+    (subst (λ k. PartsStand g.ns (length c.args.nodes.now) (owners_at g.ns c.args.n) (kind_by x.codes.items.items k)) c.in-Assign.is (c.requires.0.resolves.each c.args.n x there).parts)
 
 pub are_arms-requires-clause-arms : goal.are_arms-requires-clause-arms
 are_arms-requires-clause-arms g c =
     let x = c.index-nodes-n.result in
-    let there = node_at c.args.nodes.now c.args.n x c.requires.within c.index-nodes-n.is in
+    let there = node_at c.args.nodes.now c.args.n x c.requires.1 c.index-nodes-n.is in
     subst (ArmsStandIn g.ns (length c.args.nodes.now) (owners_at g.ns c.args.n)) (sym c.as_slice-in-Switch.ensures.value)
-    (subst (λ k. PartsStand g.ns (length c.args.nodes.now) (owners_at g.ns c.args.n) (kind_by x.codes.items.items k)) c.in-Switch.is (c.requires.tells.resolves.each c.args.n x there).parts)
+    (subst (λ k. PartsStand g.ns (length c.args.nodes.now) (owners_at g.ns c.args.n) (kind_by x.codes.items.items k)) c.in-Switch.is (c.requires.0.resolves.each c.args.n x there).parts)
 
 pub returns-in-Assign : goal.returns-in-Assign
 returns-in-Assign g c p =
     let x = c.index-nodes-n.result in
-    let there = node_at c.args.nodes.now c.args.n x c.requires.within c.index-nodes-n.is in
+    let there = node_at c.args.nodes.now c.args.n x c.requires.1 c.index-nodes-n.is in
     c.first_kind.ensures p ∙ ap (λ ns. body_kind p (Body.Assign (entries_by g.ns ns))) c.as_slice.ensures.value
-    ∙ sym (body_so g.ns c.args.nodes.now c.args.n x c.requires.tells.resolves there p (kind.Assign c.in-Assign.numbers) c.in-Assign.is)
+    ∙ sym (body_so g.ns c.args.nodes.now c.args.n x c.requires.0.resolves there p (kind.Assign c.in-Assign.numbers) c.in-Assign.is)
 
 pub returns-in-Switch : goal.returns-in-Switch
 returns-in-Switch g c p =
     let x = c.index-nodes-n.result in
-    let there = node_at c.args.nodes.now c.args.n x c.requires.within c.index-nodes-n.is in
+    let there = node_at c.args.nodes.now c.args.n x c.requires.1 c.index-nodes-n.is in
     c.by_clock.ensures ∙ ap by_clock (c.are_arms.ensures ∙ ap (λ ns. arms_now (arms_by g.ns ns)) c.as_slice-in-Switch.ensures.value)
-    ∙ sym (body_so g.ns c.args.nodes.now c.args.n x c.requires.tells.resolves there p (kind.Switch c.in-Switch.arms) c.in-Switch.is)
+    ∙ sym (body_so g.ns c.args.nodes.now c.args.n x c.requires.0.resolves there p (kind.Switch c.in-Switch.arms) c.in-Switch.is)
 
 pub returns-in-For : goal.returns-in-For
 returns-in-For g c p =
     let x = c.index-nodes-n.result in
-    let there = node_at c.args.nodes.now c.args.n x c.requires.within c.index-nodes-n.is in
+    let there = node_at c.args.nodes.now c.args.n x c.requires.1 c.index-nodes-n.is in
     c.by_clock-in-For.ensures ∙ ap by_clock (c.is_over.ensures ∙ ap (λ cs. over_now (over_by cs c.in-For.body.over)) c.items-codes.ensures)
-    ∙ sym (body_so g.ns c.args.nodes.now c.args.n x c.requires.tells.resolves there p (kind.For c.in-For.body) c.in-For.is)
+    ∙ sym (body_so g.ns c.args.nodes.now c.args.n x c.requires.0.resolves there p (kind.For c.in-For.body) c.in-For.is)
+
+pub returns-in-Raise : goal.returns-in-Raise
+returns-in-Raise g c p =
+    let x = c.index-nodes-n.result in
+    let there = node_at c.args.nodes.now c.args.n x c.requires.1 c.index-nodes-n.is in
+    c.by_clock-in-Raise.ensures ∙ ap by_clock (c.is_clock_in.ensures ∙ ap (λ cs. template_now (shape_by cs c.in-Raise.shape)) c.items-codes.ensures)
+    ∙ sym (body_so g.ns c.args.nodes.now c.args.n x c.requires.0.resolves there p (kind.Raise c.in-Raise.shape) c.in-Raise.is)
+
+pub returns-in-Return : goal.returns-in-Return
+returns-in-Return g c p =
+    let x = c.index-nodes-n.result in
+    let there = node_at c.args.nodes.now c.args.n x c.requires.1 c.index-nodes-n.is in
+    c.by_clock-in-Return.ensures ∙ ap by_clock (c.is_clock_in-in-Return.ensures ∙ ap (λ cs. template_now (shape_by cs c.in-Return.shape)) c.items-codes.ensures)
+    ∙ sym (body_so g.ns c.args.nodes.now c.args.n x c.requires.0.resolves there p (kind.Return c.in-Return.shape) c.in-Return.is)
+
+pub returns-in_default : goal.returns-in_default
+returns-in_default g c p =
+    let x = c.index-nodes-n.result in
+    let there = node_at c.args.nodes.now c.args.n x c.requires.1 c.index-nodes-n.is in
+    let n = c.in_default in
+    sym (ap (body_kind p) (ap part_body (c.requires.0.resolves.each c.args.n x there).part ∙ default_body g.ns x.codes.items.items x.name x.next x.kind n.not-Assign n.not-Switch n.not-For n.not-Block n.not-Raise n.not-Return n.not-Call n.not-Parallel n.not-Try))
+
+pub returns-in-Block : goal.returns-in-Block
+returns-in-Block g c p =
+    let x = c.index-nodes-n.result in
+    let there = node_at c.args.nodes.now c.args.n x c.requires.1 c.index-nodes-n.is in
+    sym (body_so g.ns c.args.nodes.now c.args.n x c.requires.0.resolves there p (kind.Block c.in-Block.field-0) c.in-Block.is)

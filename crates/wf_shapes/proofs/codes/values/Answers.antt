@@ -1,4 +1,6 @@
 use Rattle.std.proofs.Common.{rules, ◌≡◌, sym, subst, map, List, Result, Err}
+use Rattle.std.specs.Prelude.{Vec}
+use Rattle.std.specs.declared.alloc.Global.{Global}
 use Rattle.wf_ast.specs.Eval.{eval_all}
 use Rattle.wf_ast.specs.Tree.{exprs}
 use Rattle.wf_eval.specs.Answers.{Answers}
@@ -11,7 +13,7 @@ use Rattle.wf_shapes.proofs.Coded.{done, next_built, step, stops}
 use Rattle.wf_shapes.proofs.codes.values.Goals as goal
 
 pub value-requires : goal.value-requires
-value-requires g c κs within = (within, (next_built c.args.codes.now c.loop-code.code-index c.code-item.result c.loop-code-test.true c.code-item.is c.loop-code.invariant.built).0)
+value-requires g c = (next_built c.args.codes.now c.loop-code.code-index c.code-item.result c.loop-code-test.true c.code-item.is c.loop-code.invariant.built).0
 
 pub loop-code-preserved : goal.loop-code-preserved
 loop-code-preserved g c = record {
@@ -25,5 +27,5 @@ returns g c = done (seen (g.K.Look.sight c.args.look.now) c.args.now) c.args.cod
 pub returns-in_err-value : goal.returns-in_err-value
 returns-in_err-value g c =
     let is : c.from_residual.result ≡ Err c.in_err-value.field-0.0 = search rules in
-    subst (λ (r : Result _ Raise). Answers _ r (eval_all (exprs (map decoded c.args.codes.now)) (seen (g.K.Look.sight c.args.look.now) c.args.now))) (sym is)
+    subst (λ (r : Result (Vec Value Global) Raise). Answers (λ vs. map plain vs.items) r (eval_all (exprs (map decoded c.args.codes.now)) (seen (g.K.Look.sight c.args.look.now) c.args.now))) (sym is)
     (stops (seen (g.K.Look.sight c.args.look.now) c.args.now) c.args.codes.now c.loop-code.code-index c.code-item.result c.loop-code.values.items c.loop-code-test.true c.code-item.is c.loop-code.invariant.values c.in_err-value.field-0.0 c.in_err-value.ensures)

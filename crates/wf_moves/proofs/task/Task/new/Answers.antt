@@ -17,7 +17,7 @@ settle-requires-clause-stands g c =
     let first = c.in_ok-push.ensures.first ∙ c.new.ensures.first in
     let os : own_of c.push.new.self ≡ own c.in_ok-layer.layer.number false ∷ [] = ap (λ ys. owned c.push.new.self.first ys) fs ∙ ap (λ k. own k false ∷ []) first in
     record {
-      fits = flow_fits g.around.spots c.args.nodes.now c.args.flow (inner c.push.new.self) c.requires.start fs;
+      fits = flow_fits g.around.spots c.args.nodes.now c.args.flow (inner c.push.new.self) c.requires.1.0 fs;
       linked = subst (λ (ys : List Own). IsLinked g.around ys c.first_layer.new.scopes) (sym os) c.in_ok-layer.ensures.linked;
     }
 
