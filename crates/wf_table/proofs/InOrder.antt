@@ -76,6 +76,7 @@ mutual
   except_alike (except x ss) a path n os = steps_alike ss (in_block ss (in_layer (x ∷ []) ss a)) (below path (codes "steps")) 0 n os
 
 flows_alike : (fs : List Flow) (n : ℕ) → map node_core (nodes fs) ≡ map spot_core (flows_spots fs n)
+unfolding nodes
 flows_alike [] n = refl
 flows_alike (f ∷ fs) n =
     joined (flow_nodes f) (nodes fs) (flow_spots f n) (flows_spots fs (n + suc (steps_size f.steps)))
