@@ -19,7 +19,7 @@ pub struct Checked {
     pub(crate) program: Program,
     pub(crate) table: Table,
     pub ghost accepted: { IsTrue (is_accepted (program_view program)) },
-    pub ghost told: { Told (spots (program_view program).flows) (node_list table) } by { Told-prop (spots (program_view program).flows) (node_list table) },
+    pub ghost told: { Told (spots (program_view program).flows) (node_list table) } by { Told-prop _ _ },
     pub ghost numbered: { IsNumbered (program_view program).flows table } by { IsNumbered-prop (program_view program).flows table },
 }
 
