@@ -132,7 +132,7 @@ do_settled ns nodes n at b len r h e = by_test (leb len at) refl
 pub do_has : (nodes : List Node) (n at : ℕ) (b : Listed) (len : ℕ) → list_at nodes n ≡ Some b → len ≡ length b.steps → leb len at ≡ false → IsBefore nodes n at
 do_has nodes n at b len h e q = (b, h, omega (arith, leb-false len at q, e))
 
-entries_long : (ns : List Spot) (xs : List ℕ) → length (entries_by ns xs) ≡ length xs
+pub entries_long : (ns : List Spot) (xs : List ℕ) → length (entries_by ns xs) ≡ length xs
 entries_long ns [] = refl
 entries_long ns (x ∷ xs) = ap suc (entries_long ns xs)
 
