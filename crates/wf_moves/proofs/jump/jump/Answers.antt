@@ -1,4 +1,4 @@
-use Rattle.std.proofs.Common.{◌≡◌, List, [], Option, ap, sym, subst, ◌∙◌, bytes_eq}
+use Rattle.std.proofs.Common.{◌≡◌, List, [], Option, ap, sym, subst, ◌∙◌, bytes_eq, codes}
 use Rattle.std.specs.Prelude.{unwrap_or}
 use Rattle.wf_frames.specs.Frames.{inner}
 use Rattle.wf_frames.specs.Owned.{beside, control_of, local_of}
