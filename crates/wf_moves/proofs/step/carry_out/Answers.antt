@@ -41,9 +41,11 @@ perform-requires-in-Some g c κs within =
       (
         c.requires.1.0,
         (
-          c.requires.1.1.0, (
-          then_fits g.ns c.args.nodes.now c.args.n x (inner c.args.frames.now) (inner c.push.new.self) there c.requires.1.1.1.0 c.in-Some.field-0 c.in-Some.is c.requires.1.1.1.1 c.in_ok-push-in-Some.ensures.pushed,
-          c.requires.1.1.1.1 ∙ ap reach (sym c.in_ok-push-in-Some.ensures.pushed)),
+          c.requires.1.1.0,
+          (
+            then_fits g.ns c.args.nodes.now c.args.n x (inner c.args.frames.now) (inner c.push.new.self) there c.requires.1.1.1.0 c.in-Some.field-0 c.in-Some.is c.requires.1.1.1.1 c.in_ok-push-in-Some.ensures.pushed,
+            c.requires.1.1.1.1 ∙ ap reach (sym c.in_ok-push-in-Some.ensures.pushed),
+          ),
         ),
       ),
     )

@@ -35,13 +35,15 @@ goes-requires-2 g c =
     let layer = c.in-Some-entered.layer in
     let old = inner c.args.frames.now in
     let owned_is = turn_owned c.args.frames.now.first c.push-3.new.self.first c.args.n layer (c.args.index + 1) c.in-Some.both.1 old (inner c.push.new.self) (inner c.push-2.new.self) (inner c.push-3.new.self)
-    c.in_ok-push.ensures.pushed c.in_ok-push-2.ensures.pushed c.in_ok-push-3.ensures.pushed (c.in_ok-push-3.ensures.first ∙ c.in_ok-push-2.ensures.first ∙ c.in_ok-push.ensures.first) in
-    (c.requires.0, record {
-      fits = turn_fits g.around.spots c.args.nodes.now c.args.n (c.args.index + 1) layer c.args.body.now c.in-Some.both.1 old (inner c.push.new.self) (inner c.push-2.new.self) (inner c.push-3.new.self) c.requires.1.1
-          c.in_ok-push.ensures.pushed c.in_ok-push-2.ensures.pushed c.in_ok-push-3.ensures.pushed c.requires.1.0.fits;
-      linked = subst (λ os. IsLinked g.around os c.enter.new.scopes) (sym owned_is)
-          (subst (λ o. IsLinked g.around (with_own o (own_of c.args.frames.now)) c.enter.new.scopes) c.in-Some-entered.is c.in_ok-entered.ensures.linked);
-    })
+    c.in_ok-push.ensures.pushed c.in_ok-push-2.ensures.pushed c.in_ok-push-3.ensures.pushed (c.in_ok-push-3.ensures.first ∙ c.in_ok-push-2.ensures.first ∙ c.in_ok-push.ensures.first) in (
+      c.requires.0,
+      record {
+        fits = turn_fits g.around.spots c.args.nodes.now c.args.n (c.args.index + 1) layer c.args.body.now c.in-Some.both.1 old (inner c.push.new.self) (inner c.push-2.new.self) (inner c.push-3.new.self) c.requires.1.1
+            c.in_ok-push.ensures.pushed c.in_ok-push-2.ensures.pushed c.in_ok-push-3.ensures.pushed c.requires.1.0.fits;
+        linked = subst (λ os. IsLinked g.around os c.enter.new.scopes) (sym owned_is)
+            (subst (λ o. IsLinked g.around (with_own o (own_of c.args.frames.now)) c.enter.new.scopes) c.in-Some-entered.is c.in_ok-entered.ensures.linked);
+      },
+    )
 
 pub returns-clause-moved : goal.returns-clause-moved
 returns-clause-moved g c s d agrees =

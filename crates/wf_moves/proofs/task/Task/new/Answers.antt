@@ -15,11 +15,13 @@ pub settle-requires : goal.settle-requires
 settle-requires g c =
     let fs = c.in_ok-push.ensures.pushed ∙ ap (λ ys. frame.Do c.args.flow 0 ∷ ys) c.new-frames.ensures.none in
     let first = c.in_ok-push.ensures.first ∙ c.new-frames.ensures.first in
-    let os : own_of c.push.new.self ≡ own c.in_ok-layer.layer.number false ∷ [] = ap (λ ys. owned c.push.new.self.first ys) fs ∙ ap (λ k. own k false ∷ []) first in
-    (c.requires.0, record {
-      fits = flow_fits g.around.spots c.args.nodes.now c.args.flow (inner c.push.new.self) c.requires.1.0 fs;
-      linked = subst (λ (ys : List Own). IsLinked g.around ys c.first_layer.new.scopes) (sym os) c.in_ok-layer.ensures.linked;
-    })
+    let os : own_of c.push.new.self ≡ own c.in_ok-layer.layer.number false ∷ [] = ap (λ ys. owned c.push.new.self.first ys) fs ∙ ap (λ k. own k false ∷ []) first in (
+      c.requires.0,
+      record {
+        fits = flow_fits g.around.spots c.args.nodes.now c.args.flow (inner c.push.new.self) c.requires.1.0 fs;
+        linked = subst (λ (ys : List Own). IsLinked g.around ys c.first_layer.new.scopes) (sym os) c.in_ok-layer.ensures.linked;
+      },
+    )
 
 pub returns-clause-begins : goal.returns-clause-begins
 returns-clause-begins g c =
