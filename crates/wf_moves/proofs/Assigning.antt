@@ -1,5 +1,5 @@
 -- Assignments.
-use Rattle.std.proofs.Common.{◌≡◌, inl, inr, ℕ, Bool, true, false, List, [], ◌∷◌, map, take, min, length, Option, Some, None, Ok, Err, refl, sym, ap, subst, ◌∙◌, zero, suc, arith}
+use Rattle.std.proofs.Common.{◌≡◌, inl, inr, ℕ, Bool, true, false, List, [], ◌∷◌, map, take, Option, Some, None, Ok, Err, refl, sym, ap, subst, ◌∙◌, zero, suc, arith}
 use Rattle.std.specs.Prelude.{◌⊎◌, ◌&&◌, if◌then◌else◌, nat_le, Vec}
 use Rattle.std.specs.declared.alloc.Global.{Global}
 use Rattle.std.proofs.lemmas.Bool.{and_parts}
@@ -29,6 +29,7 @@ use Rattle.wf_nodes.specs.Shapes.{Compiled}
 use Rattle.wf_value.specs.declared.Raise.{Raise}
 use Rattle.wf_value.specs.declared.Raise.TheVariants.{Error, OutOfMemory}
 use Rattle.wf_value.specs.declared.Tag.{Tag}
+use Rattle.wf_value.specs.declared.Tag.TheVariants.{ResourceLimitError}
 use Rattle.wf_value.specs.declared.Value.{Value}
 
 -- ## Whatever the control
@@ -41,7 +42,7 @@ module _ (s : Scene) (x : Text) (c : List Item) where
   within_same : (v : Data) (l : Local) → within_limits s v (record l { control = c }) ≡ with_control c (within_limits s v l)
   within_same v l = by (nat_le (total s l) (limits s.facts.rules).variables && nat_le (depth v) 100)
     where
-      by : (b : Bool) → (if b then Done (record l { control = c }) else Refused _) ≡ with_control c (if b then Done l else Refused _)
+      by : (b : Bool) → (if b then Done (record l { control = c }) else Refused ResourceLimitError) ≡ with_control c (if b then Done l else Refused ResourceLimitError)
       by true = refl
       by false = refl
 
@@ -81,32 +82,26 @@ module _ (s : Scene) (x : Text) (ks : List Data) (v : Data) (k c : List Item) (h
           (subst (λ (d : Data). IsMove (raises s k (standing c h) d) w l) p (subst (λ (y : Held). IsMove (raises s k (standing c y) (plain e)) w l) r.0 m))
 
 -- ## An entry
-both_on : (s : Scene) (k : List Item) (l : Local) (r : Answer Data) (q : Answer (List Data)) (f : Data → List Data → Moved) → on s k l r (λ d. on s k l q (f d)) ≡ on s k l (r >>= λ d. q >>= λ ds. Ok (d, ds)) (λ p. f p.0 p.1)
+both_on : (s : Scene) (k : List Item) (l : Local) (r : Answer Data) (q : Answer (List Data)) (f : Data → List Data → Moved) → on s k l r (λ d. on s k l q (f d)) ≡ on {A = Data × List Data} s k l (r >>= λ d. q >>= λ ds. Ok (d, ds)) (λ p. f p.0 p.1)
 both_on s k l (Err t) q f = refl
 both_on s k l (Ok d) (Err t) f = refl
 both_on s k l (Ok d) (Ok ds) f = refl
 
 module _ (s : Scene) (e : Entry) (k : List Item) (l : Local) (v : View) (same : view s l ≡ v) where
-  assigns_by : assigns s e k l ≡ on s k l (entry_values e v) (λ p. on_assigned s k l (assign s e.target.name p.1 p.0 l))
+  assigns_by : assigns s e k l ≡ on {A = Data × List Data} s k l (entry_values e v) (λ p. on_assigned s k l (assign s e.target.name p.1 p.0 l))
   assigns_by =
       ap (λ y. on s k l (fill e.value y) (λ d. on s k l (eval_all e.target.places y) (λ ks. on_assigned s k l (assign s e.target.name ks d l)))) same
       ∙ both_on s k l (fill e.value v) (eval_all e.target.places v) (λ d ks. on_assigned s k l (assign s e.target.name ks d l))
 
   pub entry_given : (a : declared.Assigned) (w : Went) (m : Local) → Answers values_of (Ok a) (entry_values e v) → IsMove (on_assigned s k l (assign s e.target.name (values_of a).1 (values_of a).0 l)) w m → IsMove (assigns s e k l) w m
   entry_given a w m g h =
-      subst (λ y. IsMove y w m) (sym (assigns_by ∙ ap (λ r. on s k l r (λ p. on_assigned s k l (assign s e.target.name p.1 p.0 l))) (gave values_of a (entry_values e v) g))) h
+      subst (λ y. IsMove y w m) (sym (assigns_by ∙ ap (λ r. on {A = Data × List Data} s k l r (λ p. on_assigned s k l (assign s e.target.name p.1 p.0 l))) (gave values_of a (entry_values e v) g))) h
 
   pub entry_failed : (t : Tag) (w : Went) (m : Local) → Answers values_of (Err (Error t)) (entry_values e v) → IsMove (raises s k l (error_map t)) w m → IsMove (assigns s e k l) w m
   entry_failed t w m g h =
-      subst (λ y. IsMove y w m) (sym (assigns_by ∙ ap (λ r. on s k l r (λ p. on_assigned s k l (assign s e.target.name p.1 p.0 l))) (failed values_of t (entry_values e v) g))) h
+      subst (λ y. IsMove y w m) (sym (assigns_by ∙ ap (λ r. on {A = Data × List Data} s k l r (λ p. on_assigned s k l (assign s e.target.name p.1 p.0 l))) (failed values_of t (entry_values e v) g))) h
 
 -- ## The first codes
-pub take_min : {A : Type 0} (n : ℕ) (xs : List A) → take (min (length xs) n) xs ≡ take n xs
-take_min zero [] = refl
-take_min zero (x ∷ xs) = refl
-take_min (suc n) [] = refl
-take_min (suc n) (x ∷ xs) = ap (λ ys. x ∷ ys) (take_min n xs)
-
 pub take_built : (n : ℕ) (cs : Compiled) → are_built cs ≡ true → are_built (take n cs) ≡ true
 take_built zero [] b = refl
 take_built zero (c ∷ cs) b = refl

@@ -3,7 +3,7 @@ use Rattle.std.proofs.Common.{◌≡◌, ℕ, ◌<◌, ◌≤◌, Bool, true, fa
 use Rattle.std.proofs.lemmas.Bool.{eqb-true, eq-eqb}
 use Rattle.std.proofs.lemmas.Option.{slice_get-map, slice_get_within}
 use mathlib.Core.Logic.{inl, inr}
-use Rattle.std.specs.Prelude.{◌⊎◌, suc, Option, slice_get, nat_eq, if◌then◌else◌, is_ok, is_some, OnOk, Result, Ok, Err}
+use Rattle.std.specs.Prelude.{◌⊎◌, suc, Option, slice_get, nat_eq, if◌then◌else◌, bytes_eq, codes, is_ok, is_some, OnOk, Result, Ok, Err}
 use Rattle.wf_ast.specs.Accept.{BreakOutsideLoop}
 use Rattle.wf_frames.specs.Fits.{Fits, FrameFits, list_at, outside_at, reach, views}
 use Rattle.wf_frames.specs.Frames.{control, item, topped}
@@ -12,7 +12,7 @@ use Rattle.wf_frames.specs.Turns.{Leaves, dropped, left_by}
 use Rattle.wf_frames.specs.declared.frames.Frame.{Frame}
 use Rattle.wf_frames.specs.declared.frames.Frame.TheVariants as frame
 use Rattle.wf_model.specs.Config.{Item, Do}
-use Rattle.wf_model.specs.Leave.{continues, breaks, jumps_to}
+use Rattle.wf_model.specs.Leave.{continues, breaks, jumps, jumps_to, returns}
 use Rattle.wf_model.specs.Local.{Local, Scene, Root, Main, Branch, Iteration, Breaks, goes, leave}
 use Rattle.wf_model.specs.Unwind.{NotFound, Stands, cut_at, to_loop, to_step}
 use Rattle.wf_moves.proofs.Leaving.{stands_on, same_outside}
@@ -21,11 +21,12 @@ use Rattle.wf_moves.specs.Moved.{FoundIn, IsLoopTop, IsMove, if_at, is_loop, loo
 use Rattle.wf_moves.specs.declared.finish.Went.{Went}
 use Rattle.wf_moves.specs.declared.finish.Went.TheVariants as went
 use Rattle.wf_nodes.specs.Kinds.{Listed, node_view}
-use Rattle.wf_nodes.specs.Spots.{Spot, part_at, part_list}
+use Rattle.wf_nodes.specs.Spots.{Spot, owners_at, part_at, part_list}
 use Rattle.wf_nodes.specs.Table as table
-use Rattle.wf_nodes.specs.Table.{Leads, Resolves, view_list}
+use Rattle.wf_nodes.specs.Table.{Leads, NextLeads, Resolves, view_list}
 use Rattle.wf_nodes.specs.declared.node.Jump.{Jump}
 use Rattle.wf_nodes.specs.declared.node.Node.{Node}
+use Rattle.wf_value.specs.Data.{null}
 use Rattle.wf_value.specs.Pairs.{Text}
 
 -- the list of an owner, by the views of all nodes
@@ -244,3 +245,31 @@ module _ (ns : List Spot) (nodes : List Node) (x : Text) where
 
   pub breaks_so : (s : Scene) (fs : List Frame) (l m : Local) (w : Went) → Leads ns (views nodes) x None (reach fs) → IsMove (jumps_to s x (to_step x (control ns fs) l)) w m
   breaks_so s fs l m w h = subst (λ f. IsMove (jumps_to s x f) w m) (sym (nowhere fs l h)) tt
+
+-- ## By the text of a `next`
+module _ (s : Scene) (x : Text) (k : List Item) (l : Local) where
+  pub jumps_end : bytes_eq x (codes "end") ≡ true → jumps s x k l ≡ returns s null k l
+  jumps_end e =
+      ap (λ (b : Bool). if b then returns s null k l else (if bytes_eq x (codes "continue") then continues s l (to_loop k l) else (if bytes_eq x (codes "break") then breaks (to_loop k l) else jumps_to s x (to_step x k l)))) e
+
+  past_end : bytes_eq x (codes "end") ≡ false → jumps s x k l ≡ (if bytes_eq x (codes "continue") then continues s l (to_loop k l) else (if bytes_eq x (codes "break") then breaks (to_loop k l) else jumps_to s x (to_step x k l)))
+  past_end e =
+      ap (λ (b : Bool). if b then returns s null k l else (if bytes_eq x (codes "continue") then continues s l (to_loop k l) else (if bytes_eq x (codes "break") then breaks (to_loop k l) else jumps_to s x (to_step x k l)))) e
+
+  pub jumps_continue : bytes_eq x (codes "end") ≡ false → bytes_eq x (codes "continue") ≡ true → jumps s x k l ≡ continues s l (to_loop k l)
+  jumps_continue e f = past_end e ∙ ap (λ (b : Bool). if b then continues s l (to_loop k l) else (if bytes_eq x (codes "break") then breaks (to_loop k l) else jumps_to s x (to_step x k l))) f
+
+  past_continue : bytes_eq x (codes "end") ≡ false → bytes_eq x (codes "continue") ≡ false → jumps s x k l ≡ (if bytes_eq x (codes "break") then breaks (to_loop k l) else jumps_to s x (to_step x k l))
+  past_continue e f = past_end e ∙ ap (λ (b : Bool). if b then continues s l (to_loop k l) else (if bytes_eq x (codes "break") then breaks (to_loop k l) else jumps_to s x (to_step x k l))) f
+
+  pub jumps_break : bytes_eq x (codes "end") ≡ false → bytes_eq x (codes "continue") ≡ false → bytes_eq x (codes "break") ≡ true → jumps s x k l ≡ breaks (to_loop k l)
+  jumps_break e f g = past_continue e f ∙ ap (λ (b : Bool). if b then breaks (to_loop k l) else jumps_to s x (to_step x k l)) g
+
+  pub jumps_step : bytes_eq x (codes "end") ≡ false → bytes_eq x (codes "continue") ≡ false → bytes_eq x (codes "break") ≡ false → jumps s x k l ≡ jumps_to s x (to_step x k l)
+  jumps_step e f g = past_continue e f ∙ ap (λ (b : Bool). if b then breaks (to_loop k l) else jumps_to s x (to_step x k l)) g
+
+-- where the node's jump leads, from the frames that reach what the node stands in
+pub node_leads : (ns : List Spot) (nodes : List Node) (n : ℕ) (x : Node) (y : Text) (fs : List Frame) → Resolves ns nodes → slice_get nodes n ≡ Some x → x.next ≡ Some y → owners_at ns n ≡ reach fs → Leads ns (views nodes) y x.jump (reach fs)
+node_leads ns nodes n x y fs r at next inside =
+    let there = subst (λ o. NextLeads ns (views nodes) o x.jump (owners_at ns n)) next (r.jumps n x at) in
+    subst (λ (os : List ℕ). Leads ns (views nodes) y x.jump os) inside there

@@ -110,6 +110,14 @@ entries_stand ns n at h k l =
     let r = drop_more (body_entries (part_body (part_at ns n))) at h in
     subst (λ es. settle (Entries es ∷ k) l ≡ record l { control = Entries es ∷ k }) (sym r.is) refl
 
+pub lone_settled : (ns : List Spot) (n : ℕ) (done : Bool) → Settled ns done (frame.Lone n done)
+lone_settled ns n true k l = refl
+lone_settled ns n false k l = refl
+
+pub lone_has : (nodes : List Node) (n : ℕ) (done : Bool) → done ≡ false → HasMove nodes (frame.Lone n done)
+lone_has nodes n true q = absurd (cc q)
+lone_has nodes n false q = tt
+
 -- ## By a node
 pub do_settled : (ns : List Spot) (nodes : List Node) (n at : ℕ) (b : Listed) (len : ℕ) → Resolves ns nodes → list_at nodes n ≡ Some b → len ≡ length b.steps → Settled ns (leb len at) (frame.Do n at)
 do_settled ns nodes n at b len r h e = by_test (leb len at) refl
@@ -124,7 +132,7 @@ do_settled ns nodes n at b len r h e = by_test (leb len at) refl
 pub do_has : (nodes : List Node) (n at : ℕ) (b : Listed) (len : ℕ) → list_at nodes n ≡ Some b → len ≡ length b.steps → leb len at ≡ false → IsBefore nodes n at
 do_has nodes n at b len h e q = (b, h, omega (arith, leb-false len at q, e))
 
-entries_long : (ns : List Spot) (xs : List ℕ) → length (entries_by ns xs) ≡ length xs
+pub entries_long : (ns : List Spot) (xs : List ℕ) → length (entries_by ns xs) ≡ length xs
 entries_long ns [] = refl
 entries_long ns (x ∷ xs) = ap suc (entries_long ns xs)
 

@@ -72,11 +72,11 @@ only_flow cs (kind.Entry x) ps b e h = cc e
 only_flow cs (kind.Branch d) ps b e h = cc e
 
 -- ## The layer
-layer_with : List (Text × Data) → Layer
+abbrev layer_with : List (Text × Data) → Layer
 layer_with ps = record { number = 0; outer = None; depth = 0; vars = ps }
 
 -- the argument's variables
-arguments : List Param → Data → List (Text × Data)
+abbrev arguments : List Param → Data → List (Text × Data)
 arguments [] v = []
 arguments (x ∷ xs) v = with_value x.name v []
 
@@ -119,14 +119,14 @@ module _ (a : Around) (x y : Scopes) (n : ℕ) (ps : List Param) (v : Data) (f :
     sum = subst (λ ls. SumIs a (own n false ∷ []) ls) (sym layers) one_sum;
   }
     where
+      shift : (p k o : ℕ) → k ≡ 0 → o ≡ 0 → (p + 0) + k + o ≡ p + 0
+      shift p k o e h = omega (arith, e, h)
+
       one_sum : SumIs a (own n false ∷ []) (layer_with (arguments ps v) ∷ [])
       one_sum =
           let ls = layer_with (arguments ps v) ∷ [] in
           let none : outers_total (far_layers a.keys ls) ≡ 0 = ap (λ (ks : List Far). outers_total (far_layers ks ls)) f.keys in
           subst (λ (m : ℕ). SumIs a (own m false ∷ []) ls) (sym number) (shift (pairs_size (pairs_of (arguments ps v))) (outers_total (far_layers a.keys ls)) a.others none f.others)
-
-      shift : (p k o : ℕ) → k ≡ 0 → o ≡ 0 → (p + 0) + k + o ≡ p + 0
-      shift p k o e h = omega (arith, e, h)
 
 -- ## The steps
 pub begins_so : (a : Around) (n number : ℕ) (fs : List Frame) (os : List Own) (ls : List Layer) (qs ps : List Param) (v : Data) (l : Local) → fs ≡ frame.Do n 0 ∷ [] → os ≡ own number false ∷ [] → qs ≡ ps

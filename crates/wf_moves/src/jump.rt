@@ -51,7 +51,8 @@ fn target(frame: &Frame, nodes: &[Node], keep: u32) -> Option<u32>
                 None
             }
         }
-        _ => None,
+        Frame::Lone(_, _) | Frame::Entries(_, _) | Frame::Then(_) => None,
+        Frame::Loop(_, _, _) | Frame::Mark(_) => None,
     }
 }
 
@@ -105,7 +106,8 @@ fn is_loop(frame: &Frame) -> bool
 {
     match frame {
         Frame::Loop(_, _, _) => true,
-        _ => false,
+        Frame::Do(_, _) | Frame::Lone(_, _) | Frame::Entries(_, _) => false,
+        Frame::Then(_) | Frame::Mark(_) => false,
     }
 }
 

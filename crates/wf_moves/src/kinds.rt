@@ -1,5 +1,5 @@
 // Which event a move wants.
-ghost use Rattle.std.specs.Prelude.{◌≡◌, ◌<◌, ◌∷◌, List, length};
+ghost use Rattle.std.specs.Prelude.{◌≡◌, ◌<◌, ◌∷◌, ℕ, List, length, slice_get};
 ghost use Rattle.wf_ast.specs.Tree.{Body, Program};
 ghost use Rattle.wf_frames.specs.Fits.{HasNode};
 ghost use Rattle.wf_frames.specs.Frames.{item};
@@ -7,7 +7,6 @@ ghost use Rattle.wf_model.specs.Config.{Item};
 ghost use Rattle.wf_model.specs.Kinds.{arms_now, body_kind, by_clock, entry_now, next_kind, over_now, template_now};
 ghost use Rattle.wf_moves.specs.Built.{Tells};
 ghost use Rattle.wf_moves.specs.Kinds.{kind_view};
-ghost use Rattle.wf_moves.specs.Steps.{Within};
 ghost use Rattle.wf_nodes.specs.Kinds.{entry_by, over_by};
 ghost use Rattle.wf_nodes.specs.Shapes.{shape_by};
 ghost use Rattle.wf_nodes.specs.Spots.{Spot, arms_by, entries_by, part_at, part_body, part_condition, part_entry};
@@ -81,10 +80,10 @@ fn is_condition(nodes: &[Node], n: u32) -> bool
 
 // Whether the condition of one of some arms does.
 fn are_arms(nodes: &[Node], arms: &[u32]) -> bool
-    ghost at: { Within }
-    requires tells { Tells at.spots nodes.now }
-    requires arms { ArmsStandIn at.spots (length nodes.now) at.owners arms.now }
-    ensures { result ≡ arms_now (arms_by at.spots arms.now) }
+    ghost ns: { List Spot }
+    requires tells { Tells ns nodes.now }
+    requires arms { (owners : List ℕ) × ArmsStandIn ns (length nodes.now) owners arms.now }
+    ensures { result ≡ arms_now (arms_by ns arms.now) }
 {
     for arm in arms {
         if is_condition(nodes, *arm) {
@@ -128,6 +127,17 @@ fn node_kind(nodes: &[Node], n: u32) -> Kind
     }
 }
 
+// The number at a place among others, if there is one.
+fn number_at(numbers: &[u32], at: usize) -> Option<u32>
+    ensures { result ≡ slice_get numbers.now at }
+{
+    if at < numbers.len() {
+        Some(numbers[at])
+    } else {
+        None
+    }
+}
+
 /// Of the innermost frame.
 pub(crate) fn frame_kind(nodes: &[Node], frame: &Frame) -> Kind
     ghost ns: { List Spot }
@@ -136,13 +146,13 @@ pub(crate) fn frame_kind(nodes: &[Node], frame: &Frame) -> Kind
     ensures { (p : Program) (k : List Item) → kind_view result ≡ next_kind p (item ns frame.now ∷ k) }
 {
     match frame {
-        Frame::Do(list, at) => match block(nodes, *list).steps.get(*at) {
-            Some(n) => node_kind(nodes, *n),
+        Frame::Do(list, at) => match number_at(block(nodes, *list).steps.as_slice(), *at) {
+            Some(n) => node_kind(nodes, n),
             None => Kind::Plain,
         },
         Frame::Lone(n, false) => node_kind(nodes, *n),
-        Frame::Entries(n, at) => match entries(nodes, *n).get(*at) {
-            Some(entry) => by_clock(is_entry_at(nodes, *entry)),
+        Frame::Entries(n, at) => match number_at(entries(nodes, *n), *at) {
+            Some(entry) => by_clock(is_entry_at(nodes, entry)),
             None => Kind::Plain,
         },
         _ => Kind::Plain,

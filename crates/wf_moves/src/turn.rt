@@ -1,5 +1,5 @@
 // The turns of a loop.
-ghost use Rattle.std.specs.Prelude.{◌≡◌, ◌∷◌, List as Seq, IfOk, OnOk, option_map};
+ghost use Rattle.std.specs.Prelude.{◌≡◌, ◌+ℤ◌, ◌∷◌, [], List as Seq, IfOk, OnOk, if◌then◌else◌, int_lt, option_map, pos};
 ghost use Rattle.wf_frames.specs.Fits.{Fits, IsLoop};
 ghost use Rattle.wf_frames.specs.Frames.{control, inner, left_view};
 ghost use Rattle.wf_frames.specs.Owned.{Around, beside, local_of};
@@ -7,7 +7,7 @@ ghost use Rattle.wf_frames.specs.Stands.{Stands};
 ghost use Rattle.wf_frames.specs.Turns.{Agrees};
 ghost use Rattle.wf_frames.specs.declared.frames.Frame.TheVariants as frame;
 ghost use Rattle.wf_frames.specs.declared.frames.Left.TheVariants as left;
-ghost use Rattle.wf_model.specs.Config.{Item, next_of};
+ghost use Rattle.wf_model.specs.Config.{Item, OfList, OfRange, next_of};
 ghost use Rattle.wf_model.specs.Local.{Scene};
 ghost use Rattle.wf_model.specs.Move.{moves};
 ghost use Rattle.wf_moves.specs.Built.{Tells};
@@ -32,14 +32,18 @@ fn next_of(alloc: Global, left: Left) -> Result<Option<(Value, Left)>, OutOfMemo
     match left {
         Left::Nothing => Ok(None),
         Left::Items(list, at) => next_item(alloc, list, at),
-        Left::Range(first, last) => {
-            let rest = if first < last {
-                Left::Range(first + 1, last)
-            } else {
-                Left::Nothing
-            };
-            Ok(Some((Value::Int(first), rest)))
-        }
+        Left::Range(first, last) => Ok(Some((Value::Int(first), behind(first, last)))),
+    }
+}
+
+// What a range has left behind its first number.
+fn behind(first: i64, last: i64) -> Left
+    ensures { left_view result ≡ (if int_lt first last then OfRange (first +ℤ pos 1) last else OfList []) }
+{
+    if first < last {
+        Left::Range(first + 1, last)
+    } else {
+        Left::Nothing
     }
 }
 

@@ -27,9 +27,11 @@ carry_out-requires g c κs within =
         c.requires.1.0,
         (
           subst (λ (m : ℕ). m < length c.args.nodes.now) (sym is) (step_within g.ns c.args.nodes.now c.args.list c.args.at b c.requires.1.0.resolves c.block.ensures lt),
-          step_fits g.ns c.args.nodes.now c.args.list c.args.at b (inner c.args.frames.now) (inner c.push.new.self) c.block.ensures lt c.in_ok-push.ensures.pushed fits,
-          subst (λ (m : ℕ). owners_at g.ns m ≡ reach (inner c.push.new.self)) (sym is)
-              (step_inside g.ns c.args.nodes.now c.args.list c.args.at b (inner c.args.frames.now) c.requires.1.0.resolves c.block.ensures lt fits.0.1 ∙ ap reach (sym c.in_ok-push.ensures.pushed)),
+          (
+            step_fits g.ns c.args.nodes.now c.args.list c.args.at b (inner c.args.frames.now) (inner c.push.new.self) c.block.ensures lt c.in_ok-push.ensures.pushed fits,
+            subst (λ (m : ℕ). owners_at g.ns m ≡ reach (inner c.push.new.self)) (sym is)
+                (step_inside g.ns c.args.nodes.now c.args.list c.args.at b (inner c.args.frames.now) c.requires.1.0.resolves c.block.ensures lt fits.0.1 ∙ ap reach (sym c.in_ok-push.ensures.pushed)),
+          ),
         ),
       ),
     )

@@ -1,5 +1,4 @@
-use Rattle.std.proofs.Common.{◌<◌, ℕ, List, length, get_or, sym, ap, subst, arith}
-use Rattle.std.proofs.lemmas.List.{get_or_read}
+use Rattle.std.proofs.Common.{◌<◌, ℕ, List, length, get_or, refl, sym, ap, subst}
 use Rattle.std.specs.Prelude.{is_some}
 use Rattle.wf_frames.specs.Fits.{Fits}
 use Rattle.wf_frames.specs.Frames.{inner}
@@ -15,8 +14,8 @@ pub returns-clause-moves : goal.returns-clause-moves
 returns-clause-moves g c v =
     let e = same_entries c.args.nodes.now c.args.n c.entries.result.now c.requires.1.0.0 c.entries.ensures c.requires.1.0.1 in
     let lt = subst (λ (d : List ℕ). c.args.at < length d) (sym e) c.requires.1.0.2 in
-    entry_moves g.ns c.args.nodes.now c.args.n c.args.at c.index-entry.result.now c.entries.result.now v (inner c.args.frames.now) (inner c.push.new.self) c.requires.0.resolves c.entries.ensures lt
-    (sym (get_or_read c.entries.result.now _ _ lt c.index-entry.ensures 0)) c.in_ok-push.ensures.pushed
+    entry_moves g.ns c.args.nodes.now c.args.n c.args.at (get_or c.entries.result.now c.args.at 0) c.entries.result.now v (inner c.args.frames.now) (inner c.push.new.self) c.requires.0.resolves c.entries.ensures lt
+    refl c.in_ok-push.ensures.pushed
 
 pub returns-clause-fits : goal.returns-clause-fits
 returns-clause-fits g c =
@@ -29,5 +28,4 @@ returns-clause-ready g c =
     let e = same_entries c.args.nodes.now c.args.n c.entries.result.now c.requires.1.0.0 c.entries.ensures c.requires.1.0.1 in
     let lt = subst (λ (d : List ℕ). c.args.at < length d) (sym e) c.requires.1.0.2 in
     let s = seen_entries c.args.nodes.now c.args.n c.entries.result.now c.entries.ensures in
-    subst (λ (m : ℕ). m < length c.args.nodes.now) (sym (get_or_read c.entries.result.now _ _ lt c.index-entry.ensures 0))
     (entry_below g.ns c.args.nodes.now c.args.n c.args.at c.entries.result.now s.node c.requires.0.resolves s.at c.entries.ensures lt)

@@ -54,5 +54,5 @@ returns-in-Then-clause-ready g c =
     let fits = subst (λ f. Fits g.ns c.args.nodes.now (f ∷ inner c.args.frames.now)) c.in-Then.is c.requires.1.1.1 in
     record { within = fits.0.0.0; next = fits.0.0.1; inside = fits.0.1 }
 
-pub unreachable : goal.unreachable
-unreachable g c = some_step c.args.nodes.now c.args.frame c.requires.1.1.0 c.in_default.not-Do c.in_default.not-Lone c.in_default.not-Entries c.in_default.not-Then
+pub unreachable-requires : goal.unreachable-requires
+unreachable-requires g c = some_step c.args.nodes.now c.args.frame c.requires.1.1.0 c.in_default.not-Do c.in_default.not-Lone c.in_default.not-Entries c.in_default.not-Then

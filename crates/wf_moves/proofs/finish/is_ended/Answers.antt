@@ -1,9 +1,9 @@
-use Rattle.std.proofs.Common.{◌≡◌, false, sym, subst, ◌∙◌, arith, ap}
+use Rattle.std.proofs.Common.{◌≡◌, false, length, refl, sym, subst, ◌∙◌, arith, ap}
 use Rattle.std.proofs.Math.Dec.{leb}
 use Rattle.std.specs.Prelude.{is_some}
 use Rattle.wf_frames.specs.Fits.{HasNode}
 use Rattle.wf_frames.specs.declared.frames.Frame.TheVariants as frame
-use Rattle.wf_moves.proofs.Leaving.{do_has, do_settled, entries_have, entries_settled, has_entries, has_list}
+use Rattle.wf_moves.proofs.Leaving.{do_has, do_settled, entries_have, entries_settled, has_entries, has_list, lone_has, lone_settled}
 use Rattle.wf_moves.specs.Moved.{HasMove, Settled}
 use Rattle.wf_nodes.specs.Kinds.{block_view}
 use Rattle.wf_moves.proofs.finish.is_ended.Goals as goal
@@ -26,10 +26,16 @@ returns-in-Do-clause-moves g c q =
 
 pub returns-in-Entries-clause-settled : goal.returns-in-Entries-clause-settled
 returns-in-Entries-clause-settled g c =
-    subst (λ f. Settled g.ns (leb c.len-in-Entries.result c.in-Entries.at) f) (sym c.in-Entries.is)
-    (entries_settled g.ns c.args.nodes.now c.in-Entries.n c.in-Entries.at c.entries.result.now c.len-in-Entries.result c.requires.0.resolves c.entries.ensures c.len-in-Entries.ensures)
+    subst (λ f. Settled g.ns (leb (length c.entries.result.now) c.in-Entries.at) f) (sym c.in-Entries.is)
+    (entries_settled g.ns c.args.nodes.now c.in-Entries.n c.in-Entries.at c.entries.result.now (length c.entries.result.now) c.requires.0.resolves c.entries.ensures refl)
 
 pub returns-in-Entries-clause-moves : goal.returns-in-Entries-clause-moves
 returns-in-Entries-clause-moves g c q =
     subst (HasMove c.args.nodes.now) (sym c.in-Entries.is)
-    (entries_have c.args.nodes.now c.in-Entries.n c.in-Entries.at c.entries.result.now c.len-in-Entries.result c.entries.ensures c.len-in-Entries.ensures q)
+    (entries_have c.args.nodes.now c.in-Entries.n c.in-Entries.at c.entries.result.now (length c.entries.result.now) c.entries.ensures refl q)
+
+pub returns-in-Lone-clause-settled : goal.returns-in-Lone-clause-settled
+returns-in-Lone-clause-settled g c = subst (λ f. Settled g.ns c.in-Lone.done f) (sym c.in-Lone.is) (lone_settled g.ns c.in-Lone.field-0 c.in-Lone.done)
+
+pub returns-in-Lone-clause-moves : goal.returns-in-Lone-clause-moves
+returns-in-Lone-clause-moves g c q = subst (HasMove c.args.nodes.now) (sym c.in-Lone.is) (lone_has c.args.nodes.now c.in-Lone.field-0 c.in-Lone.done q)

@@ -5,8 +5,8 @@ use Rattle.wf_moves.proofs.Leaving.{fits_after, none_settled, settles_here, sett
 use Rattle.wf_moves.specs.Moved.{Settled}
 use Rattle.wf_moves.proofs.finish.settle.Goals as goal
 
-pub is_ended-requires-clause-node : goal.is_ended-requires-clause-node
-is_ended-requires-clause-node g c = top_node g.around.spots c.args.nodes.now c.in-Some.frame.now (inner c.loop-frame.frames) c.in-Some.ensures c.loop-frame.invariant.stands.fits
+pub is_ended-requires : goal.is_ended-requires
+is_ended-requires g c = (c.requires.0, top_node g.around.spots c.args.nodes.now c.in-Some.frame.now (inner c.loop-frame.frames) c.in-Some.ensures c.loop-frame.invariant.stands.fits)
 
 pub returns-then-not-is_ended-clause-settled : goal.returns-then-not-is_ended-clause-settled
 returns-then-not-is_ended-clause-settled g c = top_settled c.args.nodes.now c.in-Some.frame.now (inner c.loop-frame.frames) c.in-Some.ensures (c.is_ended.ensures.moves c.if-not-is_ended.true)

@@ -7,12 +7,15 @@ use Rattle.wf_moves.proofs.Leaving.{fits_after}
 use Rattle.wf_moves.specs.Moved.{IsMove}
 use Rattle.wf_moves.proofs.jump.end_loop.Goals as goal
 
-pub goes-requires-clause-stands : goal.goes-requires-clause-stands
-goes-requires-clause-stands g c = record {
-  fits = fits_after g.around.spots c.args.nodes.now c.leave.result (inner c.leave_to_loop.new.frames) (inner c.leave.new.frames) (held_by g.around c.leave_to_loop.new.frames c.leave_to_loop.new.scopes) (held_by g.around c.leave.new.frames c.leave.new.scopes) c.leave.ensures.left
-      (c.leave_to_loop.ensures.fits c.args.nodes.now c.requires.1.fits);
-  linked = c.leave.ensures.linked;
-}
+pub goes-requires : goal.goes-requires
+goes-requires g c = (
+  c.requires.0,
+  record {
+    fits = fits_after g.around.spots c.args.nodes.now c.leave.result (inner c.leave_to_loop.new.frames) (inner c.leave.new.frames) (held_by g.around c.leave_to_loop.new.frames c.leave_to_loop.new.scopes) (held_by g.around c.leave.new.frames c.leave.new.scopes) c.leave.ensures.left
+        (c.leave_to_loop.ensures.fits c.args.nodes.now c.requires.1.fits);
+    linked = c.leave.ensures.linked;
+  },
+)
 
 pub returns-clause-moved : goal.returns-clause-moved
 returns-clause-moved g c d =

@@ -6,8 +6,8 @@ use Rattle.wf_moves.proofs.Jumps.{continued}
 use Rattle.wf_moves.specs.Moved.{IsMove}
 use Rattle.wf_moves.proofs.jump.go_on_loop.Goals as goal
 
-pub goes-requires-clause-stands : goal.goes-requires-clause-stands
-goes-requires-clause-stands g c = record { fits = c.leave_to_loop.ensures.fits c.args.nodes.now c.requires.1.fits; linked = c.leave_to_loop.ensures.linked }
+pub goes-requires : goal.goes-requires
+goes-requires g c = (c.requires.0, record { fits = c.leave_to_loop.ensures.fits c.args.nodes.now c.requires.1.fits; linked = c.leave_to_loop.ensures.linked })
 
 pub returns-clause-moved : goal.returns-clause-moved
 returns-clause-moved g c s d =

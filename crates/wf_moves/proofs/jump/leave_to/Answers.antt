@@ -1,4 +1,4 @@
-use Rattle.std.proofs.Common.{sym, ◌∙◌, absurd}
+use Rattle.std.proofs.Common.{[], sym, ◌∙◌}
 use Rattle.wf_frames.specs.Frames.{inner}
 use Rattle.wf_frames.specs.Owned.{held_by}
 use Rattle.wf_moves.proofs.Jumps.{turned, found_in, no_top, target_left}
@@ -10,12 +10,12 @@ target-requires g c = top_node g.around.spots c.args.nodes.now c.in-Some.frame.n
 
 pub returns-in-Some-target-clause-list : goal.returns-in-Some-target-clause-list
 returns-in-Some-target-clause-list g c =
-    (target_left g.around.spots c.args.nodes.now c.args.jump.to c.args.jump c.requires.0.resolves c.in-Some.frame.now c.in-Some-target.list c.leave.result (inner c.loop-frame.frames) (inner c.leave.new.frames)
+    (target_left g.around.spots c.args.nodes.now [] c.args.jump c.requires.0.resolves c.in-Some.frame.now c.in-Some-target.list c.leave.result (inner c.loop-frame.frames) (inner c.leave.new.frames)
     (held_by g.around c.loop-frame.frames c.loop-frame.scopes) (held_by g.around c.leave.new.frames c.leave.new.scopes) c.in-Some.ensures (sym c.target.ensures ∙ c.in-Some-target.is) c.leave.ensures.left c.loop-frame.invariant.stands.fits).0
 
 pub returns-in-Some-target-clause-inside : goal.returns-in-Some-target-clause-inside
 returns-in-Some-target-clause-inside g c =
-    (target_left g.around.spots c.args.nodes.now c.args.jump.to c.args.jump c.requires.0.resolves c.in-Some.frame.now c.in-Some-target.list c.leave.result (inner c.loop-frame.frames) (inner c.leave.new.frames)
+    (target_left g.around.spots c.args.nodes.now [] c.args.jump c.requires.0.resolves c.in-Some.frame.now c.in-Some-target.list c.leave.result (inner c.loop-frame.frames) (inner c.leave.new.frames)
     (held_by g.around c.loop-frame.frames c.loop-frame.scopes) (held_by g.around c.leave.new.frames c.leave.new.scopes) c.in-Some.ensures (sym c.target.ensures ∙ c.in-Some-target.is) c.leave.ensures.left c.loop-frame.invariant.stands.fits).1
 
 pub returns-in-Some-target-clause-found : goal.returns-in-Some-target-clause-found

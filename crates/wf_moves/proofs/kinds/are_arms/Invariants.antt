@@ -5,7 +5,7 @@ use Rattle.wf_moves.proofs.kinds.are_arms.Given as goal
 
 -- what is left tells
 abbrev pub invariant-loop-arm : goal.invariant-loop-arm
-invariant-loop-arm g l = arms_now (arms_by g.at.spots l.arms) ≡ arms_now (arms_by g.at.spots (drop l.arm-index l.arms))
+invariant-loop-arm g l = arms_now (arms_by g.ns l.arms) ≡ arms_now (arms_by g.ns (drop l.arm-index l.arms))
 
 abbrev pub ghost-is_condition : goal.ghost-is_condition
-ghost-is_condition g a = g.at.spots
+ghost-is_condition g a = g.ns

@@ -11,19 +11,26 @@ use Rattle.wf_nodes.specs.Table.{AreBelow, ArmsStandIn, PartsStand}
 use Rattle.wf_nodes.specs.declared.node.NodeKind.TheVariants as kind
 use Rattle.wf_moves.proofs.kinds.node_kind.Goals as goal
 
-pub first_kind-requires-clause-entries : goal.first_kind-requires-clause-entries
-first_kind-requires-clause-entries g c =
+pub first_kind-requires : goal.first_kind-requires
+first_kind-requires g c =
     let x = c.index-nodes-n.result in
-    let there = node_at c.args.nodes.now c.args.n x c.requires.1 c.index-nodes-n.is in
-    subst (AreBelow (length c.args.nodes.now)) (sym c.as_slice.ensures.value)
-    (subst (λ k. PartsStand g.ns (length c.args.nodes.now) (owners_at g.ns c.args.n) (kind_by x.codes.items.items k)) c.in-Assign.is (c.requires.0.resolves.each c.args.n x there).parts)
+    let there = node_at c.args.nodes.now c.args.n x c.requires.1 c.index-nodes-n.is in (
+      c.requires.0,
+      subst (AreBelow (length c.args.nodes.now)) (sym c.as_slice.ensures.value)
+          (subst (λ k. PartsStand g.ns (length c.args.nodes.now) (owners_at g.ns c.args.n) (kind_by x.codes.items.items k)) c.in-Assign.is (c.requires.0.resolves.each c.args.n x there).parts),
+    )
 
-pub are_arms-requires-clause-arms : goal.are_arms-requires-clause-arms
-are_arms-requires-clause-arms g c =
+pub are_arms-requires : goal.are_arms-requires
+are_arms-requires g c =
     let x = c.index-nodes-n.result in
-    let there = node_at c.args.nodes.now c.args.n x c.requires.1 c.index-nodes-n.is in
-    subst (ArmsStandIn g.ns (length c.args.nodes.now) (owners_at g.ns c.args.n)) (sym c.as_slice-in-Switch.ensures.value)
-    (subst (λ k. PartsStand g.ns (length c.args.nodes.now) (owners_at g.ns c.args.n) (kind_by x.codes.items.items k)) c.in-Switch.is (c.requires.0.resolves.each c.args.n x there).parts)
+    let there = node_at c.args.nodes.now c.args.n x c.requires.1 c.index-nodes-n.is in (
+      c.requires.0,
+      (
+        owners_at g.ns c.args.n,
+        subst (ArmsStandIn g.ns (length c.args.nodes.now) (owners_at g.ns c.args.n)) (sym c.as_slice-in-Switch.ensures.value)
+            (subst (λ k. PartsStand g.ns (length c.args.nodes.now) (owners_at g.ns c.args.n) (kind_by x.codes.items.items k)) c.in-Switch.is (c.requires.0.resolves.each c.args.n x there).parts),
+      ),
+    )
 
 pub returns-in-Assign : goal.returns-in-Assign
 returns-in-Assign g c p =

@@ -17,12 +17,12 @@ loop_node-requires g c =
     let fits = subst (Fits g.around.spots c.args.nodes.now) c.in-Some.ensures.popped c.requires.1.0.fits in
     loop_there c.args.nodes.now c.in-Some.frame c.in-Loop.n c.in-Loop.left c.in-Loop.index c.in-Loop.is fits.0.0
 
-pub turn-requires-clause-stands : goal.turn-requires-clause-stands
-turn-requires-clause-stands g c =
+pub turn-requires : goal.turn-requires
+turn-requires g c =
     let fits = subst (Fits g.around.spots c.args.nodes.now) c.in-Some.ensures.popped c.requires.1.0.fits in
     let has = going_has c.args.nodes.now c.in-Some.frame (inner c.args.frames.now) (inner c.pop.new.self) c.in-Some.ensures.popped c.requires.1.1 in
     let own = own_pushed c.pop.new.self.first c.args.frames.now.first c.in-Some.frame (inner c.pop.new.self) (inner c.args.frames.now) (sym c.in-Some.ensures.first) (going_plain c.args.nodes.now c.in-Some.frame has) c.in-Some.ensures.popped in
-    record { fits = fits.1; linked = subst (λ os. IsLinked g.around os c.args.scopes.now) own c.requires.1.0.linked }
+    (c.requires.0, (record { fits = fits.1; linked = subst (λ os. IsLinked g.around os c.args.scopes.now) own c.requires.1.0.linked }, c.loop_node.ensures))
 
 pub seen-requires : goal.seen-requires
 seen-requires g c =

@@ -8,11 +8,11 @@ use Rattle.wf_moves.specs.Moved.{IsMove}
 use Rattle.wf_moves.specs.Steps.{IsReady, come}
 use Rattle.wf_moves.proofs.moves.finish.Goals as goal
 
-pub jump-requires-clause-jump : goal.jump-requires-clause-jump
-jump-requires-clause-jump g c = subst (λ st. IsReady g.around.spots c.args.nodes.now (inner c.args.frames.now) st) c.in-Jumps.is c.requires.1.1
+pub jump-requires : goal.jump-requires
+jump-requires g c = (c.requires.0, (c.requires.1.0, subst (λ st. IsReady g.around.spots c.args.nodes.now (inner c.args.frames.now) st) c.in-Jumps.is c.requires.1.1))
 
-pub assign-requires-clause-within : goal.assign-requires-clause-within
-assign-requires-clause-within g c = subst (λ st. IsReady g.around.spots c.args.nodes.now (inner c.args.frames.now) st) c.in-Assigns.is c.requires.1.1
+pub assign-requires : goal.assign-requires
+assign-requires g c = (c.requires.0, (c.requires.1.0, subst (λ st. IsReady g.around.spots c.args.nodes.now (inner c.args.frames.now) st) c.in-Assigns.is c.requires.1.1))
 
 pub returns-in-Goes-clause-moved : goal.returns-in-Goes-clause-moved
 returns-in-Goes-clause-moved g c s d sees agrees =
@@ -24,11 +24,11 @@ returns-in-Raises-clause-stands g c = record { fits = empty_fits g.around.spots 
 pub returns-in-Returns-clause-stands : goal.returns-in-Returns-clause-stands
 returns-in-Returns-clause-stands g c = record { fits = empty_fits g.around.spots c.args.nodes.now (inner c.returns.new.frames) c.returns.ensures.empty; linked = c.returns.ensures.linked }
 
-pub raises-requires-clause-shallow : goal.raises-requires-clause-shallow
-raises-requires-clause-shallow g c = subst (λ st. IsReady g.around.spots c.args.nodes.now (inner c.args.frames.now) st) c.in-Raises.is c.requires.1.1
+pub raises-requires : goal.raises-requires
+raises-requires g c = (c.requires.1.0.linked, subst (λ st. IsReady g.around.spots c.args.nodes.now (inner c.args.frames.now) st) c.in-Raises.is c.requires.1.1)
 
-pub returns-requires-clause-shallow : goal.returns-requires-clause-shallow
-returns-requires-clause-shallow g c = subst (λ st. IsReady g.around.spots c.args.nodes.now (inner c.args.frames.now) st) c.in-Returns.is c.requires.1.1
+pub returns-requires : goal.returns-requires
+returns-requires g c = (c.requires.1.0.linked, subst (λ st. IsReady g.around.spots c.args.nodes.now (inner c.args.frames.now) st) c.in-Returns.is c.requires.1.1)
 
 pub returns-in-Raises-clause-moved : goal.returns-in-Raises-clause-moved
 returns-in-Raises-clause-moved g c s d sees agrees =

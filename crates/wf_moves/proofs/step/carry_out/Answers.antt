@@ -33,8 +33,8 @@ returns-then-does_nothing-clause-ready g c =
     let there = node_at c.args.nodes.now c.args.n x c.requires.1.1.0 c.index-nodes-n.is in
     jump_ready g.ns c.args.nodes.now c.args.n x (inner c.args.frames.now) (inner c.args.frames.now) there c.requires.1.1.1.0 c.in-Some.field-0 c.in-Some.is c.requires.1.1.1.1
 
-pub perform-requires-2 : goal.perform-requires-2
-perform-requires-2 g c κs within =
+pub perform-requires-in-Some : goal.perform-requires-in-Some
+perform-requires-in-Some g c κs within =
     let x = c.index-nodes-n.result in
     let there = node_at c.args.nodes.now c.args.n x c.requires.1.1.0 c.index-nodes-n.is in (
       within,
@@ -42,18 +42,20 @@ perform-requires-2 g c κs within =
         c.requires.1.0,
         (
           c.requires.1.1.0,
-          then_fits g.ns c.args.nodes.now c.args.n x (inner c.args.frames.now) (inner c.push.new.self) there c.requires.1.1.1.0 c.in-Some.field-0 c.in-Some.is c.requires.1.1.1.1 c.in_ok-push.ensures.pushed,
-          c.requires.1.1.1.1 ∙ ap reach (sym c.in_ok-push.ensures.pushed),
+          (
+            then_fits g.ns c.args.nodes.now c.args.n x (inner c.args.frames.now) (inner c.push.new.self) there c.requires.1.1.1.0 c.in-Some.field-0 c.in-Some.is c.requires.1.1.1.1 c.in_ok-push-in-Some.ensures.pushed,
+            c.requires.1.1.1.1 ∙ ap reach (sym c.in_ok-push-in-Some.ensures.pushed),
+          ),
         ),
       ),
     )
 
-pub returns-clause-carried : goal.returns-clause-carried
-returns-clause-carried g c =
+pub returns-in_ok-push-in-Some-clause-carried : goal.returns-in_ok-push-in-Some-clause-carried
+returns-in_ok-push-in-Some-clause-carried g c =
     let v = seen (g.K.Look.sight c.args.look.now) c.args.now in
     let x = c.index-nodes-n.result in
     let there = node_at c.args.nodes.now c.args.n x c.requires.1.1.0 c.index-nodes-n.is in
-    with_ok (Performs g.ns (part_body (part_at g.ns c.args.n)) v (inner c.push.new.self) (inner c.perform-2.new.frames)) (CarriesOut g.ns (part_body (part_at g.ns c.args.n)) (part_next (part_at g.ns c.args.n)) v (inner c.args.frames.now) (inner c.perform-2.new.frames)) c.perform-2.result
-    (λ st h. carries_beside g.ns c.args.n v (inner c.args.frames.now) (inner c.push.new.self) (inner c.perform-2.new.frames) c.in-Some.field-0 st (c.requires.1.0.nexts c.args.n x there ∙ c.in-Some.is)
+    with_ok (Performs g.ns (part_body (part_at g.ns c.args.n)) v (inner c.push.new.self) (inner c.perform-in-Some.new.frames)) (CarriesOut g.ns (part_body (part_at g.ns c.args.n)) (part_next (part_at g.ns c.args.n)) v (inner c.args.frames.now) (inner c.perform-in-Some.new.frames)) c.perform-in-Some.result
+    (λ st h. carries_beside g.ns c.args.n v (inner c.args.frames.now) (inner c.push.new.self) (inner c.perform-in-Some.new.frames) c.in-Some.field-0 st (c.requires.1.0.nexts c.args.n x there ∙ c.in-Some.is)
     (λ e. busy_body g.ns x.codes.items.items x.name x.next x.kind (sym c.does_nothing.ensures ∙ c.if-does_nothing.false) (sym (ap part_body (part_is g.ns c.args.nodes.now c.args.n x c.requires.1.0.resolves there)) ∙ e))
-    c.in_ok-push.ensures.pushed h) c.perform-2.ensures.performed
+    c.in_ok-push-in-Some.ensures.pushed h) c.perform-in-Some.ensures.performed

@@ -1,8 +1,8 @@
-use Rattle.std.proofs.Common.{◌≡◌, ◌<◌, arith, length, get_or, drop, sym, ap, ◌∙◌, subst, ◌∷◌, refl}
+use Rattle.std.proofs.Common.{◌≡◌, ℕ, List, ◌<◌, arith, length, get_or, drop, sym, ap, ◌∙◌, subst, ◌∷◌, refl}
 use Rattle.std.specs.Prelude.{IfOk}
 use Rattle.wf_ast.specs.Tree.{Body}
 use Rattle.wf_eval.specs.Sight.{seen}
-use Rattle.wf_frames.specs.Fits.{Fits}
+use Rattle.wf_frames.specs.Fits.{Fits, reach}
 use Rattle.wf_frames.specs.Frames.{inner}
 use Rattle.wf_frames.specs.declared.frames.Frame.TheVariants as frame
 use Rattle.wf_moves.proofs.Fitting.{block_fits, entries_fits, entry_ready}
@@ -22,7 +22,8 @@ switch-requires g c κs within =
     let there = node_at c.args.nodes.now c.args.n c.index-nodes-n.result c.requires.1.1.0 c.index-nodes-n.is in
     let x = c.index-nodes-n.result in
     let stand = subst (λ k. PartsStand g.ns (length c.args.nodes.now) (owners_at g.ns c.args.n) (kind_by x.codes.items.items k)) c.in-Switch.is (c.requires.1.0.resolves.each c.args.n x there).parts in
-    (within, (c.requires.1.0, (subst (ArmsStandIn g.ns (length c.args.nodes.now) (owners_at g.ns c.args.n)) (sym c.as_slice-in-Switch.ensures.value) stand, c.requires.1.1.1)))
+    let here = subst (λ (os : List ℕ). ArmsStandIn g.ns (length c.args.nodes.now) os c.in-Switch.arms.items) c.requires.1.1.1.1 stand in
+    (within, (c.requires.1.0, (subst (ArmsStandIn g.ns (length c.args.nodes.now) (reach (inner c.args.frames.now))) (sym c.as_slice-in-Switch.ensures.value) here, (c.requires.1.1.1.0, refl))))
 
 pub begin_loop-requires : goal.begin_loop-requires
 begin_loop-requires g c κs within =

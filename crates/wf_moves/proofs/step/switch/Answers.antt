@@ -29,9 +29,9 @@ returns-clause-performed g c =
     let lt = subst (λ o. IfSome o (λ m. (m < length c.args.nodes.now) × (owners_at g.at.spots m ≡ g.at.owners))) c.in-Some.is c.in-Ok.ensures.within in
     let there = node_at c.args.nodes.now c.in-Some.n c.index-nodes-n.result lt.0 c.index-nodes-n.is in
     let busy = busy_is g.at.spots c.args.nodes.now c.in-Some.n c.index-nodes-n.result c.requires.1.0 there (sym c.is_idle.ensures ∙ c.if-is_idle.false) in
-    body_chosen g.at.spots v arms (inner c.args.frames.now) c.in-Some.n (inner c.push.new.self) (subst (λ o. Answers (arm_in g.at.spots) (Ok o) (chosen v arms)) c.in-Some.is c.in-Ok.ensures.chosen) busy c.in_ok-push.ensures
+    body_chosen g.at.spots v arms (inner c.args.frames.now) c.in-Some.n (inner c.push.new.self) (subst (λ o. Answers (arm_in g.at.spots) (Ok o) (chosen v arms)) c.in-Some.is c.in-Ok.ensures.chosen) busy c.in_ok-push.ensures.pushed
 
 pub returns-clause-fits : goal.returns-clause-fits
 returns-clause-fits g c =
     let lt = subst (λ o. IfSome o (λ m. (m < length c.args.nodes.now) × (owners_at g.at.spots m ≡ g.at.owners))) c.in-Some.is c.in-Ok.ensures.within in
-    subst (Fits g.at.spots c.args.nodes.now) (sym c.in_ok-push.ensures) ((lt.0, lt.1 ∙ c.requires.1.1.1.1), c.requires.1.1.1.0)
+    subst (Fits g.at.spots c.args.nodes.now) (sym c.in_ok-push.ensures.pushed) ((lt.0, lt.1 ∙ c.requires.1.1.1.1), c.requires.1.1.1.0)

@@ -16,8 +16,8 @@ use Rattle.wf_value.specs.Plain.{plain}
 use Rattle.wf_value.specs.declared.Value.{Value}
 use Rattle.wf_moves.proofs.turn.turn.Goals as goal
 
-pub raises-requires-clause-linked : goal.raises-requires-clause-linked
-raises-requires-clause-linked g c = subst (λ o. IsLinked g.around (with_own o (own_of c.args.frames.now)) c.enter.new.scopes) c.in_default-entered.is c.in_ok-entered.ensures.linked
+pub raises-requires : goal.raises-requires
+raises-requires g c = (subst (λ o. IsLinked g.around (with_own o (own_of c.args.frames.now)) c.enter.new.scopes) c.in_default-entered.is c.in_ok-entered.ensures.linked, c.in_ok-error.ensures.shallow)
 
 pub returns-in_default-entered-clause-moved : goal.returns-in_default-entered-clause-moved
 returns-in_default-entered-clause-moved g c s d agrees =
@@ -30,18 +30,20 @@ returns-in_default-entered-clause-moved g c s d agrees =
     (subst (λ (o : Option ℕ). Enters s o h names (held_of g.around.keys (with_own o (own_of c.args.frames.now)) (layers_of c.enter.new.scopes))) c.in_default-entered.is (c.in_ok-entered.ensures.entered s agrees))
     c.in_ok-error.ensures.error (c.raises.ensures.moved s d)
 
-pub goes-requires-2-clause-stands : goal.goes-requires-2-clause-stands
-goes-requires-2-clause-stands g c =
+pub goes-requires-2 : goal.goes-requires-2
+goes-requires-2 g c =
     let layer = c.in-Some-entered.layer in
     let old = inner c.args.frames.now in
     let owned_is = turn_owned c.args.frames.now.first c.push-3.new.self.first c.args.n layer (c.args.index + 1) c.in-Some.both.1 old (inner c.push.new.self) (inner c.push-2.new.self) (inner c.push-3.new.self)
-    c.in_ok-push.ensures.pushed c.in_ok-push-2.ensures.pushed c.in_ok-push-3.ensures.pushed (c.in_ok-push-3.ensures.first ∙ c.in_ok-push-2.ensures.first ∙ c.in_ok-push.ensures.first) in
-    record {
-      fits = turn_fits g.around.spots c.args.nodes.now c.args.n (c.args.index + 1) layer c.args.body.now c.in-Some.both.1 old (inner c.push.new.self) (inner c.push-2.new.self) (inner c.push-3.new.self) c.requires.1.1
-          c.in_ok-push.ensures.pushed c.in_ok-push-2.ensures.pushed c.in_ok-push-3.ensures.pushed c.requires.1.0.fits;
-      linked = subst (λ os. IsLinked g.around os c.enter.new.scopes) (sym owned_is)
-          (subst (λ o. IsLinked g.around (with_own o (own_of c.args.frames.now)) c.enter.new.scopes) c.in-Some-entered.is c.in_ok-entered.ensures.linked);
-    }
+    c.in_ok-push.ensures.pushed c.in_ok-push-2.ensures.pushed c.in_ok-push-3.ensures.pushed (c.in_ok-push-3.ensures.first ∙ c.in_ok-push-2.ensures.first ∙ c.in_ok-push.ensures.first) in (
+      c.requires.0,
+      record {
+        fits = turn_fits g.around.spots c.args.nodes.now c.args.n (c.args.index + 1) layer c.args.body.now c.in-Some.both.1 old (inner c.push.new.self) (inner c.push-2.new.self) (inner c.push-3.new.self) c.requires.1.1
+            c.in_ok-push.ensures.pushed c.in_ok-push-2.ensures.pushed c.in_ok-push-3.ensures.pushed c.requires.1.0.fits;
+        linked = subst (λ os. IsLinked g.around os c.enter.new.scopes) (sym owned_is)
+            (subst (λ o. IsLinked g.around (with_own o (own_of c.args.frames.now)) c.enter.new.scopes) c.in-Some-entered.is c.in_ok-entered.ensures.linked);
+      },
+    )
 
 pub returns-clause-moved : goal.returns-clause-moved
 returns-clause-moved g c s d agrees =
