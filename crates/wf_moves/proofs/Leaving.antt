@@ -111,8 +111,8 @@ entries_stand ns n at h k l =
     subst (λ es. settle (Entries es ∷ k) l ≡ record l { control = Entries es ∷ k }) (sym r.is) refl
 
 pub lone_settled : (ns : List Spot) (n : ℕ) (done : Bool) → Settled ns done (frame.Lone n done)
-lone_settled ns n true k l = refl
-lone_settled ns n false k l = refl
+lone_settled ns n true = λ k l. refl
+lone_settled ns n false = λ k l. refl
 
 pub lone_has : (nodes : List Node) (n : ℕ) (done : Bool) → done ≡ false → HasMove nodes (frame.Lone n done)
 lone_has nodes n true q = absurd (cc q)

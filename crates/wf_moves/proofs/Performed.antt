@@ -1,6 +1,6 @@
 -- What a body does to the frames.
 use Rattle.std.proofs.Common.{◌≡◌, ℕ, ◌<◌, ◌≤◌, get_or, arith, Bool, true, false, List, [], ◌∷◌, length, drop, Ok, Err, Some, None, refl, sym, ap, subst, ◌∙◌}
-use Rattle.std.specs.Prelude.{zero, suc, Result, Option, IfOk, unwrap_or}
+use Rattle.std.specs.Prelude.{zero, suc, Result, Option, IfOk, OnOk, unwrap_or}
 use Rattle.wf_nodes.specs.Kinds.{kind_by}
 use Rattle.wf_nodes.specs.Shapes.{Compiled}
 use Rattle.wf_nodes.specs.Table.{part_by}
@@ -145,6 +145,10 @@ one_left (x ∷ xs) h = refl
 pub with_ok : {A E : Type 0} (P Q : A → Type 0) (r : Result A E) → ((a : A) → P a → Q a) → IfOk r P → IfOk r Q
 with_ok P Q (Ok a) f p = f a p
 with_ok P Q (Err e) f p = p
+
+pub with_both : {A E C : Type 0} (P Q : A → Type 0) (r : Result A E) → ((a : A) → P a → C → Q a) → IfOk r P → OnOk r C → IfOk r Q
+with_both P Q (Ok a) f p x = f a p x
+with_both P Q (Err e) f p x = p
 
 pub performs_return : (ns : List Spot) (n : ℕ) (t : Template) (v : View) (old : List Frame) (st : Step) → part_body (part_at ns n) ≡ Body.Return t → ReturnsValue t v st → Performs ns (part_body (part_at ns n)) v old old st
 performs_return ns n t v old st e h s l same = ap (λ b. performs s b (control ns old) l) e ∙ h ns s (control ns old) l same

@@ -18,6 +18,7 @@ ghost use Rattle.wf_moves.specs.Moved.{IsLeft, IsMove};
 ghost use Rattle.wf_shapes.specs.Built.{are_built};
 ghost use Rattle.wf_nodes.specs.Kinds.{entry_by};
 ghost use Rattle.wf_nodes.specs.Spots.{part_at, part_entry};
+ghost use Rattle.wf_nodes.specs.declared.node.Node.{Node as TableNode};
 ghost use Rattle.wf_value.specs.Errors.{error_map};
 ghost use Rattle.wf_value.specs.declared.Raise.TheVariants as raised;
 ghost use Rattle.wf_value.specs.declared.Tag.{Tag};
@@ -95,6 +96,7 @@ fn fails(
     requires linked { IsLinked around (own_of frames.old) scopes.old }
     ensures linked { OnOk result (IsLinked around (own_of frames.new) scopes.new) }
     ensures empty { OnOk result (inner frames.new ≡ []) }
+    ensures left { IfOk result (λ w. (nodes : List TableNode) → IsLeft nodes w (inner frames.new)) }
     ensures moved { IfOk result (λ w. (s : Scene) (c : List Item) → (t : Tag) → raise ≡ raised.Error t
         → IsMove (leave.raises s (control_of around frames.old) (beside c around frames.old scopes.old) (error_map t)) w (local_of around frames.new scopes.new)) }
     ensures error { OnOk result ((t : Tag) × (raise ≡ raised.Error t)) }
