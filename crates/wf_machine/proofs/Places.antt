@@ -16,6 +16,7 @@ use Rattle.wf_alone.specs.Machine.{config_by, main_at, main_event}
 use Rattle.wf_alone.specs.Plain.{ArePlain, Moves}
 use Rattle.wf_ast.specs.Tree.{Program}
 use Rattle.wf_check.specs.Seen.{nodes_of, program_of}
+use Rattle.wf_check.specs.declared.checked.Checked.{Checked}
 use Rattle.wf_frames.specs.Frames.{inner}
 use Rattle.wf_frames.specs.Owned.{control_of, own_of}
 use Rattle.wf_frames.specs.Standing.{Standing}
@@ -33,7 +34,8 @@ use Rattle.wf_model.specs.Kinds.{by_clock, next_kind}
 use Rattle.wf_model.specs.Move.{move}
 use Rattle.wf_model.specs.Step.{counted, next, read_at, when}
 use Rattle.wf_model.specs.Taken.{by_itself}
-use Rattle.wf_moves.specs.Built.{Tells}
+use Rattle.wf_moves.specs.Built.{Tells, is_table_built}
+use Rattle.wf_nodes.proofs.Told.{resolves}
 use Rattle.wf_moves.specs.Going.{Going}
 use Rattle.wf_moves.specs.declared.task.Task.{Task}
 use Rattle.wf_never_wrong.proofs.NeverWrong.{never_wrong}
@@ -48,6 +50,14 @@ running_of ending.Running is = refl
 running_of (ending.Returned v) is = absurd (cc is)
 running_of (ending.Raised v) is = absurd (cc is)
 
+-- ## The table
+-- what it tells of a program
+pub tells_of : (c : Checked) → is_table_built (nodes_of c) ≡ true → Tells (spots (program_of c).flows) (nodes_of c)
+tells_of c built =
+    let r = resolves (spots (program_of c).flows) (nodes_of c) c.told in
+    record { resolves = r; nexts = λ i x at. sym (r.each i x at).next; built = built }
+
+-- ## With `main`
 module _ (m : Machine) (t : Task) (is : m.task ≡ Some t) where
   -- its program, and what `main` has still to do and its layers
   abbrev P : Program
@@ -67,8 +77,8 @@ module _ (m : Machine) (t : Task) (is : m.task ≡ Some t) where
   pub plain : ArePlain K
   plain = are_plain (spots P.flows) (inner t.frames)
 
-  pub has_move : Tells (spots P.flows) (nodes_of m.program) → Moves K
-  has_move tells = moves (spots P.flows) (nodes_of m.program) tells (inner t.frames) standing.0.fit standing.1
+  pub has_move : Moves K
+  has_move = moves (spots P.flows) (nodes_of m.program) (tells_of m.program m.built) (inner t.frames) standing.0.fit standing.1
 
   -- where it runs
   pub here : (state_of m).config.outcome ≡ Active → (state_of m).config ≡ main_at (facts_view m.facts) m.last m.moves K Ls
@@ -88,15 +98,15 @@ module _ (m : Machine) (t : Task) (is : m.task ≡ Some t) where
       (λ reached. never never_wrong P (state_of m).config (accept_of P m.program.accepted) (reached (ap is_some is)) e k wrong)
 
   -- and its move can come
-  pub can_come : Tells (spots P.flows) (nodes_of m.program) → (state_of m).config.outcome ≡ Active → (clock : Bool) → next_kind P K ≡ by_clock clock → (r : ℕ) → m.last ≤ r
+  pub can_come : (state_of m).config.outcome ≡ Active → (clock : Bool) → next_kind P K ≡ by_clock clock → (r : ℕ) → m.last ≤ r
       → (d : Config) × (next P (state_of m).config (main_event clock r) ≡ To d)
-  can_come tells active clock is_kind r le = by (next P (state_of m).config (main_event clock r)) refl
+  can_come active clock is_kind r le = by (next P (state_of m).config (main_event clock r)) refl
     where
       by : (a : After) → next P (state_of m).config (main_event clock r) ≡ a → (d : Config) × (next P (state_of m).config (main_event clock r) ≡ To d)
       by (To d) comes = (d, comes)
       by (Wrong k) comes = absurd (goes_right (main_event clock r) k comes)
       by NotNow comes =
-          absurd (event_comes P (facts_view m.facts) m.last m.moves K Ls plain (has_move tells) clock r is_kind le (ap (λ c. next P c (main_event clock r)) (sym (here active)) ∙ comes))
+          absurd (event_comes P (facts_view m.facts) m.last m.moves K Ls plain has_move clock r is_kind le (ap (λ c. next P c (main_event clock r)) (sym (here active)) ∙ comes))
 
   -- a move that reads no clock
   pub plain_comes : (state_of m).config.outcome ≡ Active → next_kind P K ≡ by_clock false → next P (state_of m).config (Event.Move 0) ≡ counted (read_at m.last (state_of m).config) (by_itself P 0 0 move)
