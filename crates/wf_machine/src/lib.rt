@@ -19,6 +19,7 @@ mod facts;
 mod laws;
 mod machine;
 mod steps;
+mod task;
 
 pub use laws::only_moves;
 pub use machine::{ApplyFault, Machine, Outcome};

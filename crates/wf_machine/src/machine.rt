@@ -3,24 +3,20 @@ ghost use Rattle.std.specs.Prelude.{◌≡◌, ◌≤◌, ◌<◌, ◌↔◌, �
 ghost use Rattle.wf_alone.specs.Machine.{IsReached};
 ghost use Rattle.wf_ast.specs.View.{program_view};
 ghost use Rattle.wf_check.specs.Seen.{nodes_of, program_of};
-ghost use Rattle.wf_ast.specs.Tree.{Program as PlainProgram};
-ghost use Rattle.wf_machine.specs.Main.{Begins, IsStanding, IsStanding-prop, around, config_of, outcome_behind};
+ghost use Rattle.wf_machine.specs.Main.{IsStanding, IsStanding-prop, config_of, outcome_behind};
 ghost use Rattle.wf_machine.specs.State.{is_running, outcome_by, outcome_depth};
 ghost use Rattle.wf_machine.specs.declared.machine.Ending.TheVariants.{Running};
-ghost use Rattle.wf_moves.specs.Built.{Tells, is_table_built};
-ghost use Rattle.wf_moves.specs.Tasks.{IsFirst};
-ghost use Rattle.wf_nodes.specs.Spots.{spots};
-ghost use Rattle.wf_value.specs.Data.{Data};
+ghost use Rattle.wf_moves.specs.Built.{is_table_built};
 
 use crate::facts::Facts;
 use crate::steps::Steps;
+use crate::task::{advance, first_task, kind_of};
 use std::alloc::Global;
 use std::sync::ledger::Ledger;
 use wf_ast::Program;
 use wf_check::Checked;
 use wf_events::{Event, Start};
 use wf_moves::{End, Kind, Move, Task, are_built};
-use wf_nodes::{Node, NodeKind};
 use wf_scope::Scopes;
 use wf_value::{OutOfMemory, Tag, Value, error_map};
 
@@ -91,8 +87,7 @@ pub struct Machine {
     ending: Ending,
     broken: bool,
     ghost built: { is_table_built (nodes_of program) ≡ true },
-    ghost standing: { IsStanding (program_of program) (nodes_of program) task scopes }
-        by { IsStanding-prop _ _ _ _ },
+    ghost standing: { IsStanding (program_of program) (nodes_of program) task scopes } by { IsStanding-prop _ _ _ _ },
     ghost reached: { ∥ (is_some task ≡ true → IsReached (program_of program)
         (config_of (program_of program) facts last task scopes moves ending)) ∥₁ },
     ghost running: { broken ≡ false → ending ≡ Running → (is_some task ≡ true) × (moves < 100000) },
@@ -147,7 +142,7 @@ impl Machine {
         }
         let facts = Facts::of(alloc, start)?;
         let mut scopes = Scopes::new(alloc, VARIABLE_LIMIT)?;
-        let task = main_task(alloc, program.nodes(), &mut scopes)?;
+        let task = first_task(alloc, &program, &mut scopes)?;
         let ending = if task.is_some() {
             Ending::Running
         } else {
@@ -305,7 +300,7 @@ impl Machine {
         ensures { next_kind (state_of self.now).program (control_by self.now task.now)
             ≡ by_clock result }
     {
-        match task.next_kind(self.program.nodes()) {
+        match kind_of(&self.program, task) {
             Kind::Plain => false,
             Kind::Clock => true,
             Kind::Call => unreachable!(),
@@ -392,7 +387,12 @@ impl Machine {
             unreachable!()
         };
         self.facts.of_step.now = readings.now;
-        let Ok(went) = task.advance(self.program.nodes(), &mut self.scopes, &self.facts.of_step) else {
+        let Ok(went) = advance(
+            &self.program,
+            &mut task,
+            &mut self.scopes,
+            &self.facts.of_step,
+        ) else {
             self.broken = true;
             return Err(OutOfMemory);
         };
@@ -429,37 +429,6 @@ impl Machine {
             }
         }
     }
-}
-
-/// `main` before its first step, or none where it has no steps. A `main` with parameters is answered as if there were no memory: so far
-/// the checker refuses it.
-fn main_task(
-    alloc: Global,
-    nodes: &[Node],
-    scopes: &mut Scopes,
-) -> Result<Option<Task>, OutOfMemory>
-    ghost program: { PlainProgram }
-    requires tells { Tells (spots program.flows) nodes.now }
-    requires first { IsFirst (around program) scopes.old }
-    ensures begins { IfOk result (λ t. (v : Data) → Begins program v t scopes.new) }
-    ensures standing { IfOk result (λ t. IsStanding program nodes.now t scopes.new) }
-{
-    let Some(first) = nodes.first() else {
-        return Ok(None);
-    };
-    match &first.kind {
-        NodeKind::Flow(flow) => {
-            if !flow.params.items().is_empty() {
-                return Err(OutOfMemory);
-            }
-        }
-        _ => unreachable!(),
-    }
-    let task = Task::new(alloc, nodes, 0, Value::Null, scopes)?;
-    if task.is_ended() {
-        return Ok(None);
-    }
-    Ok(Some(task))
 }
 
 /// How an execution stands behind a move of `main`.
