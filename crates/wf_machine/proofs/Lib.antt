@@ -1,6 +1,9 @@
 -- The lemmas of the machine.
 pub mod Begun
 pub mod Counts
+pub mod First
+pub mod Making
 pub mod Moving
 pub mod Places
 pub mod Plainly
+pub mod Stopping

@@ -33,14 +33,14 @@ came (Ends f n) (went.Ended e) l so never = (n, ap (λ g. Ends g n) so.0, so.2, 
 came (Does f n) m l so never = absurd (none m so)
   where
     none : (m : call.Move) → MovesSo (Does f n) m l → ⊥
-    none went.Went no = no
-    none (went.Ended e) no = no
+    none went.Went moved = moved
+    none (went.Ended e) moved = moved
 came (Breaks k) m l so never = absurd (never k refl)
 came Not m l so never = absurd (none m so)
   where
     none : (m : call.Move) → MovesSo Not m l → ⊥
-    none went.Went no = no
-    none (went.Ended e) no = no
+    none went.Went moved = moved
+    none (went.Ended e) moved = moved
 
 -- the outcome of an end
 pub same_outcome : (e : End) → outcome_of (end_view e) ≡ outcome_behind (went.Ended e)
@@ -66,4 +66,4 @@ module _ (p : Program) (facts : Facts) (last now m : ℕ) (k : List Item) (ls : 
   -- or has ended
   pub comes_out : (e : End) (l : Local) → Came It (went.Ended e) l → l.outer ≡ [] → counted (main_at facts last m k ls) (by_itself p 0 now move) ≡ To (config_by facts last [] (m + 1) (outcome_behind (went.Ended e)))
   comes_out e l c none =
-      carried ∙ ends p facts last now (m + 1) k ls (end_view e) c.0 c.1 (c.2.0 ∙ none) ∙ ap (λ o. To (config_by facts last [] (m + 1) o)) (same_outcome e)
+      carried ∙ ends p facts last now (m + 1) k ls (end_view e) c.0 c.1 (c.2 ∙ none) ∙ ap (λ o. To (config_by facts last [] (m + 1) o)) (same_outcome e)

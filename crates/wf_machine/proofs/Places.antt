@@ -5,13 +5,15 @@
 --     chosen, can_come   what comes next
 use Rattle.std.specs.Prelude.{is_some, nat_le}
 use Rattle.std.proofs.lemmas.Bool.{le-leb, lt-leb}
-use Rattle.std.proofs.Common.{◌≡◌, ◌<◌, ◌≤◌, ◌⊎◌, inl, inr, ⊎_elim, ℕ, max, Bool, true, false, List, [], ◌∷◌, Some, None, refl, sym, ap, ◌∙◌, subst, arith}
+use Rattle.std.proofs.Common.{◌≡◌, ◌<◌, ◌≤◌, ◌⊎◌, inl, inr, ⊎_elim, ℕ, max, Bool, true, false, List, [], ◌∷◌, Option, Some, None, refl, sym, ap, ◌∙◌, subst, arith}
 use Rattle.std.proofs.Math.Logic.{∥∥₁_elim}
 use Rattle.wf_alone.proofs.Only.{choice, clock_next, no_move, no_move_at, plain_next}
+use Rattle.wf_alone.proofs.OnlyMoves.{only_ended, only_moves}
 use Rattle.wf_alone.proofs.Reached.{event_comes, never}
+use Rattle.wf_alone.specs.OnlyMoves.{OnlyMoves}
 use Rattle.wf_ast.specs.Accept.{Kind}
 use Rattle.wf_check.proofs.Accepted.{accept_of}
-use Rattle.wf_alone.proofs.Real.{begins_none, waits}
+use Rattle.wf_alone.proofs.Real.{begins_none, kind, waits}
 use Rattle.wf_alone.specs.Machine.{config_by, main_at, main_event}
 use Rattle.wf_alone.specs.Plain.{ArePlain, Moves}
 use Rattle.wf_ast.specs.Tree.{Program}
@@ -20,6 +22,8 @@ use Rattle.wf_check.specs.declared.checked.Checked.{Checked}
 use Rattle.wf_frames.specs.Frames.{inner}
 use Rattle.wf_frames.specs.Owned.{control_of, own_of}
 use Rattle.wf_frames.specs.Standing.{Standing}
+use Rattle.wf_frames.proofs.Standing.{stands}
+use Rattle.wf_frames.specs.Stands.{Stands}
 use Rattle.wf_machine.proofs.Plainly.{are_plain, moves}
 use Rattle.wf_machine.specs.Facts.{facts_view}
 use Rattle.wf_machine.specs.Main.{IsStanding, around, config_of}
@@ -30,15 +34,17 @@ use Rattle.wf_machine.specs.declared.machine.Ending.TheVariants as ending
 use Rattle.wf_machine.specs.declared.machine.Machine.{Machine}
 use Rattle.wf_model.specs.Choose.{choose}
 use Rattle.wf_model.specs.Config.{Active, After, Config, Item, Layer, NotNow, To, Wrong}
-use Rattle.wf_model.specs.Kinds.{by_clock, next_kind}
+use Rattle.wf_model.specs.Kinds.{ByCall, by_clock, next_kind}
 use Rattle.wf_model.specs.Move.{move}
 use Rattle.wf_model.specs.Step.{counted, next, read_at, when}
 use Rattle.wf_model.specs.Taken.{by_itself}
 use Rattle.wf_moves.specs.Built.{Tells, is_table_built}
 use Rattle.wf_nodes.proofs.Told.{resolves}
 use Rattle.wf_moves.specs.Going.{Going}
+use Rattle.wf_moves.proofs.Going.{is_going}
+use Rattle.wf_moves.specs.Moved.{IsGoing}
 use Rattle.wf_moves.specs.declared.task.Task.{Task}
-use Rattle.wf_never_wrong.proofs.NeverWrong.{never_wrong}
+use Rattle.wf_model.specs.Law.{NeverWrong}
 use Rattle.wf_nodes.specs.Spots.{spots}
 use Rattle.wf_scope.specs.Store.{layers_of}
 use Rattle.wf_scope.specs.Tasks.{own_layers}
@@ -57,16 +63,20 @@ tells_of c built =
     let r = resolves (spots (program_of c).flows) (nodes_of c) c.told in
     record { resolves = r; nexts = λ i x at. sym (r.each i x at).next; built = built }
 
+not_call : (clock : Bool) → ByCall ≡ by_clock clock → ⊥
+not_call true is = cc is
+not_call false is = cc is
+
 -- ## With `main`
 module _ (m : Machine) (t : Task) (is : m.task ≡ Some t) where
   -- its program, and what `main` has still to do and its layers
-  abbrev P : Program
+  abbrev pub P : Program
   P = program_of m.program
 
-  abbrev K : List Item
+  abbrev pub K : List Item
   K = control_of (around P) t.frames
 
-  abbrev Ls : List Layer
+  abbrev pub Ls : List Layer
   Ls = own_layers (own_of t.frames) (layers_of m.scopes)
 
   -- where it stands
@@ -80,6 +90,16 @@ module _ (m : Machine) (t : Task) (is : m.task ≡ Some t) where
   pub has_move : Moves K
   has_move = moves (spots P.flows) (nodes_of m.program) (tells_of m.program m.built) (inner t.frames) standing.0.fit standing.1
 
+  pub stands_now : Stands (around P) (nodes_of m.program) t.frames m.scopes
+  stands_now = stands (around P) (nodes_of m.program) t.frames m.scopes standing.0
+
+  pub going : IsGoing (nodes_of m.program) (inner t.frames)
+  going = is_going (nodes_of m.program) (inner t.frames) standing.1
+
+  -- its move is no call
+  pub never_calls : ByCall ≡ next_kind P K → ⊥
+  never_calls call = let k = kind P K has_move in not_call k.0 (call ∙ k.1)
+
   -- where it runs
   pub here : (state_of m).config.outcome ≡ Active → (state_of m).config ≡ main_at (facts_view m.facts) m.last m.moves K Ls
   here active =
@@ -92,19 +112,19 @@ module _ (m : Machine) (t : Task) (is : m.task ≡ Some t) where
       ap (λ c. choose P c r) (here active) ∙ choice P (facts_view m.facts) m.last m.moves K Ls clock r (waits K plain) (begins_none K plain) is_kind
 
   -- no event goes wrong
-  pub goes_right : (e : Event) (k : Kind) → next P (state_of m).config e ≡ Wrong k → ⊥
-  goes_right e k wrong =
+  pub goes_right : NeverWrong → (e : Event) (k : Kind) → next P (state_of m).config e ≡ Wrong k → ⊥
+  goes_right law e k wrong =
       ∥∥₁_elim m.reached (λ a b. absurd a)
-      (λ reached. never never_wrong P (state_of m).config (accept_of P m.program.accepted) (reached (ap is_some is)) e k wrong)
+      (λ reached. never law P (state_of m).config (accept_of P m.program.accepted) (reached (ap is_some is)) e k wrong)
 
   -- and its move can come
-  pub can_come : (state_of m).config.outcome ≡ Active → (clock : Bool) → next_kind P K ≡ by_clock clock → (r : ℕ) → m.last ≤ r
+  pub can_come : NeverWrong → (state_of m).config.outcome ≡ Active → (clock : Bool) → next_kind P K ≡ by_clock clock → (r : ℕ) → m.last ≤ r
       → (d : Config) × (next P (state_of m).config (main_event clock r) ≡ To d)
-  can_come active clock is_kind r le = by (next P (state_of m).config (main_event clock r)) refl
+  can_come law active clock is_kind r le = by (next P (state_of m).config (main_event clock r)) refl
     where
       by : (a : After) → next P (state_of m).config (main_event clock r) ≡ a → (d : Config) × (next P (state_of m).config (main_event clock r) ≡ To d)
       by (To d) comes = (d, comes)
-      by (Wrong k) comes = absurd (goes_right (main_event clock r) k comes)
+      by (Wrong k) comes = absurd (goes_right law (main_event clock r) k comes)
       by NotNow comes =
           absurd (event_comes P (facts_view m.facts) m.last m.moves K Ls plain has_move clock r is_kind le (ap (λ c. next P c (main_event clock r)) (sym (here active)) ∙ comes))
 
@@ -157,3 +177,23 @@ module _ (m : Machine) (none : m.task ≡ None) (active : (state_of m).config.ou
   -- and none is chosen
   pub none_chosen : (r : ℕ) → choose (program_of m.program) (state_of m).config r ≡ None
   none_chosen r = ap (λ c. choose (program_of m.program) c r) empty
+
+-- ## Either way
+-- a machine that runs has `main`
+pub has_main : (m : Machine) → m.broken ≡ false → m.ending ≡ ending.Running → (t : Task) × (m.task ≡ Some t)
+has_main m whole run = by m.task refl
+  where
+    by : (o : Option Task) → m.task ≡ o → (t : Task) × (m.task ≡ Some t)
+    by (Some t) is = (t, is)
+    by None is = absurd (let no : false ≡ true = sym (ap is_some is) ∙ (m.running whole run).0 in cc no)
+
+-- what it only does
+pub moves_only : (m : Machine) → m.broken ≡ false → OnlyMoves (program_of m.program) (state_of m).config
+moves_only m whole = by m.ending refl
+  where
+    by : (e : Ending) → m.ending ≡ e → OnlyMoves (program_of m.program) (state_of m).config
+    by ending.Running is =
+        let t = has_main m whole is in
+        subst (OnlyMoves (program_of m.program)) (sym (here m t.0 t.1 (ap outcome_by is))) (only_moves (program_of m.program) (facts_view m.facts) m.last m.moves (K m t.0 t.1) (Ls m t.0 t.1) (plain m t.0 t.1) (has_move m t.0 t.1))
+    by (ending.Returned v) is = only_ended (program_of m.program) (state_of m).config (λ active. cc (sym (ap outcome_by is) ∙ active))
+    by (ending.Raised v) is = only_ended (program_of m.program) (state_of m).config (λ active. cc (sym (ap outcome_by is) ∙ active))

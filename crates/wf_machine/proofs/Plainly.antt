@@ -1,5 +1,5 @@
 -- The control of a task: what its frames stand for neither calls nor waits.
-use Rattle.std.proofs.Common.{◌≡◌, ◌<◌, ℕ, true, false, List, [], ◌∷◌, length, Some, None, refl, sym, ap, ◌∙◌}
+use Rattle.std.proofs.Common.{◌≡◌, ◌<◌, ℕ, zero, suc, arith, true, false, Option, List, [], ◌∷◌, length, Some, None, refl, sym, ap, ◌∙◌}
 use Rattle.std.specs.Prelude.{get_or, unwrap_or, drop, slice_get}
 use Rattle.wf_alone.specs.Plain.{ArePlain, Moves, has_move, is_plain, is_plain_body}
 use Rattle.wf_ast.specs.Tree.{Body, Steps}
@@ -13,7 +13,7 @@ use Rattle.wf_moves.proofs.Advancing.{entries_next, from_next, step_within}
 use Rattle.wf_moves.proofs.Parts.{entries_is, list_is, never_built, part_is}
 use Rattle.wf_moves.specs.Built.{Tells, is_table_built}
 use Rattle.wf_moves.specs.Going.{GoesOn, Going}
-use Rattle.wf_nodes.specs.Kinds.{Compiled, Listed, kind_by}
+use Rattle.wf_nodes.specs.Kinds.{Listed, kind_by}
 use Rattle.wf_nodes.specs.Spots.{Spot, entries_by, from, part_at, part_body, part_entry, part_list, part_step, steps_by}
 use Rattle.wf_nodes.specs.Table.{part_by}
 use Rattle.wf_nodes.specs.declared.node.Node.{Node}
@@ -35,7 +35,7 @@ module _ (ns : List Spot) (nodes : List Node) (tells : Tells ns nodes) where
   -- the node of a number below the length
   there : (n : ℕ) (xs : List Node) → n < length xs → (x : Node) × (slice_get xs n ≡ Some x)
   there n [] lt = absurd (omega (arith, lt))
-  there 0 (x ∷ xs) lt = (x, refl)
+  there zero (x ∷ xs) lt = (x, refl)
   there (suc n) (x ∷ xs) lt = there n xs (omega (arith, lt))
 
   -- the body of a node of a form that is built

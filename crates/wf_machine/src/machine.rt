@@ -17,6 +17,7 @@ use wf_ast::Program;
 use wf_check::Checked;
 use wf_events::{Event, Start};
 use wf_moves::{End, Kind, Move, Task, are_built};
+use wf_never_wrong::never_wrong;
 use wf_scope::Scopes;
 use wf_value::{OutOfMemory, Tag, Value, error_map};
 
@@ -219,6 +220,7 @@ impl Machine {
         ensures enabled { IfSome result (λ e. (d : Config)
             × (next (state_of self.now).program (state_of self.now).config (event_view e) ≡ To d)) }
     {
+        never_wrong();
         if !self.is_running() {
             return None;
         }
@@ -379,6 +381,7 @@ impl Machine {
         ensures broken { (self.new.broken ≡ true) ↔ IsErr result }
         ensures counted { OnOk result (self.new.moves ≡ self.old.moves + 1) }
     {
+        never_wrong();
         let moves = self.moves + 1;
         if moves >= MOVE_LIMIT {
             return self.stop(readings.last);
@@ -408,6 +411,9 @@ impl Machine {
     /// The end at the limit on counted events.
     fn stop(&mut self, last: u64) -> Result<(), OutOfMemory>
         requires limit { self.old.moves ≡ 99999 }
+        requires whole { self.old.broken ≡ false }
+        requires comes { (e : AnyEvent) × (next (state_of self.old).program (state_of self.old).config e
+            ≡ To (stopped (one_more (read_at last (state_of self.old).config)))) }
         ensures stopped { OnOk result ((state_of self.new).config
             ≡ stopped (one_more (read_at last (state_of self.old).config))) }
         ensures program { (state_of self.new).program ≡ (state_of self.old).program }
