@@ -63,13 +63,6 @@ pub(crate) fn expression(alloc: Global, tree: &Value, depth: u32) -> Result<Expr
     }
 }
 
-fn boxed(alloc: Global, e: Expr) -> Result<Box<Expr>, CaseFault> {
-    match Box::new(alloc, e) {
-        Ok(e) => Ok(e),
-        Err(_) => Err(CaseFault::OutOfMemory),
-    }
-}
-
 // What stands at a key of a value.
 fn on_key(alloc: Global, a: Expr, key: &Value) -> Result<Expr, CaseFault> {
     let a = boxed(alloc, a)?;

@@ -16,7 +16,8 @@ enum Close {
 pub(crate) fn answers(alloc: Global, case: &Case<'_>) -> Result<String, CaseFault> {
     let bytes = bytes_of(alloc, case.item(0)?)?;
     let close = close_of(case.text(1)?)?;
-    heard(alloc, bytes.as_slice(), close)
+    let whole = heard(alloc, bytes.as_slice(), close)?;
+    cut_once(alloc, bytes.as_slice(), close, whole)
 }
 
 /// The same of each front of the bytes, from none of them to all, under each close: where the three
@@ -56,7 +57,7 @@ fn close_of(name: &str) -> Result<Close, CaseFault> {
 
 /// The answer of bytes fed whole. Where it is another one if they are cut, both are told.
 fn heard(alloc: Global, bytes: &[u8], close: Close) -> Result<String, CaseFault> {
-    let mut whole = Reading::new(alloc)?;
+    let mut whole = Reading::new(alloc);
     whole.feed(bytes)?;
     let whole = told(alloc, whole, close)?;
     let cut = told(alloc, fed_in_pieces(alloc, bytes)?, close)?;
@@ -66,9 +67,34 @@ fn heard(alloc: Global, bytes: &[u8], close: Close) -> Result<String, CaseFault>
     Ok(format!(in alloc; "whole {} cut {}", whole.as_str(), cut.as_str())?)
 }
 
+/// The answer of the whole bytes. Where it is another one if they come in two pieces, both are told.
+/// Of over 256 bytes nothing is tried.
+fn cut_once(alloc: Global, bytes: &[u8], close: Close, whole: String) -> Result<String, CaseFault> {
+    if bytes.len() > 256 {
+        return Ok(whole);
+    }
+    for length in 0..=bytes.len() {
+        let cut = told(alloc, fed_in_two(alloc, bytes, length)?, close)?;
+        if cut.as_str() != whole.as_str() {
+            let both = format!(in alloc; "whole {} at {length} {}", whole.as_str(), cut.as_str())?;
+            return Ok(both);
+        }
+    }
+    Ok(whole)
+}
+
+/// A reading that heard so many bytes, and then the others.
+fn fed_in_two(alloc: Global, bytes: &[u8], length: usize) -> Result<Reading, CaseFault> {
+    let (front, rest) = bytes.split_at(length.min(bytes.len()));
+    let mut reading = Reading::new(alloc);
+    reading.feed(front)?;
+    reading.feed(rest)?;
+    Ok(reading)
+}
+
 /// A reading that heard the bytes one by one; of many bytes all but the last came in long pieces.
 fn fed_in_pieces(alloc: Global, bytes: &[u8]) -> Result<Reading, CaseFault> {
-    let mut reading = Reading::new(alloc)?;
+    let mut reading = Reading::new(alloc);
     let mut rest = bytes;
     while !rest.is_empty() {
         let length = if rest.len() > 3000 { 2500 } else { 1 };

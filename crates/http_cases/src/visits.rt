@@ -8,7 +8,9 @@ use wf_http_serve::{Asker, ReplyCode, Visit, VisitState, reply_bytes};
 /// are cut.
 pub(crate) fn knows(alloc: Global, case: &Case<'_>) -> Result<String, CaseFault> {
     let bytes = bytes_of(alloc, case.item(0)?)?;
-    known(alloc, bytes.as_slice(), is_ended(case.text(1)?)?)
+    let is_ended = is_ended(case.text(1)?)?;
+    let whole = known(alloc, bytes.as_slice(), is_ended)?;
+    cut_once(alloc, bytes.as_slice(), is_ended, whole)
 }
 
 /// The same of each front of the bytes, from none of them to all, with `;` behind each of them.
@@ -49,7 +51,7 @@ fn is_ended(close: &str) -> Result<bool, CaseFault> {
 /// What is known where the bytes came whole. Where something else is known if they are cut, both
 /// are told.
 fn known(alloc: Global, bytes: &[u8], is_ended: bool) -> Result<String, CaseFault> {
-    let mut whole = Visit::new(alloc)?;
+    let mut whole = Visit::new(alloc);
     whole.feed(bytes)?;
     let whole = told(alloc, whole, is_ended)?;
     let cut = told(alloc, fed_in_pieces(alloc, bytes)?, is_ended)?;
@@ -59,9 +61,39 @@ fn known(alloc: Global, bytes: &[u8], is_ended: bool) -> Result<String, CaseFaul
     Ok(format!(in alloc; "whole {} cut {}", whole.as_str(), cut.as_str())?)
 }
 
+/// What is known where the bytes came whole. Where something else is known if they come in two
+/// pieces, both are told. Of over 256 bytes nothing is tried.
+fn cut_once(
+    alloc: Global,
+    bytes: &[u8],
+    is_ended: bool,
+    whole: String,
+) -> Result<String, CaseFault> {
+    if bytes.len() > 256 {
+        return Ok(whole);
+    }
+    for length in 0..=bytes.len() {
+        let cut = told(alloc, fed_in_two(alloc, bytes, length)?, is_ended)?;
+        if cut.as_str() != whole.as_str() {
+            let both = format!(in alloc; "whole {} at {length} {}", whole.as_str(), cut.as_str())?;
+            return Ok(both);
+        }
+    }
+    Ok(whole)
+}
+
+/// A visit of which so many bytes came, and then the others.
+fn fed_in_two(alloc: Global, bytes: &[u8], length: usize) -> Result<Visit, CaseFault> {
+    let (front, rest) = bytes.split_at(length.min(bytes.len()));
+    let mut visit = Visit::new(alloc);
+    visit.feed(front)?;
+    visit.feed(rest)?;
+    Ok(visit)
+}
+
 /// A visit of which the bytes came one by one; of many bytes all but the last came in long pieces.
 fn fed_in_pieces(alloc: Global, bytes: &[u8]) -> Result<Visit, CaseFault> {
-    let mut visit = Visit::new(alloc)?;
+    let mut visit = Visit::new(alloc);
     let mut rest = bytes;
     while !rest.is_empty() {
         let length = if rest.len() > 3000 { 2500 } else { 1 };

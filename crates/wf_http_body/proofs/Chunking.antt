@@ -1,14 +1,13 @@
 -- Chunks, one by one.
-use Rattle.std.proofs.Common.{◌≡◌, ◌≢◌, ℕ, ◌==◌, true, ◌+◌, ◌-◌, ◌<◌, ◌≤◌, min, List, [], ◌∷◌, ◌++◌, length, get_or, take, drop, slice_range, refl, sym, ap, ◌∙◌, subst, arith, append_assoc, append-nil, length-append, length-take, length-drop, take-append-drop}
+use Rattle.std.proofs.Common.{◌≡◌, ◌≢◌, ℕ, ◌==◌, true, ◌+◌, ◌-◌, ◌<◌, ◌≤◌, List, [], ◌∷◌, ◌++◌, length, get_or, drop, refl, sym, ap, ◌∙◌, subst, arith, append_assoc, append-nil, length-append}
 use Rattle.std.specs.List.{flat_map}
 use Rattle.std.proofs.lemmas.Bool.{false≢true, ne_eqb}
-use Rattle.std.proofs.lemmas.List.{drop-drop, drop_all, drop_more}
 use Rattle.std.proofs.lemmas.List.Concat.{flat_map-append}
 use Rattle.std.proofs.lemmas.List.Elements.{All-append, All-cons, All-nil}
 use Rattle.httparse.specs.Grammar.{ChunkLine, IsChunkLine, crlf, print_chunk_line, print_end, print_extension, HasNoChunkLine}
 use Rattle.httparse.specs.Spans.{IsChunkLineAt}
 use Rattle.httparse.proofs.ChunkLemmas.{chunk_line_unique}
-use Rattle.wf_shared.specs.HttpBody.{Chunk, IsChunk, print_chunk, content_of, HasChunks, ReadsLine, EndsWrong, IsBadEnd, IsOver, line_limit}
+use Rattle.wf_shared.specs.HttpBody.{Chunk, IsChunk, print_chunk, content_of, HasChunks, ReadsLine, EndsWrong, line_limit}
 use Rattle.wf_http_body.specs.Chunks.{IsLongLine, BeginsEnd}
 
 pub content_more : (cs : List Chunk) (c : Chunk) → content_of (cs ++ c ∷ []) ≡ content_of cs ++ c.content

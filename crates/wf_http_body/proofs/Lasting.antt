@@ -63,7 +63,7 @@ bad_section_stays s more (inr (inl long)) = inr (inl (record {
 }))
 bad_section_stays s more (inr (inr (fields, end, rest, x, many))) = inr (inr (fields, end, rest ++ more, ReadsSection-append s fields end rest more x, many))
 
-take_none : (n : ℕ) → take {A = ℕ} n [] ≡ []
+pub take_none : (n : ℕ) → take {A = ℕ} n [] ≡ []
 take_none zero = refl
 take_none (suc n) = refl
 

@@ -3,7 +3,9 @@ pub mod Digits
 pub mod Fronts
 pub mod Lasting
 pub mod Naming
+pub mod OneBody
 pub mod Opening
+pub mod Printed
 pub mod Reading
-pub mod Steps
 pub mod Sizes
+pub mod Steps

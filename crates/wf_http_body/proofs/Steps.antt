@@ -1,17 +1,16 @@
 -- From one place of a body in chunks to the next.
-use Rattle.std.proofs.Common.{◌≡◌, ℕ, ◌+◌, ◌-◌, ◌<◌, ◌≤◌, min, List, [], ◌∷◌, ◌++◌, length, take, drop, sym, ap, ◌∙◌, subst, arith, inl, inr, append_assoc, append-nil, length-append, length-take, take-append-drop, Result, Ok, Err}
+use Rattle.std.proofs.Common.{◌≡◌, ℕ, ◌+◌, ◌-◌, ◌<◌, min, List, [], ◌∷◌, ◌++◌, length, drop, sym, ap, ◌∙◌, subst, arith, inl, inr, length-append, Result, Ok, Err}
 use Rattle.std.specs.Prelude.{IfOk}
 use Rattle.std.proofs.lemmas.List.{drop_at}
-use Rattle.httparse.specs.Grammar.{ChunkLine, chunk_size, print_chunk_line}
-use Rattle.httparse.specs.Spans.{IsChunkLineAt}
-use Rattle.wf_shared.specs.HttpBody.{Complete, Malformed, Oversize, Chunk, ReadsLine, content_of, EndsWrong, IsWholeChunked, line_limit}
+use Rattle.httparse.specs.Grammar.{chunk_size, print_chunk_line}
+use Rattle.wf_shared.specs.HttpBody.{Complete, Malformed, Oversize, Chunk, content_of, EndsWrong, IsWholeChunked}
 use Rattle.wf_http_body.specs.declared.chunk.Place.{Place}
 use Rattle.wf_http_body.specs.declared.chunk.Place.TheVariants as place
 use Rattle.wf_http_body.specs.declared.chunk.Step.{Step}
 use Rattle.wf_http_body.specs.Chunks.{IsBadLine, IsBadSection}
 use Rattle.wf_http_body.specs.Found.{IsWholeSection, Steps}
 use Rattle.wf_http_body.specs.Parts.{IsAtLine, IsInChunk, IsAtTrailer, Stays}
-use Rattle.wf_http_body.proofs.Chunking.{content_more, one_more, reads_line, regroup}
+use Rattle.wf_http_body.proofs.Chunking.{content_more, one_more, regroup}
 use Rattle.wf_http_body.proofs.Lasting.{whole_chunked, over_chunked, bad_chunked}
 
 -- ## Lines

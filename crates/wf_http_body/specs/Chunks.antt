@@ -81,3 +81,7 @@ IsChunkedBody limit close b (Complete body) = IsWholeChunked limit b body
 IsChunkedBody limit close b Oversize = IsOverChunked limit b
 IsChunkedBody limit close b Malformed = IsBadChunked limit b ⊎ ((close ≢ Open) × IsOpenChunked limit b)
 IsChunkedBody limit close b Waiting = (close ≡ Open) × IsOpenChunked limit b
+
+-- the same bytes come to one state
+abbrev pub HasOneState : Type 0
+HasOneState = (limit : ℕ) (close : Close) (b : List ℕ) (s t : BodyState) → IsChunkedBody limit close b s → IsChunkedBody limit close b t → s ≡ t

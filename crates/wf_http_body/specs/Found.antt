@@ -1,5 +1,5 @@
 -- What the code finds at the front of bytes.
-use Rattle.std.specs.Prelude.{◌≡◌, ℕ, ◌+◌, ◌<◌, ◌≤◌, List, ◌∷◌, [], ◌++◌, length, take, drop, ⊤}
+use Rattle.std.specs.Prelude.{◌≡◌, ℕ, ◌+◌, ◌<◌, ◌≤◌, List, ◌∷◌, ◌++◌, length, take, drop, ⊤}
 use Rattle.httparse.specs.Grammar.{Field, ReadsSection, HasNoSection, NeverHasSection, MayBecomeSection, print_section}
 use Rattle.httparse.specs.Grammar as http
 use Rattle.wf_shared.specs.HttpBody.{EndsWrong, field_limit, trailer_limit}

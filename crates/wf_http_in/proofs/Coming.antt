@@ -1,10 +1,10 @@
 -- From what was read to the answer.
-use Rattle.std.proofs.Common.{◌≡◌, ℕ, ◌+◌, ◌-◌, ◌<◌, ◌≤◌, ◌⊎◌, List, [], ◌∷◌, ◌++◌, length, take, drop, Result, Ok, Err, if◌then◌else◌, true, false, refl, sym, ap, ◌∙◌, subst, arith, inl, inr, append_assoc, append-nil, length-append, length-drop, length-take, take-append-drop}
+use Rattle.std.proofs.Common.{◌≡◌, ℕ, ◌+◌, ◌-◌, ◌<◌, ◌≤◌, ◌⊎◌, List, [], ◌∷◌, ◌++◌, length, take, drop, true, false, refl, sym, ap, ◌∙◌, subst, arith, inl, inr, append_assoc, append-nil, length-append, length-drop, length-take, take-append-drop}
 use Rattle.std.proofs.lemmas.Bool.{cases_lt, false≢true}
 use Rattle.std.proofs.lemmas.List.{drop-append-le, drop-drop, drop_at, take_all}
 use Rattle.std.proofs.lemmas.List.Elements.{All-head, All-nil}
 use Rattle.std.specs.List.{flat_map}
-use Rattle.std.specs.Prelude.{OnOk, is_ok, IsTrue, IsFalse, ◌≢◌, Option, Some, None}
+use Rattle.std.specs.Prelude.{IsTrue, IsFalse, ◌≢◌, Option, Some, None}
 use Rattle.httparse.specs.Grammar.{ResponseHead, IsResponseHead, ReadsResponse, HasNoResponse, print_response}
 use Rattle.wf_shared.specs.Events.{Reply, Response, Broken, TooLong}
 use Rattle.wf_shared.specs.HttpBody as plain
@@ -21,7 +21,6 @@ use Rattle.wf_http_in.specs.declared.framing.Framing.{Framing}
 use Rattle.wf_http_in.specs.declared.framing.Framing.TheVariants as framing
 use Rattle.wf_http_in.specs.declared.heads.Heading.{Heading}
 use Rattle.wf_http_in.specs.declared.heads.Heading.TheVariants as heading
-use Rattle.wf_http_in.specs.declared.reading.Reading.{Reading}
 use Rattle.wf_http_in.specs.declared.stage.Stage.{Stage}
 use Rattle.wf_http_in.specs.declared.stage.Stage.TheVariants as stage
 use Rattle.wf_http_in.specs.AnswerOf as answer
@@ -30,8 +29,7 @@ use Rattle.wf_http_in.specs.Bodies.{answer_limit, IsBody}
 use Rattle.wf_http_in.specs.Found.{IsHeading, IsFinal, IsInterim, IsFramed, IsHeadFound, IsHeadOf, IsWholeHead, is_settled}
 use Rattle.wf_http_in.specs.HeadData.{HeadData}
 use Rattle.wf_http_in.specs.Heads.{IsPassed, BehindInterim, SkipsHeads, IsHeadless, IsSmallResponse, is_interim_code}
-use Rattle.wf_http_in.specs.Stages.{GoesOn, IsPartOf, IsOpenPart, IsRead, IsSame, StaysBody, Stays, IsBehind, IsStage, settled, unfinished, HasHeard}
-use Rattle.wf_http_in.specs.View.{close_view}
+use Rattle.wf_http_in.specs.Stages.{IsPartOf, IsOpenPart, IsRead, StaysBody, Stays, IsBehind, IsStage, settled, unfinished}
 use Rattle.wf_http_in.proofs.BodyStates.{length_open, until_end}
 use Rattle.wf_http_in.proofs.Lasting.{skips_stay, head_stays, again, bad_heads, further, one_more}
 use Rattle.wf_http_in.proofs.Sizes.{head_some, may_begin, nothing_is_no_head}

@@ -1,6 +1,8 @@
 pub mod BodyStates
+pub mod Codes
 pub mod Coming
 pub mod Fronts
 pub mod Lasting
 pub mod Names
+pub mod OneAnswer
 pub mod Sizes

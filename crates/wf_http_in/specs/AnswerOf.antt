@@ -1,5 +1,6 @@
 -- The answer to a call, of all bytes heard of it and of how the connection stands.
---     AnswerOf    none yet, a response, a broken connection, or a body that is too long
+--     AnswerOf        none yet, a response, a broken connection, or a body that is too long
+--     HasOneAnswer    the same bytes have one answer
 use Rattle.std.specs.Prelude.{◌≡◌, ◌≢◌, ◌⊎◌, ℕ, List, Some, None, Option}
 use Rattle.httparse.specs.Grammar.{ResponseHead, status_code}
 use Rattle.wf_shared.specs.Events.{Reply, Response, Broken, TooLong}
@@ -29,3 +30,6 @@ IsReply heard close Broken =
 abbrev pub AnswerOf : List ℕ → Close → Option Reply → Type 0
 AnswerOf heard close (Some a) = IsReply heard close a
 AnswerOf heard close None = (close ≡ Open) × (HasSomeBody heard close Waiting ⊎ BehindInterim heard IsHeadless)
+
+abbrev pub HasOneAnswer : Type 0
+HasOneAnswer = (heard : List ℕ) (close : Close) (a b : Option Reply) → AnswerOf heard close a → AnswerOf heard close b → a ≡ b

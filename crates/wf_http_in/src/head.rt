@@ -22,11 +22,11 @@ impl Model for Head {
 
     ghost Value = { HeadData };
 
-    ghost use Rattle.std.specs.Prelude.{All, IsUtf8};
+    ghost use Rattle.std.specs.Prelude.{◌≤◌, All, IsUtf8};
 
     ghost view = { λ a. record { code = a.code; fields = a.fields.items } };
 
-    ghost invariant = { λ a. All (λ f. IsUtf8 f.0) a.fields.items };
+    ghost invariant = { λ a. All (λ f. IsUtf8 f.0) a.fields.items × (a.code ≤ 999) };
 }
 
 impl Head {
@@ -51,7 +51,8 @@ impl Head {
 
     /// The status code, from 0 to 999 (RFC 9110, section 15).
     pub fn code(&self) -> u16
-        ensures { result ≡ self.now.code }
+        ensures code { result ≡ self.now.code }
+        ensures most { result ≤ 999 }
     {
         self.code
     }

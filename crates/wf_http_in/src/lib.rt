@@ -7,9 +7,11 @@ mod body;
 mod framing;
 mod head;
 mod heads;
+mod laws;
 mod reading;
 mod stage;
 
 pub use answer::Answer;
 pub use head::Head;
+pub use laws::one_answer;
 pub use reading::Reading;

@@ -1,5 +1,5 @@
 // An answer that comes in pieces.
-ghost use Rattle.std.specs.Prelude.{◌≡◌, ◌≤◌, [], ◌++◌, IfOk, List, ℕ, OnErr, OnOk, drop, if◌then◌else◌, is_ok, length, option_map};
+ghost use Rattle.std.specs.Prelude.{◌≡◌, ◌≤◌, [], ◌++◌, List, ℕ, OnErr, OnOk, drop, if◌then◌else◌, is_ok, length, option_map};
 ghost use Rattle.wf_shared.specs.HttpBody.{Close as Connection, Open as is_open, Ended as has_ended, Broke as is_broken};
 ghost use Rattle.wf_http_in.specs.AnswerOf.{AnswerOf};
 ghost use Rattle.wf_http_in.specs.View.{answer_view, close_view};
@@ -44,16 +44,16 @@ pub(crate) enum Close {
 
 impl Reading {
     /// A reading that has heard nothing, of an open connection.
-    pub fn new(alloc: Global) -> Result<Reading, OutOfMemory>
-        ensures { IfOk result (λ r. HasHeard r [] is_open) }
+    pub fn new(alloc: Global) -> Reading
+        ensures { HasHeard result [] is_open }
     {
-        Ok(Reading {
+        Reading {
             stage: Stage::Head,
             unread: Vec::new(alloc),
             chunks: Chunks::new(alloc),
             content: Vec::new(alloc),
             close: Close::Open,
-        })
+        }
     }
 
     /// Hears the next piece, of any length. Without memory nothing is heard.

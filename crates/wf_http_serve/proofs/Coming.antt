@@ -1,9 +1,9 @@
 -- From what was read to what is known of a visit.
 use Rattle.std.proofs.Common.{◌≡◌, ℕ, ◌+◌, ◌-◌, ◌<◌, ◌≤◌, List, [], ◌++◌, length, take, drop, Result, Ok, Err, Bool, true, false, refl, sym, ap, ◌∙◌, subst, arith, ◌⊎◌, inl, inr, append_assoc, append-nil, length-append, length-drop, length-take, take-append-drop}
 use Rattle.std.proofs.lemmas.Bool.{cases_lt, false≢true, le-ltb, lt-leb}
-use Rattle.std.proofs.lemmas.List.{drop-append-le, drop-drop, drop_at, take_all}
+use Rattle.std.proofs.lemmas.List.{drop-append-le, drop-drop, drop_at}
 use Rattle.std.specs.Prelude.{◌≢◌, IfOk}
-use Rattle.httparse.specs.Grammar.{RequestHead, ReadsRequest, HasNoRequest, print_request}
+use Rattle.httparse.specs.Grammar.{HasNoRequest, print_request}
 use Rattle.wf_shared.specs.HttpBody as plain
 use Rattle.wf_shared.specs.HttpBody.{Close, Open, Ended, Broke, length_state, unless_closed, Complete, Malformed, Oversize, BodyState, headers_of}
 use Rattle.wf_http_body.specs.declared.body.Chunks.{Chunks}

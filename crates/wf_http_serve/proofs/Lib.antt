@@ -1,5 +1,6 @@
-pub mod Sizes
-pub mod Targets
+pub mod Coming
 pub mod Fronts
 pub mod Lasting
-pub mod Coming
+pub mod OneVisit
+pub mod Sizes
+pub mod Targets

@@ -1,5 +1,6 @@
 -- A request that comes to a callback, of all bytes heard of it (RFC 9112).
---     VisitOf      not yet a request, a bad one, one that is too large, or what is asked
+--     VisitOf        not yet a request, a bad one, one that is too large, or what is asked
+--     HasOneState    the same bytes come to one of these
 use Rattle.std.specs.Prelude.{◌≡◌, ℕ, ◌<◌, ◌≤◌, Bool, true, false, ◌≢◌, ◌⊎◌, List, [], ◌∷◌, length, if◌then◌else◌, ◌==◌, IsTrue}
 use Rattle.std.specs.List.{list_any}
 use Rattle.httparse.specs.Grammar.{RequestHead, ReadsRequest, print_request, NeverHasRequest, HasNoRequest}
@@ -79,3 +80,6 @@ VisitOf heard close (Asks method target fields body) =
 VisitOf heard close TooLarge = HasSomeBody heard close Oversize
 VisitOf heard close Bad = HasSomeBody heard close Malformed ⊎ (IsBadHead heard ⊎ ((close ≢ Open) × IsHeadless heard))
 VisitOf heard close NotYet = (close ≡ Open) × (HasSomeBody heard close Waiting ⊎ IsHeadless heard)
+
+abbrev pub HasOneState : Type 0
+HasOneState = (heard : List ℕ) (close : Close) (v w : VisitState) → VisitOf heard close v → VisitOf heard close w → v ≡ w

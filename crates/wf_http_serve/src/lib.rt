@@ -6,11 +6,13 @@ mod body;
 mod first_line;
 mod framing;
 mod head;
+mod laws;
 mod reply;
 mod request;
 mod stage;
 mod visit;
 
 pub use asker::{Asker, VisitState};
+pub use laws::visits_have_one_state;
 pub use reply::{ReplyCode, reply_bytes};
 pub use visit::Visit;

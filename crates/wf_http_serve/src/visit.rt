@@ -1,5 +1,5 @@
 // A request that comes in pieces.
-ghost use Rattle.std.specs.Prelude.{◌≡◌, [], ◌++◌, IfOk, List, ℕ, OnErr, OnOk, if◌then◌else◌, is_ok};
+ghost use Rattle.std.specs.Prelude.{◌≡◌, [], ◌++◌, List, ℕ, OnErr, OnOk, if◌then◌else◌, is_ok};
 ghost use Rattle.wf_shared.specs.HttpBody.{Close, Ended, Open};
 ghost use Rattle.wf_http_serve.specs.Plain.{plain_state};
 ghost use Rattle.wf_http_serve.specs.declared.stage.Stage.TheVariants.{Head};
@@ -36,16 +36,16 @@ pub struct Visit {
 
 impl Visit {
     /// A visit of which nothing was heard.
-    pub fn new(alloc: Global) -> Result<Visit, OutOfMemory>
-        ensures { IfOk result (λ v. HasHeard v [] Open) }
+    pub fn new(alloc: Global) -> Visit
+        ensures { HasHeard result [] Open }
     {
-        Ok(Visit {
+        Visit {
             stage: Stage::Head,
             unread: Vec::new(alloc),
             chunks: Chunks::new(alloc),
             content: Vec::new(alloc),
             is_ended: false,
-        })
+        }
     }
 
     /// Hears a piece. Without memory nothing is heard.

@@ -1,5 +1,4 @@
-use Rattle.std.proofs.Common.{arith, drop, ◌∙◌, ◌++◌, ◌≡◌, ℕ, List, take, subst}
-use Rattle.wf_http_body.specs.declared.body.End.{End}
+use Rattle.std.proofs.Common.{arith, drop, ◌++◌, take, subst}
 use Rattle.wf_http_body.specs.Parts.{IsRead}
 use Rattle.wf_http_body.proofs.Reading.{settled_before, all_heard, rest_read}
 use Rattle.wf_http_body.proofs.body.read_piece.Goals as goal

@@ -6,7 +6,7 @@ use Rattle.wf_http_in.proofs.head.Head.field.Goals as goal
 
 pub unreachable-requires : goal.unreachable-requires
 unreachable-requires c =
-    c.in-Err.ensures.cases.0 (name_is_text c.self.inside.fields.items c.args.i c.index-field.result.now c.as_slice.result.now c.self.invariant (omega arith) c.index-field.ensures c.as_slice.ensures)
+    c.in-Err.ensures.cases.0 (name_is_text c.self.inside.fields.items c.args.i c.index-field.result.now c.as_slice.result.now c.self.invariant.0 (omega arith) c.index-field.ensures c.as_slice.ensures)
 
 pub returns : goal.returns
 returns c =
