@@ -29,7 +29,7 @@ use Rattle.wf_http_in.specs.Bodies.{answer_limit, IsBody}
 use Rattle.wf_http_in.specs.Found.{IsHeading, IsFinal, IsInterim, IsFramed, IsHeadFound, IsHeadOf, IsWholeHead, is_settled}
 use Rattle.wf_http_in.specs.HeadData.{HeadData}
 use Rattle.wf_http_in.specs.Heads.{IsPassed, BehindInterim, SkipsHeads, IsHeadless, IsSmallResponse, is_interim_code}
-use Rattle.wf_http_in.specs.Stages.{IsPartOf, IsOpenPart, IsRead, StaysBody, Stays, IsBehind, IsStage, settled, unfinished}
+use Rattle.wf_http_in.specs.Stages.{IsPartOf, IsOpenPart, IsRead, KeepsLittle, Leaves, StaysBody, Stays, IsBehind, IsStage, settled, unfinished}
 use Rattle.wf_http_in.proofs.BodyStates.{length_open, until_end}
 use Rattle.wf_http_in.proofs.Lasting.{skips_stay, head_stays, again, bad_heads, further, one_more}
 use Rattle.wf_http_in.proofs.Sizes.{head_some, may_begin, nothing_is_no_head}
@@ -100,23 +100,58 @@ open_is_part framing.Bad c all content part = absurd part
 abbrev pub Reads : Framing → Chunks → (content piece : List ℕ) → Chunks → (new : List ℕ) → End → Type 0
 Reads f was content piece c new e = (g : plain.Framing) (all : List ℕ) → IsFramed f g → IsPartOf f was all content → IsRead f g c (all ++ piece) new e
 
+-- what is kept is enough for the stage
+is_left : (e : End) (r : HeadData) (f : Framing) (left : List ℕ) (was c : Chunks) (grown new heard : List ℕ) → Leaves e was c grown new → IsStage (settled e (stage.Body r f)) left was grown heard
+    → IsStage (settled e (stage.Body r f)) left c new heard
+is_left end.More r f left was c grown new heard (same, is) at =
+    subst (λ (d : Chunks). IsStage (stage.Body r f) left d new heard) (sym same) (subst (λ (b : List ℕ). IsStage (stage.Body r f) left was b heard) (sym is) at)
+is_left end.Whole r f left was c grown new heard is at = subst (λ (b : List ℕ). Stays heard (Response r.code r.fields b)) (sym is) at
+is_left end.Bad r f left was c grown new heard leaves at = at
+is_left end.TooLarge r f left was c grown new heard leaves at = at
+
 -- the stage that the code is at
-at_stage : (next s : Stage) (left : List ℕ) (was c : Chunks) (grown new heard : List ℕ) → next ≡ s → c ≡ was → new ≡ grown → IsStage s left was grown heard
-    → IsStage next left c new heard
-at_stage next s left was c grown new heard goes same is at =
-    subst (λ (t : Stage). IsStage t left c new heard) (sym goes)
-    (subst (λ (d : Chunks). IsStage s left d new heard) (sym same) (subst (λ (b : List ℕ). IsStage s left was b heard) (sym is) at))
+at_stage : (next : Stage) (e : End) (r : HeadData) (f : Framing) (left : List ℕ) (was c : Chunks) (grown new heard : List ℕ) → next ≡ settled e (stage.Body r f) → Leaves e was c grown new
+    → IsStage (settled e (stage.Body r f)) left was grown heard → IsStage next left c new heard
+at_stage next e r f left was c grown new heard goes leaves at =
+    subst (λ (t : Stage). IsStage t left c new heard) (sym goes) (is_left e r f left was c grown new heard leaves at)
 
 pub body_read : (s next : Stage) (r : HeadData) (f : Framing) (heard unread left content piece grown new : List ℕ) (was read now : Chunks) (e : End)
     → s ≡ stage.Body r f → IsStage s unread was content heard → Reads f was content piece read grown e
-    → next ≡ settled e s → now ≡ read → new ≡ grown → IsStage next left now new (heard ++ piece)
+    → next ≡ settled e s → Leaves e read now grown new → IsStage next left now new (heard ++ piece)
 unfolding behind_grows
-body_read s next r f heard unread left content piece grown new was read now e is at reads goes same added =
+body_read s next r f heard unread left content piece grown new was read now e is at reads goes leaves =
     let body = subst (λ (t : Stage). IsStage t unread was content heard) is at in
     let behind = body.1 in
     let told = reads (answer.framing behind.head) body.0 behind.taken.framed (open_is_part f was body.0 content body.2) in
-    at_stage next (settled e (stage.Body r f)) left read now grown new (heard ++ piece) (goes ∙ ap (settled e) is) same added
+    at_stage next e r f left read now grown new (heard ++ piece) (goes ∙ ap (settled e) is) leaves
     (comes e r f read (heard ++ piece) (body.0 ++ piece) left grown (behind_grows heard r f body.0 piece behind) told)
+
+-- ## What is kept
+pub head_little : (s : Stage) (unread content : List ℕ) (c : Chunks) → s ≡ stage.Head → KeepsLittle s unread c content
+head_little s unread content c is = subst (λ (t : Stage). KeepsLittle t unread c content) (sym is) tt
+
+-- of a body that comes
+pub body_little : (s : Stage) (r : HeadData) (f : Framing) (unread content new : List ℕ) (was c : Chunks) → s ≡ stage.Body r f → ((f ≢ framing.InChunks) → c ≡ was)
+    → KeepsLittle s unread was content → KeepsLittle s unread c new
+body_little s r f unread content new was c is same little =
+    let kept = subst (λ (t : Stage). KeepsLittle t unread was content) is little in
+    subst (λ (t : Stage). KeepsLittle t unread c new) (sym is) (kept.0, λ other. subst IsFresh (sym (same other)) (kept.1 other))
+
+whole_kept : (s : Stage) (unread content : List ℕ) (was c : Chunks) → IsFresh c → KeepsLittle s unread was content → KeepsLittle (settled end.Whole s) unread c content
+whole_kept stage.Head unread content was c fresh little = tt
+whole_kept (stage.Body r f) unread content was c fresh little = (little.0, fresh)
+whole_kept (stage.Whole r) unread content was c fresh little = (little.0, fresh)
+whole_kept stage.Bad unread content was c fresh little = (little.0, fresh, little.2)
+whole_kept stage.TooLong unread content was c fresh little = (little.0, fresh, little.2)
+
+pub whole_little : (s next : Stage) (unread content : List ℕ) (was c : Chunks) → next ≡ settled end.Whole s → IsFresh c → KeepsLittle s unread was content → KeepsLittle next unread c content
+whole_little s next unread content was c goes fresh little = subst (λ (t : Stage). KeepsLittle t unread c content) (sym goes) (whole_kept s unread content was c fresh little)
+
+-- of an answer that is refused
+pub refused_little : (s next : Stage) (unread content : List ℕ) (c : Chunks) → next ≡ s → ((s ≡ stage.Bad) ⊎ (s ≡ stage.TooLong)) → unread ≡ [] → IsFresh c → content ≡ []
+    → KeepsLittle next unread c content
+refused_little s next unread content c goes (inl bad) none fresh empty = subst (λ (t : Stage). KeepsLittle t unread c content) (sym (goes ∙ bad)) (none, fresh, empty)
+refused_little s next unread content c goes (inr long) none fresh empty = subst (λ (t : Stage). KeepsLittle t unread c content) (sym (goes ∙ long)) (none, fresh, empty)
 
 -- ## Heads
 -- the head of the answer stands behind interim ones
@@ -196,8 +231,8 @@ IsAtHead unread c content heard = BehindInterim heard (λ rest. (rest ≡ unread
 
 pub head_read : (next : Stage) (h : Heading) (r : HeadData) (f : Framing) (n len : ℕ) (heard unread piece joined rest left content grown new : List ℕ) (was read now : Chunks) (e : End)
     → IsAtHead unread was content heard → h ≡ heading.Whole r f len → IsHeadFound unread piece joined n h → rest ≡ drop (n + len - length unread) piece
-    → Reads f was content rest read grown e → next ≡ settled e (stage.Body r f) → now ≡ read → new ≡ grown → IsStage next left now new (heard ++ piece)
-head_read next h r f n len heard unread piece joined rest left content grown new was read now e (behind_interim, none, fresh) is_whole found same_rest reads goes same added =
+    → Reads f was content rest read grown e → next ≡ settled e (stage.Body r f) → Leaves e read now grown new → IsStage next left now new (heard ++ piece)
+head_read next h r f n len heard unread piece joined rest left content grown new was read now e (behind_interim, none, fresh) is_whole found same_rest reads goes leaves =
     let whole = subst (IsHeading (drop n joined)) is_whole found.heading_is in
     let final = subst IsFinal is_whole found.final in
     let heads = joined_heads heard unread piece joined n h found behind_interim in
@@ -212,7 +247,7 @@ head_read next h r f n len heard unread piece joined rest left content grown new
     let at : IsBehind (heard ++ piece) r f rest = subst (IsBehind (heard ++ piece) r f) rest_is
     (subst (λ (s : List ℕ). IsBehind s r f (drop len (drop n joined) ++ drop found.front piece)) (piece_is heard piece found.front) all) in
     let told = reads (answer.framing at.head) [] at.taken.framed (nothing_read f was content none fresh) in
-    at_stage next (settled e (stage.Body r f)) left read now grown new (heard ++ piece) goes same added (comes e r f read (heard ++ piece) rest left grown at told)
+    at_stage next e r f left read now grown new (heard ++ piece) goes leaves (comes e r f read (heard ++ piece) rest left grown at told)
 
 pub head_bad : (next : Stage) (h : Heading) (n : ℕ) (heard unread piece joined left content new : List ℕ) (was now : Chunks) → IsAtHead unread was content heard → h ≡ heading.Bad
     → IsHeadFound unread piece joined n h → next ≡ stage.Bad → IsStage next left now new (heard ++ piece)

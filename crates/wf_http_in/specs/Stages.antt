@@ -1,6 +1,6 @@
 -- How far a reading has come by the bytes heard of an answer.
 --     HasHeard      these bytes were heard, and the connection stands so
-use Rattle.std.specs.Prelude.{◌≡◌, ℕ, ◌≤◌, List, [], ◌++◌, length, take, Option, Some, None}
+use Rattle.std.specs.Prelude.{⊤, ◌≡◌, ◌≢◌, ℕ, ◌≤◌, List, [], ◌++◌, length, take, Option, Some, None}
 use Rattle.httparse.specs.Grammar.{ResponseHead}
 use Rattle.wf_shared.specs.Events.{Reply, Response, Broken, TooLong}
 use Rattle.wf_shared.specs.HttpBody as plain
@@ -65,9 +65,18 @@ IsStage (stage.Whole r) unread c content heard = Stays heard (Response r.code r.
 IsStage stage.Bad unread c content heard = Stays heard Broken
 IsStage stage.TooLong unread c content heard = Stays heard TooLong
 
+-- what is kept: no byte of a head that is whole, of chunks only while a body comes in chunks, and no content of a bad answer
+abbrev pub KeepsLittle : Stage → (unread : List ℕ) → Chunks → (content : List ℕ) → Type 0
+KeepsLittle stage.Head unread c content = ⊤
+KeepsLittle (stage.Body r f) unread c content = (unread ≡ []) × ((f ≢ framing.InChunks) → IsFresh c)
+KeepsLittle (stage.Whole r) unread c content = (unread ≡ []) × IsFresh c
+KeepsLittle stage.Bad unread c content = (unread ≡ []) × IsFresh c × (content ≡ [])
+KeepsLittle stage.TooLong unread c content = (unread ≡ []) × IsFresh c × (content ≡ [])
+
 pub record HasHeard (r : Reading) (heard : List ℕ) (close : Close) : Type 0 where
   pub stage : IsStage r.stage r.unread.items r.chunks r.content.items heard
   pub close_is : close ≡ close_view r.close
+  pub little : KeepsLittle r.stage r.unread.items r.chunks r.content.items
 
 -- the body is read by this framing
 abbrev pub IsBodyBy : Framing → Stage → Type 0
@@ -84,6 +93,7 @@ pub record IsSame (old new : Reading) : Type 0 where
 abbrev pub GoesOn : Reading → List ℕ → Reading → Type 0
 GoesOn old piece new = (heard : List ℕ) → IsStage old.stage old.unread.items old.chunks old.content.items heard
     → IsStage new.stage new.unread.items new.chunks new.content.items (heard ++ piece)
+    × KeepsLittle new.stage new.unread.items new.chunks new.content.items
 
 -- the stage behind an end
 abbrev pub settled : End → Stage → Stage
@@ -92,6 +102,13 @@ settled end.Whole (stage.Body r f) = stage.Whole r
 settled end.Whole s = s
 settled end.Bad s = stage.Bad
 settled end.TooLarge s = stage.TooLong
+
+-- what an end leaves of chunks and of the content
+abbrev pub Leaves : End → (old new : Chunks) → (content left : List ℕ) → Type 0
+Leaves end.More old new content left = (new ≡ old) × (left ≡ content)
+Leaves end.Whole old new content left = left ≡ content
+Leaves end.Bad old new content left = ⊤
+Leaves end.TooLarge old new content left = ⊤
 
 -- the answer of what isn't whole: there is none yet, unless the connection is closed
 abbrev pub unfinished : Close → Option Reply

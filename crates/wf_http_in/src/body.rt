@@ -1,9 +1,9 @@
 // Bodies of answers, read as they come.
-ghost use Rattle.std.specs.Prelude.{◌≡◌, ◌++◌, IfOk, List, OnErr, ℕ};
+ghost use Rattle.std.specs.Prelude.{◌≡◌, ◌≢◌, ◌++◌, IfOk, List, OnErr, ℕ};
 ghost use Rattle.wf_shared.specs.HttpBody as plain;
 ghost use Rattle.wf_http_body.specs.declared.body.Chunks.{Chunks as ChunksRead};
 ghost use Rattle.wf_http_body.specs.Parts.{IsSame};
-ghost use Rattle.wf_http_in.specs.declared.framing.Framing.TheVariants.{ToTheEnd};
+ghost use Rattle.wf_http_in.specs.declared.framing.Framing.TheVariants.{InChunks, ToTheEnd};
 ghost use Rattle.wf_http_in.specs.Found.{IsFramed};
 ghost use Rattle.wf_http_in.specs.Stages.{IsPartOf, IsRead};
 
@@ -20,6 +20,7 @@ pub(crate) fn read_body(
 ) -> Result<End, OutOfMemory>
     ensures kept { OnErr result (IsSame chunks.old chunks.new) }
     ensures content { OnErr result (content.new.items ≡ content.old.items) }
+    ensures chunks { (framing ≢ InChunks) → chunks.new ≡ chunks.old }
     ensures read { IfOk result (λ e. (f : plain.Framing) (all : List ℕ) → IsFramed framing f
         → IsPartOf framing chunks.old all content.old.items
         → IsRead framing f chunks.new (all ++ piece.now) content.new.items e) }

@@ -1,10 +1,11 @@
 // An answer that comes in pieces.
 ghost use Rattle.std.specs.Prelude.{◌≡◌, ◌≤◌, [], ◌++◌, List, ℕ, OnErr, OnOk, drop, if◌then◌else◌, is_ok, length, option_map};
 ghost use Rattle.wf_shared.specs.HttpBody.{Close as Connection, Open as is_open, Ended as has_ended, Broke as is_broken};
+ghost use Rattle.wf_http_body.specs.Parts.{IsFresh};
 ghost use Rattle.wf_http_in.specs.AnswerOf.{AnswerOf};
 ghost use Rattle.wf_http_in.specs.View.{answer_view, close_view};
 ghost use Rattle.wf_http_in.specs.declared.stage.Stage.TheVariants.{Head};
-ghost use Rattle.wf_http_in.specs.Stages.{GoesOn, HasHeard, IsBodyBy, IsSame, settled, unfinished};
+ghost use Rattle.wf_http_in.specs.Stages.{GoesOn, HasHeard, IsBodyBy, IsSame, KeepsLittle, Leaves, settled, unfinished};
 
 use crate::Answer;
 use crate::body::read_body;
@@ -17,7 +18,8 @@ use wf_http_body::{Chunks, End};
 use wf_value::OutOfMemory;
 
 /// An answer, as it is heard piece by piece (RFC 9112). Its pieces may be cut anywhere: the answer
-/// depends on all bytes heard alone, and on how the connection stands.
+/// depends on all bytes heard alone, and on how the connection stands. Of an answer that is settled
+/// its head and its body alone are kept, and nothing of one that is broken or too long.
 ///
 /// A head that isn't whole is read anew with each piece, so one of 65,536 bytes that comes byte by
 /// byte costs some 2,000,000,000 steps; so is the line of a chunk, of at most 4,096 bytes, and the
@@ -150,7 +152,8 @@ impl Reading {
             Heading::Whole(head, framing, len) => {
                 let (_, rest) = piece.split_at((passed + len).saturating_sub(begun));
                 let end = read_body(&mut self.chunks, &mut self.content, framing, rest)?;
-                self.unread.clear();
+                let alloc = *self.unread.allocator();
+                self.unread = Vec::new(alloc);
                 self.stage = Stage::Body(head, framing);
                 self.settle(end);
             }
@@ -172,13 +175,19 @@ impl Reading {
     // Goes to the stage behind an end.
     fn settle(&mut self, end: End)
         ensures stage { self.new.stage ≡ settled end self.old.stage }
-        ensures chunks { self.new.chunks ≡ self.old.chunks }
-        ensures content { self.new.content.items ≡ self.old.content.items }
+        ensures left { Leaves end self.old.chunks self.new.chunks self.old.content.items
+            self.new.content.items }
+        ensures little { KeepsLittle self.old.stage self.old.unread.items self.old.chunks
+            self.old.content.items
+            → KeepsLittle self.new.stage self.new.unread.items self.new.chunks
+            self.new.content.items }
         ensures close { self.new.close ≡ self.old.close }
     {
         match end {
             End::More => {}
             End::Whole => {
+                let alloc = *self.content.allocator();
+                self.chunks = Chunks::new(alloc);
                 let stage = mem::replace(&mut self.stage, Stage::Bad);
                 self.stage = stage.whole();
             }
@@ -203,14 +212,18 @@ impl Reading {
         }
     }
 
-    // What was heard isn't wanted any more.
+    // What was heard isn't wanted any more, so nothing of it is kept.
     fn refuse(&mut self, stage: Stage)
         ensures stage { self.new.stage ≡ stage }
-        ensures chunks { self.new.chunks ≡ self.old.chunks }
-        ensures content { self.new.content.items ≡ self.old.content.items }
+        ensures unread { self.new.unread.items ≡ [] }
+        ensures chunks { IsFresh self.new.chunks }
+        ensures content { self.new.content.items ≡ [] }
         ensures close { self.new.close ≡ self.old.close }
     {
-        self.unread.clear();
+        let alloc = *self.content.allocator();
+        self.unread = Vec::new(alloc);
+        self.chunks = Chunks::new(alloc);
+        self.content = Vec::new(alloc);
         self.stage = stage;
     }
 }

@@ -23,7 +23,7 @@ use Rattle.wf_http_serve.specs.declared.stage.Stage.{Stage}
 use Rattle.wf_http_serve.specs.declared.stage.Stage.TheVariants as stage
 use Rattle.wf_http_serve.specs.Found.{IsHeading, IsHeadFound, IsWholeHead}
 use Rattle.wf_http_serve.specs.Plain.{IsFramed, close_of}
-use Rattle.wf_http_serve.specs.Stages.{IsPartOf, IsOpenPart, IsRead, StaysBody, Stays, IsBehind, IsStage, settled}
+use Rattle.wf_http_serve.specs.Stages.{IsPartOf, IsOpenPart, IsRead, KeepsLittle, Leaves, StaysBody, Stays, IsBehind, IsStage, settled}
 use Rattle.wf_http_serve.specs.Visits as visits
 use Rattle.wf_http_serve.specs.Visits.{visit_limit, VisitOf, HasBody, HasSomeBody, IsHeadless, IsVisitBody, HasHead}
 use Rattle.wf_http_serve.proofs.Lasting.{head_stays, again, bad_heads}
@@ -93,23 +93,58 @@ open_is_part framing.Bad c all content part = absurd part
 abbrev pub Reads : Framing → Chunks → (content piece : List ℕ) → Chunks → (new : List ℕ) → End → Type 0
 Reads f was content piece c new e = (g : plain.Framing) (all : List ℕ) → IsFramed f g → IsPartOf f was all content → IsRead f g c (all ++ piece) new e
 
+-- what is kept is enough for the stage
+is_left : (e : End) (r : Request) (f : Framing) (left : List ℕ) (was c : Chunks) (grown new heard : List ℕ) → Leaves e was c grown new → IsStage (settled e (stage.Body r f)) left was grown heard
+    → IsStage (settled e (stage.Body r f)) left c new heard
+is_left end.More r f left was c grown new heard (same, is) at =
+    subst (λ (d : Chunks). IsStage (stage.Body r f) left d new heard) (sym same) (subst (λ (b : List ℕ). IsStage (stage.Body r f) left was b heard) (sym is) at)
+is_left end.Whole r f left was c grown new heard is at = subst (λ (b : List ℕ). Stays heard (visits.Asks r.method r.target r.fields b)) (sym is) at
+is_left end.Bad r f left was c grown new heard leaves at = at
+is_left end.TooLarge r f left was c grown new heard leaves at = at
+
 -- the stage that the code is at
-at_stage : (next s : Stage) (left : List ℕ) (was c : Chunks) (grown new heard : List ℕ) → next ≡ s → c ≡ was → new ≡ grown → IsStage s left was grown heard
-    → IsStage next left c new heard
-at_stage next s left was c grown new heard goes same is at =
-    subst (λ (t : Stage). IsStage t left c new heard) (sym goes)
-    (subst (λ (d : Chunks). IsStage s left d new heard) (sym same) (subst (λ (b : List ℕ). IsStage s left was b heard) (sym is) at))
+at_stage : (next : Stage) (e : End) (r : Request) (f : Framing) (left : List ℕ) (was c : Chunks) (grown new heard : List ℕ) → next ≡ settled e (stage.Body r f) → Leaves e was c grown new
+    → IsStage (settled e (stage.Body r f)) left was grown heard → IsStage next left c new heard
+at_stage next e r f left was c grown new heard goes leaves at =
+    subst (λ (t : Stage). IsStage t left c new heard) (sym goes) (is_left e r f left was c grown new heard leaves at)
 
 pub body_read : (s next : Stage) (r : Request) (f : Framing) (heard unread left content piece grown new : List ℕ) (was read now : Chunks) (e : End)
     → s ≡ stage.Body r f → IsStage s unread was content heard → Reads f was content piece read grown e
-    → next ≡ settled e s → now ≡ read → new ≡ grown → IsStage next left now new (heard ++ piece)
+    → next ≡ settled e s → Leaves e read now grown new → IsStage next left now new (heard ++ piece)
 unfolding behind_grows
-body_read s next r f heard unread left content piece grown new was read now e is at reads goes same added =
+body_read s next r f heard unread left content piece grown new was read now e is at reads goes leaves =
     let body = subst (λ (t : Stage). IsStage t unread was content heard) is at in
     let behind = body.1 in
     let told = reads (visits.framing (headers_of behind.head.fields)) body.0 behind.taken.framed (open_is_part f was body.0 content body.2) in
-    at_stage next (settled e (stage.Body r f)) left read now grown new (heard ++ piece) (goes ∙ ap (settled e) is) same added
+    at_stage next e r f left read now grown new (heard ++ piece) (goes ∙ ap (settled e) is) leaves
     (comes e r f read (heard ++ piece) (body.0 ++ piece) left grown (behind_grows heard r f body.0 piece behind) told)
+
+-- ## What is kept
+pub head_little : (s : Stage) (unread content : List ℕ) (c : Chunks) → s ≡ stage.Head → KeepsLittle s unread c content
+head_little s unread content c is = subst (λ (t : Stage). KeepsLittle t unread c content) (sym is) tt
+
+-- of a body that comes
+pub body_little : (s : Stage) (r : Request) (f : Framing) (unread content new : List ℕ) (was c : Chunks) → s ≡ stage.Body r f → ((f ≢ framing.InChunks) → c ≡ was)
+    → KeepsLittle s unread was content → KeepsLittle s unread c new
+body_little s r f unread content new was c is same little =
+    let kept = subst (λ (t : Stage). KeepsLittle t unread was content) is little in
+    subst (λ (t : Stage). KeepsLittle t unread c new) (sym is) (kept.0, λ other. subst IsFresh (sym (same other)) (kept.1 other))
+
+whole_kept : (s : Stage) (unread content : List ℕ) (was c : Chunks) → IsFresh c → KeepsLittle s unread was content → KeepsLittle (settled end.Whole s) unread c content
+whole_kept stage.Head unread content was c fresh little = tt
+whole_kept (stage.Body r f) unread content was c fresh little = (little.0, fresh)
+whole_kept (stage.Asked r) unread content was c fresh little = (little.0, fresh)
+whole_kept stage.Bad unread content was c fresh little = (little.0, fresh, little.2)
+whole_kept stage.TooLarge unread content was c fresh little = (little.0, fresh, little.2)
+
+pub whole_little : (s next : Stage) (unread content : List ℕ) (was c : Chunks) → next ≡ settled end.Whole s → IsFresh c → KeepsLittle s unread was content → KeepsLittle next unread c content
+whole_little s next unread content was c goes fresh little = subst (λ (t : Stage). KeepsLittle t unread c content) (sym goes) (whole_kept s unread content was c fresh little)
+
+-- of a request that is refused
+pub refused_little : (s next : Stage) (unread content : List ℕ) (c : Chunks) → next ≡ s → ((s ≡ stage.Bad) ⊎ (s ≡ stage.TooLarge)) → unread ≡ [] → IsFresh c → content ≡ []
+    → KeepsLittle next unread c content
+refused_little s next unread content c goes (inl bad) none fresh empty = subst (λ (t : Stage). KeepsLittle t unread c content) (sym (goes ∙ bad)) (none, fresh, empty)
+refused_little s next unread content c goes (inr large) none fresh empty = subst (λ (t : Stage). KeepsLittle t unread c content) (sym (goes ∙ large)) (none, fresh, empty)
 
 -- ## Bodies
 length_read : (n : ℕ) (f : plain.Framing) (c : Chunks) (all content : List ℕ) (e : End) → f ≡ plain.OfLength n → IsLengthRead visit_limit n all content e
@@ -184,8 +219,8 @@ IsAtHead unread c content heard = (unread ≡ heard) × (content ≡ []) × IsFr
 
 pub head_read : (next : Stage) (h : Heading) (r : Request) (f : Framing) (len : ℕ) (heard unread piece joined rest left content grown new : List ℕ) (was read now : Chunks) (e : End)
     → IsAtHead unread was content heard → h ≡ heading.Whole r f len → IsHeadFound unread piece joined h → rest ≡ drop (len - length unread) piece
-    → Reads f was content rest read grown e → next ≡ settled e (stage.Body r f) → now ≡ read → new ≡ grown → IsStage next left now new (heard ++ piece)
-head_read next h r f len heard unread piece joined rest left content grown new was read now e (same_heard, none, fresh, less) is_whole found same_rest reads goes same added =
+    → Reads f was content rest read grown e → next ≡ settled e (stage.Body r f) → Leaves e read now grown new → IsStage next left now new (heard ++ piece)
+head_read next h r f len heard unread piece joined rest left content grown new was read now e (same_heard, none, fresh, less) is_whole found same_rest reads goes leaves =
     let whole = subst (IsHeading joined) is_whole found.heading_is in
     let past = head_past unread (take found.front piece) joined len r f found.heard_is (subst HasNoRequest (sym same_heard) less.none) whole in
     let rest_is : drop len joined ++ drop found.front piece ≡ rest = behind_head unread piece joined found.front len found.heard_is past whole.within ∙ sym same_rest in
@@ -198,7 +233,7 @@ head_read next h r f len heard unread piece joined rest left content grown new w
       taken = whole.taken;
     } in
     let told = reads (visits.framing (headers_of at.head.fields)) [] at.taken.framed (nothing_read f was content none fresh) in
-    at_stage next (settled e (stage.Body r f)) left read now grown new (heard ++ piece) goes same added (comes e r f read (heard ++ piece) rest left grown at told)
+    at_stage next e r f left read now grown new (heard ++ piece) goes leaves (comes e r f read (heard ++ piece) rest left grown at told)
 
 pub head_bad : (next : Stage) (h : Heading) (heard unread piece joined left content new : List ℕ) (was now : Chunks) → IsAtHead unread was content heard → h ≡ heading.Bad
     → IsHeadFound unread piece joined h → next ≡ stage.Bad → IsStage next left now new (heard ++ piece)

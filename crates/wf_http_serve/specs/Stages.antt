@@ -1,6 +1,6 @@
 -- What a visit is by the bytes heard of it.
 --     HasHeard      these bytes were heard, and the connection stands so
-use Rattle.std.specs.Prelude.{◌≡◌, ℕ, List, [], ◌++◌, length, take}
+use Rattle.std.specs.Prelude.{⊤, ◌≡◌, ◌≢◌, ℕ, List, [], ◌++◌, length, take}
 use Rattle.httparse.specs.Grammar.{RequestHead}
 use Rattle.wf_shared.specs.HttpBody as plain
 use Rattle.wf_shared.specs.HttpBody.{Close, BodyState, Complete, Malformed, Oversize}
@@ -60,9 +60,18 @@ IsStage (stage.Asked r) unread c content heard = Stays heard (Asks r.method r.ta
 IsStage stage.Bad unread c content heard = Stays heard Bad
 IsStage stage.TooLarge unread c content heard = Stays heard TooLarge
 
+-- what is kept: no byte of a head that is whole, of chunks only while a body comes in chunks, and no content of a bad request
+abbrev pub KeepsLittle : Stage → (unread : List ℕ) → Chunks → (content : List ℕ) → Type 0
+KeepsLittle stage.Head unread c content = ⊤
+KeepsLittle (stage.Body r f) unread c content = (unread ≡ []) × ((f ≢ framing.InChunks) → IsFresh c)
+KeepsLittle (stage.Asked r) unread c content = (unread ≡ []) × IsFresh c
+KeepsLittle stage.Bad unread c content = (unread ≡ []) × IsFresh c × (content ≡ [])
+KeepsLittle stage.TooLarge unread c content = (unread ≡ []) × IsFresh c × (content ≡ [])
+
 pub record HasHeard (v : Visit) (heard : List ℕ) (close : Close) : Type 0 where
   pub stage : IsStage v.stage v.unread.items v.chunks v.content.items heard
   pub close_is : close ≡ close_of v.is_ended
+  pub little : KeepsLittle v.stage v.unread.items v.chunks v.content.items
 
 -- the body is read by this framing
 abbrev pub IsBodyBy : Framing → Stage → Type 0
@@ -79,6 +88,7 @@ pub record IsSame (old new : Visit) : Type 0 where
 abbrev pub GoesOn : Visit → List ℕ → Visit → Type 0
 GoesOn old piece new = (heard : List ℕ) → IsStage old.stage old.unread.items old.chunks old.content.items heard
     → IsStage new.stage new.unread.items new.chunks new.content.items (heard ++ piece)
+    × KeepsLittle new.stage new.unread.items new.chunks new.content.items
 
 -- the stage behind an end
 abbrev pub settled : End → Stage → Stage
@@ -87,3 +97,10 @@ settled end.Whole (stage.Body r f) = stage.Asked r
 settled end.Whole s = s
 settled end.Bad s = stage.Bad
 settled end.TooLarge s = stage.TooLarge
+
+-- what an end leaves of chunks and of the content
+abbrev pub Leaves : End → (old new : Chunks) → (content left : List ℕ) → Type 0
+Leaves end.More old new content left = (new ≡ old) × (left ≡ content)
+Leaves end.Whole old new content left = left ≡ content
+Leaves end.Bad old new content left = ⊤
+Leaves end.TooLarge old new content left = ⊤

@@ -1,7 +1,8 @@
 // Bodies of requests, read as they come.
-ghost use Rattle.std.specs.Prelude.{◌≡◌, ◌++◌, IfOk, List, ℕ, OnErr};
+ghost use Rattle.std.specs.Prelude.{◌≡◌, ◌≢◌, ◌++◌, IfOk, List, ℕ, OnErr};
 ghost use Rattle.wf_shared.specs.HttpBody as plain;
 ghost use Rattle.wf_http_body.specs.Parts.{IsSame};
+ghost use Rattle.wf_http_serve.specs.declared.framing.Framing.TheVariants.{InChunks};
 ghost use Rattle.wf_http_serve.specs.Plain.{IsFramed};
 ghost use Rattle.wf_http_serve.specs.Stages.{IsPartOf, IsRead};
 
@@ -18,6 +19,7 @@ pub(crate) fn read_body(
 ) -> Result<End, OutOfMemory>
     ensures kept { OnErr result (IsSame chunks.old chunks.new) }
     ensures content { OnErr result (content.new.items ≡ content.old.items) }
+    ensures chunks { (framing ≢ InChunks) → chunks.new ≡ chunks.old }
     ensures read { IfOk result (λ e. (f : plain.Framing) (all : List ℕ) → IsFramed framing f
         → IsPartOf framing chunks.old all content.old.items
         → IsRead framing f chunks.new (all ++ piece.now) content.new.items e) }

@@ -1,9 +1,10 @@
 // A request that comes in pieces.
 ghost use Rattle.std.specs.Prelude.{◌≡◌, [], ◌++◌, List, ℕ, OnErr, OnOk, if◌then◌else◌, is_ok};
 ghost use Rattle.wf_shared.specs.HttpBody.{Close, Ended, Open};
+ghost use Rattle.wf_http_body.specs.Parts.{IsFresh};
 ghost use Rattle.wf_http_serve.specs.Plain.{plain_state};
 ghost use Rattle.wf_http_serve.specs.declared.stage.Stage.TheVariants.{Head};
-ghost use Rattle.wf_http_serve.specs.Stages.{GoesOn, HasHeard, IsBodyBy, IsSame, settled};
+ghost use Rattle.wf_http_serve.specs.Stages.{GoesOn, HasHeard, IsBodyBy, IsSame, KeepsLittle, Leaves, settled};
 ghost use Rattle.wf_http_serve.specs.Visits.{VisitOf};
 
 use crate::asker::{Asker, VisitState};
@@ -17,7 +18,8 @@ use wf_http_body::{Chunks, End};
 use wf_value::OutOfMemory;
 
 /// What of a request that comes to a callback was heard so far (RFC 9112). Its pieces may be cut
-/// anywhere: what is known depends on all bytes heard alone.
+/// anywhere: what is known depends on all bytes heard alone. Of a request that is whole its head and
+/// its body alone are kept, and nothing of one that is bad or too large.
 ///
 /// A head that isn't whole is read anew with each piece, so one of 65,536 bytes that comes byte by
 /// byte costs some 2,000,000,000 steps; so are the line of a chunk, of at most 4,096 bytes, and the
@@ -123,7 +125,8 @@ impl Visit {
             Heading::Whole(request, framing, len) => {
                 let (_, rest) = piece.split_at(len.saturating_sub(begun));
                 let end = read_body(&mut self.chunks, &mut self.content, framing, rest)?;
-                self.unread.clear();
+                let alloc = *self.unread.allocator();
+                self.unread = Vec::new(alloc);
                 self.stage = Stage::Body(request, framing);
                 self.settle(end);
             }
@@ -145,13 +148,19 @@ impl Visit {
     // Goes to the stage behind an end.
     fn settle(&mut self, end: End)
         ensures stage { self.new.stage ≡ settled end self.old.stage }
-        ensures chunks { self.new.chunks ≡ self.old.chunks }
-        ensures content { self.new.content.items ≡ self.old.content.items }
+        ensures left { Leaves end self.old.chunks self.new.chunks self.old.content.items
+            self.new.content.items }
+        ensures little { KeepsLittle self.old.stage self.old.unread.items self.old.chunks
+            self.old.content.items
+            → KeepsLittle self.new.stage self.new.unread.items self.new.chunks
+            self.new.content.items }
         ensures ended { self.new.is_ended ≡ self.old.is_ended }
     {
         match end {
             End::More => {}
             End::Whole => {
+                let alloc = *self.content.allocator();
+                self.chunks = Chunks::new(alloc);
                 let stage = mem::replace(&mut self.stage, Stage::Bad);
                 self.stage = stage.whole();
             }
@@ -160,14 +169,18 @@ impl Visit {
         }
     }
 
-    // What was heard isn't wanted any more.
+    // What was heard isn't wanted any more, so nothing of it is kept.
     fn refuse(&mut self, stage: Stage)
         ensures stage { self.new.stage ≡ stage }
-        ensures chunks { self.new.chunks ≡ self.old.chunks }
-        ensures content { self.new.content.items ≡ self.old.content.items }
+        ensures unread { self.new.unread.items ≡ [] }
+        ensures chunks { IsFresh self.new.chunks }
+        ensures content { self.new.content.items ≡ [] }
         ensures ended { self.new.is_ended ≡ self.old.is_ended }
     {
-        self.unread.clear();
+        let alloc = *self.content.allocator();
+        self.unread = Vec::new(alloc);
+        self.chunks = Chunks::new(alloc);
+        self.content = Vec::new(alloc);
         self.stage = stage;
     }
 }
