@@ -1,4 +1,5 @@
 pub mod Said
+pub mod Numbered
 pub mod Walks
 pub mod Check
 pub mod Seen

@@ -13,6 +13,7 @@ use crate::flows::program as walk;
 use std::alloc::Global;
 use wf_ast::Program;
 use wf_diagnostics::{CheckKind, Stop};
+use wf_table::table_of;
 use wf_value::Path;
 
 /// Why a program isn't accepted: what is said first in preorder, with its place; or there is no memory to look for it.
@@ -22,7 +23,7 @@ pub enum CheckFault {
     OutOfMemory,
 }
 
-/// Checks a program: it is accepted, or this is what is said first. Want of memory may always come.
+/// Checks a program: it is accepted, and its table is made, or this is what is said first. Want of memory may always come.
 #[tactic(auto, using(crate::proofs::Accepted::accepted_when, crate::proofs::Accepted::accept_of, crate::proofs::Accepted::built_of))]
 pub fn check(alloc: Global, program: Program) -> Result<Checked, CheckFault>
     requires { IsTrue (list_all small_backoff (nodes (program_view program).flows)) }
@@ -32,8 +33,12 @@ pub fn check(alloc: Global, program: Program) -> Result<Checked, CheckFault>
     ensures fault { IfErr result (IsCheckFault (program_view program)) }
 {
     match walk(alloc, program.flows.items()) {
-        Ok(_) => Ok(Checked { program }),
-        Err(stop) => Err(told(alloc, stop)),
+        Ok(_) => {}
+        Err(stop) => return Err(told(alloc, stop)),
+    }
+    match table_of(alloc, &program) {
+        Ok(table) => Ok(Checked { program, table }),
+        Err(_) => Err(CheckFault::OutOfMemory),
     }
 }
 

@@ -1,13 +1,11 @@
 -- The lines of the table one after another, and what some of them look at.
 use Rattle.std.proofs.Common.{◌≡◌, ◌==◌, ℕ, List, [], ◌∷◌, Option, Some, None, Result, Err, length, map, not, refl, sym, ap, subst}
 use Rattle.std.proofs.Math.Dec.{eqb-suc-zero}
-use Rattle.wf_ast.specs.Blocks.{first, part_next}
+use Rattle.wf_ast.specs.Blocks.{first}
 use Rattle.wf_ast.specs.Nodes.{NodePart, Path, part_body}
-use Rattle.wf_ast.specs.Tree as tree
-use Rattle.wf_ast.specs.View.{expr_view, param_view}
-use Rattle.wf_ast.specs.declared.expr.Expr.{Expr}
+use Rattle.wf_ast.specs.View.{param_view}
 use Rattle.wf_ast.specs.declared.program.Param.{Param}
-use Rattle.wf_check_expressions.specs.Forms.{beside_main, form, functions, has_exprs, has_params, idle, jump, not_yet, parameters, places}
+use Rattle.wf_check_expressions.specs.Forms.{beside_main, form, functions, has_params, not_yet, parameters}
 use Rattle.wf_diagnostics.proofs.Told.{tells_as}
 use Rattle.wf_diagnostics.specs.Answers.{Tells}
 use Rattle.wf_diagnostics.specs.Said.{Said, as_said}
@@ -21,9 +19,6 @@ all_forms n part path =
     as_said kinds.NotYet (beside_main n part path)
     ∷ as_said kinds.NotYet (parameters part path)
     ∷ as_said kinds.NotYet (form (part_body part) path)
-    ∷ as_said kinds.NotYet (jump (part_next part) path)
-    ∷ as_said kinds.NotYet (idle part path)
-    ∷ as_said kinds.NotYet (places part path)
     ∷ as_said kinds.NotYet (functions part path) ∷ []
 
 of_places : (k : CheckKind) (os : List (Option Path)) → first (map (as_said k) os) ≡ as_said k (first os)
@@ -34,16 +29,12 @@ of_places k (Some p ∷ os) = refl
 pub forms_of : (r : Result (Unit {0}) Stop) (n : ℕ) (part : NodePart) → Tells r (λ path. first (all_forms n part path)) → Tells r (λ path. as_said kinds.NotYet (not_yet n part path))
 forms_of r n part h =
     tells_as r (λ path. first (all_forms n part path)) (λ path. as_said kinds.NotYet (not_yet n part path))
-    (λ path. of_places kinds.NotYet (beside_main n part path ∷ parameters part path ∷ form (part_body part) path ∷ jump (part_next part) path ∷ idle part path ∷ places part path ∷ functions part path ∷ [])) h
+    (λ path. of_places kinds.NotYet (beside_main n part path ∷ parameters part path ∷ form (part_body part) path ∷ functions part path ∷ [])) h
 
 pub forms_chained : (r : Result (Unit {0}) Stop) (s : Stop) (n : ℕ) (part : NodePart) → r ≡ Err s → Tells (Err s) (λ path. first (all_forms n part path)) → Tells r (λ path. as_said kinds.NotYet (not_yet n part path))
 forms_chained r s n part is h = subst (λ q. Tells q (λ path. as_said kinds.NotYet (not_yet n part path))) (sym is) (forms_of (Err s) n part h)
 
--- ## Parameters and places
+-- ## Parameters
 pub some_params : (xs : List Param) → has_params (map param_view xs) ≡ not (length xs == 0)
 some_params [] = refl
 some_params (x ∷ xs) = sym (ap not (eqb-suc-zero (length xs)))
-
-pub some_exprs : (xs : List Expr) → has_exprs (tree.exprs (map expr_view xs)) ≡ not (length xs == 0)
-some_exprs [] = refl
-some_exprs (x ∷ xs) = sym (ap not (eqb-suc-zero (length xs)))

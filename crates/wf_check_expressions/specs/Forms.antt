@@ -1,8 +1,8 @@
 -- The forms of the language that aren't built yet: one line a form, so that a line goes when its form comes.
 --     not_yet     where a node uses one of them
 use Rattle.std.specs.Prelude.{ℕ, Bool, true, false, ◌&&◌, List, [], ◌∷◌, codes, nat_lt, Option, Some, None}
-use Rattle.wf_ast.specs.Blocks.{at_if, first, part_next}
-use Rattle.wf_ast.specs.Nodes.{Path, NodePart, FlowPart, StepPart, EntryPart, part_body, below}
+use Rattle.wf_ast.specs.Blocks.{at_if, first}
+use Rattle.wf_ast.specs.Nodes.{Path, NodePart, FlowPart, part_body, below}
 use Rattle.wf_ast.specs.Tree.{Expr, Exprs, no_exprs, expr, Body, Param}
 use Rattle.wf_ast.specs.declared.expr.Func.{Func}
 use Rattle.wf_ast.specs.declared.expr.Func.TheVariants as func
@@ -29,43 +29,13 @@ parameters part path = None
 -- the key of a body whose form isn't built
 abbrev pub form_key : Body → Option Text
 form_key (Body.Call f) = Some (codes "call")
-form_key (Body.Switch arms) = Some (codes "switch")
-form_key (Body.For l) = Some (codes "for")
 form_key (Body.Parallel p) = Some (codes "parallel")
-form_key (Body.Block ss) = Some (codes "steps")
 form_key (Body.Try t) = Some (codes "try")
-form_key (Body.Raise t) = Some (codes "raise")
 form_key body = None
 
 -- such a body
 abbrev pub form : Body → Path → Option Path
 form body path = elim (form_key body) [ None ↦ None | Some k ↦ Some (below path k) ]
-
--- a jump
-abbrev pub jump : Option Text → Path → Option Path
-jump None path = None
-jump (Some x) path = Some (below path (codes "next"))
-
--- the body has no form
-abbrev pub does_nothing : Body → Bool
-does_nothing Body.Nothing = true
-does_nothing body = false
-
--- a step that only goes on
-abbrev pub idle : NodePart → Path → Option Path
-idle (StepPart x body next) path = at_if (does_nothing body) path
-idle part path = None
-
--- ## Entries
--- there is an expression
-abbrev pub has_exprs : Exprs → Bool
-has_exprs no_exprs = false
-has_exprs (expr e es) = true
-
--- a target with places
-abbrev pub places : NodePart → Path → Option Path
-places (EntryPart e) path = at_if (has_exprs e.target.places) path
-places part path = None
 
 -- ## Functions
 -- the function is built
@@ -110,7 +80,4 @@ not_yet number part path = first (
     beside_main number part path
     ∷ parameters part path
     ∷ form (part_body part) path
-    ∷ jump (part_next part) path
-    ∷ idle part path
-    ∷ places part path
     ∷ functions part path ∷ [])

@@ -1,9 +1,7 @@
 // The forms that aren't built yet: one function a form, so that it goes when its form comes.
 ghost use Rattle.std.specs.Prelude.{◌≡◌, map, option_map};
-ghost use Rattle.wf_ast.specs.Blocks.{part_next};
 ghost use Rattle.wf_ast.specs.Nodes.{part_body};
-ghost use Rattle.wf_ast.specs.Tree.{exprs};
-ghost use Rattle.wf_ast.specs.View.{body_view, exprs_view, params_view};
+ghost use Rattle.wf_ast.specs.View.{body_view, params_view};
 ghost use Rattle.wf_diagnostics.specs.Answers.{Tells};
 ghost use Rattle.wf_check_expressions.specs.Forms as forms;
 ghost use Rattle.wf_diagnostics.specs.Parts.{part_view};
@@ -12,8 +10,8 @@ ghost use Rattle.wf_diagnostics.specs.declared.kind.CheckKind.TheVariants as kin
 
 use crate::expressions::unbuilt;
 use std::alloc::Global;
-use wf_ast::{Body, Entry, Flow};
-use wf_diagnostics::{CheckKind, Part, Stop, next_of, speak, speak_at};
+use wf_ast::{Body, Flow};
+use wf_diagnostics::{CheckKind, Part, Stop, speak, speak_at};
 
 // A workflow beside `main`, which is the first node.
 fn beside_main(alloc: Global, part: &Part, number: u64) -> Result<(), Stop>
@@ -50,13 +48,10 @@ fn form_key(body: &Body) -> Option<&'static str>
 {
     match body {
         Body::Call(_) => Some("call"),
-        Body::Switch(_) => Some("switch"),
-        Body::For(_) => Some("for"),
         Body::Parallel(_) => Some("parallel"),
-        Body::Block(_) => Some("steps"),
         Body::Try(_) => Some("try"),
-        Body::Raise(_) => Some("raise"),
-        Body::Nothing | Body::Assign(_) | Body::Return(_) => None,
+        Body::Nothing | Body::Assign(_) | Body::Switch(_) | Body::For(_) => None,
+        Body::Block(_) | Body::Raise(_) | Body::Return(_) => None,
     }
 }
 
@@ -84,50 +79,6 @@ fn form(alloc: Global, part: &Part) -> Result<(), Stop>
     }
 }
 
-// A jump.
-fn jump(alloc: Global, part: &Part) -> Result<(), Stop>
-    ensures { Tells result (λ path. as_said kinds.NotYet
-        (forms.jump (part_next (part_view part.now)) path)) }
-{
-    match next_of(part) {
-        None => Ok(()),
-        Some(_) => speak_at(alloc, CheckKind::NotYet, true, "next"),
-    }
-}
-
-fn does_nothing(body: &Body) -> bool
-    ensures { result ≡ forms.does_nothing (body_view body.now) }
-{
-    matches!(*body, Body::Nothing)
-}
-
-// A step that only goes on.
-fn idle(alloc: Global, part: &Part) -> Result<(), Stop>
-    ensures { Tells result (λ path. as_said kinds.NotYet (forms.idle (part_view part.now) path)) }
-{
-    match part {
-        Part::Step(step) => speak(alloc, CheckKind::NotYet, does_nothing(&step.body)),
-        _ => Ok(()),
-    }
-}
-
-#[tactic(auto, using(crate::proofs::Lines::some_exprs))]
-fn has_places(entry: &Entry) -> bool
-    ensures { result ≡ forms.has_exprs (exprs (exprs_view entry.now.target.places)) }
-{
-    !entry.target.places.items().is_empty()
-}
-
-// A target with places.
-fn places(alloc: Global, part: &Part) -> Result<(), Stop>
-    ensures { Tells result (λ path. as_said kinds.NotYet (forms.places (part_view part.now) path)) }
-{
-    match part {
-        Part::Entry(entry) => speak(alloc, CheckKind::NotYet, has_places(entry)),
-        _ => Ok(()),
-    }
-}
-
 /// A form that isn't built yet is used.
 pub fn not_yet(alloc: Global, part: &Part, number: u64) -> Result<(), Stop>
     ensures { Tells result (λ path. as_said kinds.NotYet
@@ -136,8 +87,5 @@ pub fn not_yet(alloc: Global, part: &Part, number: u64) -> Result<(), Stop>
     beside_main(alloc, part, number)?;
     parameters(alloc, part)?;
     form(alloc, part)?;
-    jump(alloc, part)?;
-    idle(alloc, part)?;
-    places(alloc, part)?;
     unbuilt(alloc, part)
 }

@@ -11,7 +11,6 @@ use Rattle.wf_engine.specs.Engine.{memory, StandsFor, OpeningMoment}
 use Rattle.wf_deeds.specs.Kept as kept
 use Rattle.wf_deeds.specs.Laws.{OnlyReadings}
 use Rattle.wf_deeds.specs.Outside.{Outside}
-use Rattle.wf_engine.proofs.Forms.{source_is_straight}
 use Rattle.wf_engine.proofs.Language.{of_program}
 use Rattle.wf_engine.specs.Printed.{Scene, uses_source}
 use Rattle.wf_engine.specs.Starts.{start_of}
@@ -20,7 +19,7 @@ use Rattle.wf_events.specs.Records.{Started}
 use Rattle.wf_events.specs.Spelling.{record_bytes, HasSpelling}
 use Rattle.wf_host.specs.Source.{IsFirst}
 use Rattle.wf_args.specs.Lines.{PlainLine, line_of}
-use Rattle.wf_machine.proofs.Places.{initial_is}
+use Rattle.wf_alone.proofs.Begun.{initial_to}
 use Rattle.wf_journal_laws.specs.Language.{Language}
 use Rattle.wf_journal_laws.specs.Laws.{StartIsAHistory}
 use Rattle.wf_journal_laws.specs.Moments.{NoTurnsBehind, NextBehindHistory}
@@ -212,7 +211,7 @@ start_of_line once s l source p t is command first reads spelled meaning_of law 
     let st = start_of l source t in
     let means = meaning_of (Started st) spelled tt in
     let accepted = of_program once source p reads in
-    let begins = initial_is p st (source_is_straight source p reads) in
+    let begins = (initial_to p st).1 in
     record {
       line = l;
       bytes = source;

@@ -3,7 +3,6 @@ mod Beginning
 mod Chosen
 mod Clock
 mod FirstRecords
-pub mod Forms
 pub mod Language
 mod LivesKept
 mod LivesPrinted

@@ -1,16 +1,9 @@
 -- The lemmas of the machine.
-pub mod Sees
-pub mod Shallow
-pub mod Faults
-pub mod Straight
-pub mod Only
-pub mod Places
-pub mod Values
-pub mod Timed
-pub mod Advance
-pub mod Clocks
-pub mod Stands
-pub mod Ends
-pub mod Machines
+pub mod Begun
 pub mod Counts
-pub mod Accepted
+pub mod First
+pub mod Making
+pub mod Moving
+pub mod Places
+pub mod Plainly
+pub mod Stopping

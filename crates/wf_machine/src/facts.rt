@@ -5,39 +5,39 @@ ghost use Rattle.wf_machine.specs.Facts.{facts_of, facts_view};
 
 use std::alloc::Global;
 use wf_events::{Start, copy_routes};
+use wf_frames::Facts as StepFacts;
 use wf_host::Routes;
-use wf_value::{OutOfMemory, Pairs, Text};
+use wf_value::OutOfMemory;
 
-/// What no event of an execution changes. These programs can see none of it yet.
+/// What no event of an execution changes, and the reading of the clock that a step sees.
 pub(crate) struct Facts {
-    id: Text,
+    pub(crate) of_step: StepFacts,
     routes: Routes,
-    env: Pairs,
-    base: Text,
 }
 
 // Written, and not derived: it is one call wherever facts are let go.
 impl Drop for Facts {
     fn drop(self) {
         let Facts {
-            id: _,
+            of_step: _,
             routes: _,
-            env: _,
-            base: _,
         } = self;
     }
 }
 
 impl Facts {
-    /// Those of a start.
+    /// Those of a start. No step has seen the clock.
     pub(crate) fn of(alloc: Global, start: &Start) -> Result<Facts, OutOfMemory>
         ensures { IfOk result (λ f. facts_view f ≡ facts_of (start_view start.now)) }
     {
         Ok(Facts {
-            id: start.id.copy()?,
+            of_step: StepFacts {
+                now: 0,
+                base: start.base.copy()?,
+                id: start.id.copy()?,
+                env: start.env.copy(alloc)?,
+            },
             routes: copy_routes(alloc, &start.routes)?,
-            env: start.env.copy(alloc)?,
-            base: start.base.copy()?,
         })
     }
 }

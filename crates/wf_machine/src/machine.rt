@@ -1,25 +1,31 @@
 // The machine: an execution of a program, event by event.
-ghost use Rattle.std.specs.Prelude.{◌≡◌, ◌≤◌, ◌<◌, ◌↔◌, ◌+◌, ℕ, List, true, false, length, map, IfOk, OnOk, OnErr, IsErrOf, IfSome, IsSome, IsNone, IsTrue, max, option_map, unwrap_or};
-ghost use Rattle.wf_ast.specs.View.{program_view, step_view};
-ghost use Rattle.wf_machine.specs.Moves.{IsFine, IsPlace, clock_at, config_after, main_event};
-ghost use Rattle.wf_machine.specs.State.{RunsOn, IsWithinStep, config_at, is_running, main_steps_view, outcome_by, outcome_depth};
-ghost use Rattle.wf_machine.specs.Straight.{is_straight};
+ghost use Rattle.std.specs.Prelude.{◌≡◌, ◌≤◌, ◌<◌, ◌↔◌, ◌+◌, ℕ, true, false, is_some, length, IfOk, OnOk, OnErr, IsErrOf, IfSome, IsSome, IsNone, IsTrue, Some, max, option_map, unwrap_or, IsErr};
+ghost use Rattle.wf_alone.specs.Machine.{IsReached};
+ghost use Rattle.wf_ast.specs.View.{program_view};
+ghost use Rattle.wf_check.specs.Seen.{nodes_of, program_of};
+ghost use Rattle.wf_machine.specs.Main.{IsStanding, IsStanding-prop, config_of, outcome_behind};
+ghost use Rattle.wf_machine.specs.State.{is_running, outcome_by, outcome_depth};
 ghost use Rattle.wf_machine.specs.declared.machine.Ending.TheVariants.{Running};
-ghost use Rattle.wf_model.specs.Config.{Facts as PlainFacts};
-ghost use Rattle.wf_value.specs.Data.{Pairs};
+ghost use Rattle.wf_moves.specs.Built.{is_table_built};
 
 use crate::facts::Facts;
-use crate::moves::{Next, advance, reads_clock};
 use crate::steps::Steps;
+use crate::task::{advance, first_task, kind_of};
 use std::alloc::Global;
 use std::sync::ledger::Ledger;
-use wf_ast::{Program, Step};
+use wf_ast::Program;
 use wf_check::Checked;
 use wf_events::{Event, Start};
-use wf_value::{Map, OutOfMemory, Tag, Value, error_map};
+use wf_moves::{End, Kind, Move, Task, are_built};
+use wf_never_wrong::never_wrong;
+use wf_scope::Scopes;
+use wf_value::{OutOfMemory, Tag, Value, error_map};
 
 /// The counted event with this number isn't carried out: it ends the execution with a `ResourceLimitError`.
 const MOVE_LIMIT: u64 = 100_000;
+
+/// What all variables together may come to, under the first rules.
+const VARIABLE_LIMIT: u64 = 65_536;
 
 /// An event that wasn't applied.
 #[derive(Debug, Clone, Copy, PartialEq, Eq)]
@@ -66,37 +72,26 @@ struct Readings {
     last: u64,
 }
 
-/// `main`'s steps, none where the program has no workflow.
-fn main_steps(program: &Program) -> &[Step]
-    ensures { map step_view result.now ≡ main_steps_view program.now }
-{
-    match program.flows.items() {
-        [main, ..] => main.steps.items(),
-        [] => &[],
-    }
-}
-
-/// An execution of a program that runs straight through, as it stands between two events.
+/// An execution of a program, as it stands between two events.
 ///
-/// It holds the program, what it was started with, where `main` is, its variables, the count of events, the last reading, and its outcome.
-/// It never counts more than 100,000 events, and its outcome nests at most 100 deep.
+/// It holds the program with its table, what it was started with, what `main` has still to do, the layers of its variables, the count of
+/// events, the last reading, and its outcome. It never counts more than 100,000 events, and its outcome nests at most 100 deep.
 pub struct Machine {
     alloc: Global,
-    program: Program,
+    program: Checked,
     facts: Facts,
     last: u64,
-    /// `main` stands before this entry of this step, or, at entry 0, before the step itself.
-    step: usize,
-    entry: usize,
-    variables: Map,
+    /// `main`, until it has ended.
+    task: Option<Task>,
+    scopes: Scopes,
     moves: u64,
-    live: bool,
     ending: Ending,
     broken: bool,
-    ghost straight: { is_straight (program_view program) ≡ true },
-    ghost place: { IsWithinStep (main_steps_view program) step entry },
-    ghost running: { ending ≡ Running → (live ≡ true) × (step < length (main_steps_view program))
-        × (moves < 100000) },
+    ghost built: { is_table_built (nodes_of program) ≡ true },
+    ghost standing: { IsStanding (program_of program) (nodes_of program) task scopes } by { IsStanding-prop _ _ _ _ },
+    ghost reached: { ∥ (is_some task ≡ true → IsReached (program_of program)
+        (config_of (program_of program) facts last task scopes moves ending)) ∥₁ },
+    ghost running: { broken ≡ false → ending ≡ Running → (is_some task ≡ true) × (moves < 100000) },
     ghost shallow: { outcome_depth (outcome_by ending) ≤ 100 },
     ghost most: { moves ≤ 100000 },
 }
@@ -109,11 +104,9 @@ impl Drop for Machine {
             program: _,
             facts: _,
             last: _,
-            step: _,
-            entry: _,
-            variables: _,
+            task: _,
+            scopes: _,
             moves: _,
-            live: _,
             ending: _,
             broken: _,
         } = self;
@@ -121,19 +114,20 @@ impl Drop for Machine {
 }
 
 impl Machine {
-    ghost use Rattle.wf_machine.specs.Seen.{state_of};
-    ghost use Rattle.wf_check.specs.Seen.{program_of};
+    ghost use Rattle.wf_machine.specs.Seen.{control_by, state_of};
+    ghost use Rattle.wf_shared.specs.Events.{Event as AnyEvent};
     ghost use Rattle.wf_events.specs.View.{event_view, start_view};
     ghost use Rattle.wf_machine.specs.Outcome.{IsResult, IsShallow};
     ghost use Rattle.wf_machine.specs.Counts.{counts};
     ghost use Rattle.wf_machine.specs.Lent.{outcome_view};
     ghost use Rattle.wf_model.specs.ChoiceLaws.{reading_of};
-    ghost use Rattle.wf_model.specs.Choose.{choose};
+    ghost use Rattle.wf_model.specs.Choose.{choose, wanted};
     ghost use Rattle.wf_model.specs.Config.{Config, Active, To};
     ghost use Rattle.wf_model.specs.Move.{move as task_move};
     ghost use Rattle.wf_model.specs.Ready.{quiet, least_due};
     ghost use Rattle.wf_model.specs.Run.{initial};
-    ghost use Rattle.wf_model.specs.Step.{counted as as_counted, next, read_at};
+    ghost use Rattle.wf_model.specs.Kinds.{by_clock, next_kind};
+    ghost use Rattle.wf_model.specs.Step.{counted as as_counted, next, one_more, read_at, stopped};
     ghost use Rattle.wf_model.specs.Taken.{by_itself};
 
     /// Begins an execution: it stands before the first step of `main`, or has returned null where `main` has no steps. Nothing is
@@ -144,11 +138,13 @@ impl Machine {
             ≡ To (state_of m).config) }
         ensures whole { IfOk result (λ m. (state_of m).broken ≡ false) }
     {
-        let program = program.into_program();
+        if !are_built(program.nodes()) {
+            return Err(OutOfMemory);
+        }
         let facts = Facts::of(alloc, start)?;
-        let variables = Map::new(alloc)?;
-        let live = !main_steps(&program).is_empty();
-        let ending = if live {
+        let mut scopes = Scopes::new(alloc, VARIABLE_LIMIT)?;
+        let task = first_task(alloc, &program, &mut scopes)?;
+        let ending = if task.is_some() {
             Ending::Running
         } else {
             Ending::Returned(Value::Null)
@@ -158,11 +154,9 @@ impl Machine {
             program,
             facts,
             last: start.reading,
-            step: 0,
-            entry: 0,
-            variables,
+            task,
+            scopes,
             moves: 0,
-            live,
             ending,
             broken: false,
         })
@@ -213,10 +207,7 @@ impl Machine {
                 steps.tick();
                 Ok(())
             }
-            Err(_) => {
-                self.broken = true;
-                Err(ApplyFault::OutOfMemory)
-            }
+            Err(_) => Err(ApplyFault::OutOfMemory),
         }
     }
 
@@ -229,9 +220,13 @@ impl Machine {
         ensures enabled { IfSome result (λ e. (d : Config)
             × (next (state_of self.now).program (state_of self.now).config (event_view e) ≡ To d)) }
     {
-        match self.ending {
-            Ending::Running => Some(self.next_move(reading)),
-            _ => None,
+        never_wrong();
+        if !self.is_running() {
+            return None;
+        }
+        match &self.task {
+            Some(task) => Some(self.next_move(task, reading)),
+            None => None,
         }
     }
 
@@ -239,7 +234,7 @@ impl Machine {
     pub fn program(&self) -> &Program
         ensures { program_view result.now ≡ (state_of self.now).program }
     {
-        &self.program
+        self.program.program()
     }
 
     /// Whether no task can move at the reading, in milliseconds since 1970.
@@ -247,14 +242,14 @@ impl Machine {
         ensures { result ≡ quiet (state_of self.now).config reading }
     {
         let _ = reading;
-        !self.live
+        self.task.is_none()
     }
 
     /// The least moment at which something is due, in milliseconds since 1970: none, since nothing waits in these programs.
     pub fn least_due(&self) -> Option<u64>
         ensures { result ≡ least_due (state_of self.now).config }
     {
-        let _ = &self.live;
+        let _ = &self.task;
         None
     }
 
@@ -289,7 +284,7 @@ impl Machine {
     pub fn calls(&self) -> u64
         ensures { result ≡ length (state_of self.now).config.calls }
     {
-        let _ = &self.live;
+        let _ = &self.task;
         0
     }
 
@@ -301,15 +296,26 @@ impl Machine {
         matches!(&self.ending, Ending::Running)
     }
 
-    /// `main`'s next move, at a reading where it reads the clock.
-    fn next_move(&self, reading: u64) -> Event
-        requires active { (state_of self.now).config.outcome ≡ Active }
-        ensures { event_view result ≡ main_event
-            (clock_at (main_steps_view self.now.program) self.now.step self.now.entry)
-            (max reading self.now.last) }
+    /// Whether `main`'s next move reads the clock.
+    fn reads_clock(&self, task: &Task) -> bool
+        requires { self.now.task ≡ Some task.now }
+        ensures { next_kind (state_of self.now).program (control_by self.now task.now)
+            ≡ by_clock result }
     {
-        let steps = main_steps(&self.program);
-        if reads_clock(steps, self.step, self.entry) {
+        match kind_of(&self.program, task) {
+            Kind::Plain => false,
+            Kind::Clock => true,
+            Kind::Call => unreachable!(),
+        }
+    }
+
+    /// `main`'s next move, at a reading where it reads the clock.
+    fn next_move(&self, task: &Task, reading: u64) -> Event
+        requires { self.now.task ≡ Some task.now }
+        ensures { event_view result ≡ wanted (next_kind (state_of self.now).program
+            (control_by self.now task.now)) 0 (max reading self.now.last) }
+    {
+        if self.reads_clock(task) {
             Event::MoveAt(0, reading.max(self.last))
         } else {
             Event::Move(0)
@@ -319,6 +325,7 @@ impl Machine {
     /// What the event's move sees of the clock, or none where the event can't come.
     fn readings_for(&self, event: &Event) -> Option<Readings>
         ensures active { IsSome result → (state_of self.now).config.outcome ≡ Active }
+        ensures live { IsSome result → is_some self.now.task ≡ true }
         ensures comes { IfSome result (λ r. next (state_of self.now).program
             (state_of self.now).config (event_view event.now)
             ≡ as_counted (read_at r.last (state_of self.now).config)
@@ -332,10 +339,13 @@ impl Machine {
         if !self.is_running() {
             return None;
         }
-        let reads = reads_clock(main_steps(&self.program), self.step, self.entry);
+        let Some(task) = &self.task else {
+            return None;
+        };
+        let reads = self.reads_clock(task);
         match *event {
-            Event::Move(task) => {
-                if task != 0 || reads {
+            Event::Move(number) => {
+                if number != 0 || reads {
                     return None;
                 }
                 Some(Readings {
@@ -343,8 +353,8 @@ impl Machine {
                     last: self.last,
                 })
             }
-            Event::MoveAt(task, reading) => {
-                if task != 0 || !reads || reading < self.last {
+            Event::MoveAt(number, reading) => {
+                if number != 0 || !reads || reading < self.last {
                     return None;
                 }
                 Some(Readings {
@@ -355,95 +365,86 @@ impl Machine {
         }
     }
 
-    /// One move of `main`, or the end at the limit on counted events. Without memory the machine isn't to be used further.
+    /// One move of `main`, or the end at the limit on counted events. Without memory the machine is broken.
     fn make_move(&mut self, readings: Readings) -> Result<(), OutOfMemory>
         requires active { (state_of self.old).config.outcome ≡ Active }
+        requires live { is_some self.old.task ≡ true }
+        requires whole { self.old.broken ≡ false }
+        requires comes { (e : AnyEvent) × (next (state_of self.old).program (state_of self.old).config e
+            ≡ as_counted (read_at readings.last (state_of self.old).config)
+            (by_itself (state_of self.old).program 0 readings.now task_move)) }
         ensures moved { OnOk result (as_counted (read_at readings.last (state_of self.old).config)
             (by_itself (state_of self.old).program 0 readings.now task_move)
             ≡ To (state_of self.new).config) }
         ensures program { (state_of self.new).program ≡ (state_of self.old).program }
         ensures last { OnOk result (self.new.last ≡ readings.last) }
-        ensures broken { (state_of self.new).broken ≡ (state_of self.old).broken }
-        ensures counted { OnOk result ((state_of self.new).config.moves
-            ≡ (state_of self.old).config.moves + 1) }
+        ensures broken { (self.new.broken ≡ true) ↔ IsErr result }
+        ensures counted { OnOk result (self.new.moves ≡ self.old.moves + 1) }
     {
+        never_wrong();
         let moves = self.moves + 1;
         if moves >= MOVE_LIMIT {
-            let error = error_map(self.alloc, Tag::ResourceLimitError)?;
-            self.moves = moves;
-            self.last = readings.last;
-            self.ending = Ending::Raised(error);
-            return Ok(());
+            return self.stop(readings.last);
         }
-        let steps = main_steps(&self.program);
-        let next = advance(
-            self.alloc,
-            steps,
-            self.step,
-            self.entry,
-            readings.now,
-            &mut self.variables,
-        )?;
-        let stand = stand_after(self.alloc, next, steps, self.step, self.entry)?;
+        let Some(mut task) = self.task.take() else {
+            unreachable!()
+        };
+        self.facts.of_step.now = readings.now;
+        let Ok(went) = advance(
+            &self.program,
+            &mut task,
+            &mut self.scopes,
+            &self.facts.of_step,
+        ) else {
+            self.broken = true;
+            return Err(OutOfMemory);
+        };
         self.moves = moves;
         self.last = readings.last;
-        self.step = stand.step;
-        self.entry = stand.entry;
-        self.live = stand.ending.is_running();
-        self.ending = stand.ending;
+        self.ending = ending_of(went);
+        if self.ending.is_running() {
+            self.task = Some(task);
+        }
         Ok(())
+    }
+
+    /// The end at the limit on counted events.
+    fn stop(&mut self, last: u64) -> Result<(), OutOfMemory>
+        requires limit { self.old.moves ≡ 99999 }
+        requires whole { self.old.broken ≡ false }
+        requires comes { (e : AnyEvent) × (next (state_of self.old).program (state_of self.old).config e
+            ≡ To (stopped (one_more (read_at last (state_of self.old).config)))) }
+        ensures stopped { OnOk result ((state_of self.new).config
+            ≡ stopped (one_more (read_at last (state_of self.old).config))) }
+        ensures program { (state_of self.new).program ≡ (state_of self.old).program }
+        ensures last { OnOk result (self.new.last ≡ last) }
+        ensures broken { (self.new.broken ≡ true) ↔ IsErr result }
+        ensures counted { OnOk result (self.new.moves ≡ self.old.moves + 1) }
+    {
+        match error_map(self.alloc, Tag::ResourceLimitError) {
+            Ok(error) => {
+                self.moves += 1;
+                self.last = last;
+                self.ending = Ending::Raised(error);
+                Ok(())
+            }
+            Err(_) => {
+                self.task = None;
+                self.broken = true;
+                Err(OutOfMemory)
+            }
+        }
     }
 }
 
-/// Where `main` stands, and how it has ended, if it has.
-#[derive(Drop)]
-struct Stand {
-    step: usize,
-    entry: usize,
-    ending: Ending,
-}
-
-/// Where `main` stands after a move that led there from this place.
-fn stand_after(
-    alloc: Global,
-    next: Next,
-    steps: &[Step],
-    step: usize,
-    entry: usize,
-) -> Result<Stand, OutOfMemory>
-    requires fine { IsFine (map step_view steps.now) next }
-    requires place { IsPlace (map step_view steps.now) step entry }
-    ensures place { IfOk result (λ s. IsPlace (map step_view steps.now) s.step s.entry) }
-    ensures runs { IfOk result (λ s. (m : ℕ) → m < 100000
-        → RunsOn s.ending (is_running s.ending) (map step_view steps.now) s.step m) }
-    ensures config { IfOk result (λ s. (facts : PlainFacts) (reading : ℕ) (vars : Pairs) (m : ℕ)
-        → config_after facts reading (map step_view steps.now) next vars m
-        ≡ config_at facts reading (is_running s.ending) (map step_view steps.now) s.step s.entry
-        vars m (outcome_by s.ending)) }
+/// How an execution stands behind a move of `main`.
+fn ending_of(went: Move) -> Ending
+    ensures { outcome_by result ≡ outcome_behind went }
 {
-    match next {
-        Next::Before(step, entry) => {
-            let ending = if step < steps.len() {
-                Ending::Running
-            } else {
-                Ending::Returned(Value::Null)
-            };
-            Ok(Stand {
-                step,
-                entry,
-                ending,
-            })
-        }
-        Next::Returned(value) => Ok(Stand {
-            step,
-            entry,
-            ending: Ending::Returned(value),
-        }),
-        Next::Raised(tag) => Ok(Stand {
-            step,
-            entry,
-            ending: Ending::Raised(error_map(alloc, tag)?),
-        }),
+    match went {
+        Move::Went => Ending::Running,
+        Move::Ended(End::Value(value)) => Ending::Returned(value),
+        Move::Ended(End::Error(error)) => Ending::Raised(error),
     }
 }
 

@@ -22,25 +22,7 @@ returns-in_err-form c =
     forms_chained c.from_residual-in_err-form.result c.in_err-form.field-0.0 c.args.number (part_view c.args.part.now) is
     (later (Err c.in_err-form.field-0.0) _ _ c.in_ok-beside_main.ensures (later (Err c.in_err-form.field-0.0) _ _ c.in_ok-parameters.ensures (here_first c.in_err-form.field-0.0 _ _ c.in_err-form.ensures)))
 
-pub returns-in_err-jump : goal.returns-in_err-jump
-returns-in_err-jump c =
-    let is : c.from_residual-in_err-jump.result ≡ Err c.in_err-jump.field-0.0 = search rules in
-    forms_chained c.from_residual-in_err-jump.result c.in_err-jump.field-0.0 c.args.number (part_view c.args.part.now) is
-    (later (Err c.in_err-jump.field-0.0) _ _ c.in_ok-beside_main.ensures (later (Err c.in_err-jump.field-0.0) _ _ c.in_ok-parameters.ensures (later (Err c.in_err-jump.field-0.0) _ _ c.in_ok-form.ensures (here_first c.in_err-jump.field-0.0 _ _ c.in_err-jump.ensures))))
-
-pub returns-in_err-idle : goal.returns-in_err-idle
-returns-in_err-idle c =
-    let is : c.from_residual-in_err-idle.result ≡ Err c.in_err-idle.field-0.0 = search rules in
-    forms_chained c.from_residual-in_err-idle.result c.in_err-idle.field-0.0 c.args.number (part_view c.args.part.now) is
-    (later (Err c.in_err-idle.field-0.0) _ _ c.in_ok-beside_main.ensures (later (Err c.in_err-idle.field-0.0) _ _ c.in_ok-parameters.ensures (later (Err c.in_err-idle.field-0.0) _ _ c.in_ok-form.ensures (later (Err c.in_err-idle.field-0.0) _ _ c.in_ok-jump.ensures (here_first c.in_err-idle.field-0.0 _ _ c.in_err-idle.ensures)))))
-
-pub returns-in_err-places : goal.returns-in_err-places
-returns-in_err-places c =
-    let is : c.from_residual-in_err-places.result ≡ Err c.in_err-places.field-0.0 = search rules in
-    forms_chained c.from_residual-in_err-places.result c.in_err-places.field-0.0 c.args.number (part_view c.args.part.now) is
-    (later (Err c.in_err-places.field-0.0) _ _ c.in_ok-beside_main.ensures (later (Err c.in_err-places.field-0.0) _ _ c.in_ok-parameters.ensures (later (Err c.in_err-places.field-0.0) _ _ c.in_ok-form.ensures (later (Err c.in_err-places.field-0.0) _ _ c.in_ok-jump.ensures (later (Err c.in_err-places.field-0.0) _ _ c.in_ok-idle.ensures (here_first c.in_err-places.field-0.0 _ _ c.in_err-places.ensures))))))
-
 pub returns : goal.returns
 returns c =
     forms_of c.unbuilt.result c.args.number (part_view c.args.part.now)
-    (later c.unbuilt.result _ _ c.in_ok-beside_main.ensures (later c.unbuilt.result _ _ c.in_ok-parameters.ensures (later c.unbuilt.result _ _ c.in_ok-form.ensures (later c.unbuilt.result _ _ c.in_ok-jump.ensures (later c.unbuilt.result _ _ c.in_ok-idle.ensures (later c.unbuilt.result _ _ c.in_ok-places.ensures (alone c.unbuilt.result _ c.unbuilt.ensures)))))))
+    (later c.unbuilt.result _ _ c.in_ok-beside_main.ensures (later c.unbuilt.result _ _ c.in_ok-parameters.ensures (later c.unbuilt.result _ _ c.in_ok-form.ensures (alone c.unbuilt.result _ c.unbuilt.ensures))))

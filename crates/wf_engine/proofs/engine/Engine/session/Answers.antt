@@ -26,6 +26,9 @@ turn-requires g c = record {
       c.loop-self.invariant.holds (told_on (g.H.Host.world c.loop-self.host) (g.H.Host.world c.args.host.now) (sym c.loop-self.invariant.tells) told);
 }
 
+pub only_moves-requires : goal.only_moves-requires
+only_moves-requires g c = (c.loop-self.self.ready c.loop-self.invariant.not_closed).whole
+
 pub loop-self-smaller : goal.loop-self-smaller
 loop-self-smaller g c =
     let active = lent_active c.outcome.result (memory c.loop-self.self).config.outcome c.outcome.ensures.outcome c.in-Active.is in

@@ -1,27 +1,132 @@
-use Rattle.std.proofs.Common.{◌≡◌, ◌+◌, sym, ◌∙◌, ap, subst, refl}
-use Rattle.std.specs.List.{list_all}
-use Rattle.wf_ast.specs.View.{program_view}
-use Rattle.wf_model.specs.Config.{To}
-use Rattle.wf_value.specs.Data.{pairs_of}
-use Rattle.wf_machine.specs.Facts.{facts_view}
-use Rattle.wf_machine.specs.Moves.{LeadsOn, config_after}
-use Rattle.wf_machine.specs.State.{config_at, main_steps_view, is_running, outcome_by}
-use Rattle.wf_machine.specs.Straight.{is_straight_step}
-use Rattle.wf_machine.proofs.Stands.{straight_steps, move_here, running_of, within_place}
+use Rattle.std.proofs.Common.{◌≡◌, ◌≤◌, ◌<◌, ◌+◌, true, false, Some, None, refl, sym, ap, ◌∙◌, subst, arith}
+use Rattle.std.proofs.Math.Logic.{∥∥₁_map}
+use Rattle.std.specs.Prelude.{is_some}
+use Rattle.wf_alone.proofs.Reached.{reached_next}
+use Rattle.wf_alone.specs.Machine.{config_by}
+use Rattle.wf_check.specs.Seen.{nodes_of, program_of}
+use Rattle.wf_frames.proofs.Standing.{standing}
+use Rattle.wf_frames.specs.Frames.{inner}
+use Rattle.wf_machine.proofs.Making.{moved, none_behind, not_running, shallow, tasks_behind, went_on}
+use Rattle.wf_machine.proofs.Places.{going, running_of, stands_now, tells_of}
+use Rattle.wf_machine.proofs.Stopping.{last_move, not_counted}
 use Rattle.wf_machine.proofs.machine.Machine.make_move.Goals as goal
+use Rattle.wf_machine.specs.Facts.{facts_view}
+use Rattle.wf_machine.specs.Main.{IsStanding, around, config_of, tasks_view}
+use Rattle.wf_machine.specs.Seen.{state_of}
+use Rattle.wf_machine.specs.State.{outcome_by, outcome_depth}
+use Rattle.wf_model.specs.Config.{To}
+use Rattle.wf_model.specs.Step.{counted, read_at}
+use Rattle.wf_moves.proofs.Going.{going as goes}
+use Rattle.wf_moves.specs.Moved.{IsLeft}
+use Rattle.wf_moves.specs.Tasks.{went_of}
 
-pub advance-requires-clause-straight : goal.advance-requires-clause-straight
-advance-requires-clause-straight c = ap (list_all is_straight_step) c.main_steps-steps.ensures ∙ straight_steps c.args.self.now.program c.args.self.now.straight
-
-pub returns-clause-moved : goal.returns-clause-moved
-returns-clause-moved c =
+pub advance-requires : goal.advance-requires
+advance-requires c =
     let m = c.args.self.now in
-    let run = m.running (running_of m.ending c.requires.active) in
-    let facts = facts_view m.facts in
+    let is = sym c.in-Some.ensures.value in
+    (tells_of m.program m.built, (stands_now m c.in-Some.task is, going m c.in-Some.task is))
+
+pub returns-then-is_running-clause-moved : goal.returns-then-is_running-clause-moved
+returns-then-is_running-clause-moved c =
+    let m = c.args.self.now in
+    let p = program_of m.program in
+    let is = sym c.in-Some.ensures.value in
+    let u = c.advance.new.task in
+    let x = c.advance.new.scopes in
+    let w = c.in-Ok.went in
+    let e = c.ending_of.result in
     let last = c.args.readings.last in
-    let ss = main_steps_view m.program in
-    move_here facts last ss m.step m.entry (pairs_of m.variables) m.moves (program_view m.program) c.args.readings.now m.live (outcome_by m.ending) c.in_ok-next.next (pairs_of c.advance.new.variables) refl run.0 c.requires.active run.1 (within_place ss m.step m.entry m.place) c.if-moves-ge-MOVE_LIMIT.false
-    (subst (λ l. LeadsOn l m.step m.entry c.args.readings.now (pairs_of m.variables) c.in_ok-next.next (pairs_of c.advance.new.variables)) c.main_steps-steps.ensures c.in_ok-next.ensures.leads)
-    ∙ ap To (subst (λ l. config_after facts last l c.in_ok-next.next (pairs_of c.advance.new.variables) (m.moves + 1) ≡ config_at facts last (is_running c.in_ok-stand.stand.ending) l c.in_ok-stand.stand.step c.in_ok-stand.stand.entry (pairs_of c.advance.new.variables) (m.moves + 1) (outcome_by c.in_ok-stand.stand.ending)) c.main_steps-steps.ensures
-    (c.in_ok-stand.ensures.config facts last (pairs_of c.advance.new.variables) (m.moves + 1)))
-    ∙ ap (λ l. To (config_at facts last l ss c.in_ok-stand.stand.step c.in_ok-stand.stand.entry (pairs_of c.advance.new.variables) (m.moves + 1) (outcome_by c.in_ok-stand.stand.ending))) (sym c.is_running-self.ensures)
+    let on = went_on w e c.ending_of.ensures (sym c.is_running.ensures ∙ c.if-is_running.true) in
+    (moved c.never_wrong.ensures m c.in-Some.task is c.requires.active c.args.readings.now last c.if-moves-ge-MOVE_LIMIT.false c.requires.comes.0 c.requires.comes.1 _ refl u x w c.in-Ok.ensures.moved)
+    ∙ ap (λ o. To (config_by (facts_view m.facts) last (tasks_behind p w u x) (m.moves + 1) o)) (sym c.ending_of.ensures)
+    ∙ ap (λ v. To (config_by (facts_view m.facts) last (tasks_behind p v u x) (m.moves + 1) (outcome_by e))) on
+
+pub returns-else-is_running-clause-moved : goal.returns-else-is_running-clause-moved
+returns-else-is_running-clause-moved c =
+    let m = c.args.self.now in
+    let p = program_of m.program in
+    let is = sym c.in-Some.ensures.value in
+    let u = c.advance.new.task in
+    let x = c.advance.new.scopes in
+    let w = c.in-Ok.went in
+    let e = c.ending_of.result in
+    let last = c.args.readings.last in
+    let off = sym c.is_running.ensures ∙ c.if-is_running.false in
+    (moved c.never_wrong.ensures m c.in-Some.task is c.requires.active c.args.readings.now last c.if-moves-ge-MOVE_LIMIT.false c.requires.comes.0 c.requires.comes.1 _ refl u x w c.in-Ok.ensures.moved)
+    ∙ ap (λ o. To (config_by (facts_view m.facts) last (tasks_behind p w u x) (m.moves + 1) o)) (sym c.ending_of.ensures)
+    ∙ ap (λ ts. To (config_by (facts_view m.facts) last ts (m.moves + 1) (outcome_by e))) (none_behind p w u x e c.ending_of.ensures off)
+    ∙ sym (ap (λ o. To (config_by (facts_view m.facts) last (tasks_view p o x) (m.moves + 1) (outcome_by e))) c.take.ensures.after)
+
+pub invariant_of-self-then-is_running-clause-standing : goal.invariant_of-self-then-is_running-clause-standing
+invariant_of-self-then-is_running-clause-standing c =
+    let m = c.args.self.now in
+    let p = program_of m.program in
+    let is = sym c.in-Some.ensures.value in
+    let u = c.advance.new.task in
+    let x = c.advance.new.scopes in
+    let w = c.in-Ok.went in
+    let e = c.ending_of.result in
+    let last = c.args.readings.last in
+    let on = went_on w e c.ending_of.ensures (sym c.is_running.ensures ∙ c.if-is_running.true) in
+    let left = subst (λ v. IsLeft (nodes_of m.program) (went_of v) (inner u.frames)) on c.in-Ok.ensures.left in
+    (standing (around p) (nodes_of m.program) u.frames x c.in-Ok.ensures.stands, goes (nodes_of m.program) (inner u.frames) left)
+
+pub invariant_of-self-then-is_running-clause-reached : goal.invariant_of-self-then-is_running-clause-reached
+invariant_of-self-then-is_running-clause-reached c =
+    let m = c.args.self.now in
+    let p = program_of m.program in
+    let is = sym c.in-Some.ensures.value in
+    let u = c.advance.new.task in
+    let x = c.advance.new.scopes in
+    let w = c.in-Ok.went in
+    let e = c.ending_of.result in
+    let last = c.args.readings.last in
+    let on = went_on w e c.ending_of.ensures (sym c.is_running.ensures ∙ c.if-is_running.true) in
+    ∥∥₁_map m.reached (λ reached some. reached_next p (state_of m).config (config_by (facts_view m.facts) last (tasks_view p (Some u) x) (m.moves + 1) (outcome_by e)) c.requires.comes.0 (reached c.requires.live)
+    (c.requires.comes.1 ∙ (moved c.never_wrong.ensures m c.in-Some.task is c.requires.active c.args.readings.now last c.if-moves-ge-MOVE_LIMIT.false c.requires.comes.0 c.requires.comes.1 _ refl u x w c.in-Ok.ensures.moved)
+    ∙ ap (λ o. To (config_by (facts_view m.facts) last (tasks_behind p w u x) (m.moves + 1) o)) (sym c.ending_of.ensures)
+    ∙ ap (λ v. To (config_by (facts_view m.facts) last (tasks_behind p v u x) (m.moves + 1) (outcome_by e))) on))
+
+pub invariant_of-self-then-is_running-clause-running : goal.invariant_of-self-then-is_running-clause-running
+invariant_of-self-then-is_running-clause-running c = λ whole run. (refl, c.if-moves-ge-MOVE_LIMIT.false)
+
+pub invariant_of-self-then-is_running-clause-shallow : goal.invariant_of-self-then-is_running-clause-shallow
+invariant_of-self-then-is_running-clause-shallow c =
+    let m = c.args.self.now in
+    let p = program_of m.program in
+    let is = sym c.in-Some.ensures.value in
+    let u = c.advance.new.task in
+    let x = c.advance.new.scopes in
+    let w = c.in-Ok.went in
+    let e = c.ending_of.result in
+    let last = c.args.readings.last in
+    subst (λ o. outcome_depth o ≤ 100) (sym c.ending_of.ensures) (shallow c.never_wrong.ensures m c.in-Some.task is c.requires.active c.args.readings.now last c.if-moves-ge-MOVE_LIMIT.false c.requires.comes.0 c.requires.comes.1 _ refl u x w c.in-Ok.ensures.moved)
+
+pub invariant_of-self-then-is_running-clause-most : goal.invariant_of-self-then-is_running-clause-most
+invariant_of-self-then-is_running-clause-most c = let lt = c.if-moves-ge-MOVE_LIMIT.false in omega (arith, lt)
+
+pub invariant_of-self-else-is_running-clause-standing : goal.invariant_of-self-else-is_running-clause-standing
+invariant_of-self-else-is_running-clause-standing c =
+    let m = c.args.self.now in
+    subst (λ o. IsStanding (program_of m.program) (nodes_of m.program) o c.advance.new.scopes) (sym c.take.ensures.after) tt
+
+pub invariant_of-self-else-is_running-clause-reached : goal.invariant_of-self-else-is_running-clause-reached
+invariant_of-self-else-is_running-clause-reached c = ∥∥₁_map c.args.self.now.reached (λ reached some. absurd (let no : false ≡ true = sym (ap is_some c.take.ensures.after) ∙ some in cc no))
+
+pub invariant_of-self-else-is_running-clause-running : goal.invariant_of-self-else-is_running-clause-running
+invariant_of-self-else-is_running-clause-running c = λ whole run. absurd (not_running c.ending_of.result (sym c.is_running.ensures ∙ c.if-is_running.false) run)
+
+pub invariant_of-self-else-is_running-clause-shallow : goal.invariant_of-self-else-is_running-clause-shallow
+invariant_of-self-else-is_running-clause-shallow c =
+    let m = c.args.self.now in
+    let p = program_of m.program in
+    let is = sym c.in-Some.ensures.value in
+    let u = c.advance.new.task in
+    let x = c.advance.new.scopes in
+    let w = c.in-Ok.went in
+    let e = c.ending_of.result in
+    let last = c.args.readings.last in
+    subst (λ o. outcome_depth o ≤ 100) (sym c.ending_of.ensures) (shallow c.never_wrong.ensures m c.in-Some.task is c.requires.active c.args.readings.now last c.if-moves-ge-MOVE_LIMIT.false c.requires.comes.0 c.requires.comes.1 _ refl u x w c.in-Ok.ensures.moved)
+
+pub invariant_of-self-else-is_running-clause-most : goal.invariant_of-self-else-is_running-clause-most
+invariant_of-self-else-is_running-clause-most c = let lt = c.if-moves-ge-MOVE_LIMIT.false in omega (arith, lt)

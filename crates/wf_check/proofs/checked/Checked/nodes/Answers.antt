@@ -1,0 +1,12 @@
+use Rattle.std.proofs.Common.{sym, subst}
+use Rattle.wf_ast.specs.View.{program_view}
+use Rattle.wf_check.proofs.checked.Checked.nodes.Goals as goal
+use Rattle.wf_nodes.proofs.Told.{resolves}
+use Rattle.wf_nodes.specs.Spots.{spots}
+use Rattle.wf_nodes.specs.Table.{Resolves}
+use Rattle.wf_table.specs.Built.{node_list}
+
+pub returns-clause-resolves : goal.returns-clause-resolves
+returns-clause-resolves c =
+    let ns = spots (program_view c.args.self.now.program).flows in
+    subst (Resolves ns) (sym c.nodes.ensures) (resolves ns (node_list c.args.self.now.table) c.args.self.now.told)

@@ -1,0 +1,100 @@
+-- How a machine begins.
+use Rattle.std.specs.Prelude.{is_some}
+use Rattle.std.proofs.Common.{◌≡◌, ◌≤◌, ◌⊎◌, inl, inr, arith, ℕ, true, false, Option, List, [], ◌∷◌, Some, None, refl, sym, ap, ◌∙◌, subst}
+use Rattle.wf_alone.proofs.Begun.{begun, begun_ended}
+use Rattle.wf_alone.specs.Machine.{argument_of, config_by, facts_of, main_at}
+use Rattle.wf_ast.specs.Tree.{Program, Steps, more, no_steps}
+use Rattle.wf_frames.specs.Owned.{control_of, local_of, own_of}
+use Rattle.wf_frames.specs.Frames.{control, inner}
+use Rattle.wf_frames.specs.declared.frames.Frame.{Frame}
+use Rattle.wf_machine.specs.Facts.{facts_view}
+use Rattle.wf_machine.specs.Main.{Begins, IsStanding, around, config_of, first_local}
+use Rattle.wf_machine.specs.State.{outcome_by, outcome_depth}
+use Rattle.wf_machine.specs.declared.facts.Facts.{Facts}
+use Rattle.wf_machine.specs.declared.machine.Ending.{Ending}
+use Rattle.wf_machine.specs.declared.machine.Ending.TheVariants as ending
+use Rattle.wf_moves.specs.Going.{Going}
+use Rattle.wf_nodes.specs.Spots.{Spot, spots}
+use Rattle.wf_nodes.specs.declared.node.Node.{Node}
+use Rattle.wf_value.specs.declared.value.Value.TheVariants as value
+use Rattle.wf_model.specs.Config.{Do, Item, Returned, To}
+use Rattle.wf_model.specs.Local.{Local, settle}
+use Rattle.wf_model.specs.Run.{initial, main_local, main_steps, main_vars}
+use Rattle.wf_moves.specs.declared.task.Task.{Task}
+use Rattle.wf_scope.specs.Store.{layers_of}
+use Rattle.wf_scope.specs.Tasks.{own_layers}
+use Rattle.wf_scope.specs.declared.scopes.Scopes.{Scopes}
+use Rattle.wf_shared.specs.Events.{Start}
+use Rattle.wf_value.specs.Data.{Data, null}
+
+-- a control in which something is left
+abbrev pub IsSome : List Item → Type 0
+IsSome [] = ⊥
+IsSome (i ∷ k) = Unit {0}
+
+-- `main` with its steps settled
+abbrev settled_from : Program → Data → Steps → Local
+settled_from p v ss = settle (Do ss ss ∷ []) (main_local p v)
+
+module _ (p : Program) (s : Start) where
+  abbrev V : Data
+  V = argument_of s
+
+  -- it stands before its first step
+  pub stands_first : (t : Task) (x : Scopes) → IsSome (control_of (around p) t.frames) → Begins p V (Some t) x
+      → initial p s ≡ To (main_at (facts_of s) s.reading 0 (control_of (around p) t.frames) (own_layers (own_of t.frames) (layers_of x)))
+  stands_first t x some begins = by (main_steps p.flows) refl
+    where
+      by : (ss : Steps) → main_steps p.flows ≡ ss → initial p s ≡ To (main_at (facts_of s) s.reading 0 (control_of (around p) t.frames) (own_layers (own_of t.frames) (layers_of x)))
+      by no_steps is =
+          let none : control_of (around p) t.frames ≡ [] = sym (ap (λ l. l.control) begins) ∙ ap (λ ss. (settled_from p V ss).control) is in
+          absurd (subst IsSome none some)
+      by (more st rest) is =
+          let at : settled_from p V (more st rest) ≡ local_of (around p) t.frames x = sym (ap (settled_from p V) is) ∙ begins in
+          begun p s st rest (main_vars p.flows V) is refl
+          ∙ ap (λ ss. To (main_at (facts_of s) s.reading 0 (Do ss ss ∷ []) (record { vars = main_vars p.flows V; by_call = false } ∷ []))) is
+          ∙ ap (λ l. To (main_at (facts_of s) s.reading 0 l.control l.layers)) at
+
+  -- or has no steps
+  pub stands_ended : (x : Scopes) → Begins p V None x → initial p s ≡ To (config_by (facts_of s) s.reading [] 0 (Returned null))
+  stands_ended x begins = by (main_steps p.flows) refl
+    where
+      by : (ss : Steps) → main_steps p.flows ≡ ss → initial p s ≡ To (config_by (facts_of s) s.reading [] 0 (Returned null))
+      by no_steps is = begun_ended p s is
+      by (more st rest) is = absurd (let some : Do (more st rest) (more st rest) ∷ [] ≡ [] = sym (ap (λ ss. (settled_from p V ss).control) is) ∙ begins in cc some)
+
+-- ## A machine that begins
+-- a task that goes on has something left
+some_left : (ns : List Spot) (nodes : List Node) (fs : List Frame) → Going nodes fs → IsSome (control ns fs)
+some_left ns nodes [] goes = absurd goes
+some_left ns nodes (f ∷ fs) goes = tt
+
+-- which ending it has
+abbrev pub EndingFor : Option Task → Ending → Type 0
+EndingFor None e = e ≡ ending.Returned value.Null
+EndingFor (Some t) e = e ≡ ending.Running
+
+pub ending_for : (o : Option Task) (e : Ending) → ((is_some o ≡ true) × (e ≡ ending.Running)) ⊎ ((is_some o ≡ false) × (e ≡ ending.Returned value.Null)) → EndingFor o e
+ending_for None e (inl is) = absurd (cc is.0)
+ending_for None e (inr is) = is.1
+ending_for (Some t) e (inl is) = is.1
+ending_for (Some t) e (inr is) = absurd (cc is.0)
+
+pub begins_so : (p : Program) (s : Start) (nodes : List Node) (o : Option Task) (x : Scopes) (e : Ending) (f : Facts) → Begins p (argument_of s) o x → IsStanding p nodes o x → EndingFor o e → facts_view f ≡ facts_of s
+    → initial p s ≡ To (config_of p f s.reading o x 0 e)
+begins_so p s nodes None x e f begins stands is facts =
+    stands_ended p s x begins ∙ ap (λ k. To (config_by k s.reading [] 0 (Returned null))) (sym facts) ∙ ap (λ d. To (config_of p f s.reading None x 0 d)) (sym is)
+begins_so p s nodes (Some t) x e f begins stands is facts =
+    stands_first p s t x (some_left (spots p.flows) nodes (inner t.frames) stands.1) begins
+    ∙ ap (λ k. To (main_at k s.reading 0 (control_of (around p) t.frames) (own_layers (own_of t.frames) (layers_of x)))) (sym facts)
+    ∙ ap (λ d. To (config_of p f s.reading (Some t) x 0 d)) (sym is)
+
+-- one that runs has a task
+pub runs_with : (o : Option Task) (e : Ending) → EndingFor o e → e ≡ ending.Running → is_some o ≡ true
+runs_with None e is run = absurd (cc (sym is ∙ run))
+runs_with (Some t) e is run = refl
+
+-- its outcome doesn't nest
+pub shallow_first : (o : Option Task) (e : Ending) → EndingFor o e → outcome_depth (outcome_by e) ≤ 100
+shallow_first None e is = subst (λ d. outcome_depth (outcome_by d) ≤ 100) (sym is) (omega arith)
+shallow_first (Some t) e is = subst (λ d. outcome_depth (outcome_by d) ≤ 100) (sym is) (omega arith)

@@ -1,0 +1,106 @@
+-- The first node of a table: the workflow `main`.
+use Rattle.std.proofs.Common.{◌≡◌, ◌==◌, ℕ, suc, true, false, List, [], ◌∷◌, Some, None, length, map, not, refl, sym, ap, ◌∙◌, subst}
+use Rattle.std.proofs.Math.Dec.{eqb-suc-zero}
+use Rattle.std.proofs.lemmas.Bool.{false≢true}
+use Rattle.std.specs.Prelude.{option_map, slice_get}
+use Rattle.wf_ast.specs.Tree.{Flow, Param, Program, Steps}
+use Rattle.wf_ast.specs.View.{params_view}
+use Rattle.wf_frames.specs.Owned.{local_of}
+use Rattle.wf_frames.specs.declared.frames.Frame.{Frame}
+use Rattle.wf_machine.specs.Main.{around, first_local}
+use Rattle.wf_model.specs.Config.{Awake, Do}
+use Rattle.wf_model.specs.Local.{Local, settle}
+use Rattle.wf_model.specs.Run.{argument_in, main_local, main_steps, main_vars}
+use Rattle.wf_moves.specs.Built.{Tells}
+use Rattle.wf_moves.specs.Moved.{IsGoing, IsSettled}
+use Rattle.wf_moves.specs.Tasks.{IsFlow, begun, has_ended, part_params}
+use Rattle.wf_nodes.specs.Kinds.{block_view, kind_by, node_view}
+use Rattle.wf_nodes.specs.Spots.{FlowAt, part_at, part_list, spots}
+use Rattle.wf_nodes.specs.Table.{part_by}
+use Rattle.wf_nodes.specs.declared.node.FlowNode.{FlowNode}
+use Rattle.wf_nodes.specs.declared.node.Node.{Node}
+use Rattle.wf_nodes.specs.declared.node.NodeKind.{NodeKind}
+use Rattle.wf_nodes.specs.declared.node.NodeKind.TheVariants as kind
+use Rattle.wf_value.specs.Data.{Data, Pairs, no_pairs, null}
+
+-- a task with something left goes on
+pub going_of : (nodes : List Node) (fs : List Frame) → IsSettled nodes fs → has_ended fs ≡ false → IsGoing nodes fs
+going_of nodes [] settled ended = absurd (cc ended)
+going_of nodes (f ∷ fs) settled ended = settled
+
+-- a list of which none is there
+pub no_items : {A : Type 0} (xs : List A) → (length xs == 0) ≡ true → xs ≡ []
+no_items [] is = refl
+no_items (x ∷ xs) is = absurd (false≢true (sym (eqb-suc-zero (length xs)) ∙ is))
+
+-- `main`'s one layer
+abbrev with_vars : Pairs → Local
+with_vars vars = record { control = []; layers = record { vars = vars; by_call = false } ∷ []; outer = []; wait = Awake }
+
+module _ (p : Program) (nodes : List Node) (tells : Tells (spots p.flows) nodes) (x : Node) (at : slice_get nodes 0 ≡ Some x) where
+  -- the first workflow
+  first_flow : (f : Flow) × (fs : List Flow) × (p.flows ≡ f ∷ fs)
+  first_flow = by p.flows refl
+    where
+      none_there : (ns : List Node) → slice_get ns 0 ≡ Some x → length ns ≡ 0 → ⊥
+      none_there [] is long = cc is
+      none_there (n ∷ ns) is long = cc long
+
+      by : (fs : List Flow) → p.flows ≡ fs → (f : Flow) × (gs : List Flow) × (p.flows ≡ f ∷ gs)
+      by [] is = absurd (none_there nodes at (tells.resolves.as_long ∙ ap (λ fs. length (spots fs)) is))
+      by (f ∷ gs) is = (f, gs, is)
+
+  abbrev F : Flow
+  F = first_flow.0
+
+  part : part_at (spots p.flows) 0 ≡ FlowAt F
+  part = ap (λ fs. part_at (spots fs) 0) first_flow.2
+
+  described : FlowAt F ≡ part_by (spots p.flows) x.name x.next (kind_by x.codes.items.items x.kind)
+  described = sym part ∙ (tells.resolves.each 0 x at).part
+
+  -- its node is no other one
+  pub is_flow : ((g : FlowNode) → x.kind ≡ kind.Flow g → ⊥) → ⊥
+  is_flow never = by x.kind refl described
+    where
+      by : (k : NodeKind) → x.kind ≡ k → FlowAt F ≡ part_by (spots p.flows) x.name x.next (kind_by x.codes.items.items k) → ⊥
+      by (kind.Flow g) is same = never g is
+      by kind.Nothing is same = cc same
+      by (kind.Assign v) is same = cc same
+      by (kind.Call c) is same = cc same
+      by (kind.Switch v) is same = cc same
+      by (kind.For l) is same = cc same
+      by (kind.Parallel q) is same = cc same
+      by (kind.Block b) is same = cc same
+      by (kind.Try t) is same = cc same
+      by (kind.Raise t) is same = cc same
+      by (kind.Return t) is same = cc same
+      by (kind.Arm t) is same = cc same
+      by (kind.Entry e) is same = cc same
+      by (kind.Branch b) is same = cc same
+
+  module _ (g : FlowNode) (is : x.kind ≡ kind.Flow g) where
+    -- the node is a workflow
+    pub starts : IsFlow nodes 0
+    starts = record {
+      view = node_view x;
+      at = ap (option_map node_view) at;
+      params = params_view g.params;
+      list = block_view g.block;
+      is = ap (kind_by x.codes.items.items) is;
+    }
+
+    -- its parameters
+    params : F.params ≡ params_view g.params
+    params = let same : FlowAt F ≡ part_by (spots p.flows) x.name x.next (kind_by x.codes.items.items (kind.Flow g)) = described ∙ ap (λ k. part_by (spots p.flows) x.name x.next (kind_by x.codes.items.items k)) is in ap part_params same
+
+    -- where it begins, without parameters
+    pub begins : params_view g.params ≡ [] → (l : Local) → settle (Do (part_list (part_at (spots p.flows) 0)) (part_list (part_at (spots p.flows) 0)) ∷ []) (begun (part_params (part_at (spots p.flows) 0)) null) ≡ l → (v : Data) → first_local p v ≡ l
+    begins none l so v =
+        let vars : main_vars p.flows v ≡ no_pairs = ap (λ fs. main_vars fs v) first_flow.2 ∙ ap (λ ps. argument_in ps v) (params ∙ none) in
+        let steps : part_list (part_at (spots p.flows) 0) ≡ main_steps p.flows = ap part_list part ∙ sym (ap main_steps first_flow.2) in
+        let bare : part_params (part_at (spots p.flows) 0) ≡ [] = ap part_params part ∙ params ∙ none in
+        ap (λ vs. settle (Do (main_steps p.flows) (main_steps p.flows) ∷ []) (with_vars vs)) vars
+        ∙ ap (λ ss. settle (Do ss ss ∷ []) (with_vars no_pairs)) (sym steps)
+        ∙ ap (λ ps. settle (Do (part_list (part_at (spots p.flows) 0)) (part_list (part_at (spots p.flows) 0)) ∷ []) (begun ps null)) (sym bare)
+        ∙ so

@@ -1,0 +1,126 @@
+-- Assignments.
+use Rattle.std.proofs.Common.{◌≡◌, inl, inr, ℕ, Bool, true, false, List, [], ◌∷◌, map, take, Option, Some, None, Ok, Err, refl, sym, ap, subst, ◌∙◌, zero, suc, arith}
+use Rattle.std.specs.Prelude.{◌⊎◌, ◌&&◌, if◌then◌else◌, nat_le, Vec}
+use Rattle.std.specs.declared.alloc.Global.{Global}
+use Rattle.std.proofs.lemmas.Bool.{and_parts}
+use Rattle.wf_ast.specs.Apply.{View}
+use Rattle.wf_ast.specs.Eval.{eval_all, fill}
+use Rattle.wf_ast.specs.Tree.{Entry}
+use Rattle.wf_eval.specs.Answers.{Answers}
+use Rattle.wf_frames.specs.Held.{Held, standing}
+use Rattle.wf_frames.specs.Turns.{Writes}
+use Rattle.wf_model.specs.Config.{Item, limits}
+use Rattle.wf_model.specs.Layers as model
+use Rattle.wf_model.specs.Layers.{Assigned, Done, Refused, Undeclared, all_share, assign, assign_at, held, made_new, put_layer, put_outer, put_outside, put_own, view, within_limits, written}
+use Rattle.wf_model.specs.Leave.{on, on_assigned, raises}
+use Rattle.wf_model.specs.Local.{Local, Moved, Scene, goes, total}
+use Rattle.wf_model.specs.Move.{assigns}
+use Rattle.wf_moves.proofs.Evaluated.{gave, failed}
+use Rattle.wf_moves.specs.Assigned.{entry_values, values_of}
+use Rattle.wf_moves.specs.Moved.{IsMove}
+use Rattle.wf_moves.specs.declared.assign.Assigned as declared
+use Rattle.wf_moves.specs.declared.finish.Went.{Went}
+use Rattle.wf_value.specs.Data.{Data, depth}
+use Rattle.wf_value.specs.Errors.{Answer, ◌>>=◌, error_map}
+use Rattle.wf_value.specs.Pairs.{Text}
+use Rattle.wf_value.specs.Plain.{plain}
+use Rattle.wf_shapes.specs.Built.{are_built, is_code_built}
+use Rattle.wf_nodes.specs.Shapes.{Compiled}
+use Rattle.wf_value.specs.declared.Raise.{Raise}
+use Rattle.wf_value.specs.declared.Raise.TheVariants.{Error, OutOfMemory}
+use Rattle.wf_value.specs.declared.Tag.{Tag}
+use Rattle.wf_value.specs.declared.Tag.TheVariants.{ResourceLimitError}
+use Rattle.wf_value.specs.declared.Value.{Value}
+
+-- ## Whatever the control
+abbrev with_control : List Item → Assigned → Assigned
+with_control c (Done l) = Done (record l { control = c })
+with_control c (Refused t) = Refused t
+with_control c Undeclared = Undeclared
+
+module _ (s : Scene) (x : Text) (c : List Item) where
+  within_same : (v : Data) (l : Local) → within_limits s v (record l { control = c }) ≡ with_control c (within_limits s v l)
+  within_same v l = by (nat_le (total s l) (limits s.facts.rules).variables && nat_le (depth v) 100)
+    where
+      by : (b : Bool) → (if b then Done (record l { control = c }) else Refused ResourceLimitError) ≡ with_control c (if b then Done l else Refused ResourceLimitError)
+      by true = refl
+      by false = refl
+
+  own_same : (n : ℕ) (r : Answer Data) (l : Local) → put_own s x n r (record l { control = c }) ≡ with_control c (put_own s x n r l)
+  own_same n (Err t) l = refl
+  own_same n (Ok v) l = within_same v (record l { layers = put_layer n x v l.layers })
+
+  outside_same : (n : ℕ) (b : Bool) (r : Answer Data) (l : Local) → put_outside s x n b r (record l { control = c }) ≡ with_control c (put_outside s x n b r l)
+  outside_same n b (Err t) l = refl
+  outside_same n false (Ok v) l = refl
+  outside_same n true (Ok v) l = within_same v (record l { outer = put_outer n x v l.outer })
+
+  at_same : (ks : List Data) (v : Data) (h : model.Held) (l : Local) → assign_at s x ks v h (record l { control = c }) ≡ with_control c (assign_at s x ks v h l)
+  at_same ks v (model.Own n w) l = own_same n (written ks w v) l
+  at_same ks v (model.Outside n shared w) l = outside_same n (all_share x shared) (written ks w v) l
+  at_same ks v model.Nowhere l = own_same 0 (made_new ks v) l
+
+  control_same : (ks : List Data) (v : Data) (h : Held) → assign s x ks v (standing c h) ≡ with_control c (assign s x ks v (standing [] h))
+  control_same ks v h = at_same ks v (held x (standing [] h)) (standing [] h)
+
+-- ## Behind an assignment
+module _ (s : Scene) (x : Text) (ks : List Data) (v : Data) (k c : List Item) (h g : Held) (w : Went) (l : Local) where
+  breaks : assign s x ks v (standing [] h) ≡ Undeclared → IsMove (on_assigned s k (standing c h) (assign s x ks v (standing c h))) w l
+  breaks e = subst (λ a. IsMove (on_assigned s k (standing c h) a) w l) (sym (control_same s x c ks v h ∙ ap (with_control c) e)) tt
+
+  pub stored : Writes s None h x ks v g → IsMove (goes k (standing c g)) w l → IsMove (on_assigned s k (standing c h) (assign s x ks v (standing c h))) w l
+  stored (inl e) m = breaks e
+  stored (inr e) m = subst (λ a. IsMove (on_assigned s k (standing c h) a) w l) (sym (control_same s x c ks v h ∙ ap (with_control c) e)) m
+
+  pub refused : (t : Tag) (e : Value) → Writes s (Some t) h x ks v g → plain e ≡ error_map t → IsMove (raises s k (standing c g) (plain e)) w l → IsMove (on_assigned s k (standing c h) (assign s x ks v (standing c h))) w l
+  refused t e r p m = by r.1
+    where
+      by : (assign s x ks v (standing [] h) ≡ Undeclared) ⊎ (assign s x ks v (standing [] h) ≡ Refused t) → IsMove (on_assigned s k (standing c h) (assign s x ks v (standing c h))) w l
+      by (inl u) = breaks u
+      by (inr u) =
+          subst (λ a. IsMove (on_assigned s k (standing c h) a) w l) (sym (control_same s x c ks v h ∙ ap (with_control c) u))
+          (subst (λ (d : Data). IsMove (raises s k (standing c h) d) w l) p (subst (λ (y : Held). IsMove (raises s k (standing c y) (plain e)) w l) r.0 m))
+
+-- ## An entry
+both_on : (s : Scene) (k : List Item) (l : Local) (r : Answer Data) (q : Answer (List Data)) (f : Data → List Data → Moved) → on s k l r (λ d. on s k l q (f d)) ≡ on {A = Data × List Data} s k l (r >>= λ d. q >>= λ ds. Ok (d, ds)) (λ p. f p.0 p.1)
+both_on s k l (Err t) q f = refl
+both_on s k l (Ok d) (Err t) f = refl
+both_on s k l (Ok d) (Ok ds) f = refl
+
+module _ (s : Scene) (e : Entry) (k : List Item) (l : Local) (v : View) (same : view s l ≡ v) where
+  assigns_by : assigns s e k l ≡ on {A = Data × List Data} s k l (entry_values e v) (λ p. on_assigned s k l (assign s e.target.name p.1 p.0 l))
+  assigns_by =
+      ap (λ y. on s k l (fill e.value y) (λ d. on s k l (eval_all e.target.places y) (λ ks. on_assigned s k l (assign s e.target.name ks d l)))) same
+      ∙ both_on s k l (fill e.value v) (eval_all e.target.places v) (λ d ks. on_assigned s k l (assign s e.target.name ks d l))
+
+  pub entry_given : (a : declared.Assigned) (w : Went) (m : Local) → Answers values_of (Ok a) (entry_values e v) → IsMove (on_assigned s k l (assign s e.target.name (values_of a).1 (values_of a).0 l)) w m → IsMove (assigns s e k l) w m
+  entry_given a w m g h =
+      subst (λ y. IsMove y w m) (sym (assigns_by ∙ ap (λ r. on {A = Data × List Data} s k l r (λ p. on_assigned s k l (assign s e.target.name p.1 p.0 l))) (gave values_of a (entry_values e v) g))) h
+
+  pub entry_failed : (t : Tag) (w : Went) (m : Local) → Answers values_of (Err (Error t)) (entry_values e v) → IsMove (raises s k l (error_map t)) w m → IsMove (assigns s e k l) w m
+  entry_failed t w m g h =
+      subst (λ y. IsMove y w m) (sym (assigns_by ∙ ap (λ r. on {A = Data × List Data} s k l r (λ p. on_assigned s k l (assign s e.target.name p.1 p.0 l))) (failed values_of t (entry_values e v) g))) h
+
+-- ## The first codes
+pub take_built : (n : ℕ) (cs : Compiled) → are_built cs ≡ true → are_built (take n cs) ≡ true
+take_built zero [] b = refl
+take_built zero (c ∷ cs) b = refl
+take_built (suc n) [] b = refl
+take_built (suc n) (c ∷ cs) b = let two = and_parts (is_code_built c) (are_built cs) b in ap (λ t. t && are_built (take n cs)) two.0 ∙ take_built n cs two.1
+
+-- ## The value, and then the places
+pub both_given : (a : declared.Assigned) (d : Answer Data) (ds : Answer (List Data)) → Answers plain (Ok a.value) d → Answers (λ vs. map plain vs.items) (Ok a.places) ds → Answers values_of (Ok a) (d >>= λ x. ds >>= λ ys. Ok (x, ys))
+both_given a (Err t) ds p q = absurd p
+both_given a (Ok x) (Err t) p q = absurd q
+both_given a (Ok x) (Ok ys) p q = ap (λ (y : Data). (y, map plain a.places.items)) p ∙ ap (λ (zs : List Data). (x, zs)) q
+
+pub value_failed : (r : Raise) (d : Answer Data) (f : Data → Answer (Data × List Data)) → Answers plain (Err r) d → Answers values_of (Err r) (d >>= f)
+value_failed OutOfMemory d f p = tt
+value_failed (Error t) (Ok x) f p = absurd p
+value_failed (Error t) (Err u) f p = p
+
+pub places_failed : (r : Raise) (v : Value) (d : Answer Data) (ds : Answer (List Data)) → Answers plain (Ok v) d → Answers (λ (vs : Vec Value Global). map plain vs.items) (Err r) ds → Answers values_of (Err r) (d >>= λ x. ds >>= λ ys. Ok (x, ys))
+places_failed OutOfMemory v d ds p q = tt
+places_failed (Error t) v (Err u) ds p q = absurd p
+places_failed (Error t) v (Ok x) (Ok ys) p q = absurd q
+places_failed (Error t) v (Ok x) (Err u) p q = q

@@ -1,0 +1,241 @@
+-- Frames that are left.
+use Rattle.std.proofs.Common.{◌≡◌, ℕ, ◌<◌, ◌≤◌, Bool, true, false, List, [], ◌∷◌, length, drop, Some, None, refl, sym, ap, subst, ◌∙◌, arith}
+use Rattle.std.specs.Prelude.{zero, suc, is_some}
+use Rattle.std.proofs.Math.Dec.{leb}
+use Rattle.std.proofs.lemmas.Bool.{leb-true, leb-false}
+use Rattle.wf_ast.specs.Tree.{Step, Steps, no_steps, more, Entry, Body}
+use Rattle.wf_frames.specs.Fits.{Fits, HasNode, entries_at, list_at}
+use Rattle.wf_frames.specs.Frames.{body_entries, control, item, mark_of, topped}
+use Rattle.wf_frames.specs.Held.{Held, standing}
+use Rattle.wf_frames.specs.Turns.{Leaves, dropped, left_by}
+use Rattle.wf_frames.specs.declared.frames.Frame.{Frame}
+use Rattle.wf_frames.specs.declared.frames.Frame.TheVariants as frame
+use Rattle.wf_frames.specs.declared.frames.Left.{Left}
+use Rattle.wf_model.specs.Config.{Item, Do, Entries}
+use Rattle.wf_model.specs.Local.{Local, Scene, settle, settled}
+use Rattle.wf_model.specs.Unwind.{unwind, to_back}
+use Rattle.wf_moves.proofs.Parts.{entries_is, list_is}
+use Rattle.wf_moves.specs.Moved.{HasMove, IsGoing, IsMove, IsSettled, Settled}
+use Rattle.wf_moves.specs.declared.finish.End.TheVariants as end
+use Rattle.wf_moves.specs.declared.finish.Went.TheVariants as went
+use Rattle.wf_moves.specs.Steps.{HasStep, IsBefore, IsBeforeEntry}
+use Rattle.wf_nodes.specs.Kinds.{Listed}
+use Rattle.wf_nodes.specs.Spots.{Spot, part_at, part_list, part_body, steps_by, entries_by, from}
+use Rattle.wf_nodes.specs.Table.{Resolves}
+use Rattle.wf_nodes.specs.declared.node.Node.{Node}
+use Rattle.wf_value.specs.Data.{Data}
+use Rattle.wf_value.specs.declared.Value.TheVariants as value
+
+-- ## One frame
+pub stands_on : (f : Frame) (c : List Item) (h : Held) → left_by f (standing c h) ≡ standing c (dropped f h)
+stands_on (frame.Do n at) c h = refl
+stands_on (frame.Lone n b) c h = refl
+stands_on (frame.Entries n at) c h = refl
+stands_on (frame.Then n) c h = refl
+stands_on (frame.Loop n w i) c h = refl
+stands_on (frame.Mark m) c h = refl
+
+pub same_outside : (f : Frame) (h : Held) → (dropped f h).outside ≡ h.outside
+same_outside (frame.Do n at) h = refl
+same_outside (frame.Lone n b) h = refl
+same_outside (frame.Entries n at) h = refl
+same_outside (frame.Then n) h = refl
+same_outside (frame.Loop n w i) h = refl
+same_outside (frame.Mark m) h = refl
+
+unwound_one : (ns : List Spot) (s : Scene) (f : Frame) (k : List Item) (l : Local) (e : Data) → unwind s (item ns f ∷ k) l e ≡ unwind s k (left_by f l) e
+unwound_one ns s (frame.Do n at) k l e = refl
+unwound_one ns s (frame.Lone n b) k l e = refl
+unwound_one ns s (frame.Entries n at) k l e = refl
+unwound_one ns s (frame.Then n) k l e = refl
+unwound_one ns s (frame.Loop n w i) k l e = refl
+unwound_one ns s (frame.Mark m) k l e = refl
+
+back_one : (ns : List Spot) (f : Frame) (k : List Item) (l : Local) → to_back (item ns f ∷ k) l ≡ to_back k (left_by f l)
+back_one ns (frame.Do n at) k l = refl
+back_one ns (frame.Lone n b) k l = refl
+back_one ns (frame.Entries n at) k l = refl
+back_one ns (frame.Then n) k l = refl
+back_one ns (frame.Loop n w i) k l = refl
+back_one ns (frame.Mark m) k l = refl
+
+-- ## What has ended
+pub from_end : (ns : List Spot) (xs : List ℕ) (n : ℕ) → length xs ≤ n → from n (steps_by ns xs) ≡ no_steps
+from_end ns [] zero h = refl
+from_end ns [] (suc n) h = refl
+from_end ns (x ∷ xs) zero h = absurd (omega (arith, h))
+from_end ns (x ∷ xs) (suc n) h = from_end ns xs n (omega (arith, h))
+
+-- the steps from one that is there
+pub record More (ns : List Spot) (xs : List ℕ) (n : ℕ) : Type 0 where
+  pub first : Step
+  pub rest : Steps
+  pub is : from n (steps_by ns xs) ≡ more first rest
+
+pub from_more : (ns : List Spot) (xs : List ℕ) (n : ℕ) → n < length xs → More ns xs n
+from_more ns [] n h = absurd (omega (arith, h))
+from_more ns (x ∷ xs) zero h = record { first = _; rest = _; is = refl }
+from_more ns (x ∷ xs) (suc n) h = let r = from_more ns xs n (omega (arith, h)) in record { first = r.first; rest = r.rest; is = r.is }
+
+pub do_ended : (ns : List Spot) (n at : ℕ) (xs : List ℕ) → part_list (part_at ns n) ≡ steps_by ns xs → length xs ≤ at → Settled ns true (frame.Do n at)
+do_ended ns n at xs is h k l = ap (λ ss. settle (Do (part_list (part_at ns n)) ss ∷ k) l) (ap (from at) is ∙ from_end ns xs at h)
+
+pub do_stands : (ns : List Spot) (n at : ℕ) (xs : List ℕ) → part_list (part_at ns n) ≡ steps_by ns xs → at < length xs → Settled ns false (frame.Do n at)
+do_stands ns n at xs is h k l =
+    let r = from_more ns xs at h in
+    let e : from at (part_list (part_at ns n)) ≡ more r.first r.rest = ap (from at) is ∙ r.is in
+    subst (λ ss. settle (Do (part_list (part_at ns n)) ss ∷ k) l ≡ record l { control = Do (part_list (part_at ns n)) ss ∷ k }) (sym e) refl
+
+pub drop_end : {A : Type 0} (xs : List A) (n : ℕ) → length xs ≤ n → drop n xs ≡ []
+drop_end [] zero h = refl
+drop_end [] (suc n) h = refl
+drop_end (x ∷ xs) zero h = absurd (omega (arith, h))
+drop_end (x ∷ xs) (suc n) h = drop_end xs n (omega (arith, h))
+
+record Stays {A : Type 0} (xs : List A) (n : ℕ) : Type 0 where
+  pub first : A
+  pub rest : List A
+  pub is : drop n xs ≡ first ∷ rest
+
+drop_more : {A : Type 0} (xs : List A) (n : ℕ) → n < length xs → Stays xs n
+drop_more [] n h = absurd (omega (arith, h))
+drop_more (x ∷ xs) zero h = record { first = x; rest = xs; is = refl }
+drop_more (x ∷ xs) (suc n) h = let r = drop_more xs n (omega (arith, h)) in record { first = r.first; rest = r.rest; is = r.is }
+
+pub entries_ended : (ns : List Spot) (n at : ℕ) → length (body_entries (part_body (part_at ns n))) ≤ at → Settled ns true (frame.Entries n at)
+entries_ended ns n at h k l = ap (λ es. settle (Entries es ∷ k) l) (drop_end (body_entries (part_body (part_at ns n))) at h)
+
+pub entries_stand : (ns : List Spot) (n at : ℕ) → at < length (body_entries (part_body (part_at ns n))) → Settled ns false (frame.Entries n at)
+entries_stand ns n at h k l =
+    let r = drop_more (body_entries (part_body (part_at ns n))) at h in
+    subst (λ es. settle (Entries es ∷ k) l ≡ record l { control = Entries es ∷ k }) (sym r.is) refl
+
+pub lone_settled : (ns : List Spot) (n : ℕ) (done : Bool) → Settled ns done (frame.Lone n done)
+lone_settled ns n true = λ k l. refl
+lone_settled ns n false = λ k l. refl
+
+pub lone_has : (nodes : List Node) (n : ℕ) (done : Bool) → done ≡ false → HasMove nodes (frame.Lone n done)
+lone_has nodes n true q = absurd (cc q)
+lone_has nodes n false q = tt
+
+-- ## By a node
+pub do_settled : (ns : List Spot) (nodes : List Node) (n at : ℕ) (b : Listed) (len : ℕ) → Resolves ns nodes → list_at nodes n ≡ Some b → len ≡ length b.steps → Settled ns (leb len at) (frame.Do n at)
+do_settled ns nodes n at b len r h e = by_test (leb len at) refl
+  where
+    list : part_list (part_at ns n) ≡ steps_by ns b.steps
+    list = list_is ns nodes n b r h
+
+    by_test : (t : Bool) → leb len at ≡ t → Settled ns t (frame.Do n at)
+    by_test true q = do_ended ns n at b.steps list (omega (arith, leb-true len at q, e))
+    by_test false q = do_stands ns n at b.steps list (omega (arith, leb-false len at q, e))
+
+pub do_has : (nodes : List Node) (n at : ℕ) (b : Listed) (len : ℕ) → list_at nodes n ≡ Some b → len ≡ length b.steps → leb len at ≡ false → IsBefore nodes n at
+do_has nodes n at b len h e q = (b, h, omega (arith, leb-false len at q, e))
+
+pub entries_long : (ns : List Spot) (xs : List ℕ) → length (entries_by ns xs) ≡ length xs
+entries_long ns [] = refl
+entries_long ns (x ∷ xs) = ap suc (entries_long ns xs)
+
+pub entries_settled : (ns : List Spot) (nodes : List Node) (n at : ℕ) (b : List ℕ) (len : ℕ) → Resolves ns nodes → entries_at nodes n ≡ Some b → len ≡ length b → Settled ns (leb len at) (frame.Entries n at)
+entries_settled ns nodes n at b len r h e = by_test (leb len at) refl
+  where
+    many : length (body_entries (part_body (part_at ns n))) ≡ length b
+    many = ap length (entries_is ns nodes n b r h) ∙ entries_long ns b
+
+    by_test : (t : Bool) → leb len at ≡ t → Settled ns t (frame.Entries n at)
+    by_test true q = entries_ended ns n at (omega (arith, leb-true len at q, e, many))
+    by_test false q = entries_stand ns n at (omega (arith, leb-false len at q, e, many))
+
+pub entries_have : (nodes : List Node) (n at : ℕ) (b : List ℕ) (len : ℕ) → entries_at nodes n ≡ Some b → len ≡ length b → leb len at ≡ false → IsBeforeEntry nodes n at
+entries_have nodes n at b len h e q = (b, h, omega (arith, leb-false len at q, e))
+
+-- ## The innermost frame is left
+pub fits_after : (ns : List Spot) (nodes : List Node) (b : Bool) (old new : List Frame) (h g : Held) → Leaves b old h new g → Fits ns nodes old → Fits ns nodes new
+fits_after ns nodes false old new h g w fits = subst (Fits ns nodes) (sym w.1) tt
+fits_after ns nodes true old new h g w fits = (let all : Fits ns nodes (w.0 ∷ new) = subst (Fits ns nodes) w.1 fits in all.1)
+
+pub top_node : (ns : List Spot) (nodes : List Node) (f : Frame) (fs : List Frame) → topped fs ≡ Some f → Fits ns nodes fs → HasNode nodes f
+top_node ns nodes f [] t fits = absurd (cc t)
+top_node ns nodes f (g ∷ fs) t fits = let same : g ≡ f = cc t in subst (HasNode nodes) same fits.0.0
+
+pub top_settled : (nodes : List Node) (f : Frame) (fs : List Frame) → topped fs ≡ Some f → HasMove nodes f → IsSettled nodes fs
+top_settled nodes f [] t h = tt
+top_settled nodes f (g ∷ fs) t h = let same : g ≡ f = cc t in subst (HasMove nodes) (sym same) h
+
+pub none_settled : (nodes : List Node) (fs : List Frame) → topped fs ≡ None → IsSettled nodes fs
+none_settled nodes [] t = tt
+none_settled nodes (g ∷ fs) t = absurd (cc t)
+
+pub none_there : (fs : List Frame) → topped fs ≡ None → fs ≡ []
+none_there [] t = refl
+none_there (g ∷ fs) t = absurd (cc t)
+
+-- settling goes on
+pub settles_on : (ns : List Spot) (f : Frame) (b : Bool) (old new : List Frame) (h g : Held) → topped old ≡ Some f → Settled ns true f → Leaves b old h new g → (c : List Item) → settle (control ns old) (standing c h) ≡ settle (control ns new) (standing c g)
+settles_on ns f false old new h g t s w c = absurd (cc (sym t ∙ ap topped w.0))
+settles_on ns f true old new h g t s w c =
+    let same : w.0 ≡ f = cc (sym (ap topped w.1) ∙ t) in
+    ap (λ fs. settle (control ns fs) (standing c h)) w.1 ∙ subst (Settled ns true) (sym same) s (control ns new) (standing c h) ∙ ap (settle (control ns new)) (stands_on w.0 c h ∙ ap (standing c) (sym w.2))
+
+pub settles_here : (ns : List Spot) (f : Frame) (fs : List Frame) (h : Held) → topped fs ≡ Some f → Settled ns false f → (c : List Item) → settle (control ns fs) (standing c h) ≡ standing (control ns fs) h
+settles_here ns f [] h t s c = absurd (cc t)
+settles_here ns f (g ∷ fs) h t s c = let same : g ≡ f = cc t in subst (Settled ns false) (sym same) s (control ns fs) (standing c h)
+
+-- errors and returns go on outward
+pub unwinds_on : (ns : List Spot) (s : Scene) (old new : List Frame) (h g : Held) → Leaves true old h new g → (c : List Item) (e : Data) → unwind s (control ns old) (standing c h) e ≡ unwind s (control ns new) (standing c g) e
+unwinds_on ns s old new h g w c e =
+    ap (λ fs. unwind s (control ns fs) (standing c h) e) w.1 ∙ unwound_one ns s w.0 (control ns new) (standing c h) e ∙ ap (λ l. unwind s (control ns new) l e) (stands_on w.0 c h ∙ ap (standing c) (sym w.2))
+
+pub backs_on : (ns : List Spot) (old new : List Frame) (h g : Held) → Leaves true old h new g → (c : List Item) → to_back (control ns old) (standing c h) ≡ to_back (control ns new) (standing c g)
+backs_on ns old new h g w c =
+    ap (λ fs. to_back (control ns fs) (standing c h)) w.1 ∙ back_one ns w.0 (control ns new) (standing c h) ∙ ap (to_back (control ns new)) (stands_on w.0 c h ∙ ap (standing c) (sym w.2))
+
+pub outside_on : (old new : List Frame) (h g : Held) → Leaves true old h new g → g.outside ≡ h.outside
+outside_on old new h g w = ap (λ (y : Held). y.outside) w.2 ∙ same_outside w.0 h
+
+-- the node of a frame
+pub has_list : (nodes : List Node) (f : Frame) (n at : ℕ) → HasNode nodes f → f ≡ frame.Do n at → is_some (list_at nodes n) ≡ true
+has_list nodes f n at h e = let there : HasNode nodes (frame.Do n at) = subst (HasNode nodes) e h in ap is_some there.1
+
+pub has_entries : (nodes : List Node) (f : Frame) (n at : ℕ) → HasNode nodes f → f ≡ frame.Entries n at → is_some (entries_at nodes n) ≡ true
+has_entries nodes f n at h e = let there : HasNode nodes (frame.Entries n at) = subst (HasNode nodes) e h in ap is_some there.1
+
+-- with no frame left
+pub empty_fits : (ns : List Spot) (nodes : List Node) (fs : List Frame) → fs ≡ [] → Fits ns nodes fs
+empty_fits ns nodes fs e = subst (Fits ns nodes) (sym e) tt
+
+pub empty_settled : (nodes : List Node) (fs : List Frame) → fs ≡ [] → IsSettled nodes fs
+empty_settled nodes fs e = subst (IsSettled nodes) (sym e) tt
+
+-- the innermost frame, from which a move is made, and which has no layer
+pub going_has : (nodes : List Node) (f : Frame) (fs gs : List Frame) → fs ≡ f ∷ gs → IsGoing nodes fs → HasMove nodes f
+going_has nodes f fs gs e h = subst (IsGoing nodes) e h
+
+pub going_plain : (nodes : List Node) (f : Frame) → HasMove nodes f → mark_of f ≡ None
+going_plain nodes (frame.Do n at) h = refl
+going_plain nodes (frame.Lone n b) h = refl
+going_plain nodes (frame.Entries n at) h = refl
+going_plain nodes (frame.Then n) h = refl
+going_plain nodes (frame.Loop n w i) h = refl
+going_plain nodes (frame.Mark m) h = absurd h
+
+pub going_step : (nodes : List Node) (f : Frame) → HasMove nodes f → ((n : ℕ) (w : Left) (i : ℕ) → f ≡ frame.Loop n w i → ⊥) → HasStep nodes f
+going_step nodes (frame.Do n at) h other = h
+going_step nodes (frame.Lone n b) h other = h
+going_step nodes (frame.Entries n at) h other = h
+going_step nodes (frame.Then n) h other = h
+going_step nodes (frame.Loop n w i) h other = absurd (other n w i refl)
+going_step nodes (frame.Mark m) h other = absurd h
+
+-- the task goes on, or has ended
+pub going_there : (nodes : List Node) (f : Frame) (fs : List Frame) → topped fs ≡ Some f → IsSettled nodes fs → IsGoing nodes fs
+going_there nodes f [] t h = absurd (cc t)
+going_there nodes f (g ∷ fs) t h = h
+
+pub went_on : (ns : List Spot) (f : Frame) (fs : List Frame) (h : Held) → topped fs ≡ Some f → IsMove (settled (standing (control ns fs) h)) went.Goes (standing (control ns fs) h)
+went_on ns f [] h t = absurd (cc t)
+went_on ns f (g ∷ fs) h t = refl
+
+pub went_out : (ns : List Spot) (fs : List Frame) (h : Held) → topped fs ≡ None → IsMove (settled (standing (control ns fs) h)) (went.Ended (end.Value value.Null)) (standing (control ns fs) h)
+went_out ns [] h t = (refl, omega arith, refl)
+went_out ns (g ∷ fs) h t = absurd (cc t)

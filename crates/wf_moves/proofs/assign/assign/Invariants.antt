@@ -1,0 +1,10 @@
+use Rattle.wf_moves.proofs.assign.assign.Given as goal
+
+abbrev pub ghost-seen : goal.ghost-seen
+ghost-seen g a = g.around
+
+abbrev pub ghost-store : goal.ghost-store
+ghost-store g a = g.around
+
+abbrev pub ghost-fails : goal.ghost-fails
+ghost-fails g a = g.around

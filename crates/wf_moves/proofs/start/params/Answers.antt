@@ -1,0 +1,13 @@
+use Rattle.std.proofs.Common.{ap, sym, ◌∙◌}
+use Rattle.wf_ast.specs.View.{params_view}
+use Rattle.wf_moves.proofs.Parts.{node_at}
+use Rattle.wf_moves.proofs.Starting.{flow_params, flow_within}
+use Rattle.wf_nodes.specs.Kinds.{block_view, kind_by}
+use Rattle.wf_moves.proofs.start.params.Goals as goal
+
+pub returns : goal.returns
+returns g c =
+    let x = c.index-nodes-flow.result in
+    let there = node_at c.args.nodes.now c.args.flow x (flow_within c.args.nodes.now c.args.flow c.requires.1) c.index-nodes-flow.is in
+    c.items.ensures.view
+    ∙ sym (flow_params g.ns c.args.nodes.now c.args.flow x (params_view c.in-Flow.flow.params) (block_view c.in-Flow.flow.block) c.requires.0.resolves there (ap (kind_by x.codes.items.items) c.in-Flow.is))

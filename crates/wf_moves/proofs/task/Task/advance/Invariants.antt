@@ -1,0 +1,4 @@
+use Rattle.wf_moves.proofs.task.Task.advance.Given as goal
+
+abbrev pub ghost-advance : goal.ghost-advance
+ghost-advance g a = g.around

@@ -1,0 +1,10 @@
+use Rattle.wf_moves.proofs.turn.turn.Given as goal
+
+abbrev pub ghost-goes : goal.ghost-goes
+ghost-goes g a = g.around
+
+abbrev pub ghost-enter : goal.ghost-enter
+ghost-enter g a = g.around
+
+abbrev pub ghost-raises : goal.ghost-raises
+ghost-raises g a = g.around

@@ -1,0 +1,22 @@
+//! The moves of one task: what a step does to its frames and its layers.
+//!
+//! A task stands before a step of a program, in frames of numbers over the program's table. Each move is one of the definition of steps:
+//! the innermost frame says what is next, it is carried out, and what has ended is left.
+#![tactic(auto)]
+
+mod advance;
+mod assign;
+mod finish;
+mod jump;
+mod kinds;
+mod moves;
+mod nodes;
+mod start;
+mod step;
+mod task;
+mod turn;
+
+pub use finish::End;
+pub use kinds::Kind;
+pub use nodes::are_built;
+pub use task::{Move, Task};

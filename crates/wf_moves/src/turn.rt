@@ -1,0 +1,99 @@
+// The turns of a loop.
+ghost use Rattle.std.specs.Prelude.{◌≡◌, ◌+ℤ◌, ◌∷◌, [], List as Seq, IfOk, OnOk, if◌then◌else◌, int_lt, option_map, pos};
+ghost use Rattle.wf_frames.specs.Fits.{Fits, IsLoop};
+ghost use Rattle.wf_frames.specs.Frames.{control, inner, left_view};
+ghost use Rattle.wf_frames.specs.Owned.{Around, beside, local_of};
+ghost use Rattle.wf_frames.specs.Stands.{Stands};
+ghost use Rattle.wf_frames.specs.Turns.{Agrees};
+ghost use Rattle.wf_frames.specs.declared.frames.Frame.TheVariants as frame;
+ghost use Rattle.wf_frames.specs.declared.frames.Left.TheVariants as left;
+ghost use Rattle.wf_model.specs.Config.{Item, OfList, OfRange, next_of};
+ghost use Rattle.wf_model.specs.Local.{Scene};
+ghost use Rattle.wf_model.specs.Move.{moves};
+ghost use Rattle.wf_moves.specs.Built.{Tells};
+ghost use Rattle.wf_moves.specs.Moved.{IsLeft, IsMove};
+ghost use Rattle.wf_value.specs.Plain.{plain};
+
+use crate::finish::{Went, goes, raises};
+use crate::step::map_of;
+use std::alloc::Global;
+use wf_frames::{Frame, Frames, Left, enter};
+use wf_nodes::{LoopNode, Node};
+use wf_scope::Scopes;
+use wf_value::{List, OutOfMemory, Tag, Value};
+
+// No execution makes so many iterations; an index below it is a whole number of the language.
+const INDEX_LIMIT: u64 = 9_223_372_036_854_775_808;
+
+// The next value that a loop has left, and what is left behind it.
+fn next_of(alloc: Global, left: Left) -> Result<Option<(Value, Left)>, OutOfMemory>
+    ensures { IfOk result (λ o. option_map (λ p. (plain p.0, left_view p.1)) o ≡ next_of (left_view left)) }
+{
+    match left {
+        Left::Nothing => Ok(None),
+        Left::Items(list, at) => next_item(alloc, list, at),
+        Left::Range(first, last) => Ok(Some((Value::Int(first), behind(first, last)))),
+    }
+}
+
+// What a range has left behind its first number.
+fn behind(first: i64, last: i64) -> Left
+    ensures { left_view result ≡ (if int_lt first last then OfRange (first +ℤ pos 1) last else OfList []) }
+{
+    if first < last {
+        Left::Range(first + 1, last)
+    } else {
+        Left::Nothing
+    }
+}
+
+// The item of a list, and those behind it.
+fn next_item(alloc: Global, list: List, at: usize) -> Result<Option<(Value, Left)>, OutOfMemory>
+    ensures { IfOk result (λ o. option_map (λ p. (plain p.0, left_view p.1)) o ≡ next_of (left_view (left.Items list at))) }
+{
+    let items = list.items();
+    if at >= items.len() {
+        return Ok(None);
+    }
+    let item = items[at].copy(alloc)?;
+    Ok(Some((item, Left::Items(list, at + 1))))
+}
+
+/// The loop's next iteration, or its end. Its frame was taken.
+pub(crate) fn turn(
+    alloc: Global,
+    nodes: &[Node],
+    n: u32,
+    body: &LoopNode,
+    left: Left,
+    index: u64,
+    frames: &mut Frames,
+    scopes: &mut Scopes,
+) -> Result<Went, OutOfMemory>
+    ghost around: { Around }
+    requires tells { Tells around.spots nodes.now }
+    requires stands { Stands around nodes.now frames.old scopes.old }
+    requires is { IsLoop nodes.now n body.now }
+    ensures moved { IfOk result (λ w. (s : Scene) (c : Seq Item) → Agrees s around
+        → IsMove (moves s (control around.spots (frame.Loop n left index ∷ inner frames.old)) (beside c around frames.old scopes.old)) w (local_of around frames.new scopes.new)) }
+    ensures stands { OnOk result (Stands around nodes.now frames.new scopes.new) }
+    ensures left { IfOk result (λ w. IsLeft nodes.now w (inner frames.new)) }
+{
+    let found = next_of(alloc, left)?;
+    let Some(both) = found else {
+        return Ok(goes(frames, nodes, scopes));
+    };
+    let (value, rest) = both;
+    if index >= INDEX_LIMIT {
+        return Err(OutOfMemory);
+    }
+    let entered = enter(frames, scopes, &body.value, value, &body.index, index)?;
+    let Some(layer) = entered else {
+        let error = map_of(alloc, Tag::ResourceLimitError)?;
+        return Ok(raises(frames, scopes, error));
+    };
+    frames.push(Frame::Loop(n, rest, index + 1))?;
+    frames.push(Frame::Mark(layer))?;
+    frames.push(Frame::Do(n, 0))?;
+    Ok(goes(frames, nodes, scopes))
+}
