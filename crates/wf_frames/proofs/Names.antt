@@ -1,7 +1,7 @@
 -- A new layer with names, inside a task's own.
-use Rattle.std.proofs.Common.{◌≡◌, ◌<◌, ◌≤◌, inl, inr, ℕ, ℤ, zero, suc, ◌+◌, max, Bool, true, false, List, [], ◌∷◌, ◌++◌, Option, Some, None, Result, Ok, Err, is_some, refl, sym, ap, subst, ◌∙◌, arith}
+use Rattle.std.proofs.Common.{◌≡◌, ◌<◌, inl, inr, ℕ, ℤ, ◌+◌, Bool, true, false, List, [], ◌∷◌, ◌++◌, Option, Some, None, Result, Ok, Err, refl, sym, ap, subst, ◌∙◌, arith}
 use Rattle.std.specs.Prelude.{nat_eq, nat_le, if◌then◌else◌, map as each, OnErr}
-use Rattle.std.proofs.lemmas.Bool.{and_parts, eqb-true, eq-eqb, ne_eqb, false≢true}
+use Rattle.std.proofs.lemmas.Bool.{and_parts, eq-eqb, ne_eqb}
 use Rattle.wf_frames.proofs.Stores.{OwnStay, KeysStay, Stays, keys_same, keys_stand_same, own_same, own_stand_same}
 use Rattle.wf_frames.proofs.Owning.{innermost_own}
 use Rattle.wf_frames.proofs.Sums.{SumIs, sum_more, total_so}
@@ -20,7 +20,7 @@ use Rattle.wf_scope.proofs.Writing.{pairs_listed}
 use Rattle.wf_scope.specs.Changes.{Answers, bound}
 use Rattle.wf_scope.specs.Layers.{all_stand, closed, find, fresh, opened, put_at, stands, total_of, vars_at, vars_in, with_variable}
 use Rattle.wf_scope.specs.Store.{layers_of}
-use Rattle.wf_scope.specs.Tasks.{AreApart, AreOthers, Far, Own, far_layers, numbers, own_layers}
+use Rattle.wf_scope.specs.Tasks.{AreOthers, Far, Own, far_layers, numbers, own_layers}
 use Rattle.wf_scope.specs.declared.fault.AssignFault.{AssignFault}
 use Rattle.wf_scope.specs.declared.fault.AssignFault.TheVariants as fault
 use Rattle.wf_scope.specs.declared.layer.Layer.{Layer}
@@ -184,18 +184,23 @@ none_any : (i : Option ℕ) (p : ℕ) (ls : List Layer) → OnlyInside None p ls
 none_any i p [] h = tt
 none_any i p (y ∷ ls) h = (λ e. let n : None ≡ Some y.number = h.0 e in absurd (cc n), none_any i p ls h.1)
 
-alone_more : (i : Option ℕ) (o : ℕ) (os : List Own) (ks : List Far) (ls : List Layer) (l : Layer) → l.outer ≡ Some o → AreOthers o (numbers os ks) → AreAlone i os ls → AreAlone i os (ls ++ l ∷ [])
+alone_more : (i : Option ℕ) (o : ℕ) (os : List Own) (ks : List Far) (ls : List Layer) (l : Layer) → ((q : ℕ) → l.outer ≡ Some q → o ≡ q) → AreOthers o (numbers os ks) → AreAlone i os ls → AreAlone i os (ls ++ l ∷ [])
 alone_more i o [] ks ls l e a h = tt
 alone_more i o (p ∷ os) ks ls l e a h =
-    (only_more i p.number ls l h.0 (λ q. let same : o ≡ p.number = cc (sym e ∙ q) in absurd (let t : true ≡ false = sym (eq-eqb o p.number same) ∙ a.0 in cc t)), alone_more (Some p.number) o os ks ls l e a.1 h.1)
+    (only_more i p.number ls l h.0 (λ q. let same : o ≡ p.number = e p.number q in absurd (let t : true ≡ false = sym (eq-eqb o p.number same) ∙ a.0 in cc t)), alone_more (Some p.number) o os ks ls l e a.1 h.1)
 
-pub record Links (ks : List Far) (os : List Own) (ls : List Layer) (l : Layer) : Type 0 where
-  pub linked : Linked ks (own l.number false ∷ os) (ls ++ l ∷ [])
+-- it stands in the layer of this number, or in none
+stands_in : (b : Bool) (o : ℕ) (l : Layer) → l.outer ≡ outer_for b (Some o) → (q : ℕ) → l.outer ≡ Some q → o ≡ q
+stands_in true o l e q h = let n : None ≡ Some q = sym e ∙ h in absurd (cc n)
+stands_in false o l e q h = cc (sym e ∙ h)
+
+pub record Links (ks : List Far) (os : List Own) (b : Bool) (ls : List Layer) (l : Layer) : Type 0 where
+  pub linked : Linked ks (own l.number b ∷ os) (ls ++ l ∷ [])
   pub own_layers_are : own_layers os (ls ++ l ∷ []) ≡ own_layers os ls
   pub far_layers_are : far_layers ks (ls ++ l ∷ []) ≡ far_layers ks ls
 
-pub linked_in : (ks : List Far) (o : Own) (os : List Own) (ls : List Layer) (l : Layer) → all_stand ls ls ≡ true → Linked ks (o ∷ os) ls → l.number ≡ fresh ls → l.outer ≡ Some o.number → Links ks (o ∷ os) ls l
-linked_in ks o os ls l r h n e =
+pub linked_in : (ks : List Far) (o : Own) (os : List Own) (b : Bool) (ls : List Layer) (l : Layer) → all_stand ls ls ≡ true → Linked ks (o ∷ os) ls → l.number ≡ fresh ls → l.outer ≡ outer_for b (Some o.number) → Links ks (o ∷ os) b ls l
+linked_in ks o os b ls l r h n e =
     let none : find l.number ls ≡ None = ap (λ (m : ℕ). find m ls) n ∙ fresh_none ls in
     let stay = own_stay_more ls l (first_key ks) (o ∷ os) h.stand in
     let keys = keys_stay_more ls l ks h.keys in
@@ -206,8 +211,8 @@ linked_in ks o os ls l r h n e =
         keys = keys_stand_same ls (ls ++ l ∷ []) ks keys h.keys;
         apart = (subst (λ (m : ℕ). AreOthers m (numbers (o ∷ os) ks)) (sym n) (others_own (first_key ks) (o ∷ os) ks ls h.stand h.keys), h.apart);
         alone = (
-          only_more None l.number ls l (none_missing l.number ls ls none r) (λ q. let same : o.number ≡ l.number = cc (sym e ∙ q) in absurd (omega (arith, there, same, n))),
-          (only_more (Some l.number) o.number ls l (none_any (Some l.number) o.number ls h.alone.0) (λ q. refl), alone_more (Some o.number) o.number os ks ls l e h.apart.0 h.alone.1),
+          only_more None l.number ls l (none_missing l.number ls ls none r) (λ q. let same : o.number ≡ l.number = stands_in b o.number l e l.number q in absurd (omega (arith, there, same, n))),
+          (only_more (Some l.number) o.number ls l (none_any (Some l.number) o.number ls h.alone.0) (λ q. refl), alone_more (Some o.number) o.number os ks ls l (stands_in b o.number l e) h.apart.0 h.alone.1),
         );
       };
       own_layers_are = own_same ls (ls ++ l ∷ []) (o ∷ os) stay;
@@ -215,15 +220,15 @@ linked_in ks o os ls l r h n e =
     }
 
 -- ## A layer of names
-module _ (a : Around) (p : ℕ) (fs : List Frame) (x : Scopes) (o d : ℕ) (xs : List (Text × Data)) (all : all_stand (layers_of x) (layers_of x) ≡ true) (h : IsLinked a (owned p fs) x) (is : o ≡ innermost p fs) where
-  begun : Last x.limit (fresh (layers_of x)) (layers_of x) (fresh_none (layers_of x)) (Some o) (opened (Some o) d (layers_of x)) no_pairs
-  begun = record { layer = record { number = fresh (layers_of x); outer = Some o; depth = d; vars = [] }; is = refl; number = refl; inside = refl; vars = refl; order = in_order_empty {X = Data} [] refl }
+module _ (a : Around) (p : ℕ) (fs : List Frame) (x : Scopes) (o d : ℕ) (b : Bool) (xs : List (Text × Data)) (all : all_stand (layers_of x) (layers_of x) ≡ true) (h : IsLinked a (owned p fs) x) (is : o ≡ innermost p fs) where
+  begun : Last x.limit (fresh (layers_of x)) (layers_of x) (fresh_none (layers_of x)) (outer_for b (Some o)) (opened (outer_for b (Some o)) d (layers_of x)) no_pairs
+  begun = record { layer = record { number = fresh (layers_of x); outer = outer_for b (Some o); depth = d; vars = [] }; is = refl; number = refl; inside = refl; vars = refl; order = in_order_empty {X = Data} [] refl }
 
-  bound_so : Same x.limit (fresh (layers_of x)) (layers_of x) (fresh_none (layers_of x)) (Some o) (bound_all x.limit (fresh (layers_of x)) xs (opened (Some o) d (layers_of x))) (model.bound x.limit (total_of (layers_of x)) xs no_pairs)
-  bound_so = names_bound x.limit (fresh (layers_of x)) (layers_of x) (fresh_none (layers_of x)) xs (Some o) (opened (Some o) d (layers_of x)) no_pairs begun
+  bound_so : Same x.limit (fresh (layers_of x)) (layers_of x) (fresh_none (layers_of x)) (outer_for b (Some o)) (bound_all x.limit (fresh (layers_of x)) xs (opened (outer_for b (Some o)) d (layers_of x))) (model.bound x.limit (total_of (layers_of x)) xs no_pairs)
+  bound_so = names_bound x.limit (fresh (layers_of x)) (layers_of x) (fresh_none (layers_of x)) xs (outer_for b (Some o)) (opened (outer_for b (Some o)) d (layers_of x)) no_pairs begun
 
-  pub told_so : (limit n : ℕ) (ms : List Layer) (r : Result (List Layer) AssignFault) → limit ≡ x.limit → n ≡ fresh (layers_of x) → ms ≡ opened (Some o) d (layers_of x) → bound_all limit n xs ms ≡ r
-      → bound_all x.limit (fresh (layers_of x)) xs (opened (Some o) d (layers_of x)) ≡ r
+  pub told_so : (limit n : ℕ) (ms : List Layer) (r : Result (List Layer) AssignFault) → limit ≡ x.limit → n ≡ fresh (layers_of x) → ms ≡ opened (outer_for b (Some o)) d (layers_of x) → bound_all limit n xs ms ≡ r
+      → bound_all x.limit (fresh (layers_of x)) xs (opened (outer_for b (Some o)) d (layers_of x)) ≡ r
   told_so limit n ms r l e m t =
       sym (ap (λ (k : ℕ). bound_all k n xs ms) l ∙ ap (λ (k : ℕ). bound_all x.limit k xs ms) e ∙ ap (bound_all x.limit (fresh (layers_of x)) xs) m) ∙ t
 
@@ -233,56 +238,56 @@ module _ (a : Around) (p : ℕ) (fs : List Frame) (x : Scopes) (o d : ℕ) (xs :
   opened_so s lim sum = ap (λ (k : ℕ). model.bound k (total s (standing [] (held_of a.keys (owned p fs) (layers_of x)))) xs no_pairs) (lim ∙ sym h.limit) ∙ ap (λ (k : ℕ). model.bound x.limit k xs no_pairs) (total_so a (owned p fs) x s h sum)
 
   -- the names fit
-  module _ (y : Scopes) (told : bound_all x.limit (fresh (layers_of x)) xs (opened (Some o) d (layers_of x)) ≡ Ok (layers_of y)) (limit : y.limit ≡ x.limit) where
-    fitted : Same x.limit (fresh (layers_of x)) (layers_of x) (fresh_none (layers_of x)) (Some o) (Ok (layers_of y)) (model.bound x.limit (total_of (layers_of x)) xs no_pairs)
-    fitted = subst (λ r. Same x.limit (fresh (layers_of x)) (layers_of x) (fresh_none (layers_of x)) (Some o) r (model.bound x.limit (total_of (layers_of x)) xs no_pairs)) told bound_so
+  module _ (y : Scopes) (told : bound_all x.limit (fresh (layers_of x)) xs (opened (outer_for b (Some o)) d (layers_of x)) ≡ Ok (layers_of y)) (limit : y.limit ≡ x.limit) where
+    fitted : Same x.limit (fresh (layers_of x)) (layers_of x) (fresh_none (layers_of x)) (outer_for b (Some o)) (Ok (layers_of y)) (model.bound x.limit (total_of (layers_of x)) xs no_pairs)
+    fitted = subst (λ r. Same x.limit (fresh (layers_of x)) (layers_of x) (fresh_none (layers_of x)) (outer_for b (Some o)) r (model.bound x.limit (total_of (layers_of x)) xs no_pairs)) told bound_so
 
-    links : Links a.keys (owned p fs) (layers_of x) fitted.2.layer
+    links : Links a.keys (owned p fs) b (layers_of x) fitted.2.layer
     links =
         let i = innermost_own p fs in
-        subst (λ os. Links a.keys os (layers_of x) fitted.2.layer) (sym i.is)
-        (linked_in a.keys i.top i.rest (layers_of x) fitted.2.layer all (subst (λ os. Linked a.keys os (layers_of x)) i.is h.layers) fitted.2.number (fitted.2.inside ∙ ap Some (is ∙ sym i.number)))
+        subst (λ os. Links a.keys os b (layers_of x) fitted.2.layer) (sym i.is)
+        (linked_in a.keys i.top i.rest b (layers_of x) fitted.2.layer all (subst (λ os. Linked a.keys os (layers_of x)) i.is h.layers) fitted.2.number (fitted.2.inside ∙ ap (λ (k : ℕ). outer_for b (Some k)) (is ∙ sym i.number)))
 
     last_vars : vars_at (fresh (layers_of x)) (layers_of x ++ fitted.2.layer ∷ []) ≡ fitted.2.layer.vars
     last_vars =
         let none : find fitted.2.layer.number (layers_of x) ≡ None = ap (λ (n : ℕ). find n (layers_of x)) fitted.2.number ∙ fresh_none (layers_of x) in
         ap (λ (n : ℕ). vars_at n (layers_of x ++ fitted.2.layer ∷ [])) (sym fitted.2.number) ∙ ap vars_in (find_last fitted.2.layer.number fitted.2.layer refl (layers_of x) none)
 
-    pub entered_linked : IsLinked a (own (fresh (layers_of x)) false ∷ owned p fs) y
+    pub entered_linked : IsLinked a (own (fresh (layers_of x)) b ∷ owned p fs) y
     entered_linked = record {
-      layers = subst (λ ls. Linked a.keys (own (fresh (layers_of x)) false ∷ owned p fs) ls) (sym fitted.2.is) (subst (λ (n : ℕ). Linked a.keys (own n false ∷ owned p fs) (layers_of x ++ fitted.2.layer ∷ [])) fitted.2.number links.linked);
+      layers = subst (λ ls. Linked a.keys (own (fresh (layers_of x)) b ∷ owned p fs) ls) (sym fitted.2.is) (subst (λ (n : ℕ). Linked a.keys (own n b ∷ owned p fs) (layers_of x ++ fitted.2.layer ∷ [])) fitted.2.number links.linked);
       limit = limit ∙ h.limit;
       order = λ m. subst (λ ls. IsInOrder (vars_at m ls)) (sym fitted.2.is) (order_last (layers_of x) fitted.2.layer fitted.2.order m (h.order m));
-      sum = subst (λ ls. SumIs a (own (fresh (layers_of x)) false ∷ owned p fs) ls) (sym fitted.2.is)
+      sum = subst (λ ls. SumIs a (own (fresh (layers_of x)) b ∷ owned p fs) ls) (sym fitted.2.is)
           (sum_more (pairs_size (pairs_of (vars_at (fresh (layers_of x)) (layers_of x ++ fitted.2.layer ∷ [])))) (layers_total (own_layers (owned p fs) (layers_of x))) (outers_total (far_layers a.keys (layers_of x))) a.others (total_of (layers_of x))
           (layers_total (own_layers (owned p fs) (layers_of x ++ fitted.2.layer ∷ []))) (outers_total (far_layers a.keys (layers_of x ++ fitted.2.layer ∷ []))) (total_of (layers_of x ++ fitted.2.layer ∷ []))
           h.sum (total_last (layers_of x) fitted.2.layer ∙ ap (λ ps. total_of (layers_of x) + pairs_size (pairs_of ps)) (sym last_vars)) (ap layers_total links.own_layers_are) (ap outers_total links.far_layers_are));
     }
 
     pub entered_so : (s : Scene) → (limits s.facts.rules).variables ≡ a.limit → s.others ≡ a.others
-        → Enters s (Some (fresh (layers_of x))) (held_of a.keys (owned p fs) (layers_of x)) xs (held_of a.keys (own (fresh (layers_of x)) false ∷ owned p fs) (layers_of y))
+        → Enters b s (Some (fresh (layers_of x))) (held_of a.keys (owned p fs) (layers_of x)) xs (held_of a.keys (own (fresh (layers_of x)) b ∷ owned p fs) (layers_of y))
     entered_so s lim sum =
         let new = layers_of x ++ fitted.2.layer ∷ [] in
         let vars : pairs_of (vars_at (fresh (layers_of x)) new) ≡ fitted.0 = ap pairs_of last_vars ∙ fitted.2.vars in (
           fitted.0,
           opened_so s lim sum ∙ fitted.1,
-          ap (held_of a.keys (own (fresh (layers_of x)) false ∷ owned p fs)) fitted.2.is
-              ∙ ap {B = Held} (λ (ps : Pairs). record { own = record { vars = ps; by_call = false } ∷ own_layers (owned p fs) new; outside = far_layers a.keys new }) vars
-              ∙ ap {B = Held} (λ os. record { own = record { vars = fitted.0; by_call = false } ∷ os; outside = far_layers a.keys new }) links.own_layers_are
-              ∙ ap {B = Held} (λ os. record { own = record { vars = fitted.0; by_call = false } ∷ own_layers (owned p fs) (layers_of x); outside = os }) links.far_layers_are,
+          ap (held_of a.keys (own (fresh (layers_of x)) b ∷ owned p fs)) fitted.2.is
+              ∙ ap {B = Held} (λ (ps : Pairs). record { own = record { vars = ps; by_call = b } ∷ own_layers (owned p fs) new; outside = far_layers a.keys new }) vars
+              ∙ ap {B = Held} (λ os. record { own = record { vars = fitted.0; by_call = b } ∷ os; outside = far_layers a.keys new }) links.own_layers_are
+              ∙ ap {B = Held} (λ os. record { own = record { vars = fitted.0; by_call = b } ∷ own_layers (owned p fs) (layers_of x); outside = os }) links.far_layers_are,
         )
 
   -- they don't
-  pub refused_so : (y : Scopes) → bound_all x.limit (fresh (layers_of x)) xs (opened (Some o) d (layers_of x)) ≡ Err fault.TooLarge → layers_of y ≡ layers_of x → (s : Scene) → (limits s.facts.rules).variables ≡ a.limit
-      → s.others ≡ a.others → Enters s None (held_of a.keys (owned p fs) (layers_of x)) xs (held_of a.keys (owned p fs) (layers_of y))
+  pub refused_so : (y : Scopes) → bound_all x.limit (fresh (layers_of x)) xs (opened (outer_for b (Some o)) d (layers_of x)) ≡ Err fault.TooLarge → layers_of y ≡ layers_of x → (s : Scene) → (limits s.facts.rules).variables ≡ a.limit
+      → s.others ≡ a.others → Enters b s None (held_of a.keys (owned p fs) (layers_of x)) xs (held_of a.keys (owned p fs) (layers_of y))
   refused_so y told same s lim sum =
-      (opened_so s lim sum ∙ subst (λ r. Same x.limit (fresh (layers_of x)) (layers_of x) (fresh_none (layers_of x)) (Some o) r (model.bound x.limit (total_of (layers_of x)) xs no_pairs)) told bound_so, ap (held_of a.keys (owned p fs)) same)
+      (opened_so s lim sum ∙ subst (λ r. Same x.limit (fresh (layers_of x)) (layers_of x) (fresh_none (layers_of x)) (outer_for b (Some o)) r (model.bound x.limit (total_of (layers_of x)) xs no_pairs)) told bound_so, ap (held_of a.keys (owned p fs)) same)
 
   -- the layer goes again
-  pub closed_again : (ms : List Layer) → closed (fresh (layers_of x)) ms ≡ closed (fresh (layers_of x)) (opened (Some o) d (layers_of x)) → closed (fresh (layers_of x)) ms ≡ layers_of x
-  closed_again ms e = e ∙ closed_last (fresh (layers_of x)) (record { number = fresh (layers_of x); outer = Some o; depth = d; vars = [] }) refl (layers_of x) (fresh_none (layers_of x))
+  pub closed_again : (ms : List Layer) → closed (fresh (layers_of x)) ms ≡ closed (fresh (layers_of x)) (opened (outer_for b (Some o)) d (layers_of x)) → closed (fresh (layers_of x)) ms ≡ layers_of x
+  closed_again ms e = e ∙ closed_last (fresh (layers_of x)) (record { number = fresh (layers_of x); outer = outer_for b (Some o); depth = d; vars = [] }) refl (layers_of x) (fresh_none (layers_of x))
 
-  pub again_so : (n : ℕ) (ms new last : List Layer) → n ≡ fresh (layers_of x) → ms ≡ opened (Some o) d (layers_of x) → last ≡ closed n new → closed n new ≡ closed n ms → last ≡ layers_of x
+  pub again_so : (n : ℕ) (ms new last : List Layer) → n ≡ fresh (layers_of x) → ms ≡ opened (outer_for b (Some o)) d (layers_of x) → last ≡ closed n new → closed n new ≡ closed n ms → last ≡ layers_of x
   again_so n ms new last e m l c =
       l ∙ ap (λ (k : ℕ). closed k new) e ∙ closed_again new (sym (ap (λ (k : ℕ). closed k new) e) ∙ c ∙ ap (λ (k : ℕ). closed k ms) e ∙ ap (closed (fresh (layers_of x))) m)
 
@@ -324,3 +329,8 @@ module _ (limit n : ℕ) (x : Text) (v : Data) (i : ℤ) (ls : List Layer) where
 
   pub answers_two : (y : Text) (mid new : List Layer) (r : Result (Unit {0}) AssignFault) → bound limit n x v ls ≡ Ok mid → Answers r new (bound limit n y (integer i) mid) → Answers r new (bound_all limit n (names_of x v (Some y) i) ls)
   answers_two y mid new r e h = subst (λ q. Answers r new q) (sym (second y mid e)) h
+
+-- ## All names of a list
+-- some names are bound, and then more
+pub bound_more : (limit n : ℕ) (x : Text) (v : Data) (xs : List (Text × Data)) (ls mid : List Layer) (r : Result (List Layer) AssignFault) → bound limit n x v ls ≡ Ok mid → bound_all limit n xs mid ≡ r → bound_all limit n ((x, v) ∷ xs) ls ≡ r
+bound_more limit n x v xs ls mid r e h = ap {B = Result (List Layer) AssignFault} (λ q. elim q [ Ok ms ↦ bound_all limit n xs ms | Err g ↦ Err g ]) e ∙ h

@@ -1,10 +1,10 @@
 -- A task's layers, by its frames.
-use Rattle.std.proofs.Common.{◌≡◌, ◌<◌, ℕ, zero, suc, ◌+◌, Bool, true, false, List, [], ◌∷◌, ◌++◌, length, take, get_or, Option, Some, None, refl, sym, ap, subst, ◌∙◌, arith}
+use Rattle.std.proofs.Common.{◌≡◌, ◌<◌, ℕ, zero, suc, ◌+◌, true, false, List, [], ◌∷◌, ◌++◌, length, take, get_or, Some, None, refl, sym, ap, subst, ◌∙◌, arith}
 use Rattle.std.specs.Prelude.{drop, reverse}
 use Rattle.wf_frames.proofs.Reversed.{reverse_push}
 use Rattle.wf_frames.proofs.Stores.{Closes, closes, order_closed}
 use Rattle.wf_frames.proofs.Sums.{SumIs, sum_closed}
-use Rattle.wf_frames.specs.Frames.{innermost, mark_of, own, owned, popped}
+use Rattle.wf_frames.specs.Frames.{innermost, is_back, mark_of, own, owned}
 use Rattle.wf_frames.specs.Held.{Held}
 use Rattle.wf_frames.specs.Owned.{Around, IsLinked, Linked, held_of}
 use Rattle.wf_frames.specs.Turns.{Leaves, dropped}
@@ -20,8 +20,10 @@ use Rattle.wf_scope.specs.declared.scopes.Scopes.{Scopes}
 use Rattle.wf_value.specs.Data.{pairs_of, pairs_size}
 use Rattle.wf_value.specs.Maps.{IsInOrder}
 
-pub owned_mark : (first : ℕ) (f : Frame) (n : ℕ) (fs : List Frame) → mark_of f ≡ Some n → owned first (f ∷ fs) ≡ own n false ∷ owned first fs
+pub owned_mark : (first : ℕ) (f : Frame) (n : ℕ) (fs : List Frame) → mark_of f ≡ Some n → owned first (f ∷ fs) ≡ own n (is_back f) ∷ owned first fs
 owned_mark first (frame.Mark m) n fs e = let same : m ≡ n = cc e in ap (λ (k : ℕ). own k false ∷ owned first fs) same
+owned_mark first (frame.Back c m) n fs e = let same : m ≡ n = cc e in ap (λ (k : ℕ). own k true ∷ owned first fs) same
+owned_mark first (frame.Try l r d) n fs e = absurd (cc e)
 owned_mark first (frame.Do l at) n fs e = absurd (cc e)
 owned_mark first (frame.Lone l b) n fs e = absurd (cc e)
 owned_mark first (frame.Entries l at) n fs e = absurd (cc e)
@@ -30,6 +32,8 @@ owned_mark first (frame.Loop l w i) n fs e = absurd (cc e)
 
 pub owned_other : (first : ℕ) (f : Frame) (fs : List Frame) → mark_of f ≡ None → owned first (f ∷ fs) ≡ owned first fs
 owned_other first (frame.Mark m) fs e = absurd (cc e)
+owned_other first (frame.Back c m) fs e = absurd (cc e)
+owned_other first (frame.Try l r d) fs e = refl
 owned_other first (frame.Do l at) fs e = refl
 owned_other first (frame.Lone l b) fs e = refl
 owned_other first (frame.Entries l at) fs e = refl
@@ -38,6 +42,8 @@ owned_other first (frame.Loop l w i) fs e = refl
 
 dropped_mark : (f : Frame) (n : ℕ) (h : Held) → mark_of f ≡ Some n → dropped f h ≡ record h { own = drop 1 h.own }
 dropped_mark (frame.Mark m) n h e = refl
+dropped_mark (frame.Back c m) n h e = refl
+dropped_mark (frame.Try l r d) n h e = absurd (cc e)
 dropped_mark (frame.Do l at) n h e = absurd (cc e)
 dropped_mark (frame.Lone l b) n h e = absurd (cc e)
 dropped_mark (frame.Entries l at) n h e = absurd (cc e)
@@ -46,6 +52,8 @@ dropped_mark (frame.Loop l w i) n h e = absurd (cc e)
 
 dropped_other : (f : Frame) (h : Held) → mark_of f ≡ None → dropped f h ≡ h
 dropped_other (frame.Mark m) h e = absurd (cc e)
+dropped_other (frame.Back c m) h e = absurd (cc e)
+dropped_other (frame.Try l r d) h e = refl
 dropped_other (frame.Do l at) h e = refl
 dropped_other (frame.Lone l b) h e = refl
 dropped_other (frame.Entries l at) h e = refl
@@ -62,6 +70,8 @@ pub record Innermost (first : ℕ) (fs : List Frame) : Type 0 where
 pub innermost_own : (first : ℕ) (fs : List Frame) → Innermost first fs
 innermost_own first [] = record { top = own first false; rest = []; is = refl; number = refl }
 innermost_own first (frame.Mark n ∷ fs) = record { top = own n false; rest = owned first fs; is = refl; number = refl }
+innermost_own first (frame.Back c n ∷ fs) = record { top = own n true; rest = owned first fs; is = refl; number = refl }
+innermost_own first (frame.Try l r d ∷ fs) = let i = innermost_own first fs in record { top = i.top; rest = i.rest; is = i.is; number = i.number }
 innermost_own first (frame.Do l at ∷ fs) = let i = innermost_own first fs in record { top = i.top; rest = i.rest; is = i.is; number = i.number }
 innermost_own first (frame.Lone l b ∷ fs) = let i = innermost_own first fs in record { top = i.top; rest = i.rest; is = i.is; number = i.number }
 innermost_own first (frame.Entries l at ∷ fs) = let i = innermost_own first fs in record { top = i.top; rest = i.rest; is = i.is; number = i.number }
@@ -71,11 +81,11 @@ innermost_own first (frame.Loop l w j ∷ fs) = let i = innermost_own first fs i
 -- ## Leaving
 -- the innermost frame has a layer
 module _ (a : Around) (p q first : ℕ) (f : Frame) (n : ℕ) (old new : List Frame) (x : Scopes) (same : q ≡ first) (first_is : p ≡ first) (mark : mark_of f ≡ Some n) (is : old ≡ f ∷ new) (r : rises (layers_of x) ≡ true) (h : IsLinked a (owned p old) x) where
-  opens : owned p old ≡ own n false ∷ owned first new
+  opens : owned p old ≡ own n (is_back f) ∷ owned first new
   opens = ap (λ (k : ℕ). owned k old) first_is ∙ ap (owned first) is ∙ owned_mark first f n new mark
 
-  pub mark_closes : Closes a.keys (own n false) (owned first new) (layers_of x)
-  mark_closes = closes a.keys (own n false) (owned first new) (layers_of x) r (subst (λ os. Linked a.keys os (layers_of x)) opens h.layers)
+  pub mark_closes : Closes a.keys (own n (is_back f)) (owned first new) (layers_of x)
+  mark_closes = closes a.keys (own n (is_back f)) (owned first new) (layers_of x) r (subst (λ os. Linked a.keys os (layers_of x)) opens h.layers)
 
   mark_sum : SumIs a (owned first new) (closed n (layers_of x))
   mark_sum =
@@ -116,6 +126,8 @@ other_linked a p q f old new x same none is h =
 -- ## The innermost layer, from the end
 pub innermost_mark : (first : ℕ) (f : Frame) (n : ℕ) (fs : List Frame) → mark_of f ≡ Some n → innermost first (f ∷ fs) ≡ n
 innermost_mark first (frame.Mark m) n fs e = cc e
+innermost_mark first (frame.Back c m) n fs e = cc e
+innermost_mark first (frame.Try l r d) n fs e = absurd (cc e)
 innermost_mark first (frame.Do l at) n fs e = absurd (cc e)
 innermost_mark first (frame.Lone l b) n fs e = absurd (cc e)
 innermost_mark first (frame.Entries l at) n fs e = absurd (cc e)
@@ -124,6 +136,8 @@ innermost_mark first (frame.Loop l w i) n fs e = absurd (cc e)
 
 pub innermost_other : (first : ℕ) (f : Frame) (fs : List Frame) → mark_of f ≡ None → innermost first (f ∷ fs) ≡ innermost first fs
 innermost_other first (frame.Mark m) fs e = absurd (cc e)
+innermost_other first (frame.Back c m) fs e = absurd (cc e)
+innermost_other first (frame.Try l r d) fs e = refl
 innermost_other first (frame.Do l at) fs e = refl
 innermost_other first (frame.Lone l b) fs e = refl
 innermost_other first (frame.Entries l at) fs e = refl

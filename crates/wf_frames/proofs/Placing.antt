@@ -1,5 +1,5 @@
 -- Places of which one is no key.
-use Rattle.std.proofs.Common.{◌≡◌, ◌<◌, ◌≤◌, ◌+◌, ℕ, suc, Bool, true, false, ◌&&◌, List, [], ◌∷◌, ◌++◌, length, drop, get_or, Some, None, Ok, Err, refl, sym, ap, subst, ◌∙◌, add-one, drop-cons, arith}
+use Rattle.std.proofs.Common.{◌≡◌, ◌<◌, ◌≤◌, ◌+◌, ℕ, suc, Bool, true, false, ◌&&◌, List, [], ◌∷◌, ◌++◌, length, drop, get_or, Ok, Err, refl, sym, ap, ◌∙◌, add-one, drop-cons, arith}
 use Rattle.std.proofs.lemmas.List.{append-nil, drop_all}
 use Rattle.std.proofs.lemmas.Slice.{first_rest}
 use Rattle.std.specs.List.{between}
@@ -10,7 +10,7 @@ use Rattle.wf_scope.proofs.Writing.{items_listed, pairs_listed, written_more}
 use Rattle.wf_scope.specs.Places.{item_at, key_data, member, with_member}
 use Rattle.wf_scope.specs.declared.key.Key.{Key}
 use Rattle.wf_value.specs.Data.{Data, null, boolean, integer, text, bytes, list, map}
-use Rattle.wf_value.specs.Errors.{Answer, ◌>>=◌, or_error}
+use Rattle.wf_value.specs.Errors.{◌>>=◌, or_error}
 use Rattle.wf_value.specs.Maps.{value_at}
 use Rattle.wf_value.specs.Plain.{plain, plain_items}
 use Rattle.wf_value.specs.declared.Tag.{Tag}

@@ -6,7 +6,7 @@ use Rattle.wf_ast.specs.Apply.{View}
 use Rattle.wf_eval.specs.Sight.{seen}
 use Rattle.wf_frames.proofs.Owning.{innermost_own}
 use Rattle.wf_frames.proofs.Stores.{inside_live}
-use Rattle.wf_frames.specs.Frames.{inner, innermost, owned}
+use Rattle.wf_frames.specs.Frames.{innermost, owned}
 use Rattle.wf_frames.specs.Held.{standing}
 use Rattle.wf_frames.specs.Owned.{Around, IsInside, IsLinked, KeysStand, Linked, OwnStand, first_key, held_of, next_own, outer_for}
 use Rattle.wf_frames.specs.Sights.{Sees, names_in, sight_from}
@@ -23,7 +23,7 @@ use Rattle.wf_scope.specs.Tasks as task
 use Rattle.wf_scope.specs.Tasks.{Far, Own, far_layers, numbers_seen, own_layers, variables}
 use Rattle.wf_scope.specs.declared.layer.Layer.{Layer}
 use Rattle.wf_scope.specs.declared.scopes.Scopes.{Scopes}
-use Rattle.wf_value.specs.Data.{Data, Pairs, pairs_of}
+use Rattle.wf_value.specs.Data.{Data, pairs_of}
 use Rattle.wf_value.specs.Maps.{key_cmp, value_at}
 use Rattle.wf_value.specs.Pairs.{Text}
 

@@ -1,20 +1,22 @@
 -- A task stands in the one form where it stands in the other.
 use Rattle.std.proofs.Common.{◌≡◌, ℕ, ◌≤◌, true, List, [], ◌∷◌, length, Option, Some, None, is_some, refl, sym, ap, subst, ◌∙◌}
 use Rattle.std.specs.Prelude.{option_map, slice_get, unwrap_or}
-use Rattle.wf_frames.specs.Fits.{Fits, HasNode, IsLoop, entries_at, list_at}
+use Rattle.wf_frames.specs.Fits.{Fits, HasNode, IsCall, IsLoop, IsTry, entries_at, list_at}
 use Rattle.wf_frames.specs.Frames.{inner}
 use Rattle.wf_frames.specs.Owned.{Around, IsInside, KeysStand, OwnStand, first_key, next_own, outer_for, own_of}
-use Rattle.wf_frames.specs.Standing.{AllStandAt, KeysLie, LiesIn, OwnLie, Standing, StandsAt, is_loop, is_loop_node, steps_of}
+use Rattle.wf_frames.specs.Standing.{AllStandAt, KeysLie, LiesIn, OwnLie, Standing, StandsAt, is_call, is_call_node, is_loop, is_loop_node, is_try, is_try_node, steps_of}
 use Rattle.wf_frames.specs.Stands.{Stands}
 use Rattle.wf_frames.specs.declared.frames.Frame.{Frame}
 use Rattle.wf_frames.specs.declared.frames.Frame.TheVariants as frame
 use Rattle.wf_frames.specs.declared.frames.Frames.{Frames}
 use Rattle.wf_nodes.specs.Kinds.{Listed}
 use Rattle.wf_nodes.specs.Spots.{Spot}
+use Rattle.wf_nodes.specs.declared.node.CallNode.{CallNode}
 use Rattle.wf_nodes.specs.declared.node.LoopNode.{LoopNode}
 use Rattle.wf_nodes.specs.declared.node.Node.{Node}
 use Rattle.wf_nodes.specs.declared.node.NodeKind.{NodeKind}
 use Rattle.wf_nodes.specs.declared.node.NodeKind.TheVariants as variant
+use Rattle.wf_nodes.specs.declared.node.TryNode.{TryNode}
 use Rattle.wf_scope.specs.Layers.{find}
 use Rattle.wf_scope.specs.Store.{layers_of}
 use Rattle.wf_scope.specs.Tasks.{Far, Own}
@@ -26,6 +28,14 @@ loop_kind : (k : NodeKind) → is_loop k ≡ true → (b : LoopNode) × (k ≡ v
 loop_kind (variant.For b) t = (b, refl)
 loop_kind k t = absurd (cc t)
 
+try_kind : (k : NodeKind) → is_try k ≡ true → (t : TryNode) × (k ≡ variant.Try t)
+try_kind (variant.Try t) e = (t, refl)
+try_kind k e = absurd (cc e)
+
+call_kind : (k : NodeKind) → is_call k ≡ true → (f : CallNode) × (k ≡ variant.Call f)
+call_kind (variant.Call f) e = (f, refl)
+call_kind k e = absurd (cc e)
+
 module _ (nodes : List Node) where
   at_node : (f : Frame) → HasNode nodes f → StandsAt nodes f
   at_node (frame.Do n at) h = (ap is_some h.1, subst (λ o. at ≤ length (steps_of o)) (sym h.1) h.2)
@@ -33,7 +43,10 @@ module _ (nodes : List Node) where
   at_node (frame.Entries n at) h = (ap is_some h.1, subst (λ (o : Option (List ℕ)). at ≤ length (unwrap_or o [])) (sym h.1) h.2)
   at_node (frame.Then n) h = h
   at_node (frame.Loop n l i) h = ap is_loop_node h.1.at ∙ ap is_loop h.1.is
+  at_node (frame.Try n r d) h = ap is_try_node h.1.at ∙ ap is_try h.1.is
   at_node (frame.Mark m) h = tt
+  at_node (frame.Back None m) h = tt
+  at_node (frame.Back (Some n) m) h = ap is_call_node h.1.at ∙ ap is_call h.1.is
 
   list_there : (n at : ℕ) (o : Option Listed) → list_at nodes n ≡ o → is_some o ≡ true → at ≤ length (steps_of o) → HasNode nodes (frame.Do n at)
   list_there n at None e t w = absurd (cc t)
@@ -47,13 +60,24 @@ module _ (nodes : List Node) where
   loop_there n None e t = absurd (cc t)
   loop_there n (Some x) e t = let k = loop_kind x.kind t in (k.0, record { node = x; at = e; is = k.1 })
 
+  try_there : (n : ℕ) (o : Option Node) → slice_get nodes n ≡ o → is_try_node o ≡ true → (t : TryNode) × IsTry nodes n t
+  try_there n None e t = absurd (cc t)
+  try_there n (Some x) e t = let k = try_kind x.kind t in (k.0, record { node = x; at = e; is = k.1 })
+
+  call_there : (n : ℕ) (o : Option Node) → slice_get nodes n ≡ o → is_call_node o ≡ true → (f : CallNode) × IsCall nodes n f
+  call_there n None e t = absurd (cc t)
+  call_there n (Some x) e t = let k = call_kind x.kind t in (k.0, record { node = x; at = e; is = k.1 })
+
   has_node : (f : Frame) → StandsAt nodes f → HasNode nodes f
   has_node (frame.Do n at) h = list_there n at (list_at nodes n) refl h.0 h.1
   has_node (frame.Lone n done) h = h
   has_node (frame.Entries n at) h = entries_there n at (entries_at nodes n) refl h.0 h.1
   has_node (frame.Then n) h = h
   has_node (frame.Loop n l i) h = loop_there n (slice_get nodes n) refl h
+  has_node (frame.Try n r d) h = try_there n (slice_get nodes n) refl h
   has_node (frame.Mark m) h = tt
+  has_node (frame.Back None m) h = tt
+  has_node (frame.Back (Some n) m) h = call_there n (slice_get nodes n) refl h
 
   all_at : (ns : List Spot) (fs : List Frame) → Fits ns nodes fs → AllStandAt ns nodes fs
   all_at ns [] h = tt

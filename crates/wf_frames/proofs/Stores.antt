@@ -1,12 +1,12 @@
 -- Layers by number, behind a change of the store.
-use Rattle.std.proofs.Common.{◌≡◌, ◌<◌, inl, inr, ℕ, zero, suc, ◌+◌, Bool, true, false, List, [], ◌∷◌, ◌++◌, Option, Some, None, is_some, refl, sym, ap, subst, ◌∙◌, arith}
+use Rattle.std.proofs.Common.{◌≡◌, ℕ, Bool, true, false, List, [], ◌∷◌, Option, Some, None, is_some, refl, sym, ap, subst, ◌∙◌, arith}
 use Rattle.std.specs.Prelude.{nat_eq, nat_lt, if◌then◌else◌, map as each}
 use Rattle.std.proofs.lemmas.Bool.{and_parts, eqb-true, eqb-false, eq-eqb, ne_eqb, ltb-true}
 use Rattle.wf_frames.specs.Owned.{AreAlone, IsInside, KeysStand, Linked, OnlyInside, OwnStand, first_key, next_own, outer_for}
-use Rattle.wf_scope.proofs.Kept.{closed_head, closed_tail, find_closed, find_more}
-use Rattle.wf_scope.proofs.Numbers.{find_head, find_tail, found_cases, number_found}
+use Rattle.wf_scope.proofs.Kept.{find_closed}
+use Rattle.wf_scope.proofs.Numbers.{find_tail}
 use Rattle.wf_scope.specs.Layers.{IsInnermost, IsLive, all_above, closed, find, is_inside, rises, vars_at, vars_in}
-use Rattle.wf_scope.specs.Tasks.{AreApart, AreOthers, Far, Own, far_layer, far_layers, layer_of, numbers, own_layers}
+use Rattle.wf_scope.specs.Tasks.{AreOthers, Far, Own, far_layer, far_layers, layer_of, numbers, own_layers}
 use Rattle.wf_scope.specs.declared.layer.Layer.{Layer}
 use Rattle.wf_value.proofs.Order.{in_order_empty}
 use Rattle.wf_value.specs.Data.{pairs_of}

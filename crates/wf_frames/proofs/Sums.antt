@@ -1,9 +1,9 @@
 -- The sum of variables, behind a change of the store.
 use Rattle.std.proofs.Common.{◌≡◌, inl, inr, ℕ, ◌+◌, Bool, true, false, List, [], ◌∷◌, length, Option, Some, None, refl, sym, ap, subst, ◌∙◌, arith}
 use Rattle.std.specs.Prelude.{if◌then◌else◌, nat_eq, map as each, unwrap_or, ◌⊎◌}
-use Rattle.std.proofs.lemmas.Bool.{eqb-false, eqb-true, eq-eqb, ne_eqb}
+use Rattle.std.proofs.lemmas.Bool.{eqb-false, eqb-true, ne_eqb}
 use Rattle.wf_frames.specs.Held.{standing}
-use Rattle.wf_frames.specs.Owned.{Around, IsInside, IsLinked, KeysStand, OwnStand, first_key, held_of, next_own, outer_for}
+use Rattle.wf_frames.specs.Owned.{Around, IsLinked, KeysStand, OwnStand, held_of}
 use Rattle.wf_model.specs.Local.{Scene, layers_total, outers_total, total}
 use Rattle.wf_scope.proofs.Numbers.{find_head, find_tail, found_cases}
 use Rattle.wf_scope.proofs.Seen.{vars_found}

@@ -9,8 +9,10 @@ use Rattle.wf_nodes.specs.Kinds as kind
 use Rattle.wf_nodes.specs.Kinds.{Kind, Listed, View, node_view}
 use Rattle.wf_nodes.specs.Spots.{Spot, owners_at}
 use Rattle.wf_nodes.specs.Table.{outside, view_list}
+use Rattle.wf_nodes.specs.declared.node.CallNode.{CallNode}
 use Rattle.wf_nodes.specs.declared.node.LoopNode.{LoopNode}
 use Rattle.wf_nodes.specs.declared.node.Node.{Node}
+use Rattle.wf_nodes.specs.declared.node.TryNode.{TryNode}
 use Rattle.wf_nodes.specs.declared.node.NodeKind.TheVariants as variant
 
 -- innermost first
@@ -18,6 +20,7 @@ abbrev pub reach : List Frame → List ℕ
 reach [] = []
 reach (frame.Do n at ∷ fs) = n ∷ reach fs
 reach (frame.Loop n l i ∷ fs) = []
+reach (frame.Back call number ∷ fs) = []
 reach (f ∷ fs) = reach fs
 
 -- ## Nodes
@@ -54,6 +57,23 @@ pub record IsLoop (nodes : List Node) (n : ℕ) (b : LoopNode) : Type 0 where
   pub at : slice_get nodes n ≡ Some node
   pub is : node.kind ≡ variant.For b
 
+-- this `try`
+pub record IsTry (nodes : List Node) (n : ℕ) (t : TryNode) : Type 0 where
+  pub node : Node
+  pub at : slice_get nodes n ≡ Some node
+  pub is : node.kind ≡ variant.Try t
+
+-- this call
+pub record IsCall (nodes : List Node) (n : ℕ) (f : CallNode) : Type 0 where
+  pub node : Node
+  pub at : slice_get nodes n ≡ Some node
+  pub is : node.kind ≡ variant.Call f
+
+-- a call that a step makes is its node's
+abbrev pub IsCallOf : List Node → Option ℕ → Type 0
+IsCallOf nodes None = Unit {0}
+IsCallOf nodes (Some n) = (f : CallNode) × IsCall nodes n f
+
 -- the frame's number is that of a node of its kind
 abbrev pub HasNode : List Node → Frame → Type 0
 HasNode nodes (frame.Do n at) = (b : Listed) × (list_at nodes n ≡ Some b) × (at ≤ length b.steps)
@@ -61,7 +81,9 @@ HasNode nodes (frame.Lone n done) = n < length nodes
 HasNode nodes (frame.Entries n at) = (numbers : List ℕ) × (entries_at nodes n ≡ Some numbers) × (at ≤ length numbers)
 HasNode nodes (frame.Then n) = (n < length nodes) × (has_next (view_at nodes n) ≡ true)
 HasNode nodes (frame.Loop n l i) = (b : LoopNode) × IsLoop nodes n b
+HasNode nodes (frame.Try n tries delay) = (t : TryNode) × IsTry nodes n t
 HasNode nodes (frame.Mark number) = Unit {0}
+HasNode nodes (frame.Back call number) = IsCallOf nodes call
 
 -- what owns the lists around the node's own one
 abbrev pub view_outside : Option View → List ℕ → List ℕ
@@ -76,6 +98,7 @@ abbrev pub Nests : List Spot → List Node → Frame → List Frame → Type 0
 Nests ns nodes (frame.Do n at) fs = outside_at ns nodes n ≡ reach fs
 Nests ns nodes (frame.Lone n done) fs = owners_at ns n ≡ reach fs
 Nests ns nodes (frame.Then n) fs = owners_at ns n ≡ reach fs
+Nests ns nodes (frame.Try n tries delay) fs = owners_at ns n ≡ reach fs
 Nests ns nodes f fs = Unit {0}
 
 abbrev pub FrameFits : List Spot → List Node → Frame → List Frame → Type 0

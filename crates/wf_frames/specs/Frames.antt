@@ -1,9 +1,9 @@
 -- Frames, innermost first, and the items that they stand for.
 --     control        the items
 --     owned          the task's own layers
-use Rattle.std.specs.Prelude.{ℕ, Bool, true, false, List, [], ◌∷◌, drop, reverse, Some, None, Option, unwrap_or}
-use Rattle.wf_ast.specs.Tree.{Body, Entry, InList, LoopBody, Scalar, Steps, loop, no_steps, unnamed}
-use Rattle.wf_model.specs.Config.{Item, Do, Entries, Then, Loop, Mark, Left, OfList, OfRange}
+use Rattle.std.specs.Prelude.{ℕ, ◌+◌, Bool, true, false, cond, List, [], ◌∷◌, drop, reverse, Some, None, Option, unwrap_or}
+use Rattle.wf_ast.specs.Tree.{Body, Entry, InList, LoopBody, Scalar, Steps, TryBody, loop, no_except, no_steps, try, unnamed}
+use Rattle.wf_model.specs.Config.{Item, Do, Entries, Then, Loop, Try, Mark, Back, Left, OfList, OfRange}
 use Rattle.wf_frames.specs.declared.frames.Frame.{Frame}
 use Rattle.wf_frames.specs.declared.frames.Frame.TheVariants as frame
 use Rattle.wf_frames.specs.declared.frames.Frames.{Frames}
@@ -12,6 +12,7 @@ use Rattle.wf_frames.specs.declared.frames.Left.TheVariants as left
 use Rattle.wf_scope.specs.Tasks.{Own}
 use Rattle.wf_nodes.specs.Spots.{Spot, from, part_at, part_body, part_list, part_next}
 use Rattle.wf_value.specs.Data.{null}
+use Rattle.wf_value.specs.Pairs.{Text}
 
 -- ## As a list
 abbrev pub inner : Frames → List Frame
@@ -41,6 +42,21 @@ abbrev pub body_loop : Body → LoopBody
 body_loop (Body.For l) = l
 body_loop body = loop [] None (InList (Scalar null)) no_steps
 
+-- the `try` that a body is
+abbrev pub body_try : Body → TryBody
+body_try (Body.Try t) = t
+body_try body = try Body.Nothing None no_except
+
+-- the variable that takes what a call gives
+abbrev pub body_result : Body → Option Text
+body_result (Body.Call f) = f.result
+body_result body = None
+
+-- that of the call of a step, or none of a call that no step makes
+abbrev pub result_of : List Spot → Option ℕ → Option Text
+result_of ns None = None
+result_of ns (Some n) = body_result (part_body (part_at ns n))
+
 -- the step of a body that stands alone, if it isn't carried out yet
 abbrev pub lone_steps : List Spot → ℕ → Bool → Steps
 lone_steps ns n true = no_steps
@@ -52,7 +68,9 @@ item ns (frame.Lone n done) = Do no_steps (lone_steps ns n done)
 item ns (frame.Entries n at) = Entries (drop at (body_entries (part_body (part_at ns n))))
 item ns (frame.Then n) = Then (unwrap_or (part_next (part_at ns n)) [])
 item ns (frame.Loop n l i) = Loop (body_loop (part_body (part_at ns n))) (left_view l) i
+item ns (frame.Try n tries delay) = Try (body_try (part_body (part_at ns n))) tries delay
 item ns (frame.Mark number) = Mark
+item ns (frame.Back call number) = Back (result_of ns call)
 
 abbrev pub control : List Spot → List Frame → List Item
 control ns [] = []
@@ -62,7 +80,18 @@ control ns (f ∷ fs) = item ns f ∷ control ns fs
 -- the number of the layer that ends with a frame
 abbrev pub mark_of : Frame → Option ℕ
 mark_of (frame.Mark number) = Some number
+mark_of (frame.Back call number) = Some number
 mark_of f = None
+
+-- whether a call ends with a frame
+abbrev pub is_back : Frame → Bool
+is_back (frame.Back call number) = true
+is_back f = false
+
+-- how many calls do
+abbrev pub calls_of : List Frame → ℕ
+calls_of [] = 0
+calls_of (f ∷ fs) = cond (is_back f) 1 0 + calls_of fs
 
 -- an own layer, which a call opened or not
 abbrev pub own : ℕ → Bool → Own
@@ -72,10 +101,12 @@ own n b = record { number = n; by_call = b }
 abbrev pub owned : ℕ → List Frame → List Own
 owned first [] = own first false ∷ []
 owned first (frame.Mark number ∷ fs) = own number false ∷ owned first fs
+owned first (frame.Back call number ∷ fs) = own number true ∷ owned first fs
 owned first (f ∷ fs) = owned first fs
 
 -- the number of the innermost
 abbrev pub innermost : ℕ → List Frame → ℕ
 innermost first [] = first
 innermost first (frame.Mark number ∷ fs) = number
+innermost first (frame.Back call number ∷ fs) = number
 innermost first (f ∷ fs) = innermost first fs

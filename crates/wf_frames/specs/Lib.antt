@@ -1,5 +1,6 @@
-pub mod Frames
+pub mod Bound
 pub mod Fits
+pub mod Frames
 pub mod Held
 pub mod Keys
 pub mod Owned

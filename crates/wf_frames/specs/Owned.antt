@@ -4,6 +4,7 @@
 --     Linked          how they stand in each other, and that nothing else stands inside the task's own
 --     local_of        the task by itself
 use Rattle.std.specs.Prelude.{◌≡◌, ℕ, ◌+◌, Bool, true, false, List, [], ◌∷◌, Some, None, Option}
+use Rattle.wf_ast.specs.Tree.{Flow}
 use Rattle.wf_frames.specs.Frames.{control, inner, owned}
 use Rattle.wf_frames.specs.Held.{Held, standing}
 use Rattle.wf_frames.specs.declared.frames.Frames.{Frames}
@@ -68,9 +69,10 @@ pub record Linked (ks : List Far) (os : List Own) (ls : List Layer) : Type 0 whe
   pub alone : AreAlone None os ls
 
 -- ## Of a task
--- what stands around a task: the parts of its program, the layers that it sees outside, the limit on variables, and what those come to
--- that it doesn't see
+-- what stands around a task: the workflows of its program and their parts, the layers that it sees outside, the limit on variables, and
+-- what those come to that it doesn't see
 pub record Around : Type 0 where
+  pub flows : List Flow
   pub spots : List Spot
   pub keys : List Far
   pub limit : ℕ

@@ -2,7 +2,6 @@
 --     names_in      the variables of some layers, innermost first
 --     Sees          the facts of a scene are these
 use Rattle.std.specs.Prelude.{◌≡◌, ℕ, List, [], ◌∷◌, ◌++◌}
-use Rattle.wf_ast.specs.Apply.{View}
 use Rattle.wf_eval.specs.Sight.{Sight}
 use Rattle.wf_frames.specs.declared.facts.Facts.{Facts}
 use Rattle.wf_frames.specs.declared.sighted.Seen.{Seen}

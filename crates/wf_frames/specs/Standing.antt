@@ -39,6 +39,26 @@ abbrev pub is_loop_node : Option Node → Bool
 is_loop_node None = false
 is_loop_node (Some x) = is_loop x.kind
 
+abbrev pub is_try : NodeKind → Bool
+is_try (variant.Try t) = true
+is_try k = false
+
+abbrev pub is_try_node : Option Node → Bool
+is_try_node None = false
+is_try_node (Some x) = is_try x.kind
+
+abbrev pub is_call : NodeKind → Bool
+is_call (variant.Call f) = true
+is_call k = false
+
+abbrev pub is_call_node : Option Node → Bool
+is_call_node None = false
+is_call_node (Some x) = is_call x.kind
+
+abbrev pub StandsCall : List Node → Option ℕ → Type 0
+StandsCall nodes None = Unit {0}
+StandsCall nodes (Some n) = is_call_node (slice_get nodes n) ≡ true
+
 -- the frame's number is that of a node of its kind
 abbrev pub StandsAt : List Node → Frame → Type 0
 StandsAt nodes (frame.Do n at) = (is_some (list_at nodes n) ≡ true) × (at ≤ length (steps_of (list_at nodes n)))
@@ -46,7 +66,9 @@ StandsAt nodes (frame.Lone n done) = n < length nodes
 StandsAt nodes (frame.Entries n at) = (is_some (entries_at nodes n) ≡ true) × (at ≤ length (unwrap_or (entries_at nodes n) []))
 StandsAt nodes (frame.Then n) = (n < length nodes) × (has_next (view_at nodes n) ≡ true)
 StandsAt nodes (frame.Loop n l i) = is_loop_node (slice_get nodes n) ≡ true
+StandsAt nodes (frame.Try n tries delay) = is_try_node (slice_get nodes n) ≡ true
 StandsAt nodes (frame.Mark number) = Unit {0}
+StandsAt nodes (frame.Back call number) = StandsCall nodes call
 
 abbrev pub AllStandAt : List Spot → List Node → List Frame → Type 0
 AllStandAt ns nodes [] = Unit {0}
@@ -77,13 +99,19 @@ pub record Standing (a : Around) (nodes : List Node) (fs : Frames) (x : Scopes) 
   pub sum : layers_total (own_layers (own_of fs) (layers_of x)) + outers_total (far_layers a.keys (layers_of x)) + a.others ≡ total_of (layers_of x)
 
 -- ## At most one proof
+StandsCall-prop : (nodes : List Node) (call : Option ℕ) → IsProp (StandsCall nodes call)
+StandsCall-prop nodes None = Unit-prop
+StandsCall-prop nodes (Some n) = Coded-set coded_bool _ _
+
 StandsAt-prop : (nodes : List Node) (f : Frame) → IsProp (StandsAt nodes f)
 StandsAt-prop nodes (frame.Do n at) = ×_prop (Coded-set coded_bool _ _) le_prop
 StandsAt-prop nodes (frame.Lone n done) = le_prop
 StandsAt-prop nodes (frame.Entries n at) = ×_prop (Coded-set coded_bool _ _) le_prop
 StandsAt-prop nodes (frame.Then n) = ×_prop le_prop (Coded-set coded_bool _ _)
 StandsAt-prop nodes (frame.Loop n l i) = Coded-set coded_bool _ _
+StandsAt-prop nodes (frame.Try n tries delay) = Coded-set coded_bool _ _
 StandsAt-prop nodes (frame.Mark number) = Unit-prop
+StandsAt-prop nodes (frame.Back call number) = StandsCall-prop nodes call
 
 Nests-prop : (ns : List Spot) (nodes : List Node) (f : Frame) (fs : List Frame) → IsProp (Nests ns nodes f fs)
 Nests-prop ns nodes (frame.Do n at) fs = Coded-set (coded_list coded_ℕ) _ _
@@ -91,7 +119,9 @@ Nests-prop ns nodes (frame.Lone n done) fs = Coded-set (coded_list coded_ℕ) _ 
 Nests-prop ns nodes (frame.Entries n at) fs = Unit-prop
 Nests-prop ns nodes (frame.Then n) fs = Coded-set (coded_list coded_ℕ) _ _
 Nests-prop ns nodes (frame.Loop n l i) fs = Unit-prop
+Nests-prop ns nodes (frame.Try n tries delay) fs = Coded-set (coded_list coded_ℕ) _ _
 Nests-prop ns nodes (frame.Mark number) fs = Unit-prop
+Nests-prop ns nodes (frame.Back call number) fs = Unit-prop
 
 AllStandAt-prop : (ns : List Spot) (nodes : List Node) (fs : List Frame) → IsProp (AllStandAt ns nodes fs)
 AllStandAt-prop ns nodes [] = Unit-prop

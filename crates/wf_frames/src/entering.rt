@@ -1,14 +1,15 @@
-// A layer of a loop's names.
-ghost use Rattle.std.specs.Prelude.{◌≡◌, ◌<◌, pos, IfOk, OnErr, OnOk};
+// Layers of names.
+ghost use Rattle.std.specs.Prelude.{◌≡◌, ◌<◌, false, pos, true, IfOk, OnErr, OnOk};
 ghost use Rattle.wf_frames.specs.Owned.{Around, IsLinked, held_by, held_of, own_of};
-ghost use Rattle.wf_frames.specs.Turns.{Agrees, Enters, bound_all, names_of, with_own};
-ghost use Rattle.wf_model.specs.Local.{Scene};
+ghost use Rattle.wf_frames.specs.Bound.{bindings_of};
+ghost use Rattle.wf_frames.specs.Turns.{EntersAll, bound_all, names_of, with_own};
 ghost use Rattle.wf_scope.specs.Changes.{Answers};
 ghost use Rattle.wf_scope.specs.Layers.{IsInnermost, IsLive, closed};
 ghost use Rattle.wf_scope.specs.Store.{layers_of};
 ghost use Rattle.wf_scope.specs.declared.fault.AssignFault.TheVariants as faults;
 ghost use Rattle.wf_value.specs.Plain.{plain};
 
+use crate::bindings::Bindings;
 use crate::frames::Frames;
 use wf_scope::{AssignFault, Chain, Scopes};
 use wf_value::{OutOfMemory, Text, Value};
@@ -26,9 +27,12 @@ pub fn enter(
     ghost around: { Around }
     requires linked { IsLinked around (own_of frames.now) scopes.old }
     requires at { at < 9223372036854775808 }
-    ensures entered { IfOk result (λ o. (s : Scene) → Agrees s around
-        → Enters s o (held_by around frames.now scopes.old) (names_of name.now (plain value) index.now (pos at)) (held_of around.keys (with_own o (own_of frames.now)) (layers_of scopes.new))) }
-    ensures linked { IfOk result (λ o. IsLinked around (with_own o (own_of frames.now)) scopes.new) }
+    ensures entered { IfOk result (λ o. EntersAll false around o
+        (held_by around frames.now scopes.old)
+        (names_of name.now (plain value) index.now (pos at))
+        (held_of around.keys (with_own false o (own_of frames.now)) (layers_of scopes.new))) }
+    ensures linked { IfOk result (λ o. IsLinked around (with_own false o (own_of frames.now))
+        scopes.new) }
 {
     let layer = scopes.inner(frames.layer())?;
     match bind_names(scopes, layer, name, value, index, at) {
@@ -40,7 +44,57 @@ pub fn enter(
     }
 }
 
-// The layer ends again where the variables would pass their limit. A loop's values are those of a list or a range, so none nests too deep.
+/// A layer of a call's parameters begins, from which nothing outside is seen, and its number is given; none where the variables would pass
+/// their limit.
+pub fn enter_call(
+    frames: &Frames,
+    scopes: &mut Scopes,
+    bindings: Bindings,
+) -> Result<Option<u64>, OutOfMemory>
+    ghost around: { Around }
+    requires { IsLinked around (own_of frames.now) scopes.old }
+    ensures entered { IfOk result (λ o. EntersAll true around o
+        (held_by around frames.now scopes.old) (bindings_of bindings)
+        (held_of around.keys (with_own true o (own_of frames.now)) (layers_of scopes.new))) }
+    ensures linked { IfOk result (λ o. IsLinked around (with_own true o (own_of frames.now))
+        scopes.new) }
+{
+    let _ = frames;
+    let layer = scopes.root()?;
+    match bind_all(scopes, layer, bindings) {
+        Ok(()) => Ok(Some(layer.number)),
+        Err(fault) => {
+            refuse(scopes, layer, fault)?;
+            Ok(None)
+        }
+    }
+}
+
+// Names are bound one after another in a layer.
+fn bind_all(
+    scopes: &mut Scopes,
+    layer: Chain,
+    bindings: Bindings,
+) -> Result<(), AssignFault>
+    requires live { IsLive layer.number (layers_of scopes.old) }
+    requires innermost { IsInnermost layer.number (layers_of scopes.old) }
+    ensures outcome { Answers result (layers_of scopes.new) (bound_all scopes.old.limit layer.number
+        (bindings_of bindings) (layers_of scopes.old)) }
+    ensures rest { OnErr result (closed layer.number (layers_of scopes.new)
+        ≡ closed layer.number (layers_of scopes.old)) }
+    ensures limit { scopes.new.limit ≡ scopes.old.limit }
+    ensures live { IsLive layer.number (layers_of scopes.new) }
+    ensures innermost { IsInnermost layer.number (layers_of scopes.new) }
+{
+    let mut bindings = bindings;
+    while let Some(both) = bindings.take_first() {
+        let (name, value) = both;
+        scopes.bind(layer, name.as_str(), value)?;
+    }
+    Ok(())
+}
+
+// The layer ends again where the variables would pass their limit. No value nests too deep here.
 fn refuse(scopes: &mut Scopes, layer: Chain, fault: AssignFault) -> Result<(), OutOfMemory>
     requires live { IsLive layer.number (layers_of scopes.old) }
     requires innermost { IsInnermost layer.number (layers_of scopes.old) }
@@ -69,8 +123,10 @@ fn bind_names(
     requires live { IsLive layer.number (layers_of scopes.old) }
     requires innermost { IsInnermost layer.number (layers_of scopes.old) }
     requires at { at < 9223372036854775808 }
-    ensures outcome { Answers result (layers_of scopes.new) (bound_all scopes.old.limit layer.number (names_of name.now (plain value) index.now (pos at)) (layers_of scopes.old)) }
-    ensures rest { OnErr result (closed layer.number (layers_of scopes.new) ≡ closed layer.number (layers_of scopes.old)) }
+    ensures outcome { Answers result (layers_of scopes.new) (bound_all scopes.old.limit layer.number
+        (names_of name.now (plain value) index.now (pos at)) (layers_of scopes.old)) }
+    ensures rest { OnErr result (closed layer.number (layers_of scopes.new)
+        ≡ closed layer.number (layers_of scopes.old)) }
     ensures limit { scopes.new.limit ≡ scopes.old.limit }
     ensures live { IsLive layer.number (layers_of scopes.new) }
     ensures innermost { IsInnermost layer.number (layers_of scopes.new) }

@@ -1,6 +1,6 @@
 // A task's frames.
 ghost use Rattle.std.specs.Prelude.{◌≡◌, [], ◌∷◌, IfNone, is_ok, option_map, if◌then◌else◌};
-ghost use Rattle.wf_frames.specs.Frames.{inner, innermost, popped, topped};
+ghost use Rattle.wf_frames.specs.Frames.{calls_of, inner, innermost, popped, topped};
 
 use std::alloc::Global;
 use wf_scope::Chain;
@@ -29,20 +29,36 @@ pub enum Frame {
     Then(u32),
     /// A loop between two iterations, with the index of the next.
     Loop(u32, Left, u64),
+    /// A `try` around its body, with the retries used and the last delay in milliseconds.
+    Try(u32, u64, Option<u64>),
     /// The layer of this number ends here.
     Mark(u64),
+    /// The call of a step ends here, or one that no step makes, with its layer.
+    Back(Option<u32>, u64),
 }
 
 impl Frame {
-    ghost use Rattle.wf_frames.specs.Frames.{mark_of};
+    ghost use Rattle.wf_frames.specs.Frames.{is_back, mark_of};
 
     // The number of the layer that ends with it.
     pub(crate) fn mark(&self) -> Option<u64>
         ensures { result ≡ mark_of self.now }
     {
         match self {
-            Frame::Mark(number) => Some(*number),
-            _ => None,
+            Frame::Mark(number) | Frame::Back(_, number) => Some(*number),
+            Frame::Do(_, _) | Frame::Lone(_, _) | Frame::Entries(_, _) | Frame::Then(_) => None,
+            Frame::Loop(_, _, _) | Frame::Try(_, _, _) => None,
+        }
+    }
+
+    /// Whether a call ends with it.
+    pub fn is_back(&self) -> bool
+        ensures { result ≡ is_back self.now }
+    {
+        match self {
+            Frame::Back(_, _) => true,
+            Frame::Do(_, _) | Frame::Lone(_, _) | Frame::Entries(_, _) | Frame::Then(_) => false,
+            Frame::Loop(_, _, _) | Frame::Try(_, _, _) | Frame::Mark(_) => false,
         }
     }
 }
@@ -93,6 +109,14 @@ impl Frames {
         ensures { topped (inner self.now) ≡ option_map (λ f. f.now) result }
     {
         self.items.last()
+    }
+
+    /// How many calls of workflows they stand in.
+    #[tactic(auto, using(crate::proofs::Reversed::calls_reversed))]
+    pub fn calls(&self) -> usize
+        ensures { result ≡ calls_of (inner self.now) }
+    {
+        self.items.iter().filter(|frame| frame.is_back()).count()
     }
 
     /// The innermost of the task's own layers.

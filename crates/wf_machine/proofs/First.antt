@@ -11,7 +11,7 @@ use Rattle.wf_machine.specs.Main.{around, first_local}
 use Rattle.wf_model.specs.Config.{Awake, Do}
 use Rattle.wf_model.specs.Local.{Local, settle}
 use Rattle.wf_model.specs.Run.{argument_in, main_local, main_steps, main_vars}
-use Rattle.wf_moves.specs.Built.{Tells}
+use Rattle.wf_steps.specs.Built.{Tells}
 use Rattle.wf_moves.specs.Moved.{IsGoing, IsSettled}
 use Rattle.wf_moves.specs.Tasks.{IsFlow, begun, has_ended, part_params}
 use Rattle.wf_nodes.specs.Kinds.{block_view, kind_by, node_view}

@@ -38,7 +38,7 @@ use Rattle.wf_model.specs.Kinds.{ByCall, by_clock, next_kind}
 use Rattle.wf_model.specs.Move.{move}
 use Rattle.wf_model.specs.Step.{counted, next, read_at, when}
 use Rattle.wf_model.specs.Taken.{by_itself}
-use Rattle.wf_moves.specs.Built.{Tells, is_table_built}
+use Rattle.wf_steps.specs.Built.{Tells, is_table_built}
 use Rattle.wf_nodes.proofs.Told.{resolves}
 use Rattle.wf_moves.specs.Going.{Going}
 use Rattle.wf_moves.proofs.Going.{is_going}

@@ -9,9 +9,9 @@ use Rattle.wf_frames.specs.Standing.{AllStandAt, StandsAt, steps_of}
 use Rattle.wf_frames.specs.declared.frames.Frame.{Frame}
 use Rattle.wf_frames.specs.declared.frames.Frame.TheVariants as frame
 use Rattle.wf_model.specs.Config.{Do, Entries}
-use Rattle.wf_moves.proofs.Advancing.{entries_next, from_next, step_within}
-use Rattle.wf_moves.proofs.Parts.{entries_is, list_is, never_built, part_is}
-use Rattle.wf_moves.specs.Built.{Tells, is_table_built}
+use Rattle.wf_steps.proofs.Advancing.{entries_next, from_next, step_within}
+use Rattle.wf_steps.proofs.Parts.{entries_is, list_is, never_built, part_is}
+use Rattle.wf_steps.specs.Built.{Tells, is_table_built}
 use Rattle.wf_moves.specs.Going.{GoesOn, Going}
 use Rattle.wf_nodes.specs.Kinds.{Listed, kind_by}
 use Rattle.wf_nodes.specs.Spots.{Spot, entries_by, from, part_at, part_body, part_entry, part_list, part_step, steps_by}

@@ -6,7 +6,7 @@ ghost use Rattle.wf_check.specs.Seen.{nodes_of, program_of};
 ghost use Rattle.wf_machine.specs.Main.{IsStanding, IsStanding-prop, config_of, outcome_behind};
 ghost use Rattle.wf_machine.specs.State.{is_running, outcome_by, outcome_depth};
 ghost use Rattle.wf_machine.specs.declared.machine.Ending.TheVariants.{Running};
-ghost use Rattle.wf_moves.specs.Built.{is_table_built};
+ghost use Rattle.wf_steps.specs.Built.{is_table_built};
 
 use crate::facts::Facts;
 use crate::steps::Steps;

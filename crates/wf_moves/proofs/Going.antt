@@ -7,7 +7,7 @@ use Rattle.wf_frames.specs.declared.frames.Frame.{Frame}
 use Rattle.wf_frames.specs.declared.frames.Frame.TheVariants as frame
 use Rattle.wf_moves.specs.Going.{GoesOn, Going}
 use Rattle.wf_moves.specs.Moved.{HasMove, IsGoing}
-use Rattle.wf_moves.specs.Steps.{IsBefore, IsBeforeEntry}
+use Rattle.wf_steps.specs.Steps.{IsBefore, IsBeforeEntry}
 use Rattle.wf_nodes.specs.Kinds.{Listed}
 use Rattle.wf_nodes.specs.declared.node.Node.{Node}
 

@@ -16,7 +16,7 @@ use Rattle.wf_model.specs.Leave.{continues, breaks, jumps, jumps_to, returns}
 use Rattle.wf_model.specs.Local.{Local, Scene, Root, Main, Branch, Iteration, Breaks, goes, leave}
 use Rattle.wf_model.specs.Unwind.{NotFound, Stands, cut_at, to_loop, to_step}
 use Rattle.wf_moves.proofs.Leaving.{stands_on, same_outside}
-use Rattle.wf_moves.proofs.Parts.{list_stands}
+use Rattle.wf_steps.proofs.Parts.{list_stands}
 use Rattle.wf_moves.specs.Moved.{FoundIn, IsLoopTop, IsMove, if_at, is_loop, loop_found, target}
 use Rattle.wf_moves.specs.declared.finish.Went.{Went}
 use Rattle.wf_moves.specs.declared.finish.Went.TheVariants as went

@@ -14,11 +14,12 @@ use Rattle.wf_frames.specs.declared.frames.Left.{Left}
 use Rattle.wf_model.specs.Config.{Item, Do, Entries}
 use Rattle.wf_model.specs.Local.{Local, Scene, settle, settled}
 use Rattle.wf_model.specs.Unwind.{unwind, to_back}
-use Rattle.wf_moves.proofs.Parts.{entries_is, list_is}
+use Rattle.wf_steps.proofs.Lists.{drop_end, drop_more, entries_long, from_end, from_more, has_entries, has_list}
+use Rattle.wf_steps.proofs.Parts.{entries_is, list_is}
 use Rattle.wf_moves.specs.Moved.{HasMove, IsGoing, IsMove, IsSettled, Settled}
 use Rattle.wf_moves.specs.declared.finish.End.TheVariants as end
 use Rattle.wf_moves.specs.declared.finish.Went.TheVariants as went
-use Rattle.wf_moves.specs.Steps.{HasStep, IsBefore, IsBeforeEntry}
+use Rattle.wf_steps.specs.Steps.{HasStep, IsBefore, IsBeforeEntry}
 use Rattle.wf_nodes.specs.Kinds.{Listed}
 use Rattle.wf_nodes.specs.Spots.{Spot, part_at, part_list, part_body, steps_by, entries_by, from}
 use Rattle.wf_nodes.specs.Table.{Resolves}
@@ -60,23 +61,6 @@ back_one ns (frame.Loop n w i) k l = refl
 back_one ns (frame.Mark m) k l = refl
 
 -- ## What has ended
-pub from_end : (ns : List Spot) (xs : List ℕ) (n : ℕ) → length xs ≤ n → from n (steps_by ns xs) ≡ no_steps
-from_end ns [] zero h = refl
-from_end ns [] (suc n) h = refl
-from_end ns (x ∷ xs) zero h = absurd (omega (arith, h))
-from_end ns (x ∷ xs) (suc n) h = from_end ns xs n (omega (arith, h))
-
--- the steps from one that is there
-pub record More (ns : List Spot) (xs : List ℕ) (n : ℕ) : Type 0 where
-  pub first : Step
-  pub rest : Steps
-  pub is : from n (steps_by ns xs) ≡ more first rest
-
-pub from_more : (ns : List Spot) (xs : List ℕ) (n : ℕ) → n < length xs → More ns xs n
-from_more ns [] n h = absurd (omega (arith, h))
-from_more ns (x ∷ xs) zero h = record { first = _; rest = _; is = refl }
-from_more ns (x ∷ xs) (suc n) h = let r = from_more ns xs n (omega (arith, h)) in record { first = r.first; rest = r.rest; is = r.is }
-
 pub do_ended : (ns : List Spot) (n at : ℕ) (xs : List ℕ) → part_list (part_at ns n) ≡ steps_by ns xs → length xs ≤ at → Settled ns true (frame.Do n at)
 do_ended ns n at xs is h k l = ap (λ ss. settle (Do (part_list (part_at ns n)) ss ∷ k) l) (ap (from at) is ∙ from_end ns xs at h)
 
@@ -85,22 +69,6 @@ do_stands ns n at xs is h k l =
     let r = from_more ns xs at h in
     let e : from at (part_list (part_at ns n)) ≡ more r.first r.rest = ap (from at) is ∙ r.is in
     subst (λ ss. settle (Do (part_list (part_at ns n)) ss ∷ k) l ≡ record l { control = Do (part_list (part_at ns n)) ss ∷ k }) (sym e) refl
-
-pub drop_end : {A : Type 0} (xs : List A) (n : ℕ) → length xs ≤ n → drop n xs ≡ []
-drop_end [] zero h = refl
-drop_end [] (suc n) h = refl
-drop_end (x ∷ xs) zero h = absurd (omega (arith, h))
-drop_end (x ∷ xs) (suc n) h = drop_end xs n (omega (arith, h))
-
-record Stays {A : Type 0} (xs : List A) (n : ℕ) : Type 0 where
-  pub first : A
-  pub rest : List A
-  pub is : drop n xs ≡ first ∷ rest
-
-drop_more : {A : Type 0} (xs : List A) (n : ℕ) → n < length xs → Stays xs n
-drop_more [] n h = absurd (omega (arith, h))
-drop_more (x ∷ xs) zero h = record { first = x; rest = xs; is = refl }
-drop_more (x ∷ xs) (suc n) h = let r = drop_more xs n (omega (arith, h)) in record { first = r.first; rest = r.rest; is = r.is }
 
 pub entries_ended : (ns : List Spot) (n at : ℕ) → length (body_entries (part_body (part_at ns n))) ≤ at → Settled ns true (frame.Entries n at)
 entries_ended ns n at h k l = ap (λ es. settle (Entries es ∷ k) l) (drop_end (body_entries (part_body (part_at ns n))) at h)
@@ -131,10 +99,6 @@ do_settled ns nodes n at b len r h e = by_test (leb len at) refl
 
 pub do_has : (nodes : List Node) (n at : ℕ) (b : Listed) (len : ℕ) → list_at nodes n ≡ Some b → len ≡ length b.steps → leb len at ≡ false → IsBefore nodes n at
 do_has nodes n at b len h e q = (b, h, omega (arith, leb-false len at q, e))
-
-pub entries_long : (ns : List Spot) (xs : List ℕ) → length (entries_by ns xs) ≡ length xs
-entries_long ns [] = refl
-entries_long ns (x ∷ xs) = ap suc (entries_long ns xs)
 
 pub entries_settled : (ns : List Spot) (nodes : List Node) (n at : ℕ) (b : List ℕ) (len : ℕ) → Resolves ns nodes → entries_at nodes n ≡ Some b → len ≡ length b → Settled ns (leb len at) (frame.Entries n at)
 entries_settled ns nodes n at b len r h e = by_test (leb len at) refl
@@ -192,13 +156,6 @@ backs_on ns old new h g w c =
 
 pub outside_on : (old new : List Frame) (h g : Held) → Leaves true old h new g → g.outside ≡ h.outside
 outside_on old new h g w = ap (λ (y : Held). y.outside) w.2 ∙ same_outside w.0 h
-
--- the node of a frame
-pub has_list : (nodes : List Node) (f : Frame) (n at : ℕ) → HasNode nodes f → f ≡ frame.Do n at → is_some (list_at nodes n) ≡ true
-has_list nodes f n at h e = let there : HasNode nodes (frame.Do n at) = subst (HasNode nodes) e h in ap is_some there.1
-
-pub has_entries : (nodes : List Node) (f : Frame) (n at : ℕ) → HasNode nodes f → f ≡ frame.Entries n at → is_some (entries_at nodes n) ≡ true
-has_entries nodes f n at h e = let there : HasNode nodes (frame.Entries n at) = subst (HasNode nodes) e h in ap is_some there.1
 
 -- with no frame left
 pub empty_fits : (ns : List Spot) (nodes : List Node) (fs : List Frame) → fs ≡ [] → Fits ns nodes fs

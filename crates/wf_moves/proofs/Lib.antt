@@ -1,14 +1,7 @@
-pub mod Advancing
 pub mod Assigning
-pub mod Choices
-pub mod Clocked
-pub mod Evaluated
-pub mod Fitting
+pub mod Calling
 pub mod Going
 pub mod Jumps
 pub mod Leaving
-pub mod Parts
-pub mod Performed
-pub mod Shallow
 pub mod Starting
 pub mod Turning

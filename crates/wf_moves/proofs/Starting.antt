@@ -12,7 +12,7 @@ use Rattle.wf_frames.specs.declared.frames.Frame.TheVariants as frame
 use Rattle.wf_model.specs.Config.{Do}
 use Rattle.wf_model.specs.Local.{Local, outers_total, settle}
 use Rattle.wf_model.specs.Run.{argument_in}
-use Rattle.wf_moves.proofs.Parts.{list_within, part_is, view_is}
+use Rattle.wf_steps.proofs.Parts.{list_within, part_is, view_is}
 use Rattle.wf_moves.specs.Tasks.{IsFirst, IsFlow, argued, begun, has_ended, part_params}
 use Rattle.wf_nodes.specs.Kinds as view
 use Rattle.wf_nodes.specs.Kinds.{Kind, Listed, View, kind_by, node_view}

@@ -16,10 +16,10 @@ use Rattle.wf_model.specs.Layers.{opened, view}
 use Rattle.wf_model.specs.Leave.{on, raises}
 use Rattle.wf_model.specs.Local.{Local, Scene, Moved, goes}
 use Rattle.wf_model.specs.Move.{loop_names, moves, turns}
-use Rattle.wf_moves.proofs.Parts.{as_part, list_of, view_is}
+use Rattle.wf_steps.proofs.Parts.{as_part, list_of, view_is}
 use Rattle.wf_moves.specs.Moved.{IsMove}
-use Rattle.wf_moves.specs.Steps.{Moves, come}
-use Rattle.wf_moves.specs.declared.step.Step.{Step}
+use Rattle.wf_steps.specs.Steps.{Moves, come}
+use Rattle.wf_steps.specs.declared.step.Step.{Step}
 use Rattle.wf_scope.specs.Tasks.{Own}
 use Rattle.wf_scope.specs.declared.layer.Layer.{Layer}
 use Rattle.wf_moves.specs.declared.finish.Went.{Went}

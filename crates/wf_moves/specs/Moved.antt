@@ -2,28 +2,38 @@
 --     Settled     what has ended is left
 --     IsMove      a move of the model, by what a call gives and leaves
 use Rattle.std.specs.Prelude.{◌≡◌, ◌≤◌, ℕ, Bool, true, false, List, [], ◌∷◌, nat_eq, slice_get, if◌then◌else◌, Some, None, Option}
-use Rattle.wf_frames.specs.Fits.{list_at}
-use Rattle.wf_frames.specs.Frames.{control, item}
+use Rattle.wf_frames.specs.Fits.{IsTry, list_at}
+use Rattle.wf_frames.specs.Frames.{body_try, control, is_back, item}
 use Rattle.wf_frames.specs.Held.{Held, standing}
-use Rattle.wf_frames.specs.Turns.{left_by}
+use Rattle.wf_frames.specs.Owned.{Around, local_of}
+use Rattle.wf_frames.specs.Sights.{Sees}
+use Rattle.wf_frames.specs.Turns.{Agrees, left_by}
+use Rattle.wf_frames.specs.declared.facts.Facts.{Facts}
 use Rattle.wf_frames.specs.declared.frames.Frame.{Frame}
 use Rattle.wf_frames.specs.declared.frames.Frame.TheVariants as frame
+use Rattle.wf_frames.specs.declared.frames.Frames.{Frames}
 use Rattle.wf_model.specs.Config.{Item}
-use Rattle.wf_model.specs.Local.{Local, Moved, Goes, Ends, Does, Breaks, Not, Gives, Fails, settle}
+use Rattle.wf_model.specs.Local.{Local, Moved, Scene, Goes, Ends, Does, Breaks, Not, Gives, Fails, goes, settle}
 use Rattle.wf_model.specs.Local as model
-use Rattle.wf_model.specs.Unwind.{Found, Stands, AtEnd, to_step}
-use Rattle.wf_moves.specs.Steps.{HasStep}
+use Rattle.wf_model.specs.Unwind.{Found, NotFound, Stands, AtEnd, handled, to_step, unwind}
+use Rattle.wf_steps.specs.Steps.{HasStep}
 use Rattle.wf_moves.specs.declared.finish.End.{End}
 use Rattle.wf_moves.specs.declared.finish.End.TheVariants as end
 use Rattle.wf_moves.specs.declared.finish.Went.{Went}
 use Rattle.wf_moves.specs.declared.finish.Went.TheVariants as went
 use Rattle.wf_nodes.specs.Kinds.{Listed}
-use Rattle.wf_nodes.specs.Spots.{Spot}
+use Rattle.wf_nodes.specs.Spots.{Spot, part_at, part_body}
+use Rattle.wf_nodes.specs.declared.node.ExceptNode.{ExceptNode}
 use Rattle.wf_nodes.specs.declared.node.Jump.{Jump}
 use Rattle.wf_nodes.specs.declared.node.Node.{Node}
+use Rattle.wf_nodes.specs.declared.node.NodeKind.{NodeKind}
+use Rattle.wf_nodes.specs.declared.node.NodeKind.TheVariants as variant
+use Rattle.wf_nodes.specs.declared.node.TryNode.{TryNode}
+use Rattle.wf_scope.specs.declared.scopes.Scopes.{Scopes}
 use Rattle.wf_value.specs.Data.{Data, depth}
 use Rattle.wf_value.specs.Pairs.{Text}
 use Rattle.wf_value.specs.Plain.{plain}
+use Rattle.wf_value.specs.declared.Value.{Value}
 
 -- ## Frames that have ended
 -- a frame that has ended is left by settling, and another one isn't
@@ -31,13 +41,16 @@ abbrev pub Settled : List Spot → Bool → Frame → Type 0
 Settled ns true f = (k : List Item) (l : Local) → settle (item ns f ∷ k) l ≡ settle k (left_by f l)
 Settled ns false f = (k : List Item) (l : Local) → settle (item ns f ∷ k) l ≡ record l { control = item ns f ∷ k }
 
+-- a frame at which the way outward of a `break` or `continue` ends: a loop, or a call, in which there is none
 abbrev pub is_loop : Frame → Bool
 is_loop (frame.Loop n l i) = true
+is_loop (frame.Back call number) = true
 is_loop f = false
 
 -- a frame from which a move is made
 abbrev pub HasMove : List Node → Frame → Type 0
 HasMove nodes (frame.Loop n l i) = Unit {0}
+HasMove nodes (frame.Back call number) = Unit {0}
 HasMove nodes f = HasStep nodes f
 
 -- the innermost one is such a frame, if any frame is left
@@ -76,9 +89,10 @@ IsLeft nodes (went.Ended e) fs = fs ≡ []
 -- where an innermost loop was looked for: there are these frames from it on, or there is none
 abbrev pub loop_found : List Spot → List Frame → Local → Found
 loop_found ns [] l = AtEnd
+loop_found ns (frame.Back call number ∷ fs) l = NotFound
 loop_found ns (f ∷ fs) l = Stands (control ns (f ∷ fs)) l
 
--- the innermost frame is a loop, if any frame is left
+-- the innermost frame is a loop or a call, if any frame is left
 abbrev pub IsLoopTop : List Frame → Type 0
 IsLoopTop [] = Unit {0}
 IsLoopTop (f ∷ fs) = is_loop f ≡ true
@@ -98,3 +112,60 @@ FoundIn ns nodes x j None old h new g = ⊥
 FoundIn ns nodes x j (Some o) old h new g =
     (b : Listed) × (list_at nodes o ≡ Some b) × ((i : ℕ) × (slice_get b.steps i ≡ Some j.to))
     × ((i : ℕ) → slice_get b.steps i ≡ Some j.to → (c : List Item) → to_step x (control ns old) (standing c h) ≡ Stands (control ns (frame.Do o i ∷ new)) (standing c g))
+
+-- where the innermost call was looked for
+abbrev pub back_found : List Spot → List Frame → Local → Found
+back_found ns [] l = AtEnd
+back_found ns (f ∷ fs) l = Stands (control ns (f ∷ fs)) l
+
+-- the innermost frame is a call, if any frame is left
+abbrev pub IsBackTop : List Frame → Type 0
+IsBackTop [] = Unit {0}
+IsBackTop (f ∷ fs) = is_back f ≡ true
+
+-- the task stands at the end of a workflow that was called
+abbrev pub is_at_back : List Frame → Bool
+is_at_back [] = false
+is_at_back (f ∷ fs) = is_back f
+
+-- the call that ends with a frame, if a step made it
+abbrev pub call_of : Frame → Option ℕ
+call_of (frame.Back call number) = call
+call_of f = None
+
+-- ## Errors
+-- the steps that take an error of a `try`
+abbrev pub handler_of : NodeKind → Option ExceptNode
+handler_of (variant.Try t) = t.except
+handler_of k = None
+
+-- the node of this number is a `try` without a policy, and has these
+pub record Handles (nodes : List Node) (n : ℕ) (t : TryNode) (x : ExceptNode) : Type 0 where
+  pub is : IsTry nodes n t
+  pub policy : t.policy ≡ None
+  pub except : t.except ≡ Some x
+
+-- a frame is a `try` that takes errors, of this number, or isn't one
+abbrev pub IsTaken : List Node → Frame → Option ℕ → Type 0
+IsTaken nodes f (Some n) = (tries : ℕ) × ((delay : Option ℕ) × (f ≡ frame.Try n tries delay)) × ((t : TryNode) × ((x : ExceptNode) × IsTry nodes n t × (t.except ≡ Some x)))
+IsTaken nodes (frame.Try n tries delay) None = (t : TryNode) × IsTry nodes n t × (t.except ≡ None)
+IsTaken nodes f None = Unit {0}
+
+-- where the nearest `try` was looked for that takes an error: it is this one, and was left, or there is none
+abbrev pub caught_by : List Spot → Option ℕ → Scene → Data → List Item → Local → Moved
+caught_by ns None s e k l = Ends (Fails e) l
+caught_by ns (Some n) s e k l = handled s e (body_try (part_body (part_at ns n))) k l (unwind s k l)
+
+-- the `try` takes the error, or raises another one
+abbrev pub caught : Option Value → Scene → List Item → Local → Moved
+caught None s k l = goes k l
+caught (Some e) s k l = unwind s k l (plain e)
+
+-- ## What a call says of a move
+-- it is this one of the task, whatever the scene that agrees on the limit, the rest and the workflows
+abbrev pub MovesBy : Around → (Scene → Local → Moved) → Held → Went → Frames → Scopes → Type 0
+MovesBy a m h w fs x = (s : Scene) (c : List Item) → Agrees s a → IsMove (m s (standing c h)) w (local_of a fs x)
+
+-- the same of a scene that has these facts
+abbrev pub SeesBy : Around → Facts → (Scene → Local → Moved) → Held → Went → Frames → Scopes → Type 0
+SeesBy a f m h w fs x = (s : Scene) (c : List Item) → Sees s f → Agrees s a → IsMove (m s (standing c h)) w (local_of a fs x)

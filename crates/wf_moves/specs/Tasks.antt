@@ -2,12 +2,12 @@
 --     begun       a task before a workflow, with its argument
 --     argued      a layer with the argument in it
 use Rattle.std.specs.Prelude.{◌≡◌, ℕ, Bool, true, false, List, [], ◌∷◌, Some}
-use Rattle.wf_ast.specs.Tree.{Param}
+use Rattle.wf_ast.specs.Tree.{Flow, Param, no_steps}
 use Rattle.wf_frames.specs.Fits.{view_at}
 use Rattle.wf_frames.specs.Owned.{Around}
 use Rattle.wf_frames.specs.declared.frames.Frame.{Frame}
-use Rattle.wf_model.specs.Config.{Awake}
-use Rattle.wf_model.specs.Local.{Local, Moved}
+use Rattle.wf_model.specs.Config.{Awake, Do}
+use Rattle.wf_model.specs.Local.{Local, Moved, settle}
 use Rattle.wf_model.specs.Run.{argument_in}
 use Rattle.wf_moves.specs.Moved.{IsMove}
 use Rattle.wf_moves.specs.declared.finish.Went.{Went}
@@ -16,7 +16,7 @@ use Rattle.wf_moves.specs.declared.task.Move.{Move}
 use Rattle.wf_moves.specs.declared.task.Move.TheVariants as move
 use Rattle.wf_nodes.specs.Kinds as kind
 use Rattle.wf_nodes.specs.Kinds.{Listed, View}
-use Rattle.wf_nodes.specs.Spots.{FlowAt, Part}
+use Rattle.wf_nodes.specs.Spots.{FlowAt, Part, part_list}
 use Rattle.wf_nodes.specs.declared.node.Node.{Node}
 use Rattle.wf_scope.specs.Layers.{put_at}
 use Rattle.wf_scope.specs.Store.{layers_of}
@@ -40,6 +40,11 @@ pub record IsFirst (a : Around) (x : Scopes) : Type 0 where
   pub others : a.others ≡ 0
   pub limit : x.limit ≡ a.limit
 
+-- the workflow that a part is
+abbrev pub flow_at : Part → Flow
+flow_at (FlowAt f) = f
+flow_at p = record { name = []; params = []; steps = no_steps }
+
 -- the parameters of a workflow
 abbrev pub part_params : Part → List Param
 part_params (FlowAt f) = f.params
@@ -53,6 +58,10 @@ begun ps v = record {
   outer = [];
   wait = Awake;
 }
+
+-- a task before the steps of a workflow, settled
+abbrev pub first : Part → Data → Local
+first p v = settle (Do (part_list p) (part_list p) ∷ []) (begun (part_params p) v)
 
 -- a layer of a store with the argument, if there is a parameter
 abbrev pub argued : ℕ → List Param → Data → List Layer → List Layer

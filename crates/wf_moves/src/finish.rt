@@ -1,25 +1,20 @@
-// How a task goes on: what has ended is left, and errors and returns go outward.
-ghost use Rattle.std.specs.Prelude.{◌≡◌, ◌≤◌, [], List, false};
+// How a task goes on: what has ended is left.
+ghost use Rattle.std.specs.Prelude.{◌≡◌, List, false};
 ghost use Rattle.wf_frames.specs.Fits.{HasNode};
 ghost use Rattle.wf_frames.specs.Frames.{inner};
-ghost use Rattle.wf_frames.specs.Owned.{Around, IsLinked, beside, control_of, held_by, local_of, own_of};
+ghost use Rattle.wf_frames.specs.Owned.{Around, beside, control_of, local_of};
 ghost use Rattle.wf_frames.specs.Stands.{Stands};
 ghost use Rattle.wf_model.specs.Config.{Item};
-ghost use Rattle.wf_model.specs.Leave as leave;
-ghost use Rattle.wf_model.specs.Local.{Scene, Ends, Fails as Failing};
 ghost use Rattle.wf_model.specs.Local as local;
-ghost use Rattle.wf_model.specs.Unwind.{unwind, to_back, AtEnd};
-ghost use Rattle.wf_moves.specs.Built.{Tells};
+ghost use Rattle.wf_steps.specs.Built.{Tells};
 ghost use Rattle.wf_moves.specs.Moved.{HasMove, IsLeft, IsMove, IsSettled, Settled};
 ghost use Rattle.wf_nodes.specs.Spots.{Spot};
 ghost use Rattle.wf_nodes.specs.declared.node.Node.{Node};
-ghost use Rattle.wf_value.specs.Data.{Data, depth};
-ghost use Rattle.wf_value.specs.Plain.{plain};
 
-use crate::nodes::{block, entries};
 use wf_frames::{Frame, Frames, leave};
 use wf_nodes::Node;
 use wf_scope::Scopes;
+use wf_steps::{block, entries};
 use wf_value::Value;
 
 /// How a task has ended.
@@ -48,9 +43,8 @@ fn is_ended(frame: &Frame, nodes: &[Node]) -> bool
         Frame::Do(list, at) => *at >= block(nodes, *list).steps.len(),
         Frame::Lone(_, done) => *done,
         Frame::Entries(n, at) => *at >= entries(nodes, *n).len(),
-        Frame::Then(_) => false,
-        Frame::Loop(_, _, _) => false,
-        Frame::Mark(_) => true,
+        Frame::Then(_) | Frame::Loop(_, _, _) | Frame::Back(_, _) => false,
+        Frame::Try(_, _, _) | Frame::Mark(_) => true,
     }
 }
 
@@ -61,7 +55,9 @@ pub(crate) fn settle(frames: &mut Frames, nodes: &[Node], scopes: &mut Scopes)
     requires stands { Stands around nodes.now frames.old scopes.old }
     ensures stands { Stands around nodes.now frames.new scopes.new }
     ensures settled { IsSettled nodes.now (inner frames.new) }
-    ensures left { (c : List Item) → local.settle (control_of around frames.old) (beside c around frames.old scopes.old) ≡ local_of around frames.new scopes.new }
+    ensures left { (c : List Item)
+        → local.settle (control_of around frames.old) (beside c around frames.old scopes.old)
+        ≡ local_of around frames.new scopes.new }
 {
     while let Some(frame) = frames.top() {
         if !is_ended(frame, nodes) {
@@ -78,52 +74,13 @@ pub(crate) fn goes(frames: &mut Frames, nodes: &[Node], scopes: &mut Scopes) -> 
     requires stands { Stands around nodes.now frames.old scopes.old }
     ensures stands { Stands around nodes.now frames.new scopes.new }
     ensures left { IsLeft nodes.now result (inner frames.new) }
-    ensures moved { (c : List Item) → IsMove (local.goes (control_of around frames.old) (beside c around frames.old scopes.old)) result (local_of around frames.new scopes.new) }
+    ensures moved { (c : List Item)
+        → IsMove (local.goes (control_of around frames.old) (beside c around frames.old scopes.old))
+        result (local_of around frames.new scopes.new) }
 {
     settle(frames, nodes, scopes);
     match frames.top() {
         None => Went::Ended(End::Value(Value::Null)),
         Some(_) => Went::Goes,
     }
-}
-
-// All frames are left, with their layers.
-fn leave_all(frames: &mut Frames, scopes: &mut Scopes)
-    ghost around: { Around }
-    requires linked { IsLinked around (own_of frames.old) scopes.old }
-    ensures linked { IsLinked around (own_of frames.new) scopes.new }
-    ensures empty { inner frames.new ≡ [] }
-    ensures outside { (held_by around frames.new scopes.new).outside ≡ (held_by around frames.old scopes.old).outside }
-    ensures unwound { (s : Scene) (c : List Item) (e : Data) → unwind s (control_of around frames.old) (beside c around frames.old scopes.old) e ≡ Ends (Failing e) (beside c around frames.new scopes.new) }
-    ensures back { (c : List Item) → to_back (control_of around frames.old) (beside c around frames.old scopes.old) ≡ AtEnd }
-{
-    while leave(frames, scopes) {}
-}
-
-/// An error goes outward.
-pub(crate) fn raises(frames: &mut Frames, scopes: &mut Scopes, error: Value) -> Went
-    ghost around: { Around }
-    requires linked { IsLinked around (own_of frames.old) scopes.old }
-    requires shallow { depth (plain error) ≤ 100 }
-    ensures linked { IsLinked around (own_of frames.new) scopes.new }
-    ensures empty { inner frames.new ≡ [] }
-    ensures left { (nodes : List Node) → IsLeft nodes result (inner frames.new) }
-    ensures moved { (s : Scene) (c : List Item) → IsMove (leave.raises s (control_of around frames.old) (beside c around frames.old scopes.old) (plain error)) result (local_of around frames.new scopes.new) }
-{
-    leave_all(frames, scopes);
-    Went::Ended(End::Error(error))
-}
-
-/// The workflow returns.
-pub(crate) fn returns(frames: &mut Frames, scopes: &mut Scopes, value: Value) -> Went
-    ghost around: { Around }
-    requires linked { IsLinked around (own_of frames.old) scopes.old }
-    requires shallow { depth (plain value) ≤ 100 }
-    ensures linked { IsLinked around (own_of frames.new) scopes.new }
-    ensures empty { inner frames.new ≡ [] }
-    ensures left { (nodes : List Node) → IsLeft nodes result (inner frames.new) }
-    ensures moved { (s : Scene) (c : List Item) → IsMove (leave.returns s (plain value) (control_of around frames.old) (beside c around frames.old scopes.old)) result (local_of around frames.new scopes.new) }
-{
-    leave_all(frames, scopes);
-    Went::Ended(End::Value(value))
 }

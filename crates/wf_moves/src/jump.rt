@@ -9,24 +9,27 @@ ghost use Rattle.wf_model.specs.Leave as leave;
 ghost use Rattle.wf_model.specs.Local.{Scene};
 ghost use Rattle.wf_model.specs.Unwind.{to_loop, to_step};
 ghost use Rattle.wf_model.specs.Unwind as found;
-ghost use Rattle.wf_moves.specs.Built.{Tells};
-ghost use Rattle.wf_moves.specs.Moved.{FoundIn, IsLeft, IsLoopTop, IsMove, is_loop, loop_found, target};
-ghost use Rattle.wf_moves.specs.Steps.{IsJump};
+ghost use Rattle.wf_steps.specs.Built.{Tells};
+ghost use Rattle.wf_moves.specs.Moved.{FoundIn, IsLeft, IsLoopTop, IsMove, MovesBy, is_loop, loop_found, target};
+ghost use Rattle.wf_steps.specs.Steps.{IsJump};
 ghost use Rattle.wf_nodes.specs.Spots.{part_at, part_next};
 ghost use Rattle.wf_nodes.specs.Table.{Leads};
 ghost use Rattle.wf_nodes.specs.declared.node.Node.{Node};
 ghost use Rattle.wf_value.specs.Pairs.{Text};
 
-use crate::finish::{Went, goes, returns};
-use crate::nodes::block;
+use crate::back::returns;
+use crate::finish::{Went, goes};
+use std::alloc::Global;
 use wf_frames::{Frame, Frames, leave};
 use wf_nodes::{Jump, Node};
 use wf_scope::Scopes;
+use wf_steps::block;
 use wf_value::{OutOfMemory, Value};
 
 // Where a number stands among others, if it does.
 fn place_of(numbers: &[u32], to: u32) -> usize
-    ensures { (i : ℕ) → slice_get numbers.now i ≡ Some to → slice_get numbers.now result ≡ Some to }
+    ensures { (i : ℕ) → slice_get numbers.now i ≡ Some to
+        → slice_get numbers.now result ≡ Some to }
 {
     let mut place = 0;
     while place < numbers.len() {
@@ -52,7 +55,7 @@ fn target(frame: &Frame, nodes: &[Node], keep: u32) -> Option<u32>
             }
         }
         Frame::Lone(_, _) | Frame::Entries(_, _) | Frame::Then(_) => None,
-        Frame::Loop(_, _, _) | Frame::Mark(_) => None,
+        Frame::Loop(_, _, _) | Frame::Try(_, _, _) | Frame::Mark(_) | Frame::Back(_, _) => None,
     }
 }
 
@@ -62,9 +65,13 @@ fn leave_to(frames: &mut Frames, nodes: &[Node], scopes: &mut Scopes, jump: Jump
     requires tells { Tells around.spots nodes.now }
     requires stands { Stands around nodes.now frames.old scopes.old }
     ensures list { IfSome result (λ n. is_some (list_at nodes.now n) ≡ true) }
-    ensures inside { IfSome result (λ n. outside_at around.spots nodes.now n ≡ reach (inner frames.new)) }
-    ensures found { (x : Text) → Leads around.spots (views nodes.now) x (Some jump) (reach (inner frames.old))
-        → FoundIn around.spots nodes.now x jump result (inner frames.old) (held_by around frames.old scopes.old) (inner frames.new) (held_by around frames.new scopes.new) }
+    ensures inside { IfSome result (λ n. outside_at around.spots nodes.now n
+        ≡ reach (inner frames.new)) }
+    ensures found { (x : Text)
+        → Leads around.spots (views nodes.now) x (Some jump) (reach (inner frames.old))
+        → FoundIn around.spots nodes.now x jump result (inner frames.old)
+        (held_by around frames.old scopes.old) (inner frames.new)
+        (held_by around frames.new scopes.new) }
     ensures stands { Stands around nodes.now frames.new scopes.new }
 {
     while let Some(frame) = frames.top() {
@@ -87,9 +94,13 @@ fn jump_to(
     ghost around: { Around }
     requires tells { Tells around.spots nodes.now }
     requires stands { Stands around nodes.now frames.old scopes.old }
-    requires leads { (x : Text) × Leads around.spots (views nodes.now) x (Some jump) (reach (inner frames.old)) }
-    ensures found { (x : Text) → Leads around.spots (views nodes.now) x (Some jump) (reach (inner frames.old)) → (c : List Item)
-        → OnOk result (to_step x (control_of around frames.old) (beside c around frames.old scopes.old) ≡ found.Stands (control_of around frames.new) (beside c around frames.new scopes.new)) }
+    requires leads { (x : Text)
+        × Leads around.spots (views nodes.now) x (Some jump) (reach (inner frames.old)) }
+    ensures found { (x : Text)
+        → Leads around.spots (views nodes.now) x (Some jump) (reach (inner frames.old))
+        → (c : List Item) → OnOk result
+        (to_step x (control_of around frames.old) (beside c around frames.old scopes.old)
+        ≡ found.Stands (control_of around frames.new) (beside c around frames.new scopes.new)) }
     ensures stands { OnOk result (Stands around nodes.now frames.new scopes.new) }
 {
     let Some(list) = leave_to(frames, nodes, scopes, jump) else {
@@ -100,26 +111,30 @@ fn jump_to(
     Ok(())
 }
 
-// Whether a frame is a loop.
+// Whether a frame is a loop, or a call, in which there is none.
 fn is_loop(frame: &Frame) -> bool
     ensures { result ≡ is_loop frame.now }
 {
     match frame {
-        Frame::Loop(_, _, _) => true,
+        Frame::Loop(_, _, _) | Frame::Back(_, _) => true,
         Frame::Do(_, _) | Frame::Lone(_, _) | Frame::Entries(_, _) => false,
-        Frame::Then(_) | Frame::Mark(_) => false,
+        Frame::Then(_) | Frame::Try(_, _, _) | Frame::Mark(_) => false,
     }
 }
 
-// The frames inside the innermost loop are left, or all.
+// The frames inside the innermost loop or call are left, or all.
 fn leave_to_loop(frames: &mut Frames, scopes: &mut Scopes)
     ghost around: { Around }
     requires linked { IsLinked around (own_of frames.old) scopes.old }
     ensures linked { IsLinked around (own_of frames.new) scopes.new }
-    ensures found { (c : List Item) → to_loop (control_of around frames.old) (beside c around frames.old scopes.old) ≡ loop_found around.spots (inner frames.new) (beside c around frames.new scopes.new) }
-    ensures outside { (held_by around frames.new scopes.new).outside ≡ (held_by around frames.old scopes.old).outside }
+    ensures found { (c : List Item)
+        → to_loop (control_of around frames.old) (beside c around frames.old scopes.old)
+        ≡ loop_found around.spots (inner frames.new) (beside c around frames.new scopes.new) }
+    ensures outside { (held_by around frames.new scopes.new).outside
+        ≡ (held_by around frames.old scopes.old).outside }
     ensures top { IsLoopTop (inner frames.new) }
-    ensures fits { (nodes : List Node) → Fits around.spots nodes (inner frames.old) → Fits around.spots nodes (inner frames.new) }
+    ensures fits { (nodes : List Node) → Fits around.spots nodes (inner frames.old)
+        → Fits around.spots nodes (inner frames.new) }
 {
     while let Some(frame) = frames.top() {
         if is_loop(frame) {
@@ -134,7 +149,10 @@ fn go_on_loop(frames: &mut Frames, nodes: &[Node], scopes: &mut Scopes) -> Went
     ghost around: { Around }
     requires tells { Tells around.spots nodes.now }
     requires stands { Stands around nodes.now frames.old scopes.old }
-    ensures moved { (s : Scene) (c : List Item) → IsMove (leave.continues s (beside c around frames.old scopes.old) (to_loop (control_of around frames.old) (beside c around frames.old scopes.old))) result (local_of around frames.new scopes.new) }
+    ensures moved { (s : Scene) (c : List Item)
+        → IsMove (leave.continues s (beside c around frames.old scopes.old)
+        (to_loop (control_of around frames.old) (beside c around frames.old scopes.old)))
+        result (local_of around frames.new scopes.new) }
     ensures stands { Stands around nodes.now frames.new scopes.new }
     ensures left { IsLeft nodes.now result (inner frames.new) }
 {
@@ -147,7 +165,9 @@ fn end_loop(frames: &mut Frames, nodes: &[Node], scopes: &mut Scopes) -> Went
     ghost around: { Around }
     requires tells { Tells around.spots nodes.now }
     requires stands { Stands around nodes.now frames.old scopes.old }
-    ensures moved { (c : List Item) → IsMove (leave.breaks (to_loop (control_of around frames.old) (beside c around frames.old scopes.old))) result (local_of around frames.new scopes.new) }
+    ensures moved { (c : List Item)
+        → IsMove (leave.breaks (to_loop (control_of around frames.old)
+        (beside c around frames.old scopes.old))) result (local_of around frames.new scopes.new) }
     ensures stands { Stands around nodes.now frames.new scopes.new }
     ensures left { IsLeft nodes.now result (inner frames.new) }
 {
@@ -166,9 +186,13 @@ fn go_to(
     ghost around: { Around }
     requires tells { Tells around.spots nodes.now }
     requires stands { Stands around nodes.now frames.old scopes.old }
-    requires leads { (x : Text) × Leads around.spots (views nodes.now) x jump (reach (inner frames.old)) }
-    ensures moved { IfOk result (λ w. (x : Text) → Leads around.spots (views nodes.now) x jump (reach (inner frames.old)) → (s : Scene) (c : List Item)
-        → IsMove (leave.jumps_to s x (to_step x (control_of around frames.old) (beside c around frames.old scopes.old))) w (local_of around frames.new scopes.new)) }
+    requires leads { (x : Text)
+        × Leads around.spots (views nodes.now) x jump (reach (inner frames.old)) }
+    ensures moved { IfOk result (λ w. (x : Text)
+        → Leads around.spots (views nodes.now) x jump (reach (inner frames.old))
+        → (s : Scene) (c : List Item) → IsMove (leave.jumps_to s x
+        (to_step x (control_of around frames.old) (beside c around frames.old scopes.old)))
+        w (local_of around frames.new scopes.new)) }
     ensures stands { OnOk result (Stands around nodes.now frames.new scopes.new) }
     ensures left { IfOk result (λ w. IsLeft nodes.now w (inner frames.new)) }
 {
@@ -183,6 +207,7 @@ fn go_to(
 
 /// The jump of a node's `next`.
 pub(crate) fn jump(
+    alloc: Global,
     frames: &mut Frames,
     nodes: &[Node],
     scopes: &mut Scopes,
@@ -192,8 +217,10 @@ pub(crate) fn jump(
     requires tells { Tells around.spots nodes.now }
     requires stands { Stands around nodes.now frames.old scopes.old }
     requires jump { IsJump around.spots nodes.now n (inner frames.old) }
-    ensures moved { IfOk result (λ w. (s : Scene) (c : List Item)
-        → IsMove (leave.jumps s (unwrap_or (part_next (part_at around.spots n)) []) (control_of around frames.old) (beside c around frames.old scopes.old)) w (local_of around frames.new scopes.new)) }
+    ensures moved { IfOk result (λ w. MovesBy around
+        (λ s l. leave.jumps s (unwrap_or (part_next (part_at around.spots n)) [])
+        (control_of around frames.old) l)
+        (held_by around frames.old scopes.old) w frames.new scopes.new) }
     ensures stands { OnOk result (Stands around nodes.now frames.new scopes.new) }
     ensures left { IfOk result (λ w. IsLeft nodes.now w (inner frames.new)) }
 {
@@ -203,7 +230,7 @@ pub(crate) fn jump(
     };
     let next = next.as_str();
     if next == "end" {
-        Ok(returns(frames, scopes, Value::Null))
+        returns(alloc, nodes, frames, scopes, Value::Null)
     } else if next == "continue" {
         Ok(go_on_loop(frames, nodes, scopes))
     } else if next == "break" {

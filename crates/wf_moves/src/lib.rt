@@ -4,19 +4,16 @@
 //! the innermost frame says what is next, it is carried out, and what has ended is left.
 #![tactic(auto)]
 
-mod advance;
 mod assign;
+mod back;
+mod call;
 mod finish;
 mod jump;
-mod kinds;
 mod moves;
-mod nodes;
 mod start;
-mod step;
 mod task;
 mod turn;
+mod unwind;
 
 pub use finish::End;
-pub use kinds::Kind;
-pub use nodes::are_built;
 pub use task::{Move, Task};

@@ -4,7 +4,7 @@ ghost use Rattle.wf_ast.specs.View.{param_view};
 ghost use Rattle.wf_frames.specs.Frames.{own};
 ghost use Rattle.wf_frames.specs.Held.{standing};
 ghost use Rattle.wf_frames.specs.Owned.{Around, IsLinked, held_of};
-ghost use Rattle.wf_moves.specs.Built.{Tells};
+ghost use Rattle.wf_steps.specs.Built.{Tells};
 ghost use Rattle.wf_moves.specs.Tasks.{IsFirst, IsFlow, argued, begun, part_params};
 ghost use Rattle.wf_nodes.specs.Spots.{Spot, part_at};
 ghost use Rattle.wf_scope.specs.Layers.{IsLive};
@@ -38,7 +38,8 @@ fn bind_argument(
     argument: Value,
 ) -> Result<(), OutOfMemory>
     requires { IsLive layer.number (layers_of scopes.old) }
-    ensures bound { OnOk result (layers_of scopes.new ≡ argued layer.number (map param_view params.now) (plain argument) (layers_of scopes.old)) }
+    ensures bound { OnOk result (layers_of scopes.new
+        ≡ argued layer.number (map param_view params.now) (plain argument) (layers_of scopes.old)) }
     ensures limit { scopes.new.limit ≡ scopes.old.limit }
 {
     match params {
@@ -58,7 +59,8 @@ pub(crate) fn first_layer(
 ) -> Result<Chain, OutOfMemory>
     ghost around: { Around }
     requires { IsFirst around scopes.old }
-    ensures begins { IfOk result (λ c. begun (map param_view params.now) (plain argument) ≡ standing [] (held_of around.keys (own c.number false ∷ []) (layers_of scopes.new))) }
+    ensures begins { IfOk result (λ c. begun (map param_view params.now) (plain argument)
+        ≡ standing [] (held_of around.keys (own c.number false ∷ []) (layers_of scopes.new))) }
     ensures linked { IfOk result (λ c. IsLinked around (own c.number false ∷ []) scopes.new) }
 {
     let layer = scopes.root()?;

@@ -1,28 +1,26 @@
 // Tasks.
-ghost use Rattle.std.specs.Prelude.{◌≡◌, ◌∷◌, [], IfOk, OnOk};
+ghost use Rattle.std.specs.Prelude.{◌≡◌, IfOk, OnOk};
 ghost use Rattle.wf_frames.specs.Fits.{Fits};
 ghost use Rattle.wf_frames.specs.Frames.{inner};
 ghost use Rattle.wf_frames.specs.Owned.{Around, control_of, local_of};
 ghost use Rattle.wf_frames.specs.Sights.{Sees};
 ghost use Rattle.wf_frames.specs.Stands.{Stands};
 ghost use Rattle.wf_frames.specs.Turns.{Agrees};
-ghost use Rattle.wf_model.specs.Config.{Do};
-ghost use Rattle.wf_model.specs.Local as local;
 ghost use Rattle.wf_model.specs.Local.{Scene};
 ghost use Rattle.wf_model.specs.Move.{move};
-ghost use Rattle.wf_moves.specs.Built.{Tells};
+ghost use Rattle.wf_steps.specs.Built.{AreTargets, Tells};
 ghost use Rattle.wf_moves.specs.Moved.{IsGoing, IsLeft, IsSettled};
-ghost use Rattle.wf_nodes.specs.Spots.{part_at, part_list};
+ghost use Rattle.wf_nodes.specs.Spots.{part_at};
 ghost use Rattle.wf_value.specs.Plain.{plain};
 
 use crate::finish::{End, Went, settle};
-use crate::kinds::{Kind, frame_kind};
 use crate::moves::advance;
 use crate::start::{first_layer, params};
 use std::alloc::Global;
 use wf_frames::{Facts, Frame, Frames};
 use wf_nodes::Node;
 use wf_scope::Scopes;
+use wf_steps::{Kind, frame_kind};
 use wf_value::{OutOfMemory, Value};
 
 /// What a move has done.
@@ -44,8 +42,9 @@ pub struct Task {
 impl Task {
     ghost use Rattle.wf_ast.specs.Tree.{Program};
     ghost use Rattle.wf_model.specs.Kinds.{next_kind};
-    ghost use Rattle.wf_moves.specs.Kinds.{kind_view};
-    ghost use Rattle.wf_moves.specs.Tasks.{IsFirst, IsFlow, MovesSo, begun, has_ended, part_params, went_of};
+    ghost use Rattle.wf_steps.specs.Built.{AreNamed};
+    ghost use Rattle.wf_steps.specs.Kinds.{kind_view};
+    ghost use Rattle.wf_moves.specs.Tasks.{IsFirst, IsFlow, MovesSo, first, has_ended, went_of};
 
     /// The first task, which stands before the steps of a workflow: that of the node with this number. Its first layer is made, and holds
     /// the argument where the workflow has a parameter. Without memory, or where the argument passes the limit on variables, there is no
@@ -61,8 +60,8 @@ impl Task {
         requires tells { Tells around.spots nodes.now }
         requires start { IsFlow nodes.now flow }
         requires first { IsFirst around scopes.old }
-        ensures begins { IfOk result (λ t. local.settle (Do (part_list (part_at around.spots flow)) (part_list (part_at around.spots flow)) ∷ [])
-            (begun (part_params (part_at around.spots flow)) (plain argument)) ≡ local_of around t.frames scopes.new) }
+        ensures begins { IfOk result (λ t. first (part_at around.spots flow) (plain argument)
+            ≡ local_of around t.frames scopes.new) }
         ensures stands { IfOk result (λ t. Stands around nodes.now t.frames scopes.new) }
         ensures settled { IfOk result (λ t. IsSettled nodes.now (inner t.frames)) }
     {
@@ -88,7 +87,8 @@ impl Task {
         ghost around: { Around }
         requires tells { Tells around.spots nodes.now }
         requires fits { Fits around.spots nodes.now (inner self.now.frames) }
-        ensures { (p : Program) → kind_view result ≡ next_kind p (control_of around self.now.frames) }
+        ensures { (p : Program) → AreNamed p.flows nodes.now
+            → kind_view result ≡ next_kind p (control_of around self.now.frames) }
     {
         match self.frames.top() {
             Some(frame) => frame_kind(nodes, frame),
@@ -96,15 +96,18 @@ impl Task {
         }
     }
 
-    /// The next move. Without memory the task and the layers are left in any state, and are only to be let go.
+    /// The next move. `targets` has the number of the workflow that a call names at the call's own. Without memory the task and the layers
+    /// are left in any state, and are only to be let go.
     pub fn advance(
         &mut self,
         nodes: &[Node],
+        targets: &[u32],
         scopes: &mut Scopes,
         facts: &Facts,
     ) -> Result<Move, OutOfMemory>
         ghost around: { Around }
         requires tells { Tells around.spots nodes.now }
+        requires targets { AreTargets around.flows around.spots nodes.now targets.now }
         requires stands { Stands around nodes.now self.old.frames scopes.old }
         requires going { IsGoing nodes.now (inner self.old.frames) }
         ensures moved { IfOk result (λ m. (s : Scene) → Sees s facts.entry.now → Agrees s around
@@ -112,7 +115,7 @@ impl Task {
         ensures stands { OnOk result (Stands around nodes.now self.new.frames scopes.new) }
         ensures left { IfOk result (λ m. IsLeft nodes.now (went_of m) (inner self.new.frames)) }
     {
-        match advance(self.alloc, nodes, &mut self.frames, scopes, facts)? {
+        match advance(self.alloc, nodes, targets, &mut self.frames, scopes, facts)? {
             Went::Goes => Ok(Move::Went),
             Went::Ended(end) => Ok(Move::Ended(end)),
         }

@@ -1,21 +1,19 @@
 // The turns of a loop.
-ghost use Rattle.std.specs.Prelude.{◌≡◌, ◌+ℤ◌, ◌∷◌, [], List as Seq, IfOk, OnOk, if◌then◌else◌, int_lt, option_map, pos};
+ghost use Rattle.std.specs.Prelude.{◌≡◌, ◌+ℤ◌, ◌∷◌, [], IfOk, OnOk, if◌then◌else◌, int_lt, option_map, pos};
 ghost use Rattle.wf_frames.specs.Fits.{Fits, IsLoop};
 ghost use Rattle.wf_frames.specs.Frames.{control, inner, left_view};
-ghost use Rattle.wf_frames.specs.Owned.{Around, beside, local_of};
+ghost use Rattle.wf_frames.specs.Owned.{Around, held_by};
 ghost use Rattle.wf_frames.specs.Stands.{Stands};
-ghost use Rattle.wf_frames.specs.Turns.{Agrees};
 ghost use Rattle.wf_frames.specs.declared.frames.Frame.TheVariants as frame;
 ghost use Rattle.wf_frames.specs.declared.frames.Left.TheVariants as left;
-ghost use Rattle.wf_model.specs.Config.{Item, OfList, OfRange, next_of};
-ghost use Rattle.wf_model.specs.Local.{Scene};
+ghost use Rattle.wf_model.specs.Config.{OfList, OfRange, next_of};
 ghost use Rattle.wf_model.specs.Move.{moves};
-ghost use Rattle.wf_moves.specs.Built.{Tells};
-ghost use Rattle.wf_moves.specs.Moved.{IsLeft, IsMove};
+ghost use Rattle.wf_steps.specs.Built.{Tells};
+ghost use Rattle.wf_moves.specs.Moved.{IsLeft, MovesBy};
 ghost use Rattle.wf_value.specs.Plain.{plain};
 
-use crate::finish::{Went, goes, raises};
-use crate::step::map_of;
+use crate::finish::{Went, goes};
+use crate::unwind::raises_tag;
 use std::alloc::Global;
 use wf_frames::{Frame, Frames, Left, enter};
 use wf_nodes::{LoopNode, Node};
@@ -27,7 +25,8 @@ const INDEX_LIMIT: u64 = 9_223_372_036_854_775_808;
 
 // The next value that a loop has left, and what is left behind it.
 fn next_of(alloc: Global, left: Left) -> Result<Option<(Value, Left)>, OutOfMemory>
-    ensures { IfOk result (λ o. option_map (λ p. (plain p.0, left_view p.1)) o ≡ next_of (left_view left)) }
+    ensures { IfOk result (λ o. option_map (λ p. (plain p.0, left_view p.1)) o
+        ≡ next_of (left_view left)) }
 {
     match left {
         Left::Nothing => Ok(None),
@@ -38,7 +37,8 @@ fn next_of(alloc: Global, left: Left) -> Result<Option<(Value, Left)>, OutOfMemo
 
 // What a range has left behind its first number.
 fn behind(first: i64, last: i64) -> Left
-    ensures { left_view result ≡ (if int_lt first last then OfRange (first +ℤ pos 1) last else OfList []) }
+    ensures { left_view result
+        ≡ (if int_lt first last then OfRange (first +ℤ pos 1) last else OfList []) }
 {
     if first < last {
         Left::Range(first + 1, last)
@@ -49,7 +49,8 @@ fn behind(first: i64, last: i64) -> Left
 
 // The item of a list, and those behind it.
 fn next_item(alloc: Global, list: List, at: usize) -> Result<Option<(Value, Left)>, OutOfMemory>
-    ensures { IfOk result (λ o. option_map (λ p. (plain p.0, left_view p.1)) o ≡ next_of (left_view (left.Items list at))) }
+    ensures { IfOk result (λ o. option_map (λ p. (plain p.0, left_view p.1)) o
+        ≡ next_of (left_view (left.Items list at))) }
 {
     let items = list.items();
     if at >= items.len() {
@@ -74,8 +75,9 @@ pub(crate) fn turn(
     requires tells { Tells around.spots nodes.now }
     requires stands { Stands around nodes.now frames.old scopes.old }
     requires is { IsLoop nodes.now n body.now }
-    ensures moved { IfOk result (λ w. (s : Scene) (c : Seq Item) → Agrees s around
-        → IsMove (moves s (control around.spots (frame.Loop n left index ∷ inner frames.old)) (beside c around frames.old scopes.old)) w (local_of around frames.new scopes.new)) }
+    ensures moved { IfOk result (λ w. MovesBy around
+        (λ s l. moves s (control around.spots (frame.Loop n left index ∷ inner frames.old)) l)
+        (held_by around frames.old scopes.old) w frames.new scopes.new) }
     ensures stands { OnOk result (Stands around nodes.now frames.new scopes.new) }
     ensures left { IfOk result (λ w. IsLeft nodes.now w (inner frames.new)) }
 {
@@ -89,8 +91,7 @@ pub(crate) fn turn(
     }
     let entered = enter(frames, scopes, &body.value, value, &body.index, index)?;
     let Some(layer) = entered else {
-        let error = map_of(alloc, Tag::ResourceLimitError)?;
-        return Ok(raises(frames, scopes, error));
+        return raises_tag(alloc, nodes, frames, scopes, Tag::ResourceLimitError);
     };
     frames.push(Frame::Loop(n, rest, index + 1))?;
     frames.push(Frame::Mark(layer))?;

@@ -5,10 +5,10 @@ ghost use Rattle.wf_ast.specs.Tree.{exprs, fields, templates};
 ghost use Rattle.wf_model.specs.Kinds.{expr_now, exprs_now, fields_now, is_now, parts_now, template_now, templates_now};
 ghost use Rattle.wf_postfix.specs.Instrs.{instr};
 ghost use Rattle.wf_shapes.specs.Clocks.{call_now};
-ghost use Rattle.wf_nodes.specs.Shapes.{decoded, hole_by, named_by, piece_by, shape_by};
+ghost use Rattle.wf_nodes.specs.Shapes.{decoded, fields_by, hole_by, named_by, piece_by, shape_by};
 
 use wf_ast::Func;
-use wf_nodes::{NamedShape, Piece, Shape};
+use wf_nodes::{NamedShape, NamedShapes, Piece, Shape};
 use wf_postfix::{Instr, Postfix};
 
 /// Whether a shape names the clock, with the compiled expressions of its node.
@@ -47,6 +47,13 @@ fn is_in_named(named: &[NamedShape], codes: &[Postfix]) -> bool
         }
     }
     false
+}
+
+/// Whether one of some named shapes names the clock, with the compiled expressions of their node.
+pub fn is_clock_named(named: &NamedShapes, codes: &[Postfix]) -> bool
+    ensures { result ≡ fields_now (fields (fields_by codes.now named.now)) }
+{
+    is_in_named(named.items(), codes)
 }
 
 fn is_in_pieces(pieces: &[Piece], codes: &[Postfix]) -> bool

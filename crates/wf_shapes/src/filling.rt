@@ -9,14 +9,14 @@ ghost use Rattle.wf_ast.specs.Tree.{templates, fields};
 ghost use Rattle.wf_eval.specs.Answers.{Answers, Gives, GivesText, kept_list, kept_map, put_all};
 ghost use Rattle.wf_eval.specs.Sight.{seen};
 ghost use Rattle.wf_shapes.specs.Built.{are_built};
-ghost use Rattle.wf_nodes.specs.Shapes.{named_by, piece_by, shape_by};
+ghost use Rattle.wf_nodes.specs.Shapes.{fields_by, named_by, piece_by, shape_by};
 
 use crate::codes::value_at;
 use std::alloc::Global;
 use wf_eval::{Look, copied, keep, map_of, owned, shown};
-use wf_nodes::{NamedShape, Piece, Shape};
+use wf_nodes::{NamedShape, NamedShapes, Piece, Shape};
 use wf_postfix::Postfix;
-use wf_value::{List, Raise, Text, Value};
+use wf_value::{List, Map, Raise, Text, Value};
 
 /// The value of the template that a shape stands for with the compiled expressions of its node, or its first error: members of lists in
 /// their order, members of maps in the order of the keys.
@@ -133,6 +133,20 @@ fn keep_list(made: Result<List, Raise>) -> Result<Value, Raise>
     ensures { (d : Answer Items) → Answers (λ l. items_of l) made d → Gives result (kept_list d) }
 {
     keep(Value::List(made?))
+}
+
+/// The values of the named templates of a call, by their names, or the first error.
+pub fn fill_args<K: Look>(
+    alloc: Global,
+    named: &NamedShapes,
+    codes: &[Postfix],
+    look: &K,
+    now: u64,
+) -> Result<Map, Raise>
+    requires { are_built codes.now ≡ true }
+    ensures { Answers (λ m. pairs_of m) result (meaning.fill_fields (fields (fields_by codes.now named.now)) (seen (K.sight look.now) now)) }
+{
+    map_of(alloc, fill_named(alloc, named.items(), codes, look, now)?)
 }
 
 // The map of these pairs, if it keeps within the limits.

@@ -7,6 +7,6 @@ mod codes;
 mod filling;
 
 pub use built::are_codes_built;
-pub use clock::{is_clock_among, is_clock_in};
+pub use clock::{is_clock_among, is_clock_in, is_clock_named};
 pub use codes::{value_at, values};
-pub use filling::fill_shape;
+pub use filling::{fill_args, fill_shape};

@@ -1,4 +1,4 @@
-use Rattle.std.proofs.Common.{◌≡◌, ◌∷◌, ℕ, false, Some, suc, pos, sym, subst, ◌∙◌, ap, Ok, Err}
+use Rattle.std.proofs.Common.{◌≡◌, ◌∷◌, ℕ, false, Some, suc, pos, sym, subst, ◌∙◌, Ok, Err}
 use Rattle.wf_frames.specs.Frames.{inner, own}
 use Rattle.wf_frames.specs.Owned.{IsLinked, held_of, own_of}
 use Rattle.wf_frames.specs.Turns.{Enters, bound_all, names_of}
@@ -23,9 +23,9 @@ returns-in-Ok-clause-entered g c s agrees =
     let o = c.layer.result.number in
     let d = suc (depth_in (find o (layers_of x))) in
     let xs = names_of c.args.name.now (plain c.args.value) c.args.index.now (pos c.args.at) in
-    let told = told_so g.around p fs x o d xs x.standing c.requires.0 c.layer.ensures c.inner.new.self.limit c.in_ok-layer.layer.number (layers_of c.inner.new.self) (Ok (layers_of c.bind_names.new.scopes)) c.in_ok-layer.ensures.limit c.in_ok-layer.ensures.number c.in_ok-layer.ensures.opened c.in-Ok.ensures.outcome in
-    subst (λ (n : ℕ). Enters s (Some n) (held_of g.around.keys (own_of c.args.frames.now) (layers_of x)) xs (held_of g.around.keys (own n false ∷ own_of c.args.frames.now) (layers_of c.bind_names.new.scopes))) (sym c.in_ok-layer.ensures.number)
-    (entered_so g.around p fs x o d xs x.standing c.requires.0 c.layer.ensures c.bind_names.new.scopes told (c.in-Ok.ensures.limit ∙ c.in_ok-layer.ensures.limit) s agrees.0 agrees.1)
+    let told = told_so g.around p fs x o d false xs x.standing c.requires.0 c.layer.ensures c.inner.new.self.limit c.in_ok-layer.layer.number (layers_of c.inner.new.self) (Ok (layers_of c.bind_names.new.scopes)) c.in_ok-layer.ensures.limit c.in_ok-layer.ensures.number c.in_ok-layer.ensures.opened c.in-Ok.ensures.outcome in
+    subst (λ (n : ℕ). Enters false s (Some n) (held_of g.around.keys (own_of c.args.frames.now) (layers_of x)) xs (held_of g.around.keys (own n false ∷ own_of c.args.frames.now) (layers_of c.bind_names.new.scopes))) (sym c.in_ok-layer.ensures.number)
+    (entered_so g.around p fs x o d false xs x.standing c.requires.0 c.layer.ensures c.bind_names.new.scopes told (c.in-Ok.ensures.limit ∙ c.in_ok-layer.ensures.limit) s agrees.0 agrees.1)
 
 pub returns-in-Ok-clause-linked : goal.returns-in-Ok-clause-linked
 returns-in-Ok-clause-linked g c =
@@ -35,9 +35,9 @@ returns-in-Ok-clause-linked g c =
     let o = c.layer.result.number in
     let d = suc (depth_in (find o (layers_of x))) in
     let xs = names_of c.args.name.now (plain c.args.value) c.args.index.now (pos c.args.at) in
-    let told = told_so g.around p fs x o d xs x.standing c.requires.0 c.layer.ensures c.inner.new.self.limit c.in_ok-layer.layer.number (layers_of c.inner.new.self) (Ok (layers_of c.bind_names.new.scopes)) c.in_ok-layer.ensures.limit c.in_ok-layer.ensures.number c.in_ok-layer.ensures.opened c.in-Ok.ensures.outcome in
+    let told = told_so g.around p fs x o d false xs x.standing c.requires.0 c.layer.ensures c.inner.new.self.limit c.in_ok-layer.layer.number (layers_of c.inner.new.self) (Ok (layers_of c.bind_names.new.scopes)) c.in_ok-layer.ensures.limit c.in_ok-layer.ensures.number c.in_ok-layer.ensures.opened c.in-Ok.ensures.outcome in
     subst (λ (n : ℕ). IsLinked g.around (own n false ∷ own_of c.args.frames.now) c.bind_names.new.scopes) (sym c.in_ok-layer.ensures.number)
-    (entered_linked g.around p fs x o d xs x.standing c.requires.0 c.layer.ensures c.bind_names.new.scopes told (c.in-Ok.ensures.limit ∙ c.in_ok-layer.ensures.limit))
+    (entered_linked g.around p fs x o d false xs x.standing c.requires.0 c.layer.ensures c.bind_names.new.scopes told (c.in-Ok.ensures.limit ∙ c.in_ok-layer.ensures.limit))
 
 pub returns-in_ok-refuse-in-Err-clause-entered : goal.returns-in_ok-refuse-in-Err-clause-entered
 returns-in_ok-refuse-in-Err-clause-entered g c s agrees =
@@ -49,9 +49,9 @@ returns-in_ok-refuse-in-Err-clause-entered g c s agrees =
     let xs = names_of c.args.name.now (plain c.args.value) c.args.index.now (pos c.args.at) in
     let r = bound_all c.inner.new.self.limit c.in_ok-layer.layer.number xs (layers_of c.inner.new.self) in
     let large : r ≡ Err faults.TooLarge = subst (λ f. Answers (Err f) (layers_of c.bind_names.new.scopes) r) c.in_ok-refuse-in-Err.ensures.fault c.in-Err.ensures.outcome in
-    let told = told_so g.around p fs x o d xs x.standing c.requires.0 c.layer.ensures c.inner.new.self.limit c.in_ok-layer.layer.number (layers_of c.inner.new.self) (Err faults.TooLarge) c.in_ok-layer.ensures.limit c.in_ok-layer.ensures.number c.in_ok-layer.ensures.opened large in
-    let same = again_so g.around p fs x o d xs x.standing c.requires.0 c.layer.ensures c.in_ok-layer.layer.number (layers_of c.inner.new.self) (layers_of c.bind_names.new.scopes) (layers_of c.refuse.new.scopes) c.in_ok-layer.ensures.number c.in_ok-layer.ensures.opened c.in_ok-refuse-in-Err.ensures.closed c.in-Err.ensures.rest in
-    refused_so g.around p fs x o d xs x.standing c.requires.0 c.layer.ensures c.refuse.new.scopes told same s agrees.0 agrees.1
+    let told = told_so g.around p fs x o d false xs x.standing c.requires.0 c.layer.ensures c.inner.new.self.limit c.in_ok-layer.layer.number (layers_of c.inner.new.self) (Err faults.TooLarge) c.in_ok-layer.ensures.limit c.in_ok-layer.ensures.number c.in_ok-layer.ensures.opened large in
+    let same = again_so g.around p fs x o d false xs x.standing c.requires.0 c.layer.ensures c.in_ok-layer.layer.number (layers_of c.inner.new.self) (layers_of c.bind_names.new.scopes) (layers_of c.refuse.new.scopes) c.in_ok-layer.ensures.number c.in_ok-layer.ensures.opened c.in_ok-refuse-in-Err.ensures.closed c.in-Err.ensures.rest in
+    refused_so g.around p fs x o d false xs x.standing c.requires.0 c.layer.ensures c.refuse.new.scopes told same s agrees.0 agrees.1
 
 pub returns-in_ok-refuse-in-Err-clause-linked : goal.returns-in_ok-refuse-in-Err-clause-linked
 returns-in_ok-refuse-in-Err-clause-linked g c =
@@ -61,5 +61,5 @@ returns-in_ok-refuse-in-Err-clause-linked g c =
     let o = c.layer.result.number in
     let d = suc (depth_in (find o (layers_of x))) in
     let xs = names_of c.args.name.now (plain c.args.value) c.args.index.now (pos c.args.at) in
-    let same = again_so g.around p fs x o d xs x.standing c.requires.0 c.layer.ensures c.in_ok-layer.layer.number (layers_of c.inner.new.self) (layers_of c.bind_names.new.scopes) (layers_of c.refuse.new.scopes) c.in_ok-layer.ensures.number c.in_ok-layer.ensures.opened c.in_ok-refuse-in-Err.ensures.closed c.in-Err.ensures.rest in
+    let same = again_so g.around p fs x o d false xs x.standing c.requires.0 c.layer.ensures c.in_ok-layer.layer.number (layers_of c.inner.new.self) (layers_of c.bind_names.new.scopes) (layers_of c.refuse.new.scopes) c.in_ok-layer.ensures.number c.in_ok-layer.ensures.opened c.in_ok-refuse-in-Err.ensures.closed c.in-Err.ensures.rest in
     same_linked g.around (own_of c.args.frames.now) x c.refuse.new.scopes c.requires.0 same (c.in_ok-refuse-in-Err.ensures.limit ∙ c.in-Err.ensures.limit ∙ c.in_ok-layer.ensures.limit)

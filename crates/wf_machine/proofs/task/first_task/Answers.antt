@@ -9,7 +9,7 @@ use Rattle.wf_machine.proofs.First.{begins, going_of, is_flow, no_items, starts}
 use Rattle.wf_machine.proofs.task.first_task.Goals as goal
 use Rattle.wf_machine.specs.Main.{around}
 use Rattle.wf_moves.proofs.Going.{going}
-use Rattle.wf_moves.specs.Built.{Tells}
+use Rattle.wf_steps.specs.Built.{Tells}
 use Rattle.wf_moves.specs.Moved.{IsGoing}
 use Rattle.wf_nodes.specs.Spots.{spots}
 

@@ -1,16 +1,16 @@
 use Rattle.std.proofs.Common.{◌≡◌, Ok, Err, ap, sym, subst, ◌∙◌}
 use Rattle.wf_frames.specs.Frames.{inner}
 use Rattle.wf_moves.proofs.Assigning.{entry_failed, entry_given}
-use Rattle.wf_moves.proofs.Clocked.{entry_there}
+use Rattle.wf_steps.proofs.Clocked.{entry_there}
 use Rattle.wf_moves.proofs.Leaving.{empty_fits, empty_settled}
-use Rattle.wf_moves.proofs.Parts.{codes_built, node_at}
+use Rattle.wf_steps.proofs.Parts.{codes_built, node_at}
 use Rattle.wf_shapes.specs.Built.{are_built}
 use Rattle.wf_eval.specs.Answers.{Answers}
 use Rattle.wf_eval.specs.Sight.{seen}
 use Rattle.wf_frames.specs.Owned.{beside, control_of, local_of}
 use Rattle.wf_frames.specs.Sights.{sight_of}
 use Rattle.wf_model.specs.Move.{assigns}
-use Rattle.wf_moves.proofs.Performed.{with_both, with_ok}
+use Rattle.wf_steps.proofs.Performed.{with_both, with_ok}
 use Rattle.wf_moves.specs.Assigned.{entry_values, values_of}
 use Rattle.wf_moves.specs.Moved.{IsMove}
 use Rattle.wf_nodes.specs.Kinds.{entry_by}

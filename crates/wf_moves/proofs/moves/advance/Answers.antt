@@ -6,11 +6,11 @@ use Rattle.wf_frames.specs.Frames.{inner}
 use Rattle.wf_frames.specs.Held.{standing}
 use Rattle.wf_frames.specs.Owned.{IsLinked, held_of, local_of, own_of}
 use Rattle.wf_model.specs.Layers.{view}
-use Rattle.wf_moves.specs.Steps.{Moves}
+use Rattle.wf_steps.specs.Steps.{Moves}
 use Rattle.wf_frames.specs.Sights.{sight_of}
 use Rattle.wf_frames.specs.declared.frames.Frame.TheVariants as frame
 use Rattle.wf_moves.proofs.Leaving.{going_has, going_plain, going_step}
-use Rattle.wf_moves.proofs.Performed.{with_ok}
+use Rattle.wf_steps.proofs.Performed.{with_ok}
 use Rattle.wf_moves.proofs.Turning.{loop_there, moved_on, moved_same}
 use Rattle.wf_scope.specs.Store.{layers_of}
 use Rattle.wf_moves.proofs.moves.advance.Goals as goal

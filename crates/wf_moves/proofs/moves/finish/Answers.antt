@@ -3,9 +3,9 @@ use Rattle.wf_frames.specs.Frames.{inner}
 use Rattle.wf_frames.specs.Fits.{Fits}
 use Rattle.wf_frames.specs.Owned.{beside, control_of, local_of}
 use Rattle.wf_moves.proofs.Leaving.{empty_fits}
-use Rattle.wf_moves.proofs.Performed.{with_ok}
+use Rattle.wf_steps.proofs.Performed.{with_ok}
 use Rattle.wf_moves.specs.Moved.{IsMove}
-use Rattle.wf_moves.specs.Steps.{IsReady, come}
+use Rattle.wf_steps.specs.Steps.{IsReady, come}
 use Rattle.wf_moves.proofs.moves.finish.Goals as goal
 
 pub jump-requires : goal.jump-requires

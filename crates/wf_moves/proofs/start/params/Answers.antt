@@ -1,6 +1,6 @@
 use Rattle.std.proofs.Common.{ap, sym, ◌∙◌}
 use Rattle.wf_ast.specs.View.{params_view}
-use Rattle.wf_moves.proofs.Parts.{node_at}
+use Rattle.wf_steps.proofs.Parts.{node_at}
 use Rattle.wf_moves.proofs.Starting.{flow_params, flow_within}
 use Rattle.wf_nodes.specs.Kinds.{block_view, kind_by}
 use Rattle.wf_moves.proofs.start.params.Goals as goal

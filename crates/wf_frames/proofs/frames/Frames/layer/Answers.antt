@@ -1,6 +1,6 @@
 use Rattle.std.proofs.Common.{◌-◌, reverse, take, sym, ap, ◌∙◌, arith}
 use Rattle.wf_frames.specs.Frames.{innermost}
-use Rattle.wf_frames.proofs.Owning.{innermost_mark, innermost_other, taken}
+use Rattle.wf_frames.proofs.Owning.{innermost_mark, taken}
 use Rattle.wf_frames.proofs.frames.Frames.layer.Goals as goal
 
 pub returns-in-Some : goal.returns-in-Some

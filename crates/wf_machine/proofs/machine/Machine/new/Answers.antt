@@ -10,7 +10,7 @@ use Rattle.wf_machine.proofs.machine.Machine.new.Goals as goal
 use Rattle.wf_machine.proofs.machine.Machine.new.Goals.{then-is_some, else-is_some}
 use Rattle.wf_machine.specs.Main.{config_of}
 use Rattle.wf_machine.specs.declared.machine.Ending.TheVariants as ending
-use Rattle.wf_moves.specs.Built.{is_table_built}
+use Rattle.wf_steps.specs.Built.{is_table_built}
 use Rattle.wf_value.specs.declared.value.Value.TheVariants as value
 
 pub first_task-requires : goal.first_task-requires

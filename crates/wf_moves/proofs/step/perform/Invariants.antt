@@ -1,9 +1,0 @@
-use Rattle.wf_frames.specs.Fits.{reach}
-use Rattle.wf_frames.specs.Frames.{inner}
-use Rattle.wf_moves.proofs.step.perform.Given as goal
-
-abbrev pub ghost-switch : goal.ghost-switch
-ghost-switch g a = record { spots = g.ns; owners = reach (inner a.frames.now) }
-
-abbrev pub ghost-begin_loop : goal.ghost-begin_loop
-ghost-begin_loop g a = g.ns

@@ -1,0 +1,88 @@
+-- Which event a frame's move wants.
+use Rattle.std.proofs.Common.{◌≡◌, ℕ, ◌<◌, ◌≤◌, Bool, true, false, List, [], ◌∷◌, length, get_or, drop, Some, None, refl, sym, ap, subst, ◌∙◌, arith}
+use Rattle.std.specs.Prelude.{zero, suc, is_some, slice_get, Option}
+use Rattle.std.proofs.lemmas.Option.{get_or_from_slice_get, slice_get_within}
+use Rattle.wf_ast.specs.Flows.{flow}
+use Rattle.wf_ast.specs.Tree.{Flow, Program, no_exprs, no_steps, Scalar}
+use Rattle.wf_frames.specs.Fits.{entries_at, list_at}
+use Rattle.wf_frames.specs.Frames.{body_entries, item}
+use Rattle.wf_frames.specs.declared.frames.Frame.TheVariants as frame
+use Rattle.wf_model.specs.Config.{Item, Do, Entries}
+use Rattle.wf_model.specs.Kinds.{Plainly, body_kind, by_clock, call_kind, entry_now, next_kind}
+use Rattle.wf_steps.proofs.Advancing.{entries_next, from_next}
+use Rattle.wf_steps.proofs.Lists.{drop_end, entries_long, from_end}
+use Rattle.wf_steps.proofs.Parts.{as_part, entries_is, list_is, part_is}
+use Rattle.wf_nodes.specs.Kinds.{Listed, entry_by, kind_by}
+use Rattle.wf_nodes.specs.Shapes.{Compiled}
+use Rattle.wf_nodes.specs.Spots.{Spot, entries_by, from, part_at, part_body, part_entry, part_list, steps_by}
+use Rattle.wf_nodes.specs.Table.{Resolves, part_by}
+use Rattle.wf_nodes.specs.declared.node.EntryNode.{EntryNode}
+use Rattle.wf_nodes.specs.declared.node.Node.{Node}
+use Rattle.wf_nodes.specs.declared.node.NodeKind.{NodeKind}
+use Rattle.wf_nodes.specs.declared.node.NodeKind.TheVariants as kind
+use Rattle.wf_value.specs.Pairs.{Text}
+
+pub none_past : {A : Type 0} (xs : List A) (i : ℕ) → slice_get xs i ≡ None → length xs ≤ i
+none_past [] i e = omega arith
+none_past (x ∷ xs) zero e = absurd (cc e)
+none_past (x ∷ xs) (suc i) e = omega (arith, none_past xs i e)
+
+-- ## Frames
+module _ (ns : List Spot) (nodes : List Node) (n at : ℕ) (r : Resolves ns nodes) (p : Program) (k : List Item) where
+  pub do_kind : (b : Listed) (m : ℕ) → list_at nodes n ≡ Some b → slice_get b.steps at ≡ Some m → next_kind p (item ns (frame.Do n at) ∷ k) ≡ body_kind p (part_body (part_at ns m))
+  do_kind b m h e =
+      let lt = slice_get_within b.steps at m e in
+      let is = get_or_from_slice_get b.steps at m 0 e in
+      ap (λ ss. next_kind p (Do (part_list (part_at ns n)) ss ∷ k)) (ap (from at) (list_is ns nodes n b r h) ∙ from_next ns b.steps at lt) ∙ ap (λ (i : ℕ). body_kind p (part_body (part_at ns i))) is
+
+  pub do_plain : (b : Listed) → list_at nodes n ≡ Some b → slice_get b.steps at ≡ None → next_kind p (item ns (frame.Do n at) ∷ k) ≡ Plainly
+  do_plain b h none =
+      let past = none_past b.steps at none in
+      ap (λ ss. next_kind p (Do (part_list (part_at ns n)) ss ∷ k)) (ap (from at) (list_is ns nodes n b r h) ∙ from_end ns b.steps at past)
+
+  pub entry_kind : (b : List ℕ) (m : ℕ) → entries_at nodes n ≡ Some b → slice_get b at ≡ Some m → next_kind p (item ns (frame.Entries n at) ∷ k) ≡ by_clock (entry_now (part_entry (part_at ns m)))
+  entry_kind b m h e =
+      let lt = slice_get_within b at m e in
+      let is = get_or_from_slice_get b at m 0 e in
+      ap (λ es. next_kind p (Entries es ∷ k)) (ap (drop at) (entries_is ns nodes n b r h) ∙ entries_next ns b at lt) ∙ ap (λ (i : ℕ). by_clock (entry_now (part_entry (part_at ns i)))) is
+
+  pub entry_plain : (b : List ℕ) → entries_at nodes n ≡ Some b → slice_get b at ≡ None → next_kind p (item ns (frame.Entries n at) ∷ k) ≡ Plainly
+  entry_plain b h none = ap (λ es. next_kind p (Entries es ∷ k)) (ap (drop at) (entries_is ns nodes n b r h) ∙ drop_end (entries_by ns b) at (omega (arith, none_past b at none, entries_long ns b)))
+
+-- ## Entries
+no_entry : (ns : List Spot) (cs : Compiled) (x : Text) (next : Option Text) (k : NodeKind) → ((e : EntryNode) → k ≡ kind.Entry e → ⊥) → entry_now (part_entry (part_by ns x next (kind_by cs k))) ≡ false
+no_entry ns cs x next (kind.Entry e) h = absurd (h e refl)
+no_entry ns cs x next kind.Nothing h = refl
+no_entry ns cs x next (kind.Flow f) h = refl
+no_entry ns cs x next (kind.Assign v) h = refl
+no_entry ns cs x next (kind.Call f) h = refl
+no_entry ns cs x next (kind.Switch v) h = refl
+no_entry ns cs x next (kind.For l) h = refl
+no_entry ns cs x next (kind.Parallel p) h = refl
+no_entry ns cs x next (kind.Block b) h = refl
+no_entry ns cs x next (kind.Try t) h = refl
+no_entry ns cs x next (kind.Raise t) h = refl
+no_entry ns cs x next (kind.Return t) h = refl
+no_entry ns cs x next (kind.Arm t) h = refl
+no_entry ns cs x next (kind.Branch b) h = refl
+
+pub entry_absent : (ns : List Spot) (nodes : List Node) (n : ℕ) (x : Node) → Resolves ns nodes → slice_get nodes n ≡ Some x → ((e : EntryNode) → x.kind ≡ kind.Entry e → ⊥) → entry_now (part_entry (part_at ns n)) ≡ false
+entry_absent ns nodes n x r at h = ap (λ p. entry_now (part_entry p)) (part_is ns nodes n x r at) ∙ no_entry ns x.codes.items.items x.name x.next x.kind h
+
+pub entry_there : (ns : List Spot) (nodes : List Node) (n : ℕ) (x : Node) (e : EntryNode) → Resolves ns nodes → slice_get nodes n ≡ Some x → x.kind ≡ kind.Entry e → part_entry (part_at ns n) ≡ entry_by x.codes.items.items e
+entry_there ns nodes n x e r at h = ap part_entry (as_part ns nodes n x (kind.Entry e) r at h)
+
+-- ## Bodies
+module _ (ns : List Spot) (nodes : List Node) (n : ℕ) (x : Node) (r : Resolves ns nodes) (at : slice_get nodes n ≡ Some x) (p : Program) where
+  -- the kind of a body, by the node's
+  pub body_so : (k : NodeKind) → x.kind ≡ k → body_kind p (part_body (part_at ns n)) ≡ body_kind p (part_body (part_by ns x.name x.next (kind_by x.codes.items.items k)))
+  body_so k is = ap (λ q. body_kind p (part_body q)) (as_part ns nodes n x k r at is)
+
+-- ## Calls
+-- a call of a workflow reads the clock where an argument does
+pub call_plain : (p : Program) (x : Text) (b : Bool) → is_some (flow p.flows x) ≡ true → call_kind (flow p.flows x) x b ≡ by_clock b
+call_plain p x b h = by (flow p.flows x) h
+  where
+    by : (o : Option Flow) → is_some o ≡ true → call_kind o x b ≡ by_clock b
+    by (Some w) t = refl
+    by None t = absurd (cc t)

@@ -1,0 +1,9 @@
+pub mod Advancing
+pub mod Choices
+pub mod Clocked
+pub mod Evaluated
+pub mod Fitting
+pub mod Lists
+pub mod Parts
+pub mod Performed
+pub mod Shallow
