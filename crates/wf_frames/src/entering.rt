@@ -71,11 +71,7 @@ pub fn enter_call(
 }
 
 // Names are bound one after another in a layer.
-fn bind_all(
-    scopes: &mut Scopes,
-    layer: Chain,
-    bindings: Bindings,
-) -> Result<(), AssignFault>
+fn bind_all(scopes: &mut Scopes, layer: Chain, bindings: Bindings) -> Result<(), AssignFault>
     requires live { IsLive layer.number (layers_of scopes.old) }
     requires innermost { IsInnermost layer.number (layers_of scopes.old) }
     ensures outcome { Answers result (layers_of scopes.new) (bound_all scopes.old.limit layer.number

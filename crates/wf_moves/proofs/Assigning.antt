@@ -72,14 +72,14 @@ module _ (s : Scene) (x : Text) (ks : List Data) (v : Data) (k c : List Item) (h
   stored (inl e) m = breaks e
   stored (inr e) m = subst (λ a. IsMove (on_assigned s k (standing c h) a) w l) (sym (control_same s x c ks v h ∙ ap (with_control c) e)) m
 
-  pub refused : (t : Tag) (e : Value) → Writes s (Some t) h x ks v g → plain e ≡ error_map t → IsMove (raises s k (standing c g) (plain e)) w l → IsMove (on_assigned s k (standing c h) (assign s x ks v (standing c h))) w l
-  refused t e r p m = by r.1
+  pub refused : (t : Tag) → Writes s (Some t) h x ks v g → IsMove (raises s k (standing c g) (error_map t)) w l → IsMove (on_assigned s k (standing c h) (assign s x ks v (standing c h))) w l
+  refused t r m = by r.1
     where
       by : (assign s x ks v (standing [] h) ≡ Undeclared) ⊎ (assign s x ks v (standing [] h) ≡ Refused t) → IsMove (on_assigned s k (standing c h) (assign s x ks v (standing c h))) w l
       by (inl u) = breaks u
       by (inr u) =
           subst (λ a. IsMove (on_assigned s k (standing c h) a) w l) (sym (control_same s x c ks v h ∙ ap (with_control c) u))
-          (subst (λ (d : Data). IsMove (raises s k (standing c h) d) w l) p (subst (λ (y : Held). IsMove (raises s k (standing c y) (plain e)) w l) r.0 m))
+          (subst (λ (y : Held). IsMove (raises s k (standing c y) (error_map t)) w l) r.0 m)
 
 -- ## An entry
 both_on : (s : Scene) (k : List Item) (l : Local) (r : Answer Data) (q : Answer (List Data)) (f : Data → List Data → Moved) → on s k l r (λ d. on s k l q (f d)) ≡ on {A = Data × List Data} s k l (r >>= λ d. q >>= λ ds. Ok (d, ds)) (λ p. f p.0 p.1)

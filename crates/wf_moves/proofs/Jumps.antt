@@ -61,7 +61,9 @@ module _ (ns : List Spot) (nodes : List Node) (x : Text) (j : Jump) (r : Resolve
   passes (frame.Entries n at) fs h t w = record { goes = λ k l. refl; leads = w }
   passes (frame.Then n) fs h t w = record { goes = λ k l. refl; leads = w }
   passes (frame.Loop n w0 i) fs h t w = absurd w
+  passes (frame.Try n r0 d) fs h t w = record { goes = λ k l. refl; leads = w }
   passes (frame.Mark mk) fs h t w = record { goes = λ k l. refl; leads = w }
+  passes (frame.Back c mk) fs h t w = absurd w
 
   -- a turn of the loop
   pub passes_on : (f : Frame) (fs : List Frame) (c : List Item) (h g : Held) → Passes f fs → g ≡ dropped f h → to_step x (control ns (f ∷ fs)) (standing c h) ≡ to_step x (control ns fs) (standing c g)
@@ -98,7 +100,9 @@ module _ (ns : List Spot) (nodes : List Node) (x : Text) (j : Jump) (r : Resolve
   found_at (frame.Entries n at) m fs f t w h = absurd (cc t)
   found_at (frame.Then n) m fs f t w h = absurd (cc t)
   found_at (frame.Loop n w0 i) m fs f t w h = absurd (cc t)
+  found_at (frame.Try n r0 d) m fs f t w h = absurd (cc t)
   found_at (frame.Mark mk) m fs f t w h = absurd (cc t)
+  found_at (frame.Back c mk) m fs f t w h = absurd (cc t)
 
   pub record Turned (old new : List Frame) (h g : Held) : Type 0 where
     pub fits : Fits ns nodes new
@@ -119,7 +123,9 @@ module _ (ns : List Spot) (nodes : List Node) (x : Text) (j : Jump) (r : Resolve
   kept_held (frame.Entries n at) m h t = refl
   kept_held (frame.Then n) m h t = refl
   kept_held (frame.Loop n w0 i) m h t = refl
+  kept_held (frame.Try n r0 d) m h t = refl
   kept_held (frame.Mark mk) m h t = absurd (cc t)
+  kept_held (frame.Back c mk) m h t = absurd (cc t)
 
   pub found_in : (f : Frame) (m : ℕ) (b : Bool) (start old new : List Frame) (k h g : Held) → topped old ≡ Some f → target nodes j.keep f ≡ Some m → Leaves b old h new g → Fits ns nodes old → Leads ns (views nodes) x (Some j) (reach old)
       → ((c : List Item) → to_step x (control ns start) (standing c k) ≡ to_step x (control ns old) (standing c h)) → FoundIn ns nodes x j (Some m) start k new g
@@ -141,7 +147,9 @@ module _ (ns : List Spot) (nodes : List Node) (x : Text) (j : Jump) (r : Resolve
   target_in (frame.Entries n at) m fs t h = absurd (cc t)
   target_in (frame.Then n) m fs t h = absurd (cc t)
   target_in (frame.Loop n w0 i) m fs t h = absurd (cc t)
+  target_in (frame.Try n r0 d) m fs t h = absurd (cc t)
   target_in (frame.Mark mk) m fs t h = absurd (cc t)
+  target_in (frame.Back c mk) m fs t h = absurd (cc t)
 
   pub target_left : (f : Frame) (m : ℕ) (b : Bool) (old new : List Frame) (h g : Held) → topped old ≡ Some f → target nodes j.keep f ≡ Some m → Leaves b old h new g → Fits ns nodes old → (is_some (list_at nodes m) ≡ true) × (outside_at ns nodes m ≡ reach new)
   target_left f m false old new h g t is w fits = absurd (cc (sym t ∙ ap topped w.0))
@@ -183,7 +191,9 @@ loop_one ns (frame.Lone n b) k l h = refl
 loop_one ns (frame.Entries n at) k l h = refl
 loop_one ns (frame.Then n) k l h = refl
 loop_one ns (frame.Loop n w i) k l h = absurd (cc h)
+loop_one ns (frame.Try n r d) k l h = refl
 loop_one ns (frame.Mark mk) k l h = refl
+loop_one ns (frame.Back c mk) k l h = absurd (cc h)
 
 pub record LoopTurned (old new : List Frame) (h g : Held) : Type 0 where
   pub outside : g.outside ≡ h.outside
@@ -212,25 +222,31 @@ by_root Iteration h g d w l o m = ends_so h g w l o m
 pub continued : (ns : List Spot) (s : Scene) (fs : List Frame) (d : List Item) (h g : Held) (w : Went) (l : Local) → ((c : List Item) → IsMove (goes (control ns fs) (standing c g)) w l) → g.outside ≡ h.outside
     → IsMove (continues s (standing d h) (loop_found ns fs (standing d g))) w l
 continued ns s [] d h g w l m o = by_root s.root h g d w l o (m [])
-continued ns s (f ∷ fs) d h g w l m o = m d
-
-looped : (f : Frame) (h : Held) → is_loop f ≡ true → dropped f h ≡ h
-looped (frame.Loop n w i) h e = refl
-looped (frame.Do n at) h e = absurd (cc e)
-looped (frame.Lone n b) h e = absurd (cc e)
-looped (frame.Entries n at) h e = absurd (cc e)
-looped (frame.Then n) h e = absurd (cc e)
-looped (frame.Mark mk) h e = absurd (cc e)
+continued ns s (frame.Back c mk ∷ fs) d h g w l m o = tt
+continued ns s (frame.Do n at ∷ fs) d h g w l m o = m d
+continued ns s (frame.Lone n b ∷ fs) d h g w l m o = m d
+continued ns s (frame.Entries n at ∷ fs) d h g w l m o = m d
+continued ns s (frame.Then n ∷ fs) d h g w l m o = m d
+continued ns s (frame.Loop n x i ∷ fs) d h g w l m o = m d
+continued ns s (frame.Try n r q ∷ fs) d h g w l m o = m d
+continued ns s (frame.Mark mk ∷ fs) d h g w l m o = m d
 
 pub broken : (ns : List Spot) (b : Bool) (mid new : List Frame) (d : List Item) (h g : Held) (w : Went) (l : Local) → IsLoopTop mid → Leaves b mid h new g → ((c : List Item) → IsMove (goes (control ns new) (standing c g)) w l)
     → IsMove (breaks (loop_found ns mid (standing d h))) w l
 broken ns b [] new d h g w l top left m = tt
 broken ns false (f ∷ fs) new d h g w l top left m = absurd (cc left.0)
-broken ns true (f ∷ fs) new d h g w l top left m =
-    let same : f ≡ left.0 = cc left.1 in
+broken ns true (frame.Loop n x i ∷ fs) new d h g w l top left m =
+    let same : frame.Loop n x i ≡ left.0 = cc left.1 in
     let rest : fs ≡ new = cc left.1 in
-    let e : g ≡ h = left.2 ∙ looped left.0 h (subst (λ y. is_loop y ≡ true) same top) in
+    let e : g ≡ h = left.2 ∙ ap (λ f. dropped f h) (sym same) in
     subst (λ ys. IsMove (goes (control ns ys) (standing d h)) w l) (sym rest) (subst (λ y. IsMove (goes (control ns new) (standing d y)) w l) e (m d))
+broken ns true (frame.Back c mk ∷ fs) new d h g w l top left m = tt
+broken ns true (frame.Do n at ∷ fs) new d h g w l top left m = absurd (cc top)
+broken ns true (frame.Lone n q ∷ fs) new d h g w l top left m = absurd (cc top)
+broken ns true (frame.Entries n at ∷ fs) new d h g w l top left m = absurd (cc top)
+broken ns true (frame.Then n ∷ fs) new d h g w l top left m = absurd (cc top)
+broken ns true (frame.Try n r q ∷ fs) new d h g w l top left m = absurd (cc top)
+broken ns true (frame.Mark mk ∷ fs) new d h g w l top left m = absurd (cc top)
 
 -- ## Without a step of the name
 module _ (ns : List Spot) (nodes : List Node) (x : Text) where
@@ -241,7 +257,9 @@ module _ (ns : List Spot) (nodes : List Node) (x : Text) where
   nowhere (frame.Entries n at ∷ fs) l h = nowhere fs l h
   nowhere (frame.Then n ∷ fs) l h = nowhere fs l h
   nowhere (frame.Loop n w i ∷ fs) l h = refl
+  nowhere (frame.Try n r d ∷ fs) l h = nowhere fs l h
   nowhere (frame.Mark m ∷ fs) l h = nowhere fs (leave l) h
+  nowhere (frame.Back c m ∷ fs) l h = refl
 
   pub breaks_so : (s : Scene) (fs : List Frame) (l m : Local) (w : Went) → Leads ns (views nodes) x None (reach fs) → IsMove (jumps_to s x (to_step x (control ns fs) l)) w m
   breaks_so s fs l m w h = subst (λ f. IsMove (jumps_to s x f) w m) (sym (nowhere fs l h)) tt

@@ -1,11 +1,11 @@
 -- Frames that are left.
 use Rattle.std.proofs.Common.{◌≡◌, ℕ, ◌<◌, ◌≤◌, Bool, true, false, List, [], ◌∷◌, length, drop, Some, None, refl, sym, ap, subst, ◌∙◌, arith}
-use Rattle.std.specs.Prelude.{zero, suc, is_some}
+use Rattle.std.specs.Prelude.{Option, zero, suc, is_some}
 use Rattle.std.proofs.Math.Dec.{leb}
 use Rattle.std.proofs.lemmas.Bool.{leb-true, leb-false}
 use Rattle.wf_ast.specs.Tree.{Step, Steps, no_steps, more, Entry, Body}
 use Rattle.wf_frames.specs.Fits.{Fits, HasNode, entries_at, list_at}
-use Rattle.wf_frames.specs.Frames.{body_entries, control, item, mark_of, topped}
+use Rattle.wf_frames.specs.Frames.{body_entries, control, is_back, item, mark_of, topped}
 use Rattle.wf_frames.specs.Held.{Held, standing}
 use Rattle.wf_frames.specs.Turns.{Leaves, dropped, left_by}
 use Rattle.wf_frames.specs.declared.frames.Frame.{Frame}
@@ -13,10 +13,9 @@ use Rattle.wf_frames.specs.declared.frames.Frame.TheVariants as frame
 use Rattle.wf_frames.specs.declared.frames.Left.{Left}
 use Rattle.wf_model.specs.Config.{Item, Do, Entries}
 use Rattle.wf_model.specs.Local.{Local, Scene, settle, settled}
-use Rattle.wf_model.specs.Unwind.{unwind, to_back}
-use Rattle.wf_steps.proofs.Lists.{drop_end, drop_more, entries_long, from_end, from_more, has_entries, has_list}
+use Rattle.wf_steps.proofs.Lists.{drop_end, drop_more, entries_long, from_end, from_more}
 use Rattle.wf_steps.proofs.Parts.{entries_is, list_is}
-use Rattle.wf_moves.specs.Moved.{HasMove, IsGoing, IsMove, IsSettled, Settled}
+use Rattle.wf_moves.specs.Moved.{HasMove, IsGoing, IsMove, IsSettled, Settled, is_at_back}
 use Rattle.wf_moves.specs.declared.finish.End.TheVariants as end
 use Rattle.wf_moves.specs.declared.finish.Went.TheVariants as went
 use Rattle.wf_steps.specs.Steps.{HasStep, IsBefore, IsBeforeEntry}
@@ -34,7 +33,9 @@ stands_on (frame.Lone n b) c h = refl
 stands_on (frame.Entries n at) c h = refl
 stands_on (frame.Then n) c h = refl
 stands_on (frame.Loop n w i) c h = refl
+stands_on (frame.Try n r d) c h = refl
 stands_on (frame.Mark m) c h = refl
+stands_on (frame.Back k m) c h = refl
 
 pub same_outside : (f : Frame) (h : Held) → (dropped f h).outside ≡ h.outside
 same_outside (frame.Do n at) h = refl
@@ -42,23 +43,9 @@ same_outside (frame.Lone n b) h = refl
 same_outside (frame.Entries n at) h = refl
 same_outside (frame.Then n) h = refl
 same_outside (frame.Loop n w i) h = refl
+same_outside (frame.Try n r d) h = refl
 same_outside (frame.Mark m) h = refl
-
-unwound_one : (ns : List Spot) (s : Scene) (f : Frame) (k : List Item) (l : Local) (e : Data) → unwind s (item ns f ∷ k) l e ≡ unwind s k (left_by f l) e
-unwound_one ns s (frame.Do n at) k l e = refl
-unwound_one ns s (frame.Lone n b) k l e = refl
-unwound_one ns s (frame.Entries n at) k l e = refl
-unwound_one ns s (frame.Then n) k l e = refl
-unwound_one ns s (frame.Loop n w i) k l e = refl
-unwound_one ns s (frame.Mark m) k l e = refl
-
-back_one : (ns : List Spot) (f : Frame) (k : List Item) (l : Local) → to_back (item ns f ∷ k) l ≡ to_back k (left_by f l)
-back_one ns (frame.Do n at) k l = refl
-back_one ns (frame.Lone n b) k l = refl
-back_one ns (frame.Entries n at) k l = refl
-back_one ns (frame.Then n) k l = refl
-back_one ns (frame.Loop n w i) k l = refl
-back_one ns (frame.Mark m) k l = refl
+same_outside (frame.Back k m) h = refl
 
 -- ## What has ended
 pub do_ended : (ns : List Spot) (n at : ℕ) (xs : List ℕ) → part_list (part_at ns n) ≡ steps_by ns xs → length xs ≤ at → Settled ns true (frame.Do n at)
@@ -145,44 +132,29 @@ pub settles_here : (ns : List Spot) (f : Frame) (fs : List Frame) (h : Held) →
 settles_here ns f [] h t s c = absurd (cc t)
 settles_here ns f (g ∷ fs) h t s c = let same : g ≡ f = cc t in subst (Settled ns false) (sym same) s (control ns fs) (standing c h)
 
--- errors and returns go on outward
-pub unwinds_on : (ns : List Spot) (s : Scene) (old new : List Frame) (h g : Held) → Leaves true old h new g → (c : List Item) (e : Data) → unwind s (control ns old) (standing c h) e ≡ unwind s (control ns new) (standing c g) e
-unwinds_on ns s old new h g w c e =
-    ap (λ fs. unwind s (control ns fs) (standing c h) e) w.1 ∙ unwound_one ns s w.0 (control ns new) (standing c h) e ∙ ap (λ l. unwind s (control ns new) l e) (stands_on w.0 c h ∙ ap (standing c) (sym w.2))
-
-pub backs_on : (ns : List Spot) (old new : List Frame) (h g : Held) → Leaves true old h new g → (c : List Item) → to_back (control ns old) (standing c h) ≡ to_back (control ns new) (standing c g)
-backs_on ns old new h g w c =
-    ap (λ fs. to_back (control ns fs) (standing c h)) w.1 ∙ back_one ns w.0 (control ns new) (standing c h) ∙ ap (to_back (control ns new)) (stands_on w.0 c h ∙ ap (standing c) (sym w.2))
-
-pub outside_on : (old new : List Frame) (h g : Held) → Leaves true old h new g → g.outside ≡ h.outside
-outside_on old new h g w = ap (λ (y : Held). y.outside) w.2 ∙ same_outside w.0 h
-
--- with no frame left
-pub empty_fits : (ns : List Spot) (nodes : List Node) (fs : List Frame) → fs ≡ [] → Fits ns nodes fs
-empty_fits ns nodes fs e = subst (Fits ns nodes) (sym e) tt
-
-pub empty_settled : (nodes : List Node) (fs : List Frame) → fs ≡ [] → IsSettled nodes fs
-empty_settled nodes fs e = subst (IsSettled nodes) (sym e) tt
-
--- the innermost frame, from which a move is made, and which has no layer
+-- the innermost frame, from which a move is made, and which has no layer where it isn't the end of a call
 pub going_has : (nodes : List Node) (f : Frame) (fs gs : List Frame) → fs ≡ f ∷ gs → IsGoing nodes fs → HasMove nodes f
 going_has nodes f fs gs e h = subst (IsGoing nodes) e h
 
-pub going_plain : (nodes : List Node) (f : Frame) → HasMove nodes f → mark_of f ≡ None
-going_plain nodes (frame.Do n at) h = refl
-going_plain nodes (frame.Lone n b) h = refl
-going_plain nodes (frame.Entries n at) h = refl
-going_plain nodes (frame.Then n) h = refl
-going_plain nodes (frame.Loop n w i) h = refl
-going_plain nodes (frame.Mark m) h = absurd h
+pub going_plain : (nodes : List Node) (f : Frame) → HasMove nodes f → is_back f ≡ false → mark_of f ≡ None
+going_plain nodes (frame.Do n at) h q = refl
+going_plain nodes (frame.Lone n b) h q = refl
+going_plain nodes (frame.Entries n at) h q = refl
+going_plain nodes (frame.Then n) h q = refl
+going_plain nodes (frame.Loop n w i) h q = refl
+going_plain nodes (frame.Try n r d) h q = absurd h
+going_plain nodes (frame.Mark m) h q = absurd h
+going_plain nodes (frame.Back k m) h q = absurd (cc q)
 
-pub going_step : (nodes : List Node) (f : Frame) → HasMove nodes f → ((n : ℕ) (w : Left) (i : ℕ) → f ≡ frame.Loop n w i → ⊥) → HasStep nodes f
-going_step nodes (frame.Do n at) h other = h
-going_step nodes (frame.Lone n b) h other = h
-going_step nodes (frame.Entries n at) h other = h
-going_step nodes (frame.Then n) h other = h
-going_step nodes (frame.Loop n w i) h other = absurd (other n w i refl)
-going_step nodes (frame.Mark m) h other = absurd h
+pub going_step : (nodes : List Node) (f : Frame) → HasMove nodes f → is_back f ≡ false → ((n : ℕ) (w : Left) (i : ℕ) → f ≡ frame.Loop n w i → ⊥) → HasStep nodes f
+going_step nodes (frame.Do n at) h q other = h
+going_step nodes (frame.Lone n b) h q other = h
+going_step nodes (frame.Entries n at) h q other = h
+going_step nodes (frame.Then n) h q other = h
+going_step nodes (frame.Loop n w i) h q other = absurd (other n w i refl)
+going_step nodes (frame.Try n r d) h q other = absurd h
+going_step nodes (frame.Mark m) h q other = absurd h
+going_step nodes (frame.Back k m) h q other = absurd (cc q)
 
 -- the task goes on, or has ended
 pub going_there : (nodes : List Node) (f : Frame) (fs : List Frame) → topped fs ≡ Some f → IsSettled nodes fs → IsGoing nodes fs
@@ -196,3 +168,11 @@ went_on ns f (g ∷ fs) h t = refl
 pub went_out : (ns : List Spot) (fs : List Frame) (h : Held) → topped fs ≡ None → IsMove (settled (standing (control ns fs) h)) (went.Ended (end.Value value.Null)) (standing (control ns fs) h)
 went_out ns [] h t = (refl, omega arith, refl)
 went_out ns (g ∷ fs) h t = absurd (cc t)
+
+-- the innermost frame isn't the end of a call
+pub no_back : (f : Frame) (fs gs : List Frame) → fs ≡ f ∷ gs → is_at_back fs ≡ false → is_back f ≡ false
+no_back f fs gs e h = sym (ap is_at_back e) ∙ h
+
+pub at_back : (fs : List Frame) (o : Option Frame) → topped fs ≡ o → is_at_back fs ≡ elim o [ None ↦ false | Some f ↦ is_back f ]
+at_back [] o e = ap (λ (p : Option Frame). elim p [ None ↦ false | Some f ↦ is_back f ]) e
+at_back (f ∷ fs) o e = ap (λ (p : Option Frame). elim p [ None ↦ false | Some f ↦ is_back f ]) e

@@ -3,5 +3,7 @@ pub mod Calling
 pub mod Going
 pub mod Jumps
 pub mod Leaving
+pub mod Returning
 pub mod Starting
 pub mod Turning
+pub mod Unwinding

@@ -34,7 +34,7 @@ use Rattle.wf_value.specs.Maps.{IsInOrder, with_value}
 use Rattle.wf_value.specs.Pairs.{Text}
 
 -- ## The frame
-flow_list : (nodes : List Node) (n : ℕ) (f : IsFlow nodes n) → list_at nodes n ≡ Some f.list
+pub flow_list : (nodes : List Node) (n : ℕ) (f : IsFlow nodes n) → list_at nodes n ≡ Some f.list
 flow_list nodes n f = ap view_list f.at ∙ ap kind_list f.is
 
 pub flow_fits : (ns : List Spot) (nodes : List Node) (n : ℕ) (fs : List Frame) → IsFlow nodes n → fs ≡ frame.Do n 0 ∷ [] → Fits ns nodes fs

@@ -64,25 +64,25 @@ module _ (ns : List Spot) (n : ℕ) (left : declared.Left) (i : ℕ) (old : List
     same_names (Some y) = refl
 
     opens : moves s (control ns (frame.Loop n left i ∷ old)) (standing c h) ≡ on s (control ns old) (standing c h) (opened s (standing [] h) (names_of b.value v b.index (pos i)))
-        (λ ps. goes (Do (part_list (part_at ns n)) (part_list (part_at ns n)) ∷ Mark ∷ Loop (body_loop (part_body (part_at ns n))) (left_view rest) (suc i) ∷ control ns old) (standing c (with_layer ps h)))
+        (λ ps. goes (Do (part_list (part_at ns n)) (part_list (part_at ns n)) ∷ Mark ∷ Loop (body_loop (part_body (part_at ns n))) (left_view rest) (suc i) ∷ control ns old) (standing c (with_layer false ps h)))
     opens =
         ap (λ o. turns s (body_loop (part_body (part_at ns n))) o i (control ns old) (standing c h)) left_is
         ∙ ap (λ p. turns s (body_loop (part_body p)) (Some (v, left_view rest)) i (control ns old) (standing c h)) part
-        ∙ ap (λ xs. on s (control ns old) (standing c h) (opened s (standing [] h) xs) (λ ps. goes (Do (steps_by ns b.block.steps.items) (steps_by ns b.block.steps.items) ∷ Mark ∷ Loop (loop b.value b.index (over_by x.codes.items.items b.over) (steps_by ns b.block.steps.items)) (left_view rest) (suc i) ∷ control ns old) (standing c (with_layer ps h)))) (same_names b.index)
-        ∙ ap (λ p. on s (control ns old) (standing c h) (opened s (standing [] h) (names_of b.value v b.index (pos i))) (λ ps. goes (Do (part_list p) (part_list p) ∷ Mark ∷ Loop (body_loop (part_body p)) (left_view rest) (suc i) ∷ control ns old) (standing c (with_layer ps h)))) (sym part)
+        ∙ ap (λ xs. on s (control ns old) (standing c h) (opened s (standing [] h) xs) (λ ps. goes (Do (steps_by ns b.block.steps.items) (steps_by ns b.block.steps.items) ∷ Mark ∷ Loop (loop b.value b.index (over_by x.codes.items.items b.over) (steps_by ns b.block.steps.items)) (left_view rest) (suc i) ∷ control ns old) (standing c (with_layer false ps h)))) (same_names b.index)
+        ∙ ap (λ p. on s (control ns old) (standing c h) (opened s (standing [] h) (names_of b.value v b.index (pos i))) (λ ps. goes (Do (part_list p) (part_list p) ∷ Mark ∷ Loop (body_loop (part_body p)) (left_view rest) (suc i) ∷ control ns old) (standing c (with_layer false ps h)))) (sym part)
 
-    pub turn_refused : (g : Held) (w : Went) (l : Local) (e : Value) → Enters s None h (names_of b.value v b.index (pos i)) g → plain e ≡ error_map ResourceLimitError
-        → IsMove (raises s (control ns old) (standing c g) (plain e)) w l → IsMove (moves s (control ns (frame.Loop n left i ∷ old)) (standing c h)) w l
-    turn_refused g w l e q p m =
-        subst (λ y. IsMove y w l) (sym (opens ∙ ap (λ y. on s (control ns old) (standing c h) y (λ ps. goes (Do (part_list (part_at ns n)) (part_list (part_at ns n)) ∷ Mark ∷ Loop (body_loop (part_body (part_at ns n))) (left_view rest) (suc i) ∷ control ns old) (standing c (with_layer ps h)))) q.0
-        ∙ ap (raises s (control ns old) (standing c h)) (sym p) ∙ ap (λ y. raises s (control ns old) (standing c y) (plain e)) (sym q.1))) m
+    pub turn_refused : (g : Held) (w : Went) (l : Local) → Enters false s None h (names_of b.value v b.index (pos i)) g
+        → IsMove (raises s (control ns old) (standing c g) (error_map ResourceLimitError)) w l → IsMove (moves s (control ns (frame.Loop n left i ∷ old)) (standing c h)) w l
+    turn_refused g w l q m =
+        subst (λ y. IsMove y w l) (sym (opens ∙ ap (λ y. on s (control ns old) (standing c h) y (λ ps. goes (Do (part_list (part_at ns n)) (part_list (part_at ns n)) ∷ Mark ∷ Loop (body_loop (part_body (part_at ns n))) (left_view rest) (suc i) ∷ control ns old) (standing c (with_layer false ps h)))) q.0
+        ∙ ap (λ y. raises s (control ns old) (standing c y) (error_map ResourceLimitError)) (sym q.1))) m
 
-    pub turn_entered : (layer : ℕ) (g : Held) (w : Went) (l : Local) (new : List Frame) → Enters s (Some layer) h (names_of b.value v b.index (pos i)) g → new ≡ frame.Do n 0 ∷ frame.Mark layer ∷ frame.Loop n rest (i + 1) ∷ old
+    pub turn_entered : (layer : ℕ) (g : Held) (w : Went) (l : Local) (new : List Frame) → Enters false s (Some layer) h (names_of b.value v b.index (pos i)) g → new ≡ frame.Do n 0 ∷ frame.Mark layer ∷ frame.Loop n rest (i + 1) ∷ old
         → IsMove (goes (control ns new) (standing c g)) w l → IsMove (moves s (control ns (frame.Loop n left i ∷ old)) (standing c h)) w l
     turn_entered layer g w l new q p m =
-        subst (λ y. IsMove y w l) (sym (opens ∙ ap (λ y. on s (control ns old) (standing c h) y (λ ps. goes (Do (part_list (part_at ns n)) (part_list (part_at ns n)) ∷ Mark ∷ Loop (body_loop (part_body (part_at ns n))) (left_view rest) (suc i) ∷ control ns old) (standing c (with_layer ps h)))) q.1
-        ∙ ap (λ (j : ℕ). goes (Do (part_list (part_at ns n)) (part_list (part_at ns n)) ∷ Mark ∷ Loop (body_loop (part_body (part_at ns n))) (left_view rest) j ∷ control ns old) (standing c (with_layer q.0 h))) (sym (add-one i))
-        ∙ ap (λ y. goes (control ns y) (standing c (with_layer q.0 h))) (sym p) ∙ ap (λ y. goes (control ns new) (standing c y)) (sym q.2))) m
+        subst (λ y. IsMove y w l) (sym (opens ∙ ap (λ y. on s (control ns old) (standing c h) y (λ ps. goes (Do (part_list (part_at ns n)) (part_list (part_at ns n)) ∷ Mark ∷ Loop (body_loop (part_body (part_at ns n))) (left_view rest) (suc i) ∷ control ns old) (standing c (with_layer false ps h)))) q.1
+        ∙ ap (λ (j : ℕ). goes (Do (part_list (part_at ns n)) (part_list (part_at ns n)) ∷ Mark ∷ Loop (body_loop (part_body (part_at ns n))) (left_view rest) j ∷ control ns old) (standing c (with_layer false q.0 h))) (sym (add-one i))
+        ∙ ap (λ y. goes (control ns y) (standing c (with_layer false q.0 h))) (sym p) ∙ ap (λ y. goes (control ns new) (standing c y)) (sym q.2))) m
 
 pub turn_fits : (ns : List Spot) (nodes : List Node) (n i layer : ℕ) (b : LoopNode) (rest : declared.Left) (old one two three : List Frame) → IsLoop nodes n b
     → one ≡ frame.Loop n rest i ∷ old → two ≡ frame.Mark layer ∷ one → three ≡ frame.Do n 0 ∷ two → Fits ns nodes old → Fits ns nodes three

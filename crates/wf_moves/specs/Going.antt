@@ -16,7 +16,9 @@ GoesOn nodes (frame.Lone n done) = done ≡ false
 GoesOn nodes (frame.Entries n at) = at < length (unwrap_or (entries_at nodes n) [])
 GoesOn nodes (frame.Then n) = Unit {0}
 GoesOn nodes (frame.Loop n l i) = Unit {0}
+GoesOn nodes (frame.Try n tries delay) = ⊥
 GoesOn nodes (frame.Mark number) = ⊥
+GoesOn nodes (frame.Back call number) = Unit {0}
 
 -- the innermost one is such a frame
 abbrev pub Going : List Node → List Frame → Type 0
@@ -29,7 +31,9 @@ GoesOn-prop nodes (frame.Lone n done) = Coded-set coded_bool _ _
 GoesOn-prop nodes (frame.Entries n at) = le_prop
 GoesOn-prop nodes (frame.Then n) = Unit-prop
 GoesOn-prop nodes (frame.Loop n l i) = Unit-prop
+GoesOn-prop nodes (frame.Try n tries delay) = λ g h. absurd g
 GoesOn-prop nodes (frame.Mark number) = λ g h. absurd g
+GoesOn-prop nodes (frame.Back call number) = Unit-prop
 
 pub Going-prop : (nodes : List Node) (fs : List Frame) → IsProp (Going nodes fs)
 Going-prop nodes [] = λ g h. absurd g

@@ -26,8 +26,6 @@ use Rattle.wf_nodes.specs.Spots.{Spot, part_at, part_body}
 use Rattle.wf_nodes.specs.declared.node.ExceptNode.{ExceptNode}
 use Rattle.wf_nodes.specs.declared.node.Jump.{Jump}
 use Rattle.wf_nodes.specs.declared.node.Node.{Node}
-use Rattle.wf_nodes.specs.declared.node.NodeKind.{NodeKind}
-use Rattle.wf_nodes.specs.declared.node.NodeKind.TheVariants as variant
 use Rattle.wf_nodes.specs.declared.node.TryNode.{TryNode}
 use Rattle.wf_scope.specs.declared.scopes.Scopes.{Scopes}
 use Rattle.wf_value.specs.Data.{Data, depth}
@@ -134,21 +132,34 @@ call_of (frame.Back call number) = call
 call_of f = None
 
 -- ## Errors
--- the steps that take an error of a `try`
-abbrev pub handler_of : NodeKind → Option ExceptNode
-handler_of (variant.Try t) = t.except
-handler_of k = None
+-- the node of this number is a `try` without a policy, and these steps take its errors
+pub record Handler (nodes : List Node) (n : ℕ) : Type 0 where
+  pub tried : TryNode
+  pub except : ExceptNode
+  pub is : IsTry nodes n tried
+  pub policy : tried.policy ≡ None
+  pub has : tried.except ≡ Some except
 
--- the node of this number is a `try` without a policy, and has these
-pub record Handles (nodes : List Node) (n : ℕ) (t : TryNode) (x : ExceptNode) : Type 0 where
-  pub is : IsTry nodes n t
-  pub policy : t.policy ≡ None
-  pub except : t.except ≡ Some x
+-- the frame is a `try` of this number that takes errors
+pub record Takes (nodes : List Node) (f : Frame) (n : ℕ) : Type 0 where
+  pub tries : ℕ
+  pub delay : Option ℕ
+  pub frame : f ≡ frame.Try n tries delay
+  pub tried : TryNode
+  pub except : ExceptNode
+  pub is : IsTry nodes n tried
+  pub has : tried.except ≡ Some except
 
--- a frame is a `try` that takes errors, of this number, or isn't one
+-- a `try` that takes none
+pub record LetsPass (nodes : List Node) (n : ℕ) : Type 0 where
+  pub tried : TryNode
+  pub is : IsTry nodes n tried
+  pub none : tried.except ≡ None
+
+-- the frame takes errors by its `try` of this number, or takes none
 abbrev pub IsTaken : List Node → Frame → Option ℕ → Type 0
-IsTaken nodes f (Some n) = (tries : ℕ) × ((delay : Option ℕ) × (f ≡ frame.Try n tries delay)) × ((t : TryNode) × ((x : ExceptNode) × IsTry nodes n t × (t.except ≡ Some x)))
-IsTaken nodes (frame.Try n tries delay) None = (t : TryNode) × IsTry nodes n t × (t.except ≡ None)
+IsTaken nodes f (Some n) = Takes nodes f n
+IsTaken nodes (frame.Try n tries delay) None = LetsPass nodes n
 IsTaken nodes f None = Unit {0}
 
 -- where the nearest `try` was looked for that takes an error: it is this one, and was left, or there is none

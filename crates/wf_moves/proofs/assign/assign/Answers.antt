@@ -2,7 +2,6 @@ use Rattle.std.proofs.Common.{◌≡◌, Ok, Err, ap, sym, subst, ◌∙◌}
 use Rattle.wf_frames.specs.Frames.{inner}
 use Rattle.wf_moves.proofs.Assigning.{entry_failed, entry_given}
 use Rattle.wf_steps.proofs.Clocked.{entry_there}
-use Rattle.wf_moves.proofs.Leaving.{empty_fits, empty_settled}
 use Rattle.wf_steps.proofs.Parts.{codes_built, node_at}
 use Rattle.wf_shapes.specs.Built.{are_built}
 use Rattle.wf_eval.specs.Answers.{Answers}
@@ -43,8 +42,5 @@ returns-in-Err-clause-moved g c =
     with_both _ _ c.fails.result
     (λ w h t s d sees agrees. subst (λ x. IsMove (assigns s x (control_of g.around c.args.frames.now) (beside d g.around c.args.frames.now c.args.scopes.now)) w (local_of g.around c.fails.new.frames c.fails.new.scopes)) (sym is)
     (entry_failed s e (control_of g.around c.args.frames.now) (beside d g.around c.args.frames.now c.args.scopes.now) v (c.seen-look.ensures s sees) t.0 w (local_of g.around c.fails.new.frames c.fails.new.scopes)
-    (subst (λ r. Answers values_of (Err r) (entry_values e v)) t.1 given) (h s d t.0 t.1)))
+    (subst (λ r. Answers values_of (Err r) (entry_values e v)) t.1 given) (h t.0 t.1 s d agrees)))
     c.fails.ensures.moved c.fails.ensures.error
-
-pub returns-in-Err-clause-left : goal.returns-in-Err-clause-left
-returns-in-Err-clause-left g c = with_ok _ _ c.fails.result (λ w h. h c.args.nodes.now) c.fails.ensures.left

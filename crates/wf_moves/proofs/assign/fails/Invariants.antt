@@ -1,4 +1,4 @@
 use Rattle.wf_moves.proofs.assign.fails.Given as goal
 
-abbrev pub ghost-raises : goal.ghost-raises
-ghost-raises g a = g.around
+abbrev pub ghost-raises_tag : goal.ghost-raises_tag
+ghost-raises_tag g a = g.around

@@ -3,7 +3,8 @@ use Rattle.std.proofs.Math.Dec.{leb}
 use Rattle.std.specs.Prelude.{is_some}
 use Rattle.wf_frames.specs.Fits.{HasNode}
 use Rattle.wf_frames.specs.declared.frames.Frame.TheVariants as frame
-use Rattle.wf_moves.proofs.Leaving.{do_has, do_settled, entries_have, entries_settled, has_entries, has_list, lone_has, lone_settled}
+use Rattle.wf_moves.proofs.Leaving.{do_has, do_settled, entries_have, entries_settled, lone_has, lone_settled}
+use Rattle.wf_steps.proofs.Lists.{has_entries, has_list}
 use Rattle.wf_moves.specs.Moved.{HasMove, Settled}
 use Rattle.wf_nodes.specs.Kinds.{block_view}
 use Rattle.wf_moves.proofs.finish.is_ended.Goals as goal

@@ -11,3 +11,6 @@ ghost-finish g a = g.around
 
 abbrev pub ghost-step_of : goal.ghost-step_of
 ghost-step_of g a = g.around.spots
+
+abbrev pub ghost-returns : goal.ghost-returns
+ghost-returns g a = g.around

@@ -1,47 +1,46 @@
 use Rattle.std.proofs.Common.{sym, subst}
 use Rattle.wf_frames.specs.Frames.{inner}
-use Rattle.wf_frames.specs.Fits.{Fits}
 use Rattle.wf_frames.specs.Owned.{beside, control_of, local_of}
-use Rattle.wf_moves.proofs.Leaving.{empty_fits}
-use Rattle.wf_steps.proofs.Performed.{with_ok}
 use Rattle.wf_moves.specs.Moved.{IsMove}
+use Rattle.wf_steps.proofs.Performed.{with_ok}
 use Rattle.wf_steps.specs.Steps.{IsReady, come}
 use Rattle.wf_moves.proofs.moves.finish.Goals as goal
 
 pub jump-requires : goal.jump-requires
-jump-requires g c = (c.requires.0, (c.requires.1.0, subst (λ st. IsReady g.around.spots c.args.nodes.now (inner c.args.frames.now) st) c.in-Jumps.is c.requires.1.1))
+jump-requires g c = (c.requires.0, (c.requires.1.1.0, subst (λ st. IsReady g.around.spots c.args.nodes.now (inner c.args.frames.now) st) c.in-Jumps.is c.requires.1.1.1))
 
 pub assign-requires : goal.assign-requires
-assign-requires g c = (c.requires.0, (c.requires.1.0, subst (λ st. IsReady g.around.spots c.args.nodes.now (inner c.args.frames.now) st) c.in-Assigns.is c.requires.1.1))
+assign-requires g c = (c.requires.0, (c.requires.1.1.0, subst (λ st. IsReady g.around.spots c.args.nodes.now (inner c.args.frames.now) st) c.in-Assigns.is c.requires.1.1.1))
+
+pub raises-requires : goal.raises-requires
+raises-requires g c = (c.requires.0, (c.requires.1.1.0, subst (λ st. IsReady g.around.spots c.args.nodes.now (inner c.args.frames.now) st) c.in-Raises.is c.requires.1.1.1))
+
+pub returns-requires : goal.returns-requires
+returns-requires g c = (c.requires.0, (c.requires.1.1.0, subst (λ st. IsReady g.around.spots c.args.nodes.now (inner c.args.frames.now) st) c.in-Returns.is c.requires.1.1.1))
+
+pub call-requires : goal.call-requires
+call-requires g c = (c.requires.0, (c.requires.1.0, (c.requires.1.1.0, subst (λ st. IsReady g.around.spots c.args.nodes.now (inner c.args.frames.now) st) c.in-Calls.is c.requires.1.1.1)))
 
 pub returns-in-Goes-clause-moved : goal.returns-in-Goes-clause-moved
 returns-in-Goes-clause-moved g c s d sees agrees =
     subst (λ st. IsMove (come g.around.spots st s (control_of g.around c.args.frames.now) (beside d g.around c.args.frames.now c.args.scopes.now)) c.goes.result (local_of g.around c.goes.new.frames c.goes.new.scopes)) (sym c.in-Goes.is) (c.goes.ensures.moved d)
 
-pub returns-in-Raises-clause-stands : goal.returns-in-Raises-clause-stands
-returns-in-Raises-clause-stands g c = record { fits = empty_fits g.around.spots c.args.nodes.now (inner c.raises.new.frames) c.raises.ensures.empty; linked = c.raises.ensures.linked }
-
-pub returns-in-Returns-clause-stands : goal.returns-in-Returns-clause-stands
-returns-in-Returns-clause-stands g c = record { fits = empty_fits g.around.spots c.args.nodes.now (inner c.returns.new.frames) c.returns.ensures.empty; linked = c.returns.ensures.linked }
-
-pub raises-requires : goal.raises-requires
-raises-requires g c = (c.requires.1.0.linked, subst (λ st. IsReady g.around.spots c.args.nodes.now (inner c.args.frames.now) st) c.in-Raises.is c.requires.1.1)
-
-pub returns-requires : goal.returns-requires
-returns-requires g c = (c.requires.1.0.linked, subst (λ st. IsReady g.around.spots c.args.nodes.now (inner c.args.frames.now) st) c.in-Returns.is c.requires.1.1)
-
 pub returns-in-Raises-clause-moved : goal.returns-in-Raises-clause-moved
-returns-in-Raises-clause-moved g c s d sees agrees =
-    subst (λ st. IsMove (come g.around.spots st s (control_of g.around c.args.frames.now) (beside d g.around c.args.frames.now c.args.scopes.now)) c.raises.result (local_of g.around c.raises.new.frames c.raises.new.scopes)) (sym c.in-Raises.is) (c.raises.ensures.moved s d)
+returns-in-Raises-clause-moved g c =
+    with_ok _ _ c.raises.result
+    (λ w h s d sees agrees. subst (λ st. IsMove (come g.around.spots st s (control_of g.around c.args.frames.now) (beside d g.around c.args.frames.now c.args.scopes.now)) w (local_of g.around c.raises.new.frames c.raises.new.scopes)) (sym c.in-Raises.is) (h s d agrees))
+    c.raises.ensures.moved
 
 pub returns-in-Returns-clause-moved : goal.returns-in-Returns-clause-moved
-returns-in-Returns-clause-moved g c s d sees agrees =
-    subst (λ st. IsMove (come g.around.spots st s (control_of g.around c.args.frames.now) (beside d g.around c.args.frames.now c.args.scopes.now)) c.returns.result (local_of g.around c.returns.new.frames c.returns.new.scopes)) (sym c.in-Returns.is) (c.returns.ensures.moved s d)
+returns-in-Returns-clause-moved g c =
+    with_ok _ _ c.returns.result
+    (λ w h s d sees agrees. subst (λ st. IsMove (come g.around.spots st s (control_of g.around c.args.frames.now) (beside d g.around c.args.frames.now c.args.scopes.now)) w (local_of g.around c.returns.new.frames c.returns.new.scopes)) (sym c.in-Returns.is) (h s d agrees))
+    c.returns.ensures.moved
 
 pub returns-in-Jumps-clause-moved : goal.returns-in-Jumps-clause-moved
 returns-in-Jumps-clause-moved g c =
     with_ok _ _ c.jump.result
-    (λ w h s d sees agrees. subst (λ st. IsMove (come g.around.spots st s (control_of g.around c.args.frames.now) (beside d g.around c.args.frames.now c.args.scopes.now)) w (local_of g.around c.jump.new.frames c.jump.new.scopes)) (sym c.in-Jumps.is) (h s d))
+    (λ w h s d sees agrees. subst (λ st. IsMove (come g.around.spots st s (control_of g.around c.args.frames.now) (beside d g.around c.args.frames.now c.args.scopes.now)) w (local_of g.around c.jump.new.frames c.jump.new.scopes)) (sym c.in-Jumps.is) (h s d agrees))
     c.jump.ensures.moved
 
 pub returns-in-Assigns-clause-moved : goal.returns-in-Assigns-clause-moved
@@ -49,3 +48,9 @@ returns-in-Assigns-clause-moved g c =
     with_ok _ _ c.assign.result
     (λ w h s d sees agrees. subst (λ st. IsMove (come g.around.spots st s (control_of g.around c.args.frames.now) (beside d g.around c.args.frames.now c.args.scopes.now)) w (local_of g.around c.assign.new.frames c.assign.new.scopes)) (sym c.in-Assigns.is) (h s d sees agrees))
     c.assign.ensures.moved
+
+pub returns-in-Calls-clause-moved : goal.returns-in-Calls-clause-moved
+returns-in-Calls-clause-moved g c =
+    with_ok _ _ c.call.result
+    (λ w h s d sees agrees. subst (λ st. IsMove (come g.around.spots st s (control_of g.around c.args.frames.now) (beside d g.around c.args.frames.now c.args.scopes.now)) w (local_of g.around c.call.new.frames c.call.new.scopes)) (sym c.in-Calls.is) (h s d agrees))
+    c.call.ensures.moved

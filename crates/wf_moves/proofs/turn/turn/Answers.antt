@@ -8,6 +8,7 @@ use Rattle.wf_frames.specs.declared.frames.Frame.TheVariants as frame
 use Rattle.wf_frames.specs.declared.frames.Left.{Left}
 use Rattle.wf_model.specs.Config.{next_of}
 use Rattle.wf_model.specs.Local.{goes}
+use Rattle.wf_steps.proofs.Performed.{with_ok}
 use Rattle.wf_moves.proofs.Turning.{turn_entered, turn_fits, turn_owned, turn_refused}
 use Rattle.wf_moves.specs.Moved.{IsMove}
 use Rattle.wf_scope.specs.Store.{layers_of}
@@ -16,19 +17,21 @@ use Rattle.wf_value.specs.Plain.{plain}
 use Rattle.wf_value.specs.declared.Value.{Value}
 use Rattle.wf_moves.proofs.turn.turn.Goals as goal
 
-pub raises-requires : goal.raises-requires
-raises-requires g c = (subst (λ o. IsLinked g.around (with_own o (own_of c.args.frames.now)) c.enter.new.scopes) c.in_default-entered.is c.in_ok-entered.ensures.linked, c.in_ok-error.ensures.shallow)
+pub raises_tag-requires : goal.raises_tag-requires
+raises_tag-requires g c = (c.requires.0, record { fits = c.requires.1.0.fits; linked = subst (λ o. IsLinked g.around (with_own false o (own_of c.args.frames.now)) c.enter.new.scopes) c.in_default-entered.is c.in_ok-entered.ensures.linked })
 
 pub returns-in_default-entered-clause-moved : goal.returns-in_default-entered-clause-moved
-returns-in_default-entered-clause-moved g c s d agrees =
+returns-in_default-entered-clause-moved g c =
     let is = c.requires.1.1 in
     let h = held_by g.around c.args.frames.now c.args.scopes.now in
     let names = names_of c.args.body.now.value (plain c.in-Some.both.0) c.args.body.now.index (pos c.args.index) in
     let next : next_of (left_view c.args.left) ≡ Some (plain c.in-Some.both.0, left_view c.in-Some.both.1) = sym c.in_ok-found.ensures ∙ ap (option_map (λ (p : Value × Left). (plain p.0, left_view p.1))) c.in-Some.is in
-    turn_refused g.around.spots c.args.n c.args.left c.args.index (inner c.args.frames.now) s d h c.args.nodes.now is.node c.args.body.now c.requires.0.resolves is.at is.is (plain c.in-Some.both.0) c.in-Some.both.1 next
-    (held_by g.around c.args.frames.now c.enter.new.scopes) c.raises.result (local_of g.around c.raises.new.frames c.raises.new.scopes) c.in_ok-error.error
-    (subst (λ (o : Option ℕ). Enters s o h names (held_of g.around.keys (with_own o (own_of c.args.frames.now)) (layers_of c.enter.new.scopes))) c.in_default-entered.is (c.in_ok-entered.ensures.entered s agrees))
-    c.in_ok-error.ensures.error (c.raises.ensures.moved s d)
+    with_ok _ _ c.raises_tag.result
+    (λ w m s d agrees. turn_refused g.around.spots c.args.n c.args.left c.args.index (inner c.args.frames.now) s d h c.args.nodes.now is.node c.args.body.now c.requires.0.resolves is.at is.is (plain c.in-Some.both.0) c.in-Some.both.1 next
+    (held_by g.around c.args.frames.now c.enter.new.scopes) w (local_of g.around c.raises_tag.new.frames c.raises_tag.new.scopes)
+    (subst (λ (o : Option ℕ). Enters false s o h names (held_of g.around.keys (with_own false o (own_of c.args.frames.now)) (layers_of c.enter.new.scopes))) c.in_default-entered.is (c.in_ok-entered.ensures.entered s agrees))
+    (m s d agrees))
+    c.raises_tag.ensures.moved
 
 pub goes-requires-2 : goal.goes-requires-2
 goes-requires-2 g c =
@@ -41,7 +44,7 @@ goes-requires-2 g c =
         fits = turn_fits g.around.spots c.args.nodes.now c.args.n (c.args.index + 1) layer c.args.body.now c.in-Some.both.1 old (inner c.push.new.self) (inner c.push-2.new.self) (inner c.push-3.new.self) c.requires.1.1
             c.in_ok-push.ensures.pushed c.in_ok-push-2.ensures.pushed c.in_ok-push-3.ensures.pushed c.requires.1.0.fits;
         linked = subst (λ os. IsLinked g.around os c.enter.new.scopes) (sym owned_is)
-            (subst (λ o. IsLinked g.around (with_own o (own_of c.args.frames.now)) c.enter.new.scopes) c.in-Some-entered.is c.in_ok-entered.ensures.linked);
+            (subst (λ o. IsLinked g.around (with_own false o (own_of c.args.frames.now)) c.enter.new.scopes) c.in-Some-entered.is c.in_ok-entered.ensures.linked);
       },
     )
 
@@ -57,6 +60,6 @@ returns-clause-moved g c s d agrees =
     c.in_ok-push.ensures.pushed c.in_ok-push-2.ensures.pushed c.in_ok-push-3.ensures.pushed (c.in_ok-push-3.ensures.first ∙ c.in_ok-push-2.ensures.first ∙ c.in_ok-push.ensures.first) in
     turn_entered g.around.spots c.args.n c.args.left c.args.index old s d h c.args.nodes.now is.node c.args.body.now c.requires.0.resolves is.at is.is (plain c.in-Some.both.0) c.in-Some.both.1 next
     layer (held_of g.around.keys (own layer false ∷ own_of c.args.frames.now) (layers_of c.enter.new.scopes)) c.goes-2.result (local_of g.around c.goes-2.new.frames c.goes-2.new.scopes) (inner c.push-3.new.self)
-    (subst (λ (o : Option ℕ). Enters s o h names (held_of g.around.keys (with_own o (own_of c.args.frames.now)) (layers_of c.enter.new.scopes))) c.in-Some-entered.is (c.in_ok-entered.ensures.entered s agrees))
+    (subst (λ (o : Option ℕ). Enters false s o h names (held_of g.around.keys (with_own false o (own_of c.args.frames.now)) (layers_of c.enter.new.scopes))) c.in-Some-entered.is (c.in_ok-entered.ensures.entered s agrees))
     (c.in_ok-push-3.ensures.pushed ∙ ap (λ fs. frame.Do c.args.n 0 ∷ fs) (c.in_ok-push-2.ensures.pushed ∙ ap (λ fs. frame.Mark layer ∷ fs) c.in_ok-push.ensures.pushed))
     (subst (λ (os : List Own). IsMove (goes (control g.around.spots (inner c.push-3.new.self)) (standing d (held_of g.around.keys os (layers_of c.enter.new.scopes)))) c.goes-2.result (local_of g.around c.goes-2.new.frames c.goes-2.new.scopes)) owned_is (c.goes-2.ensures.moved d))

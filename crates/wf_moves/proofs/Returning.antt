@@ -1,0 +1,139 @@
+-- Returns.
+use Rattle.std.proofs.Common.{◌≡◌, ◌≤◌, ℕ, Bool, true, false, List, [], ◌∷◌, Some, None, refl, sym, ap, subst, ◌∙◌}
+use Rattle.std.specs.Prelude.{Option}
+use Rattle.wf_frames.specs.Fits.{Fits, HasNode, IsCallOf}
+use Rattle.wf_frames.specs.Frames.{body_result, control, is_back, item, result_of, topped}
+use Rattle.wf_frames.specs.Held.{Held, standing}
+use Rattle.wf_frames.specs.Turns.{Leaves, dropped, left_by}
+use Rattle.wf_frames.specs.declared.frames.Frame.{Frame}
+use Rattle.wf_frames.specs.declared.frames.Frame.TheVariants as frame
+use Rattle.wf_model.specs.Config.{Item}
+use Rattle.wf_model.specs.Leave.{given_to, gives, returned, returns, returns_in}
+use Rattle.wf_model.specs.Local.{Branch, Ends, Gives, Iteration, Local, Main, Root, Scene, leave}
+use Rattle.wf_model.specs.Move.{moves}
+use Rattle.wf_model.specs.Unwind.{AtEnd, Stands, to_back}
+use Rattle.wf_moves.proofs.Leaving.{same_outside, stands_on}
+use Rattle.wf_moves.specs.Moved.{IsBackTop, IsMove, back_found, call_of, is_at_back}
+use Rattle.wf_moves.specs.declared.finish.End.TheVariants as end
+use Rattle.wf_moves.specs.declared.finish.Went.{Went}
+use Rattle.wf_moves.specs.declared.finish.Went.TheVariants as went
+use Rattle.wf_nodes.specs.Spots.{Spot, part_at, part_body}
+use Rattle.wf_nodes.specs.declared.node.Node.{Node}
+use Rattle.wf_value.specs.Data.{Data, depth, null}
+use Rattle.wf_value.specs.Pairs.{Text}
+use Rattle.wf_value.specs.Plain.{plain}
+use Rattle.wf_value.specs.declared.Value.{Value}
+
+-- ## To the innermost call
+back_one : (ns : List Spot) (f : Frame) (k : List Item) (l : Local) → is_back f ≡ false → to_back (item ns f ∷ k) l ≡ to_back k (left_by f l)
+back_one ns (frame.Do n at) k l h = refl
+back_one ns (frame.Lone n b) k l h = refl
+back_one ns (frame.Entries n at) k l h = refl
+back_one ns (frame.Then n) k l h = refl
+back_one ns (frame.Loop n w i) k l h = refl
+back_one ns (frame.Try n r d) k l h = refl
+back_one ns (frame.Mark m) k l h = refl
+back_one ns (frame.Back c m) k l h = absurd (cc h)
+
+pub record BackTurned (old new : List Frame) (h g : Held) : Type 0 where
+  pub outside : g.outside ≡ h.outside
+  pub fits : (ns : List Spot) (nodes : List Node) → Fits ns nodes old → Fits ns nodes new
+  pub goes : (ns : List Spot) (c : List Item) → to_back (control ns old) (standing c h) ≡ to_back (control ns new) (standing c g)
+
+pub back_turned : (f : Frame) (b : Bool) (old new : List Frame) (h g : Held) → topped old ≡ Some f → is_back f ≡ false → Leaves b old h new g → BackTurned old new h g
+back_turned f false old new h g t other w = absurd (cc (sym t ∙ ap topped w.0))
+back_turned f true old new h g t other w =
+    let same : w.0 ≡ f = cc (sym (ap topped w.1) ∙ t) in
+    record {
+      outside = ap (λ (y : Held). y.outside) w.2 ∙ same_outside w.0 h;
+      fits = λ ns nodes fit. (let all : Fits ns nodes (w.0 ∷ new) = subst (Fits ns nodes) w.1 fit in all.1);
+      goes = λ ns c. ap (λ fs. to_back (control ns fs) (standing c h)) w.1 ∙ back_one ns w.0 (control ns new) (standing c h) (ap is_back same ∙ other) ∙ ap (λ l. to_back (control ns new) l) (stands_on w.0 c h ∙ ap (standing c) (sym w.2));
+    }
+
+-- where it is, or nowhere
+pub back_here : (ns : List Spot) (f : Frame) (fs : List Frame) (l : Local) → topped fs ≡ Some f → is_back f ≡ true → (to_back (control ns fs) l ≡ back_found ns fs l) × IsBackTop fs
+back_here ns f [] l t h = absurd (cc t)
+back_here ns f (frame.Back c m ∷ fs) l t h = (refl, refl)
+back_here ns f (frame.Do n at ∷ fs) l t h = let same : frame.Do n at ≡ f = cc t in absurd (cc (ap is_back same ∙ h))
+back_here ns f (frame.Lone n b ∷ fs) l t h = let same : frame.Lone n b ≡ f = cc t in absurd (cc (ap is_back same ∙ h))
+back_here ns f (frame.Entries n at ∷ fs) l t h = let same : frame.Entries n at ≡ f = cc t in absurd (cc (ap is_back same ∙ h))
+back_here ns f (frame.Then n ∷ fs) l t h = let same : frame.Then n ≡ f = cc t in absurd (cc (ap is_back same ∙ h))
+back_here ns f (frame.Loop n w i ∷ fs) l t h = let same : frame.Loop n w i ≡ f = cc t in absurd (cc (ap is_back same ∙ h))
+back_here ns f (frame.Try n r d ∷ fs) l t h = let same : frame.Try n r d ≡ f = cc t in absurd (cc (ap is_back same ∙ h))
+back_here ns f (frame.Mark m ∷ fs) l t h = let same : frame.Mark m ≡ f = cc t in absurd (cc (ap is_back same ∙ h))
+
+pub back_nowhere : (ns : List Spot) (fs : List Frame) (l : Local) → topped fs ≡ None → to_back (control ns fs) l ≡ back_found ns fs l
+back_nowhere ns [] l t = refl
+back_nowhere ns (f ∷ fs) l t = absurd (cc t)
+
+-- ## Behind the call
+-- the frames hold no predicate's call
+plain_given : (ns : List Spot) (s : Scene) (r : Option Text) (v : Data) (fs : List Frame) (l : Local) → given_to s r v (control ns fs) l ≡ gives s r v (control ns fs) l
+plain_given ns s r v [] l = refl
+plain_given ns s r v (frame.Do n at ∷ fs) l = refl
+plain_given ns s r v (frame.Lone n b ∷ fs) l = refl
+plain_given ns s r v (frame.Entries n at ∷ fs) l = refl
+plain_given ns s r v (frame.Then n ∷ fs) l = refl
+plain_given ns s r v (frame.Loop n w i ∷ fs) l = refl
+plain_given ns s r v (frame.Try n q d ∷ fs) l = refl
+plain_given ns s r v (frame.Mark m ∷ fs) l = refl
+plain_given ns s r v (frame.Back c m ∷ fs) l = refl
+
+module _ (ns : List Spot) (s : Scene) (v : Data) where
+  pub gives_on : (f : Frame) (b : Bool) (mid new : List Frame) (d : List Item) (k h g : Held) (w : Went) (l : Local) → topped mid ≡ Some f → IsBackTop mid → Leaves b mid h new g
+      → IsMove (gives s (result_of ns (call_of f)) v (control ns new) (standing d g)) w l → IsMove (returned s v (standing d k) (back_found ns mid (standing d h))) w l
+  gives_on f b [] new d k h g w l t top left m = absurd (cc t)
+  gives_on f false (y ∷ fs) new d k h g w l t top left m = absurd (cc left.0)
+  gives_on f true (frame.Back c m0 ∷ fs) new d k h g w l t top left m =
+      let is : frame.Back c m0 ≡ left.0 = cc left.1 in
+      let same : frame.Back c m0 ≡ f = cc t in
+      let rest : fs ≡ new = cc left.1 in
+      let held : g ≡ dropped (frame.Back c m0) h = left.2 ∙ ap (λ y. dropped y h) (sym is) in
+      subst (λ y. IsMove y w l)
+      (ap (λ y. gives s (result_of ns (call_of y)) v (control ns new) (standing d g)) (sym same) ∙ ap (λ (y : Held). gives s (result_of ns c) v (control ns new) (standing d y)) held
+      ∙ ap (λ ys. gives s (result_of ns c) v (control ns ys) (leave (standing d h))) (sym rest) ∙ sym (plain_given ns s (result_of ns c) v fs (leave (standing d h)))) m
+  gives_on f true (frame.Do n at ∷ fs) new d k h g w l t top left m = absurd (cc top)
+  gives_on f true (frame.Lone n b ∷ fs) new d k h g w l t top left m = absurd (cc top)
+  gives_on f true (frame.Entries n at ∷ fs) new d k h g w l t top left m = absurd (cc top)
+  gives_on f true (frame.Then n ∷ fs) new d k h g w l t top left m = absurd (cc top)
+  gives_on f true (frame.Loop n x i ∷ fs) new d k h g w l t top left m = absurd (cc top)
+  gives_on f true (frame.Try n r q ∷ fs) new d k h g w l t top left m = absurd (cc top)
+  gives_on f true (frame.Mark m0 ∷ fs) new d k h g w l t top left m = absurd (cc top)
+
+  -- without a call the task ends
+  pub ends_with : (x : Value) (mid : List Frame) (d c : List Item) (h g : Held) → plain x ≡ v → topped mid ≡ None → depth v ≤ 100 → g.outside ≡ h.outside
+      → IsMove (returned s v (standing d h) (back_found ns mid (standing d g))) (went.Ended (end.Value x)) (standing c g)
+  ends_with x [] d c h g e t deep out = by s.root
+    where
+      by : (r : Root) → IsMove (returns_in r v (standing d h)) (went.Ended (end.Value x)) (standing c g)
+      by Main = (ap Gives (sym e), deep, sym out)
+      by Branch = tt
+      by Iteration = tt
+  ends_with x (f ∷ fs) d c h g e t deep out = absurd (cc t)
+
+-- the node of the call
+pub call_node : (nodes : List Node) (f : Frame) → HasNode nodes f → is_back f ≡ true → IsCallOf nodes (call_of f)
+call_node nodes (frame.Back c k) h e = h
+call_node nodes (frame.Do n at) h e = absurd (cc e)
+call_node nodes (frame.Lone n b) h e = absurd (cc e)
+call_node nodes (frame.Entries n at) h e = absurd (cc e)
+call_node nodes (frame.Then n) h e = absurd (cc e)
+call_node nodes (frame.Loop n w i) h e = absurd (cc e)
+call_node nodes (frame.Try n r d) h e = absurd (cc e)
+call_node nodes (frame.Mark k) h e = absurd (cc e)
+
+pub top_back : (f : Frame) (fs : List Frame) → topped fs ≡ Some f → IsBackTop fs → is_back f ≡ true
+top_back f [] t h = absurd (cc t)
+top_back f (g ∷ fs) t h = let same : g ≡ f = cc t in subst (λ y. is_back y ≡ true) same h
+
+-- ## At the end of a workflow that was called
+pub moves_back : (ns : List Spot) (s : Scene) (fs : List Frame) (l : Local) → is_at_back fs ≡ true → moves s (control ns fs) l ≡ returns s null (control ns fs) l
+moves_back ns s [] l h = absurd (cc h)
+moves_back ns s (frame.Back c k ∷ fs) l h = refl
+moves_back ns s (frame.Do n at ∷ fs) l h = absurd (cc h)
+moves_back ns s (frame.Lone n b ∷ fs) l h = absurd (cc h)
+moves_back ns s (frame.Entries n at ∷ fs) l h = absurd (cc h)
+moves_back ns s (frame.Then n ∷ fs) l h = absurd (cc h)
+moves_back ns s (frame.Loop n w i ∷ fs) l h = absurd (cc h)
+moves_back ns s (frame.Try n r d ∷ fs) l h = absurd (cc h)
+moves_back ns s (frame.Mark k ∷ fs) l h = absurd (cc h)

@@ -1,0 +1,159 @@
+-- Errors that go outward.
+use Rattle.std.proofs.Common.{◌≡◌, ◌≤◌, ◌<◌, ℕ, Bool, true, false, List, [], ◌∷◌, length, Some, None, refl, sym, ap, subst, ◌∙◌, arith}
+use Rattle.std.specs.Prelude.{IfSome, Option, is_none, is_some, suc}
+use Rattle.wf_ast.specs.Tree.{Except, Steps, except, try}
+use Rattle.wf_ast.specs.View.{policy_option_view}
+use Rattle.wf_frames.specs.Fits.{Fits, IsTry, list_at, outside_at, reach, view_outside}
+use Rattle.wf_frames.specs.Frames.{body_try, control, item, own, owned, topped}
+use Rattle.wf_frames.specs.Held.{Held, standing}
+use Rattle.wf_frames.specs.Turns.{Enters, Leaves, dropped, left_by, with_layer}
+use Rattle.wf_frames.specs.declared.frames.Frame.{Frame}
+use Rattle.wf_frames.specs.declared.frames.Frame.TheVariants as frame
+use Rattle.wf_model.specs.Config.{Do, Item, Mark, Try}
+use Rattle.wf_model.specs.Layers.{opened}
+use Rattle.wf_model.specs.Local.{Local, Moved, Scene, goes}
+use Rattle.wf_model.specs.Unwind.{excepted, handled, unwind}
+use Rattle.wf_moves.proofs.Leaving.{stands_on}
+use Rattle.wf_moves.specs.Moved.{Handler, IsTaken, LetsPass, Takes, caught_by}
+use Rattle.wf_nodes.specs.Kinds.{block_view, handler_view, kind_by}
+use Rattle.wf_nodes.specs.Spots.{Spot, owners_at, part_at, part_body, part_list, steps_by}
+use Rattle.wf_nodes.specs.Table.{except_of, handler_list, kind_list, outside}
+use Rattle.wf_nodes.specs.declared.node.ExceptNode.{ExceptNode}
+use Rattle.wf_nodes.specs.declared.node.Node.{Node}
+use Rattle.wf_nodes.specs.declared.node.NodeKind.{NodeKind}
+use Rattle.wf_nodes.specs.declared.node.NodeKind.TheVariants as kind
+use Rattle.wf_nodes.specs.declared.node.TryNode.{TryNode}
+use Rattle.wf_steps.proofs.Parts.{list_is, list_of, tried_body, try_built, view_is}
+use Rattle.wf_steps.specs.Built.{Tells}
+use Rattle.wf_value.specs.Data.{Data, Pairs}
+use Rattle.wf_value.specs.Errors.{error_map}
+use Rattle.wf_value.specs.Pairs.{Text}
+use Rattle.wf_value.specs.declared.Tag.TheVariants.{ResourceLimitError}
+
+none_there : {A : Type 0} (o : Option A) → is_none o ≡ true → o ≡ None
+none_there None h = refl
+none_there (Some x) h = absurd (cc h)
+
+-- a number has one `try`
+pub same_try : (nodes : List Node) (n : ℕ) (t u : TryNode) → IsTry nodes n t → IsTry nodes n u → t ≡ u
+same_try nodes n t u h k = (
+    let same : h.node ≡ k.node = cc (sym h.at ∙ k.at) in
+    cc (sym h.is ∙ ap (λ (x : Node). x.kind) same ∙ k.is)
+    )
+
+module _ (ns : List Spot) (nodes : List Node) (t : Tells ns nodes) where
+  pub no_policy : (n : ℕ) (y : TryNode) → IsTry nodes n y → y.policy ≡ None
+  no_policy n y h = none_there y.policy (try_built nodes n h.node y t.built h.at h.is).0
+
+  try_is : (n : ℕ) (y : TryNode) → IsTry nodes n y → body_try (part_body (part_at ns n)) ≡ try (part_body (part_at ns y.body)) None (except_of ns (handler_view y.except))
+  try_is n y h =
+      ap body_try (tried_body ns nodes n y t.resolves h) ∙ ap (λ p. try (part_body (part_at ns y.body)) (policy_option_view p) (except_of ns (handler_view y.except))) (no_policy n y h)
+
+  -- ## One frame
+  passes_one : (s : Scene) (f : Frame) (k : List Item) (l : Local) (e : Data) → IsTaken nodes f None → unwind s (item ns f ∷ k) l e ≡ unwind s k (left_by f l) e
+  passes_one s (frame.Do n at) k l e h = refl
+  passes_one s (frame.Lone n b) k l e h = refl
+  passes_one s (frame.Entries n at) k l e h = refl
+  passes_one s (frame.Then n) k l e h = refl
+  passes_one s (frame.Loop n w i) k l e h = refl
+  passes_one s (frame.Mark m) k l e h = refl
+  passes_one s (frame.Back c m) k l e h = refl
+  passes_one s (frame.Try n r d) k l e h =
+      let is = try_is n h.tried h.is ∙ ap (λ x. try (part_body (part_at ns h.tried.body)) None (except_of ns (handler_view x))) h.none in
+      ap (λ y. unwind s (Try y r d ∷ k) l e) is
+
+  takes_one : (s : Scene) (f : Frame) (n : ℕ) (k : List Item) (l : Local) (e : Data) → Takes nodes f n → unwind s (item ns f ∷ k) l e ≡ handled s e (body_try (part_body (part_at ns n))) k l (unwind s k l)
+  takes_one s f n k l e h =
+      let is = try_is n h.tried h.is in
+      ap (λ g. unwind s (item ns g ∷ k) l e) h.frame ∙ ap (λ y. unwind s (Try y h.tries h.delay ∷ k) l e) is ∙ sym (ap (λ y. handled s e y k l (unwind s k l)) is)
+
+  -- ## The innermost frame is left
+  pub passes_on : (f : Frame) (b : Bool) (old new : List Frame) (h g : Held) → topped old ≡ Some f → IsTaken nodes f None → Leaves b old h new g
+      → (s : Scene) (c : List Item) (e : Data) → unwind s (control ns old) (standing c h) e ≡ unwind s (control ns new) (standing c g) e
+  passes_on f false old new h g p q w s c e = absurd (cc (sym p ∙ ap topped w.0))
+  passes_on f true old new h g p q w s c e =
+      let same : w.0 ≡ f = cc (sym (ap topped w.1) ∙ p) in
+      ap (λ fs. unwind s (control ns fs) (standing c h) e) w.1 ∙ passes_one s w.0 (control ns new) (standing c h) e (subst (λ y. IsTaken nodes y None) (sym same) q)
+      ∙ ap (λ l. unwind s (control ns new) l e) (stands_on w.0 c h ∙ ap (standing c) (sym w.2))
+
+  pub takes_on : (f : Frame) (n : ℕ) (b : Bool) (old new : List Frame) (h g : Held) → topped old ≡ Some f → Takes nodes f n → Leaves b old h new g
+      → (s : Scene) (c : List Item) (e : Data) → unwind s (control ns old) (standing c h) e ≡ handled s e (body_try (part_body (part_at ns n))) (control ns new) (standing c g) (unwind s (control ns new) (standing c g))
+  takes_on f n false old new h g p q w s c e = absurd (cc (sym p ∙ ap topped w.0))
+  takes_on f n true old new h g p q w s c e =
+      let same : w.0 ≡ f = cc (sym (ap topped w.1) ∙ p) in
+      let is : w.0 ≡ frame.Try n q.tries q.delay = same ∙ q.frame in
+      let held : h ≡ g = sym (w.2 ∙ ap (λ y. dropped y h) is) in
+      ap (λ fs. unwind s (control ns fs) (standing c h) e) w.1 ∙ takes_one s w.0 n (control ns new) (standing c h) e (record { tries = q.tries; delay = q.delay; frame = is; tried = q.tried; except = q.except; is = q.is; has = q.has })
+      ∙ ap (λ (y : Held). handled s e (body_try (part_body (part_at ns n))) (control ns new) (standing c y) (unwind s (control ns new) (standing c y))) held
+
+  pub takes_inside : (f : Frame) (n : ℕ) (b : Bool) (old new : List Frame) (h g : Held) → topped old ≡ Some f → Takes nodes f n → Leaves b old h new g → Fits ns nodes old → owners_at ns n ≡ reach new
+  takes_inside f n false old new h g p q w fits = absurd (cc (sym p ∙ ap topped w.0))
+  takes_inside f n true old new h g p q w fits =
+      let same : w.0 ≡ f = cc (sym (ap topped w.1) ∙ p) in
+      let all : Fits ns nodes (frame.Try n q.tries q.delay ∷ new) = subst (λ y. Fits ns nodes (y ∷ new)) (same ∙ q.frame) (subst (Fits ns nodes) w.1 fits) in
+      all.0.1
+
+  pub handler_is : (f : Frame) (n : ℕ) → Takes nodes f n → Handler nodes n
+  handler_is f n q = record { tried = q.tried; except = q.except; is = q.is; policy = no_policy n q.tried q.is; has = q.has }
+
+  -- ## Where one was looked for
+  pub caught_on : (f : Frame) (o : Option ℕ) (b : Bool) (old new : List Frame) (h g : Held) → topped old ≡ Some f → is_some o ≡ true → IsTaken nodes f o → Leaves b old h new g
+      → (s : Scene) (c : List Item) (e : Data) → unwind s (control ns old) (standing c h) e ≡ caught_by ns o s e (control ns new) (standing c g)
+  caught_on f None b old new h g p t q w s c e = absurd (cc t)
+  caught_on f (Some n) b old new h g p t q w s c e = takes_on f n b old new h g p q w s c e
+
+  pub some_handler : (f : Frame) (o : Option ℕ) → is_some o ≡ true → IsTaken nodes f o → IfSome o (Handler nodes)
+  some_handler f None t q = absurd (cc t)
+  some_handler f (Some n) t q = handler_is f n q
+
+  pub some_inside : (f : Frame) (o : Option ℕ) (b : Bool) (old new : List Frame) (h g : Held) → topped old ≡ Some f → is_some o ≡ true → IsTaken nodes f o → Leaves b old h new g → Fits ns nodes old → IfSome o (λ n. owners_at ns n ≡ reach new)
+  some_inside f None b old new h g p t q w fits = absurd (cc t)
+  some_inside f (Some n) b old new h g p t q w fits = takes_inside f n b old new h g p q w fits
+
+  -- ## The steps that take the error
+  module _ (n : ℕ) (y : Handler nodes n) where
+    handler_try : body_try (part_body (part_at ns n)) ≡ try (part_body (part_at ns y.tried.body)) None (except y.except.name (steps_by ns y.except.block.steps.items))
+    handler_try = try_is n y.tried y.is ∙ ap (λ x. try (part_body (part_at ns y.tried.body)) None (except_of ns (handler_view x))) y.has
+
+    handler_at : list_at nodes n ≡ Some (block_view y.except.block)
+    handler_at =
+        list_of nodes n y.is.node y.is.at ∙ ap (λ (k : NodeKind). kind_list (kind_by y.is.node.codes.items.items k)) y.is.is ∙ ap (λ x. handler_list (handler_view x)) y.has
+
+    handler_steps : part_list (part_at ns n) ≡ steps_by ns y.except.block.steps.items
+    handler_steps = list_is ns nodes n (block_view y.except.block) t.resolves handler_at
+
+    handled_so : (s : Scene) (e : Data) (k : List Item) (l : Local) (f : Data → Moved) → handled s e (body_try (part_body (part_at ns n))) k l f ≡ excepted (opened s l ((y.except.name, e) ∷ [])) (steps_by ns y.except.block.steps.items) k l f
+    handled_so s e k l f = ap (λ z. handled s e z k l f) handler_try
+
+    pub handled_in : (s : Scene) (c : List Item) (e : Data) (layer : ℕ) (old new : List Frame) (h g : Held) (f : Data → Moved) → Enters false s (Some layer) h ((y.except.name, e) ∷ []) g → new ≡ frame.Do n 0 ∷ frame.Mark layer ∷ old
+        → handled s e (body_try (part_body (part_at ns n))) (control ns old) (standing c h) f ≡ goes (control ns new) (standing c g)
+    handled_in s c e layer old new h g f q p =
+        handled_so s e (control ns old) (standing c h) f
+        ∙ ap (λ r. excepted r (steps_by ns y.except.block.steps.items) (control ns old) (standing c h) f) q.1
+        ∙ ap (λ ss. goes (Do ss ss ∷ Mark ∷ control ns old) (standing c (with_layer false q.0 h))) (sym handler_steps)
+        ∙ ap (λ fs. goes (control ns fs) (standing c (with_layer false q.0 h))) (sym p) ∙ ap (λ (z : Held). goes (control ns new) (standing c z)) (sym q.2)
+
+    pub handled_out : (s : Scene) (c : List Item) (e : Data) (old : List Frame) (h g : Held) → Enters false s None h ((y.except.name, e) ∷ []) g
+        → handled s e (body_try (part_body (part_at ns n))) (control ns old) (standing c h) (unwind s (control ns old) (standing c h)) ≡ unwind s (control ns old) (standing c g) (error_map ResourceLimitError)
+    handled_out s c e old h g q =
+        handled_so s e (control ns old) (standing c h) (unwind s (control ns old) (standing c h))
+        ∙ ap (λ r. excepted r (steps_by ns y.except.block.steps.items) (control ns old) (standing c h) (unwind s (control ns old) (standing c h))) q.0
+        ∙ ap (λ (z : Held). unwind s (control ns old) (standing c z) (error_map ResourceLimitError)) (sym q.1)
+
+    pub handler_fits : (layer : ℕ) (old mid new : List Frame) → owners_at ns n ≡ reach old → mid ≡ frame.Mark layer ∷ old → new ≡ frame.Do n 0 ∷ mid → Fits ns nodes old → Fits ns nodes new
+    handler_fits layer old mid new inside m e fits =
+        let out : outside_at ns nodes n ≡ owners_at ns n = ap (λ o. view_outside o (owners_at ns n)) (view_is nodes n y.is.node y.is.at) ∙ ap (λ (k : NodeKind). outside (kind_by y.is.node.codes.items.items k) (owners_at ns n)) y.is.is in
+        let all : new ≡ frame.Do n 0 ∷ frame.Mark layer ∷ old = e ∙ ap (λ fs. frame.Do n 0 ∷ fs) m in
+        subst (Fits ns nodes) (sym all) (((block_view y.except.block, handler_at, omega arith), out ∙ inside), ((tt, tt), fits))
+
+pub handler_owned : (p q n layer : ℕ) (old mid new : List Frame) → mid ≡ frame.Mark layer ∷ old → new ≡ frame.Do n 0 ∷ mid → q ≡ p → owned q new ≡ own layer false ∷ owned p old
+handler_owned p q n layer old mid new m e same = ap (λ (k : ℕ). owned k new) same ∙ ap (owned p) (e ∙ ap (λ fs. frame.Do n 0 ∷ fs) m)
+
+-- ## Fewer frames
+pub fewer_by : (b : Bool) (f : Frame) (old new : List Frame) (h g : Held) → topped old ≡ Some f → Leaves b old h new g → length new < length old
+fewer_by false f old new h g p w = absurd (cc (sym p ∙ ap topped w.0))
+fewer_by true f old new h g p w = let e = ap length w.1 in omega (arith, e)
+
+pub some_fewer : (o : Option ℕ) (new old start : List Frame) → length new < length old → length old ≤ length start → IfSome o (λ n. length new < length start)
+some_fewer None new old start h k = tt
+some_fewer (Some n) new old start h k = omega (arith, h, k)

@@ -1,0 +1,46 @@
+use Rattle.std.proofs.Common.{◌≡◌, ℕ, refl, sym, ap, subst, ◌∙◌}
+use Rattle.std.specs.Prelude.{Option}
+use Rattle.wf_frames.specs.Fits.{IsCallOf}
+use Rattle.wf_frames.specs.Frames.{inner, result_of}
+use Rattle.wf_frames.specs.Owned.{beside, control_of, held_by, local_of}
+use Rattle.wf_model.specs.Leave.{gives, returned}
+use Rattle.wf_model.specs.Unwind.{Found}
+use Rattle.wf_moves.proofs.Leaving.{fits_after, top_node}
+use Rattle.wf_moves.proofs.Returning.{call_node, ends_with, gives_on, top_back}
+use Rattle.wf_moves.specs.Moved.{IsMove}
+use Rattle.wf_moves.specs.declared.finish.End.TheVariants as end
+use Rattle.wf_moves.specs.declared.finish.Went.TheVariants as went
+use Rattle.wf_steps.proofs.Performed.{with_ok}
+use Rattle.wf_value.specs.Plain.{plain}
+use Rattle.wf_moves.proofs.back.returns.Goals as goal
+
+pub give-requires : goal.give-requires
+give-requires g c =
+    let mid = c.leave_to_back.ensures.fits c.args.nodes.now c.requires.1.0.fits in
+    let node = call_node c.args.nodes.now c.in-Some.frame.now (top_node g.around.spots c.args.nodes.now c.in-Some.frame.now (inner c.leave_to_back.new.frames) c.in-Some.ensures mid)
+    (top_back c.in-Some.frame.now (inner c.leave_to_back.new.frames) c.in-Some.ensures c.leave_to_back.ensures.top) in (
+      c.requires.0,
+      (
+        record {
+          fits = fits_after g.around.spots c.args.nodes.now c.leave.result (inner c.leave_to_back.new.frames) (inner c.leave.new.frames) (held_by g.around c.leave_to_back.new.frames c.leave_to_back.new.scopes) (held_by g.around c.leave.new.frames c.leave.new.scopes) c.leave.ensures.left mid;
+          linked = c.leave.ensures.linked;
+        },
+        subst (IsCallOf c.args.nodes.now) (sym c.call_of-call.ensures) node,
+      ),
+    )
+
+pub returns-in-None-clause-moved : goal.returns-in-None-clause-moved
+returns-in-None-clause-moved g c s d agrees =
+    subst (λ (f : Found). IsMove (returned s (plain c.args.value) (beside d g.around c.args.frames.now c.args.scopes.now) f) (went.Ended (end.Value c.args.value)) (local_of g.around c.leave_to_back.new.frames c.leave_to_back.new.scopes)) (sym (c.leave_to_back.ensures.found d))
+    (ends_with g.around.spots s (plain c.args.value) c.args.value (inner c.leave_to_back.new.frames) d (control_of g.around c.leave_to_back.new.frames) (held_by g.around c.args.frames.now c.args.scopes.now) (held_by g.around c.leave_to_back.new.frames c.leave_to_back.new.scopes)
+    refl c.in-None.ensures c.requires.1.1 c.leave_to_back.ensures.outside)
+
+pub returns-in-Some-clause-moved : goal.returns-in-Some-clause-moved
+returns-in-Some-clause-moved g c =
+    with_ok _ _ c.give.result
+    (λ w h s d agrees.
+    subst (λ (f : Found). IsMove (returned s (plain c.args.value) (beside d g.around c.args.frames.now c.args.scopes.now) f) w (local_of g.around c.give.new.frames c.give.new.scopes)) (sym (c.leave_to_back.ensures.found d))
+    (gives_on g.around.spots s (plain c.args.value) c.in-Some.frame.now c.leave.result (inner c.leave_to_back.new.frames) (inner c.leave.new.frames) d (held_by g.around c.args.frames.now c.args.scopes.now) (held_by g.around c.leave_to_back.new.frames c.leave_to_back.new.scopes) (held_by g.around c.leave.new.frames c.leave.new.scopes)
+    w (local_of g.around c.give.new.frames c.give.new.scopes) c.in-Some.ensures c.leave_to_back.ensures.top c.leave.ensures.left
+    (subst (λ (o : Option ℕ). IsMove (gives s (result_of g.around.spots o) (plain c.args.value) (control_of g.around c.leave.new.frames) (beside d g.around c.leave.new.frames c.leave.new.scopes)) w (local_of g.around c.give.new.frames c.give.new.scopes)) c.call_of-call.ensures (h s d agrees))))
+    c.give.ensures.moved

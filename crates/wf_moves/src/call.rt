@@ -1,0 +1,132 @@
+// Calls of workflows.
+ghost use Rattle.std.specs.Prelude.{◌≡◌, IfOk, List, OnOk, Some, map, option_map};
+ghost use Rattle.wf_ast.specs.View.{param_view};
+ghost use Rattle.wf_frames.specs.Fits.{IsCall};
+ghost use Rattle.wf_frames.specs.Bound.{bindings_of};
+ghost use Rattle.wf_frames.specs.Frames.{body_result, inner};
+ghost use Rattle.wf_frames.specs.Owned.{Around, control_of, held_by};
+ghost use Rattle.wf_frames.specs.Stands.{Stands};
+ghost use Rattle.wf_model.specs.Calls as calls;
+ghost use Rattle.wf_moves.specs.Moved.{IsLeft, MovesBy};
+ghost use Rattle.wf_moves.specs.Tasks.{IsFlow, flow_at};
+ghost use Rattle.wf_nodes.specs.Spots.{part_at, part_body};
+ghost use Rattle.wf_nodes.specs.declared.node.CallNode as call_node;
+ghost use Rattle.wf_steps.specs.Built.{AreTargets, Tells};
+ghost use Rattle.wf_steps.specs.Steps.{calls_by};
+ghost use Rattle.wf_value.specs.Data.{pairs_of};
+ghost use Rattle.wf_value.specs.Plain.{plain};
+
+use crate::finish::{Went, goes};
+use crate::start::params;
+use crate::unwind::raises_tag;
+use std::alloc::Global;
+use wf_ast::Param;
+use wf_frames::{Bindings, Frame, Frames, enter_call};
+use wf_nodes::Node;
+use wf_scope::Scopes;
+use wf_value::{Map, OutOfMemory, Tag, Value};
+
+/// How many calls of workflows may stand in each other.
+const CALL_LIMIT: usize = 20;
+
+// What an argument gives a parameter, and else its default.
+fn value_for(alloc: Global, param: &Param, args: &Map) -> Result<Option<Value>, OutOfMemory>
+    ensures { IfOk result (λ o. option_map plain o
+        ≡ calls.value_for (param_view param.now) (pairs_of args.now)) }
+{
+    if let Some(value) = args.get(param.name.as_str()) {
+        return Ok(Some(value.copy(alloc)?));
+    }
+    match &param.default {
+        Some(value) => Ok(Some(value.copy(alloc)?)),
+        None => Ok(None),
+    }
+}
+
+// The parameters with their values; none where one has no value.
+fn bindings(
+    alloc: Global,
+    params: &[Param],
+    args: &Map,
+) -> Result<Option<Bindings>, OutOfMemory>
+    ensures { IfOk result (λ o. option_map bindings_of o
+        ≡ calls.given (map param_view params.now) (pairs_of args.now)) }
+{
+    let mut bindings = Bindings::new(alloc);
+    let mut at = params.len();
+    while at > 0 {
+        at -= 1;
+        let param = &params[at];
+        let found = value_for(alloc, param, args)?;
+        let Some(value) = found else {
+            return Ok(None);
+        };
+        bindings.put_first(param.name.copy()?, value)?;
+    }
+    Ok(Some(bindings))
+}
+
+// The call of a step begins the workflow of this number, with its parameters in a layer of their own.
+fn begin(
+    alloc: Global,
+    nodes: &[Node],
+    n: u32,
+    flow: u32,
+    bindings: Bindings,
+    frames: &mut Frames,
+    scopes: &mut Scopes,
+) -> Result<Went, OutOfMemory>
+    ghost around: { Around }
+    requires tells { Tells around.spots nodes.now }
+    requires stands { Stands around nodes.now frames.old scopes.old }
+    requires call { (f : call_node.CallNode) × IsCall nodes.now n f }
+    requires flow { IsFlow nodes.now flow }
+    ensures moved { IfOk result (λ w. MovesBy around
+        (λ s l. calls.calls_with s (flow_at (part_at around.spots flow))
+        (body_result (part_body (part_at around.spots n))) (Some (bindings_of bindings))
+        (control_of around frames.old) l)
+        (held_by around frames.old scopes.old) w frames.new scopes.new) }
+    ensures stands { OnOk result (Stands around nodes.now frames.new scopes.new) }
+    ensures left { IfOk result (λ w. IsLeft nodes.now w (inner frames.new)) }
+{
+    if frames.calls() >= CALL_LIMIT {
+        return raises_tag(alloc, nodes, frames, scopes, Tag::RecursionError);
+    }
+    match enter_call(frames, scopes, bindings)? {
+        Some(layer) => {
+            frames.push(Frame::Back(Some(n), layer))?;
+            frames.push(Frame::Do(flow, 0))?;
+            Ok(goes(frames, nodes, scopes))
+        }
+        None => raises_tag(alloc, nodes, frames, scopes, Tag::ResourceLimitError),
+    }
+}
+
+/// The call of a step, with its arguments. `targets` has the number of the workflow at the call's own.
+pub(crate) fn call(
+    alloc: Global,
+    nodes: &[Node],
+    targets: &[u32],
+    n: u32,
+    args: &Map,
+    frames: &mut Frames,
+    scopes: &mut Scopes,
+) -> Result<Went, OutOfMemory>
+    ghost around: { Around }
+    requires tells { Tells around.spots nodes.now }
+    requires targets { AreTargets around.flows around.spots nodes.now targets.now }
+    requires stands { Stands around nodes.now frames.old scopes.old }
+    requires call { (f : call_node.CallNode) × IsCall nodes.now n f }
+    ensures moved { IfOk result (λ w. MovesBy around
+        (λ s l. calls_by s (part_body (part_at around.spots n)) (pairs_of args.now)
+        (control_of around frames.old) l)
+        (held_by around frames.old scopes.old) w frames.new scopes.new) }
+    ensures stands { OnOk result (Stands around nodes.now frames.new scopes.new) }
+    ensures left { IfOk result (λ w. IsLeft nodes.now w (inner frames.new)) }
+{
+    let flow = targets[n as usize];
+    match bindings(alloc, params(nodes, flow), args)? {
+        Some(bindings) => begin(alloc, nodes, n, flow, bindings, frames, scopes),
+        None => Ok(goes(frames, nodes, scopes)),
+    }
+}
