@@ -1,5 +1,5 @@
 -- Assignments.
-use Rattle.std.proofs.Common.{◌≡◌, inl, inr, ℕ, Bool, true, false, List, [], ◌∷◌, map, take, Option, Some, None, Ok, Err, refl, sym, ap, subst, ◌∙◌, zero, suc, arith}
+use Rattle.std.proofs.Common.{◌≡◌, inl, inr, ℕ, Bool, true, false, List, [], ◌∷◌, map, take, Some, None, Ok, Err, refl, sym, ap, subst, ◌∙◌, zero, suc}
 use Rattle.std.specs.Prelude.{◌⊎◌, ◌&&◌, if◌then◌else◌, nat_le, Vec}
 use Rattle.std.specs.declared.alloc.Global.{Global}
 use Rattle.std.proofs.lemmas.Bool.{and_parts}

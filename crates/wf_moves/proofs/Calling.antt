@@ -1,6 +1,6 @@
 -- Calls of workflows.
-use Rattle.std.proofs.Common.{◌≡◌, ◌≤◌, ◌<◌, ℕ, ◌+◌, Bool, true, false, List, [], ◌∷◌, length, drop, Some, None, refl, sym, ap, subst, ◌∙◌, arith}
-use Rattle.std.specs.Prelude.{Option, cond, get_or, if◌then◌else◌, is_some, nat_le, option_map, slice_get, suc, zero}
+use Rattle.std.proofs.Common.{◌≡◌, ◌≤◌, ◌<◌, ℕ, Bool, true, false, List, [], ◌∷◌, length, Some, None, refl, sym, ap, subst, ◌∙◌, arith}
+use Rattle.std.specs.Prelude.{Option, get_or, if◌then◌else◌, is_some, nat_le, option_map, slice_get, suc, zero}
 use Rattle.std.proofs.lemmas.Option.{get_or_from_slice_get, slice_get_within}
 use Rattle.std.proofs.lemmas.Bool.{leb-true, leb-false}
 use Rattle.wf_ast.specs.Flows.{flow}
@@ -25,7 +25,7 @@ use Rattle.wf_scope.proofs.Writing.{pairs_listed}
 use Rattle.wf_value.specs.Maps.{value_at}
 use Rattle.wf_value.specs.Plain.{plain}
 use Rattle.wf_value.specs.declared.Value.{Value}
-use Rattle.wf_frames.specs.Frames.{calls_of, control, is_back, item, own, owned, result_of}
+use Rattle.wf_frames.specs.Frames.{calls_of, control, own, owned, result_of}
 use Rattle.wf_frames.specs.declared.frames.Frame.{Frame}
 use Rattle.wf_frames.specs.declared.frames.Frame.TheVariants as frame
 use Rattle.wf_model.specs.Calls.{all_params, bindings, calls_named, calls_with, given, value_for}
@@ -36,7 +36,7 @@ use Rattle.wf_model.specs.Local.{Local, Scene, goes}
 use Rattle.wf_model.specs.Unwind.{calls_in}
 use Rattle.wf_moves.specs.Moved.{IsMove}
 use Rattle.wf_moves.specs.declared.finish.Went.{Went}
-use Rattle.wf_nodes.specs.Spots.{FlowAt, NoPart, Part, Spot, owners_at, part_at, part_list, spot_part}
+use Rattle.wf_nodes.specs.Spots.{FlowAt, Part, Spot, owners_at, part_at, part_list, spot_part}
 use Rattle.wf_steps.specs.Built.{IsTarget, flow_part, target_part}
 use Rattle.wf_value.specs.Data.{Data, Pairs, pairs_of}
 use Rattle.wf_value.specs.Errors.{error_map}

@@ -1,9 +1,9 @@
 -- The way of a jump.
-use Rattle.std.proofs.Common.{◌≡◌, ℕ, ◌<◌, ◌≤◌, Bool, true, false, List, [], ◌∷◌, length, Some, None, refl, sym, ap, subst, ◌∙◌, arith}
+use Rattle.std.proofs.Common.{◌≡◌, ℕ, ◌≤◌, Bool, true, false, List, [], ◌∷◌, length, Some, None, refl, sym, ap, subst, ◌∙◌, arith}
 use Rattle.std.proofs.lemmas.Bool.{eqb-true, eq-eqb}
 use Rattle.std.proofs.lemmas.Option.{slice_get-map, slice_get_within}
 use mathlib.Core.Logic.{inl, inr}
-use Rattle.std.specs.Prelude.{◌⊎◌, suc, Option, slice_get, nat_eq, if◌then◌else◌, bytes_eq, codes, is_ok, is_some, OnOk, Result, Ok, Err}
+use Rattle.std.specs.Prelude.{suc, slice_get, nat_eq, if◌then◌else◌, bytes_eq, codes, is_ok, is_some, OnOk, Result, Ok, Err}
 use Rattle.wf_ast.specs.Accept.{BreakOutsideLoop}
 use Rattle.wf_frames.specs.Fits.{Fits, FrameFits, list_at, outside_at, reach, views}
 use Rattle.wf_frames.specs.Frames.{control, item, topped}

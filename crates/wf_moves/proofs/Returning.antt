@@ -1,23 +1,23 @@
 -- Returns.
-use Rattle.std.proofs.Common.{◌≡◌, ◌≤◌, ℕ, Bool, true, false, List, [], ◌∷◌, Some, None, refl, sym, ap, subst, ◌∙◌}
+use Rattle.std.proofs.Common.{◌≡◌, ◌≤◌, Bool, true, false, List, [], ◌∷◌, Some, None, refl, sym, ap, subst, ◌∙◌}
 use Rattle.std.specs.Prelude.{Option}
 use Rattle.wf_frames.specs.Fits.{Fits, HasNode, IsCallOf}
-use Rattle.wf_frames.specs.Frames.{body_result, control, is_back, item, result_of, topped}
+use Rattle.wf_frames.specs.Frames.{control, is_back, item, result_of, topped}
 use Rattle.wf_frames.specs.Held.{Held, standing}
 use Rattle.wf_frames.specs.Turns.{Leaves, dropped, left_by}
 use Rattle.wf_frames.specs.declared.frames.Frame.{Frame}
 use Rattle.wf_frames.specs.declared.frames.Frame.TheVariants as frame
 use Rattle.wf_model.specs.Config.{Item}
 use Rattle.wf_model.specs.Leave.{given_to, gives, returned, returns, returns_in}
-use Rattle.wf_model.specs.Local.{Branch, Ends, Gives, Iteration, Local, Main, Root, Scene, leave}
+use Rattle.wf_model.specs.Local.{Branch, Gives, Iteration, Local, Main, Root, Scene, leave}
 use Rattle.wf_model.specs.Move.{moves}
-use Rattle.wf_model.specs.Unwind.{AtEnd, Stands, to_back}
+use Rattle.wf_model.specs.Unwind.{to_back}
 use Rattle.wf_moves.proofs.Leaving.{same_outside, stands_on}
 use Rattle.wf_moves.specs.Moved.{IsBackTop, IsMove, back_found, call_of, is_at_back}
 use Rattle.wf_moves.specs.declared.finish.End.TheVariants as end
 use Rattle.wf_moves.specs.declared.finish.Went.{Went}
 use Rattle.wf_moves.specs.declared.finish.Went.TheVariants as went
-use Rattle.wf_nodes.specs.Spots.{Spot, part_at, part_body}
+use Rattle.wf_nodes.specs.Spots.{Spot}
 use Rattle.wf_nodes.specs.declared.node.Node.{Node}
 use Rattle.wf_value.specs.Data.{Data, depth, null}
 use Rattle.wf_value.specs.Pairs.{Text}

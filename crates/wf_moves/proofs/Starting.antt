@@ -1,9 +1,9 @@
 -- A task at the start of a workflow.
-use Rattle.std.proofs.Common.{◌≡◌, ℕ, ◌+◌, ◌<◌, ◌≤◌, Bool, true, false, List, [], ◌∷◌, length, Option, Some, None, refl, sym, ap, subst, ◌∙◌, arith}
+use Rattle.std.proofs.Common.{◌≡◌, ℕ, ◌+◌, ◌<◌, Bool, true, false, List, [], ◌∷◌, length, Some, None, refl, sym, ap, subst, ◌∙◌, arith}
 use Rattle.std.specs.Prelude.{if◌then◌else◌, is_some, nat_eq, slice_get}
 use Rattle.wf_ast.specs.Tree.{Param}
 use Rattle.wf_frames.proofs.Sums.{SumIs}
-use Rattle.wf_frames.specs.Fits.{Fits, list_at, outside_at, view_at, view_outside}
+use Rattle.wf_frames.specs.Fits.{Fits, list_at, outside_at, view_outside}
 use Rattle.wf_frames.specs.Frames.{control, own, topped}
 use Rattle.wf_frames.specs.Held.{standing}
 use Rattle.wf_frames.specs.Owned.{Around, IsLinked, Linked, held_of}

@@ -1,5 +1,5 @@
 -- The turns of a loop.
-use Rattle.std.proofs.Common.{◌≡◌, ℕ, ◌+◌, ◌<◌, false, List, [], ◌∷◌, drop, length, get_or, Some, None, Ok, Err, refl, sym, ap, subst, ◌∙◌, arith, add-one}
+use Rattle.std.proofs.Common.{◌≡◌, ℕ, ◌+◌, ◌<◌, false, List, [], ◌∷◌, drop, length, get_or, Some, None, refl, sym, ap, subst, ◌∙◌, arith, add-one}
 use Rattle.std.specs.Prelude.{zero, suc, pos, Option, slice_get}
 use Rattle.wf_ast.specs.Apply.{View}
 use Rattle.wf_ast.specs.Tree.{Body, LoopBody, loop}
@@ -14,7 +14,7 @@ use Rattle.wf_frames.specs.declared.frames.Left as declared
 use Rattle.wf_model.specs.Config.{Item, Do, Loop, Mark, OfList, next_of}
 use Rattle.wf_model.specs.Layers.{opened, view}
 use Rattle.wf_model.specs.Leave.{on, raises}
-use Rattle.wf_model.specs.Local.{Local, Scene, Moved, goes}
+use Rattle.wf_model.specs.Local.{Local, Scene, goes}
 use Rattle.wf_model.specs.Move.{loop_names, moves, turns}
 use Rattle.wf_steps.proofs.Parts.{as_part, list_of, view_is}
 use Rattle.wf_moves.specs.Moved.{IsMove}
@@ -24,7 +24,7 @@ use Rattle.wf_scope.specs.Tasks.{Own}
 use Rattle.wf_scope.specs.declared.layer.Layer.{Layer}
 use Rattle.wf_moves.specs.declared.finish.Went.{Went}
 use Rattle.wf_nodes.specs.Kinds.{block_view, kind_by, node_view, over_by}
-use Rattle.wf_nodes.specs.Spots.{Spot, BodyAt, Part, owners_at, part_at, part_body, part_list, steps_by}
+use Rattle.wf_nodes.specs.Spots.{Spot, BodyAt, owners_at, part_at, part_body, part_list, steps_by}
 use Rattle.wf_nodes.specs.Table.{Resolves, kind_list, outside}
 use Rattle.wf_nodes.specs.declared.node.LoopNode.{LoopNode}
 use Rattle.wf_nodes.specs.declared.node.Node.{Node}

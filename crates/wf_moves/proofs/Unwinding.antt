@@ -1,7 +1,7 @@
 -- Errors that go outward.
 use Rattle.std.proofs.Common.{◌≡◌, ◌≤◌, ◌<◌, ℕ, Bool, true, false, List, [], ◌∷◌, length, Some, None, refl, sym, ap, subst, ◌∙◌, arith}
-use Rattle.std.specs.Prelude.{IfSome, Option, is_none, is_some, suc}
-use Rattle.wf_ast.specs.Tree.{Except, Steps, except, try}
+use Rattle.std.specs.Prelude.{IfSome, Option, is_none, is_some}
+use Rattle.wf_ast.specs.Tree.{except, try}
 use Rattle.wf_ast.specs.View.{policy_option_view}
 use Rattle.wf_frames.specs.Fits.{Fits, IsTry, list_at, outside_at, reach, view_outside}
 use Rattle.wf_frames.specs.Frames.{body_try, control, item, own, owned, topped}
@@ -14,20 +14,17 @@ use Rattle.wf_model.specs.Layers.{opened}
 use Rattle.wf_model.specs.Local.{Local, Moved, Scene, goes}
 use Rattle.wf_model.specs.Unwind.{excepted, handled, unwind}
 use Rattle.wf_moves.proofs.Leaving.{stands_on}
-use Rattle.wf_moves.specs.Moved.{Handler, IsTaken, LetsPass, Takes, caught_by}
+use Rattle.wf_moves.specs.Moved.{Handler, IsTaken, Takes, caught_by}
 use Rattle.wf_nodes.specs.Kinds.{block_view, handler_view, kind_by}
 use Rattle.wf_nodes.specs.Spots.{Spot, owners_at, part_at, part_body, part_list, steps_by}
 use Rattle.wf_nodes.specs.Table.{except_of, handler_list, kind_list, outside}
-use Rattle.wf_nodes.specs.declared.node.ExceptNode.{ExceptNode}
 use Rattle.wf_nodes.specs.declared.node.Node.{Node}
 use Rattle.wf_nodes.specs.declared.node.NodeKind.{NodeKind}
-use Rattle.wf_nodes.specs.declared.node.NodeKind.TheVariants as kind
 use Rattle.wf_nodes.specs.declared.node.TryNode.{TryNode}
 use Rattle.wf_steps.proofs.Parts.{list_is, list_of, tried_body, try_built, view_is}
 use Rattle.wf_steps.specs.Built.{Tells}
-use Rattle.wf_value.specs.Data.{Data, Pairs}
+use Rattle.wf_value.specs.Data.{Data}
 use Rattle.wf_value.specs.Errors.{error_map}
-use Rattle.wf_value.specs.Pairs.{Text}
 use Rattle.wf_value.specs.declared.Tag.TheVariants.{ResourceLimitError}
 
 none_there : {A : Type 0} (o : Option A) → is_none o ≡ true → o ≡ None

@@ -22,7 +22,7 @@ use Rattle.wf_scope.specs.Layers.{put_at}
 use Rattle.wf_scope.specs.Store.{layers_of}
 use Rattle.wf_scope.specs.declared.layer.Layer.{Layer}
 use Rattle.wf_scope.specs.declared.scopes.Scopes.{Scopes}
-use Rattle.wf_value.specs.Data.{Data, no_pairs}
+use Rattle.wf_value.specs.Data.{Data}
 
 -- ## The start
 -- the node is a workflow

@@ -8,8 +8,6 @@ use Rattle.wf_frames.specs.Frames.{body_entries, control}
 use Rattle.wf_frames.specs.declared.frames.Frame.{Frame}
 use Rattle.wf_frames.specs.declared.frames.Frame.TheVariants as frame
 use Rattle.wf_model.specs.Config.{Do, Entries}
-use Rattle.wf_model.specs.Layers.{view}
-use Rattle.wf_model.specs.Local.{Local, Scene}
 use Rattle.wf_model.specs.Move.{assigns, moves}
 use Rattle.wf_steps.proofs.Parts.{below_get, entries_is, list_is, list_stands, stand_get}
 use Rattle.wf_steps.specs.Steps.{CarriesOut, HasStep, Moves}

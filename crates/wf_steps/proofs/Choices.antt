@@ -14,15 +14,13 @@ use Rattle.wf_nodes.specs.declared.node.Node.{Node}
 use Rattle.wf_nodes.specs.declared.node.NodeKind.{NodeKind}
 use Rattle.wf_nodes.specs.declared.node.NodeKind.TheVariants as kind
 use Rattle.wf_model.specs.Move.{chosen}
-use Rattle.wf_value.specs.Data.{Data, null, boolean}
+use Rattle.wf_value.specs.Data.{null}
 use Rattle.wf_value.specs.Errors.{Answer, ◌>>=◌}
 use Rattle.wf_value.specs.Plain.{plain}
 use Rattle.wf_value.specs.declared.Raise.{Raise}
 use Rattle.wf_value.specs.declared.Raise.TheVariants.{Error, OutOfMemory}
-use Rattle.wf_value.specs.declared.Tag.{Tag}
 use Rattle.wf_value.specs.declared.Tag.TheVariants.{TypeError}
 use Rattle.wf_value.specs.declared.Value.{Value}
-use Rattle.wf_value.specs.declared.Value.TheVariants as value
 use Rattle.wf_value.specs.Pairs.{Text}
 use Rattle.wf_steps.proofs.Parts.{as_part, part_is}
 use Rattle.wf_steps.specs.Built.{Tells}

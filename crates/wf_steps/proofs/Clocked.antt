@@ -1,11 +1,11 @@
 -- Which event a frame's move wants.
-use Rattle.std.proofs.Common.{◌≡◌, ℕ, ◌<◌, ◌≤◌, Bool, true, false, List, [], ◌∷◌, length, get_or, drop, Some, None, refl, sym, ap, subst, ◌∙◌, arith}
+use Rattle.std.proofs.Common.{◌≡◌, ℕ, ◌≤◌, Bool, true, false, List, [], ◌∷◌, length, drop, Some, None, refl, ap, ◌∙◌, arith}
 use Rattle.std.specs.Prelude.{zero, suc, is_some, slice_get, Option}
 use Rattle.std.proofs.lemmas.Option.{get_or_from_slice_get, slice_get_within}
 use Rattle.wf_ast.specs.Flows.{flow}
-use Rattle.wf_ast.specs.Tree.{Flow, Program, no_exprs, no_steps, Scalar}
+use Rattle.wf_ast.specs.Tree.{Flow, Program}
 use Rattle.wf_frames.specs.Fits.{entries_at, list_at}
-use Rattle.wf_frames.specs.Frames.{body_entries, item}
+use Rattle.wf_frames.specs.Frames.{item}
 use Rattle.wf_frames.specs.declared.frames.Frame.TheVariants as frame
 use Rattle.wf_model.specs.Config.{Item, Do, Entries}
 use Rattle.wf_model.specs.Kinds.{Plainly, body_kind, by_clock, call_kind, entry_now, next_kind}
@@ -14,7 +14,7 @@ use Rattle.wf_steps.proofs.Lists.{drop_end, entries_long, from_end}
 use Rattle.wf_steps.proofs.Parts.{as_part, entries_is, list_is, part_is}
 use Rattle.wf_nodes.specs.Kinds.{Listed, entry_by, kind_by}
 use Rattle.wf_nodes.specs.Shapes.{Compiled}
-use Rattle.wf_nodes.specs.Spots.{Spot, entries_by, from, part_at, part_body, part_entry, part_list, steps_by}
+use Rattle.wf_nodes.specs.Spots.{Spot, entries_by, from, part_at, part_body, part_entry, part_list}
 use Rattle.wf_nodes.specs.Table.{Resolves, part_by}
 use Rattle.wf_nodes.specs.declared.node.EntryNode.{EntryNode}
 use Rattle.wf_nodes.specs.declared.node.Node.{Node}

@@ -20,10 +20,10 @@ use Rattle.wf_model.specs.Local.{Local, Scene, Moved}
 use Rattle.wf_model.specs.Move.{over, list_left}
 use Rattle.wf_value.specs.Data.{Data, list, items_of}
 use Rattle.wf_value.specs.Pairs.{items}
-use Rattle.wf_value.specs.Errors.{Answer, ◌>>=◌, error_map}
+use Rattle.wf_value.specs.Errors.{Answer, ◌>>=◌}
 use Rattle.wf_value.specs.Plain.{plain}
 use Rattle.wf_value.specs.declared.Raise.{Raise}
-use Rattle.wf_value.specs.declared.Raise.TheVariants.{Error, OutOfMemory}
+use Rattle.wf_value.specs.declared.Raise.TheVariants.{Error}
 use Rattle.wf_value.specs.declared.Tag.{Tag}
 use Rattle.wf_value.specs.declared.Value.{Value}
 

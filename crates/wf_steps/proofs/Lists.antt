@@ -1,5 +1,5 @@
 -- Lists of steps and entries from a place on.
-use Rattle.std.proofs.Common.{◌≡◌, ℕ, ◌<◌, ◌≤◌, true, List, [], ◌∷◌, length, drop, Some, refl, ap, subst, arith}
+use Rattle.std.proofs.Common.{◌≡◌, ℕ, ◌<◌, ◌≤◌, true, List, [], ◌∷◌, length, drop, refl, ap, subst, arith}
 use Rattle.std.specs.Prelude.{zero, suc, is_some}
 use Rattle.wf_ast.specs.Tree.{Step, Steps, no_steps, more}
 use Rattle.wf_frames.specs.Fits.{HasNode, entries_at, list_at}

@@ -1,21 +1,21 @@
 -- Nodes by their numbers, and the parts that they are.
-use Rattle.std.proofs.Common.{◌≡◌, ℕ, ◌+◌, ◌<◌, ◌≤◌, Bool, true, false, List, [], ◌∷◌, length, drop, get_or, Some, None, refl, sym, ap, subst, ◌∙◌, arith}
+use Rattle.std.proofs.Common.{◌≡◌, ℕ, ◌<◌, Bool, true, false, List, [], ◌∷◌, length, get_or, Some, None, refl, sym, ap, subst, ◌∙◌, arith}
 use Rattle.std.specs.List.{list_all}
 use Rattle.std.specs.Prelude.{◌&&◌, not, zero, suc, is_none, is_some, option_map, slice_get, Option, Vec}
 use Rattle.std.specs.declared.alloc.Global.{Global}
 use Rattle.std.proofs.lemmas.Bool.{and_parts}
 use Rattle.std.proofs.lemmas.Option.{slice_get_read, slice_get_within}
-use Rattle.wf_ast.specs.Tree.{Body, Entry, try}
+use Rattle.wf_ast.specs.Tree.{Body, try}
 use Rattle.wf_ast.specs.View.{policy_option_view}
 use Rattle.wf_frames.specs.Fits.{IsLoop, IsTry, entries_at, has_next, kind_entries, list_at, outside_at, view_at, view_entries, view_outside}
 use Rattle.wf_frames.specs.Frames.{body_entries}
-use Rattle.wf_steps.specs.Built.{Tells, is_node_built, is_table_built, kind_built}
+use Rattle.wf_steps.specs.Built.{is_node_built, is_table_built, kind_built}
 use Rattle.wf_shapes.specs.Built.{are_built}
 use Rattle.wf_nodes.specs.Kinds as view
 use Rattle.wf_nodes.specs.Kinds.{Handler, Kind, Listed, Repeated, Side, View, block_view, handler_view, kind_by, node_view}
 use Rattle.wf_nodes.specs.Shapes.{Compiled}
 use Rattle.wf_nodes.specs.Spots.{Spot, entries_by, owners_at, part_at, part_body, part_list, steps_by}
-use Rattle.wf_nodes.specs.Table.{AreBelow, ListStands, PartsStand, Resolves, StandIn, except_of, handler_list, kind_list, outside, part_by, side_list, view_list}
+use Rattle.wf_nodes.specs.Table.{AreBelow, ListStands, PartsStand, Resolves, StandIn, except_of, kind_list, outside, part_by, view_list}
 use Rattle.wf_nodes.specs.declared.node.LoopNode.{LoopNode}
 use Rattle.wf_nodes.specs.declared.node.Node.{Node}
 use Rattle.wf_nodes.specs.declared.node.NodeKind.{NodeKind}

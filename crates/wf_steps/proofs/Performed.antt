@@ -1,6 +1,6 @@
 -- What a body does to the frames.
-use Rattle.std.proofs.Common.{◌≡◌, ℕ, ◌<◌, ◌≤◌, get_or, arith, Bool, true, false, List, [], ◌∷◌, length, drop, Ok, Err, Some, None, refl, sym, ap, subst, ◌∙◌}
-use Rattle.std.specs.Prelude.{zero, suc, Result, Option, IfOk, OnOk, is_some, slice_get, unwrap_or}
+use Rattle.std.proofs.Common.{◌≡◌, ℕ, ◌<◌, ◌≤◌, get_or, arith, false, List, [], ◌∷◌, length, drop, Ok, Err, Some, None, refl, sym, ap, ◌∙◌}
+use Rattle.std.specs.Prelude.{Result, Option, IfOk, OnOk, is_some, slice_get, unwrap_or}
 use Rattle.wf_nodes.specs.Kinds.{kind_by}
 use Rattle.wf_nodes.specs.Shapes.{Compiled}
 use Rattle.wf_nodes.specs.Table.{part_by}
@@ -17,34 +17,33 @@ use Rattle.std.specs.declared.alloc.Global.{Global}
 use Rattle.wf_ast.specs.Apply.{View}
 use Rattle.wf_ast.specs.Eval.{fill_fields}
 use Rattle.wf_ast.specs.Flows.{flow}
-use Rattle.wf_ast.specs.Tree.{Body, CallBody, Except, Policy, Template, Entry, Over, Steps, Arms, loop, try}
+use Rattle.wf_ast.specs.Tree.{Body, CallBody, Except, Policy, Template, Over, Steps, Arms, loop, try}
 use Rattle.wf_eval.specs.Answers.{Answers}
 use Rattle.wf_steps.proofs.Evaluated.{gave, failed, raised_error}
 use Rattle.wf_frames.specs.Frames.{body_entries, body_loop, body_try, control, item, left_view}
-use Rattle.wf_nodes.specs.Spots.{Spot, BodyAt, Part, part_at, part_body, part_next, part_list, part_entry, arms_by, entries_by, from}
+use Rattle.wf_nodes.specs.Spots.{Spot, BodyAt, part_at, part_body, part_next, part_list, part_entry, entries_by, from}
 use Rattle.wf_frames.specs.Fits.{has_next, view_at}
 use Rattle.wf_nodes.specs.declared.node.Node.{Node}
 use Rattle.wf_steps.proofs.Parts.{view_is}
 use Rattle.wf_steps.specs.Built.{Tells}
-use Rattle.wf_steps.specs.Steps.{CallsWith, Fails, Performs, calls_by, CarriesOut, ReturnsValue, RaisesValue, arm_in, come, is_idle_kind}
+use Rattle.wf_steps.specs.Steps.{CallsWith, Fails, Performs, calls_by, CarriesOut, ReturnsValue, RaisesValue, arm_in}
 use Rattle.wf_frames.specs.declared.frames.Frame.{Frame}
 use Rattle.wf_frames.specs.declared.frames.Frame.TheVariants as frame
 use Rattle.wf_frames.specs.declared.frames.Left as declared
 use Rattle.wf_steps.specs.declared.step.Step.{Step}
 use Rattle.wf_steps.specs.declared.step.Step.TheVariants as step
-use Rattle.wf_model.specs.Calls.{calls, calls_named}
-use Rattle.wf_model.specs.Config.{Item, Do, Entries, Then, Loop, Try, Left}
+use Rattle.wf_model.specs.Calls.{calls_named}
+use Rattle.wf_model.specs.Config.{Item, Do, Entries, Then, Loop, Try}
 use Rattle.wf_model.specs.Layers.{view}
 use Rattle.wf_model.specs.Leave.{on, jumps}
 use Rattle.wf_model.specs.Local.{Local, Scene, Moved, goes}
-use Rattle.wf_model.specs.Move.{assigns, entered, performs, steps_on, chosen, in_arm, arm_items, lone, over, then_item}
+use Rattle.wf_model.specs.Move.{assigns, entered, performs, steps_on, chosen, in_arm, arm_items, lone, over}
 use Rattle.wf_value.specs.Data.{Pairs, pairs_of}
 use Rattle.wf_value.specs.Errors.{Answer}
 use Rattle.wf_value.specs.Pairs.{Text}
 use Rattle.wf_value.specs.declared.value.Map.{Map}
 use Rattle.wf_value.specs.declared.Raise.{Raise}
 use Rattle.wf_value.specs.declared.Raise.TheVariants.{Error, OutOfMemory}
-use Rattle.wf_value.specs.declared.Tag.{Tag}
 
 -- a call, by what came of its arguments
 abbrev calls_from : Scene → CallBody → Answer Pairs → List Item → Local → Moved

@@ -1,5 +1,5 @@
 -- The value of a template nests at most 100 deep.
-use Rattle.std.proofs.Common.{◌≡◌, ◌≤◌, sym, ◌∙◌, Bool, true, false, ◌&&◌, Result, Ok, Err, refl, subst, arith}
+use Rattle.std.proofs.Common.{◌≡◌, ◌≤◌, Bool, true, false, ◌&&◌, Result, Ok, Err, refl, subst, arith}
 use Rattle.std.specs.Prelude.{nat_le, not, if◌then◌else◌}
 use Rattle.std.proofs.lemmas.Bool.{leb-true}
 use Rattle.wf_ast.specs.Apply.{View, apply}

@@ -2,7 +2,7 @@
 --     come              what is left of a step leads on so
 --     Performs ..       a body, a step and a frame, by the frames before and behind and what is left to be done
 --     IsReady           what is left can be done
-use Rattle.std.specs.Prelude.{◌≡◌, ◌<◌, ◌≤◌, ℕ, Bool, true, false, ◌&&◌, is_none, List, [], ◌∷◌, length, Some, None, Ok, Option, Result, unwrap_or}
+use Rattle.std.specs.Prelude.{◌≡◌, ◌<◌, ◌≤◌, ℕ, Bool, true, false, ◌&&◌, is_none, List, [], length, Some, None, Ok, Option, Result, unwrap_or}
 use Rattle.wf_ast.specs.Apply.{View}
 use Rattle.wf_ast.specs.Eval.{fill, truth, whole}
 use Rattle.wf_ast.specs.Flows.{flow}

@@ -1,4 +1,4 @@
-use Rattle.std.proofs.Common.{None, Some, List, map, subst}
+use Rattle.std.proofs.Common.{None, Some, map, subst}
 use Rattle.wf_frames.specs.Owned.{control_of, held_by, local_of}
 use Rattle.wf_frames.specs.Turns.{Writes}
 use Rattle.wf_moves.proofs.Assigning.{refused, stored}

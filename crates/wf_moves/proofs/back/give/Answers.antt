@@ -1,6 +1,5 @@
-use Rattle.std.proofs.Common.{◌≡◌, List, [], Some, sym, ap, subst, ◌∙◌, map}
+use Rattle.std.proofs.Common.{List, ap, subst, map}
 use Rattle.std.specs.Prelude.{Option}
-use Rattle.wf_frames.specs.Frames.{result_of}
 use Rattle.wf_frames.specs.Owned.{beside, control_of, local_of}
 use Rattle.wf_model.specs.Layers.{assign}
 use Rattle.wf_model.specs.Leave.{gives, on_assigned}

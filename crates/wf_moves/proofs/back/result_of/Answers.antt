@@ -1,6 +1,4 @@
-use Rattle.std.proofs.Common.{◌≡◌, ◌<◌, ℕ, Some, length, sym, ap, subst, ◌∙◌}
-use Rattle.std.specs.Prelude.{Option}
-use Rattle.std.proofs.lemmas.Option.{slice_get_within}
+use Rattle.std.proofs.Common.{sym, ap, subst, ◌∙◌}
 use Rattle.wf_frames.specs.Fits.{IsCallOf}
 use Rattle.wf_frames.specs.Frames.{body_result, result_of}
 use Rattle.wf_moves.proofs.Calling.{call_within, only_call}

@@ -1,8 +1,7 @@
-use Rattle.std.proofs.Common.{◌≡◌, ◌<◌, ℕ, List, Some, None, length, refl, sym, ap, subst, ◌∙◌}
-use Rattle.std.specs.Prelude.{Option, get_or, option_map, slice_get}
+use Rattle.std.proofs.Common.{◌≡◌, Some, None, sym, ap, subst, ◌∙◌}
+use Rattle.std.specs.Prelude.{get_or, option_map, slice_get}
 use Rattle.std.proofs.lemmas.Option.{slice_get_within}
 use Rattle.wf_ast.specs.Flows.{flow}
-use Rattle.wf_ast.specs.Tree.{Body, Flow}
 use Rattle.wf_frames.specs.Bound.{bindings_of}
 use Rattle.wf_frames.specs.Frames.{body_result}
 use Rattle.wf_frames.specs.Owned.{beside, control_of, local_of}
@@ -10,14 +9,12 @@ use Rattle.wf_model.specs.Calls.{calls_with, given}
 use Rattle.wf_moves.proofs.Calling.{begun, call_given, call_lacks, called, flow_param_list}
 use Rattle.wf_moves.specs.Moved.{IsMove}
 use Rattle.wf_moves.specs.Tasks.{flow_at}
-use Rattle.wf_nodes.specs.Kinds.{call_by}
 use Rattle.wf_nodes.specs.Spots.{Part, part_at, part_body}
 use Rattle.wf_nodes.specs.declared.node.NodeKind.TheVariants as kind
 use Rattle.wf_steps.proofs.Parts.{as_part}
 use Rattle.wf_steps.proofs.Performed.{with_ok}
 use Rattle.wf_steps.specs.Steps.{calls_by}
-use Rattle.wf_value.specs.Data.{Data, pairs_of}
-use Rattle.wf_value.specs.Pairs.{Text}
+use Rattle.wf_value.specs.Data.{pairs_of}
 use Rattle.wf_moves.proofs.call.call.Goals as goal
 
 pub bounds-targets-n : goal.bounds-targets-n

@@ -1,4 +1,4 @@
-use Rattle.std.proofs.Common.{◌≡◌, Some, None, sym, ap, ◌∙◌}
+use Rattle.std.proofs.Common.{Some, sym, ap, ◌∙◌}
 use Rattle.wf_moves.proofs.Calling.{value_default, value_given, value_lacks}
 use Rattle.wf_value.specs.Plain.{plain}
 use Rattle.wf_value.specs.declared.Value.{Value}

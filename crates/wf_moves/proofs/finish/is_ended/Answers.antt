@@ -1,8 +1,5 @@
-use Rattle.std.proofs.Common.{◌≡◌, false, length, refl, sym, subst, ◌∙◌, arith, ap}
+use Rattle.std.proofs.Common.{length, refl, sym, subst, arith}
 use Rattle.std.proofs.Math.Dec.{leb}
-use Rattle.std.specs.Prelude.{is_some}
-use Rattle.wf_frames.specs.Fits.{HasNode}
-use Rattle.wf_frames.specs.declared.frames.Frame.TheVariants as frame
 use Rattle.wf_moves.proofs.Leaving.{do_has, do_settled, entries_have, entries_settled, lone_has, lone_settled}
 use Rattle.wf_steps.proofs.Lists.{has_entries, has_list}
 use Rattle.wf_moves.specs.Moved.{HasMove, Settled}

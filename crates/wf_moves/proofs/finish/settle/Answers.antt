@@ -1,4 +1,4 @@
-use Rattle.std.proofs.Common.{◌∙◌, sym, subst, true}
+use Rattle.std.proofs.Common.{◌∙◌, subst}
 use Rattle.wf_frames.specs.Frames.{inner}
 use Rattle.wf_frames.specs.Owned.{held_by}
 use Rattle.wf_moves.proofs.Leaving.{fits_after, none_settled, settles_here, settles_on, top_node, top_settled}

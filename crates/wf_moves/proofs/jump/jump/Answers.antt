@@ -1,8 +1,7 @@
-use Rattle.std.proofs.Common.{◌≡◌, List, [], Option, ap, sym, subst, ◌∙◌, bytes_eq, codes}
+use Rattle.std.proofs.Common.{[], Option, ap, sym, subst, ◌∙◌, bytes_eq, codes}
 use Rattle.std.specs.Prelude.{unwrap_or}
 use Rattle.wf_frames.specs.Frames.{inner}
 use Rattle.wf_frames.specs.Owned.{beside, control_of, local_of}
-use Rattle.wf_model.specs.Config.{Item}
 use Rattle.wf_model.specs.Leave.{jumps}
 use Rattle.wf_model.specs.Local.{Moved}
 use Rattle.wf_moves.proofs.Jumps.{jumps_break, jumps_continue, jumps_end, jumps_step, node_leads}

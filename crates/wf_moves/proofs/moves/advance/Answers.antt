@@ -1,4 +1,4 @@
-use Rattle.std.proofs.Common.{◌≡◌, ◌∷◌, refl, sym, subst, ap, ◌∙◌}
+use Rattle.std.proofs.Common.{◌≡◌, ◌∷◌, sym, subst, ap, ◌∙◌}
 use Rattle.wf_eval.specs.Sight.{seen}
 use Rattle.wf_frames.proofs.Owning.{own_pushed}
 use Rattle.wf_frames.specs.Fits.{Fits}
@@ -12,7 +12,7 @@ use Rattle.wf_model.specs.Layers.{view}
 use Rattle.wf_steps.specs.Steps.{Moves}
 use Rattle.wf_frames.specs.Sights.{sight_of}
 use Rattle.wf_frames.specs.declared.frames.Frame.TheVariants as frame
-use Rattle.wf_moves.proofs.Leaving.{going_has, going_plain, going_step, no_back}
+use Rattle.wf_moves.proofs.Leaving.{going_has, going_plain, no_back}
 use Rattle.wf_steps.proofs.Performed.{with_ok}
 use Rattle.wf_moves.proofs.Turning.{loop_there, moved_on, moved_same}
 use Rattle.wf_scope.specs.Store.{layers_of}

@@ -1,4 +1,4 @@
-use Rattle.std.proofs.Common.{◌≡◌, ◌+◌, ℕ, List, ◌∷◌, [], Some, None, false, sym, ap, ◌∙◌, subst, pos}
+use Rattle.std.proofs.Common.{◌≡◌, ◌+◌, ℕ, List, ◌∷◌, Some, false, sym, ap, ◌∙◌, subst, pos}
 use Rattle.std.specs.Prelude.{Option, option_map}
 use Rattle.wf_frames.specs.Frames.{control, inner, left_view, own}
 use Rattle.wf_frames.specs.Held.{standing}

@@ -1,18 +1,16 @@
-use Rattle.std.proofs.Common.{◌≡◌, ◌∷◌, [], ℕ, false, List, Some, None, sym, ap, subst, ◌∙◌, pos}
+use Rattle.std.proofs.Common.{◌∷◌, [], ℕ, false, List, Some, None, sym, ap, subst, ◌∙◌, pos}
 use Rattle.std.specs.Prelude.{Option}
-use Rattle.wf_frames.specs.Frames.{body_try, control, inner, own}
-use Rattle.wf_frames.specs.Held.{Held, standing}
+use Rattle.wf_frames.specs.Frames.{control, inner, own}
+use Rattle.wf_frames.specs.Held.{standing}
 use Rattle.wf_frames.specs.Owned.{IsLinked, beside, control_of, held_by, held_of, own_of}
 use Rattle.wf_frames.specs.Turns.{Enters, names_of, with_own}
 use Rattle.wf_frames.specs.declared.frames.Frame.TheVariants as frame
-use Rattle.wf_model.specs.Unwind.{handled, unwind}
+use Rattle.wf_model.specs.Unwind.{unwind}
 use Rattle.wf_model.specs.Local.{goes}
 use Rattle.wf_moves.proofs.Unwinding.{handled_in, handled_out, handler_fits, handler_owned}
-use Rattle.wf_nodes.specs.Spots.{part_at, part_body}
 use Rattle.wf_scope.specs.Store.{layers_of}
 use Rattle.wf_scope.specs.Tasks.{Own}
 use Rattle.wf_value.specs.Data.{Data}
-use Rattle.wf_value.specs.Errors.{error_map}
 use Rattle.wf_value.specs.Pairs.{Text}
 use Rattle.wf_value.specs.Plain.{plain}
 use Rattle.wf_moves.proofs.unwind.handle.Goals as goal

@@ -1,10 +1,10 @@
-use Rattle.std.proofs.Common.{◌≡◌, ◌<◌, ◌≤◌, ℕ, Bool, true, false, List, length, Some, None, refl, sym, ap, subst, ◌∙◌, arith}
-use Rattle.std.specs.Prelude.{IfSome, Option, is_some}
+use Rattle.std.proofs.Common.{◌≡◌, ℕ, false, Some, None, refl, sym, subst, ◌∙◌, arith}
+use Rattle.std.specs.Prelude.{Option, is_some}
 use Rattle.wf_frames.specs.Frames.{inner}
 use Rattle.wf_frames.specs.Owned.{held_by}
 use Rattle.wf_moves.proofs.Leaving.{fits_after, top_node}
 use Rattle.wf_moves.proofs.Unwinding.{caught_on, fewer_by, passes_on, some_fewer, some_handler, some_inside}
-use Rattle.wf_moves.specs.Moved.{IsTaken, Takes}
+use Rattle.wf_moves.specs.Moved.{IsTaken}
 use Rattle.wf_moves.proofs.unwind.leave_to_handler.Goals as goal
 
 pub handler-found-requires : goal.handler-found-requires

@@ -1,7 +1,5 @@
 use Rattle.std.proofs.Common.{◌≡◌, Some, sym, ap, ◌∙◌}
-use Rattle.std.specs.Prelude.{Option}
 use Rattle.wf_moves.proofs.Unwinding.{same_try}
-use Rattle.wf_nodes.specs.declared.node.ExceptNode.{ExceptNode}
 use Rattle.wf_nodes.specs.declared.node.TryNode.{TryNode}
 use Rattle.wf_moves.proofs.unwind.raises.Goals as goal
 

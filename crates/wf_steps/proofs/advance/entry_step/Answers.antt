@@ -1,6 +1,5 @@
 use Rattle.std.proofs.Common.{◌<◌, ℕ, List, length, get_or, refl, sym, ap, subst}
 use Rattle.std.specs.Prelude.{is_some}
-use Rattle.wf_frames.specs.Fits.{Fits}
 use Rattle.wf_frames.specs.Frames.{inner}
 use Rattle.wf_steps.proofs.Advancing.{entry_fits, entry_moves, same_entries}
 use Rattle.wf_steps.proofs.Fitting.{entry_below}

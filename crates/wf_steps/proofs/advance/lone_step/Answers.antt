@@ -1,4 +1,4 @@
-use Rattle.std.proofs.Common.{◌≡◌, ◌∷◌, false, ap, sym, subst, ◌∙◌}
+use Rattle.std.proofs.Common.{◌∷◌, false, ap, sym, subst, ◌∙◌}
 use Rattle.wf_eval.specs.Sight.{seen}
 use Rattle.wf_frames.specs.Fits.{Fits, reach}
 use Rattle.wf_frames.specs.Frames.{inner}

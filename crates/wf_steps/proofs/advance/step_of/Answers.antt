@@ -1,7 +1,7 @@
-use Rattle.std.proofs.Common.{◌≡◌, refl, ◌∷◌, ◌<◌, length, sym, subst}
+use Rattle.std.proofs.Common.{refl, ◌∷◌, sym, subst}
 use Rattle.std.specs.Prelude.{IfOk}
 use Rattle.wf_eval.specs.Sight.{seen}
-use Rattle.wf_frames.specs.Fits.{Fits, reach}
+use Rattle.wf_frames.specs.Fits.{Fits}
 use Rattle.wf_frames.specs.Frames.{inner}
 use Rattle.wf_frames.specs.declared.frames.Frame.TheVariants as frame
 use Rattle.wf_ast.specs.Apply.{View}

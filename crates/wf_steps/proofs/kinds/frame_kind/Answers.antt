@@ -1,4 +1,4 @@
-use Rattle.std.proofs.Common.{◌≡◌, ◌∷◌, ◌<◌, Some, None, length, ap, sym, subst, ◌∙◌}
+use Rattle.std.proofs.Common.{◌∷◌, ◌<◌, length, ap, sym, subst, ◌∙◌}
 use Rattle.std.specs.Prelude.{slice_get}
 use Rattle.std.proofs.lemmas.Option.{get_or_from_slice_get, slice_get_within}
 use Rattle.wf_frames.specs.Frames.{item}
@@ -7,7 +7,6 @@ use Rattle.wf_steps.proofs.Clocked.{do_kind, do_plain, entry_kind, entry_plain}
 use Rattle.wf_steps.proofs.Fitting.{entry_below}
 use Rattle.wf_steps.proofs.Lists.{has_entries, has_list}
 use Rattle.wf_steps.proofs.Parts.{below_get, list_stands, seen_entries}
-use Rattle.wf_steps.specs.Kinds.{kind_view}
 use Rattle.wf_nodes.specs.Kinds.{block_view}
 use Rattle.wf_steps.proofs.kinds.frame_kind.Goals as goal
 

@@ -1,4 +1,4 @@
-use Rattle.std.proofs.Common.{◌≡◌, length, ap, sym, subst, ◌∙◌}
+use Rattle.std.proofs.Common.{length, ap, sym, subst, ◌∙◌}
 use Rattle.wf_ast.specs.Tree.{Body, fields}
 use Rattle.wf_model.specs.Kinds.{arms_now, body_kind, by_clock, fields_now, over_now, template_now}
 use Rattle.wf_steps.proofs.Clocked.{body_so, call_plain}

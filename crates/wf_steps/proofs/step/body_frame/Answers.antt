@@ -1,9 +1,5 @@
-use Rattle.std.proofs.Common.{◌≡◌, ◌∷◌, List, None, refl, sym, ap, subst, ◌∙◌}
-use Rattle.wf_ast.specs.Tree.{Body}
-use Rattle.wf_frames.specs.Fits.{FrameFits}
-use Rattle.wf_frames.specs.declared.frames.Frame.TheVariants as frame
-use Rattle.wf_nodes.specs.Kinds.{kind_by}
-use Rattle.wf_nodes.specs.Spots.{part_at, part_body, steps_by}
+use Rattle.std.proofs.Common.{refl, sym, ap, ◌∙◌}
+use Rattle.wf_nodes.specs.Spots.{part_body, steps_by}
 use Rattle.wf_nodes.specs.declared.node.NodeKind.TheVariants as kind
 use Rattle.wf_steps.proofs.Fitting.{block_frame}
 use Rattle.wf_steps.proofs.Parts.{as_part, node_at, part_is}

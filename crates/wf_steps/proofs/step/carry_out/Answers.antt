@@ -1,5 +1,4 @@
-use Rattle.std.proofs.Common.{◌≡◌, ◌∷◌, sym, ap, ◌∙◌, subst}
-use Rattle.wf_ast.specs.Tree.{Body}
+use Rattle.std.proofs.Common.{sym, ap, ◌∙◌}
 use Rattle.wf_eval.specs.Sight.{seen}
 use Rattle.wf_frames.specs.Fits.{reach}
 use Rattle.wf_frames.specs.Frames.{inner}

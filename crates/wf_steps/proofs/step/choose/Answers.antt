@@ -1,4 +1,4 @@
-use Rattle.std.proofs.Common.{◌<◌, length, get_or, refl, sym, ◌∙◌, subst, arith, add-one, Ok, Err, ℕ, ◌≡◌}
+use Rattle.std.proofs.Common.{◌<◌, length, get_or, refl, sym, ◌∙◌, subst, arith, Ok, Err, ℕ, ◌≡◌}
 use Rattle.std.specs.Prelude.{suc}
 use Rattle.wf_eval.specs.Answers.{Answers}
 use Rattle.wf_eval.specs.Sight.{seen}

@@ -1,10 +1,9 @@
-use Rattle.std.proofs.Common.{◌≡◌, ◌<◌, ℕ, false, length, sym, ap, subst, ◌∙◌}
-use Rattle.wf_ast.specs.Tree.{Body, try}
+use Rattle.std.proofs.Common.{◌≡◌, sym, ap, ◌∙◌}
 use Rattle.wf_ast.specs.View.{policy_option_view}
-use Rattle.wf_frames.specs.Fits.{has_next, reach, view_at}
+use Rattle.wf_frames.specs.Fits.{reach}
 use Rattle.wf_frames.specs.Frames.{inner}
 use Rattle.wf_nodes.specs.Kinds.{handler_view}
-use Rattle.wf_nodes.specs.Spots.{owners_at, part_at, part_body}
+use Rattle.wf_nodes.specs.Spots.{owners_at}
 use Rattle.wf_nodes.specs.Table.{except_of}
 use Rattle.wf_steps.proofs.Fitting.{try_fits}
 use Rattle.wf_steps.proofs.Parts.{tried_body, tried_stands, try_built}

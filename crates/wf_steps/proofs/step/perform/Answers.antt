@@ -1,10 +1,9 @@
-use Rattle.std.proofs.Common.{◌≡◌, ℕ, List, ◌<◌, arith, length, get_or, drop, sym, ap, ◌∙◌, subst, ◌∷◌, refl}
+use Rattle.std.proofs.Common.{ℕ, List, ◌<◌, arith, length, get_or, drop, sym, ap, ◌∙◌, subst, refl}
 use Rattle.std.specs.Prelude.{IfOk}
 use Rattle.wf_ast.specs.Tree.{Body}
 use Rattle.wf_eval.specs.Sight.{seen}
-use Rattle.wf_frames.specs.Fits.{Fits, reach}
+use Rattle.wf_frames.specs.Fits.{reach}
 use Rattle.wf_frames.specs.Frames.{inner}
-use Rattle.wf_frames.specs.declared.frames.Frame.TheVariants as frame
 use Rattle.wf_steps.proofs.Fitting.{block_fits, entries_fits, entry_ready}
 use Rattle.wf_steps.proofs.Parts.{as_part, codes_built, never_parallel, node_at}
 use Rattle.wf_steps.proofs.Performed.{nothing_done, default_body, loop_body, none_left, one_left, with_ok, block_put, none_assigned, first_assigned, performs_return, performs_raise, performs_call}

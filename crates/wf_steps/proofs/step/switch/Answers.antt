@@ -1,14 +1,13 @@
-use Rattle.std.proofs.Common.{◌≡◌, ◌<◌, ◌∷◌, length, sym, ◌∙◌, subst, Ok, List}
+use Rattle.std.proofs.Common.{◌≡◌, ◌<◌, length, sym, ◌∙◌, subst, Ok}
 use Rattle.std.specs.Prelude.{IfSome}
 use Rattle.wf_eval.specs.Answers.{Answers}
 use Rattle.wf_eval.specs.Sight.{seen}
 use Rattle.wf_frames.specs.Fits.{Fits}
 use Rattle.wf_frames.specs.Frames.{inner}
-use Rattle.wf_frames.specs.declared.frames.Frame.TheVariants as frame
 use Rattle.wf_model.specs.Move.{chosen}
 use Rattle.wf_steps.proofs.Choices.{idle_is, busy_is}
 use Rattle.wf_steps.proofs.Parts.{node_at}
-use Rattle.wf_steps.proofs.Performed.{none_chosen, empty_chosen, body_chosen}
+use Rattle.wf_steps.proofs.Performed.{empty_chosen, body_chosen}
 use Rattle.wf_steps.specs.Steps.{arm_in}
 use Rattle.wf_nodes.specs.Spots.{arms_by, owners_at}
 use Rattle.wf_steps.proofs.step.switch.Goals as goal

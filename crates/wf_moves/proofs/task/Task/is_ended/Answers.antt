@@ -1,4 +1,3 @@
-use Rattle.std.proofs.Common.{ap}
 use Rattle.wf_frames.specs.Frames.{inner}
 use Rattle.wf_moves.proofs.Starting.{none_left, one_left}
 use Rattle.wf_moves.proofs.task.Task.is_ended.Goals as goal
