@@ -1,3 +1,3 @@
 pub mod Failing
 pub mod Seen
-pub mod Lines
+pub mod Retried
