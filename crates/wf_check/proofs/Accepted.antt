@@ -7,7 +7,7 @@ use Rattle.wf_ast.specs.Tree.{Flow, Program}
 use Rattle.wf_diagnostics.proofs.Told.{no_fault}
 use Rattle.wf_check_expressions.specs.Forms.{not_yet}
 use Rattle.wf_diagnostics.specs.Said.{Said, as_said}
-use Rattle.wf_check.specs.Said.{first_said, is_accepted, nodes_built, program_built, said, said_among, said_of}
+use Rattle.wf_check.specs.Said.{first_said, is_accepted, node_built, program_built, said, said_among, said_of}
 use Rattle.wf_diagnostics.specs.declared.kind.CheckKind.TheVariants as kinds
 use Rattle.wf_shared.specs.HttpUrl.{first_of_two}
 use Rattle.wf_value.specs.Pairs.{Text}
@@ -25,16 +25,16 @@ rules_silent : (fs : List Flow) (n : ℕ) (e : List Text) (vs : List Node) → s
 rules_silent fs n e [] h = refl
 rules_silent fs n e (v ∷ vs) h =
     let both = none_of_both (said fs n e v) (said_among fs (suc n) (after_part v.part e) vs) h in
-    let here = none_of_both (option_map said_of (fault fs n e v)) (as_said kinds.NotYet (not_yet n v.part v.path)) both.0 in
+    let here = none_of_both (option_map said_of (fault fs n e v)) (as_said kinds.NotYet (not_yet fs v.part v.path)) both.0 in
     λ i. first_of_two (no_rule (fault fs n e v) here.0 i) (rules_silent fs (suc n) (after_part v.part e) vs both.1 i)
 
 -- no node uses a form of the table
-forms_built : (fs : List Flow) (n : ℕ) (e : List Text) (vs : List Node) → said_among fs n e vs ≡ None → IsTrue (nodes_built n vs)
+forms_built : (fs : List Flow) (n : ℕ) (e : List Text) (vs : List Node) → said_among fs n e vs ≡ None → IsTrue (list_all (node_built fs) vs)
 forms_built fs n e [] h = refl
 forms_built fs n e (v ∷ vs) h =
     let both = none_of_both (said fs n e v) (said_among fs (suc n) (after_part v.part e) vs) h in
-    let here = none_of_both (option_map said_of (fault fs n e v)) (as_said kinds.NotYet (not_yet n v.part v.path)) both.0 in
-    subst (λ o. IsTrue (is_none o && nodes_built (suc n) vs)) (sym (no_fault kinds.NotYet (not_yet n v.part v.path) here.1)) (forms_built fs (suc n) (after_part v.part e) vs both.1)
+    let here = none_of_both (option_map said_of (fault fs n e v)) (as_said kinds.NotYet (not_yet fs v.part v.path)) both.0 in
+    subst (λ o. IsTrue (is_none o && list_all (node_built fs) vs)) (sym (no_fault kinds.NotYet (not_yet fs v.part v.path) here.1)) (forms_built fs (suc n) (after_part v.part e) vs both.1)
 
 parts : (a b : Bool) → IsTrue (a && b) → IsTrue a × IsTrue b
 parts true b h = (refl, h)

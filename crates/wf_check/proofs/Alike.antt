@@ -77,4 +77,4 @@ fault_alike fs n e f part a b path s h = λ i. first (
 
 pub said_alike : (fs : List Flow) (n : ℕ) (e f : List Text) (part : NodePart) (a b : Around) (path : Path) → SameNames e f → Alike a b → said fs n e (node part a path) ≡ said fs n f (node part b path)
 said_alike fs n e f part a b path s h =
-    ap (λ o. first_of_two (option_map said_of o) (as_said kinds.NotYet (not_yet n part path))) (fault_alike fs n e f part a b path s h)
+    ap (λ o. first_of_two (option_map said_of o) (as_said kinds.NotYet (not_yet fs part path))) (fault_alike fs n e f part a b path s h)

@@ -30,7 +30,7 @@ all_said fs n e part a path =
     ∷ as_said kinds.UnknownCall (rule_call fs part path)
     ∷ as_said kinds.BadArgument (rule_argument fs part path)
     ∷ as_said kinds.TooMany (rule_many n part path)
-    ∷ as_said kinds.NotYet (not_yet n part path) ∷ []
+    ∷ as_said kinds.NotYet (not_yet fs part path) ∷ []
 
 of_rule : (k : Kind) (o : Option Path) → option_map said_of (as_fault k o) ≡ as_said (kind_of k) o
 of_rule k None = refl
@@ -44,7 +44,7 @@ of_rules (Some f ∷ os) q = refl
 
 told : (fs : List Flow) (n : ℕ) (e : List Text) (part : NodePart) (a : Around) (path : Path) → first (all_said fs n e part a path) ≡ said fs n e (node part a path)
 unfolding fault rules
-told fs n e part a path = sym (of_rules (rules fs n e (node part a path)) (as_said kinds.NotYet (not_yet n part path)) ∙ (λ i. first (
+told fs n e part a path = sym (of_rules (rules fs n e (node part a path)) (as_said kinds.NotYet (not_yet fs part path)) ∙ (λ i. first (
     of_rule Kind.EmptySteps (rule_empty part path) i
     ∷ of_rule Kind.DoubleStep (rule_double e part path) i
     ∷ of_rule Kind.UnknownStep (rule_next (unknown_step a) part path) i
@@ -57,7 +57,7 @@ told fs n e part a path = sym (of_rules (rules fs n e (node part a path)) (as_sa
     ∷ of_rule Kind.UnknownCall (rule_call fs part path) i
     ∷ of_rule Kind.BadArgument (rule_argument fs part path) i
     ∷ of_rule Kind.TooMany (rule_many n part path) i
-    ∷ as_said kinds.NotYet (not_yet n part path) ∷ [])))
+    ∷ as_said kinds.NotYet (not_yet fs part path) ∷ [])))
 
 pub all_of : (r : Result (Unit {0}) Stop) (fs : List Flow) (n : ℕ) (e : List Text) (part : NodePart) (a : Around) → Tells r (λ path. first (all_said fs n e part a path)) → Tells r (λ path. said fs n e (node part a path))
 all_of r fs n e part a h = tells_as r (λ path. first (all_said fs n e part a path)) (λ path. said fs n e (node part a path)) (λ path. told fs n e part a path) h

@@ -1,7 +1,7 @@
 -- What the checker says of a program: the first node at which a rule speaks, or at which a form is used that isn't built yet.
 --     said          at a node: the rules come first, then the table of forms
 --     first_said    the first of a program
-use Rattle.std.specs.Prelude.{ℕ, suc, Bool, true, ◌&&◌, List, [], ◌∷◌, Option, None, is_none, option_map}
+use Rattle.std.specs.Prelude.{ℕ, suc, Bool, ◌&&◌, List, [], ◌∷◌, Option, None, is_none, option_map}
 use Rattle.std.specs.List.{list_all}
 use Rattle.wf_ast.specs.Accept.{Fault, Kind, after_part, fault, small_backoff}
 use Rattle.wf_ast.specs.Nodes.{Node, nodes}
@@ -35,7 +35,7 @@ said_of f = record { kind = kind_of f.kind; place = f.place }
 -- what is said at a node by its number, with the names of the steps before it in its workflow
 abbrev pub said : List Flow → ℕ → List Text → Node → Option Said
 said fs number earlier v =
-    first_of_two (option_map said_of (fault fs number earlier v)) (as_said kinds.NotYet (not_yet number v.part v.path))
+    first_of_two (option_map said_of (fault fs number earlier v)) (as_said kinds.NotYet (not_yet fs v.part v.path))
 
 -- what is said first at nodes, from a number on
 abbrev pub said_among : List Flow → ℕ → List Text → List Node → Option Said
@@ -48,14 +48,13 @@ abbrev pub first_said : Program → Option Said
 first_said p = said_among p.flows 0 [] (nodes p.flows)
 
 -- ## Programs without these forms
--- no node uses one, from a number on
-abbrev pub nodes_built : ℕ → List Node → Bool
-nodes_built number [] = true
-nodes_built number (v ∷ vs) = is_none (not_yet number v.part v.path) && nodes_built (suc number) vs
+-- the node of a program with these workflows uses none
+abbrev pub node_built : List Flow → Node → Bool
+node_built fs v = is_none (not_yet fs v.part v.path)
 
--- the whole program is built
+-- no node of the program uses one
 abbrev pub program_built : Program → Bool
-program_built p = nodes_built 0 (nodes p.flows)
+program_built p = list_all (node_built p.flows) (nodes p.flows)
 
 -- nothing is said of the program, and no number of a backoff is over a year in milliseconds
 abbrev pub is_accepted : Program → Bool

@@ -46,5 +46,5 @@ pub(crate) fn fault(
     unknown_call(alloc, part, flows)?;
     bad_argument(alloc, part, flows)?;
     too_many(alloc, part, progress.number)?;
-    not_yet(alloc, part, progress.number)
+    not_yet(alloc, part, flows)
 }

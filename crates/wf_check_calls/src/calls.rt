@@ -17,8 +17,8 @@ use wf_ast::{Body, CallBody, Flow, Predicate, TryBody};
 use wf_diagnostics::{CheckKind, Part, Stop, speak_at, speak_within};
 use wf_value::{OutOfMemory, Text};
 
-// The workflow of a name that may be called.
-fn flow_named<'a>(flows: &'a [Flow], name: &str) -> Option<&'a Flow>
+/// The workflow that a call of this name calls: the first that has it. None calls `main`.
+pub fn flow_named<'a>(flows: &'a [Flow], name: &str) -> Option<&'a Flow>
     ensures { option_map (λ f. flow_view f.now) result
         ≡ flow_of (map flow_view flows.now) name.now }
 {

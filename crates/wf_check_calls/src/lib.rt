@@ -5,4 +5,4 @@ mod arguments;
 mod calls;
 mod signature;
 
-pub use calls::{bad_argument, unknown_call};
+pub use calls::{bad_argument, flow_named, unknown_call};

@@ -1,3 +1,2 @@
 pub mod Failing
 pub mod Seen
-pub mod Lines

@@ -1,41 +1,26 @@
 -- The forms of the language that aren't built yet: one line a form, so that a line goes when its form comes.
 --     not_yet     where a node uses one of them
-use Rattle.std.specs.Prelude.{ℕ, Bool, true, false, ◌&&◌, List, [], ◌∷◌, codes, nat_lt, Option, Some, None}
-use Rattle.wf_ast.specs.Blocks.{at_if, first}
-use Rattle.wf_ast.specs.Nodes.{Path, NodePart, FlowPart, part_body, below}
-use Rattle.wf_ast.specs.Tree.{Expr, Exprs, no_exprs, expr, Body, Param}
+use Rattle.std.specs.Prelude.{Bool, true, false, ◌&&◌, List, codes, Option, Some, None}
+use Rattle.wf_ast.specs.Flows.{flow}
+use Rattle.wf_ast.specs.Nodes.{Path, NodePart, part_body, below}
+use Rattle.wf_ast.specs.Tree.{Expr, Exprs, no_exprs, expr, Body, Flow, try}
 use Rattle.wf_ast.specs.declared.expr.Func.{Func}
 use Rattle.wf_ast.specs.declared.expr.Func.TheVariants as func
 use Rattle.wf_check_expressions.specs.Expressions.{part_failing}
+use Rattle.wf_shared.specs.HttpUrl.{first_of_two}
 use Rattle.wf_value.specs.Pairs.{Text}
 
--- ## Workflows
--- a workflow beside `main`, which is the first node
-abbrev pub beside_main : ℕ → NodePart → Path → Option Path
-beside_main number (FlowPart f) path = at_if (nat_lt 0 number) path
-beside_main number part path = None
-
--- there is a parameter
-abbrev pub has_params : List Param → Bool
-has_params [] = false
-has_params (x ∷ xs) = true
-
--- a parameter
-abbrev pub parameters : NodePart → Path → Option Path
-parameters (FlowPart f) path = at_if (has_params f.params) (below path (codes "params"))
-parameters part path = None
-
 -- ## Steps
--- the key of a body whose form isn't built
-abbrev pub form_key : Body → Option Text
-form_key (Body.Call f) = Some (codes "call")
-form_key (Body.Parallel p) = Some (codes "parallel")
-form_key (Body.Try t) = Some (codes "try")
-form_key body = None
+-- the key of a body whose form isn't built: a call of no workflow, what runs in parallel, a retry
+abbrev pub form_key : List Flow → Body → Option Text
+form_key fs (Body.Call f) = elim (flow fs f.name) [ None ↦ Some (codes "call") | Some g ↦ None ]
+form_key fs (Body.Parallel p) = Some (codes "parallel")
+form_key fs (Body.Try (try body (Some policy) x)) = Some (codes "retry")
+form_key fs body = None
 
 -- such a body
-abbrev pub form : Body → Path → Option Path
-form body path = elim (form_key body) [ None ↦ None | Some k ↦ Some (below path k) ]
+abbrev pub form : List Flow → Body → Path → Option Path
+form fs body path = elim (form_key fs body) [ None ↦ None | Some k ↦ Some (below path k) ]
 
 -- ## Functions
 -- the function is built
@@ -74,10 +59,6 @@ abbrev pub functions : NodePart → Path → Option Path
 functions part path = part_failing is_expr_built part path
 
 -- ## The table
--- where rule 13 speaks of a node of this number
-abbrev pub not_yet : ℕ → NodePart → Path → Option Path
-not_yet number part path = first (
-    beside_main number part path
-    ∷ parameters part path
-    ∷ form (part_body part) path
-    ∷ functions part path ∷ [])
+-- where rule 13 speaks of a node of a program with these workflows
+abbrev pub not_yet : List Flow → NodePart → Path → Option Path
+not_yet fs part path = first_of_two (form fs (part_body part) path) (functions part path)
