@@ -84,9 +84,13 @@ def bare(folder, payloads):
     """Makes the writes and syncs by which a journal of these payloads comes about, and returns the time that passed."""
     begun = time.perf_counter()
     file = os.open(f"{folder}/bare", os.O_RDWR | os.O_CREAT | os.O_EXCL)
-    for at, data in ((0, b"WFJ1"), (4, b"\0")):
-        os.pwrite(file, data, at)
-        os.fsync(file)
+    os.pwrite(file, b"WFJ1", 0)
+    os.fsync(file)
+    inside = os.open(folder, os.O_RDONLY)
+    os.fsync(inside)
+    os.close(inside)
+    os.pwrite(file, b"\0", 4)
+    os.fsync(file)
     gate = 4
     for payload in payloads:
         os.pwrite(file, len(payload).to_bytes(4, "big"), gate + 1)
