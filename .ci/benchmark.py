@@ -33,7 +33,7 @@ def assign(name, *entries):
 
 
 def large_loop():
-    """A source, what it prints, and how many events it makes: nine in each of 10,000 iterations, and four around them."""
+    """A source, what it prints, and how many events it makes: nine in each of 10,000 iterations, and seven around them."""
     body = [
         assign("a", ("n", "${n + i}"), ("x", "${l[i]}")),
         {"b": {"switch": [{"condition": "${x}", "steps": [assign("c", ("odd", "${odd + 1}"), ("m", "${n * 2 - i}"))]}]}},
