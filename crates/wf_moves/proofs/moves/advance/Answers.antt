@@ -50,9 +50,9 @@ returns-in_ok-step-in_default-frame g c =
     let moves_so = subst (λ fs. Moves g.around.spots fs v (inner c.step_of.new.frames) st) (sym c.in-Some.ensures.popped) c.in_ok-step-in_default-frame.ensures.moves in
     record {
       moved = with_ok _ _ c.finish.result
-        (λ w h s d sees agrees. moved_on g.around s (own_of c.args.frames.now) (own_of c.step_of.new.frames) (layers_of c.args.scopes.now) both d (inner c.args.frames.now) (inner c.step_of.new.frames) st v w (local_of g.around c.finish.new.frames c.finish.new.scopes) moves_so
-        (subst (λ os. view s (standing d (held_of g.around.keys os (layers_of c.args.scopes.now))) ≡ v) (sym own) (c.seen-look.ensures s sees)) (h s d sees agrees))
-        c.finish.ensures.moved;
+          (λ w h s d sees agrees. moved_on g.around s (own_of c.args.frames.now) (own_of c.step_of.new.frames) (layers_of c.args.scopes.now) both d (inner c.args.frames.now) (inner c.step_of.new.frames) st v w (local_of g.around c.finish.new.frames c.finish.new.scopes) moves_so
+          (subst (λ os. view s (standing d (held_of g.around.keys os (layers_of c.args.scopes.now))) ≡ v) (sym own) (c.seen-look.ensures s sees)) (h s d sees agrees))
+          c.finish.ensures.moved;
       stands = c.finish.ensures.stands;
       left = c.finish.ensures.left;
     }

@@ -30,7 +30,7 @@ invariant_of-result-clause-reached c =
     let p = program_of c.args.program in
     let e : EndingFor c.in_ok-task.task c.if-is_some.ending = ending_for c.in_ok-task.task c.if-is_some.ending (elim c.if-is_some.branch [ then-is_some w ↦ inl (sym c.is_some.ensures ∙ w.if-is_some.true, w.ending-is) | else-is_some w ↦ inr (sym c.is_some.ensures ∙ w.if-is_some.false, w.ending-is) ]) in
     ∣ (λ some. reached_first p s (config_of p c.in_ok-facts.facts c.args.start.now.reading c.in_ok-task.task c.first_task.new.scopes 0 c.if-is_some.ending)
-      (begins_so p s (nodes_of c.args.program) c.in_ok-task.task c.first_task.new.scopes c.if-is_some.ending c.in_ok-facts.facts (c.in_ok-task.ensures.begins (argument_of s)) c.in_ok-task.ensures.standing e c.in_ok-facts.ensures)) ∣₁
+    (begins_so p s (nodes_of c.args.program) c.in_ok-task.task c.first_task.new.scopes c.if-is_some.ending c.in_ok-facts.facts (c.in_ok-task.ensures.begins (argument_of s)) c.in_ok-task.ensures.standing e c.in_ok-facts.ensures)) ∣₁
 
 pub invariant_of-result-clause-running : goal.invariant_of-result-clause-running
 invariant_of-result-clause-running c =

@@ -1,0 +1,187 @@
+#!/usr/bin/env python3
+"""Measures the built program, beside the gate: it isn't called there, since it rests on time.
+
+    python3 .ci/benchmark.py [PROGRAM]
+
+A loop over a list of 10,000 items, which makes some 90,000 counted events, is run with a journal on a real file. Against it stands a bare loop
+that makes the same writes and syncs of the same bytes. The quotient of the two is to be at most 4. Then the processor time of one event of a
+loop is measured, in programs that differ in one thing: the size of a variable that the loop only reads, or how many steps the program has
+besides. Each of these quotients is to be below 1.5. The exit status is 1 where one isn't.
+
+Each time is the least of several, so that other work on the machine counts for little.
+"""
+
+import json
+import os
+import subprocess
+import sys
+import tempfile
+import time
+
+PROGRAM = os.path.abspath(sys.argv[1] if len(sys.argv) > 1 else "crates/workflow/out/workflow")
+MOST_AGAINST_BARE = 4
+MOST_GROWTH = 1.5
+TRIES = 5
+
+
+def compact(value):
+    return json.dumps(value, separators=(",", ":")).encode()
+
+
+def assign(name, *entries):
+    return {name: {"assign": [{target: value} for target, value in entries]}}
+
+
+def large_loop():
+    """A source, what it prints, and how many events it makes: nine in each of 10,000 iterations, and seven around them."""
+    body = [
+        assign("a", ("n", "${n + i}"), ("x", "${l[i]}")),
+        {"b": {"switch": [{"condition": "${x}", "steps": [assign("c", ("odd", "${odd + 1}"), ("m", "${n * 2 - i}"))]}]}},
+        assign("d", ("k", "${k + 1}"), ("r", "${k % 7}")),
+    ]
+    steps = [
+        assign("start", ("l", [True] * 10_000), ("n", 0), ("odd", 0), ("k", 0)),
+        {"loop": {"for": {"value": "v", "index": "i", "in": "${l}", "steps": body}}},
+        {"end": {"return": ["${n}", "${odd}", "${k}"]}},
+    ]
+    total = sum(range(10_000))
+    return compact(steps), f"[{total},10000,10000]\n".encode(), 4 + 1 + 10_000 * 9 + 1 + 1
+
+
+def records(journal):
+    """The payloads of a journal."""
+    assert journal[:4] == b"WFJ1"
+    found, at = [], 4
+    while at < len(journal) and journal[at] == 1:
+        end = at + 5 + int.from_bytes(journal[at + 1 : at + 5], "big")
+        found.append(journal[at + 5 : end])
+        at = end
+    return found
+
+
+def events(journal):
+    """How many events the turns of a journal have."""
+    return sum(int.from_bytes(payload[17:21], "big") for payload in records(journal) if payload[0] == 2)
+
+
+def run(folder, source, printed, journal=None):
+    """Runs a source, and returns the time that passed and the processor time, in seconds."""
+    with open(f"{folder}/source", "wb") as file:
+        file.write(source)
+    words = [PROGRAM, "run", "--source", "source", "--id", "b"] + (["--journal", journal] if journal else [])
+    begun = time.perf_counter()
+    started = subprocess.Popen(words, cwd=folder, stdin=subprocess.DEVNULL, stdout=subprocess.PIPE)
+    said = started.stdout.read()
+    _, status, used = os.wait4(started.pid, 0)
+    passed = time.perf_counter() - begun
+    started.returncode = os.waitstatus_to_exitcode(status)
+    started.stdout.close()
+    assert (started.returncode, said) == (0, printed), (started.returncode, said[:200])
+    return passed, used.ru_utime + used.ru_stime
+
+
+def bare(folder, payloads):
+    """Makes the writes and syncs by which a journal of these payloads comes about, and returns the time that passed."""
+    begun = time.perf_counter()
+    file = os.open(f"{folder}/bare", os.O_RDWR | os.O_CREAT | os.O_EXCL)
+    os.pwrite(file, b"WFJ1", 0)
+    os.fsync(file)
+    inside = os.open(folder, os.O_RDONLY)
+    os.fsync(inside)
+    os.close(inside)
+    os.pwrite(file, b"\0", 4)
+    os.fsync(file)
+    gate = 4
+    for payload in payloads:
+        os.pwrite(file, len(payload).to_bytes(4, "big"), gate + 1)
+        os.pwrite(file, payload, gate + 5)
+        os.pwrite(file, b"\0", gate + 5 + len(payload))
+        os.fsync(file)
+        os.pwrite(file, b"\1", gate)
+        os.fsync(file)
+        gate += 5 + len(payload)
+    os.close(file)
+    return time.perf_counter() - begun
+
+
+def read(path):
+    with open(path, "rb") as file:
+        return file.read()
+
+
+def against_bare(folder):
+    """The quotient of a large loop's time with its journal and that of the same writes and syncs."""
+    source, printed, wanted = large_loop()
+    ours, theirs = [], []
+    for _ in range(TRIES):
+        ours.append(run(folder, source, printed, "journal")[0])
+        journal = read(f"{folder}/journal")
+        theirs.append(bare(folder, records(journal)))
+        assert read(f"{folder}/bare") == journal and events(journal) == wanted, (events(journal), wanted)
+        os.remove(f"{folder}/journal")
+        os.remove(f"{folder}/bare")
+    quotient = min(ours) / min(theirs)
+    print(f"{wanted} events over a list of 10000 items, a journal of {len(journal)} bytes in {len(records(journal))} records:")
+    print(f"    the program {1000 * min(ours):.0f} ms, the same writes and syncs {1000 * min(theirs):.0f} ms, quotient {quotient:.2f}")
+    return quotient <= MOST_AGAINST_BARE
+
+
+def loop_over(times, step):
+    return {"loop": {"for": {"value": "v", "range": [1, times], "steps": [step]}}}
+
+
+READS = assign("read", *[("x", "${l[1]}")] * 6, ("x", "${get_type(l)}"), ("x", "${if(true, 1, l)}"))
+
+
+def reading(size):
+    """Programs that read a list of texts of about this size, by how often."""
+    items = ["a"] * max(2, (size - 2) // 3)
+    return lambda times: [assign("start", ("l", items), ("x", 0)), loop_over(times, READS), {"end": {"return": "${x}"}}]
+
+
+def beside(steps):
+    """Programs of a loop that have so many steps besides, by how often it goes round."""
+    rest = [assign(f"s{number}", ("y", number)) for number in range(steps - 3)]
+    return lambda times: [assign("start", ("x", 0)), loop_over(times, assign("add", *[("x", "${x + v % 3}")] * 8)), {"end": {"return": "${null}"}}, *rest]
+
+
+def jumping(steps):
+    """Programs that go round by `next`, in a list that has so many steps besides before the one that is jumped to."""
+    rest = [assign(f"s{number}", ("y", number)) for number in range(steps - 5)]
+    again = {"again": {"switch": [{"condition": "${x < n}", "next": "add"}]}}
+    return lambda times: [
+        assign("start", ("x", 0), ("n", times)), {"over": {"next": "add"}}, *rest, assign("add", ("x", "${x + 1}")), again, {"end": {"return": "${null}"}}
+    ]
+
+
+def event_time(folder, programs, times, events_each, printed):
+    """The processor time of an event, in seconds: of a long run less a short one, so that the start doesn't count."""
+    few, many = times // 10, times
+    spent = []
+    for count in (few, many):
+        spent.append(min(run(folder, compact(programs(count)), printed)[1] for _ in range(TRIES)))
+    return (spent[1] - spent[0]) / ((many - few) * events_each)
+
+
+def growth(folder, what, make, sizes, times, events_each, printed):
+    """Whether the time of an event stays, where one thing of the program grows."""
+    small, large = (event_time(folder, make(size), times, events_each, printed) for size in sizes)
+    print(f"{what}, {sizes[0]} and {sizes[1]}: {1e6 * small:.2f} and {1e6 * large:.2f} microseconds an event, quotient {large / small:.2f}")
+    return large / small < MOST_GROWTH
+
+
+def main():
+    with tempfile.TemporaryDirectory(dir=os.path.dirname(PROGRAM)) as folder:
+        passed = [
+            against_bare(folder),
+            growth(folder, "a variable that is read, of a size of", reading, (10, 60_000), 10_000, 9, b"1\n"),
+            growth(folder, "a loop in a program with steps", beside, (10, 1_000), 10_000, 9, b"null\n"),
+            growth(folder, "a loop by `next` in a list of steps", jumping, (10, 1_000), 33_000, 3, b"null\n"),
+        ]
+    if not all(passed):
+        print(f"benchmark: over what is wanted: at most {MOST_AGAINST_BARE} against the bare loop, and growth below {MOST_GROWTH}")
+    return 0 if all(passed) else 1
+
+
+if __name__ == "__main__":
+    sys.exit(main())
