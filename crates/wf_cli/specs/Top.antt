@@ -65,8 +65,9 @@ abbrev pub IsAccepted : Scene → Type 0
 IsAccepted s = WhereTold s.source ((r : Refusal) → ¬ IsRefused s r)
 
 -- neither its argument nor its source is refused
-abbrev pub IsTaken : Scene → Type 0
-IsTaken s = ¬ IsBadArgument s × IsAccepted s
+pub record IsTaken (s : Scene) : Type 0 where
+  pub argument : ¬ IsBadArgument s
+  pub source : IsAccepted s
 
 -- ## Layouts
 -- the source has this tree, which is read back from its layout
