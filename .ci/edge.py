@@ -105,6 +105,7 @@ def no_file_is_made(folder):
         (("check", "--source", "bad.json"), 3),
         (("check", "--source", "s.json", "--journal", "j"), 2),
         (("run", "--source", "bad.json", "--journal", "j"), 3),
+        (("run", "--source", "s.json", "--journal", "j", "--args", "{"), 4),
         (("run", "--source", "missing.json", "--journal", "j"), 7),
         (("run", "--source", "s.json", "--jurnal", "j"), 2),
         (("run", "--journal", "j", "x"), 2),
@@ -117,6 +118,7 @@ def no_file_is_made(folder):
     # (no one writes into it, so a program that opens it waits)
     os.mkfifo(f"{folder}/fifo")
     assert call(folder, "run", "--source", "fifo", "x")[0] == 2
+    assert call(folder, "run", "--source", "fifo", "--args", "{")[0] == 4
     assert call(folder, "run", "--source", "s.json", "--journal", "no_such_folder/j")[0] == 9
 
 

@@ -24,6 +24,7 @@ fn told(alloc: Global, line: Line<'_>) -> Result<String, CaseFault> {
     let mut told = format!(in alloc; "{:?}", line.command())?;
     push_option(alloc, &mut told, OptionName::Source, line.source())?;
     push_option(alloc, &mut told, OptionName::Journal, line.journal())?;
+    push_option(alloc, &mut told, OptionName::Args, line.args())?;
     push_option(alloc, &mut told, OptionName::Id, line.id())?;
     Ok(told)
 }

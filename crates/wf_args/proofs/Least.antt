@@ -7,7 +7,7 @@ use Rattle.std.proofs.lemmas.Bool.{ltb-true, ltb-false, lt-ltb}
 use Rattle.wf_args.specs.declared.command.Command.{Command}
 use Rattle.wf_args.specs.declared.command.Command.TheVariants.{Run}
 use Rattle.wf_args.specs.declared.option.OptionName.{OptionName}
-use Rattle.wf_args.specs.declared.option.OptionName.TheVariants.{Source, Journal, Id}
+use Rattle.wf_args.specs.declared.option.OptionName.TheVariants.{Source, Journal, Args, Id}
 use Rattle.wf_args.specs.Lines.{PlainLine, command_of, name_word, options_of, required, most, is_word, same_name, count, may_stand, is_complete, next_name, options_at, line_of}
 use Rattle.wf_args.specs.Laws.{Reads, reads, Begins, IsLeastBadWord}
 use Rattle.wf_args.proofs.Names.{name_of_word, same_name-refl, count_more}
@@ -31,6 +31,7 @@ example_fits : (n : OptionName) → is_word n (example n) ≡ true
 unfolding example
 example_fits Source = refl
 example_fits Journal = refl
+example_fits Args = refl
 example_fits Id = refl
 
 -- a command takes the options that it requires

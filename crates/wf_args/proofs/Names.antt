@@ -6,7 +6,7 @@ use Rattle.std.specs.Option.{option_map_or}
 use Rattle.std.proofs.lemmas.Slice.Eq.{bytes_eq-Decides}
 use Rattle.std.proofs.lemmas.List.Sums.{sum_by-cons, sum_by-append}
 use Rattle.wf_args.specs.declared.option.OptionName.{OptionName}
-use Rattle.wf_args.specs.declared.option.OptionName.TheVariants.{Source, Journal, Id}
+use Rattle.wf_args.specs.declared.option.OptionName.TheVariants.{Source, Journal, Args, Id}
 use Rattle.wf_args.specs.Lines.{words_view, names, name_of, name_word, same_name, count, options_in, word_after, first_word}
 
 -- what is found passes
@@ -22,6 +22,7 @@ find_passes p (y ∷ ys) x found = passes_if (p y) p y (find p ys) x refl found 
 pub name_of_word : (n : OptionName) → name_of (name_word n) ≡ Some n
 name_of_word Source = refl
 name_of_word Journal = refl
+name_of_word Args = refl
 name_of_word Id = refl
 
 -- what names an option is its word

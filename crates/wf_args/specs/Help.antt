@@ -31,13 +31,14 @@ help =
     line (codes "workflow COMMAND [--OPTION WORD ..]")
     ++ line (codes "check      tells whether a program is accepted: --source PATH")
     ++ line (codes "format     prints the tree of a source: --source PATH")
-    ++ line (codes "run        starts an execution: --source PATH, --journal PATH, --id ID")
+    ++ line (codes "run        runs a program: --source PATH, --journal PATH, --args JSON, --id ID")
     ++ line (codes "resume     goes on with an execution: --journal PATH")
     ++ line (codes "--help     prints this text")
     ++ line (codes "--version  prints the program's name and version")
     ++ line (codes "Options follow their command in any order, each once.")
     ++ line (codes "Without --source the source is read from standard input.")
     ++ line (codes "Without --journal the journal is kept in memory.")
+    ++ line (codes "The JSON of --args is the argument of main; without it that is null.")
     ++ line (codes "An ID is 1 to 64 letters, digits, dots, underscores and hyphens.")
 
 unfoldable pub version : List ℕ

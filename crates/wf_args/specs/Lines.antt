@@ -1,12 +1,12 @@
 -- Command lines: the line that some words are, and the number of the word at which they begin none.
-use Rattle.std.specs.Prelude.{ℕ, suc, Bool, ◌&&◌, ◌||◌, nat_lt, nat_le, ◌==◌, if◌then◌else◌, List, [], ◌∷◌, ◌++◌, length, map, find, count_by, Option, Some, None, Result, Ok, Err, codes, option_and_then, String, string_bytes, bytes_eq}
+use Rattle.std.specs.Prelude.{ℕ, suc, Bool, true, ◌&&◌, ◌||◌, nat_lt, nat_le, ◌==◌, if◌then◌else◌, List, [], ◌∷◌, ◌++◌, length, map, find, count_by, Option, Some, None, Result, Ok, Err, codes, option_and_then, String, string_bytes, bytes_eq}
 use Rattle.std.specs.List.{list_all, list_any, cons_option}
 use Rattle.std.specs.Option.{option_map_or}
 use Rattle.std.specs.declared.alloc.Global.{Global}
 use Rattle.wf_args.specs.declared.command.Command.{Command}
 use Rattle.wf_args.specs.declared.command.Command.TheVariants.{Check, Format, Run, Resume, Help, Version}
 use Rattle.wf_args.specs.declared.option.OptionName.{OptionName}
-use Rattle.wf_args.specs.declared.option.OptionName.TheVariants.{Source, Journal, Id}
+use Rattle.wf_args.specs.declared.option.OptionName.TheVariants.{Source, Journal, Args, Id}
 
 -- words as their bytes
 abbrev pub words_view : List (String Global) → List (List ℕ)
@@ -33,18 +33,19 @@ command_word Version = codes "--version"
 
 -- the options, and the name of each
 abbrev pub names : List OptionName
-names = Source ∷ Journal ∷ Id ∷ []
+names = Source ∷ Journal ∷ Args ∷ Id ∷ []
 
 abbrev pub name_word : OptionName → List ℕ
 name_word Source = codes "--source"
 name_word Journal = codes "--journal"
+name_word Args = codes "--args"
 name_word Id = codes "--id"
 
 -- the options that a command takes
 abbrev pub options_of : Command → List OptionName
 options_of Check = Source ∷ []
 options_of Format = Source ∷ []
-options_of Run = Source ∷ Journal ∷ Id ∷ []
+options_of Run = Source ∷ Journal ∷ Args ∷ Id ∷ []
 options_of Resume = Journal ∷ []
 options_of Help = []
 options_of Version = []
@@ -73,6 +74,7 @@ is_path word = nat_lt 0 (length word) && nat_le (length word) longest_path
 abbrev pub is_word : OptionName → List ℕ → Bool
 is_word Source word = is_path word
 is_word Journal word = is_path word
+is_word Args word = true
 is_word Id word = nat_lt 0 (length word) && nat_le (length word) 64 && list_all is_id_byte word
 
 -- ## Reading

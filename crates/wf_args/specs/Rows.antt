@@ -3,7 +3,7 @@ use Rattle.std.specs.Prelude.{◌≡◌, ℕ, List, [], ◌∷◌, Ok, Err, code
 use Rattle.wf_args.specs.declared.command.Command.{Command}
 use Rattle.wf_args.specs.declared.command.Command.TheVariants.{Check, Run, Resume, Help}
 use Rattle.wf_args.specs.declared.option.OptionName.{OptionName}
-use Rattle.wf_args.specs.declared.option.OptionName.TheVariants.{Source, Journal}
+use Rattle.wf_args.specs.declared.option.OptionName.TheVariants.{Source, Journal, Args}
 use Rattle.wf_args.specs.Lines.{line_of}
 
 -- the words are this line
@@ -19,6 +19,8 @@ pub record WorkedLines : Type 0 where
   pub check_without_a_journal : IsBadAt (codes "check" ∷ codes "--journal" ∷ codes "j" ∷ []) 1
   pub run : IsLineOf (codes "run" ∷ []) Run []
   pub any_order : IsLineOf (codes "run" ∷ codes "--journal" ∷ codes "j" ∷ codes "--source" ∷ codes "s" ∷ []) Run ((Journal, codes "j") ∷ (Source, codes "s") ∷ [])
+  pub any_argument : IsLineOf (codes "run" ∷ codes "--args" ∷ codes "{" ∷ []) Run ((Args, codes "{") ∷ [])
+  pub empty_argument : IsLineOf (codes "run" ∷ codes "--args" ∷ codes "" ∷ []) Run ((Args, codes "") ∷ [])
   pub resume_from_memory : IsLineOf (codes "resume" ∷ []) Resume []
   pub help : IsLineOf (codes "--help" ∷ []) Help []
   pub nothing : IsBadAt [] 0
@@ -27,6 +29,8 @@ pub record WorkedLines : Type 0 where
   pub twice : IsBadAt (codes "run" ∷ codes "--source" ∷ codes "a" ∷ codes "--source" ∷ codes "b" ∷ []) 3
   pub empty_path : IsBadAt (codes "run" ∷ codes "--source" ∷ codes "" ∷ []) 2
   pub id_with_a_slash : IsBadAt (codes "run" ∷ codes "--id" ∷ codes "a/b" ∷ []) 2
+  pub two_arguments : IsBadAt (codes "run" ∷ codes "--args" ∷ codes "1" ∷ codes "--args" ∷ codes "1" ∷ []) 3
+  pub argument_of_another_command : IsBadAt (codes "resume" ∷ codes "--args" ∷ codes "null" ∷ []) 1
   pub option_of_another_command : IsBadAt (codes "resume" ∷ codes "--source" ∷ codes "a" ∷ []) 1
   pub no_command : IsBadAt (codes "go" ∷ []) 0
   pub help_with_more : IsBadAt (codes "--help" ∷ codes "run" ∷ []) 1

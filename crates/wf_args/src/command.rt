@@ -46,7 +46,7 @@ impl Command {
             Command::Check | Command::Format => matches!(name, OptionName::Source),
             Command::Run => matches!(
                 name,
-                OptionName::Source | OptionName::Journal | OptionName::Id
+                OptionName::Source | OptionName::Journal | OptionName::Args | OptionName::Id
             ),
             Command::Resume => matches!(name, OptionName::Journal),
             Command::Help | Command::Version => false,

@@ -11,13 +11,14 @@ pub fn help_text() -> &'static str
     "workflow COMMAND [--OPTION WORD ..]\n\
      check      tells whether a program is accepted: --source PATH\n\
      format     prints the tree of a source: --source PATH\n\
-     run        starts an execution: --source PATH, --journal PATH, --id ID\n\
+     run        runs a program: --source PATH, --journal PATH, --args JSON, --id ID\n\
      resume     goes on with an execution: --journal PATH\n\
      --help     prints this text\n\
      --version  prints the program's name and version\n\
      Options follow their command in any order, each once.\n\
      Without --source the source is read from standard input.\n\
      Without --journal the journal is kept in memory.\n\
+     The JSON of --args is the argument of main; without it that is null.\n\
      An ID is 1 to 64 letters, digits, dots, underscores and hyphens.\n"
 }
 

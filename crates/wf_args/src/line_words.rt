@@ -4,7 +4,7 @@ ghost use Rattle.std.specs.Option.{option_copied};
 ghost use Rattle.wf_args.specs.Lines.{word_of, is_word};
 ghost use Rattle.wf_args.specs.Laws.{IsLine};
 ghost use Rattle.wf_args.specs.Plain.{plain_line};
-ghost use Rattle.wf_args.specs.declared.option.OptionName.TheVariants.{Source, Journal, Id};
+ghost use Rattle.wf_args.specs.declared.option.OptionName.TheVariants.{Source, Journal, Args, Id};
 
 use crate::command::Command;
 use crate::line::Line;
@@ -34,6 +34,14 @@ impl<'w> Line<'w> {
         ensures proper { IfSome result (λ w. IsTrue (is_word Journal w.now)) }
     {
         find_in(OptionName::Journal, self.options)
+    }
+
+    /// The text that is to be the JSON of `main`'s argument, where the option `--args` stands. It may
+    /// be any.
+    pub fn args(&self) -> Option<&'w str>
+        ensures { option_copied result ≡ word_of Args (plain_line self.now) }
+    {
+        find_in(OptionName::Args, self.options)
     }
 
     /// The id, 1 to 64 letters, digits, `.`, `_` and `-`, where the option `--id` stands.

@@ -13,6 +13,8 @@ pub enum OptionName {
     Source,
     /// `--journal PATH`: the file of the execution's journal.
     Journal,
+    /// `--args JSON`: the argument of `main`, as a JSON text.
+    Args,
     /// `--id ID`: the execution's id.
     Id,
 }
@@ -25,6 +27,7 @@ impl OptionName {
         match word {
             "--source" => Some(OptionName::Source),
             "--journal" => Some(OptionName::Journal),
+            "--args" => Some(OptionName::Args),
             "--id" => Some(OptionName::Id),
             _ => None,
         }
@@ -37,6 +40,7 @@ impl OptionName {
         match self {
             OptionName::Source => "--source",
             OptionName::Journal => "--journal",
+            OptionName::Args => "--args",
             OptionName::Id => "--id",
         }
     }
@@ -48,8 +52,8 @@ impl OptionName {
         1
     }
 
-    /// Whether a word may stand behind the name: for a path one of 1 to 65,536 bytes, for an id 1 to
-    /// 64 letters, digits, `.`, `_` and `-`.
+    /// Whether a word may stand behind the name: for a path one of 1 to 65,536 bytes, for an argument
+    /// any, also the empty one, and for an id 1 to 64 letters, digits, `.`, `_` and `-`.
     pub(crate) fn fits(self, word: &str) -> bool
         ensures { result ≡ is_word self word.now }
     {
@@ -57,6 +61,7 @@ impl OptionName {
             OptionName::Source | OptionName::Journal => {
                 !word.is_empty() && word.len() <= LONGEST_PATH
             }
+            OptionName::Args => true,
             OptionName::Id => !word.is_empty() && word.len() <= 64 && all_of_ids(word.as_bytes()),
         }
     }

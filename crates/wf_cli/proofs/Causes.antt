@@ -1,8 +1,9 @@
 -- The causes of statuses, and which of them come together.
 use Rattle.std.proofs.Common.{◌≡◌, ◌<◌, inl, inr, IsTrue, ℕ, Bool, true, false, List, Option, None, Some, Result, Ok, Err, refl, sym, ◌∙◌, ap, subst, arith}
-use Rattle.wf_cli.specs.Top.{IsLineOf, IsBadLine, IsRefused, HasOtherMagic, IsStarted, IsNotStarted, IsNoHistory, Reported, Gives, IsOfFile, Says, bad_line, refused, reported, of_file}
+use Rattle.wf_cli.specs.Top.{IsLineOf, IsBadLine, IsBadArgument, IsRefused, HasOtherMagic, IsStarted, IsNotStarted, IsNoHistory, Reported, Gives, IsOfFile, Says, bad_line, bad_argument, refused, reported, of_file}
 use Rattle.wf_engine.specs.Printed as end
 use Rattle.wf_engine.specs.Printed.{Scene, uses_source, uses_journal, executes, status_of}
+use Rattle.wf_engine.specs.Starts.{HasArgument}
 use Rattle.wf_engine.specs.TheLanguage.{the_language}
 use Rattle.wf_host.specs.World.{World}
 use Rattle.wf_args.specs.Lines.{PlainLine, line_of}
@@ -97,9 +98,25 @@ one_command s c d a b = let it = both s (λ x. x ≡ c) (λ x. x ≡ d) a b in s
 pub not_run_and_resume : (s : Scene) → IsLineOf s (λ c. c ≡ Run) → IsLineOf s (λ c. c ≡ Resume) → ⊥
 not_run_and_resume s a b = let no : Run ≡ Resume = one_command s Run Resume a b in cc no
 
+-- ## Arguments
+-- just `run` has one
+pub argument_line : (s : Scene) → IsBadArgument s → IsLineOf s (λ c. c ≡ Run)
+argument_line s (l, is, command, none) = (l, is, command)
+
+pub no_argument : (s : Scene) (l : PlainLine) → line_of s.words ≡ Ok l → (l.command ≡ Run → ⊥) → ¬ IsBadArgument s
+no_argument s l is other (m, js, command, none) = other (ap (λ (k : PlainLine). k.command) (same_ok (line_of s.words) l m is js) ∙ command)
+
+-- a line that has an argument has no bad one
+pub good_argument : (s : Scene) (l : PlainLine) → line_of s.words ≡ Ok l → HasArgument l → ¬ IsBadArgument s
+good_argument s l is has (m, js, command, none) = none (subst HasArgument (same_ok (line_of s.words) l m is js) has)
+
+pub no_bad_argument : (s : Scene) → IsLineOf s (λ c. executes c ≡ false) → ¬ IsBadArgument s
+no_bad_argument s line bad = executing s (run_executes s (argument_line s bad)) line
+
 -- ## The cause of a status that prints a line
 abbrev pub Cause : Language → Scene → Status → Type 0
 Cause L s (status.BadLine n) = IsBadLine s n
+Cause L s status.BadArgument = IsBadArgument s
 Cause L s (status.Refused r) = IsRefused s r
 Cause L s status.NotAJournal = HasOtherMagic s
 Cause L s status.AlreadyStarted = IsStarted s
@@ -115,6 +132,7 @@ outcome_cause L s Cancelled st is = let no : None ≡ Some st = is in cc no
 
 pub gives_cause : (L : Language) (s : Scene) (image : List ℕ) (st : Status) (text : List ℕ) → Gives L s image st text → Cause L s st
 gives_cause L s image _ _ (end.bad_line n bad) = bad
+gives_cause L s image _ _ (end.bad_argument why) = why
 gives_cause L s image _ _ (end.refused r why) = why
 gives_cause L s image _ _ (end.not_a_journal why) = why
 gives_cause L s image _ _ (end.already_started why) = why
@@ -125,7 +143,8 @@ gives_cause L s image _ _ (end.done text report) = tt
 
 pub says_cause : (s : Scene) (old new : World) (st : Status) (text : List ℕ) → IsTrue old.tells → Says s old new st text → Cause the_language s st
 says_cause s old new _ _ told (bad_line n bad) = bad
-says_cause s old new _ _ told (refused r why) = why
+says_cause s old new _ _ told (bad_argument why) = why
+says_cause s old new _ _ told (refused r why fine) = why
 says_cause s old new _ _ told (reported text report back) = tt
 says_cause s old new _ _ told (of_file st text is line accepted gives) = gives_cause the_language s new.seen st text (gives told).0
 
@@ -139,6 +158,7 @@ outcome_untexted Cancelled st line is texted = let no : None ≡ Some st = is in
 
 pub gives_text : (L : Language) (s : Scene) (image : List ℕ) (st : Status) (text line : List ℕ) → Gives L s image st text → status_text st ≡ Some line → text ≡ line
 gives_text L s image _ _ line (end.bad_line n bad) is = same_some (status_text (status.BadLine n)) _ line refl is
+gives_text L s image _ _ line (end.bad_argument why) is = same_some (status_text status.BadArgument) _ line refl is
 gives_text L s image _ _ line (end.refused r why) is = same_some (status_text (status.Refused r)) _ line refl is
 gives_text L s image _ _ line (end.not_a_journal why) is = same_some (status_text status.NotAJournal) _ line refl is
 gives_text L s image _ _ line (end.already_started why) is = same_some (status_text status.AlreadyStarted) _ line refl is
@@ -149,13 +169,13 @@ gives_text L s image _ _ line (end.done text report) is = let no : None ≡ Some
 
 pub says_text : (s : Scene) (old new : World) (st : Status) (text line : List ℕ) → IsTrue old.tells → Says s old new st text → status_text st ≡ Some line → text ≡ line
 says_text s old new _ _ line told (bad_line n bad) is = same_some (status_text (status.BadLine n)) _ line refl is
-says_text s old new _ _ line told (refused r why) is = same_some (status_text (status.Refused r)) _ line refl is
+says_text s old new _ _ line told (bad_argument why) is = same_some (status_text status.BadArgument) _ line refl is
+says_text s old new _ _ line told (refused r why fine) is = same_some (status_text (status.Refused r)) _ line refl is
 says_text s old new _ _ line told (reported text report back) is = let no : None ≡ Some line = is in cc no
 says_text s old new _ _ line told (of_file st text isf rline accepted gives) is = gives_text the_language s new.seen st text line (gives told).0 is
 
 -- ## Statuses that are said
 abbrev pub is_said : Status → Bool
-is_said status.BadArgument = false
 is_said status.ReadFault = false
 is_said status.PrintFault = false
 is_said status.DiskFault = false
@@ -174,7 +194,8 @@ file_said st (inr (inr (inr (inr (inr is))))) = ap is_said is
 
 pub says_said : (s : Scene) (old new : World) (st : Status) (text : List ℕ) → Says s old new st text → is_said st ≡ true
 says_said s old new _ _ (bad_line n bad) = refl
-says_said s old new _ _ (refused r why) = refl
+says_said s old new _ _ (bad_argument why) = refl
+says_said s old new _ _ (refused r why fine) = refl
 says_said s old new _ _ (reported text report back) = refl
 says_said s old new _ _ (of_file st text is line accepted gives) = file_said st is
 
@@ -194,17 +215,20 @@ file_rank st (inr (inr (inr (inr (inr is))))) = subst (λ x. (4 < rank x) × (ra
 -- what is said of words or of a source doesn't depend on the file
 abbrev pub EarlyCause : Scene → Status → Type 0
 EarlyCause s (status.BadLine n) = IsBadLine s n
+EarlyCause s status.BadArgument = IsBadArgument s
 EarlyCause s (status.Refused r) = IsRefused s r
 EarlyCause s st = Unit {0}
 
 pub says_early : (s : Scene) (old new : World) (st : Status) (text : List ℕ) → rank st < 5 → Says s old new st text → EarlyCause s st
 says_early s old new _ _ low (bad_line n bad) = bad
-says_early s old new _ _ low (refused r why) = why
+says_early s old new _ _ low (bad_argument why) = why
+says_early s old new _ _ low (refused r why fine) = why
 says_early s old new _ _ low (reported text report back) = tt
 says_early s old new _ _ low (of_file st text is line accepted gives) = absurd (let r = file_rank st is in let no : ⊥ = omega (arith, r.0, low) in no)
 
 pub text_early : (s : Scene) (old new : World) (st : Status) (text line : List ℕ) → rank st < 5 → Says s old new st text → status_text st ≡ Some line → text ≡ line
 text_early s old new _ _ line low (bad_line n bad) is = same_some (status_text (status.BadLine n)) _ line refl is
-text_early s old new _ _ line low (refused r why) is = same_some (status_text (status.Refused r)) _ line refl is
+text_early s old new _ _ line low (bad_argument why) is = same_some (status_text status.BadArgument) _ line refl is
+text_early s old new _ _ line low (refused r why fine) is = same_some (status_text (status.Refused r)) _ line refl is
 text_early s old new _ _ line low (reported text report back) is = let no : None ≡ Some line = is in cc no
 text_early s old new _ _ line low (of_file st text isf rline accepted gives) is = absurd (let r = file_rank st isf in let no : ⊥ = omega (arith, r.0, low) in no)

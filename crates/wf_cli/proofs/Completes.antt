@@ -1,7 +1,7 @@
 -- Where no cause holds, the command does its work, or there is no memory.
 use Rattle.std.proofs.Common.{◌≡◌, ◌⊎◌, inl, inr, IsTrue, ℕ, false, List, refl, subst}
 use Rattle.wf_cli.proofs.Causes.{not_both, executing, Cause, gives_cause}
-use Rattle.wf_cli.specs.Top.{Call, IsLineOf, IsOfFile, Says, bad_line, refused, reported, of_file, Ends, said, cut, unread, failed, no_memory, HasNoCause, Completes}
+use Rattle.wf_cli.specs.Top.{Call, IsLineOf, IsOfFile, Says, bad_line, bad_argument, refused, reported, of_file, Ends, said, cut, unread, failed, no_memory, HasNoCause, Completes}
 use Rattle.wf_engine.specs.Printed.{executes}
 use Rattle.wf_engine.specs.TheLanguage.{the_language}
 use Rattle.wf_args.specs.Lines.{line_of}
@@ -23,13 +23,15 @@ module _ (x : Call) (none : HasNoCause the_language x) where
 
   says_work : (st : Status) (text : List ℕ) → IsTrue x.old.tells → Says x.scene x.old x.new st text → IsWork st
   says_work _ _ told (bad_line n bad) = absurd (not_both (line_of x.scene.words) none.line.0 n none.line.1 bad)
-  says_work _ _ told (refused r why) = absurd (none.source r why)
+  says_work _ _ told (bad_argument why) = absurd (none.argument why)
+  says_work _ _ told (refused r why fine) = absurd (none.source r why)
   says_work _ _ told (reported text report back) = inl refl
   says_work _ _ told (of_file st text is line accepted gives) = of_the_file st is (gives_cause the_language x.scene x.new.seen st text (gives told).0)
 
   says_done : (st : Status) (text : List ℕ) → IsLineOf x.scene (λ c. executes c ≡ false) → Says x.scene x.old x.new st text → st ≡ status.Done
   says_done _ _ report (bad_line n bad) = absurd (not_both (line_of x.scene.words) none.line.0 n none.line.1 bad)
-  says_done _ _ report (refused r why) = absurd (none.source r why)
+  says_done _ _ report (bad_argument why) = absurd (none.argument why)
+  says_done _ _ report (refused r why fine) = absurd (none.source r why)
   says_done _ _ report (reported text shown back) = refl
   says_done _ _ report (of_file st text is line accepted gives) = absurd (executing x.scene line report)
 
@@ -41,7 +43,7 @@ module _ (x : Call) (none : HasNoCause the_language x) where
   said_or_lacks P so (said text says prints) = inl (so text says)
   said_or_lacks P so (cut st text is says (inl rose) some) = absurd (none.prints rose)
   said_or_lacks P so (cut st text is says (inr took) some) = absurd (none.took took)
-  said_or_lacks P so (unread is line rose prints) = absurd (none.reads rose)
+  said_or_lacks P so (unread is line fine rose prints) = absurd (none.reads rose)
   said_or_lacks P so (failed is line accepted rose prints) = absurd (none.disk rose)
   said_or_lacks P so (no_memory is prints) = inr is
 

@@ -11,7 +11,7 @@ use Rattle.wf_cli.proofs.Safe.{late_behind, safe_behind}
 use Rattle.wf_cli.proofs.Together.{where_told, when_told}
 use Rattle.wf_cli.specs.Reports.{the_reports}
 use Rattle.wf_cli.specs.Said.{IsEnd, Worked, DidLittle, LateNow, Unwritten, Tells, Printing, silent_status, text_of}
-use Rattle.wf_cli.specs.Top.{Call, IsRefused, IsBehindSync, IsPrint, Gives, Says, bad_line, refused, reported, of_file, Ends, said, cut, unread, failed, no_memory, Prints, PrintsSome, TookNothing, FinishedStays, RefusedStays, ReportsStay, SilentStays, SafeThroughout, SafeAtEnd, LateAtEnd, WritesNothing}
+use Rattle.wf_cli.specs.Top.{Call, IsRefused, IsBehindSync, IsPrint, Gives, Says, bad_line, bad_argument, refused, reported, of_file, Ends, said, cut, unread, failed, no_memory, Prints, PrintsSome, TookNothing, FinishedStays, RefusedStays, ReportsStay, SilentStays, SafeThroughout, SafeAtEnd, LateAtEnd, WritesNothing}
 use Rattle.wf_cli.specs.declared.end.Said.{Said}
 use Rattle.wf_cli.specs.declared.end.Silence.{Silence}
 use Rattle.wf_cli.specs.declared.end.Silence.TheVariants as silence
@@ -61,7 +61,8 @@ printed_behind D P silent = printed_same P ∙ sym (printed_both D P ∙ ap (λ 
 -- what was said of the file behind the work is said of the file behind the prints
 says_later : (s : Scene) (old mid new : World) (st : Status) (text : List ℕ) → Told old (new.seen ≡ mid.seen) → Says s old mid st text → Says s old new st text
 says_later s old mid new _ _ same (bad_line n bad) = bad_line n bad
-says_later s old mid new _ _ same (refused r why) = refused r why
+says_later s old mid new _ _ same (bad_argument why) = bad_argument why
+says_later s old mid new _ _ same (refused r why fine) = refused r why fine
 says_later s old mid new _ _ same (reported text report back) = reported text report back
 says_later s old mid new _ _ same (of_file st text is line accepted gives) =
     of_file st text is line accepted (λ told. (subst (λ f. Gives the_language s f st text) (sym (same told)) (gives told).0, (gives told).1))
@@ -99,7 +100,7 @@ module _ (x : Call) (mid : World) (reads2 : ℕ) (faults2 : Faults) (tells : mid
   ends (Ok it) is little (inr (same, why, prints)) seen reads before after =
       cut it.status it.text.items same (says_later x.scene x.old mid x.new it.status it.text.items seen is)
       (⊎_elim (λ rose. inl (rose_from x.faults_old.print faults2.print x.faults_new.print before.print rose)) (λ took. inr (took_nothing little took)) why) (some little it.text.items prints)
-  ends (Err silence.Unread) is little (same, none) seen reads before after = unread same is.0 (rose_by x.reads_old reads2 x.reads_new is.1 reads) (nothing little none)
+  ends (Err silence.Unread) is little (same, none) seen reads before after = unread same is.0 is.1 (rose_by x.reads_old reads2 x.reads_new is.2 reads) (nothing little none)
   ends (Err silence.DiskFault) is little (same, none) seen reads before after =
       failed same is.0 is.1 (rose_by x.faults_old.disk faults2.disk x.faults_new.disk is.2 after.disk) (nothing little none)
   ends (Err silence.OutOfMemory) is little (same, none) seen reads before after = no_memory same (nothing little none)
@@ -215,10 +216,11 @@ module _ (x : Call) (mid : World) (r : Result Said Silence) (w : Worked x.scene 
 
   -- a line that may write, and why none may
   pub reports_stay : ReportsStay x
-  reports_stay line = (⊎_elim unwritten (λ may. absurd (executing x.scene may.0 line)) w.writes, only_prints (w.idle line) p.printed)
+  reports_stay line = (⊎_elim unwritten (λ may. absurd (executing x.scene may.0 line)) w.writes, only_prints (w.idle (inl line)) p.printed)
 
   pub silent_stays : SilentStays x
   silent_stays = record {
     bad_line = λ n bad. ⊎_elim unwritten (λ may. absurd (no_bad_line x.scene (λ c. executes c ≡ true) n may.0 bad)) w.writes;
-    refused = where_told x.scene.source _ (λ left told q why. ⊎_elim unwritten (λ may. absurd (when_told x.scene.source left ((z : Refusal) → ¬ IsRefused x.scene z) told may.1 q why)) w.writes);
+    bad_argument = λ bad. (⊎_elim unwritten (λ may. absurd (may.1.argument bad)) w.writes, only_prints (w.idle (inr bad)) p.printed);
+    refused = where_told x.scene.source _ (λ left told q why. ⊎_elim unwritten (λ may. absurd (when_told x.scene.source left ((z : Refusal) → ¬ IsRefused x.scene z) told may.1.source q why)) w.writes);
   }

@@ -2,7 +2,7 @@
 use Rattle.std.proofs.Common.{◌≡◌, ◌≤◌, ℕ, Result, ◌∙◌}
 use Rattle.wf_cli.proofs.Completes.{completes}
 use Rattle.wf_cli.proofs.Finish.{ends, safe_throughout, safe_at_end, late_at_end, finished_stays, refused_stays, reports_stay, silent_stays}
-use Rattle.wf_cli.proofs.Rows.{bad_line_row, read_fault_row, refused_row, disk_fault_row, not_a_journal_row, already_started_row, not_started_row, not_a_history_row, outcome_row, done_row, accepted_row, comes_back_row, print_fault_row, only_these, own_status}
+use Rattle.wf_cli.proofs.Rows.{bad_line_row, bad_argument_row, read_fault_row, refused_row, disk_fault_row, not_a_journal_row, already_started_row, not_started_row, not_a_history_row, outcome_row, done_row, accepted_row, comes_back_row, print_fault_row, only_these, own_status}
 use Rattle.wf_cli.specs.Promises.{Promised}
 use Rattle.wf_cli.specs.Said.{IsEnd, Worked, Tells, Printing, text_of}
 use Rattle.wf_cli.specs.Top.{Call, Ends}
@@ -22,6 +22,7 @@ promised x mid reads2 faults2 r is worked tells printing same reads before after
     record {
       ends = all;
       bad_line = bad_line_row x all;
+      bad_argument = bad_argument_row x all;
       read_fault = read_fault_row x all;
       refused = refused_row once apart x all;
       disk_fault = disk_fault_row x all;

@@ -2,8 +2,8 @@
 use Rattle.std.proofs.Common.{◌≡◌, ◌<◌, ◌⊎◌, inl, inr, ⊎_elim, IsTrue, ℕ, Bool, true, false, List, ◌++◌, None, Some, refl, sym, ◌∙◌, ap, subst, arith}
 use Rattle.std.specs.Prelude.{codes, decimal}
 use Rattle.wf_cli.proofs.Causes.{same_ok, same_some, no_bad_line, one_command, executing, journal_executes, check_reports, format_reports, line_is, run_executes, resume_executes, reported_line, Cause, says_cause, says_text, EarlyCause, says_early, text_early, not_said}
-use Rattle.wf_cli.proofs.Together.{IsOrBefore, where_bad_line, where_told, when_told, where_refused, where_of_file, where_no_history, at_magic, at_started, at_not_started}
-use Rattle.wf_cli.specs.Top.{Call, IsLineOf, IsRefused, IsChecked, HasOutcome, Reported, Gives, IsAccepted, IsOfFile, ComesBack, Says, bad_line, refused, reported, of_file, Ends, said, cut, unread, failed, no_memory, Prints, IsOrYields, Exactly, BadLineRow, ReadFaultRow, RefusedRow, DiskFaultRow, NotAJournalRow, AlreadyStartedRow, NotStartedRow, NotAHistoryRow, OutcomeRow, DoneRow, AcceptedRow, ComesBackRow, PrintFaultRow, OnlyThese}
+use Rattle.wf_cli.proofs.Together.{IsOrBefore, where_bad_line, where_bad_argument, where_told, when_told, where_refused, where_of_file, where_no_history, at_magic, at_started, at_not_started}
+use Rattle.wf_cli.specs.Top.{Call, IsLineOf, IsBadArgument, IsRefused, IsChecked, HasOutcome, Reported, Gives, IsTaken, IsOfFile, ComesBack, Says, bad_line, bad_argument, refused, reported, of_file, Ends, said, cut, unread, failed, no_memory, Prints, IsOrYields, Exactly, BadLineRow, BadArgumentRow, ReadFaultRow, RefusedRow, DiskFaultRow, NotAJournalRow, AlreadyStartedRow, NotStartedRow, NotAHistoryRow, OutcomeRow, DoneRow, AcceptedRow, ComesBackRow, PrintFaultRow, OnlyThese}
 use Rattle.wf_engine.specs.Printed as end
 use Rattle.wf_engine.specs.Printed.{Scene, uses_source, uses_journal, executes, status_of, outcome_text, accepted_text}
 use Rattle.wf_engine.specs.TheLanguage.{the_language}
@@ -24,11 +24,11 @@ use Rattle.wf_yaml_write.specs.Layout.{written}
 
 -- ## What a status has
 -- a status that comes with each end, unless an earlier cause came
-pub yields : (x : Call) (st : Status) → Ends x → ((other : Status) (text : List ℕ) → Says x.scene x.old x.new other text → IsOrBefore st other) → (IsLineOf x.scene (λ c. uses_source c ≡ true) → 2 < rank st)
-    → (IsLineOf x.scene (λ c. executes c ≡ true) → IsAccepted x.scene → 4 < rank st) → IsOrYields x st
+pub yields : (x : Call) (st : Status) → Ends x → ((other : Status) (text : List ℕ) → Says x.scene x.old x.new other text → IsOrBefore st other) → (IsLineOf x.scene (λ c. uses_source c ≡ true) → ¬ IsBadArgument x.scene → 2 < rank st)
+    → (IsLineOf x.scene (λ c. executes c ≡ true) → IsTaken x.scene → 4 < rank st) → IsOrYields x st
 yields x st (said text says prints) one reads disk = ⊎_elim (λ is. inl is) (λ low. inr (inl low)) (one x.status text says)
 yields x st (cut other text is says why some) one reads disk = inr (inr (inl is))
-yields x st (unread is line rose prints) one reads disk = inr (inl (subst (λ s. rank s < rank st) (sym is) (reads line)))
+yields x st (unread is line fine rose prints) one reads disk = inr (inl (subst (λ s. rank s < rank st) (sym is) (reads line fine)))
 yields x st (failed is line accepted rose prints) one reads disk = inr (inl (subst (λ s. rank s < rank st) (sym is) (disk line accepted)))
 yields x st (no_memory is prints) one reads disk = inr (inr (inr is))
 
@@ -43,7 +43,7 @@ no_text st other line texted is none = let no : Some line ≡ None = sym texted 
 cause_told : (x : Call) (line : List ℕ) → IsTrue x.old.tells → Ends x → IsTexted x.status line → Cause the_language x.scene x.status
 cause_told x line told (said text says prints) texted = says_cause x.scene x.old x.new x.status text told says
 cause_told x line told (cut other text is says why some) texted = absurd (no_text x.status status.PrintFault line texted is refl)
-cause_told x line told (unread is rline rose prints) texted = absurd (no_text x.status status.ReadFault line texted is refl)
+cause_told x line told (unread is rline fine rose prints) texted = absurd (no_text x.status status.ReadFault line texted is refl)
 cause_told x line told (failed is rline accepted rose prints) texted = absurd (no_text x.status status.DiskFault line texted is refl)
 cause_told x line told (no_memory is prints) texted = absurd (no_text x.status status.OutOfMemory line texted is refl)
 
@@ -51,7 +51,7 @@ cause_told x line told (no_memory is prints) texted = absurd (no_text x.status s
 cause_early : (x : Call) (line : List ℕ) → rank x.status < 5 → Ends x → IsTexted x.status line → EarlyCause x.scene x.status
 cause_early x line low (said text says prints) texted = says_early x.scene x.old x.new x.status text low says
 cause_early x line low (cut other text is says why some) texted = absurd (no_text x.status status.PrintFault line texted is refl)
-cause_early x line low (unread is rline rose prints) texted = absurd (no_text x.status status.ReadFault line texted is refl)
+cause_early x line low (unread is rline fine rose prints) texted = absurd (no_text x.status status.ReadFault line texted is refl)
 cause_early x line low (failed is rline accepted rose prints) texted = absurd (no_text x.status status.DiskFault line texted is refl)
 cause_early x line low (no_memory is prints) texted = absurd (no_text x.status status.OutOfMemory line texted is refl)
 
@@ -59,7 +59,7 @@ cause_early x line low (no_memory is prints) texted = absurd (no_text x.status s
 line_printed : (x : Call) (line : List ℕ) → Ends x → IsTexted x.status line → Prints x line
 line_printed x line (said text says prints) texted = λ told. subst (λ t. Prints x t) (says_text x.scene x.old x.new x.status text line told says texted) prints told
 line_printed x line (cut other text is says why some) texted = absurd (no_text x.status status.PrintFault line texted is refl)
-line_printed x line (unread is rline rose prints) texted = absurd (no_text x.status status.ReadFault line texted is refl)
+line_printed x line (unread is rline fine rose prints) texted = absurd (no_text x.status status.ReadFault line texted is refl)
 line_printed x line (failed is rline accepted rose prints) texted = absurd (no_text x.status status.DiskFault line texted is refl)
 line_printed x line (no_memory is prints) texted = absurd (no_text x.status status.OutOfMemory line texted is refl)
 
@@ -67,7 +67,7 @@ line_printed x line (no_memory is prints) texted = absurd (no_text x.status stat
 line_early : (x : Call) (line : List ℕ) → rank x.status < 5 → Ends x → IsTexted x.status line → Prints x line
 line_early x line low (said text says prints) texted = λ told. subst (λ t. Prints x t) (text_early x.scene x.old x.new x.status text line low says texted) prints told
 line_early x line low (cut other text is says why some) texted = absurd (no_text x.status status.PrintFault line texted is refl)
-line_early x line low (unread is rline rose prints) texted = absurd (no_text x.status status.ReadFault line texted is refl)
+line_early x line low (unread is rline fine rose prints) texted = absurd (no_text x.status status.ReadFault line texted is refl)
 line_early x line low (failed is rline accepted rose prints) texted = absurd (no_text x.status status.DiskFault line texted is refl)
 line_early x line low (no_memory is prints) texted = absurd (no_text x.status status.OutOfMemory line texted is refl)
 
@@ -81,9 +81,18 @@ bad_line_row x ends n =
     let line = line_end (codes "bad line at word " ++ decimal n) in
     record {
       comes = λ is. subst (EarlyCause x.scene) is (cause_early x line (subst (λ s. rank s < 5) (sym is) (omega arith)) ends (texted_as x (status.BadLine n) line refl is));
-      only = λ bad. yields x (status.BadLine n) ends (λ other text says. where_bad_line x.scene x.old x.new n other text bad says) (λ run. absurd (no_bad_line x.scene (λ c. uses_source c ≡ true) n run bad))
+      only = λ bad. yields x (status.BadLine n) ends (λ other text says. where_bad_line x.scene x.old x.new n other text bad says) (λ run fine. absurd (no_bad_line x.scene (λ c. uses_source c ≡ true) n run bad))
           (λ runs accepted. absurd (no_bad_line x.scene (λ c. executes c ≡ true) n runs bad));
       prints = λ is. line_early x line (subst (λ s. rank s < 5) (sym is) (omega arith)) ends (texted_as x (status.BadLine n) line refl is);
+    }
+
+pub bad_argument_row : (x : Call) → Ends x → BadArgumentRow x
+bad_argument_row x ends =
+    let line = line_end (codes "bad argument") in
+    record {
+      comes = λ is. subst (EarlyCause x.scene) is (cause_early x line (subst (λ s. rank s < 5) (sym is) (omega arith)) ends (texted_as x status.BadArgument line refl is));
+      only = λ bad. yields x status.BadArgument ends (λ other text says. where_bad_argument x.scene x.old x.new other text bad says) (λ run fine. absurd (fine bad)) (λ runs taken. absurd (taken.argument bad));
+      prints = λ is. line_early x line (subst (λ s. rank s < 5) (sym is) (omega arith)) ends (texted_as x status.BadArgument line refl is);
     }
 
 pub refused_row : OneRefusal → NotBoth → (x : Call) → Ends x → RefusedRow x
@@ -92,8 +101,8 @@ refused_row law apart x ends =
     let line = line_end (refusal_text r) in
     record {
       comes = λ is. subst (EarlyCause x.scene) is (cause_early x line (subst (λ s. rank s < 5) (sym is) (omega arith)) ends (texted_as x (status.Refused r) line refl is));
-      only = λ why. yields x (status.Refused r) ends (λ other text says. where_refused law apart x.scene x.old x.new left r other text told why says) (λ run. omega arith)
-          (λ runs accepted. absurd (when_told x.scene.source left ((q : Refusal) → ¬ IsRefused x.scene q) told accepted r why));
+      only = λ why. yields x (status.Refused r) ends (λ other text says. where_refused law apart x.scene x.old x.new left r other text told why says) (λ run fine. omega arith)
+          (λ runs taken. absurd (when_told x.scene.source left ((q : Refusal) → ¬ IsRefused x.scene q) told taken.source r why));
       prints = λ is. line_early x line (subst (λ s. rank s < 5) (sym is) (omega arith)) ends (texted_as x (status.Refused r) line refl is);
     })
 
@@ -102,7 +111,7 @@ file_row : (x : Call) (st : Status) (line : List ℕ) → IsTrue x.old.tells →
     → ((other : Status) (text : List ℕ) → Cause the_language x.scene st → Says x.scene x.old x.new other text → IsOrBefore st other) → Exactly x st (Cause the_language x.scene st) line
 file_row x st line told ends texted low before = record {
   comes = λ is. subst (Cause the_language x.scene) is (cause_told x line told ends (texted_as x st line texted is));
-  only = λ why. yields x st ends (λ other text says. before other text why says) (λ run. omega (arith, low)) (λ runs accepted. low);
+  only = λ why. yields x st ends (λ other text says. before other text why says) (λ run fine. omega (arith, low)) (λ runs taken. low);
   prints = λ is. line_printed x line ends (texted_as x st line texted is);
 }
 
@@ -130,34 +139,34 @@ not_a_history_row x told ends n =
 pub read_fault_row : (x : Call) → Ends x → ReadFaultRow x
 read_fault_row x (said text says prints) = λ is. absurd (not_said x.scene x.old x.new x.status status.ReadFault text says is refl)
 read_fault_row x (cut other text is says why some) = λ it. let no : status.PrintFault ≡ status.ReadFault = sym is ∙ it in absurd (cc no)
-read_fault_row x (unread is line rose prints) = λ it. rose
+read_fault_row x (unread is line fine rose prints) = λ it. rose
 read_fault_row x (failed is line accepted rose prints) = λ it. let no : status.DiskFault ≡ status.ReadFault = sym is ∙ it in absurd (cc no)
 read_fault_row x (no_memory is prints) = λ it. let no : status.OutOfMemory ≡ status.ReadFault = sym is ∙ it in absurd (cc no)
 
 pub disk_fault_row : (x : Call) → Ends x → DiskFaultRow x
 disk_fault_row x (said text says prints) = λ is. absurd (not_said x.scene x.old x.new x.status status.DiskFault text says is refl)
 disk_fault_row x (cut other text is says why some) = λ it. let no : status.PrintFault ≡ status.DiskFault = sym is ∙ it in absurd (cc no)
-disk_fault_row x (unread is line rose prints) = λ it. let no : status.ReadFault ≡ status.DiskFault = sym is ∙ it in absurd (cc no)
+disk_fault_row x (unread is line fine rose prints) = λ it. let no : status.ReadFault ≡ status.DiskFault = sym is ∙ it in absurd (cc no)
 disk_fault_row x (failed is line accepted rose prints) = λ it. rose
 disk_fault_row x (no_memory is prints) = λ it. let no : status.OutOfMemory ≡ status.DiskFault = sym is ∙ it in absurd (cc no)
 
 pub print_fault_row : (x : Call) → Ends x → PrintFaultRow x
 print_fault_row x (said text says prints) = λ is. absurd (not_said x.scene x.old x.new x.status status.PrintFault text says is refl)
 print_fault_row x (cut other text is says why some) = λ it. why
-print_fault_row x (unread is line rose prints) = λ it. let no : status.ReadFault ≡ status.PrintFault = sym is ∙ it in absurd (cc no)
+print_fault_row x (unread is line fine rose prints) = λ it. let no : status.ReadFault ≡ status.PrintFault = sym is ∙ it in absurd (cc no)
 print_fault_row x (failed is line accepted rose prints) = λ it. let no : status.DiskFault ≡ status.PrintFault = sym is ∙ it in absurd (cc no)
 print_fault_row x (no_memory is prints) = λ it. let no : status.OutOfMemory ≡ status.PrintFault = sym is ∙ it in absurd (cc no)
 
 -- a status of this part
 abbrev pub is_own : Status → Bool
-is_own status.BadArgument = false
 is_own status.PollFault = false
 is_own status.Suspended = false
 is_own st = true
 
 own_of_said : (s : Scene) (old new : World) (st : Status) (text : List ℕ) → Says s old new st text → is_own st ≡ true
 own_of_said s old new _ _ (bad_line n bad) = refl
-own_of_said s old new _ _ (refused r why) = refl
+own_of_said s old new _ _ (bad_argument why) = refl
+own_of_said s old new _ _ (refused r why fine) = refl
 own_of_said s old new _ _ (reported text report back) = refl
 own_of_said s old new _ _ (of_file st text (inl is) line accepted gives) = ap is_own is
 own_of_said s old new _ _ (of_file st text (inr (inl is)) line accepted gives) = ap is_own is
@@ -169,12 +178,12 @@ own_of_said s old new _ _ (of_file st text (inr (inr (inr (inr (inr is))))) line
 pub own_status : (x : Call) → Ends x → is_own x.status ≡ true
 own_status x (said text says prints) = own_of_said x.scene x.old x.new x.status text says
 own_status x (cut other text is says why some) = ap is_own is
-own_status x (unread is line rose prints) = ap is_own is
+own_status x (unread is line fine rose prints) = ap is_own is
 own_status x (failed is line accepted rose prints) = ap is_own is
 own_status x (no_memory is prints) = ap is_own is
 
 pub only_these : (x : Call) → Ends x → OnlyThese x
-only_these x ends = (λ is. none status.BadArgument is refl, λ is. none status.PollFault is refl, λ is. none status.Suspended is refl)
+only_these x ends = (λ is. none status.PollFault is refl, λ is. none status.Suspended is refl)
   where
     none : (st : Status) → x.status ≡ st → is_own st ≡ false → ⊥
     none st is isnt = let no : true ≡ false = sym (own_status x ends) ∙ ap is_own is ∙ isnt in cc no
@@ -213,6 +222,7 @@ outcome_rank status.OutOfMemory is = let no : false ≡ true = is in absurd (cc 
 outcome_of_gives : (L : Language) (s : Scene) (image : List ℕ) (st : Status) (text : List ℕ) → IsLineOf s (λ c. executes c ≡ true) → Gives L s image st text → is_outcome st ≡ true
     → (o : Outcome) × HasOutcome L s image o × (status_of o ≡ Some st) × (text ≡ outcome_text o)
 outcome_of_gives L s image _ _ line (end.bad_line n bad) is = let no : false ≡ true = is in absurd (cc no)
+outcome_of_gives L s image _ _ line (end.bad_argument why) is = let no : false ≡ true = is in absurd (cc no)
 outcome_of_gives L s image _ _ line (end.refused r why) is = let no : false ≡ true = is in absurd (cc no)
 outcome_of_gives L s image _ _ line (end.not_a_journal why) is = let no : false ≡ true = is in absurd (cc no)
 outcome_of_gives L s image _ _ line (end.already_started why) is = let no : false ≡ true = is in absurd (cc no)
@@ -224,7 +234,8 @@ outcome_of_gives L s image _ _ line (end.done text report) is = absurd (executin
 outcome_of_says : (s : Scene) (old new : World) (st : Status) (text : List ℕ) → IsTrue old.tells → IsLineOf s (λ c. executes c ≡ true) → Says s old new st text → is_outcome st ≡ true
     → (o : Outcome) × HasOutcome the_language s new.seen o × (status_of o ≡ Some st) × (text ≡ outcome_text o)
 outcome_of_says s old new _ _ told line (bad_line n bad) is = let no : false ≡ true = is in absurd (cc no)
-outcome_of_says s old new _ _ told line (refused r why) is = let no : false ≡ true = is in absurd (cc no)
+outcome_of_says s old new _ _ told line (bad_argument why) is = let no : false ≡ true = is in absurd (cc no)
+outcome_of_says s old new _ _ told line (refused r why fine) is = let no : false ≡ true = is in absurd (cc no)
 outcome_of_says s old new _ _ told line (reported text report back) is = absurd (executing s line (reported_line s text report))
 outcome_of_says s old new _ _ told line (of_file st text isf line2 accepted gives) is = outcome_of_gives the_language s new.seen st text line (gives told).0 is
 
@@ -234,7 +245,7 @@ outcome_comes x told (said text says prints) line is =
     let it = outcome_of_says x.scene x.old x.new x.status text told line says is in
     (it.0, it.1, it.2, subst (λ t. Prints x t) it.3 prints)
 outcome_comes x told (cut other text it says why some) line is = let no : false ≡ true = sym (ap is_outcome it) ∙ is in absurd (cc no)
-outcome_comes x told (unread it rline rose prints) line is = let no : false ≡ true = sym (ap is_outcome it) ∙ is in absurd (cc no)
+outcome_comes x told (unread it rline fine rose prints) line is = let no : false ≡ true = sym (ap is_outcome it) ∙ is in absurd (cc no)
 outcome_comes x told (failed it rline accepted rose prints) line is = let no : false ≡ true = sym (ap is_outcome it) ∙ is in absurd (cc no)
 outcome_comes x told (no_memory it prints) line is = let no : false ≡ true = sym (ap is_outcome it) ∙ is in absurd (cc no)
 
@@ -254,7 +265,8 @@ low_or_outcome other st (inr (inr (inr (inr (inr is))))) equal = inr (ap is_outc
 
 where_outcome : (s : Scene) (old new : World) (o : Outcome) (st other : Status) (text : List ℕ) → IsTrue old.tells → status_of o ≡ Some st → HasOutcome the_language s new.seen o → Says s old new other text → IsOrBefore st other
 where_outcome s old new o st _ _ told which has (bad_line n bad) = inr (let r = outcome_rank st (outcome_status o st which) in omega (arith, r))
-where_outcome s old new o st _ _ told which has (refused q why) = inr (let r = outcome_rank st (outcome_status o st which) in omega (arith, r))
+where_outcome s old new o st _ _ told which has (bad_argument why) = inr (let r = outcome_rank st (outcome_status o st which) in omega (arith, r))
+where_outcome s old new o st _ _ told which has (refused q why fine) = inr (let r = outcome_rank st (outcome_status o st which) in omega (arith, r))
 where_outcome s old new o st _ _ told which has (reported text report back) = absurd (executing s has.0 (reported_line s text report))
 where_outcome s old new o st _ _ told which has (of_file other text is line accepted gives) =
     ⊎_elim (λ low. inr low)
@@ -266,32 +278,34 @@ outcome_row x told ends = record {
   comes = λ line is. outcome_comes x told ends line (⊎_elim (λ done. ap is_outcome done) (λ raised. ap is_outcome raised) is);
   only = λ o st which has.
       let r = outcome_rank st (outcome_status o st which) in
-      yields x st ends (λ other text says. where_outcome x.scene x.old x.new o st other text told which has says) (λ run. omega (arith, r)) (λ runs accepted. omega (arith, r));
+      yields x st ends (λ other text says. where_outcome x.scene x.old x.new o st other text told which has says) (λ run fine. omega (arith, r)) (λ runs taken. omega (arith, r));
 }
 
 report_of_says : (s : Scene) (old new : World) (st : Status) (text : List ℕ) → Says s old new st text → IsLineOf s (λ c. executes c ≡ false) → st ≡ status.Done → Reported s text
 report_of_says s old new _ _ (bad_line n bad) line is = absurd (cc is)
-report_of_says s old new _ _ (refused r why) line is = absurd (cc is)
+report_of_says s old new _ _ (bad_argument why) line is = absurd (cc is)
+report_of_says s old new _ _ (refused r why fine) line is = absurd (cc is)
 report_of_says s old new _ _ (reported text report back) line is = report
 report_of_says s old new _ _ (of_file st text isf line2 accepted gives) line is = absurd (executing s line2 line)
 
 done_comes : (x : Call) → Ends x → IsLineOf x.scene (λ c. executes c ≡ false) → x.status ≡ status.Done → (text : List ℕ) × Reported x.scene text × Prints x text
 done_comes x (said text says prints) line is = (text, report_of_says x.scene x.old x.new x.status text says line is, prints)
 done_comes x (cut other text it says why some) line is = let no : status.PrintFault ≡ status.Done = sym it ∙ is in absurd (cc no)
-done_comes x (unread it rline rose prints) line is = let no : status.ReadFault ≡ status.Done = sym it ∙ is in absurd (cc no)
+done_comes x (unread it rline fine rose prints) line is = let no : status.ReadFault ≡ status.Done = sym it ∙ is in absurd (cc no)
 done_comes x (failed it rline accepted rose prints) line is = let no : status.DiskFault ≡ status.Done = sym it ∙ is in absurd (cc no)
 done_comes x (no_memory it prints) line is = let no : status.OutOfMemory ≡ status.Done = sym it ∙ is in absurd (cc no)
 
 where_reported : (s : Scene) (old new : World) (shown : List ℕ) (other : Status) (text : List ℕ) → Reported s shown → Says s old new other text → IsOrBefore status.Done other
 where_reported s old new shown _ _ report (bad_line n bad) = inr (omega arith)
-where_reported s old new shown _ _ report (refused q why) = inr (omega arith)
+where_reported s old new shown _ _ report (bad_argument why) = inr (omega arith)
+where_reported s old new shown _ _ report (refused q why fine) = inr (omega arith)
 where_reported s old new shown _ _ report (reported text report2 back) = inl refl
 where_reported s old new shown _ _ report (of_file st text is line accepted gives) = absurd (executing s line (reported_line s shown report))
 
 pub done_row : (x : Call) → Ends x → DoneRow x
 done_row x ends = record {
   comes = λ line is. done_comes x ends line is;
-  only = λ shown report. yields x status.Done ends (λ other text says. where_reported x.scene x.old x.new shown other text report says) (λ run. omega arith) (λ runs accepted. omega arith);
+  only = λ shown report. yields x status.Done ends (λ other text says. where_reported x.scene x.old x.new shown other text report says) (λ run fine. omega arith) (λ runs taken. omega arith);
 }
 
 -- ## Sources that are accepted
@@ -314,7 +328,8 @@ accepted_row x ends = record {
 -- ## Layouts
 layout_of_says : (s : Scene) (old new : World) (st : Status) (text : List ℕ) → Says s old new st text → IsLineOf s (λ c. c ≡ Format) → st ≡ status.Done → (t : Tree) × ComesBack s t × (text ≡ written t)
 layout_of_says s old new _ _ (bad_line n bad) line is = absurd (cc is)
-layout_of_says s old new _ _ (refused r why) line is = absurd (cc is)
+layout_of_says s old new _ _ (bad_argument why) line is = absurd (cc is)
+layout_of_says s old new _ _ (refused r why fine) line is = absurd (cc is)
 layout_of_says s old new _ _ (reported text report back) line is = back line
 layout_of_says s old new _ _ (of_file st text isf line2 accepted gives) line is = absurd (executing s line2 (format_reports s line))
 
@@ -323,6 +338,6 @@ comes_back_row x (said text says prints) line is =
     let it = layout_of_says x.scene x.old x.new x.status text says line is in
     (it.0, it.1, subst (λ t. Prints x t) it.2 prints)
 comes_back_row x (cut other text it says why some) line is = let no : status.PrintFault ≡ status.Done = sym it ∙ is in absurd (cc no)
-comes_back_row x (unread it rline rose prints) line is = let no : status.ReadFault ≡ status.Done = sym it ∙ is in absurd (cc no)
+comes_back_row x (unread it rline fine rose prints) line is = let no : status.ReadFault ≡ status.Done = sym it ∙ is in absurd (cc no)
 comes_back_row x (failed it rline accepted rose prints) line is = let no : status.DiskFault ≡ status.Done = sym it ∙ is in absurd (cc no)
 comes_back_row x (no_memory it prints) line is = let no : status.OutOfMemory ≡ status.Done = sym it ∙ is in absurd (cc no)

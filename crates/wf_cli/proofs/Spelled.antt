@@ -1,18 +1,15 @@
 -- The start of a line has a spelling, and a short one.
-use Rattle.std.proofs.Common.{◌≡◌, ◌≤◌, ◌<◌, ◌+◌, ◌^◌, ℕ, List, [], ◌∷◌, ◌++◌, length, codes, IsUtf8, refl, sym, ◌∙◌, ap, subst, arith}
+use Rattle.std.proofs.Common.{◌≡◌, ◌≤◌, ◌<◌, ◌+◌, ◌^◌, ℕ, List, [], ◌∷◌, ◌++◌, length, IsUtf8, refl, sym, ◌∙◌, ap, subst, arith}
 use Rattle.std.specs.List.{AllByRecursion}
 use Rattle.std.proofs.lemmas.List.{length-append}
 use Rattle.std.proofs.lemmas.Str.{IsUtf8-from_ascii}
-use Rattle.wf_events.proofs.OnLiterals.{reading_on_literals}
 use Rattle.wf_events.specs.Records.{Started}
 use Rattle.wf_events.specs.Spelling.{record_bytes, HasSpelling, IsText, IsArgument, IsRoute, IsPair, string, eight, four, listed, route, pair}
 use Rattle.wf_shared.specs.Events.{Start}
-use Rattle.wf_value.specs.Data.{null}
 
--- ## The argument
-pub null_is_argument : IsArgument (codes "null")
-unfolding reading_on_literals
-null_is_argument = record { value = null; said = refl; written = refl; small = omega arith }
+-- an argument that may stand in a record, and is short
+abbrev pub IsShortArgument : List ℕ → Type 0
+IsShortArgument a = IsArgument a × (length a < 196608)
 
 -- ## Lengths
 string_is : (s : List ℕ) → length (string s) ≡ 4 + length s
@@ -44,7 +41,7 @@ pub record IsPlainStart (s : Start) : Type 0 where
   pub id : IsUtf8 s.id
   pub short : length s.id ≤ 64
   pub source : length s.source ≤ 131072
-  pub argument : s.argument ≡ codes "null"
+  pub argument : IsShortArgument s.argument
   pub routes : s.routes ≡ []
   pub env : s.env ≡ []
   pub base : s.base ≡ []
@@ -52,15 +49,14 @@ pub record IsPlainStart (s : Start) : Type 0 where
 
 pub plain_fits : (s : Start) → IsPlainStart s → length (record_bytes (Started s)) ≤ 16777215
 plain_fits s p =
-    let four : length s.argument ≡ 4 = ap length p.argument in
-    let whole = start_is s p.routes p.env p.base in omega (arith, whole, four, p.short, p.source)
+    let whole = start_is s p.routes p.env p.base in omega (arith, whole, p.argument.1, p.short, p.source)
 
 pub plain_spelled : (s : Start) → IsPlainStart s → HasSpelling (Started s)
 plain_spelled s p = (
   record {
     id = (let short = p.short in omega (arith, short), p.id);
     source = let short = p.source in omega (arith, short);
-    argument = subst (λ a. (length a < 2 ^ 32) × IsArgument a) (sym p.argument) (omega arith, null_is_argument);
+    argument = let short = p.argument.1 in (omega (arith, short), p.argument.0);
     routes = subst (λ r. (length r < 2 ^ 32) × AllByRecursion IsRoute r) (sym p.routes) (omega arith, tt);
     env = subst (λ r. (length r < 2 ^ 32) × AllByRecursion IsPair r) (sym p.env) (omega arith, tt);
     base = subst IsText (sym p.base) (omega arith, IsUtf8-from_ascii [] (λ i. omega arith));

@@ -1,9 +1,9 @@
 -- What is said where a cause holds: the status of this cause, or one that is looked at before.
 use Rattle.std.proofs.Common.{◌≡◌, ◌<◌, ◌⊎◌, inl, inr, ⊎_elim, IsTrue, ℕ, true, false, List, None, Some, Result, Err, refl, sym, ◌∙◌, ap, subst, arith}
 use Rattle.std.proofs.lemmas.Bool.{cases_lt}
-use Rattle.wf_cli.proofs.Causes.{same_ok, same_err, both, no_bad_line, executing, resume_executes, reported_line, refused_line, Cause, gives_cause}
+use Rattle.wf_cli.proofs.Causes.{same_ok, same_err, both, no_bad_line, executing, run_executes, resume_executes, reported_line, refused_line, argument_line, no_bad_argument, Cause, gives_cause}
 use Rattle.wf_cli.specs.Reports.{layout_of, the_reports}
-use Rattle.wf_cli.specs.Top.{IsLineOf, IsBadLine, IsRefused, IsNoHistory, Reported, Gives, IsOfFile, IsPassed, Says, bad_line, refused, reported, of_file}
+use Rattle.wf_cli.specs.Top.{IsLineOf, IsBadLine, IsBadArgument, IsRefused, IsNoHistory, Reported, Gives, IsOfFile, IsPassed, Says, bad_line, bad_argument, refused, reported, of_file}
 use Rattle.wf_engine.specs.Printed as end
 use Rattle.wf_engine.specs.Printed.{Scene, uses_source, executes, refuses}
 use Rattle.wf_engine.specs.TheLanguage.{the_language}
@@ -30,9 +30,18 @@ IsOrBefore st other = (other ≡ st) ⊎ (rank other < rank st)
 -- ## Words that are no line
 pub where_bad_line : (s : Scene) (old new : World) (n : ℕ) (other : Status) (text : List ℕ) → IsBadLine s n → Says s old new other text → IsOrBefore (status.BadLine n) other
 where_bad_line s old new n _ _ bad (bad_line m is) = inl (ap status.BadLine (same_err (line_of s.words) m n is bad))
-where_bad_line s old new n _ _ bad (refused r why) = absurd (no_bad_line s (λ c. uses_source c ≡ true) n (refused_line s r why) bad)
+where_bad_line s old new n _ _ bad (bad_argument why) = absurd (no_bad_line s (λ c. executes c ≡ true) n (run_executes s (argument_line s why)) bad)
+where_bad_line s old new n _ _ bad (refused r why fine) = absurd (no_bad_line s (λ c. uses_source c ≡ true) n (refused_line s r why) bad)
 where_bad_line s old new n _ _ bad (reported text report back) = absurd (no_bad_line s (λ c. executes c ≡ false) n (reported_line s text report) bad)
 where_bad_line s old new n _ _ bad (of_file st text is line accepted gives) = absurd (no_bad_line s (λ c. executes c ≡ true) n line bad)
+
+-- ## An argument that is bad
+pub where_bad_argument : (s : Scene) (old new : World) (other : Status) (text : List ℕ) → IsBadArgument s → Says s old new other text → IsOrBefore status.BadArgument other
+where_bad_argument s old new _ _ bad (bad_line m is) = inr (omega arith)
+where_bad_argument s old new _ _ bad (bad_argument why) = inl refl
+where_bad_argument s old new _ _ bad (refused r why fine) = absurd (fine bad)
+where_bad_argument s old new _ _ bad (reported text report back) = absurd (no_bad_argument s (reported_line s text report) bad)
+where_bad_argument s old new _ _ bad (of_file st text is line taken gives) = absurd (taken.argument bad)
 
 -- ## A source that is refused
 -- of a source that tells, the bytes that were read are these
@@ -91,10 +100,11 @@ refused_or_reported apart s left r _ told why (end.versioned line) = no_source s
 
 pub where_refused : OneRefusal → NotBoth → (s : Scene) (old new : World) (left : List ℕ) (r : Refusal) (other : Status) (text : List ℕ) → s.source ≡ Some left → IsRefused s r → Says s old new other text → IsOrBefore (status.Refused r) other
 where_refused law apart s old new left r _ _ told why (bad_line m is) = inr (omega arith)
-where_refused law apart s old new left r _ _ told why (refused q why2) = inl (ap status.Refused (one_refusal law s left q r told why2 why))
+where_refused law apart s old new left r _ _ told why (bad_argument bad) = inr (omega arith)
+where_refused law apart s old new left r _ _ told why (refused q why2 fine) = inl (ap status.Refused (one_refusal law s left q r told why2 why))
 where_refused law apart s old new left r _ _ told why (reported text report back) = absurd (refused_or_reported apart s left r text told why report)
-where_refused law apart s old new left r _ _ told why (of_file st text is line accepted gives) =
-    absurd (when_told s.source left ((q : Refusal) → ¬ IsRefused s q) told accepted r why)
+where_refused law apart s old new left r _ _ told why (of_file st text is line taken gives) =
+    absurd (when_told s.source left ((q : Refusal) → ¬ IsRefused s q) told taken.source r why)
 
 -- ## A cause of the file
 -- whichever of two ranks is lower
@@ -155,14 +165,16 @@ same_history L s image text n other why is gives equal =
 pub where_of_file : (s : Scene) (old new : World) (st other : Status) (text : List ℕ) → IsTrue old.tells → 4 < rank st → IsLineOf s (λ c. executes c ≡ true) → ((q : Status) → IsPassed the_language s q → rank st < rank q → ⊥)
     → ((q : Status) → IsOfFile q → rank q ≡ rank st → q ≡ st) → Says s old new other text → IsOrBefore st other
 where_of_file s old new st _ _ told low line never alone (bad_line m is) = inr (omega (arith, low))
-where_of_file s old new st _ _ told low line never alone (refused q is) = inr (omega (arith, low))
+where_of_file s old new st _ _ told low line never alone (bad_argument why) = inr (omega (arith, low))
+where_of_file s old new st _ _ told low line never alone (refused q is fine) = inr (omega (arith, low))
 where_of_file s old new st _ _ told low line never alone (reported text report back) = absurd (executing s line (reported_line s text report))
 where_of_file s old new st _ _ told low line never alone (of_file other text is runs accepted gives) = ordered st other is (λ high. never other (gives told).1 high) (alone other is)
 
 -- where the records are no history, and the host tells
 pub where_no_history : (s : Scene) (old new : World) (n : ℕ) (other : Status) (text : List ℕ) → IsTrue old.tells → IsNoHistory the_language s n → Says s old new other text → IsOrBefore (status.NotAHistory n) other
 where_no_history s old new n _ _ told why (bad_line m is) = inr (omega arith)
-where_no_history s old new n _ _ told why (refused q is) = inr (omega arith)
+where_no_history s old new n _ _ told why (bad_argument bad) = inr (omega arith)
+where_no_history s old new n _ _ told why (refused q is fine) = inr (omega arith)
 where_no_history s old new n _ _ told why (reported text report back) = absurd (executing s (resume_executes s why.0) (reported_line s text report))
 where_no_history s old new n _ _ told why (of_file other text is line accepted gives) =
     ordered (status.NotAHistory n) other is (λ low. (gives told).1.history n low why) (same_history the_language s new.seen text n other why is (gives told).0)

@@ -3,13 +3,15 @@ use Rattle.std.proofs.Common.{◌≡◌, ◌⊎◌, ◌≢◌, inl, inr, ⊎_eli
 use Rattle.std.specs.Prelude.{codes, decimal}
 use Rattle.std.proofs.lemmas.List.{append-nil}
 use Rattle.wf_ast.specs.Tree.{Program}
-use Rattle.wf_cli.proofs.Causes.{same_ok, same_err, same_some, both, not_both, executing, reported_line}
+use Rattle.wf_cli.proofs.Causes.{same_ok, same_err, same_some, both, not_both, executing, no_argument, good_argument, argument_line, one_command, reported_line}
 use Rattle.wf_cli.proofs.Together.{where_told, same_bytes}
 use Rattle.wf_cli.proofs.Moments.{early_nothing, late_going, safe_late}
 use Rattle.wf_cli.proofs.Opens.{passed_all}
 use Rattle.wf_cli.specs.Reports.{layout_of, the_reports}
-use Rattle.wf_cli.specs.Said.{SaysStatus, SaysFault, SaysReport, SaysBadLine, SaysSource, SaysTree, SaysLayout, SaysVerdict, SaysChecked, DidLittle, SafeSince, LateNow, Unwritten, FaultHolds, Opening, SaysResult, SaysHistory, Going, IsEnd, Worked}
-use Rattle.wf_cli.specs.Top.{IsLineOf, IsBadLine, IsRefused, IsChecked, HasOtherMagic, IsStarted, IsNotStarted, IsNoHistory, Reported, IsAccepted, IsOfFile, IsPassed, HasNoCauseInFile, IsBehindSync, Gives, ReadsBack, Says, bad_line, refused, reported, of_file}
+use Rattle.wf_cli.specs.Said.{SaysStatus, SaysFault, SaysReport, SaysBadLine, SaysArgument, SaysSource, SaysTree, SaysLayout, SaysVerdict, SaysChecked, DidLittle, SafeSince, LateNow, Unwritten, FaultHolds, Opening, SaysResult, SaysHistory, Going, IsEnd, Worked}
+use Rattle.wf_cli.specs.Top.{IsLineOf, IsBadLine, IsBadArgument, IsRefused, IsChecked, HasOtherMagic, IsStarted, IsNotStarted, IsNoHistory, Reported, IsAccepted, IsTaken, IsOfFile, IsPassed, HasNoCauseInFile, IsBehindSync, Gives, ReadsBack, Says, bad_line, bad_argument, refused, reported, of_file}
+use Rattle.wf_cli.specs.declared.argument.ArgumentFault.{ArgumentFault}
+use Rattle.wf_cli.specs.declared.argument.ArgumentFault.TheVariants as argument
 use Rattle.wf_cli.specs.declared.end.Said.{Said}
 use Rattle.wf_cli.specs.declared.end.Silence.{Silence}
 use Rattle.wf_cli.specs.declared.end.Silence.TheVariants as silence
@@ -18,6 +20,7 @@ use Rattle.wf_deeds.specs.Kept as kept
 use Rattle.wf_engine.specs.Printed as end
 use Rattle.wf_engine.specs.Printed.{Scene, uses_source, executes, status_of, accepted_text}
 use Rattle.wf_engine.specs.Safe.{IsFit, SafeAt}
+use Rattle.wf_engine.specs.Starts.{HasArgument}
 use Rattle.wf_engine.specs.TheLanguage.{the_language}
 use Rattle.wf_engine.specs.declared.engine.Engine.{Engine}
 use Rattle.wf_engine.specs.declared.fault.EngineFault.{EngineFault}
@@ -96,12 +99,19 @@ gives_bad_line L s n (Err e) bad says = tt
 pub end_bad_line : (s : Scene) (old new : World) (a b : ℕ) (f g : Faults) (n : ℕ) (it : Said) → IsBadLine s n → SaysStatus (status.BadLine n) it → IsEnd s old new a b f g (Ok it)
 end_bad_line s old new a b f g n it bad says = says_line s old new (status.BadLine n) (line_end (codes "bad line at word " ++ decimal n)) it (bad_line n bad) refl says
 
+-- an argument that is bad
+gives_bad_argument : (L : Language) (s : Scene) (it : Said) → IsBadArgument s → SaysStatus status.BadArgument it → (image : List ℕ) → Gives L s image it.status it.text.items
+gives_bad_argument L s it bad says = λ image. gives_line L s image status.BadArgument (line_end (codes "bad argument")) it (end.bad_argument bad) refl says
+
+end_bad_argument : (s : Scene) (old new : World) (a b : ℕ) (f g : Faults) (it : Said) → IsBadArgument s → SaysStatus status.BadArgument it → IsEnd s old new a b f g (Ok it)
+end_bad_argument s old new a b f g it bad says = says_line s old new status.BadArgument (line_end (codes "bad argument")) it (bad_argument bad) refl says
+
 -- a source that is refused
 pub gives_refused : (L : Language) (s : Scene) (why : Refusal) (it : Said) → IsRefused s why → SaysStatus (status.Refused why) it → (image : List ℕ) → Gives L s image it.status it.text.items
 gives_refused L s why it is says = λ image. gives_line L s image (status.Refused why) (line_end (refusal_text why)) it (end.refused why is) refl says
 
-pub end_refused : (s : Scene) (old new : World) (a b : ℕ) (f g : Faults) (why : Refusal) (it : Said) → IsRefused s why → SaysStatus (status.Refused why) it → IsEnd s old new a b f g (Ok it)
-end_refused s old new a b f g why it is says = says_line s old new (status.Refused why) (line_end (refusal_text why)) it (refused why is) refl says
+pub end_refused : (s : Scene) (old new : World) (a b : ℕ) (f g : Faults) (why : Refusal) (it : Said) → IsRefused s why → ¬ IsBadArgument s → SaysStatus (status.Refused why) it → IsEnd s old new a b f g (Ok it)
+end_refused s old new a b f g why it is fine says = says_line s old new (status.Refused why) (line_end (refusal_text why)) it (refused why is fine) refl says
 
 -- a report
 pub gives_report : (L : Language) (s : Scene) (text : List ℕ) (it : Said) → Reported s text → (it.status ≡ status.Done) × (it.text.items ≡ text) → (image : List ℕ) → Gives L s image it.status it.text.items
@@ -167,24 +177,24 @@ fault_silence engine.NotStarted e says = inr says
 fault_silence engine.Closed e says = inr (err_is e silence.OutOfMemory says)
 fault_silence engine.OutOfMemory e says = inr (err_is e silence.OutOfMemory says)
 
-pub end_fault : (s : Scene) (old new : World) (a b : ℕ) (f g : Faults) (why : EngineFault) (r : Result Said Silence) → SaysFault why r → IsLineOf s (λ c. executes c ≡ true) → IsAccepted s → Told old (FaultHolds the_language s why)
+pub end_fault : (s : Scene) (old new : World) (a b : ℕ) (f g : Faults) (why : EngineFault) (r : Result Said Silence) → SaysFault why r → IsLineOf s (λ c. executes c ≡ true) → IsTaken s → Told old (FaultHolds the_language s why)
     → (why ≡ engine.DiskFault → Rose f.disk g.disk) → IsEnd s old new a b f g r
-end_fault s old new a b f g why (Ok it) says line accepted holds rose =
-    of_file it.status it.text.items (fault_of_file why it says) line accepted (λ told. let x = fault_gives the_language s why it (holds told) says in (x.0 new.seen, x.1))
-end_fault s old new a b f g why (Err e) says line accepted holds rose =
-    ⊎_elim (λ disk. subst (λ x. IsEnd s old new a b f g (Err x)) (sym disk.1) (line, accepted, rose disk.0)) (λ lack. subst (λ x. IsEnd s old new a b f g (Err x)) (sym lack) tt) (fault_silence why e says)
+end_fault s old new a b f g why (Ok it) says line taken holds rose =
+    of_file it.status it.text.items (fault_of_file why it says) line taken (λ told. let x = fault_gives the_language s why it (holds told) says in (x.0 new.seen, x.1))
+end_fault s old new a b f g why (Err e) says line taken holds rose =
+    ⊎_elim (λ disk. subst (λ x. IsEnd s old new a b f g (Err x)) (sym disk.1) (line, taken, rose disk.0)) (λ lack. subst (λ x. IsEnd s old new a b f g (Err x)) (sym lack) tt) (fault_silence why e says)
 
 pub worked_fault : (s : Scene) (command : kept.Command) (old new : World) (why : EngineFault) (r : Result Said Silence) → Opening command s old new (Err why) → SaysFault why r → IsLineOf s (λ c. executes c ≡ true)
-    → IsAccepted s → (IsLineOf s (λ c. c ≡ Resume) → command ≡ kept.Resume) → Worked s old new r
-worked_fault s command old new why r o says line accepted which = record {
+    → IsTaken s → (IsLineOf s (λ c. c ≡ Resume) → command ≡ kept.Resume) → Worked s old new r
+worked_fault s command old new why r o says line taken which = record {
   little = o.little;
   safe = o.safe;
   gives = given r says;
   late = late_if r says;
   finished = λ st line2 is ended. (o.resumed (which line2), o.finished st line2 is ended);
   refused = o.refused;
-  writes = inr (line, accepted);
-  idle = λ none. absurd (executing s line none);
+  writes = inr (line, taken);
+  idle = λ none. absurd (⊎_elim (executing s line) taken.argument none);
 }
   where
     given : (q : Result Said Silence) → SaysFault why q → IfOk q (λ it. (image : List ℕ) → new.may_leave image → Gives the_language s image it.status it.text.items)
@@ -209,7 +219,7 @@ history_gives L s new it line says image may =
     subst (λ t. Gives L s image it.status t) (sym says.says.text)
     (end.ended says.standing.config.outcome it.status (line, (says.standing, subst (λ f. history L (records f) ≡ Ok says.standing) (sym (says.settled image may)) says.history, refl)) says.says.status)
 
-module _ (s : Scene) (command : kept.Command) (old mid new : World) (e : Engine) (r : Result Said Silence) (line : IsLineOf s (λ c. executes c ≡ true)) (accepted : IsAccepted s) (which : IsLineOf s (λ c. c ≡ Resume) → command ≡ kept.Resume) (found : old.seen ≡ s.found)
+module _ (s : Scene) (command : kept.Command) (old mid new : World) (e : Engine) (r : Result Said Silence) (line : IsLineOf s (λ c. executes c ≡ true)) (taken : IsTaken s) (which : IsLineOf s (λ c. c ≡ Resume) → command ≡ kept.Resume) (found : old.seen ≡ s.found)
     (counts : CountsNow mid) (counts_new : CountsNow new) (o : Opening command s old mid (Ok e)) (g : Going the_language command (memory e) o.little.done mid new r) (deeds : new.deeds ≡ mid.deeds) where
   given : (L : Language) (q : Result Said Silence) → IfOk q (SaysHistory L new) → IfOk q (λ it. (image : List ℕ) → new.may_leave image → Gives L s image it.status it.text.items)
   given L (Ok it) says = history_gives L s new it line says
@@ -250,17 +260,17 @@ module _ (s : Scene) (command : kept.Command) (old mid new : World) (e : Engine)
         let stays = o.resumed (which line2) in
         (both_unwritten stays (g.finished (had_outcome st is ended stays)), deeds ∙ o.finished st line2 is ended);
     refused = λ why. absurd (no_cause why);
-    writes = inr (line, accepted);
-    idle = λ none. absurd (executing s line none);
+    writes = inr (line, taken);
+    idle = λ none. absurd (⊎_elim (executing s line) taken.argument none);
   }
 
 pub end_going : (s : Scene) (old new : World) (a b : ℕ) (f g h : Faults) (r : Result Said Silence) → SaysResult g h r → IsLineOf s (λ c. executes c ≡ true) → IsAccepted s
     → Told old (HasNoCauseInFile the_language s × IfOk r (λ it. Gives the_language s new.seen it.status it.text.items)) → (Rose g.disk h.disk → Rose f.disk h.disk) → IsEnd s old new a b f h r
-end_going s old new a b f g h (Ok it) (o, result, says) line accepted gives rose =
-    of_file it.status it.text.items (outcome_of_file o it.status says.status) line accepted (λ told. let x = gives told in (x.1, passed_all the_language s it.status x.0))
-end_going s old new a b f g h (Err silence.Unread) says line accepted gives rose = absurd says
-end_going s old new a b f g h (Err silence.DiskFault) says line accepted gives rose = (line, accepted, rose says)
-end_going s old new a b f g h (Err silence.OutOfMemory) says line accepted gives rose = tt
+end_going s old new a b f g h (Ok it) (o, result, says) line taken gives rose =
+    of_file it.status it.text.items (outcome_of_file o it.status says.status) line taken (λ told. let x = gives told in (x.1, passed_all the_language s it.status x.0))
+end_going s old new a b f g h (Err silence.Unread) says line taken gives rose = absurd says
+end_going s old new a b f g h (Err silence.DiskFault) says line taken gives rose = (line, taken, rose says)
+end_going s old new a b f g h (Err silence.OutOfMemory) says line taken gives rose = tt
 
 -- ## Commands that touch nothing
 abbrev pub OnlyNow : World → Type 0
@@ -296,6 +306,18 @@ bad_line_worked s w (words.BadLine n) (Ok it) says bad only = worked_nothing s w
 bad_line_worked s w (words.BadLine n) (Err e) says bad only = lack_worked s w e only
 bad_line_worked s w words.OutOfMemory r says bad only = subst (λ q. Worked s w w q) (sym says) (lack_worked s w silence.OutOfMemory only)
 
+-- an argument that isn't taken
+pub argument_end : (s : Scene) (w : World) (a b : ℕ) (f g : Faults) (why : ArgumentFault) (r : Result Said Silence) → SaysArgument why r → (why ≡ argument.Bad → IsBadArgument s) → IsEnd s w w a b f g r
+argument_end s w a b f g argument.Bad (Ok it) says bad = end_bad_argument s w w a b f g it (bad refl) says
+argument_end s w a b f g argument.Bad (Err e) says bad = lack_end s w a b f g e says
+argument_end s w a b f g argument.OutOfMemory r says bad = subst (λ q. IsEnd s w w a b f g q) (sym says) tt
+
+pub argument_worked : (s : Scene) (w : World) (why : ArgumentFault) (r : Result Said Silence) → SaysArgument why r → (why ≡ argument.Bad → IsBadArgument s) → OnlyNow w → Worked s w w r
+argument_worked s w argument.Bad (Ok it) says bad only =
+    worked_nothing s w (Ok it) (little_still w) only (gives_bad_argument the_language s it (bad refl) says) (λ behind. subst (IsBehindSync s) says.status behind)
+argument_worked s w argument.Bad (Err e) says bad only = lack_worked s w e only
+argument_worked s w argument.OutOfMemory r says bad only = subst (λ q. Worked s w w q) (sym says) (lack_worked s w silence.OutOfMemory only)
+
 -- a source that is refused, and one that isn't read
 pub refused_worked : (s : Scene) (w : World) (why : Refusal) (it : Said) → IsRefused s why → SaysStatus (status.Refused why) it → OnlyNow w → Worked s w w (Ok it)
 refused_worked s w why it is says only = worked_nothing s w (Ok it) (little_still w) only (gives_refused the_language s why it is says) (λ behind. subst (IsBehindSync s) says.status behind)
@@ -318,18 +340,27 @@ pub is_refused : (s : Scene) (l : PlainLine) (bytes : List ℕ) (why : Refusal) 
 is_refused s l bytes why reads takes is = (l, bytes, reads, takes bytes why is)
 
 -- bytes that are accepted are no others that are refused
-pub is_accepted : NotBoth → (s : Scene) (l : PlainLine) (bytes : List ℕ) (p : Program) → end.Reads s l bytes → l.command ≡ Run → IsSourceOf bytes p → IsAccepted s
+is_accepted : NotBoth → (s : Scene) (l : PlainLine) (bytes : List ℕ) (p : Program) → end.Reads s l bytes → l.command ≡ Run → IsSourceOf bytes p → IsAccepted s
 is_accepted apart s l bytes p reads command is =
     where_told s.source _ (λ left told why (m, other, (line, uses, first), refuses).
     let runs : m.command ≡ Run = ap (λ (k : PlainLine). k.command) (same_ok (line_of s.words) m l line reads.0) ∙ command in
     apart bytes p why is (subst (λ b. IsRefusalOf b why) (same_bytes s.source left other bytes told first reads.2) (subst (λ c. end.refuses c other why) runs refuses)))
 
+pub is_taken : NotBoth → (s : Scene) (l : PlainLine) (bytes : List ℕ) (p : Program) → end.Reads s l bytes → l.command ≡ Run → IsSourceOf bytes p → HasArgument l → IsTaken s
+is_taken apart s l bytes p reads command is has = record { argument = good_argument s l reads.0 has; source = is_accepted apart s l bytes p reads command is }
+
 -- a line that uses no source is accepted
-pub resume_accepted : (s : Scene) → IsLineOf s (λ c. c ≡ Resume) → IsAccepted s
+resume_accepted : (s : Scene) → IsLineOf s (λ c. c ≡ Resume) → IsAccepted s
 resume_accepted s line = where_told s.source _ (λ left told why (m, other, (is, uses, first), refuses). absurd (not_both_uses (both s (λ c. c ≡ Resume) (λ c. uses_source c ≡ true) line (m, is, uses))))
   where
     not_both_uses : (c : Command) × (c ≡ Resume) × (uses_source c ≡ true) → ⊥
     not_both_uses (c, is, uses) = let no : false ≡ true = ap uses_source (sym is) ∙ uses in cc no
+
+pub resume_taken : (s : Scene) → IsLineOf s (λ c. c ≡ Resume) → IsTaken s
+resume_taken s line = record {
+  argument = λ bad. let no : Run ≡ Resume = one_command s Run Resume (argument_line s bad) line in cc no;
+  source = resume_accepted s line;
+}
 
 -- what is said of each file that a crash may leave is said of the one that reads
 pub given_seen : (L : Language) (s : Scene) (new : World) (r : Result Said Silence) → IfOk r (λ it. (image : List ℕ) → new.may_leave image → Gives L s image it.status it.text.items) → new.may_leave new.seen → IfOk r (λ it. Gives L s new.seen it.status it.text.items)
@@ -346,11 +377,11 @@ lacks_engine command s old new (Ok e) is all = let no : false ≡ true = is.0 in
 lacks_engine command s old new (Err f) is all = all f is.1
 
 -- what is said of a source that isn't taken
-pub source_end : (s : Scene) (l : PlainLine) (w : World) (a b : ℕ) (f g : Faults) (bytes : List ℕ) (fault : SourceFault) (r : Result Said Silence) → end.Reads s l bytes → TakesPrograms l.command → TellsOf (IsRefusalOf bytes) fault → SaysSource fault r
+pub source_end : (s : Scene) (l : PlainLine) (w : World) (a b : ℕ) (f g : Faults) (bytes : List ℕ) (fault : SourceFault) (r : Result Said Silence) → end.Reads s l bytes → TakesPrograms l.command → ¬ IsBadArgument s → TellsOf (IsRefusalOf bytes) fault → SaysSource fault r
     → IsEnd s w w a b f g r
-source_end s l w a b f g bytes (source_fault.Refused why) (Ok it) reads takes tells says = end_refused s w w a b f g why it (is_refused s l bytes why reads takes tells) says
-source_end s l w a b f g bytes (source_fault.Refused why) (Err e) reads takes tells says = lack_end s w a b f g e says
-source_end s l w a b f g bytes source_fault.OutOfMemory r reads takes tells says = subst (λ q. IsEnd s w w a b f g q) (sym says) tt
+source_end s l w a b f g bytes (source_fault.Refused why) (Ok it) reads takes fine tells says = end_refused s w w a b f g why it (is_refused s l bytes why reads takes tells) fine says
+source_end s l w a b f g bytes (source_fault.Refused why) (Err e) reads takes fine tells says = lack_end s w a b f g e says
+source_end s l w a b f g bytes source_fault.OutOfMemory r reads takes fine tells says = subst (λ q. IsEnd s w w a b f g q) (sym says) tt
 
 pub source_worked : (s : Scene) (l : PlainLine) (w : World) (bytes : List ℕ) (fault : SourceFault) (r : Result Said Silence) → end.Reads s l bytes → TakesPrograms l.command → TellsOf (IsRefusalOf bytes) fault → SaysSource fault r
     → OnlyNow w → Worked s w w r
@@ -371,6 +402,13 @@ no_layout s l text is none (m, js, format) =
     absurd (cc no)
 
 -- ## A source that is checked
+-- commands that take no argument
+check_is_not_run : (c : Command) → c ≡ Check → c ≡ Run → ⊥
+check_is_not_run c is run = let no : Check ≡ Run = sym is ∙ run in cc no
+
+format_is_not_run : (c : Command) → c ≡ Format → c ≡ Run → ⊥
+format_is_not_run c is run = let no : Format ≡ Run = sym is ∙ run in cc no
+
 -- what is said of it is a report or a refusal
 verdict_said : (s : Scene) (l : PlainLine) (bytes : List ℕ) (it : Said) → end.Reads s l bytes → l.command ≡ Check → SaysVerdict bytes it
     → (IsChecked s × ((it.status ≡ status.Done) × (it.text.items ≡ accepted_text))) ⊎ ((why : Refusal) × IsRefused s why × SaysStatus (status.Refused why) it)
@@ -380,9 +418,9 @@ verdict_said s l bytes it reads command (inr (why, is, says)) = inr (why, is_ref
 pub checked_end : (s : Scene) (l : PlainLine) (w : World) (a b : ℕ) (f g : Faults) (r : Result Said Silence) → line_of s.words ≡ Ok l → l.command ≡ Check → SaysChecked s.source a b r → IsEnd s w w a b f g r
 checked_end s l w a b f g (Ok it) is command (bytes, first, says) =
     ⊎_elim (λ (checked, that). end_report s w w a b f g accepted_text it (end.accepted checked) (no_layout s l accepted_text is (ap lays_out command)) that)
-    (λ (why, refuses, that). end_refused s w w a b f g why it refuses that)
+    (λ (why, refuses, that). end_refused s w w a b f g why it refuses (no_argument s l is (check_is_not_run l.command command)) that)
     (verdict_said s l bytes it (is, ap uses_source command, first) command says)
-checked_end s l w a b f g (Err silence.Unread) is command rose = ((l, is, ap uses_source command), rose)
+checked_end s l w a b f g (Err silence.Unread) is command rose = ((l, is, ap uses_source command), no_argument s l is (check_is_not_run l.command command), rose)
 checked_end s l w a b f g (Err silence.DiskFault) is command never = absurd never
 checked_end s l w a b f g (Err silence.OutOfMemory) is command lacks = tt
 
@@ -403,9 +441,9 @@ tree_said s l bytes (Err why) it reads command is says = inr (why, (l, bytes, re
 
 pub layout_end : (s : Scene) (l : PlainLine) (w : World) (a b : ℕ) (f g : Faults) (r : Result Said Silence) → line_of s.words ≡ Ok l → l.command ≡ Format → SaysLayout s.source a b r → IsEnd s w w a b f g r
 layout_end s l w a b f g (Ok it) is command (bytes, first, says) =
-    ⊎_elim (λ (text, report, back, that). end_report s w w a b f g text it report back that) (λ (why, refuses, that). end_refused s w w a b f g why it refuses that)
+    ⊎_elim (λ (text, report, back, that). end_report s w w a b f g text it report back that) (λ (why, refuses, that). end_refused s w w a b f g why it refuses (no_argument s l is (format_is_not_run l.command command)) that)
     (tree_said s l bytes (read_tree bytes) it (is, ap uses_source command, first) command refl says)
-layout_end s l w a b f g (Err silence.Unread) is command rose = ((l, is, ap uses_source command), rose)
+layout_end s l w a b f g (Err silence.Unread) is command rose = ((l, is, ap uses_source command), no_argument s l is (format_is_not_run l.command command), rose)
 layout_end s l w a b f g (Err silence.DiskFault) is command never = absurd never
 layout_end s l w a b f g (Err silence.OutOfMemory) is command lacks = tt
 

@@ -1,5 +1,5 @@
 -- What the top call promises of a call: each row by its name.
-use Rattle.wf_cli.specs.Top.{Call, Ends, BadLineRow, ReadFaultRow, RefusedRow, DiskFaultRow, NotAJournalRow, AlreadyStartedRow, NotStartedRow, NotAHistoryRow, OutcomeRow, DoneRow, AcceptedRow, ComesBackRow, PrintFaultRow, OnlyThese, Completes, FinishedStays, RefusedStays, ReportsStay, SilentStays, SafeThroughout, SafeAtEnd, LateAtEnd}
+use Rattle.wf_cli.specs.Top.{Call, Ends, BadLineRow, BadArgumentRow, ReadFaultRow, RefusedRow, DiskFaultRow, NotAJournalRow, AlreadyStartedRow, NotStartedRow, NotAHistoryRow, OutcomeRow, DoneRow, AcceptedRow, ComesBackRow, PrintFaultRow, OnlyThese, Completes, FinishedStays, RefusedStays, ReportsStay, SilentStays, SafeThroughout, SafeAtEnd, LateAtEnd}
 use Rattle.wf_engine.specs.TheLanguage.{the_language}
 use Rattle.wf_host.specs.World.{Told}
 
@@ -9,6 +9,8 @@ pub record Promised (x : Call) : Type 0 where
   -- ## Each status comes exactly where its cause holds, and then its line was printed whole
   -- the words are no line
   pub bad_line : BadLineRow x
+  -- the word of `--args` says no value, or one past its limit
+  pub bad_argument : BadArgumentRow x
   -- only where the count of failed reads rose
   pub read_fault : ReadFaultRow x
   -- the source is refused
@@ -44,7 +46,7 @@ pub record Promised (x : Call) : Type 0 where
   pub refused_stays : Told x.old (RefusedStays the_language x)
   -- the file of a command that executes nothing; and it does nothing but print
   pub reports_stay : Told x.old (ReportsStay x)
-  -- the file where the words are no line or the source is refused
+  -- the file where the words are no line, or the argument or the source is refused
   pub silent_stays : Told x.old (SilentStays x)
   -- ## Killed at any moment
   -- what a crash may leave is safe with what was done by then

@@ -3,7 +3,9 @@ use Rattle.std.specs.Prelude.{◌≡◌, ◌≢◌, ◌⊎◌, ℕ, true, false,
 use Rattle.std.specs.List.{AllByRecursion}
 use Rattle.wf_ast.specs.Tree.{Program}
 use Rattle.wf_cli.specs.Reports.{the_reports}
-use Rattle.wf_cli.specs.Top.{IsAccepted, IsLineOf, HasOtherMagic, IsStarted, IsNotStarted, IsNoHistory, IsPassed, HasNoCauseInFile, IsBehindSync, Gives, Says}
+use Rattle.wf_cli.specs.Top.{IsTaken, IsBadArgument, IsLineOf, HasOtherMagic, IsStarted, IsNotStarted, IsNoHistory, IsPassed, HasNoCauseInFile, IsBehindSync, Gives, Says}
+use Rattle.wf_cli.specs.declared.argument.ArgumentFault.{ArgumentFault}
+use Rattle.wf_cli.specs.declared.argument.ArgumentFault.TheVariants as argument
 use Rattle.wf_cli.specs.declared.end.Said.{Said}
 use Rattle.wf_cli.specs.declared.end.Silence.{Silence}
 use Rattle.wf_cli.specs.declared.end.Silence.TheVariants as silence
@@ -48,6 +50,8 @@ use Rattle.wf_status.specs.declared.Refusal.{Refusal}
 use Rattle.wf_status.specs.declared.Status.{Status}
 use Rattle.wf_status.specs.declared.Status.TheVariants as status
 use Rattle.wf_tree.specs.Trees.{Tree}
+use Rattle.wf_value.specs.declared.json_text.JsonFault.{JsonFault}
+use Rattle.wf_value.specs.declared.json_text.JsonFault.TheVariants as json
 use Rattle.wf_yaml.specs.Reading.{reading}
 use Rattle.wf_yaml_write.specs.Layout.{written}
 
@@ -109,6 +113,16 @@ SaysLayout left reads reads2 (Err silence.OutOfMemory) = Unit {0}
 abbrev pub SaysBadLine : LineFault → Result Said Silence → Type 0
 SaysBadLine (words.BadLine n) r = SaysOrLacks (status.BadLine n) r
 SaysBadLine words.OutOfMemory r = r ≡ Err silence.OutOfMemory
+
+-- what is said of an argument that isn't taken
+abbrev pub SaysArgument : ArgumentFault → Result Said Silence → Type 0
+SaysArgument argument.Bad r = SaysOrLacks status.BadArgument r
+SaysArgument argument.OutOfMemory r = r ≡ Err silence.OutOfMemory
+
+-- a fault of reading the argument
+abbrev pub argument_fault : JsonFault → ArgumentFault
+argument_fault json.OutOfMemory = argument.OutOfMemory
+argument_fault e = argument.Bad
 
 -- what is said of a fault of the engine
 abbrev pub SaysFault : EngineFault → Result Said Silence → Type 0
@@ -204,13 +218,13 @@ pub record Going (L : Language) (command : kept.Command) (m : Memory) (D : List 
 -- a text with its cause, or why there is none
 abbrev pub IsEnd : Scene → World → World → ℕ → ℕ → Faults → Faults → Result Said Silence → Type 0
 IsEnd s old new reads reads2 faults faults2 (Ok said) = Says s old new said.status said.text.items
-IsEnd s old new reads reads2 faults faults2 (Err silence.Unread) = IsLineOf s (λ c. uses_source c ≡ true) × Rose reads reads2
-IsEnd s old new reads reads2 faults faults2 (Err silence.DiskFault) = IsLineOf s (λ c. executes c ≡ true) × IsAccepted s × Rose faults.disk faults2.disk
+IsEnd s old new reads reads2 faults faults2 (Err silence.Unread) = IsLineOf s (λ c. uses_source c ≡ true) × ¬ IsBadArgument s × Rose reads reads2
+IsEnd s old new reads reads2 faults faults2 (Err silence.DiskFault) = IsLineOf s (λ c. executes c ≡ true) × IsTaken s × Rose faults.disk faults2.disk
 IsEnd s old new reads reads2 faults faults2 (Err silence.OutOfMemory) = Unit {0}
 
--- the line executes, and its source isn't refused
+-- the line executes, and neither its argument nor its source is refused
 abbrev pub MayWrite : Scene → Type 0
-MayWrite s = IsLineOf s (λ c. executes c ≡ true) × IsAccepted s
+MayWrite s = IsLineOf s (λ c. executes c ≡ true) × IsTaken s
 
 -- The work of a command, where the host tells: what a crash by then may leave is safe, the text is given for each file that one may leave now,
 -- and where nothing is to be written nothing was.
@@ -222,7 +236,7 @@ pub record Worked (s : Scene) (old new : World) (r : Result Said Silence) : Type
   pub finished : (st : Standing) → IsLineOf s (λ c. c ≡ Resume) → history the_language (records s.found) ≡ Ok st → st.config.outcome ≢ Active → Unwritten old new × (new.deeds ≡ old.deeds)
   pub refused : HasOtherMagic s ⊎ IsStarted s ⊎ IsNotStarted s ⊎ ((n : ℕ) × IsNoHistory the_language s n) → Unwritten old new
   pub writes : Unwritten old new ⊎ MayWrite s
-  pub idle : IsLineOf s (λ c. executes c ≡ false) → new.deeds ≡ old.deeds
+  pub idle : IsLineOf s (λ c. executes c ≡ false) ⊎ IsBadArgument s → new.deeds ≡ old.deeds
 
 -- ## Printing
 -- what is printed of it

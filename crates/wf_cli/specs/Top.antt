@@ -8,7 +8,7 @@ use Rattle.wf_deeds.specs.Deeds.{printed}
 use Rattle.wf_deeds.specs.Outside.{Outside}
 use Rattle.wf_engine.specs.Printed as end
 use Rattle.wf_engine.specs.Printed.{Scene, uses_source, executes, status_of, outcome_text, accepted_text}
-pub use Rattle.wf_engine.specs.Printed.{IsLine, IsBadLine, IsLineOf, IsRefused, IsChecked, HasOtherMagic, IsStarted, IsNotStarted}
+pub use Rattle.wf_engine.specs.Printed.{IsLine, IsBadLine, IsBadArgument, IsLineOf, IsRefused, IsChecked, HasOtherMagic, IsStarted, IsNotStarted}
 use Rattle.wf_engine.specs.Safe.{IsFit, SafeAt, LateAt}
 use Rattle.wf_engine.specs.TheLanguage.{the_language}
 use Rattle.wf_host.specs.Source.{IsFirst, WhereTold}
@@ -64,6 +64,11 @@ IsPrint d = ⊥
 abbrev pub IsAccepted : Scene → Type 0
 IsAccepted s = WhereTold s.source ((r : Refusal) → ¬ IsRefused s r)
 
+-- neither its argument nor its source is refused
+pub record IsTaken (s : Scene) : Type 0 where
+  pub argument : ¬ IsBadArgument s
+  pub source : IsAccepted s
+
 -- ## Layouts
 -- the source has this tree, which is read back from its layout
 pub record ComesBack (s : Scene) (t : Tree) : Type 0 where
@@ -98,9 +103,10 @@ pub record HasNoCauseInFile (L : Language) (s : Scene) : Type 0 where
 -- a status and its text; one that the file decides is told in the language, of the file that the call leaves
 pub data Says (s : Scene) (old new : World) : Status → List ℕ → Type 0 where
   bad_line : (n : ℕ) → IsBadLine s n → Says s old new (status.BadLine n) (line_end (codes "bad line at word " ++ decimal n))
-  refused : (r : Refusal) → IsRefused s r → Says s old new (status.Refused r) (line_end (refusal_text r))
+  bad_argument : IsBadArgument s → Says s old new status.BadArgument (line_end (codes "bad argument"))
+  refused : (r : Refusal) → IsRefused s r → ¬ IsBadArgument s → Says s old new (status.Refused r) (line_end (refusal_text r))
   reported : (text : List ℕ) → Reported s text → ReadsBack s text → Says s old new status.Done text
-  of_file : (st : Status) (text : List ℕ) → IsOfFile st → IsLineOf s (λ c. executes c ≡ true) → IsAccepted s → Told old (Gives the_language s new.seen st text × IsPassed the_language s st) → Says s old new st text
+  of_file : (st : Status) (text : List ℕ) → IsOfFile st → IsLineOf s (λ c. executes c ≡ true) → IsTaken s → Told old (Gives the_language s new.seen st text × IsPassed the_language s st) → Says s old new st text
 
 -- what the status tells was read behind the opening's sync
 abbrev pub IsBehindSync : Scene → Status → Type 0
@@ -134,8 +140,8 @@ module _ (x : Call) where
   pub data Ends : Type 0 where
     said : (text : List ℕ) → Says x.scene x.old x.new x.status text → Prints text → Ends
     cut : (st : Status) (text : List ℕ) → x.status ≡ status.PrintFault → Says x.scene x.old x.new st text → Rose x.faults_old.print x.faults_new.print ⊎ TookNothing → PrintsSome text → Ends
-    unread : x.status ≡ status.ReadFault → IsLineOf x.scene (λ c. uses_source c ≡ true) → Rose x.reads_old x.reads_new → Prints [] → Ends
-    failed : x.status ≡ status.DiskFault → IsLineOf x.scene (λ c. executes c ≡ true) → IsAccepted x.scene → Rose x.faults_old.disk x.faults_new.disk → Prints [] → Ends
+    unread : x.status ≡ status.ReadFault → IsLineOf x.scene (λ c. uses_source c ≡ true) → ¬ IsBadArgument x.scene → Rose x.reads_old x.reads_new → Prints [] → Ends
+    failed : x.status ≡ status.DiskFault → IsLineOf x.scene (λ c. executes c ≡ true) → IsTaken x.scene → Rose x.faults_old.disk x.faults_new.disk → Prints [] → Ends
     no_memory : x.status ≡ status.OutOfMemory → Prints [] → Ends
 
   -- it is this status, or an earlier cause came, or the text wasn't printed whole, or memory ran out
@@ -151,6 +157,9 @@ module _ (x : Call) where
   -- ## The rows, in the order of `rank`
   abbrev pub BadLineRow : Type 0
   BadLineRow = (n : ℕ) → Exactly (status.BadLine n) (IsBadLine x.scene n) (line_end (codes "bad line at word " ++ decimal n))
+
+  abbrev pub BadArgumentRow : Type 0
+  BadArgumentRow = Exactly status.BadArgument (IsBadArgument x.scene) (line_end (codes "bad argument"))
 
   abbrev pub ReadFaultRow : Type 0
   ReadFaultRow = x.status ≡ status.ReadFault → Rose x.reads_old x.reads_new
@@ -200,7 +209,7 @@ module _ (x : Call) where
 
   -- a status of another part never comes
   abbrev pub OnlyThese : Type 0
-  OnlyThese = (x.status ≢ status.BadArgument) × (x.status ≢ status.PollFault) × (x.status ≢ status.Suspended)
+  OnlyThese = (x.status ≢ status.PollFault) × (x.status ≢ status.Suspended)
 
 -- ## Completeness
 module _ (L : Language) (x : Call) where
@@ -213,6 +222,8 @@ module _ (L : Language) (x : Call) where
     pub disk : ¬ Rose x.faults_old.disk x.faults_new.disk
     pub prints : ¬ Rose x.faults_old.print x.faults_new.print
     pub took : ¬ TookNothing x
+    -- `run` has no argument, or one that isn't refused
+    pub argument : ¬ IsBadArgument x.scene
     -- the command takes no source, or one that isn't refused
     pub source : (r : Refusal) → ¬ IsRefused x.scene r
     pub file : HasNoCauseInFile L x.scene
@@ -232,9 +243,10 @@ module _ (x : Call) where
   abbrev pub ReportsStay : Type 0
   ReportsStay = IsLineOf x.scene (λ c. executes c ≡ false) → WritesNothing × Deeds x (λ D. AllByRecursion IsPrint D)
 
-  -- where the words are no line, or the source is refused, nothing is written
+  -- where the words are no line, or the argument or the source is refused, nothing is written; of an argument nothing but prints is done
   pub record SilentStays : Type 0 where
     pub bad_line : (n : ℕ) → IsBadLine x.scene n → WritesNothing
+    pub bad_argument : IsBadArgument x.scene → WritesNothing × Deeds x (λ D. AllByRecursion IsPrint D)
     pub refused : WhereTold x.scene.source ((r : Refusal) → IsRefused x.scene r → WritesNothing)
 
 module _ (L : Language) (x : Call) where

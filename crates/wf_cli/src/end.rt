@@ -1,6 +1,6 @@
 // What a command has found out before it prints.
 ghost use Rattle.std.specs.Prelude.{◌≡◌, ◌≤◌, ◌⊎◌, IfOk, IsErr, IsErrAnd};
-ghost use Rattle.wf_cli.specs.Said.{SaysStatus, SaysOutcome, SaysFault, SaysSource};
+ghost use Rattle.wf_cli.specs.Said.{SaysStatus, SaysArgument, SaysOutcome, SaysFault, SaysSource};
 ghost use Rattle.wf_machine.specs.Lent.{outcome_view};
 ghost use Rattle.wf_machine.specs.Outcome.{IsResult, IsShallow};
 ghost use Rattle.wf_status.specs.Statuses.{line_end};
@@ -8,6 +8,7 @@ ghost use Rattle.wf_value.specs.Data.{depth};
 ghost use Rattle.wf_value.specs.Json.{json_text};
 ghost use Rattle.wf_value.specs.Plain.{plain};
 
+use crate::argument::ArgumentFault;
 use std::alloc::Global;
 use wf_engine::EngineFault;
 use wf_host::ReadFault;
@@ -117,6 +118,16 @@ impl Said {
                 text: json_line(alloc, error)?,
             }),
             Outcome::Active => unreachable!(),
+        }
+    }
+
+    /// The status and the line of an argument that isn't taken, or why there is none.
+    pub(crate) fn of_argument(alloc: Global, fault: ArgumentFault) -> Result<Said, Silence>
+        ensures { SaysArgument fault result }
+    {
+        match fault {
+            ArgumentFault::Bad => Ok(Said::line(alloc, Status::BadArgument)?),
+            ArgumentFault::OutOfMemory => Err(Silence::OutOfMemory),
         }
     }
 

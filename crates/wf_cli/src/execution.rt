@@ -6,7 +6,7 @@ ghost use Rattle.wf_cli.specs.Top.{IsLineOf};
 ghost use Rattle.wf_engine.specs.Engine.{memory, is_closed, Holds, StandsFor};
 ghost use Rattle.wf_deeds.specs.Kept as kept;
 ghost use Rattle.wf_engine.specs.Safe.{scene};
-ghost use Rattle.wf_engine.specs.Starts.{start_of};
+ghost use Rattle.wf_engine.specs.Starts.{HasArgument, argument_text, start_of};
 ghost use Rattle.wf_engine.specs.TheLanguage.{the_language};
 ghost use Rattle.wf_events.specs.Records.{Started};
 ghost use Rattle.wf_events.specs.Spelling.{record_bytes, HasSpelling};
@@ -22,6 +22,7 @@ ghost use Rattle.wf_args.specs.declared.command.Command.TheVariants.{Run, Resume
 ghost use Rattle.wf_args.specs.declared.option.OptionName.TheVariants.{Id};
 ghost use Rattle.wf_source.specs.Programs.{IsSourceOf};
 
+use crate::argument::read_argument;
 use crate::end::{Said, Silence};
 use std::alloc::Global;
 use std::marker::Brand;
@@ -29,7 +30,7 @@ use std::sync::ledger::{Blank, Ledger};
 use wf_args::Line;
 use wf_check::Checked;
 use wf_deeds::laws_of_rules;
-use wf_engine::{Engine, EngineFault};
+use wf_engine::{Engine, EngineFault, laws_of_starts};
 use wf_events::{Start, one_spelling};
 use wf_host::{Host, Routes, Source, read_up_to};
 use wf_journal_laws::{laws_of_histories, laws_of_moments};
@@ -62,23 +63,27 @@ fn id_for(alloc: Global, line: &Line<'_>, reading: u64) -> Result<Text, OutOfMem
     }
 }
 
-/// What an execution of the source is started with.
+/// What an execution of the source is started with, given the text of the line's argument.
 fn start_for(
     alloc: Global,
     line: &Line<'_>,
+    argument: Bytes,
     source: &[u8],
     reading: u64,
 ) -> Result<Start, OutOfMemory>
+    requires text { argument ≡ argument_text (plain_line line.now) }
+    requires has { HasArgument (plain_line line.now) }
     requires short { length source.now ≤ 131072 }
     ensures start { IfOk result (λ s. start_view s
         ≡ start_of (plain_line line.now) source.now reading) }
     ensures spelled { IfOk result (λ s. HasSpelling (Started (start_view s))) }
     ensures fits { IfOk result (λ s. length (record_bytes (Started (start_view s))) ≤ 16777215) }
 {
+    laws_of_starts();
     Ok(Start {
         id: id_for(alloc, line, reading)?,
         source: Bytes::new(alloc, source)?,
-        argument: Bytes::new(alloc, b"null")?,
+        argument,
         routes: Routes::new(alloc),
         env: Pairs::new(alloc),
         base: Text::new(alloc, "")?,
@@ -90,11 +95,14 @@ fn start_for(
 fn begin<H: Host>(
     alloc: Global,
     line: &Line<'_>,
+    argument: Bytes,
     source: &[u8],
     program: Checked,
     host: &mut H,
 ) -> Result<Engine, EngineFault>
     requires command { (plain_line line.now).command ≡ Run }
+    requires text { argument ≡ argument_text (plain_line line.now) }
+    requires has { HasArgument (plain_line line.now) }
     requires program { IsSourceOf source.now (program_of program) }
     ensures opening { Told (H.world host.old) ((words : List (List ℕ)) (rest : Rest)
         → line_of words ≡ Ok (plain_line line.now) → IsFirst 131073 rest source.now
@@ -114,7 +122,7 @@ fn begin<H: Host>(
     laws_of_sources();
     one_spelling();
     let reading = host.now()?;
-    let start = start_for(alloc, line, source, reading)?;
+    let start = start_for(alloc, line, argument, source, reading)?;
     Engine::begin(alloc, host, &start, program)
 }
 
@@ -142,11 +150,14 @@ fn to_outcome<H: Host>(alloc: Global, engine: Engine, host: &mut H) -> Result<Sa
 fn run_program<H: Host>(
     alloc: Global,
     line: &Line<'_>,
+    argument: Bytes,
     source: &[u8],
     program: Checked,
     host: &mut H,
 ) -> Result<Said, Silence>
     requires command { (plain_line line.now).command ≡ Run }
+    requires text { argument ≡ argument_text (plain_line line.now) }
+    requires has { HasArgument (plain_line line.now) }
     requires program { IsSourceOf source.now (program_of program) }
     ensures end { (words : List (List ℕ)) (rest : Rest) (reads reads2 : ℕ)
         → line_of words ≡ Ok (plain_line line.now) → IsFirst 131073 rest source.now
@@ -160,13 +171,43 @@ fn run_program<H: Host>(
     ensures counts { NoCountFalls H.faults host.old host.new }
 {
     laws_of_sources();
-    match begin(alloc, line, source, program, host) {
+    match begin(alloc, line, argument, source, program, host) {
         Ok(engine) => to_outcome(alloc, engine, host),
         Err(fault) => Said::of_fault(alloc, fault),
     }
 }
 
 /// Reads the source, starts an execution of it and goes on to its outcome.
+fn run_source<S: Source, H: Host>(
+    alloc: Global,
+    line: &Line<'_>,
+    argument: Bytes,
+    source: &mut S,
+    host: &mut H,
+) -> Result<Said, Silence>
+    requires command { (plain_line line.now).command ≡ Run }
+    requires text { argument ≡ argument_text (plain_line line.now) }
+    requires has { HasArgument (plain_line line.now) }
+    ensures end { (words : List (List ℕ)) → line_of words ≡ Ok (plain_line line.now)
+        → IsEnd (scene words (S.left source.old) (H.world host.old)) (H.world host.old)
+        (H.world host.new) (S.faults source.old) (S.faults source.new) (H.faults host.old)
+        (H.faults host.new) result }
+    ensures worked { Told (H.world host.old) ((words : List (List ℕ))
+        → line_of words ≡ Ok (plain_line line.now)
+        → Worked (scene words (S.left source.old) (H.world host.old)) (H.world host.old)
+        (H.world host.new) result) }
+    ensures tells { TellsAsBefore H.world host.old host.new }
+    ensures reads { S.faults source.old ≤ S.faults source.new }
+    ensures counts { NoCountFalls H.faults host.old host.new }
+{
+    let bytes = read_up_to(alloc, source, SOURCE_LIMIT + 1)?;
+    match read_source(alloc, bytes.as_slice()) {
+        Ok(program) => run_program(alloc, line, argument, bytes.as_slice(), program, host),
+        Err(fault) => Said::of_source(alloc, fault),
+    }
+}
+
+/// Looks at the argument, and then reads the source, starts an execution of it and goes on to its outcome.
 pub(crate) fn run<S: Source, H: Host>(
     alloc: Global,
     line: &Line<'_>,
@@ -186,10 +227,9 @@ pub(crate) fn run<S: Source, H: Host>(
     ensures reads { S.faults source.old ≤ S.faults source.new }
     ensures counts { NoCountFalls H.faults host.old host.new }
 {
-    let bytes = read_up_to(alloc, source, SOURCE_LIMIT + 1)?;
-    match read_source(alloc, bytes.as_slice()) {
-        Ok(program) => run_program(alloc, line, bytes.as_slice(), program, host),
-        Err(fault) => Said::of_source(alloc, fault),
+    match read_argument(alloc, line) {
+        Ok(argument) => run_source(alloc, line, argument, source, host),
+        Err(fault) => Said::of_argument(alloc, fault),
     }
 }
 

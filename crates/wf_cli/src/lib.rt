@@ -4,6 +4,7 @@
 //! The contract of [`run_line`] has a clause for each status, and says what a crash at any moment leaves.
 #![tactic(auto)]
 
+mod argument;
 mod checking;
 mod end;
 mod execution;

@@ -113,13 +113,14 @@ pub fn perform<S: Source, H: Host>(
 /// Does what the words of a command line say, prints what it comes to, and returns the status. `words` are those behind the program's
 /// name.
 ///
-/// `check` reads the source to its end and prints `accepted` with [`Status::Done`] where it is a program that the checker accepts.
-/// `format` reads the source to its end and prints its tree in one layout, from which the same tree is read back, with [`Status::Done`].
-/// `run` reads the source to its end, begins its execution on the journal, and goes on to the outcome; `resume` goes on with the
+/// `check` reads the source to its end and prints `accepted` with [`Status::Done`] where it is a program that the checker accepts. `format`
+/// reads the source to its end and prints its tree in one layout, from which the same tree is read back, with [`Status::Done`]. `run` looks
+/// at the argument, reads the source to its end, begins its execution on the journal, and goes on to the outcome; `resume` goes on with the
 /// execution that stands in the journal. A value prints as a line of JSON with [`Status::Done`], an error with [`Status::Raised`]. The
 /// words `--help` and `--version` alone print a text, with [`Status::Done`]. The causes of the other statuses are looked at in this order:
 ///
 /// - [`Status::BadLine`]: the words are no line.
+/// - [`Status::BadArgument`]: the word of `--args` is no JSON of a value, or its value counts more than 32,768.
 /// - [`Status::ReadFault`]: a read of the source failed.
 /// - [`Status::Refused`]: the source has more than 131,072 bytes, or no tree by its reader, or, under `check` and `run`, is no program that
 ///   the checker accepts.

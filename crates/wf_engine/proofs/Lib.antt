@@ -10,6 +10,7 @@ mod LivesRuns
 mod NewSessions
 mod Reopened
 mod Sessions
+mod Starts
 mod StillOpen
 mod Turning
 pub mod RowsHold

@@ -9,6 +9,7 @@ use Rattle.wf_args.specs.Lines.{PlainLine, line_of}
 use Rattle.wf_args.specs.declared.command.Command.{Command}
 use Rattle.wf_args.specs.declared.command.Command.TheVariants.{Check, Format, Run, Resume, Help, Version}
 use Rattle.wf_model.specs.Config.{Outcome, Active, Returned, Raised, Cancelled}
+use Rattle.wf_engine.specs.Starts.{HasArgument}
 use Rattle.wf_journal_laws.specs.History.{Standing, history}
 use Rattle.wf_journal_laws.specs.Language.{Language}
 use Rattle.wf_source.specs.Programs.{IsRefusalOf, IsSourceOf}
@@ -81,6 +82,10 @@ module _ (s : Scene) where
   abbrev pub IsBadLine : ℕ → Type 0
   IsBadLine n = line_of s.words ≡ Err n
 
+  -- the word of `--args` says no value, or one past its limit
+  abbrev pub IsBadArgument : Type 0
+  IsBadArgument = (l : PlainLine) × IsLine l × (l.command ≡ Run) × ¬ HasArgument l
+
   -- the source, read to its end or to 131,073 bytes
   abbrev pub Reads : PlainLine → List ℕ → Type 0
   Reads l bytes = IsLine l × (uses_source l.command ≡ true) × IsFirst 131073 s.source bytes
@@ -127,6 +132,7 @@ module _ (L : Language) (R : Reports) (s : Scene) where
 
   pub data Gives (image : List ℕ) : Status → List ℕ → Type 0 where
     bad_line : (n : ℕ) → IsBadLine s n → Gives image (status.BadLine n) (line_end (codes "bad line at word " ++ decimal n))
+    bad_argument : IsBadArgument s → Gives image status.BadArgument (line_end (codes "bad argument"))
     refused : (r : Refusal) → IsRefused s r → Gives image (status.Refused r) (line_end (refusal_text r))
     not_a_journal : HasOtherMagic s → Gives image status.NotAJournal (line_end (codes "not a journal"))
     already_started : IsStarted s → Gives image status.AlreadyStarted (line_end (codes "already started"))

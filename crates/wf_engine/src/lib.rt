@@ -6,10 +6,12 @@ mod fault;
 mod lives;
 mod opening;
 mod rows;
+mod starts;
 mod turns;
 
 pub use engine::Engine;
 pub use fault::EngineFault;
 pub use lives::{law_of_lives, law_of_stays};
 pub use rows::worked_histories;
+pub use starts::laws_of_starts;
 pub use turns::choose_turn;

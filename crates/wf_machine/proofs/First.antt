@@ -28,10 +28,10 @@ pub going_of : (nodes : List Node) (fs : List Frame) → IsSettled nodes fs → 
 going_of nodes [] settled ended = absurd (cc ended)
 going_of nodes (f ∷ fs) settled ended = settled
 
--- a list of which none is there
-pub no_items : {A : Type 0} (xs : List A) → (length xs == 0) ≡ true → xs ≡ []
-no_items [] is = refl
-no_items (x ∷ xs) is = absurd (false≢true (sym (eqb-suc-zero (length xs)) ∙ is))
+-- the first of some
+pub first_of : {A : Type 0} (xs : List A) → (length xs == 0) ≡ false → (x : A) × (slice_get xs 0 ≡ Some x)
+first_of [] is = absurd (cc is)
+first_of (x ∷ xs) is = (x, refl)
 
 -- `main`'s one layer
 abbrev with_vars : Pairs → Local
@@ -59,48 +59,38 @@ module _ (p : Program) (nodes : List Node) (tells : Tells (spots p.flows) nodes)
   described : FlowAt F ≡ part_by (spots p.flows) x.name x.next (kind_by x.codes.items.items x.kind)
   described = sym part ∙ (tells.resolves.each 0 x at).part
 
-  -- its node is no other one
-  pub is_flow : ((g : FlowNode) → x.kind ≡ kind.Flow g → ⊥) → ⊥
-  is_flow never = by x.kind refl described
+  -- its node is a workflow
+  pub starts : IsFlow nodes 0
+  starts = by x.kind refl described
     where
-      by : (k : NodeKind) → x.kind ≡ k → FlowAt F ≡ part_by (spots p.flows) x.name x.next (kind_by x.codes.items.items k) → ⊥
-      by (kind.Flow g) is same = never g is
-      by kind.Nothing is same = cc same
-      by (kind.Assign v) is same = cc same
-      by (kind.Call c) is same = cc same
-      by (kind.Switch v) is same = cc same
-      by (kind.For l) is same = cc same
-      by (kind.Parallel q) is same = cc same
-      by (kind.Block b) is same = cc same
-      by (kind.Try t) is same = cc same
-      by (kind.Raise t) is same = cc same
-      by (kind.Return t) is same = cc same
-      by (kind.Arm t) is same = cc same
-      by (kind.Entry e) is same = cc same
-      by (kind.Branch b) is same = cc same
+      by : (k : NodeKind) → x.kind ≡ k → FlowAt F ≡ part_by (spots p.flows) x.name x.next (kind_by x.codes.items.items k) → IsFlow nodes 0
+      by (kind.Flow g) is same = record {
+        view = node_view x;
+        at = ap (option_map node_view) at;
+        params = params_view g.params;
+        list = block_view g.block;
+        is = ap (kind_by x.codes.items.items) is;
+      }
+      by kind.Nothing is same = absurd (cc same)
+      by (kind.Assign v) is same = absurd (cc same)
+      by (kind.Call c) is same = absurd (cc same)
+      by (kind.Switch v) is same = absurd (cc same)
+      by (kind.For l) is same = absurd (cc same)
+      by (kind.Parallel q) is same = absurd (cc same)
+      by (kind.Block b) is same = absurd (cc same)
+      by (kind.Try t) is same = absurd (cc same)
+      by (kind.Raise t) is same = absurd (cc same)
+      by (kind.Return t) is same = absurd (cc same)
+      by (kind.Arm t) is same = absurd (cc same)
+      by (kind.Entry e) is same = absurd (cc same)
+      by (kind.Branch b) is same = absurd (cc same)
 
-  module _ (g : FlowNode) (is : x.kind ≡ kind.Flow g) where
-    -- the node is a workflow
-    pub starts : IsFlow nodes 0
-    starts = record {
-      view = node_view x;
-      at = ap (option_map node_view) at;
-      params = params_view g.params;
-      list = block_view g.block;
-      is = ap (kind_by x.codes.items.items) is;
-    }
+  -- where it begins
+  pub begins : (v : Data) (l : Local) → settle (Do (part_list (part_at (spots p.flows) 0)) (part_list (part_at (spots p.flows) 0)) ∷ []) (begun (part_params (part_at (spots p.flows) 0)) v) ≡ l → first_local p v ≡ l
+  begins v l so = ap meant first_flow.2 ∙ sym (ap made first_flow.2) ∙ so
+    where
+      meant : List Flow → Local
+      meant fs = settle (Do (main_steps fs) (main_steps fs) ∷ []) (with_vars (main_vars fs v))
 
-    -- its parameters
-    params : F.params ≡ params_view g.params
-    params = let same : FlowAt F ≡ part_by (spots p.flows) x.name x.next (kind_by x.codes.items.items (kind.Flow g)) = described ∙ ap (λ k. part_by (spots p.flows) x.name x.next (kind_by x.codes.items.items k)) is in ap part_params same
-
-    -- where it begins, without parameters
-    pub begins : params_view g.params ≡ [] → (l : Local) → settle (Do (part_list (part_at (spots p.flows) 0)) (part_list (part_at (spots p.flows) 0)) ∷ []) (begun (part_params (part_at (spots p.flows) 0)) null) ≡ l → (v : Data) → first_local p v ≡ l
-    begins none l so v =
-        let vars : main_vars p.flows v ≡ no_pairs = ap (λ fs. main_vars fs v) first_flow.2 ∙ ap (λ ps. argument_in ps v) (params ∙ none) in
-        let steps : part_list (part_at (spots p.flows) 0) ≡ main_steps p.flows = ap part_list part ∙ sym (ap main_steps first_flow.2) in
-        let bare : part_params (part_at (spots p.flows) 0) ≡ [] = ap part_params part ∙ params ∙ none in
-        ap (λ vs. settle (Do (main_steps p.flows) (main_steps p.flows) ∷ []) (with_vars vs)) vars
-        ∙ ap (λ ss. settle (Do ss ss ∷ []) (with_vars no_pairs)) (sym steps)
-        ∙ ap (λ ps. settle (Do (part_list (part_at (spots p.flows) 0)) (part_list (part_at (spots p.flows) 0)) ∷ []) (begun ps null)) (sym bare)
-        ∙ so
+      made : List Flow → Local
+      made fs = settle (Do (part_list (part_at (spots fs) 0)) (part_list (part_at (spots fs) 0)) ∷ []) (begun (part_params (part_at (spots fs) 0)) v)

@@ -5,7 +5,7 @@
 //! next, [`Machine::apply`] carries it out, and [`Machine::outcome`] tells how the execution has ended. Nothing is read from a clock or a
 //! network: readings come in from outside, in milliseconds since 1970.
 //!
-//! `main` is the one workflow so far, without parameters: it neither calls nor waits. Each entry of an assign, each step of another form,
+//! `main` is the one workflow so far: it neither calls nor waits. Each entry of an assign, each step of another form,
 //! each jump beside a step and each turn of a loop is one event: a `MoveAt` with a reading where it evaluates what names `sys.now`,
 //! whether or not the evaluation comes there, and else a `Move`. The limits are those of the first rules:
 //! - counted events: 100,000 in an execution, of which the last isn't carried out: it raises a `ResourceLimitError`;
@@ -15,6 +15,7 @@
 //! An error of the program (a `KeyError`, say) is an outcome. An error of a call is an [`ApplyFault`] or want of memory.
 #![tactic(auto)]
 
+mod argument;
 mod facts;
 mod laws;
 mod machine;

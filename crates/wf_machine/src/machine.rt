@@ -8,6 +8,7 @@ ghost use Rattle.wf_machine.specs.State.{is_running, outcome_by, outcome_depth};
 ghost use Rattle.wf_machine.specs.declared.machine.Ending.TheVariants.{Running};
 ghost use Rattle.wf_steps.specs.Built.{is_table_built};
 
+use crate::argument::argument_of;
 use crate::facts::Facts;
 use crate::steps::Steps;
 use crate::task::{advance, first_task, kind_of};
@@ -130,8 +131,8 @@ impl Machine {
     ghost use Rattle.wf_model.specs.Step.{counted as as_counted, next, one_more, read_at, stopped};
     ghost use Rattle.wf_model.specs.Taken.{by_itself};
 
-    /// Begins an execution: it stands before the first step of `main`, or has returned null where `main` has no steps. Nothing is
-    /// counted yet. Without memory there is no machine.
+    /// Begins an execution: it stands before the first step of `main`, or has returned null where `main` has no steps. The parameter of
+    /// `main`, if it has one, is bound to the start's argument. Nothing is counted yet. Without memory there is no machine.
     pub fn new(alloc: Global, start: &Start, program: Checked) -> Result<Machine, OutOfMemory>
         ensures program { IfOk result (λ m. (state_of m).program ≡ program_of program) }
         ensures initial { IfOk result (λ m. initial (program_of program) (start_view start.now)
@@ -142,8 +143,9 @@ impl Machine {
             return Err(OutOfMemory);
         }
         let facts = Facts::of(alloc, start)?;
+        let argument = argument_of(alloc, start)?;
         let mut scopes = Scopes::new(alloc, VARIABLE_LIMIT)?;
-        let task = first_task(alloc, &program, &mut scopes)?;
+        let task = first_task(alloc, &program, argument, &mut scopes)?;
         let ending = if task.is_some() {
             Ending::Running
         } else {

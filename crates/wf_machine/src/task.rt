@@ -18,42 +18,34 @@ ghost use Rattle.wf_steps.specs.Kinds.{kind_view};
 ghost use Rattle.wf_moves.specs.Moved.{IsGoing, IsLeft};
 ghost use Rattle.wf_moves.specs.Tasks.{IsFirst, MovesSo, went_of};
 ghost use Rattle.wf_nodes.specs.Spots.{spots};
-ghost use Rattle.wf_value.specs.Data.{Data};
+ghost use Rattle.wf_value.specs.Plain as values;
 
 use std::alloc::Global;
 use wf_check::Checked;
 use wf_frames::Facts as StepFacts;
 use wf_moves::{Kind, Move, Task};
-use wf_nodes::NodeKind;
 use wf_scope::Scopes;
 use wf_value::{OutOfMemory, Value};
 
-/// `main` before its first step, or none where it has no steps. A `main` with parameters is answered as if there were no memory: so far
-/// the checker refuses it.
+/// `main` before its first step, with its parameter bound to the argument if it has one; or none where it has no steps. An argument past
+/// the limit on variables is answered as if there were no memory.
 pub(crate) fn first_task(
     alloc: Global,
     program: &Checked,
+    argument: Value,
     scopes: &mut Scopes,
 ) -> Result<Option<Task>, OutOfMemory>
     ghost plain: { Program }
     requires tells { Tells (spots plain.flows) (nodes_of program.now) }
     requires first { IsFirst (around plain) scopes.old }
-    ensures begins { IfOk result (λ t. (v : Data) → Begins plain v t scopes.new) }
+    ensures begins { IfOk result (λ t. Begins plain (values.plain argument) t scopes.new) }
     ensures standing { IfOk result (λ t. IsStanding plain (nodes_of program.now) t scopes.new) }
 {
     let nodes = program.nodes();
-    let Some(first) = nodes.first() else {
+    if nodes.is_empty() {
         return Ok(None);
-    };
-    match &first.kind {
-        NodeKind::Flow(flow) => {
-            if !flow.params.items().is_empty() {
-                return Err(OutOfMemory);
-            }
-        }
-        _ => unreachable!(),
     }
-    let task = Task::new(alloc, nodes, 0, Value::Null, scopes)?;
+    let task = Task::new(alloc, nodes, 0, argument, scopes)?;
     if task.is_ended() {
         return Ok(None);
     }

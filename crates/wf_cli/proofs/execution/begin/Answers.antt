@@ -20,7 +20,7 @@ use Rattle.wf_source.specs.Programs.{IsSourceOf}
 use Rattle.wf_cli.proofs.execution.begin.Goals as goal
 
 pub start_for-requires : goal.start_for-requires
-start_for-requires g c = record { short = c.laws_of_sources.ensures.short c.args.source.now (program_of c.args.program) c.requires.program }
+start_for-requires g c = record { text = c.requires.text; has = c.requires.has; short = c.laws_of_sources.ensures.short c.args.source.now (program_of c.args.program) c.requires.program }
 
 pub returns-in_err-reading-clause-opening : goal.returns-in_err-reading-clause-opening
 returns-in_err-reading-clause-opening g c = λ told words rest is first.

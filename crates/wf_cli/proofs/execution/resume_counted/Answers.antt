@@ -2,7 +2,7 @@ use Rattle.std.proofs.Common.{◌≡◌, ◌∙◌, ℕ, List, IsTrue, Ok, Err, 
 use Rattle.wf_cli.proofs.Causes.{resume_executes}
 use Rattle.wf_cli.proofs.Finish.{rose_from, none_fell}
 use Rattle.wf_cli.proofs.Opens.{opening_by_resume}
-use Rattle.wf_cli.proofs.Works.{end_fault, worked_fault, worked_going, end_going, resume_accepted, given_seen}
+use Rattle.wf_cli.proofs.Works.{end_fault, worked_fault, worked_going, end_going, resume_taken, given_seen}
 use Rattle.wf_cli.specs.Said.{Opening, Worked}
 use Rattle.wf_cli.specs.Top.{IsLineOf}
 use Rattle.wf_host.specs.Source.{Rest}
@@ -33,14 +33,14 @@ returns-in-Ok g c =
       finished = k.finished told;
     })) in
     let work : (told : IsTrue old.tells) (words : List (List ℕ)) (rest : Rest) (line : IsLineOf (scene words rest old) (λ k. k ≡ Resume)) → Worked (scene words rest old) old new c.to_outcome.result = λ told words rest line.
-    worked_going (scene words rest old) kept.Resume old mid new c.in-Ok.engine c.to_outcome.result (resume_executes (scene words rest old) line) (resume_accepted (scene words rest old) line) (λ _. refl) refl
+    worked_going (scene words rest old) kept.Resume old mid new c.in-Ok.engine c.to_outcome.result (resume_executes (scene words rest old) line) (resume_taken (scene words rest old) line) (λ _. refl) refl
     (λ t i le now. g.met.H.Host.counts_now c.open.new.host t i (k.tells ∙ told) le now)
     (λ t i le now. g.met.H.Host.counts_now c.to_outcome.new.host t i (c.to_outcome.ensures.tells ∙ k.tells ∙ told) le now) (opening told words rest line)
     (c.to_outcome.ensures.going (k.tells ∙ told) kept.Resume (opening told words rest line).little.done (opening told words rest line).opened.stands) (c.to_outcome.ensures.deeds (k.tells ∙ told)) in
     record {
       end = λ words rest reads reads2 line.
           end_going (scene words rest old) old new reads reads2 (g.H.Host.faults c.args.host.now) (g.H.Host.faults c.open.new.host) (g.H.Host.faults c.to_outcome.new.host) c.to_outcome.result c.to_outcome.ensures.says
-          (resume_executes (scene words rest old) line) (resume_accepted (scene words rest old) line)
+          (resume_executes (scene words rest old) line) (resume_taken (scene words rest old) line)
           (λ told. (
             (opening told words rest line).opened.causes,
             given_seen the_language (scene words rest old) new c.to_outcome.result (work told words rest line).gives (g.met.H.Host.reads_back c.to_outcome.new.host (c.to_outcome.ensures.tells ∙ k.tells ∙ told)),
@@ -73,8 +73,8 @@ returns-in-Err g c =
     record {
       end = λ words rest reads reads2 line.
           end_fault (scene words rest old) old new reads reads2 (g.H.Host.faults c.args.host.now) (g.H.Host.faults c.open.new.host) c.in-Err.fault c.of_fault.result c.of_fault.ensures (resume_executes (scene words rest old) line)
-          (resume_accepted (scene words rest old) line) (λ told. (opening told words rest line).fault) (λ is. k.disk_fault (c.in-Err.is ∙ ap Err is));
-      worked = λ told words rest line. worked_fault (scene words rest old) kept.Resume old new c.in-Err.fault c.of_fault.result (opening told words rest line) c.of_fault.ensures (resume_executes (scene words rest old) line) (resume_accepted (scene words rest old) line) (λ _. refl);
+          (resume_taken (scene words rest old) line) (λ told. (opening told words rest line).fault) (λ is. k.disk_fault (c.in-Err.is ∙ ap Err is));
+      worked = λ told words rest line. worked_fault (scene words rest old) kept.Resume old new c.in-Err.fault c.of_fault.result (opening told words rest line) c.of_fault.ensures (resume_executes (scene words rest old) line) (resume_taken (scene words rest old) line) (λ _. refl);
       tells = k.tells;
       counts = k.counts;
     }

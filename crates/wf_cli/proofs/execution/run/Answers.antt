@@ -1,32 +1,20 @@
-use Rattle.std.proofs.Common.{ap, subst, sym}
-use Rattle.wf_cli.proofs.Works.{run_takes, source_end, source_worked}
-use Rattle.wf_engine.specs.Printed.{uses_source}
+use Rattle.std.proofs.Common.{Err, ap}
+use Rattle.wf_cli.proofs.Works.{argument_end, argument_worked}
 use Rattle.wf_engine.specs.Safe.{scene}
-use Rattle.wf_host.specs.Source.{IsFirst}
 use Rattle.wf_args.specs.Plain.{plain_line}
-use Rattle.wf_source.specs.Programs.{IsRefusalOf}
-use Rattle.wf_source.specs.Views.{TellsOf}
 use Rattle.wf_cli.proofs.execution.run.Goals as goal
 
-pub returns-in-Ok-clause-end : goal.returns-in-Ok-clause-end
-returns-in-Ok-clause-end g c = λ words is.
-    c.run_program.ensures.end words (g.S.Source.left c.args.source.now) (g.S.Source.faults c.args.source.now) (g.S.Source.faults c.read_up_to.new.source) is (subst (λ b. IsFirst 131073 (g.S.Source.left c.args.source.now) b) (sym c.as_slice-in-Ok.ensures.value) c.in_ok-bytes.ensures.bytes)
-
-pub returns-in-Ok-clause-worked : goal.returns-in-Ok-clause-worked
-returns-in-Ok-clause-worked g c = λ told words is.
-    c.run_program.ensures.worked told words (g.S.Source.left c.args.source.now) is (subst (λ b. IsFirst 131073 (g.S.Source.left c.args.source.now) b) (sym c.as_slice-in-Ok.ensures.value) c.in_ok-bytes.ensures.bytes)
-
-pub returns-clause-end : goal.returns-clause-end
-returns-clause-end g c = λ words is.
+pub returns-in-Err-clause-end : goal.returns-in-Err-clause-end
+returns-in-Err-clause-end g c = λ words is.
     let old = g.H.Host.world c.args.host.now in
     let s = scene words (g.S.Source.left c.args.source.now) old in
-    source_end s (plain_line c.args.line.now) old (g.S.Source.faults c.args.source.now) (g.S.Source.faults c.read_up_to.new.source) (g.H.Host.faults c.args.host.now) (g.H.Host.faults c.args.host.now) c.in_ok-bytes.bytes.items c.in-Err.fault c.of_source.result
-    (is, ap uses_source c.requires.command, c.in_ok-bytes.ensures.bytes) (run_takes (plain_line c.args.line.now).command c.requires.command) (subst (λ b. TellsOf (IsRefusalOf b) c.in-Err.fault) c.as_slice.ensures.value c.in-Err.ensures.fault) c.of_source.ensures
+    argument_end s old (g.S.Source.faults c.args.source.now) (g.S.Source.faults c.args.source.now) (g.H.Host.faults c.args.host.now) (g.H.Host.faults c.args.host.now) c.in-Err.fault c.of_argument.result c.of_argument.ensures
+    (λ why. (plain_line c.args.line.now, is, c.requires.command, c.read_argument.ensures.bad (c.in-Err.is ∙ ap Err why)))
 
-pub returns-clause-worked : goal.returns-clause-worked
-returns-clause-worked g c = λ told words is.
+pub returns-in-Err-clause-worked : goal.returns-in-Err-clause-worked
+returns-in-Err-clause-worked g c = λ told words is.
     let old = g.H.Host.world c.args.host.now in
     let s = scene words (g.S.Source.left c.args.source.now) old in
-    source_worked s (plain_line c.args.line.now) old c.in_ok-bytes.bytes.items c.in-Err.fault c.of_source.result
-    (is, ap uses_source c.requires.command, c.in_ok-bytes.ensures.bytes) (run_takes (plain_line c.args.line.now).command c.requires.command) (subst (λ b. TellsOf (IsRefusalOf b) c.in-Err.fault) c.as_slice.ensures.value c.in-Err.ensures.fault) c.of_source.ensures
+    argument_worked s old c.in-Err.fault c.of_argument.result c.of_argument.ensures
+    (λ why. (plain_line c.args.line.now, is, c.requires.command, c.read_argument.ensures.bad (c.in-Err.is ∙ ap Err why)))
     (λ i d left. g.met.H.Host.only_now c.args.host.now i d told left)

@@ -1,31 +1,32 @@
 use Rattle.std.proofs.Common.{◌≤◌, length, refl, ap, subst, sym}
 use Rattle.std.specs.Prelude.{map}
-use Rattle.wf_cli.proofs.Spelled.{IsPlainStart, plain_fits, plain_spelled}
+use Rattle.wf_args.specs.Plain.{plain_line}
+use Rattle.wf_cli.proofs.Spelled.{IsPlainStart, IsShortArgument, plain_fits, plain_spelled}
 use Rattle.wf_events.specs.View.{start_view, route_view}
 use Rattle.wf_cli.proofs.execution.start_for.Goals as goal
 
-abbrev Plain : goal.In_ok-new-3 → Type 0
+abbrev Plain : goal.In_ok-new-2 → Type 0
 Plain c =
     IsPlainStart (start_view (record {
       id = c.in_ok-id_for.field-0;
       source = c.in_ok-new.field-0;
-      argument = c.in_ok-new-2.field-0;
-      routes = c.new-3.result;
-      env = c.new-4.result;
-      base = c.in_ok-new-3.field-0;
+      argument = c.args.argument;
+      routes = c.new-2.result;
+      env = c.new-3.result;
+      base = c.in_ok-new-2.field-0;
       reading = c.args.reading;
     }))
 
-is_plain : (c : goal.In_ok-new-3) → Plain c
+is_plain : (c : goal.In_ok-new-2) → Plain c
 is_plain c = record {
   rules = refl;
   id = c.in_ok-id_for.ensures.text;
   short = c.in_ok-id_for.ensures.short;
   source = subst (λ l. length l ≤ 131072) (sym c.in_ok-new.ensures) c.requires.short;
-  argument = c.in_ok-new-2.ensures;
-  routes = ap (map route_view) c.new-3.ensures;
-  env = c.new-4.ensures;
-  base = c.in_ok-new-3.ensures;
+  argument = subst IsShortArgument (sym c.requires.text) (c.laws_of_starts.ensures.spelled (plain_line c.args.line.now) c.requires.has);
+  routes = ap (map route_view) c.new-2.ensures;
+  env = c.new-3.ensures;
+  base = c.in_ok-new-2.ensures;
   reading = c.ranges.reading.fits;
 }
 

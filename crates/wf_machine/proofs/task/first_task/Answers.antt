@@ -1,33 +1,31 @@
-use Rattle.std.proofs.Common.{◌≡◌, true, false, List, [], Some, sym, ap, ◌∙◌, subst, map}
-use Rattle.wf_ast.specs.View.{param_view}
+use Rattle.std.proofs.Common.{◌≡◌, sym, ◌∙◌, subst}
 use Rattle.wf_check.specs.Seen.{nodes_of}
 use Rattle.wf_frames.proofs.Standing.{standing}
 use Rattle.wf_frames.specs.Frames.{inner}
 use Rattle.wf_frames.specs.Owned.{local_of}
 use Rattle.wf_frames.specs.Stands.{Stands}
-use Rattle.wf_machine.proofs.First.{begins, going_of, is_flow, no_items, starts}
+use Rattle.wf_machine.proofs.First.{begins, first_of, going_of, starts}
 use Rattle.wf_machine.proofs.task.first_task.Goals as goal
 use Rattle.wf_machine.specs.Main.{around}
 use Rattle.wf_moves.proofs.Going.{going}
 use Rattle.wf_steps.specs.Built.{Tells}
 use Rattle.wf_moves.specs.Moved.{IsGoing}
 use Rattle.wf_nodes.specs.Spots.{spots}
-
-pub unreachable-requires : goal.unreachable-requires
-unreachable-requires g c =
-    let tells = subst (Tells (spots g.plain.flows)) (sym c.nodes-nodes.ensures.nodes) c.requires.0 in
-    is_flow g.plain c.nodes-nodes.result.now tells c.in-Some.first.now (sym c.in-Some.ensures.value) c.in_default-kind.not-Flow
+use Rattle.wf_value.specs.Plain.{plain}
 
 pub new-requires : goal.new-requires
 new-requires g c =
+    let ns = c.nodes-nodes.result.now in
     let tells = subst (Tells (spots g.plain.flows)) (sym c.nodes-nodes.ensures.nodes) c.requires.0 in
-    (tells, (starts g.plain c.nodes-nodes.result.now tells c.in-Some.first.now (sym c.in-Some.ensures.value) c.in-Flow.flow c.in-Flow.is, c.requires.1))
+    let first = first_of ns (sym c.is_empty.ensures ∙ c.if-not-is_empty.false) in
+    (tells, (starts g.plain ns tells first.0 first.1, c.requires.1))
 
 pub returns-clause-begins : goal.returns-clause-begins
 returns-clause-begins g c =
+    let ns = c.nodes-nodes.result.now in
     let tells = subst (Tells (spots g.plain.flows)) (sym c.nodes-nodes.ensures.nodes) c.requires.0 in
-    begins g.plain c.nodes-nodes.result.now tells c.in-Some.first.now (sym c.in-Some.ensures.value) c.in-Flow.flow c.in-Flow.is
-    (sym c.items.ensures.view ∙ ap (map param_view) (no_items c.items.result.now (sym c.is_empty.ensures ∙ c.if-not-is_empty.false))) (local_of (around g.plain) c.in_ok-task.task.frames c.new.new.scopes) c.in_ok-task.ensures.begins
+    let first = first_of ns (sym c.is_empty.ensures ∙ c.if-not-is_empty.false) in
+    begins g.plain ns tells first.0 first.1 (plain c.args.argument) (local_of (around g.plain) c.in_ok-task.task.frames c.new.new.scopes) c.in_ok-task.ensures.begins
 
 pub returns-clause-standing : goal.returns-clause-standing
 returns-clause-standing g c =
