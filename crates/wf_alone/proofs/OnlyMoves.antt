@@ -32,7 +32,7 @@ ready_moves : (waiting begins due : Bool) → waiting ≡ false → IsTrue (not 
 ready_moves true begins due ready still = cc ready
 ready_moves false begins due ready still = absurd (cc still)
 
-module _ (p : Program) (facts : Facts) (last m : ℕ) (k : List Item) (ls : List Layer) (plain : ArePlain k) (has : Moves k) where
+module _ (p : Program) (facts : Facts) (last m : ℕ) (k : List Item) (ls : List Layer) (plain : ArePlain k) (has : Moves p.flows k) where
   -- `main` stands at this control
   abbrev Here : Config
   Here = main_at facts last m k ls

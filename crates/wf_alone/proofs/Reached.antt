@@ -42,7 +42,7 @@ counted_not_nowhere c f some is = by (nat_lt (suc c.moves) move_limit) is
     by true none = some none
     by false none = cc none
 
-module _ (p : Program) (facts : Facts) (last m : ℕ) (k : List Item) (ls : List Layer) (plain : ArePlain k) (has : Moves k) where
+module _ (p : Program) (facts : Facts) (last m : ℕ) (k : List Item) (ls : List Layer) (plain : ArePlain k) (has : Moves p.flows k) where
   -- `main` stands at this control
   abbrev Here : Config
   Here = main_at facts last m k ls
@@ -50,7 +50,7 @@ module _ (p : Program) (facts : Facts) (last m : ℕ) (k : List Item) (ls : List
   -- its move comes to something
   move_comes : (reading now n : ℕ) → by_itself p 0 now move (main_at facts reading n k ls) ≡ NotNow → ⊥
   move_comes reading now n none =
-      not_nowhere (move (main_scene p facts reading now) (main_local k ls)) (main_at facts reading n k ls) (real (main_scene p facts reading now) k (main_local k ls) plain has)
+      not_nowhere (move (main_scene p facts reading now) (main_local k ls)) (main_at facts reading n k ls) (real (main_scene p facts reading now) k (main_local k ls) has)
       (sym (by_main p facts reading now n k ls) ∙ none)
 
   -- so does the event

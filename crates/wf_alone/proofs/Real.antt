@@ -2,23 +2,26 @@
 --     waits, begins_none   what stands there
 --     kind                 the move reads the clock or doesn't, and is no call
 --     real                 the move is none that is ruled out
-use Rattle.std.proofs.Common.{◌≡◌, ℕ, suc, Bool, true, false, List, [], ◌∷◌, Option, None, Some, Ok, Err, refl, sym, subst}
-use Rattle.std.specs.Prelude.{if◌then◌else◌, codes, bytes_eq}
+use Rattle.std.proofs.Common.{◌≡◌, ℕ, suc, Bool, true, false, List, [], ◌∷◌, Option, None, Some, Ok, Err, refl}
+use Rattle.std.specs.Prelude.{if◌then◌else◌, codes, bytes_eq, is_some, nat_le}
 use Rattle.wf_alone.specs.Plain.{is_plain_body, ArePlain, Moves, IsReal}
 use Rattle.wf_ast.specs.Accept.{BreakOutsideLoop}
-use Rattle.wf_ast.specs.Eval.{eval_all, fill}
-use Rattle.wf_ast.specs.Tree.{Entry, loop, LoopBody, step, no_steps, more, Body, Program}
-use Rattle.wf_model.specs.Config.{Item, Do, Entries, Then, Loop, Try, Judge, Mark, Back, Join, Left, next_of}
-use Rattle.wf_model.specs.Kinds.{next_kind, by_clock, arms_now, body_kind, entry_now, over_now, template_now}
+use Rattle.wf_ast.specs.Eval.{eval_all, fill, fill_fields}
+use Rattle.wf_ast.specs.Flows.{flow}
+use Rattle.wf_ast.specs.Tree.{Entry, Flow, Param, Steps, TryBody, except, loop, LoopBody, no_except, step, no_steps, more, Body, Program, try}
+use Rattle.wf_model.specs.Calls.{bindings, calls_named, calls_with}
+use Rattle.wf_model.specs.Config.{Item, Do, Entries, Then, Loop, Try, Judge, Mark, Back, Join, Left, call_limit, next_of}
+use Rattle.wf_model.specs.Kinds.{next_kind, by_clock, arms_now, body_kind, call_kind, entry_now, fields_now, over_now, template_now}
 use Rattle.wf_model.specs.Layers.{Assigned, Done, Refused, Undeclared, assign, enter, opened, view}
-use Rattle.wf_model.specs.Leave.{raises, on, on_assigned, returns, returns_in, returned, continues, breaks, jumps, jumps_to}
+use Rattle.wf_model.specs.Leave.{raises, on, on_assigned, given_to, gives, returns, returns_in, returned, continues, breaks, jumps, jumps_to}
 use Rattle.wf_model.specs.Local.{Local, Root, Main, Branch, Iteration, Scene, Moved, Breaks, leave, settle, ended, goes}
-use Rattle.wf_model.specs.Move.{assigns, chosen, in_arm, loop_names, loop_steps, moves, over, performs, raised, steps_on, then_item, turns}
+use Rattle.wf_model.specs.Move.{assigns, chosen, entered, in_arm, loop_names, loop_steps, moves, over, performs, raised, steps_on, then_item, turns}
 use Rattle.wf_model.specs.Ready.{stands_waiting, begins}
-use Rattle.wf_model.specs.Unwind.{Found, Stands, AtEnd, NotFound, to_back, to_loop, to_step}
-use Rattle.wf_value.specs.Data.{Data, null}
+use Rattle.wf_model.specs.Unwind.{Asks, Found, Judgement, Says, Stands, AtEnd, NotFound, answered, asked_one, asks, called, calls_in, decided, excepted, handled, judged, policy_of, retried, to_back, to_loop, to_step, unwind}
+use Rattle.wf_value.specs.Data.{Data, Pairs, boolean, bytes, integer, list, map, null, text}
 use Rattle.wf_value.specs.Errors.{Answer, ◌>>=◌, error_map}
 use Rattle.wf_value.specs.Pairs.{Text}
+use Rattle.wf_value.specs.declared.Tag.TheVariants.{RecursionError, TypeError}
 
 -- ## What stands there
 -- no parallel step, so none with unended work
@@ -49,21 +52,25 @@ begins_none (Join body left n running es ∷ k) plain = absurd (cc plain)
 
 -- ## The kind of its move
 -- of a body
-body_clock : (p : Program) (body : Body) → is_plain_body body ≡ true → (clock : Bool) × (body_kind p body ≡ by_clock clock)
+call_clock : (o : Option Flow) (x : Text) (b : Bool) → is_some o ≡ true → call_kind o x b ≡ by_clock b
+call_clock (Some w) x b there = refl
+call_clock None x b there = absurd (cc there)
+
+body_clock : (p : Program) (body : Body) → is_plain_body p.flows body ≡ true → (clock : Bool) × (body_kind p body ≡ by_clock clock)
 body_clock p Body.Nothing plain = (false, refl)
 body_clock p (Body.Assign []) plain = (false, refl)
 body_clock p (Body.Assign (e ∷ es)) plain = (entry_now e, refl)
-body_clock p (Body.Call f) plain = absurd (cc plain)
+body_clock p (Body.Call f) plain = (fields_now f.args, call_clock (flow p.flows f.name) f.name (fields_now f.args) plain)
 body_clock p (Body.Switch arms) plain = (arms_now arms, refl)
 body_clock p (Body.For (loop x i o ss)) plain = (over_now o, refl)
 body_clock p (Body.Parallel q) plain = absurd (cc plain)
 body_clock p (Body.Block ss) plain = (false, refl)
-body_clock p (Body.Try t) plain = absurd (cc plain)
+body_clock p (Body.Try t) plain = (false, refl)
 body_clock p (Body.Raise t) plain = (template_now t, refl)
 body_clock p (Body.Return t) plain = (template_now t, refl)
 
 -- of what is innermost
-pub kind : (p : Program) (k : List Item) → Moves k → (clock : Bool) × (next_kind p k ≡ by_clock clock)
+pub kind : (p : Program) (k : List Item) → Moves p.flows k → (clock : Bool) × (next_kind p k ≡ by_clock clock)
 kind p [] has = absurd has
 kind p (Do block no_steps ∷ k) has = absurd (cc has)
 kind p (Do block (more (step x body next) left) ∷ k) has = body_clock p body has
@@ -74,7 +81,7 @@ kind p (Loop l left i ∷ k) has = (false, refl)
 kind p (Try t n d ∷ k) has = absurd (cc has)
 kind p (Judge t n d e ∷ k) has = absurd (cc has)
 kind p (Mark ∷ k) has = absurd (cc has)
-kind p (Back r ∷ k) has = absurd (cc has)
+kind p (Back r ∷ k) has = (false, refl)
 kind p (Join body left n running es ∷ k) has = absurd (cc has)
 
 -- ## Going on and leaving
@@ -86,49 +93,112 @@ ended_real (i ∷ k) l = tt
 goes_real : (k : List Item) (l : Local) → IsReal (goes k l)
 goes_real k l = ended_real (settle k l).control (settle k l)
 
--- an error ends the task, for no `try` stands outward
-raises_real : (s : Scene) (k : List Item) (l : Local) (e : Data) → ArePlain k → IsReal (raises s k l e)
-raises_real s [] l e plain = tt
-raises_real s (Do block left ∷ k) l e plain = raises_real s k l e plain
-raises_real s (Entries es ∷ k) l e plain = raises_real s k l e plain
-raises_real s (Then x ∷ k) l e plain = raises_real s k l e plain
-raises_real s (Loop b left i ∷ k) l e plain = raises_real s k l e plain
-raises_real s (Try t n d ∷ k) l e plain = absurd (cc plain)
-raises_real s (Judge t n d e2 ∷ k) l e plain = absurd (cc plain)
-raises_real s (Mark ∷ k) l e plain = raises_real s k (leave l) e plain
-raises_real s (Back r ∷ k) l e plain = absurd (cc plain)
-raises_real s (Join body left n running es ∷ k) l e plain = absurd (cc plain)
+-- by a test
+either_real : (b : Bool) (m n : Moved) → IsReal m → IsReal n → IsReal (if b then m else n)
+either_real true m n first second = first
+either_real false m n first second = second
+
+-- an error goes outward from a `try`, is taken there, or is tried again
+retried_real : (s : Scene) (t : TryBody) (n : ℕ) (d : Option ℕ) (k : List Item) (l : Local) → IsReal (retried s t n d k l)
+retried_real s (try body None x) n d k l = goes_real k l
+retried_real s (try body (Some p) x) n d k l = tt
+
+excepted_real : (r : Answer Pairs) (ss : Steps) (k : List Item) (l : Local) (f : Data → Moved) → ((e : Data) → IsReal (f e)) → IsReal (excepted r ss k l f)
+excepted_real (Err t) ss k l f out = out (error_map t)
+excepted_real (Ok ps) ss k l f out = goes_real (Do ss ss ∷ Mark ∷ k) (enter false ps l)
+
+handled_real : (s : Scene) (e : Data) (t : TryBody) (k : List Item) (l : Local) (f : Data → Moved) → ((e : Data) → IsReal (f e)) → IsReal (handled s e t k l f)
+handled_real s e (try body p no_except) k l f out = out e
+handled_real s e (try body p (except x ss)) k l f out = excepted_real (opened s l ((x, e) ∷ [])) ss k l f out
+
+called_real : (r : Answer Pairs) (ss : Steps) (k : List Item) (l : Local) (f : Data → Moved) → ((e : Data) → IsReal (f e)) → IsReal (called r ss k l f)
+called_real (Err t) ss k l f out = out (error_map t)
+called_real (Ok ps) ss k l f out = goes_real (Do ss ss ∷ k) (enter true ps l)
+
+asked_real : (s : Scene) (e : Data) (xs : List Param) (ss : Steps) (k : List Item) (l : Local) (f : Data → Moved) → ((e : Data) → IsReal (f e)) → IsReal (asked_one s e xs ss k l f)
+asked_real s e [] ss k l f out = tt
+asked_real s e (x ∷ []) ss k l f out =
+    either_real (nat_le call_limit (calls_in k)) (f (error_map RecursionError)) (called (opened s l ((x.name, e) ∷ [])) ss (Back None ∷ k) l f) (out (error_map RecursionError)) (called_real (opened s l ((x.name, e) ∷ [])) ss (Back None ∷ k) l f out)
+asked_real s e (x ∷ y ∷ xs) ss k l f out = tt
+
+asks_real : (s : Scene) (e : Data) (o : Option Flow) (k : List Item) (l : Local) (f : Data → Moved) → ((e : Data) → IsReal (f e)) → IsReal (asks s e o k l f)
+asks_real s e None k l f out = tt
+asks_real s e (Some w) k l f out = asked_real s e w.params w.steps k l f out
+
+decided_real : (s : Scene) (e : Data) (j : Judgement) (t : TryBody) (n : ℕ) (d : Option ℕ) (k : List Item) (l : Local) (f : Data → Moved) → ((e : Data) → IsReal (f e)) → IsReal (decided s e j t n d k l f)
+decided_real s e (Says true) t n d k l f out = retried_real s t n d k l
+decided_real s e (Says false) t n d k l f out = handled_real s e t k l f out
+decided_real s e (Asks x) t n d k l f out = asks_real s e (flow s.program.flows x) (Judge t n d e ∷ k) l f out
+
+raises_real : (s : Scene) (k : List Item) (l : Local) (e : Data) → IsReal (raises s k l e)
+raises_real s [] l e = tt
+raises_real s (Do block left ∷ k) l e = raises_real s k l e
+raises_real s (Entries es ∷ k) l e = raises_real s k l e
+raises_real s (Then x ∷ k) l e = raises_real s k l e
+raises_real s (Loop b left i ∷ k) l e = raises_real s k l e
+raises_real s (Try t n d ∷ k) l e = decided_real s e (judged (policy_of t) n e) t n d k l (unwind s k l) (raises_real s k l)
+raises_real s (Judge t n d e2 ∷ k) l e = raises_real s k l e
+raises_real s (Mark ∷ k) l e = raises_real s k (leave l) e
+raises_real s (Back r ∷ k) l e = raises_real s k (leave l) e
+raises_real s (Join body left n running es ∷ k) l e = raises_real s k l e
 
 -- a value that is used, or an error
-on_real : {A : Type 0} (s : Scene) (k : List Item) (l : Local) (r : Answer A) (f : A → Moved) → ArePlain k → ((a : A) → IsReal (f a)) → IsReal (on s k l r f)
-on_real s k l (Ok a) f plain real = real a
-on_real s k l (Err t) f plain real = raises_real s k l (error_map t) plain
+on_real : {A : Type 0} (s : Scene) (k : List Item) (l : Local) (r : Answer A) (f : A → Moved) → ((a : A) → IsReal (f a)) → IsReal (on s k l r f)
+on_real s k l (Ok a) f real = real a
+on_real s k l (Err t) f real = raises_real s k l (error_map t)
 
-on_assigned_real : (s : Scene) (k : List Item) (l : Local) (a : Assigned) → ArePlain k → IsReal (on_assigned s k l a)
-on_assigned_real s k l (Done m) plain = goes_real k m
-on_assigned_real s k l (Refused t) plain = raises_real s k l (error_map t) plain
-on_assigned_real s k l Undeclared plain = tt
+on_assigned_real : (s : Scene) (k : List Item) (l : Local) (a : Assigned) → IsReal (on_assigned s k l a)
+on_assigned_real s k l (Done m) = goes_real k m
+on_assigned_real s k l (Refused t) = raises_real s k l (error_map t)
+on_assigned_real s k l Undeclared = tt
 
--- a return finds no call
-to_back_end : (k : List Item) (l : Local) → ArePlain k → to_back k l ≡ AtEnd
-to_back_end [] l plain = refl
-to_back_end (Do block left ∷ k) l plain = to_back_end k l plain
-to_back_end (Entries es ∷ k) l plain = to_back_end k l plain
-to_back_end (Then x ∷ k) l plain = to_back_end k l plain
-to_back_end (Loop b left i ∷ k) l plain = to_back_end k l plain
-to_back_end (Try t n d ∷ k) l plain = absurd (cc plain)
-to_back_end (Judge t n d e ∷ k) l plain = absurd (cc plain)
-to_back_end (Mark ∷ k) l plain = to_back_end k (leave l) plain
-to_back_end (Back r ∷ k) l plain = absurd (cc plain)
-to_back_end (Join body left n running es ∷ k) l plain = absurd (cc plain)
-
+-- a return goes to the innermost call, or out of the task
 returns_in_real : (r : Root) (v : Data) (l : Local) → IsReal (returns_in r v l)
 returns_in_real Main v l = tt
 returns_in_real Branch v l = tt
 returns_in_real Iteration v l = tt
 
-returns_real : (s : Scene) (v : Data) (k : List Item) (l : Local) → ArePlain k → IsReal (returns s v k l)
-returns_real s v k l plain = subst (λ f. IsReal (returned s v l f)) (sym (to_back_end k l plain)) (returns_in_real s.root v l)
+gives_real : (s : Scene) (r : Option Text) (v : Data) (k : List Item) (l : Local) → IsReal (gives s r v k l)
+gives_real s None v k l = goes_real k l
+gives_real s (Some x) v k l = on_assigned_real s k l (assign s x [] v l)
+
+-- what a predicate's workflow answered
+answered_real : (s : Scene) (v : Data) (t : TryBody) (n : ℕ) (d : Option ℕ) (e : Data) (k : List Item) (l : Local) → IsReal (answered s v t n d e k l)
+answered_real s (boolean true) t n d e k l = retried_real s t n d k l
+answered_real s (boolean false) t n d e k l = handled_real s e t k l (unwind s k l) (raises_real s k l)
+answered_real s null t n d e k l = raises_real s k l (error_map TypeError)
+answered_real s (integer i) t n d e k l = raises_real s k l (error_map TypeError)
+answered_real s (text x) t n d e k l = raises_real s k l (error_map TypeError)
+answered_real s (bytes x) t n d e k l = raises_real s k l (error_map TypeError)
+answered_real s (list xs) t n d e k l = raises_real s k l (error_map TypeError)
+answered_real s (map ps) t n d e k l = raises_real s k l (error_map TypeError)
+
+given_real : (s : Scene) (r : Option Text) (v : Data) (k : List Item) (l : Local) → IsReal (given_to s r v k l)
+given_real s r v [] l = gives_real s r v [] l
+given_real s r v (Do block left ∷ k) l = gives_real s r v (Do block left ∷ k) l
+given_real s r v (Entries es ∷ k) l = gives_real s r v (Entries es ∷ k) l
+given_real s r v (Then x ∷ k) l = gives_real s r v (Then x ∷ k) l
+given_real s r v (Loop b left i ∷ k) l = gives_real s r v (Loop b left i ∷ k) l
+given_real s r v (Try t n d ∷ k) l = gives_real s r v (Try t n d ∷ k) l
+given_real s r v (Judge t n d e ∷ k) l = answered_real s v t n d e k l
+given_real s r v (Mark ∷ k) l = gives_real s r v (Mark ∷ k) l
+given_real s r v (Back q ∷ k) l = gives_real s r v (Back q ∷ k) l
+given_real s r v (Join body left n running es ∷ k) l = gives_real s r v (Join body left n running es ∷ k) l
+
+back_real : (s : Scene) (v : Data) (first : Local) (k : List Item) (l : Local) → IsReal (returned s v first (to_back k l))
+back_real s v first [] l = returns_in_real s.root v first
+back_real s v first (Do block left ∷ k) l = back_real s v first k l
+back_real s v first (Entries es ∷ k) l = back_real s v first k l
+back_real s v first (Then x ∷ k) l = back_real s v first k l
+back_real s v first (Loop b left i ∷ k) l = back_real s v first k l
+back_real s v first (Try t n d ∷ k) l = back_real s v first k l
+back_real s v first (Judge t n d e ∷ k) l = back_real s v first k l
+back_real s v first (Mark ∷ k) l = back_real s v first k (leave l)
+back_real s v first (Back r ∷ k) l = given_real s r v k (leave l)
+back_real s v first (Join body left n running es ∷ k) l = back_real s v first k l
+
+returns_real : (s : Scene) (v : Data) (k : List Item) (l : Local) → IsReal (returns s v k l)
+returns_real s v k l = back_real s v l k l
 
 -- ## Jumps
 -- to a loop, or out of one
@@ -154,75 +224,75 @@ jumps_to_real s x (Stands k m) = goes_real k m
 jumps_to_real s x AtEnd = tt
 jumps_to_real s x NotFound = tt
 
--- by a test
-either_real : (b : Bool) (m n : Moved) → IsReal m → IsReal n → IsReal (if b then m else n)
-either_real true m n first second = first
-either_real false m n first second = second
-
-jumps_real : (s : Scene) (x : Text) (k : List Item) (l : Local) → ArePlain k → IsReal (jumps s x k l)
-jumps_real s x k l plain =
-    either_real (bytes_eq x (codes "end")) _ _ (returns_real s null k l plain)
+jumps_real : (s : Scene) (x : Text) (k : List Item) (l : Local) → IsReal (jumps s x k l)
+jumps_real s x k l =
+    either_real (bytes_eq x (codes "end")) _ _ (returns_real s null k l)
     (either_real (bytes_eq x (codes "continue")) _ _ (continues_real s l (to_loop k l))
     (either_real (bytes_eq x (codes "break")) _ _ (breaks_real (to_loop k l)) (jumps_to_real s x (to_step x k l))))
 
 -- ## Moves
 -- an entry of an assignment
-assigns_real : (s : Scene) (e : Entry) (k : List Item) (l : Local) → ArePlain k → IsReal (assigns s e k l)
-assigns_real s e k l plain =
-    on_real s k l (fill e.value (view s l)) _ plain (λ v.
-    on_real s k l (eval_all e.target.places (view s l)) _ plain (λ ks.
-    on_assigned_real s k l (assign s e.target.name ks v l) plain))
+assigns_real : (s : Scene) (e : Entry) (k : List Item) (l : Local) → IsReal (assigns s e k l)
+assigns_real s e k l =
+    on_real s k l (fill e.value (view s l)) _ (λ v.
+    on_real s k l (eval_all e.target.places (view s l)) _ (λ ks.
+    on_assigned_real s k l (assign s e.target.name ks v l)))
 
 -- a turn of a loop
-turns_real : (s : Scene) (b : LoopBody) (n : Option (Data × Left)) (i : ℕ) (k : List Item) (l : Local) → ArePlain k → IsReal (turns s b n i k l)
-turns_real s b None i k l plain = goes_real k l
-turns_real s b (Some n) i k l plain =
-    on_real s k l (opened s l (loop_names b n.0 i)) _ plain (λ ps. goes_real (Do (loop_steps b) (loop_steps b) ∷ Mark ∷ Loop b n.1 (suc i) ∷ k) (enter false ps l))
+turns_real : (s : Scene) (b : LoopBody) (n : Option (Data × Left)) (i : ℕ) (k : List Item) (l : Local) → IsReal (turns s b n i k l)
+turns_real s b None i k l = goes_real k l
+turns_real s b (Some n) i k l =
+    on_real s k l (opened s l (loop_names b n.0 i)) _ (λ ps. goes_real (Do (loop_steps b) (loop_steps b) ∷ Mark ∷ Loop b n.1 (suc i) ∷ k) (enter false ps l))
+
+-- a call of a workflow
+calls_with_real : (s : Scene) (w : Flow) (r : Option Text) (o : Option (List (Text × Data))) (k : List Item) (l : Local) → IsReal (calls_with s w r o k l)
+calls_with_real s w r None k l = tt
+calls_with_real s w r (Some xs) k l =
+    either_real (nat_le call_limit (calls_in k)) _ _ (raises_real s k l (error_map RecursionError)) (on_real s k l (opened s l xs) _ (λ ps. goes_real (Do w.steps w.steps ∷ Back r ∷ k) (enter true ps l)))
+
+named_real : (s : Scene) (r : Option Text) (o : Option Flow) (x : Text) (args : Pairs) (k : List Item) (l : Local) → is_some o ≡ true → IsReal (calls_named s r o x args k l)
+named_real s r (Some w) x args k l there = calls_with_real s w r (bindings w.params args) k l
+named_real s r None x args k l there = absurd (cc there)
 
 -- a body
-performs_real : (s : Scene) (body : Body) (k : List Item) (l : Local) → is_plain_body body ≡ true → ArePlain k → IsReal (performs s body k l)
-performs_real s Body.Nothing k l form plain = goes_real k l
-performs_real s (Body.Assign []) k l form plain = goes_real k l
-performs_real s (Body.Assign (e ∷ es)) k l form plain = assigns_real s e (Entries es ∷ k) l plain
-performs_real s (Body.Call f) k l form plain = absurd (cc form)
-performs_real s (Body.Switch arms) k l form plain = on_real s k l (chosen (view s l) arms) _ plain (λ a. goes_real (in_arm a k) l)
-performs_real s (Body.For (loop x i o ss)) k l form plain = on_real s k l (over (view s l) o) _ plain (λ left. goes_real (Loop (loop x i o ss) left 0 ∷ k) l)
-performs_real s (Body.Parallel q) k l form plain = absurd (cc form)
-performs_real s (Body.Block ss) k l form plain = goes_real (Do ss ss ∷ k) l
-performs_real s (Body.Try t) k l form plain = absurd (cc form)
-performs_real s (Body.Raise t) k l form plain = on_real s k l (fill t (view s l) >>= raised) _ plain (λ v. raises_real s k l v plain)
-performs_real s (Body.Return t) k l form plain = on_real s k l (fill t (view s l)) _ plain (λ v. returns_real s v k l plain)
+performs_real : (s : Scene) (body : Body) (k : List Item) (l : Local) → is_plain_body s.program.flows body ≡ true → IsReal (performs s body k l)
+performs_real s Body.Nothing k l form = goes_real k l
+performs_real s (Body.Assign []) k l form = goes_real k l
+performs_real s (Body.Assign (e ∷ es)) k l form = assigns_real s e (Entries es ∷ k) l
+performs_real s (Body.Call f) k l form = on_real s k l (fill_fields f.args (view s l)) _ (λ args. named_real s f.result (flow s.program.flows f.name) f.name args k l form)
+performs_real s (Body.Switch arms) k l form = on_real s k l (chosen (view s l) arms) _ (λ a. goes_real (in_arm a k) l)
+performs_real s (Body.For (loop x i o ss)) k l form = on_real s k l (over (view s l) o) _ (λ left. goes_real (Loop (loop x i o ss) left 0 ∷ k) l)
+performs_real s (Body.Parallel q) k l form = absurd (cc form)
+performs_real s (Body.Block ss) k l form = goes_real (Do ss ss ∷ k) l
+performs_real s (Body.Try (try body p x)) k l form = goes_real (entered body ∷ Try (try body p x) 0 None ∷ k) l
+performs_real s (Body.Raise t) k l form = on_real s k l (fill t (view s l) >>= raised) _ (λ v. raises_real s k l v)
+performs_real s (Body.Return t) k l form = on_real s k l (fill t (view s l)) _ (λ v. returns_real s v k l)
 
--- with its `next` behind it
-then_plain : (next : Option Text) (k : List Item) → ArePlain k → ArePlain (then_item next k)
-then_plain None k plain = plain
-then_plain (Some x) k plain = plain
-
--- a step
-steps_on_real : (s : Scene) (body : Body) (next : Option Text) (k : List Item) (l : Local) → is_plain_body body ≡ true → ArePlain k → IsReal (steps_on s body next k l)
-steps_on_real s Body.Nothing (Some x) k l form plain = jumps_real s x k l plain
-steps_on_real s Body.Nothing None k l form plain = goes_real k l
-steps_on_real s (Body.Assign es) next k l form plain = performs_real s (Body.Assign es) (then_item next k) l form (then_plain next k plain)
-steps_on_real s (Body.Call f) next k l form plain = absurd (cc form)
-steps_on_real s (Body.Switch arms) next k l form plain = performs_real s (Body.Switch arms) (then_item next k) l form (then_plain next k plain)
-steps_on_real s (Body.For b) next k l form plain = performs_real s (Body.For b) (then_item next k) l form (then_plain next k plain)
-steps_on_real s (Body.Parallel q) next k l form plain = absurd (cc form)
-steps_on_real s (Body.Block ss) next k l form plain = performs_real s (Body.Block ss) (then_item next k) l form (then_plain next k plain)
-steps_on_real s (Body.Try t) next k l form plain = absurd (cc form)
-steps_on_real s (Body.Raise t) next k l form plain = performs_real s (Body.Raise t) (then_item next k) l form (then_plain next k plain)
-steps_on_real s (Body.Return t) next k l form plain = performs_real s (Body.Return t) (then_item next k) l form (then_plain next k plain)
+-- a step, with its `next` behind it
+steps_on_real : (s : Scene) (body : Body) (next : Option Text) (k : List Item) (l : Local) → is_plain_body s.program.flows body ≡ true → IsReal (steps_on s body next k l)
+steps_on_real s Body.Nothing (Some x) k l form = jumps_real s x k l
+steps_on_real s Body.Nothing None k l form = goes_real k l
+steps_on_real s (Body.Assign es) next k l form = performs_real s (Body.Assign es) (then_item next k) l form
+steps_on_real s (Body.Call f) next k l form = performs_real s (Body.Call f) (then_item next k) l form
+steps_on_real s (Body.Switch arms) next k l form = performs_real s (Body.Switch arms) (then_item next k) l form
+steps_on_real s (Body.For b) next k l form = performs_real s (Body.For b) (then_item next k) l form
+steps_on_real s (Body.Parallel q) next k l form = absurd (cc form)
+steps_on_real s (Body.Block ss) next k l form = performs_real s (Body.Block ss) (then_item next k) l form
+steps_on_real s (Body.Try t) next k l form = performs_real s (Body.Try t) (then_item next k) l form
+steps_on_real s (Body.Raise t) next k l form = performs_real s (Body.Raise t) (then_item next k) l form
+steps_on_real s (Body.Return t) next k l form = performs_real s (Body.Return t) (then_item next k) l form
 
 -- of a task that has something to do
-pub real : (s : Scene) (k : List Item) (l : Local) → ArePlain k → Moves k → IsReal (moves s k l)
-real s [] l plain has = absurd has
-real s (Do block no_steps ∷ k) l plain has = absurd (cc has)
-real s (Do block (more (step x body next) left) ∷ k) l plain has = steps_on_real s body next (Do block left ∷ k) l has plain
-real s (Entries [] ∷ k) l plain has = absurd (cc has)
-real s (Entries (e ∷ es) ∷ k) l plain has = assigns_real s e (Entries es ∷ k) l plain
-real s (Then x ∷ k) l plain has = jumps_real s x k l plain
-real s (Loop b left i ∷ k) l plain has = turns_real s b (next_of left) i k l plain
-real s (Try t n d ∷ k) l plain has = absurd (cc has)
-real s (Judge t n d e ∷ k) l plain has = absurd (cc has)
-real s (Mark ∷ k) l plain has = absurd (cc has)
-real s (Back r ∷ k) l plain has = absurd (cc has)
-real s (Join body left n running es ∷ k) l plain has = absurd (cc has)
+pub real : (s : Scene) (k : List Item) (l : Local) → Moves s.program.flows k → IsReal (moves s k l)
+real s [] l has = absurd has
+real s (Do block no_steps ∷ k) l has = absurd (cc has)
+real s (Do block (more (step x body next) left) ∷ k) l has = steps_on_real s body next (Do block left ∷ k) l has
+real s (Entries [] ∷ k) l has = absurd (cc has)
+real s (Entries (e ∷ es) ∷ k) l has = assigns_real s e (Entries es ∷ k) l
+real s (Then x ∷ k) l has = jumps_real s x k l
+real s (Loop b left i ∷ k) l has = turns_real s b (next_of left) i k l
+real s (Try t n d ∷ k) l has = absurd (cc has)
+real s (Judge t n d e ∷ k) l has = absurd (cc has)
+real s (Mark ∷ k) l has = absurd (cc has)
+real s (Back r ∷ k) l has = returns_real s null (Back r ∷ k) l
+real s (Join body left n running es ∷ k) l has = absurd (cc has)

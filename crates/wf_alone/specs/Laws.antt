@@ -26,7 +26,7 @@ abbrev pub MainOnlyMoves : Type 0
 MainOnlyMoves =
     (p : Program) (facts : Facts) (last m : ℕ) (k : List Item) (ls : List Layer)
     → ArePlain k
-    → Moves k
+    → Moves p.flows k
     → OnlyMoves p (main_at facts last m k ls)
 
 -- and in a run of an accepted program it can come, at each reading that isn't below the last one
@@ -37,7 +37,7 @@ MainCanMove =
     → Accept p
     → IsReached p (main_at facts last m k ls)
     → ArePlain k
-    → Moves k
+    → Moves p.flows k
     → next_kind p k ≡ by_clock clock
     → (r : ℕ) → last ≤ r
     → (d : Config) × (next p (main_at facts last m k ls) (main_event clock r) ≡ To d)

@@ -1,44 +1,41 @@
--- Control that neither calls nor waits: no call, no `try` and no parallel step stands in it.
+-- Control that doesn't wait: no parallel step and no call of a function stands in it.
 --     is_plain, ArePlain   an item of these forms, and a control
 --     has_move, Moves      an item that has something to do, and a control whose innermost item has
 --     IsReal               a move that isn't ruled out
-use Rattle.std.specs.Prelude.{◌≡◌, Bool, true, false, List, [], ◌∷◌}
+use Rattle.std.specs.Prelude.{◌≡◌, Bool, true, false, is_some, List, [], ◌∷◌}
 use Rattle.std.specs.List.{list_all}
-use Rattle.wf_ast.specs.Tree.{Body, more, step}
-use Rattle.wf_model.specs.Config.{Item, Do, Entries, Then, Loop, Mark}
+use Rattle.wf_ast.specs.Flows.{flow}
+use Rattle.wf_ast.specs.Tree.{Body, Flow, more, step}
+use Rattle.wf_model.specs.Config.{Item, Back, Do, Entries, Join, Then, Loop}
 use Rattle.wf_model.specs.Local.{Moved, Goes, Ends, Does, Breaks, Not}
 
--- a body of these forms
-abbrev pub is_plain_body : Body → Bool
-is_plain_body (Body.Call f) = false
-is_plain_body (Body.Parallel p) = false
-is_plain_body (Body.Try t) = false
-is_plain_body body = true
+-- a body of these forms: a call is one of these workflows
+abbrev pub is_plain_body : List Flow → Body → Bool
+is_plain_body fs (Body.Call f) = is_some (flow fs f.name)
+is_plain_body fs (Body.Parallel p) = false
+is_plain_body fs body = true
 
 -- an item of these forms
 abbrev pub is_plain : Item → Bool
-is_plain (Do block left) = true
-is_plain (Entries es) = true
-is_plain (Then x) = true
-is_plain (Loop l left i) = true
-is_plain Mark = true
-is_plain i = false
+is_plain (Join body left n running es) = false
+is_plain i = true
 
 abbrev pub ArePlain : List Item → Type 0
 ArePlain k = list_all is_plain k ≡ true
 
 -- an item that has something to do, of these forms
-abbrev pub has_move : Item → Bool
-has_move (Do block (more (step x body next) left)) = is_plain_body body
-has_move (Entries (e ∷ es)) = true
-has_move (Then x) = true
-has_move (Loop l left i) = true
-has_move i = false
+abbrev pub has_move : List Flow → Item → Bool
+has_move fs (Do block (more (step x body next) left)) = is_plain_body fs body
+has_move fs (Entries (e ∷ es)) = true
+has_move fs (Then x) = true
+has_move fs (Loop l left i) = true
+has_move fs (Back r) = true
+has_move fs i = false
 
 -- such a one is the innermost
-abbrev pub Moves : List Item → Type 0
-Moves [] = ⊥
-Moves (i ∷ k) = has_move i ≡ true
+abbrev pub Moves : List Flow → List Item → Type 0
+Moves fs [] = ⊥
+Moves fs (i ∷ k) = has_move fs i ≡ true
 
 -- a move that isn't ruled out
 abbrev pub IsReal : Moved → Type 0

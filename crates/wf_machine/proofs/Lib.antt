@@ -1,5 +1,6 @@
 -- The lemmas of the machine.
 pub mod Begun
+pub mod Calls
 pub mod Counts
 pub mod First
 pub mod Making

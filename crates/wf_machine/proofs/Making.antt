@@ -83,7 +83,7 @@ module _ (law : NeverWrong) (m : Machine) (t : Task) (is : m.task ≡ Some t) (a
 
   it_came : Came It w (local_of (around (P m t is)) u.frames x)
   it_came =
-      came It w (local_of (around (P m t is)) u.frames x) (so (main_scene (P m t is) (facts_view m.facts) last now) sees (refl, refl))
+      came It w (local_of (around (P m t is)) u.frames x) (so (main_scene (P m t is) (facts_view m.facts) last now) sees (refl, refl, refl))
       (never_breaks (P m t is) (facts_view m.facts) last now m.moves (K m t is) (Ls m t is) below right)
 
   -- where it leads

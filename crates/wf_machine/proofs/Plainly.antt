@@ -2,7 +2,7 @@
 use Rattle.std.proofs.Common.{◌≡◌, ◌<◌, ℕ, zero, suc, arith, true, false, Option, List, [], ◌∷◌, length, Some, None, refl, sym, ap, ◌∙◌}
 use Rattle.std.specs.Prelude.{get_or, unwrap_or, drop, slice_get}
 use Rattle.wf_alone.specs.Plain.{ArePlain, Moves, has_move, is_plain, is_plain_body}
-use Rattle.wf_ast.specs.Tree.{Body, Steps}
+use Rattle.wf_ast.specs.Tree.{Body, Flow, Steps}
 use Rattle.wf_frames.specs.Fits.{entries_at, list_at}
 use Rattle.wf_frames.specs.Frames.{body_entries, control, item}
 use Rattle.wf_frames.specs.Standing.{AllStandAt, StandsAt, steps_of}
@@ -10,8 +10,8 @@ use Rattle.wf_frames.specs.declared.frames.Frame.{Frame}
 use Rattle.wf_frames.specs.declared.frames.Frame.TheVariants as frame
 use Rattle.wf_model.specs.Config.{Do, Entries}
 use Rattle.wf_steps.proofs.Advancing.{entries_next, from_next, step_within}
-use Rattle.wf_steps.proofs.Parts.{entries_is, list_is, never_built, part_is}
-use Rattle.wf_steps.specs.Built.{Tells, is_table_built}
+use Rattle.wf_steps.proofs.Parts.{entries_is, list_is, never_parallel, part_is}
+use Rattle.wf_steps.specs.Built.{AreNamed, Tells, is_table_built}
 use Rattle.wf_moves.specs.Going.{GoesOn, Going}
 use Rattle.wf_nodes.specs.Kinds.{Listed, kind_by}
 use Rattle.wf_nodes.specs.Spots.{Spot, entries_by, from, part_at, part_body, part_entry, part_list, part_step, steps_by}
@@ -29,9 +29,11 @@ are_plain ns (frame.Lone n done ∷ fs) = are_plain ns fs
 are_plain ns (frame.Entries n at ∷ fs) = are_plain ns fs
 are_plain ns (frame.Then n ∷ fs) = are_plain ns fs
 are_plain ns (frame.Loop n l i ∷ fs) = are_plain ns fs
+are_plain ns (frame.Try n r d ∷ fs) = are_plain ns fs
 are_plain ns (frame.Mark number ∷ fs) = are_plain ns fs
+are_plain ns (frame.Back c number ∷ fs) = are_plain ns fs
 
-module _ (ns : List Spot) (nodes : List Node) (tells : Tells ns nodes) where
+module _ (flows : List Flow) (ns : List Spot) (nodes : List Node) (tells : Tells ns nodes) (named : AreNamed flows nodes) where
   -- the node of a number below the length
   there : (n : ℕ) (xs : List Node) → n < length xs → (x : Node) × (slice_get xs n ≡ Some x)
   there n [] lt = absurd (omega (arith, lt))
@@ -39,10 +41,10 @@ module _ (ns : List Spot) (nodes : List Node) (tells : Tells ns nodes) where
   there (suc n) (x ∷ xs) lt = there n xs (omega (arith, lt))
 
   -- the body of a node of a form that is built
-  plain_kind : (n : ℕ) (x : Node) (k : NodeKind) → slice_get nodes n ≡ Some x → x.kind ≡ k → is_plain_body (part_body (part_by ns x.name x.next (kind_by x.codes.items.items k))) ≡ true
-  plain_kind n x (kind.Call f) at is = absurd (never_built nodes n x _ tells.built at is refl)
-  plain_kind n x (kind.Try t) at is = absurd (never_built nodes n x _ tells.built at is refl)
-  plain_kind n x (kind.Parallel p) at is = absurd (never_built nodes n x _ tells.built at is refl)
+  plain_kind : (n : ℕ) (x : Node) (k : NodeKind) → slice_get nodes n ≡ Some x → x.kind ≡ k → is_plain_body flows (part_body (part_by ns x.name x.next (kind_by x.codes.items.items k))) ≡ true
+  plain_kind n x (kind.Call f) at is = named n x f at is
+  plain_kind n x (kind.Try t) at is = refl
+  plain_kind n x (kind.Parallel p) at is = absurd (never_parallel nodes n x p tells.built at is)
   plain_kind n x (kind.Flow f) at is = refl
   plain_kind n x kind.Nothing at is = refl
   plain_kind n x (kind.Assign v) at is = refl
@@ -55,36 +57,38 @@ module _ (ns : List Spot) (nodes : List Node) (tells : Tells ns nodes) where
   plain_kind n x (kind.Entry e) at is = refl
   plain_kind n x (kind.Branch b) at is = refl
 
-  plain_body : (n : ℕ) → n < length nodes → is_plain_body (part_body (part_at ns n)) ≡ true
+  plain_body : (n : ℕ) → n < length nodes → is_plain_body flows (part_body (part_at ns n)) ≡ true
   plain_body n lt =
       let x = there n nodes lt in
-      ap (λ p. is_plain_body (part_body p)) (part_is ns nodes n x.0 tells.resolves x.1) ∙ plain_kind n x.0 x.0.kind x.1 refl
+      ap (λ p. is_plain_body flows (part_body p)) (part_is ns nodes n x.0 tells.resolves x.1) ∙ plain_kind n x.0 x.0.kind x.1 refl
 
   -- a list that isn't at its end
-  do_moves : (n at : ℕ) (o : Option Listed) → list_at nodes n ≡ o → at < length (steps_of o) → has_move (item ns (frame.Do n at)) ≡ true
+  do_moves : (n at : ℕ) (o : Option Listed) → list_at nodes n ≡ o → at < length (steps_of o) → has_move flows (item ns (frame.Do n at)) ≡ true
   do_moves n at None is lt = absurd (omega (arith, lt))
   do_moves n at (Some b) is lt =
-      ap (λ ss. has_move (Do (part_list (part_at ns n)) (from at ss))) (list_is ns nodes n b tells.resolves is)
-      ∙ ap (λ ss. has_move (Do (part_list (part_at ns n)) ss)) (from_next ns b.steps at lt)
+      ap (λ ss. has_move flows (Do (part_list (part_at ns n)) (from at ss))) (list_is ns nodes n b tells.resolves is)
+      ∙ ap (λ ss. has_move flows (Do (part_list (part_at ns n)) ss)) (from_next ns b.steps at lt)
       ∙ plain_body (get_or b.steps at 0) (step_within ns nodes n at b tells.resolves is lt)
 
   -- an assign that isn't
-  entries_move : (n at : ℕ) (o : Option (List ℕ)) → entries_at nodes n ≡ o → at < length (unwrap_or o []) → has_move (item ns (frame.Entries n at)) ≡ true
+  entries_move : (n at : ℕ) (o : Option (List ℕ)) → entries_at nodes n ≡ o → at < length (unwrap_or o []) → has_move flows (item ns (frame.Entries n at)) ≡ true
   entries_move n at None is lt = absurd (omega (arith, lt))
   entries_move n at (Some b) is lt =
-      ap (λ es. has_move (Entries (drop at es))) (entries_is ns nodes n b tells.resolves is)
-      ∙ ap (λ es. has_move (Entries es)) (entries_next ns b at lt)
+      ap (λ es. has_move flows (Entries (drop at es))) (entries_is ns nodes n b tells.resolves is)
+      ∙ ap (λ es. has_move flows (Entries es)) (entries_next ns b at lt)
 
-  goes_on : (f : Frame) → StandsAt nodes f → GoesOn nodes f → has_move (item ns f) ≡ true
+  goes_on : (f : Frame) → StandsAt nodes f → GoesOn nodes f → has_move flows (item ns f) ≡ true
   goes_on (frame.Do n at) stands goes = do_moves n at (list_at nodes n) refl goes
   goes_on (frame.Lone n true) stands goes = absurd (cc goes)
   goes_on (frame.Lone n false) stands goes = plain_body n stands
   goes_on (frame.Entries n at) stands goes = entries_move n at (entries_at nodes n) refl goes
   goes_on (frame.Then n) stands goes = refl
   goes_on (frame.Loop n l i) stands goes = refl
+  goes_on (frame.Try n r d) stands goes = absurd goes
   goes_on (frame.Mark number) stands goes = absurd goes
+  goes_on (frame.Back c number) stands goes = refl
 
   -- a task that goes on
-  pub moves : (fs : List Frame) → AllStandAt ns nodes fs → Going nodes fs → Moves (control ns fs)
+  pub moves : (fs : List Frame) → AllStandAt ns nodes fs → Going nodes fs → Moves flows (control ns fs)
   moves [] stand going = absurd going
   moves (f ∷ fs) stand going = goes_on f stand.0.0 going

@@ -3,7 +3,7 @@
 --     config_of     the configuration
 --     IsStanding    its frames and layers fit the program's table, and it has something to do
 use Rattle.std.specs.Prelude.{◌≡◌, ℕ, List, [], ◌∷◌, None, Some, Option}
-use Rattle.std.specs.Coded.{×_prop, Unit-prop}
+use Rattle.std.specs.Coded.{Coded-set, coded_bool, ×_prop, Unit-prop, Π_prop, →_prop}
 use Rattle.wf_ast.specs.Tree.{Program}
 use Rattle.wf_frames.specs.Frames.{inner}
 use Rattle.wf_frames.specs.Owned.{Around, control_of, local_of, own_of}
@@ -24,15 +24,24 @@ use Rattle.wf_value.specs.Data.{Data}
 use Rattle.wf_value.specs.Plain.{plain}
 use Rattle.wf_moves.specs.Going.{Going, Going-prop}
 use Rattle.wf_moves.specs.declared.task.Task.{Task}
+use Rattle.wf_nodes.specs.Sets.{Part-set}
 use Rattle.wf_nodes.specs.Spots.{spots}
 use Rattle.wf_nodes.specs.declared.node.Node.{Node}
 use Rattle.wf_scope.specs.Store.{layers_of}
 use Rattle.wf_scope.specs.Tasks.{own_layers}
 use Rattle.wf_scope.specs.declared.scopes.Scopes.{Scopes}
+use Rattle.wf_steps.specs.Built.{AreTargets}
 
--- the parts of its program, no layer outside, and the limit of the first rules
+-- the workflows of its program and their parts, no layer outside, and the limit of the first rules
 abbrev pub around : Program → Around
-around p = record { spots = spots p.flows; keys = []; limit = (limits 1).variables; others = 0 }
+around p = record { flows = p.flows; spots = spots p.flows; keys = []; limit = (limits 1).variables; others = 0 }
+
+-- each call names a workflow, whose number stands at the call's own
+abbrev pub Aims : Program → List Node → List ℕ → Type 0
+Aims p nodes targets = AreTargets p.flows (spots p.flows) nodes targets
+
+pub Aims-prop : (p : Program) (nodes : List Node) (targets : List ℕ) → IsProp (Aims p nodes targets)
+Aims-prop p nodes targets = Π_prop (λ i. Π_prop (λ x. Π_prop (λ f. →_prop (→_prop (×_prop (Coded-set coded_bool _ _) (Part-set _ _))))))
 
 -- ## The configuration
 abbrev pub task_view : Program → Task → Scopes → model.Task

@@ -20,6 +20,7 @@ mod facts;
 mod laws;
 mod machine;
 mod steps;
+mod targets;
 mod task;
 
 pub use laws::only_moves;

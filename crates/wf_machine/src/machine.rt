@@ -3,7 +3,7 @@ ghost use Rattle.std.specs.Prelude.{◌≡◌, ◌≤◌, ◌<◌, ◌↔◌, �
 ghost use Rattle.wf_alone.specs.Machine.{IsReached};
 ghost use Rattle.wf_ast.specs.View.{program_view};
 ghost use Rattle.wf_check.specs.Seen.{nodes_of, program_of};
-ghost use Rattle.wf_machine.specs.Main.{IsStanding, IsStanding-prop, config_of, outcome_behind};
+ghost use Rattle.wf_machine.specs.Main.{Aims, Aims-prop, IsStanding, IsStanding-prop, config_of, outcome_behind};
 ghost use Rattle.wf_machine.specs.State.{is_running, outcome_by, outcome_depth};
 ghost use Rattle.wf_machine.specs.declared.machine.Ending.TheVariants.{Running};
 ghost use Rattle.wf_steps.specs.Built.{is_table_built};
@@ -11,15 +11,17 @@ ghost use Rattle.wf_steps.specs.Built.{is_table_built};
 use crate::argument::argument_of;
 use crate::facts::Facts;
 use crate::steps::Steps;
+use crate::targets::targets_of;
 use crate::task::{advance, first_task, kind_of};
 use std::alloc::Global;
 use std::sync::ledger::Ledger;
 use wf_ast::Program;
 use wf_check::Checked;
 use wf_events::{Event, Start};
-use wf_moves::{End, Kind, Move, Task, are_built};
+use wf_moves::{End, Move, Task};
 use wf_never_wrong::never_wrong;
 use wf_scope::Scopes;
+use wf_steps::{Kind, are_built};
 use wf_value::{OutOfMemory, Tag, Value, error_map};
 
 /// The counted event with this number isn't carried out: it ends the execution with a `ResourceLimitError`.
@@ -80,6 +82,8 @@ struct Readings {
 pub struct Machine {
     alloc: Global,
     program: Checked,
+    /// The number of the workflow that a call names, at the call's own number.
+    targets: Vec<u32>,
     facts: Facts,
     last: u64,
     /// `main`, until it has ended.
@@ -89,6 +93,7 @@ pub struct Machine {
     ending: Ending,
     broken: bool,
     ghost built: { is_table_built (nodes_of program) ≡ true },
+    ghost aims: { Aims (program_of program) (nodes_of program) targets.items } by { Aims-prop _ _ _ },
     ghost standing: { IsStanding (program_of program) (nodes_of program) task scopes } by { IsStanding-prop _ _ _ _ },
     ghost reached: { ∥ (is_some task ≡ true → IsReached (program_of program)
         (config_of (program_of program) facts last task scopes moves ending)) ∥₁ },
@@ -103,6 +108,7 @@ impl Drop for Machine {
         let Machine {
             alloc: _,
             program: _,
+            targets: _,
             facts: _,
             last: _,
             task: _,
@@ -142,6 +148,10 @@ impl Machine {
         if !are_built(program.nodes()) {
             return Err(OutOfMemory);
         }
+        let found = targets_of(alloc, &program)?;
+        let Some(targets) = found else {
+            return Err(OutOfMemory);
+        };
         let facts = Facts::of(alloc, start)?;
         let argument = argument_of(alloc, start)?;
         let mut scopes = Scopes::new(alloc, VARIABLE_LIMIT)?;
@@ -154,6 +164,7 @@ impl Machine {
         Ok(Machine {
             alloc,
             program,
+            targets,
             facts,
             last: start.reading,
             task,
@@ -394,6 +405,7 @@ impl Machine {
         self.facts.of_step.now = readings.now;
         let Ok(went) = advance(
             &self.program,
+            self.targets.as_slice(),
             &mut task,
             &mut self.scopes,
             &self.facts.of_step,

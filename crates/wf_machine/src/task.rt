@@ -8,12 +8,12 @@ ghost use Rattle.wf_frames.specs.Owned.{control_of, local_of};
 ghost use Rattle.wf_frames.specs.Sights.{Sees};
 ghost use Rattle.wf_frames.specs.Stands.{Stands};
 ghost use Rattle.wf_frames.specs.Turns.{Agrees};
-ghost use Rattle.wf_machine.specs.Main.{Begins, IsStanding, around};
+ghost use Rattle.wf_machine.specs.Main.{Aims, Begins, IsStanding, around};
 ghost use Rattle.wf_model.specs.Kinds.{next_kind};
 ghost use Rattle.wf_model.specs.Local.{Scene};
 ghost use Rattle.wf_model.specs.Move.{move};
 ghost use Rattle.wf_model.specs.Run.{main_vars};
-ghost use Rattle.wf_steps.specs.Built.{Tells};
+ghost use Rattle.wf_steps.specs.Built.{AreNamed, Tells};
 ghost use Rattle.wf_steps.specs.Kinds.{kind_view};
 ghost use Rattle.wf_moves.specs.Moved.{IsGoing, IsLeft};
 ghost use Rattle.wf_moves.specs.Tasks.{IsFirst, MovesSo, went_of};
@@ -23,8 +23,9 @@ ghost use Rattle.wf_value.specs.Plain as values;
 use std::alloc::Global;
 use wf_check::Checked;
 use wf_frames::Facts as StepFacts;
-use wf_moves::{Kind, Move, Task};
+use wf_moves::{Move, Task};
 use wf_scope::Scopes;
+use wf_steps::Kind;
 use wf_value::{OutOfMemory, Value};
 
 /// `main` before its first step, with its parameter bound to the argument if it has one; or none where it has no steps. An argument past
@@ -57,7 +58,7 @@ pub(crate) fn kind_of(program: &Checked, task: &Task) -> Kind
     ghost plain: { Program }
     requires tells { Tells (spots plain.flows) (nodes_of program.now) }
     requires fits { Fits (spots plain.flows) (nodes_of program.now) (inner task.now.frames) }
-    ensures { (p : Program) → kind_view result
+    ensures { (p : Program) → AreNamed p.flows (nodes_of program.now) → kind_view result
         ≡ next_kind p (control_of (around plain) task.now.frames) }
 {
     task.next_kind(program.nodes())
@@ -66,12 +67,14 @@ pub(crate) fn kind_of(program: &Checked, task: &Task) -> Kind
 /// `main`'s next move. Without memory the task and the layers are only to be let go.
 pub(crate) fn advance(
     program: &Checked,
+    targets: &[u32],
     task: &mut Task,
     scopes: &mut Scopes,
     facts: &StepFacts,
 ) -> Result<Move, OutOfMemory>
     ghost plain: { Program }
     requires tells { Tells (spots plain.flows) (nodes_of program.now) }
+    requires aims { Aims plain (nodes_of program.now) targets.now }
     requires stands { Stands (around plain) (nodes_of program.now) task.old.frames scopes.old }
     requires going { IsGoing (nodes_of program.now) (inner task.old.frames) }
     ensures moved { IfOk result (λ m. (s : Scene) → Sees s facts.entry.now → Agrees s (around plain)
@@ -82,5 +85,5 @@ pub(crate) fn advance(
     ensures left { IfOk result (λ m. IsLeft (nodes_of program.now) (went_of m)
         (inner task.new.frames)) }
 {
-    task.advance(program.nodes(), scopes, facts)
+    task.advance(program.nodes(), targets, scopes, facts)
 }

@@ -49,3 +49,6 @@ returns-clause-initial c =
     let p = program_of c.args.program in
     begins_so p s (nodes_of c.args.program) c.in_ok-task.task c.first_task.new.scopes c.if-is_some.ending c.in_ok-facts.facts (subst (λ v. Begins p v c.in_ok-task.task c.first_task.new.scopes) c.in_ok-argument.ensures c.in_ok-task.ensures.begins) c.in_ok-task.ensures.standing
     (ending_for c.in_ok-task.task c.if-is_some.ending (elim c.if-is_some.branch [ then-is_some w ↦ inl (sym c.is_some.ensures ∙ w.if-is_some.true, w.ending-is) | else-is_some w ↦ inr (sym c.is_some.ensures ∙ w.if-is_some.false, w.ending-is) ])) c.in_ok-facts.ensures
+
+pub invariant_of-result-clause-aims : goal.invariant_of-result-clause-aims
+invariant_of-result-clause-aims c = ?

@@ -1,0 +1,69 @@
+-- The numbers of workflows.
+use Rattle.std.proofs.Common.{◌≡◌, ◌<◌, ℕ, zero, suc, ◌+◌, Bool, true, false, List, [], ◌∷◌, ◌++◌, length, Option, None, Some, refl, sym, ap, ◌∙◌, arith}
+use Rattle.std.specs.Prelude.{bytes_eq, codes, if◌then◌else◌, is_some, slice_get}
+use Rattle.std.proofs.lemmas.List.{append_assoc, length-append}
+use Rattle.std.proofs.lemmas.Slice.Eq.{bytes_eq-Decides}
+use Rattle.wf_ast.specs.Flows.{flow, flow_in}
+use Rattle.wf_ast.specs.Tree.{Flow}
+use Rattle.wf_nodes.specs.Spots.{FlowAt, Part, Spot, flow_spots, flows_spots, part_at, spot, spot_part, spots, steps_size}
+use Rattle.wf_shared.specs.HttpUrl.{first_of_two}
+use Rattle.wf_steps.specs.Built.{IsTarget, flow_part}
+use Rattle.wf_table.proofs.Sizes.{steps_long}
+use Rattle.wf_table.specs.Built.{flow_number}
+use Rattle.wf_value.specs.Pairs.{Text}
+
+-- ## Names
+same_name : (x y : Text) → bytes_eq x y ≡ true → bytes_eq y x ≡ true
+same_name x y h = (bytes_eq-Decides y x).1 (sym ((bytes_eq-Decides x y).0 h))
+
+other_name : (x y : Text) → bytes_eq x y ≡ false → bytes_eq y x ≡ false
+other_name x y h = by (bytes_eq y x) refl
+  where
+    by : (b : Bool) → bytes_eq y x ≡ b → b ≡ false
+    by false q = refl
+    by true q = absurd (let t : true ≡ false = sym (same_name y x q) ∙ h in cc t)
+
+-- ## Places
+at_seam : (pre : List Spot) (y : Spot) (post : List Spot) (n : ℕ) → length pre ≡ n → slice_get (pre ++ y ∷ post) n ≡ Some y
+at_seam [] y post zero h = refl
+at_seam [] y post (suc n) h = absurd (omega (arith, h))
+at_seam (x ∷ pre) y post zero h = absurd (omega (arith, h))
+at_seam (x ∷ pre) y post (suc n) h = at_seam pre y post n (omega (arith, h))
+
+-- the first workflow of a name, and the place of its part behind some others
+pub record Numbered (x : Text) (fs : List Flow) (n : ℕ) (all : List Spot) : Type 0 where
+  pub workflow : Flow
+  pub named : flow_in fs x ≡ Some workflow
+  pub at : slice_get all n ≡ Some (spot (FlowAt workflow) [])
+
+numbered : (x : Text) (fs : List Flow) (k n : ℕ) (pre : List Spot) → length pre ≡ k → flow_number x fs k ≡ Some n → Numbered x fs n (pre ++ flows_spots fs k)
+numbered x [] k n pre h e = absurd (cc e)
+numbered x (f ∷ fs) k n pre h e = by (bytes_eq x f.name) refl
+  where
+    rest : flow_number x fs (k + suc (steps_size f.steps)) ≡ Some n → bytes_eq x f.name ≡ false → Numbered x (f ∷ fs) n (pre ++ flows_spots (f ∷ fs) k)
+    rest q other =
+        let long : length (pre ++ flow_spots f k) ≡ k + suc (steps_size f.steps) = length-append pre (flow_spots f k) ∙ omega (arith, h, steps_long f.steps (suc k) (k ∷ [])) in
+        let later = numbered x fs (k + suc (steps_size f.steps)) n (pre ++ flow_spots f k) long q in
+        record {
+          workflow = later.workflow;
+          named = ap (λ (b : Bool). if b then Some f else flow_in fs x) (other_name x f.name other) ∙ later.named;
+          at = ap (λ ns. slice_get ns n) (sym (append_assoc pre (flow_spots f k) (flows_spots fs (k + suc (steps_size f.steps))))) ∙ later.at;
+        }
+
+    by : (b : Bool) → bytes_eq x f.name ≡ b → Numbered x (f ∷ fs) n (pre ++ flows_spots (f ∷ fs) k)
+    by true t =
+        let same : Some k ≡ Some n = sym (ap (λ (b : Bool). first_of_two (if b then Some k else None) (flow_number x fs (k + suc (steps_size f.steps)))) t) ∙ e in
+        let here : k ≡ n = cc same in
+        record {
+          workflow = f;
+          named = ap (λ (b : Bool). if b then Some f else flow_in fs x) (same_name x f.name t);
+          at = at_seam pre (spot (FlowAt f) []) _ n (h ∙ here);
+        }
+    by false t = rest (sym (ap (λ (b : Bool). first_of_two (if b then Some k else None) (flow_number x fs (k + suc (steps_size f.steps)))) t) ∙ e) t
+
+-- ## The target of a call
+pub flow_target : (fs : List Flow) (x : Text) (n : ℕ) → bytes_eq x (codes "main") ≡ false → flow_number x fs 0 ≡ Some n → IsTarget fs (spots fs) (Some n) x
+flow_target fs x n other e =
+    let y = numbered x fs 0 n [] refl e in
+    let is : flow fs x ≡ Some y.workflow = ap (λ (b : Bool). if b then None else flow_in fs x) other ∙ y.named in
+    (ap is_some is, ap spot_part y.at ∙ sym (ap flow_part is))
