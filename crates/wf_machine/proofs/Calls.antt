@@ -7,7 +7,10 @@ use Rattle.wf_ast.specs.Flows.{flow, flow_in}
 use Rattle.wf_ast.specs.Tree.{Flow}
 use Rattle.wf_nodes.specs.Spots.{FlowAt, Part, Spot, flow_spots, flows_spots, part_at, spot, spot_part, spots, steps_size}
 use Rattle.wf_shared.specs.HttpUrl.{first_of_two}
-use Rattle.wf_steps.specs.Built.{IsTarget, flow_part}
+use Rattle.wf_nodes.specs.declared.node.CallNode.{CallNode}
+use Rattle.wf_nodes.specs.declared.node.Node.{Node}
+use Rattle.wf_nodes.specs.declared.node.NodeKind.TheVariants as kind
+use Rattle.wf_steps.specs.Built.{AreTargets, IsTarget, flow_part}
 use Rattle.wf_table.proofs.Sizes.{steps_long}
 use Rattle.wf_table.specs.Built.{flow_number}
 use Rattle.wf_value.specs.Pairs.{Text}
@@ -67,3 +70,28 @@ flow_target fs x n other e =
     let y = numbered x fs 0 n [] refl e in
     let is : flow fs x ≡ Some y.workflow = ap (λ (b : Bool). if b then None else flow_in fs x) other ∙ y.named in
     (ap is_some is, ap spot_part y.at ∙ sym (ap flow_part is))
+
+-- ## The targets of a table
+-- a node, and the number that stands at its own
+abbrev pub Says : List Flow → List Spot → Node → ℕ → Type 0
+Says fs ns x t = (f : CallNode) → x.kind ≡ kind.Call f → IsTarget fs ns (Some t) f.name
+
+abbrev pub Aimed : List Flow → List Spot → List Node → List ℕ → Type 0
+Aimed fs ns [] [] = Unit {0}
+Aimed fs ns [] (t ∷ ts) = ⊥
+Aimed fs ns (x ∷ xs) [] = ⊥
+Aimed fs ns (x ∷ xs) (t ∷ ts) = Says fs ns x t × Aimed fs ns xs ts
+
+-- one more
+pub aimed_push : (fs : List Flow) (ns : List Spot) (xs : List Node) (ts : List ℕ) (x : Node) (t : ℕ) → Aimed fs ns xs ts → Says fs ns x t → Aimed fs ns (xs ++ x ∷ []) (ts ++ t ∷ [])
+aimed_push fs ns [] [] x t a says = (says, tt)
+aimed_push fs ns [] (u ∷ ts) x t a says = absurd a
+aimed_push fs ns (y ∷ xs) [] x t a says = absurd a
+aimed_push fs ns (y ∷ xs) (u ∷ ts) x t a says = (a.0, aimed_push fs ns xs ts x t a.1 says)
+
+-- all of them
+pub aims : (fs : List Flow) (ns : List Spot) (xs : List Node) (ts : List ℕ) → Aimed fs ns xs ts → AreTargets fs ns xs ts
+aims fs ns [] ts a i x f at is = absurd (cc at)
+aims fs ns (y ∷ xs) [] a i x f at is = absurd a
+aims fs ns (y ∷ xs) (t ∷ ts) a zero x f at is = let same : y ≡ x = cc at in a.0 f (ap (λ z. z.kind) same ∙ is)
+aims fs ns (y ∷ xs) (t ∷ ts) a (suc i) x f at is = aims fs ns xs ts a.1 i x f at is

@@ -24,7 +24,7 @@ pub advance-requires : goal.advance-requires
 advance-requires c =
     let m = c.args.self.now in
     let is = sym c.in-Some.ensures.value in
-    (tells_of m.program m.built, (stands_now m c.in-Some.task is, going m c.in-Some.task is))
+    (tells_of m.program m.built, (m.aims, (stands_now m c.in-Some.task is, going m c.in-Some.task is)))
 
 pub returns-then-is_running-clause-moved : goal.returns-then-is_running-clause-moved
 returns-then-is_running-clause-moved c =
