@@ -1,4 +1,5 @@
 mod Added
+mod Arguments
 mod Beginning
 mod Chosen
 mod Clock
@@ -10,7 +11,6 @@ mod LivesRuns
 mod NewSessions
 mod Reopened
 mod Sessions
-mod Starts
 mod StillOpen
 mod Turning
 pub mod RowsHold

@@ -1,6 +1,6 @@
 -- The numbers of workflows.
 use Rattle.std.proofs.Common.{◌≡◌, ◌<◌, ℕ, zero, suc, ◌+◌, Bool, true, false, List, [], ◌∷◌, ◌++◌, length, Option, None, Some, refl, sym, ap, ◌∙◌, arith}
-use Rattle.std.specs.Prelude.{bytes_eq, codes, if◌then◌else◌, is_some, slice_get}
+use Rattle.std.specs.Prelude.{IfSome, bytes_eq, codes, if◌then◌else◌, is_some, slice_get}
 use Rattle.std.proofs.lemmas.List.{append_assoc, length-append}
 use Rattle.std.proofs.lemmas.Slice.Eq.{bytes_eq-Decides}
 use Rattle.wf_ast.specs.Flows.{flow, flow_in}
@@ -41,28 +41,31 @@ pub record Numbered (x : Text) (fs : List Flow) (n : ℕ) (all : List Spot) : Ty
 
 numbered : (x : Text) (fs : List Flow) (k n : ℕ) (pre : List Spot) → length pre ≡ k → flow_number x fs k ≡ Some n → Numbered x fs n (pre ++ flows_spots fs k)
 numbered x [] k n pre h e = absurd (cc e)
-numbered x (f ∷ fs) k n pre h e = by (bytes_eq x f.name) refl
+numbered x (f ∷ fs) k n pre h e = by (λ q. numbered x fs (k + suc (steps_size f.steps)) n (pre ++ flow_spots f k) long q) (bytes_eq x f.name) refl
   where
-    rest : flow_number x fs (k + suc (steps_size f.steps)) ≡ Some n → bytes_eq x f.name ≡ false → Numbered x (f ∷ fs) n (pre ++ flows_spots (f ∷ fs) k)
-    rest q other =
-        let long : length (pre ++ flow_spots f k) ≡ k + suc (steps_size f.steps) = length-append pre (flow_spots f k) ∙ omega (arith, h, steps_long f.steps (suc k) (k ∷ [])) in
-        let later = numbered x fs (k + suc (steps_size f.steps)) n (pre ++ flow_spots f k) long q in
-        record {
-          workflow = later.workflow;
-          named = ap (λ (b : Bool). if b then Some f else flow_in fs x) (other_name x f.name other) ∙ later.named;
-          at = ap (λ ns. slice_get ns n) (sym (append_assoc pre (flow_spots f k) (flows_spots fs (k + suc (steps_size f.steps))))) ∙ later.at;
-        }
+    long : length (pre ++ flow_spots f k) ≡ k + suc (steps_size f.steps)
+    long = let sizes = steps_long f.steps (suc k) (k ∷ []) in length-append pre (flow_spots f k) ∙ omega (arith, h, sizes)
 
-    by : (b : Bool) → bytes_eq x f.name ≡ b → Numbered x (f ∷ fs) n (pre ++ flows_spots (f ∷ fs) k)
-    by true t =
-        let same : Some k ≡ Some n = sym (ap (λ (b : Bool). first_of_two (if b then Some k else None) (flow_number x fs (k + suc (steps_size f.steps)))) t) ∙ e in
+    chosen : (b : Bool) → bytes_eq x f.name ≡ b → first_of_two (if b then Some k else None) (flow_number x fs (k + suc (steps_size f.steps))) ≡ Some n
+    chosen b t = sym (ap (λ (b : Bool). first_of_two (if b then Some k else None) (flow_number x fs (k + suc (steps_size f.steps)))) t) ∙ e
+
+    by : (flow_number x fs (k + suc (steps_size f.steps)) ≡ Some n → Numbered x fs n ((pre ++ flow_spots f k) ++ flows_spots fs (k + suc (steps_size f.steps))))
+        → (b : Bool) → bytes_eq x f.name ≡ b → Numbered x (f ∷ fs) n (pre ++ flows_spots (f ∷ fs) k)
+    by rest true t =
+        let same : Some k ≡ Some n = chosen true t in
         let here : k ≡ n = cc same in
         record {
           workflow = f;
           named = ap (λ (b : Bool). if b then Some f else flow_in fs x) (same_name x f.name t);
           at = at_seam pre (spot (FlowAt f) []) _ n (h ∙ here);
         }
-    by false t = rest (sym (ap (λ (b : Bool). first_of_two (if b then Some k else None) (flow_number x fs (k + suc (steps_size f.steps)))) t) ∙ e) t
+    by rest false t =
+        let later = rest (chosen false t) in
+        record {
+          workflow = later.workflow;
+          named = ap (λ (b : Bool). if b then Some f else flow_in fs x) (other_name x f.name t) ∙ later.named;
+          at = ap (λ ns. slice_get ns n) (sym (append_assoc pre (flow_spots f k) (flows_spots fs (k + suc (steps_size f.steps))))) ∙ later.at;
+        }
 
 -- ## The target of a call
 pub flow_target : (fs : List Flow) (x : Text) (n : ℕ) → bytes_eq x (codes "main") ≡ false → flow_number x fs 0 ≡ Some n → IsTarget fs (spots fs) (Some n) x
@@ -70,6 +73,10 @@ flow_target fs x n other e =
     let y = numbered x fs 0 n [] refl e in
     let is : flow fs x ≡ Some y.workflow = ap (λ (b : Bool). if b then None else flow_in fs x) other ∙ y.named in
     (ap is_some is, ap spot_part y.at ∙ sym (ap flow_part is))
+
+pub flow_targets : (fs : List Flow) (x : Text) → bytes_eq x (codes "main") ≡ false → (o : Option ℕ) → o ≡ flow_number x fs 0 → IfSome o (λ n. IsTarget fs (spots fs) (Some n) x)
+flow_targets fs x other None e = tt
+flow_targets fs x other (Some n) e = flow_target fs x n other (sym e)
 
 -- ## The targets of a table
 -- a node, and the number that stands at its own

@@ -1,27 +1,23 @@
 -- The first node of a table: the workflow `main`.
-use Rattle.std.proofs.Common.{◌≡◌, ◌==◌, ℕ, suc, true, false, List, [], ◌∷◌, Some, None, length, map, not, refl, sym, ap, ◌∙◌, subst}
-use Rattle.std.proofs.Math.Dec.{eqb-suc-zero}
-use Rattle.std.proofs.lemmas.Bool.{false≢true}
+use Rattle.std.proofs.Common.{◌≡◌, ◌==◌, false, List, [], ◌∷◌, Some, length, refl, sym, ap, ◌∙◌}
 use Rattle.std.specs.Prelude.{option_map, slice_get}
-use Rattle.wf_ast.specs.Tree.{Flow, Param, Program, Steps}
+use Rattle.wf_ast.specs.Tree.{Flow, Program}
 use Rattle.wf_ast.specs.View.{params_view}
-use Rattle.wf_frames.specs.Owned.{local_of}
 use Rattle.wf_frames.specs.declared.frames.Frame.{Frame}
-use Rattle.wf_machine.specs.Main.{around, first_local}
+use Rattle.wf_machine.specs.Main.{first_local}
 use Rattle.wf_model.specs.Config.{Awake, Do}
 use Rattle.wf_model.specs.Local.{Local, settle}
-use Rattle.wf_model.specs.Run.{argument_in, main_local, main_steps, main_vars}
+use Rattle.wf_model.specs.Run.{main_steps, main_vars}
 use Rattle.wf_steps.specs.Built.{Tells}
 use Rattle.wf_moves.specs.Moved.{IsGoing, IsSettled}
 use Rattle.wf_moves.specs.Tasks.{IsFlow, begun, has_ended, part_params}
 use Rattle.wf_nodes.specs.Kinds.{block_view, kind_by, node_view}
 use Rattle.wf_nodes.specs.Spots.{FlowAt, part_at, part_list, spots}
 use Rattle.wf_nodes.specs.Table.{part_by}
-use Rattle.wf_nodes.specs.declared.node.FlowNode.{FlowNode}
 use Rattle.wf_nodes.specs.declared.node.Node.{Node}
 use Rattle.wf_nodes.specs.declared.node.NodeKind.{NodeKind}
 use Rattle.wf_nodes.specs.declared.node.NodeKind.TheVariants as kind
-use Rattle.wf_value.specs.Data.{Data, Pairs, no_pairs, null}
+use Rattle.wf_value.specs.Data.{Data, Pairs}
 
 -- a task with something left goes on
 pub going_of : (nodes : List Node) (fs : List Frame) → IsSettled nodes fs → has_ended fs ≡ false → IsGoing nodes fs

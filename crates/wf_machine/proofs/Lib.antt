@@ -1,4 +1,5 @@
 -- The lemmas of the machine.
+pub mod Arguments
 pub mod Begun
 pub mod Calls
 pub mod Counts

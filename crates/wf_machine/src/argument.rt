@@ -1,7 +1,8 @@
 // The argument of an execution.
-ghost use Rattle.std.specs.Prelude.{◌≡◌, IfOk};
+ghost use Rattle.std.specs.Prelude.{◌≡◌, ◌≢◌, IfOk, IsOk};
 ghost use Rattle.wf_alone.specs.Machine.{argument_of};
 ghost use Rattle.wf_events.specs.View.{start_view};
+ghost use Rattle.wf_value.specs.Data.{null};
 ghost use Rattle.wf_value.specs.Plain.{plain};
 
 use std::alloc::Global;
@@ -18,7 +19,17 @@ pub(crate) fn argument_of(alloc: Global, start: &Start) -> Result<Value, OutOfMe
     reading_is_decided();
     match from_json(alloc, start.argument.as_slice()) {
         Ok(value) => Ok(value),
-        Err(JsonFault::NotJson | JsonFault::Decimal | JsonFault::TooDeep) => Ok(Value::Null),
-        Err(JsonFault::OutOfMemory) => Err(OutOfMemory),
+        Err(fault) => null_for(fault),
+    }
+}
+
+/// Null for a text that says no value.
+fn null_for(fault: JsonFault) -> Result<Value, OutOfMemory>
+    ensures null { IfOk result (λ v. plain v ≡ null) }
+    ensures fault { IsOk result → fault ≢ JsonFault.OutOfMemory }
+{
+    match fault {
+        JsonFault::NotJson | JsonFault::Decimal | JsonFault::TooDeep => Ok(Value::Null),
+        JsonFault::OutOfMemory => Err(OutOfMemory),
     }
 }

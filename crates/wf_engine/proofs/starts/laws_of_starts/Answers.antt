@@ -1,4 +1,4 @@
-use Rattle.wf_engine.proofs.Starts.{argument_comes_back, argument_is_spelled}
+use Rattle.wf_engine.proofs.Arguments.{argument_comes_back, argument_is_spelled}
 use Rattle.wf_engine.proofs.starts.laws_of_starts.Goals as goal
 
 pub returns-clause-comes_back : goal.returns-clause-comes_back

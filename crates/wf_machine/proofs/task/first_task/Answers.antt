@@ -1,4 +1,4 @@
-use Rattle.std.proofs.Common.{◌≡◌, sym, ◌∙◌, subst}
+use Rattle.std.proofs.Common.{sym, ◌∙◌, subst}
 use Rattle.wf_check.specs.Seen.{nodes_of}
 use Rattle.wf_frames.proofs.Standing.{standing}
 use Rattle.wf_frames.specs.Frames.{inner}
@@ -17,14 +17,14 @@ pub new-requires : goal.new-requires
 new-requires g c =
     let ns = c.nodes-nodes.result.now in
     let tells = subst (Tells (spots g.plain.flows)) (sym c.nodes-nodes.ensures.nodes) c.requires.0 in
-    let first = first_of ns (sym c.is_empty.ensures ∙ c.if-not-is_empty.false) in
+    let first = first_of ns (sym c.is_empty.ensures ∙ c.if-is_empty.false) in
     (tells, (starts g.plain ns tells first.0 first.1, c.requires.1))
 
 pub returns-clause-begins : goal.returns-clause-begins
 returns-clause-begins g c =
     let ns = c.nodes-nodes.result.now in
     let tells = subst (Tells (spots g.plain.flows)) (sym c.nodes-nodes.ensures.nodes) c.requires.0 in
-    let first = first_of ns (sym c.is_empty.ensures ∙ c.if-not-is_empty.false) in
+    let first = first_of ns (sym c.is_empty.ensures ∙ c.if-is_empty.false) in
     begins g.plain ns tells first.0 first.1 (plain c.args.argument) (local_of (around g.plain) c.in_ok-task.task.frames c.new.new.scopes) c.in_ok-task.ensures.begins
 
 pub returns-clause-standing : goal.returns-clause-standing

@@ -11,7 +11,7 @@ use Rattle.wf_machine.proofs.Places.{going, running_of, stands_now, tells_of}
 use Rattle.wf_machine.proofs.Stopping.{last_move, not_counted}
 use Rattle.wf_machine.proofs.machine.Machine.make_move.Goals as goal
 use Rattle.wf_machine.specs.Facts.{facts_view}
-use Rattle.wf_machine.specs.Main.{IsStanding, around, config_of, tasks_view}
+use Rattle.wf_machine.specs.Main.{Aims, IsStanding, around, config_of, tasks_view}
 use Rattle.wf_machine.specs.Seen.{state_of}
 use Rattle.wf_machine.specs.State.{outcome_by, outcome_depth}
 use Rattle.wf_model.specs.Config.{To}
@@ -24,7 +24,7 @@ pub advance-requires : goal.advance-requires
 advance-requires c =
     let m = c.args.self.now in
     let is = sym c.in-Some.ensures.value in
-    (tells_of m.program m.built, (m.aims, (stands_now m c.in-Some.task is, going m c.in-Some.task is)))
+    (tells_of m.program m.built, (subst (Aims (program_of m.program) (nodes_of m.program)) (sym c.as_slice.ensures) m.aims, (stands_now m c.in-Some.task is, going m c.in-Some.task is)))
 
 pub returns-then-is_running-clause-moved : goal.returns-then-is_running-clause-moved
 returns-then-is_running-clause-moved c =

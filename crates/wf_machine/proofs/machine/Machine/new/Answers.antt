@@ -1,5 +1,4 @@
-use Rattle.std.proofs.Common.{◌≡◌, ◌<◌, ◌≤◌, ◌⊎◌, inl, inr, true, false, refl, sym, ap, ◌∙◌, arith, subst}
-use Rattle.std.specs.Prelude.{is_some}
+use Rattle.std.proofs.Common.{inl, inr, refl, sym, ap, ◌∙◌, arith, subst}
 use Rattle.wf_alone.proofs.Reached.{reached_first}
 use Rattle.wf_check.specs.Seen.{nodes_of, program_of}
 use Rattle.wf_events.specs.View.{start_view}

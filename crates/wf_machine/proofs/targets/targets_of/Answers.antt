@@ -1,0 +1,1 @@
+use Rattle.wf_machine.proofs.targets.targets_of.Goals as goal
