@@ -57,13 +57,4 @@ impl Checked {
     {
         self.table.flow(name)
     }
-
-    /// The program, given up.
-    pub fn into_program(self) -> Program
-        ensures program { program_view result ≡ program_of self }
-        ensures accepted { Accept (program_view result) }
-        ensures built { IsTrue (program_built (program_view result)) }
-    {
-        self.program
-    }
 }

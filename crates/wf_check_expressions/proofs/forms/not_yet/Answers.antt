@@ -1,4 +1,5 @@
-use Rattle.std.proofs.Common.{◌≡◌, Err, map, rules, sym, ap, subst}
+use Rattle.std.proofs.Common.{◌∙◌, Err, map, sym, ap, subst}
+use Rattle.std.proofs.lemmas.Result.{err_from_is_err_and}
 use Rattle.wf_ast.specs.Nodes.{part_body}
 use Rattle.wf_ast.specs.View.{flow_view}
 use Rattle.wf_check_expressions.proofs.forms.not_yet.Goals as goal
@@ -14,8 +15,8 @@ returns-in_err-form c =
     let fs = map flow_view c.args.flows.now in
     let part = part_view c.args.part.now in
     let stop = c.in_err-form.field-0.0 in
-    let is : c.from_residual.result ≡ Err stop = search rules in
-    subst (λ r. Tells r (λ path. as_said kinds.NotYet (not_yet fs part path))) (sym is)
+    let err = err_from_is_err_and c.from_residual.result c.from_residual.ensures.1 in
+    subst (λ r. Tells r (λ path. as_said kinds.NotYet (not_yet fs part path))) (sym (err.1 ∙ ap Err err.2))
     (part_first kinds.NotYet stop (λ path. form fs (part_body part) path) (λ path. functions part path) c.in_err-form.ensures)
 
 pub returns : goal.returns
