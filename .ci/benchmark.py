@@ -42,7 +42,7 @@ def large_loop():
     steps = [
         assign("start", ("l", [True] * 10_000), ("n", 0), ("odd", 0), ("k", 0)),
         {"loop": {"for": {"value": "v", "index": "i", "in": "${l}", "steps": body}}},
-        {"end": {"return": ["${n}", "${odd}", "${k}"]}},
+        {"last": {"return": ["${n}", "${odd}", "${k}"]}},
     ]
     total = sum(range(10_000))
     return compact(steps), f"[{total},10000,10000]\n".encode(), 4 + 1 + 10_000 * 9 + 1 + 1
@@ -114,15 +114,17 @@ def against_bare(folder):
     source, printed, wanted = large_loop()
     ours, theirs = [], []
     for _ in range(TRIES):
-        ours.append(run(folder, source, printed, "journal")[0])
+        ours.append(run(folder, source, printed, "journal"))
         journal = read(f"{folder}/journal")
         theirs.append(bare(folder, records(journal)))
         assert read(f"{folder}/bare") == journal and events(journal) == wanted, (events(journal), wanted)
         os.remove(f"{folder}/journal")
         os.remove(f"{folder}/bare")
-    quotient = min(ours) / min(theirs)
+    passed, used = min(it[0] for it in ours), min(it[1] for it in ours)
+    quotient = passed / min(theirs)
     print(f"{wanted} events over a list of 10000 items, a journal of {len(journal)} bytes in {len(records(journal))} records:")
-    print(f"    the program {1000 * min(ours):.0f} ms, the same writes and syncs {1000 * min(theirs):.0f} ms, quotient {quotient:.2f}")
+    print(f"    the program {1000 * passed:.0f} ms, {1000 * used:.0f} ms of them the processor's; the same writes and syncs {1000 * min(theirs):.0f} ms")
+    print(f"    quotient {quotient:.2f}")
     return quotient <= MOST_AGAINST_BARE
 
 
@@ -136,13 +138,13 @@ READS = assign("read", *[("x", "${l[1]}")] * 6, ("x", "${get_type(l)}"), ("x", "
 def reading(size):
     """Programs that read a list of texts of about this size, by how often."""
     items = ["a"] * max(2, (size - 2) // 3)
-    return lambda times: [assign("start", ("l", items), ("x", 0)), loop_over(times, READS), {"end": {"return": "${x}"}}]
+    return lambda times: [assign("start", ("l", items), ("x", 0)), loop_over(times, READS), {"last": {"return": "${x}"}}]
 
 
 def beside(steps):
     """Programs of a loop that have so many steps besides, by how often it goes round."""
     rest = [assign(f"s{number}", ("y", number)) for number in range(steps - 3)]
-    return lambda times: [assign("start", ("x", 0)), loop_over(times, assign("add", *[("x", "${x + v % 3}")] * 8)), {"end": {"return": "${null}"}}, *rest]
+    return lambda times: [assign("start", ("x", 0)), loop_over(times, assign("add", *[("x", "${x + v % 3}")] * 8)), {"last": {"return": "${null}"}}, *rest]
 
 
 def jumping(steps):
@@ -150,7 +152,7 @@ def jumping(steps):
     rest = [assign(f"s{number}", ("y", number)) for number in range(steps - 5)]
     again = {"again": {"switch": [{"condition": "${x < n}", "next": "add"}]}}
     return lambda times: [
-        assign("start", ("x", 0), ("n", times)), {"over": {"next": "add"}}, *rest, assign("add", ("x", "${x + 1}")), again, {"end": {"return": "${null}"}}
+        assign("start", ("x", 0), ("n", times)), {"over": {"next": "add"}}, *rest, assign("add", ("x", "${x + 1}")), again, {"last": {"return": "${null}"}}
     ]
 
 
