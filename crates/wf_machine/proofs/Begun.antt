@@ -1,6 +1,6 @@
 -- How a machine begins.
 use Rattle.std.specs.Prelude.{is_some}
-use Rattle.std.proofs.Common.{◌≡◌, ◌≤◌, ◌⊎◌, inl, inr, arith, ℕ, true, false, Option, List, [], ◌∷◌, Some, None, refl, sym, ap, ◌∙◌, subst}
+use Rattle.std.proofs.Common.{◌≡◌, ◌≤◌, ◌⊎◌, inl, inr, arith, true, false, Option, List, [], ◌∷◌, Some, None, refl, sym, ap, ◌∙◌, subst}
 use Rattle.wf_alone.proofs.Begun.{begun, begun_ended}
 use Rattle.wf_alone.specs.Machine.{argument_of, config_by, facts_of, main_at}
 use Rattle.wf_ast.specs.Tree.{Program, Steps, more, no_steps}
@@ -8,7 +8,7 @@ use Rattle.wf_frames.specs.Owned.{control_of, local_of, own_of}
 use Rattle.wf_frames.specs.Frames.{control, inner}
 use Rattle.wf_frames.specs.declared.frames.Frame.{Frame}
 use Rattle.wf_machine.specs.Facts.{facts_view}
-use Rattle.wf_machine.specs.Main.{Begins, IsStanding, around, config_of, first_local}
+use Rattle.wf_machine.specs.Main.{Begins, IsStanding, around, config_of}
 use Rattle.wf_machine.specs.State.{outcome_by, outcome_depth}
 use Rattle.wf_machine.specs.declared.facts.Facts.{Facts}
 use Rattle.wf_machine.specs.declared.machine.Ending.{Ending}

@@ -1,11 +1,12 @@
 -- The numbers of workflows.
-use Rattle.std.proofs.Common.{◌≡◌, ◌<◌, ℕ, zero, suc, ◌+◌, Bool, true, false, List, [], ◌∷◌, ◌++◌, length, Option, None, Some, refl, sym, ap, ◌∙◌, arith}
+use Rattle.std.proofs.Common.{◌≡◌, ◌<◌, ◌≤◌, get_or, subst, take, ℕ, zero, suc, ◌+◌, Bool, true, false, List, [], ◌∷◌, ◌++◌, length, Option, None, Some, refl, sym, ap, ◌∙◌, arith}
 use Rattle.std.specs.Prelude.{IfSome, bytes_eq, codes, if◌then◌else◌, is_some, slice_get}
-use Rattle.std.proofs.lemmas.List.{append_assoc, length-append}
+use Rattle.std.proofs.Math.Seq.{take-suc}
+use Rattle.std.proofs.lemmas.List.{append_assoc, length-append, take_all}
 use Rattle.std.proofs.lemmas.Slice.Eq.{bytes_eq-Decides}
 use Rattle.wf_ast.specs.Flows.{flow, flow_in}
 use Rattle.wf_ast.specs.Tree.{Flow}
-use Rattle.wf_nodes.specs.Spots.{FlowAt, Part, Spot, flow_spots, flows_spots, part_at, spot, spot_part, spots, steps_size}
+use Rattle.wf_nodes.specs.Spots.{FlowAt, Spot, flow_spots, flows_spots, spot, spot_part, spots, steps_size}
 use Rattle.wf_shared.specs.HttpUrl.{first_of_two}
 use Rattle.wf_nodes.specs.declared.node.CallNode.{CallNode}
 use Rattle.wf_nodes.specs.declared.node.Node.{Node}
@@ -102,3 +103,15 @@ aims fs ns [] ts a i x f at is = absurd (cc at)
 aims fs ns (y ∷ xs) [] a i x f at is = absurd a
 aims fs ns (y ∷ xs) (t ∷ ts) a zero x f at is = let same : y ≡ x = cc at in a.0 f (ap (λ z. z.kind) same ∙ is)
 aims fs ns (y ∷ xs) (t ∷ ts) a (suc i) x f at is = aims fs ns xs ts a.1 i x f at is
+
+-- one more of a table
+pub aimed_next : (fs : List Flow) (ns : List Spot) (xs : List Node) (i : ℕ) (x : Node) (ts us : List ℕ) (t : ℕ) → i < length xs → x ≡ get_or xs i x → us ≡ ts ++ t ∷ [] → Says fs ns x t → Aimed fs ns (take i xs) ts
+    → Aimed fs ns (take (i + 1) xs) us
+aimed_next fs ns xs i x ts us t lt is more says a =
+    let next = take-suc xs i x lt ∙ ap (λ y. take i xs ++ y ∷ []) (sym is) in
+    let one : suc i ≡ i + 1 = omega arith in
+    subst (λ n. Aimed fs ns (take n xs) us) one (subst (λ ys. Aimed fs ns ys us) (sym next) (subst (λ vs. Aimed fs ns (take i xs ++ x ∷ []) vs) (sym more) (aimed_push fs ns (take i xs) ts x t a says)))
+
+-- and the whole of it
+pub aimed_all : (fs : List Flow) (ns : List Spot) (xs ys : List Node) (i : ℕ) (ts : List ℕ) → length xs ≤ i → xs ≡ ys → Aimed fs ns (take i xs) ts → AreTargets fs ns ys ts
+aimed_all fs ns xs ys i ts le same a = aims fs ns ys ts (subst (λ zs. Aimed fs ns zs ts) (take_all i xs le ∙ same) a)

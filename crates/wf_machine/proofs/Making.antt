@@ -1,12 +1,11 @@
 -- A move of a machine.
 --     moved      where it leads
 --     shallow    how deep the outcome nests
-use Rattle.std.proofs.Common.{◌≡◌, ◌<◌, ◌≤◌, ℕ, ◌+◌, true, false, List, [], ◌∷◌, Some, None, refl, sym, ap, ◌∙◌, subst, arith}
+use Rattle.std.proofs.Common.{◌≡◌, ◌<◌, ◌≤◌, ℕ, ◌+◌, true, false, List, [], ◌∷◌, Some, refl, sym, ap, ◌∙◌, subst, arith}
 use Rattle.wf_alone.specs.Machine.{config_by, main_at, main_local, main_scene}
 use Rattle.wf_ast.specs.Accept.{Kind}
 use Rattle.wf_ast.specs.Tree.{Program}
 use Rattle.wf_check.specs.Seen.{program_of}
-use Rattle.wf_frames.specs.Frames.{inner}
 use Rattle.wf_frames.specs.Owned.{local_of}
 use Rattle.wf_frames.specs.Sights.{Sees}
 use Rattle.wf_frames.specs.Turns.{Agrees}
@@ -23,7 +22,7 @@ use Rattle.wf_machine.specs.declared.machine.Machine.{Machine}
 use Rattle.wf_model.specs.Config as model
 use Rattle.wf_model.specs.Config.{Active, Config, To, Wrong}
 use Rattle.wf_model.specs.Law.{NeverWrong}
-use Rattle.wf_model.specs.Local.{Local, Moved, Scene}
+use Rattle.wf_model.specs.Local.{Moved, Scene}
 use Rattle.wf_model.specs.Move.{move}
 use Rattle.wf_model.specs.Step.{counted, next, read_at}
 use Rattle.wf_model.specs.Taken.{by_itself}

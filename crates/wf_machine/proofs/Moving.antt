@@ -1,7 +1,7 @@
 -- What a move of `main` comes to.
 --     came          the move of the definitions, by what a call says of it
 --     comes_to ..   the configuration
-use Rattle.std.proofs.Common.{◌≡◌, ◌<◌, ◌≤◌, ℕ, ◌+◌, List, [], ◌∷◌, Some, None, refl, sym, ap, ◌∙◌, subst, arith}
+use Rattle.std.proofs.Common.{◌≡◌, ◌<◌, ◌≤◌, ℕ, ◌+◌, List, [], ◌∷◌, refl, ap, ◌∙◌, subst}
 use Rattle.wf_alone.proofs.Carried.{below_limit, breaks, ends, goes_on}
 use Rattle.wf_alone.specs.Machine.{config_by, main_at, main_local, main_scene, main_task}
 use Rattle.wf_ast.specs.Accept.{Kind}

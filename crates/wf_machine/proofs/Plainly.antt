@@ -1,25 +1,24 @@
 -- The control of a task: what its frames stand for neither calls nor waits.
-use Rattle.std.proofs.Common.{◌≡◌, ◌<◌, ℕ, zero, suc, arith, true, false, Option, List, [], ◌∷◌, length, Some, None, refl, sym, ap, ◌∙◌}
+use Rattle.std.proofs.Common.{◌≡◌, ◌<◌, ℕ, zero, suc, arith, true, false, Option, List, [], ◌∷◌, length, Some, None, refl, ap, ◌∙◌}
 use Rattle.std.specs.Prelude.{get_or, unwrap_or, drop, slice_get}
-use Rattle.wf_alone.specs.Plain.{ArePlain, Moves, has_move, is_plain, is_plain_body}
-use Rattle.wf_ast.specs.Tree.{Body, Flow, Steps}
+use Rattle.wf_alone.specs.Plain.{ArePlain, Moves, has_move, is_plain_body}
+use Rattle.wf_ast.specs.Tree.{Flow}
 use Rattle.wf_frames.specs.Fits.{entries_at, list_at}
-use Rattle.wf_frames.specs.Frames.{body_entries, control, item}
+use Rattle.wf_frames.specs.Frames.{control, item}
 use Rattle.wf_frames.specs.Standing.{AllStandAt, StandsAt, steps_of}
 use Rattle.wf_frames.specs.declared.frames.Frame.{Frame}
 use Rattle.wf_frames.specs.declared.frames.Frame.TheVariants as frame
 use Rattle.wf_model.specs.Config.{Do, Entries}
 use Rattle.wf_steps.proofs.Advancing.{entries_next, from_next, step_within}
 use Rattle.wf_steps.proofs.Parts.{entries_is, list_is, never_parallel, part_is}
-use Rattle.wf_steps.specs.Built.{AreNamed, Tells, is_table_built}
+use Rattle.wf_steps.specs.Built.{AreNamed, Tells}
 use Rattle.wf_moves.specs.Going.{GoesOn, Going}
 use Rattle.wf_nodes.specs.Kinds.{Listed, kind_by}
-use Rattle.wf_nodes.specs.Spots.{Spot, entries_by, from, part_at, part_body, part_entry, part_list, part_step, steps_by}
+use Rattle.wf_nodes.specs.Spots.{Spot, from, part_at, part_body, part_list}
 use Rattle.wf_nodes.specs.Table.{part_by}
 use Rattle.wf_nodes.specs.declared.node.Node.{Node}
 use Rattle.wf_nodes.specs.declared.node.NodeKind.{NodeKind}
 use Rattle.wf_nodes.specs.declared.node.NodeKind.TheVariants as kind
-use Rattle.wf_value.specs.Pairs.{Text}
 
 -- whatever the frames
 pub are_plain : (ns : List Spot) (fs : List Frame) → ArePlain (control ns fs)

@@ -1,5 +1,5 @@
 -- The end at the limit on counted events.
-use Rattle.std.proofs.Common.{◌≡◌, ◌≤◌, ◌<◌, ℕ, suc, ◌+◌, sym, ap, ◌∙◌, refl, arith}
+use Rattle.std.proofs.Common.{◌≡◌, ◌≤◌, ◌<◌, ℕ, suc, ◌+◌, sym, ap, ◌∙◌, arith}
 use Rattle.std.specs.Prelude.{if◌then◌else◌, nat_lt}
 use Rattle.wf_model.specs.Config.{After, Config, To, move_limit}
 use Rattle.wf_model.specs.Step.{counted, one_more, stopped}

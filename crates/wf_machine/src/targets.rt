@@ -13,10 +13,7 @@ use wf_nodes::{Node, NodeKind};
 use wf_value::OutOfMemory;
 
 /// The number of the workflow that each call names, at the call's own number; none where a call names no workflow.
-pub(crate) fn targets_of(
-    alloc: Global,
-    program: &Checked,
-) -> Result<Option<Vec<u32>>, OutOfMemory>
+pub(crate) fn targets_of(alloc: Global, program: &Checked) -> Result<Option<Vec<u32>>, OutOfMemory>
     ensures { IfOk result (λ o. IfSome o (λ v. Aims (program_of program.now) (nodes_of program.now)
         v.items)) }
 {

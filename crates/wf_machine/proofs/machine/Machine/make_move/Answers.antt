@@ -1,4 +1,4 @@
-use Rattle.std.proofs.Common.{◌≡◌, ◌≤◌, ◌<◌, ◌+◌, true, false, Some, None, refl, sym, ap, ◌∙◌, subst, arith}
+use Rattle.std.proofs.Common.{◌≡◌, ◌≤◌, ◌+◌, true, false, Some, refl, sym, ap, ◌∙◌, subst, arith}
 use Rattle.std.proofs.Math.Logic.{∥∥₁_map}
 use Rattle.std.specs.Prelude.{is_some}
 use Rattle.wf_alone.proofs.Reached.{reached_next}
@@ -7,15 +7,13 @@ use Rattle.wf_check.specs.Seen.{nodes_of, program_of}
 use Rattle.wf_frames.proofs.Standing.{standing}
 use Rattle.wf_frames.specs.Frames.{inner}
 use Rattle.wf_machine.proofs.Making.{moved, none_behind, not_running, shallow, tasks_behind, went_on}
-use Rattle.wf_machine.proofs.Places.{going, running_of, stands_now, tells_of}
-use Rattle.wf_machine.proofs.Stopping.{last_move, not_counted}
+use Rattle.wf_machine.proofs.Places.{going, stands_now, tells_of}
 use Rattle.wf_machine.proofs.machine.Machine.make_move.Goals as goal
 use Rattle.wf_machine.specs.Facts.{facts_view}
-use Rattle.wf_machine.specs.Main.{Aims, IsStanding, around, config_of, tasks_view}
+use Rattle.wf_machine.specs.Main.{Aims, IsStanding, around, tasks_view}
 use Rattle.wf_machine.specs.Seen.{state_of}
 use Rattle.wf_machine.specs.State.{outcome_by, outcome_depth}
 use Rattle.wf_model.specs.Config.{To}
-use Rattle.wf_model.specs.Step.{counted, read_at}
 use Rattle.wf_moves.proofs.Going.{going as goes}
 use Rattle.wf_moves.specs.Moved.{IsLeft}
 use Rattle.wf_moves.specs.Tasks.{went_of}
@@ -24,7 +22,7 @@ pub advance-requires : goal.advance-requires
 advance-requires c =
     let m = c.args.self.now in
     let is = sym c.in-Some.ensures.value in
-    (tells_of m.program m.built, (subst (Aims (program_of m.program) (nodes_of m.program)) (sym c.as_slice.ensures) m.aims, (stands_now m c.in-Some.task is, going m c.in-Some.task is)))
+    (tells_of m.program m.built, (subst (Aims (program_of m.program) (nodes_of m.program)) (sym c.as_slice.ensures.value) m.aims, (stands_now m c.in-Some.task is, going m c.in-Some.task is)))
 
 pub returns-then-is_running-clause-moved : goal.returns-then-is_running-clause-moved
 returns-then-is_running-clause-moved c =

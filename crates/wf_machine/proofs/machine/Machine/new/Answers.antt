@@ -1,3 +1,4 @@
+use Rattle.std.specs.Prelude.{IfSome}
 use Rattle.std.proofs.Common.{inl, inr, refl, sym, ap, ◌∙◌, arith, subst}
 use Rattle.wf_alone.proofs.Reached.{reached_first}
 use Rattle.wf_check.specs.Seen.{nodes_of, program_of}
@@ -6,10 +7,8 @@ use Rattle.wf_machine.proofs.Begun.{EndingFor, begins_so, ending_for, runs_with,
 use Rattle.wf_machine.proofs.Places.{tells_of}
 use Rattle.wf_machine.proofs.machine.Machine.new.Goals as goal
 use Rattle.wf_machine.proofs.machine.Machine.new.Goals.{then-is_some, else-is_some}
-use Rattle.wf_machine.specs.Main.{Begins, config_of}
-use Rattle.wf_machine.specs.declared.machine.Ending.TheVariants as ending
+use Rattle.wf_machine.specs.Main.{Aims, Begins, config_of}
 use Rattle.wf_steps.specs.Built.{is_table_built}
-use Rattle.wf_value.specs.declared.value.Value.TheVariants as value
 
 pub first_task-requires : goal.first_task-requires
 first_task-requires c =
@@ -50,4 +49,6 @@ returns-clause-initial c =
     (ending_for c.in_ok-task.task c.if-is_some.ending (elim c.if-is_some.branch [ then-is_some w ↦ inl (sym c.is_some.ensures ∙ w.if-is_some.true, w.ending-is) | else-is_some w ↦ inr (sym c.is_some.ensures ∙ w.if-is_some.false, w.ending-is) ])) c.in_ok-facts.ensures
 
 pub invariant_of-result-clause-aims : goal.invariant_of-result-clause-aims
-invariant_of-result-clause-aims c = ?
+invariant_of-result-clause-aims c =
+    let p = c.args.program in
+    subst (λ o. IfSome o (λ v. Aims (program_of p) (nodes_of p) v.items)) c.in-Some.is c.in_ok-found.ensures
