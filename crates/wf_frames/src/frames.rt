@@ -85,7 +85,8 @@ impl Frames {
 
     /// Puts a frame inside all others. Without memory all stays, and the frame is dropped.
     pub fn push(&mut self, frame: Frame) -> Result<(), OutOfMemory>
-        ensures pushed { inner self.new ≡ (if is_ok result then frame ∷ inner self.old else inner self.old) }
+        ensures pushed { inner self.new
+            ≡ (if is_ok result then frame ∷ inner self.old else inner self.old) }
         ensures first { self.new.first ≡ self.old.first }
     {
         match self.items.push(frame) {

@@ -11,7 +11,8 @@ use wf_scope::{Chain, Scopes};
 pub fn leave(frames: &mut Frames, scopes: &mut Scopes) -> bool
     ghost around: { Around }
     requires { IsLinked around (own_of frames.old) scopes.old }
-    ensures left { Leaves result (inner frames.old) (held_by around frames.old scopes.old) (inner frames.new) (held_by around frames.new scopes.new) }
+    ensures left { Leaves result (inner frames.old) (held_by around frames.old scopes.old)
+        (inner frames.new) (held_by around frames.new scopes.new) }
     ensures linked { IsLinked around (own_of frames.new) scopes.new }
 {
     let Some(frame) = frames.pop() else {

@@ -75,7 +75,8 @@ fn item_at(index: i64, items: &[Value]) -> Option<&Value>
 // The error of a write at places below a value, of which one is no key.
 fn fault_below(value: &Value, places: &[Value]) -> Tag
     requires { all_keys (plain_items places.now) ≡ false }
-    ensures { (new : Data) → layers.written (plain_items places.now) (plain value.now) new ≡ Err result }
+    ensures { (new : Data) → layers.written (plain_items places.now) (plain value.now) new
+        ≡ Err result }
 {
     match places {
         [] => Tag::TypeError,
@@ -89,7 +90,9 @@ fn fault_below(value: &Value, places: &[Value]) -> Tag
 /// The error of an assignment at places below a variable, of which one is no key.
 pub(crate) fn fault_of(found: Option<&Value>, places: &[Value]) -> Tag
     requires { all_keys (plain_items places.now) ≡ false }
-    ensures { (new : Data) → changed (option_map (λ v. plain v.now) found.entry) (plain_items places.now) new ≡ Err result }
+    ensures { (new : Data)
+        → changed (option_map (λ v. plain v.now) found.entry) (plain_items places.now) new
+        ≡ Err result }
 {
     match found {
         Some(value) => fault_below(value, places),

@@ -16,7 +16,8 @@ use wf_scope::Scopes;
 pub fn seen<'a>(frames: &Frames, scopes: &'a Scopes, facts: &'a Facts) -> Seen<'a>
     ghost around: { Around }
     requires { IsLinked around (own_of frames.now) scopes.now }
-    ensures { (s : Scene) → Sees s facts.entry.now → view s (beside [] around frames.now scopes.now) ≡ sight.seen (sight_of result) facts.entry.now.now }
+    ensures { (s : Scene) → Sees s facts.entry.now → view s (beside [] around frames.now scopes.now)
+        ≡ sight.seen (sight_of result) facts.entry.now.now }
 {
     Seen {
         scopes,

@@ -25,7 +25,8 @@ pub fn assign(
     ghost around: { Around }
     requires { IsLinked around (own_of frames.now) scopes.old }
     ensures written { IfOk result (λ o. (s : Scene) → Agrees s around
-        → Writes s o (held_by around frames.now scopes.old) name.now (plain_items places.now) (plain value) (held_by around frames.now scopes.new)) }
+        → Writes s o (held_by around frames.now scopes.old) name.now (plain_items places.now)
+        (plain value) (held_by around frames.now scopes.new)) }
     ensures linked { IfOk result (λ o. IsLinked around (own_of frames.now) scopes.new) }
 {
     match keys_of(alloc, places)? {
@@ -45,7 +46,8 @@ fn put(
     ghost around: { Around }
     requires { IsLinked around (own_of frames.now) scopes.old }
     ensures written { IfOk result (λ o. (s : Scene) → Agrees s around
-        → Writes s o (held_by around frames.now scopes.old) name.now (map key_data path.now) (plain value) (held_by around frames.now scopes.new)) }
+        → Writes s o (held_by around frames.now scopes.old) name.now (map key_data path.now)
+        (plain value) (held_by around frames.now scopes.new)) }
     ensures linked { IfOk result (λ o. IsLinked around (own_of frames.now) scopes.new) }
 {
     match scopes.assign(frames.layer(), name.as_str(), path, value) {

@@ -118,7 +118,8 @@ pub(crate) fn assign(
     requires stands { Stands around nodes.now frames.old scopes.old }
     requires within { n < length nodes.now }
     ensures moved { IfOk result (λ w. SeesBy around facts.entry.now
-        (λ s l. move.assigns s (part_entry (part_at around.spots n)) (control_of around frames.old) l)
+        (λ s l. move.assigns s (part_entry (part_at around.spots n)) (control_of around frames.old)
+        l)
         (held_by around frames.old scopes.old) w frames.new scopes.new) }
     ensures stands { OnOk result (Stands around nodes.now frames.new scopes.new) }
     ensures left { IfOk result (λ w. IsLeft nodes.now w (inner frames.new)) }

@@ -98,7 +98,14 @@ fn give(
     match result_of(nodes, call) {
         Some(name) => {
             let places = Vec::new(alloc);
-            store(alloc, nodes, name, Assigned { value, places }, frames, scopes)
+            store(
+                alloc,
+                nodes,
+                name,
+                Assigned { value, places },
+                frames,
+                scopes,
+            )
         }
         None => Ok(goes(frames, nodes, scopes)),
     }

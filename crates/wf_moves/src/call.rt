@@ -44,11 +44,7 @@ fn value_for(alloc: Global, param: &Param, args: &Map) -> Result<Option<Value>, 
 }
 
 // The parameters with their values; none where one has no value.
-fn bindings(
-    alloc: Global,
-    params: &[Param],
-    args: &Map,
-) -> Result<Option<Bindings>, OutOfMemory>
+fn bindings(alloc: Global, params: &[Param], args: &Map) -> Result<Option<Bindings>, OutOfMemory>
     ensures { IfOk result (λ o. option_map bindings_of o
         ≡ calls.given (map param_view params.now) (pairs_of args.now)) }
 {

@@ -111,7 +111,8 @@ impl Task {
         requires stands { Stands around nodes.now self.old.frames scopes.old }
         requires going { IsGoing nodes.now (inner self.old.frames) }
         ensures moved { IfOk result (λ m. (s : Scene) → Sees s facts.entry.now → Agrees s around
-            → MovesSo (move s (local_of around self.old.frames scopes.old)) m (local_of around self.new.frames scopes.new)) }
+            → MovesSo (move s (local_of around self.old.frames scopes.old)) m
+            (local_of around self.new.frames scopes.new)) }
         ensures stands { OnOk result (Stands around nodes.now self.new.frames scopes.new) }
         ensures left { IfOk result (λ m. IsLeft nodes.now (went_of m) (inner self.new.frames)) }
     {

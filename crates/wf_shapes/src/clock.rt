@@ -68,7 +68,8 @@ fn is_in_pieces(pieces: &[Piece], codes: &[Postfix]) -> bool
 }
 
 fn is_in_piece(piece: &Piece, codes: &[Postfix]) -> bool
-    ensures { (ps : List t.Part) → parts_now (piece_by codes.now piece.now ∷ ps) ≡ (result || parts_now ps) }
+    ensures { (ps : List t.Part) → parts_now (piece_by codes.now piece.now ∷ ps)
+        ≡ (result || parts_now ps) }
 {
     match piece {
         Piece::Text(_) => false,

@@ -47,7 +47,8 @@ pub fn values<K: Look>(
     now: u64,
 ) -> Result<Vec<Value>, Raise>
     requires { are_built codes.now ≡ true }
-    ensures { Answers (λ vs. map plain vs.items) result (meaning.eval_all (exprs (map decoded codes.now)) (seen (K.sight look.now) now)) }
+    ensures { Answers (λ vs. map plain vs.items) result
+        (meaning.eval_all (exprs (map decoded codes.now)) (seen (K.sight look.now) now)) }
 {
     let mut values = Vec::new(alloc);
     for code in codes {

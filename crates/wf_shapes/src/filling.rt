@@ -29,7 +29,8 @@ pub fn fill_shape<K: Look>(
     now: u64,
 ) -> Result<Value, Raise>
     requires { are_built codes.now ≡ true }
-    ensures { Gives result (meaning.fill (shape_by codes.now shape.now) (seen (K.sight look.now) now)) }
+    ensures { Gives result
+        (meaning.fill (shape_by codes.now shape.now) (seen (K.sight look.now) now)) }
 {
     match shape {
         Shape::Lit(v) => keep(copied(alloc, v)?),
@@ -49,7 +50,8 @@ fn joined<K: Look>(
     now: u64,
 ) -> Result<Text, Raise>
     requires { are_built codes.now ≡ true }
-    ensures { GivesText result (meaning.joined (seen (K.sight look.now) now) (map (piece_by codes.now) pieces.now)) }
+    ensures { GivesText result
+        (meaning.joined (seen (K.sight look.now) now) (map (piece_by codes.now) pieces.now)) }
 {
     let mut text = String::new(alloc);
     for piece in pieces {
@@ -70,7 +72,8 @@ fn piece_text<K: Look>(
     now: u64,
 ) -> Result<Text, Raise>
     requires { are_built codes.now ≡ true }
-    ensures { GivesText result (meaning.part_text (seen (K.sight look.now) now) (piece_by codes.now piece.now)) }
+    ensures { GivesText result
+        (meaning.part_text (seen (K.sight look.now) now) (piece_by codes.now piece.now)) }
 {
     match piece {
         Piece::Text(t) => owned(alloc, t.as_str()),
@@ -91,7 +94,9 @@ fn fill_all<K: Look>(
     now: u64,
 ) -> Result<List, Raise>
     requires { are_built codes.now ≡ true }
-    ensures { Answers (λ l. items_of l) result (meaning.fill_all (templates (map (shape_by codes.now) shapes.now)) (seen (K.sight look.now) now)) }
+    ensures { Answers (λ l. items_of l) result
+        (meaning.fill_all (templates (map (shape_by codes.now) shapes.now))
+        (seen (K.sight look.now) now)) }
 {
     let Ok(mut list) = List::new(alloc) else {
         return Err(Raise::OutOfMemory);
@@ -115,7 +120,9 @@ fn fill_named<K: Look>(
     now: u64,
 ) -> Result<Vec<(Text, Value)>, Raise>
     requires { are_built codes.now ≡ true }
-    ensures { Answers (λ ps. put_all ps.items no_pairs) result (meaning.fill_fields (fields (map (named_by codes.now) named.now)) (seen (K.sight look.now) now)) }
+    ensures { Answers (λ ps. put_all ps.items no_pairs) result
+        (meaning.fill_fields (fields (map (named_by codes.now) named.now))
+        (seen (K.sight look.now) now)) }
 {
     let mut pairs = Vec::new(alloc);
     for member in named {
@@ -144,14 +151,16 @@ pub fn fill_args<K: Look>(
     now: u64,
 ) -> Result<Map, Raise>
     requires { are_built codes.now ≡ true }
-    ensures { Answers (λ m. pairs_of m) result (meaning.fill_fields (fields (fields_by codes.now named.now)) (seen (K.sight look.now) now)) }
+    ensures { Answers (λ m. pairs_of m) result
+        (meaning.fill_fields (fields (fields_by codes.now named.now)) (seen (K.sight look.now) now)) }
 {
     map_of(alloc, fill_named(alloc, named.items(), codes, look, now)?)
 }
 
 // The map of these pairs, if it keeps within the limits.
 fn keep_map(alloc: Global, pairs: Result<Vec<(Text, Value)>, Raise>) -> Result<Value, Raise>
-    ensures { (d : Answer Pairs) → Answers (λ ps. put_all ps.items no_pairs) pairs d → Gives result (kept_map d) }
+    ensures { (d : Answer Pairs) → Answers (λ ps. put_all ps.items no_pairs) pairs d
+        → Gives result (kept_map d) }
 {
     keep(Value::Map(map_of(alloc, pairs?)?))
 }

@@ -32,7 +32,9 @@ fn do_step<K: Look>(
     requires tells { Tells ns nodes.now }
     requires before { IsBefore nodes.now list at }
     requires fits { Fits ns nodes.now (frame.Do list at ∷ inner frames.old) }
-    ensures moves { IfOk result (Moves ns (frame.Do list at ∷ inner frames.old) (seen (K.sight look.now) now) (inner frames.new)) }
+    ensures moves { IfOk result
+        (Moves ns (frame.Do list at ∷ inner frames.old) (seen (K.sight look.now) now)
+        (inner frames.new)) }
     ensures fits { OnOk result (Fits ns nodes.now (inner frames.new)) }
     ensures own { OnOk result (own_of frames.new ≡ own_of frames.old) }
     ensures ready { IfOk result (IsReady ns nodes.now (inner frames.new)) }
@@ -56,7 +58,9 @@ fn lone_step<K: Look>(
     requires within { n < length nodes.now }
     requires fits { Fits ns nodes.now (inner frames.old) }
     requires inside { owners_at ns n ≡ reach (inner frames.old) }
-    ensures moves { IfOk result (Moves ns (frame.Lone n false ∷ inner frames.old) (seen (K.sight look.now) now) (inner frames.new)) }
+    ensures moves { IfOk result
+        (Moves ns (frame.Lone n false ∷ inner frames.old) (seen (K.sight look.now) now)
+        (inner frames.new)) }
     ensures fits { OnOk result (Fits ns nodes.now (inner frames.new)) }
     ensures own { OnOk result (own_of frames.new ≡ own_of frames.old) }
     ensures ready { IfOk result (IsReady ns nodes.now (inner frames.new)) }
@@ -71,7 +75,9 @@ fn entry_step(nodes: &[Node], n: u32, at: usize, frames: &mut Frames) -> Result<
     requires tells { Tells ns nodes.now }
     requires before { IsBeforeEntry nodes.now n at }
     requires fits { Fits ns nodes.now (inner frames.old) }
-    ensures moves { IfOk result (λ st. (v : View) → Moves ns (frame.Entries n at ∷ inner frames.old) v (inner frames.new) st) }
+    ensures moves { IfOk result
+        (λ st. (v : View) → Moves ns (frame.Entries n at ∷ inner frames.old) v (inner frames.new)
+        st) }
     ensures fits { OnOk result (Fits ns nodes.now (inner frames.new)) }
     ensures own { OnOk result (own_of frames.new ≡ own_of frames.old) }
     ensures ready { IfOk result (IsReady ns nodes.now (inner frames.new)) }
@@ -94,7 +100,8 @@ pub fn step_of<K: Look>(
     requires tells { Tells ns nodes.now }
     requires step { HasStep nodes.now frame }
     requires fits { Fits ns nodes.now (frame ∷ inner frames.old) }
-    ensures moves { IfOk result (Moves ns (frame ∷ inner frames.old) (seen (K.sight look.now) now) (inner frames.new)) }
+    ensures moves { IfOk result
+        (Moves ns (frame ∷ inner frames.old) (seen (K.sight look.now) now) (inner frames.new)) }
     ensures fits { OnOk result (Fits ns nodes.now (inner frames.new)) }
     ensures own { OnOk result (own_of frames.new ≡ own_of frames.old) }
     ensures ready { IfOk result (IsReady ns nodes.now (inner frames.new)) }

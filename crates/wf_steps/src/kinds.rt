@@ -98,7 +98,8 @@ fn first_kind(nodes: &[Node], numbers: &[u32]) -> Kind
     ghost ns: { List Spot }
     requires tells { Tells ns nodes.now }
     requires entries { AreBelow (length nodes.now) numbers.now }
-    ensures { (p : Program) → kind_view result ≡ body_kind p (Body.Assign (entries_by ns numbers.now)) }
+    ensures { (p : Program) → kind_view result
+        ≡ body_kind p (Body.Assign (entries_by ns numbers.now)) }
 {
     match numbers {
         [] => Kind::Plain,

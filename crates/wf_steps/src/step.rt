@@ -82,7 +82,8 @@ fn returns<K: Look>(
     now: u64,
 ) -> Result<Step, OutOfMemory>
     requires { are_built codes.now ≡ true }
-    ensures value { IfOk result (ReturnsValue (shape_by codes.now shape.now) (seen (K.sight look.now) now)) }
+    ensures value { IfOk result
+        (ReturnsValue (shape_by codes.now shape.now) (seen (K.sight look.now) now)) }
     ensures done { IfOk result IsDone }
 {
     match fill_shape(alloc, shape, codes, look, now) {
@@ -100,7 +101,8 @@ fn raises<K: Look>(
     now: u64,
 ) -> Result<Step, OutOfMemory>
     requires { are_built codes.now ≡ true }
-    ensures value { IfOk result (RaisesValue (shape_by codes.now shape.now) (seen (K.sight look.now) now)) }
+    ensures value { IfOk result
+        (RaisesValue (shape_by codes.now shape.now) (seen (K.sight look.now) now)) }
     ensures done { IfOk result IsDone }
 {
     let value = match fill_shape(alloc, shape, codes, look, now) {
@@ -151,8 +153,10 @@ fn choose<K: Look>(
     ghost at: { Within }
     requires tells { Tells at.spots nodes.now }
     requires arms { ArmsStandIn at.spots (length nodes.now) at.owners arms.now }
-    ensures within { IfOk result (λ o. IfSome o (λ n. (n < length nodes.now) × (owners_at at.spots n ≡ at.owners))) }
-    ensures chosen { Answers (arm_in at.spots) result (move.chosen (seen (K.sight look.now) now) (arms_by at.spots arms.now)) }
+    ensures within { IfOk result
+        (λ o. IfSome o (λ n. (n < length nodes.now) × (owners_at at.spots n ≡ at.owners))) }
+    ensures chosen { Answers (arm_in at.spots) result
+        (move.chosen (seen (K.sight look.now) now) (arms_by at.spots arms.now)) }
 {
     for arm in arms {
         match holds(alloc, nodes, *arm, look, now) {
@@ -178,7 +182,8 @@ fn left_of<K: Look>(
     now: u64,
 ) -> Result<Left, Raise>
     requires { are_built codes.now ≡ true }
-    ensures { Answers left_view result (move.over (seen (K.sight look.now) now) (over_by codes.now over.now)) }
+    ensures { Answers left_view result
+        (move.over (seen (K.sight look.now) now) (over_by codes.now over.now)) }
 {
     match over {
         OverShape::List(shape) => {
@@ -249,7 +254,9 @@ fn switch<K: Look>(
     requires arms { ArmsStandIn at.spots (length nodes.now) at.owners arms.now }
     requires fits { Fits at.spots nodes.now (inner frames.old) }
     requires inside { at.owners ≡ reach (inner frames.old) }
-    ensures performed { IfOk result (Performs at.spots (Body.Switch (arms_by at.spots arms.now)) (seen (K.sight look.now) now) (inner frames.old) (inner frames.new)) }
+    ensures performed { IfOk result
+        (Performs at.spots (Body.Switch (arms_by at.spots arms.now)) (seen (K.sight look.now) now)
+        (inner frames.old) (inner frames.new)) }
     ensures fits { OnOk result (Fits at.spots nodes.now (inner frames.new)) }
     ensures own { OnOk result (own_of frames.new ≡ own_of frames.old) }
     ensures done { IfOk result IsDone }
@@ -280,9 +287,12 @@ fn begin_loop<K: Look>(
 ) -> Result<Step, OutOfMemory>
     ghost ns: { List Spot }
     requires { are_built codes.now ≡ true }
-    ensures begun { (value : Text) (index : Option Text) (ss : Steps) → part_body (part_at ns n) ≡ Body.For (loop value index (over_by codes.now over.now) ss)
-        → IfOk result (Performs ns (part_body (part_at ns n)) (seen (K.sight look.now) now) (inner frames.old) (inner frames.new)) }
-    ensures fits { (nodes : List Node) → (b : LoopNode) → IsLoop nodes n b → Fits ns nodes (inner frames.old) → OnOk result (Fits ns nodes (inner frames.new)) }
+    ensures begun { (value : Text) (index : Option Text) (ss : Steps) → part_body (part_at ns n)
+        ≡ Body.For (loop value index (over_by codes.now over.now) ss)
+        → IfOk result (Performs ns (part_body (part_at ns n)) (seen (K.sight look.now) now)
+        (inner frames.old) (inner frames.new)) }
+    ensures fits { (nodes : List Node) → (b : LoopNode) → IsLoop nodes n b
+        → Fits ns nodes (inner frames.old) → OnOk result (Fits ns nodes (inner frames.new)) }
     ensures own { OnOk result (own_of frames.new ≡ own_of frames.old) }
     ensures done { IfOk result IsDone }
 {
@@ -371,7 +381,9 @@ fn perform<K: Look>(
     requires within { n < length nodes.now }
     requires fits { Fits ns nodes.now (inner frames.old) }
     requires inside { owners_at ns n ≡ reach (inner frames.old) }
-    ensures performed { IfOk result (Performs ns (part_body (part_at ns n)) (seen (K.sight look.now) now) (inner frames.old) (inner frames.new)) }
+    ensures performed { IfOk result
+        (Performs ns (part_body (part_at ns n)) (seen (K.sight look.now) now) (inner frames.old)
+        (inner frames.new)) }
     ensures fits { OnOk result (Fits ns nodes.now (inner frames.new)) }
     ensures own { OnOk result (own_of frames.new ≡ own_of frames.old) }
     ensures ready { IfOk result (IsReady ns nodes.now (inner frames.new)) }
@@ -415,7 +427,9 @@ pub(crate) fn carry_out<K: Look>(
     requires within { n < length nodes.now }
     requires fits { Fits ns nodes.now (inner frames.old) }
     requires inside { owners_at ns n ≡ reach (inner frames.old) }
-    ensures carried { IfOk result (CarriesOut ns (part_body (part_at ns n)) (part_next (part_at ns n)) (seen (K.sight look.now) now) (inner frames.old) (inner frames.new)) }
+    ensures carried { IfOk result
+        (CarriesOut ns (part_body (part_at ns n)) (part_next (part_at ns n))
+        (seen (K.sight look.now) now) (inner frames.old) (inner frames.new)) }
     ensures fits { OnOk result (Fits ns nodes.now (inner frames.new)) }
     ensures own { OnOk result (own_of frames.new ≡ own_of frames.old) }
     ensures ready { IfOk result (IsReady ns nodes.now (inner frames.new)) }
