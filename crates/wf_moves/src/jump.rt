@@ -26,8 +26,8 @@ use wf_scope::Scopes;
 use wf_steps::block;
 use wf_value::{OutOfMemory, Value};
 
-// Where a number stands among others, if it does.
-fn place_of(numbers: &[u32], to: u32) -> usize
+// Where a number stands first among others, if it does.
+fn first_place(numbers: &[u32], to: u32) -> usize
     ensures { (i : ℕ) → slice_get numbers.now i ≡ Some to
         → slice_get numbers.now result ≡ Some to }
 {
@@ -39,6 +39,18 @@ fn place_of(numbers: &[u32], to: u32) -> usize
         place += 1;
     }
     place
+}
+
+// Where a number stands among others, if it does. The numbers of a list rise, so a jump costs no more in a long one; that they do is asked
+// of nobody.
+fn place_of(numbers: &[u32], to: u32) -> usize
+    ensures { (i : ℕ) → slice_get numbers.now i ≡ Some to
+        → slice_get numbers.now result ≡ Some to }
+{
+    match numbers.binary_search(&to) {
+        Ok(place) => place,
+        Err(_) => first_place(numbers, to),
+    }
 }
 
 // The number of a frame's node, if it is the list to which a jump leads.
