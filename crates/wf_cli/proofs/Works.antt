@@ -264,7 +264,7 @@ module _ (s : Scene) (command : kept.Command) (old mid new : World) (e : Engine)
     idle = λ none. absurd (⊎_elim (executing s line) taken.argument none);
   }
 
-pub end_going : (s : Scene) (old new : World) (a b : ℕ) (f g h : Faults) (r : Result Said Silence) → SaysResult g h r → IsLineOf s (λ c. executes c ≡ true) → IsAccepted s
+pub end_going : (s : Scene) (old new : World) (a b : ℕ) (f g h : Faults) (r : Result Said Silence) → SaysResult g h r → IsLineOf s (λ c. executes c ≡ true) → IsTaken s
     → Told old (HasNoCauseInFile the_language s × IfOk r (λ it. Gives the_language s new.seen it.status it.text.items)) → (Rose g.disk h.disk → Rose f.disk h.disk) → IsEnd s old new a b f h r
 end_going s old new a b f g h (Ok it) (o, result, says) line taken gives rose =
     of_file it.status it.text.items (outcome_of_file o it.status says.status) line taken (λ told. let x = gives told in (x.1, passed_all the_language s it.status x.0))

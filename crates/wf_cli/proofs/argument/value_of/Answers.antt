@@ -1,4 +1,4 @@
-use Rattle.std.proofs.Common.{◌≡◌, None, Some, sym, ap, ◌∙◌, subst}
+use Rattle.std.proofs.Common.{◌≡◌, Some, sym, ap, ◌∙◌, subst}
 use Rattle.std.specs.Option.{option_copied, option_map_or}
 use Rattle.wf_args.specs.Lines.{word_of}
 use Rattle.wf_args.specs.Plain.{plain_line}

@@ -1,4 +1,4 @@
-use Rattle.std.proofs.Common.{Err, ap}
+use Rattle.std.proofs.Common.{Err, ap, ◌∙◌}
 use Rattle.wf_cli.proofs.Works.{argument_end, argument_worked}
 use Rattle.wf_engine.specs.Safe.{scene}
 use Rattle.wf_args.specs.Plain.{plain_line}

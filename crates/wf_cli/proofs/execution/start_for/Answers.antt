@@ -1,4 +1,4 @@
-use Rattle.std.proofs.Common.{◌≤◌, length, refl, ap, subst, sym}
+use Rattle.std.proofs.Common.{◌≤◌, ◌∙◌, length, refl, ap, subst, sym}
 use Rattle.std.specs.Prelude.{map}
 use Rattle.wf_args.specs.Plain.{plain_line}
 use Rattle.wf_cli.proofs.Spelled.{IsPlainStart, IsShortArgument, plain_fits, plain_spelled}
@@ -10,7 +10,7 @@ Plain c =
     IsPlainStart (start_view (record {
       id = c.in_ok-id_for.field-0;
       source = c.in_ok-new.field-0;
-      argument = c.args.argument;
+      argument = c.argument.inside.bytes.value.items;
       routes = c.new-2.result;
       env = c.new-3.result;
       base = c.in_ok-new-2.field-0;
@@ -23,7 +23,7 @@ is_plain c = record {
   id = c.in_ok-id_for.ensures.text;
   short = c.in_ok-id_for.ensures.short;
   source = subst (λ l. length l ≤ 131072) (sym c.in_ok-new.ensures) c.requires.short;
-  argument = subst IsShortArgument (sym c.requires.text) (c.laws_of_starts.ensures.spelled (plain_line c.args.line.now) c.requires.has);
+  argument = subst IsShortArgument (sym c.requires.text ∙ sym c.argument.view_is) (c.laws_of_starts.ensures.spelled (plain_line c.args.line.now) c.requires.has);
   routes = ap (map route_view) c.new-2.ensures;
   env = c.new-3.ensures;
   base = c.in_ok-new-2.ensures;
