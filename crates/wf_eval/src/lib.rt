@@ -13,6 +13,6 @@ mod operators;
 pub use answers::{copied, keep, owned};
 pub use built::{are_calls_built, is_template_built};
 pub use filling::{fill, map_of};
-pub use functions::shown;
+pub use functions::{apply, shown};
 pub use look::Look;
 pub use machine::eval;
