@@ -3,15 +3,18 @@
 --     kind                 the move reads the clock or doesn't, and is no call
 --     real                 the move is none that is ruled out
 use Rattle.std.proofs.Common.{◌≡◌, ℕ, suc, Bool, true, false, List, [], ◌∷◌, Option, None, Some, Ok, Err, refl}
-use Rattle.std.specs.Prelude.{if◌then◌else◌, codes, bytes_eq, is_some, nat_le}
+use Rattle.std.specs.Prelude.{if◌then◌else◌, ◌||◌, codes, bytes_eq, is_some, nat_le}
 use Rattle.wf_alone.specs.Plain.{is_plain_body, ArePlain, Moves, IsReal}
 use Rattle.wf_ast.specs.Accept.{BreakOutsideLoop}
 use Rattle.wf_ast.specs.Eval.{eval_all, fill, fill_fields}
+use Rattle.wf_ast.specs.Apply.{apply}
 use Rattle.wf_ast.specs.Flows.{flow}
+use Rattle.wf_ast.specs.Func.{Listing, SpecialListing, func_named, in_order, special_named, takes}
+use Rattle.wf_ast.specs.declared.Func.{Func}
 use Rattle.wf_ast.specs.Tree.{Entry, Flow, Param, Steps, TryBody, except, loop, LoopBody, no_except, step, no_steps, more, Body, Program, try}
-use Rattle.wf_model.specs.Calls.{bindings, calls_named, calls_with}
+use Rattle.wf_model.specs.Calls.{bindings, calls_listed, calls_named, calls_with, evaluates}
 use Rattle.wf_model.specs.Config.{Item, Do, Entries, Then, Loop, Try, Judge, Mark, Back, Join, Left, call_limit, next_of}
-use Rattle.wf_model.specs.Kinds.{next_kind, by_clock, arms_now, body_kind, call_kind, entry_now, fields_now, over_now, template_now}
+use Rattle.wf_model.specs.Kinds.{next_kind, by_clock, arms_now, body_kind, call_kind, entry_now, fields_now, is_now, listed_kind, over_now, template_now}
 use Rattle.wf_model.specs.Layers.{Assigned, Done, Refused, Undeclared, assign, enter, opened, view}
 use Rattle.wf_model.specs.Leave.{raises, on, on_assigned, given_to, gives, returns, returns_in, returned, continues, breaks, jumps, jumps_to}
 use Rattle.wf_model.specs.Local.{Local, Root, Main, Branch, Iteration, Scene, Moved, Breaks, leave, settle, ended, goes}
@@ -19,8 +22,8 @@ use Rattle.wf_model.specs.Move.{assigns, chosen, entered, in_arm, loop_names, lo
 use Rattle.wf_model.specs.Ready.{stands_waiting, begins}
 use Rattle.wf_model.specs.Unwind.{Asks, Found, Judgement, Says, Stands, AtEnd, NotFound, answered, asked_one, asks, called, calls_in, decided, excepted, handled, judged, policy_of, retried, to_back, to_loop, to_step, unwind}
 use Rattle.wf_value.specs.Data.{Data, Pairs, boolean, bytes, integer, list, map, null, text}
-use Rattle.wf_value.specs.Errors.{Answer, ◌>>=◌, error_map}
-use Rattle.wf_value.specs.Pairs.{Text}
+use Rattle.wf_value.specs.Errors.{Answer, ◌>>=◌, error_map, kept}
+use Rattle.wf_value.specs.Pairs.{Text, keys}
 use Rattle.wf_value.specs.declared.Tag.TheVariants.{RecursionError, TypeError}
 
 -- ## What stands there
@@ -52,15 +55,19 @@ begins_none (Join body left n running es ∷ k) plain = absurd (cc plain)
 
 -- ## The kind of its move
 -- of a body
-call_clock : (o : Option Flow) (x : Text) (b : Bool) → is_some o ≡ true → call_kind o x b ≡ by_clock b
-call_clock (Some w) x b there = refl
-call_clock None x b there = absurd (cc there)
+listed_clock : (e : Option Listing) (g : Option SpecialListing) (b : Bool) → is_some e ≡ true → (clock : Bool) × (listed_kind e g b ≡ by_clock clock)
+listed_clock (Some e) g b there = (is_now e.func || b, refl)
+listed_clock None g b there = absurd (cc there)
+
+call_clock : (o : Option Flow) (x : Text) (b : Bool) → (is_some o || is_some (func_named x)) ≡ true → (clock : Bool) × (call_kind o x b ≡ by_clock clock)
+call_clock (Some w) x b there = (b, refl)
+call_clock None x b there = listed_clock (func_named x) (special_named x) b there
 
 body_clock : (p : Program) (body : Body) → is_plain_body p.flows body ≡ true → (clock : Bool) × (body_kind p body ≡ by_clock clock)
 body_clock p Body.Nothing plain = (false, refl)
 body_clock p (Body.Assign []) plain = (false, refl)
 body_clock p (Body.Assign (e ∷ es)) plain = (entry_now e, refl)
-body_clock p (Body.Call f) plain = (fields_now f.args, call_clock (flow p.flows f.name) f.name (fields_now f.args) plain)
+body_clock p (Body.Call f) plain = call_clock (flow p.flows f.name) f.name (fields_now f.args) plain
 body_clock p (Body.Switch arms) plain = (arms_now arms, refl)
 body_clock p (Body.For (loop x i o ss)) plain = (over_now o, refl)
 body_clock p (Body.Parallel q) plain = absurd (cc plain)
@@ -250,9 +257,17 @@ calls_with_real s w r None k l = tt
 calls_with_real s w r (Some xs) k l =
     either_real (nat_le call_limit (calls_in k)) _ _ (raises_real s k l (error_map RecursionError)) (on_real s k l (opened s l xs) _ (λ ps. goes_real (Do w.steps w.steps ∷ Back r ∷ k) (enter true ps l)))
 
-named_real : (s : Scene) (r : Option Text) (o : Option Flow) (x : Text) (args : Pairs) (k : List Item) (l : Local) → is_some o ≡ true → IsReal (calls_named s r o x args k l)
+-- a call of a function that expressions may call too
+evaluates_real : (s : Scene) (r : Option Text) (f : Func) (vs : List Data) (k : List Item) (l : Local) → IsReal (evaluates s r f vs k l)
+evaluates_real s r f vs k l = on_real s k l (apply (view s l) f vs >>= kept) _ (λ v. gives_real s r v k l)
+
+listed_real : (s : Scene) (r : Option Text) (e : Option Listing) (g : Option SpecialListing) (args : Pairs) (k : List Item) (l : Local) → is_some e ≡ true → IsReal (calls_listed s r e g args k l)
+listed_real s r (Some e) g args k l there = either_real (takes e.signature (keys args)) _ _ (evaluates_real s r e.func (in_order e.signature args) k l) tt
+listed_real s r None g args k l there = absurd (cc there)
+
+named_real : (s : Scene) (r : Option Text) (o : Option Flow) (x : Text) (args : Pairs) (k : List Item) (l : Local) → (is_some o || is_some (func_named x)) ≡ true → IsReal (calls_named s r o x args k l)
 named_real s r (Some w) x args k l there = calls_with_real s w r (bindings w.params args) k l
-named_real s r None x args k l there = absurd (cc there)
+named_real s r None x args k l there = listed_real s r (func_named x) (special_named x) args k l there
 
 -- a body
 performs_real : (s : Scene) (body : Body) (k : List Item) (l : Local) → is_plain_body s.program.flows body ≡ true → IsReal (performs s body k l)

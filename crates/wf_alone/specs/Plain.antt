@@ -1,17 +1,18 @@
--- Control that doesn't wait: no parallel step and no call of a function stands in it.
+-- Control that doesn't wait: no parallel step stands in it, and no call of a function that only call steps may call.
 --     is_plain, ArePlain   an item of these forms, and a control
 --     has_move, Moves      an item that has something to do, and a control whose innermost item has
 --     IsReal               a move that isn't ruled out
-use Rattle.std.specs.Prelude.{◌≡◌, Bool, true, false, is_some, List, [], ◌∷◌}
+use Rattle.std.specs.Prelude.{◌≡◌, Bool, true, false, ◌||◌, is_some, List, [], ◌∷◌}
 use Rattle.std.specs.List.{list_all}
 use Rattle.wf_ast.specs.Flows.{flow}
+use Rattle.wf_ast.specs.Func.{func_named}
 use Rattle.wf_ast.specs.Tree.{Body, Flow, more, step}
 use Rattle.wf_model.specs.Config.{Item, Back, Do, Entries, Join, Then, Loop}
 use Rattle.wf_model.specs.Local.{Moved, Goes, Ends, Does, Breaks, Not}
 
--- a body of these forms: a call is one of these workflows
+-- a body of these forms: a call is one of these workflows, or of a function that expressions may call too
 abbrev pub is_plain_body : List Flow → Body → Bool
-is_plain_body fs (Body.Call f) = is_some (flow fs f.name)
+is_plain_body fs (Body.Call f) = is_some (flow fs f.name) || is_some (func_named f.name)
 is_plain_body fs (Body.Parallel p) = false
 is_plain_body fs body = true
 

@@ -1,4 +1,4 @@
-//! Laws of an execution in which `main` is the only task, and what it has still to do neither calls nor waits.
+//! Laws of an execution in which `main` is the only task, and what it has still to do doesn't wait.
 //!
 //! The laws are about the definitions of wf_model; the function here does nothing and carries them as clauses. The machine above stands
 //! on the lemmas in proofs/.

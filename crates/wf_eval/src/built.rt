@@ -31,7 +31,8 @@ fn is_call_built(i: &Instr) -> bool
     }
 }
 
-fn is_built(f: Func) -> bool
+/// Whether the function is built.
+pub fn is_built(f: Func) -> bool
     ensures { result ≡ is_built f }
 {
     match f {

@@ -38,7 +38,7 @@ use Rattle.wf_model.specs.Kinds.{ByCall, by_clock, next_kind}
 use Rattle.wf_model.specs.Move.{move}
 use Rattle.wf_model.specs.Step.{counted, next, read_at, when}
 use Rattle.wf_model.specs.Taken.{by_itself}
-use Rattle.wf_steps.specs.Built.{AreNamed, Tells, is_table_built}
+use Rattle.wf_steps.specs.Built.{Tells, is_table_built}
 use Rattle.wf_nodes.proofs.Told.{resolves}
 use Rattle.wf_moves.specs.Going.{Going}
 use Rattle.wf_moves.proofs.Going.{is_going}
@@ -87,12 +87,8 @@ module _ (m : Machine) (t : Task) (is : m.task ≡ Some t) where
   pub plain : ArePlain K
   plain = are_plain (spots P.flows) (inner t.frames)
 
-  -- its calls name workflows
-  pub named : AreNamed P.flows (nodes_of m.program)
-  named = λ i x f at is. (m.aims i x f at is).0
-
   pub has_move : Moves P.flows K
-  has_move = moves P.flows (spots P.flows) (nodes_of m.program) (tells_of m.program m.built) named (inner t.frames) standing.0.fit standing.1
+  has_move = moves P.flows (spots P.flows) (nodes_of m.program) m.targets.items (tells_of m.program m.built) m.aims (inner t.frames) standing.0.fit standing.1
 
   pub stands_now : Stands (around P) (nodes_of m.program) t.frames m.scopes
   stands_now = stands (around P) (nodes_of m.program) t.frames m.scopes standing.0

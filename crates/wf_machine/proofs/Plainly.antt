@@ -11,7 +11,9 @@ use Rattle.wf_frames.specs.declared.frames.Frame.TheVariants as frame
 use Rattle.wf_model.specs.Config.{Do, Entries}
 use Rattle.wf_steps.proofs.Advancing.{entries_next, from_next, step_within}
 use Rattle.wf_steps.proofs.Parts.{entries_is, list_is, never_parallel, part_is}
-use Rattle.wf_steps.specs.Built.{AreNamed, Tells}
+use Rattle.wf_machine.proofs.Calls.{plain_target}
+use Rattle.wf_steps.specs.Built.{AreTargets, Tells}
+use Rattle.wf_steps.specs.declared.target.Target.{Target}
 use Rattle.wf_moves.specs.Going.{GoesOn, Going}
 use Rattle.wf_nodes.specs.Kinds.{Listed, kind_by}
 use Rattle.wf_nodes.specs.Spots.{Spot, from, part_at, part_body, part_list}
@@ -32,7 +34,7 @@ are_plain ns (frame.Try n r d ∷ fs) = are_plain ns fs
 are_plain ns (frame.Mark number ∷ fs) = are_plain ns fs
 are_plain ns (frame.Back c number ∷ fs) = are_plain ns fs
 
-module _ (flows : List Flow) (ns : List Spot) (nodes : List Node) (tells : Tells ns nodes) (named : AreNamed flows nodes) where
+module _ (flows : List Flow) (ns : List Spot) (nodes : List Node) (targets : List Target) (tells : Tells ns nodes) (aims : AreTargets flows ns nodes targets) where
   -- the node of a number below the length
   there : (n : ℕ) (xs : List Node) → n < length xs → (x : Node) × (slice_get xs n ≡ Some x)
   there n [] lt = absurd (omega (arith, lt))
@@ -41,7 +43,7 @@ module _ (flows : List Flow) (ns : List Spot) (nodes : List Node) (tells : Tells
 
   -- the body of a node of a form that is built
   plain_kind : (n : ℕ) (x : Node) (k : NodeKind) → slice_get nodes n ≡ Some x → x.kind ≡ k → is_plain_body flows (part_body (part_by ns x.name x.next (kind_by x.codes.items.items k))) ≡ true
-  plain_kind n x (kind.Call f) at is = named n x f at is
+  plain_kind n x (kind.Call f) at is = plain_target flows ns (slice_get targets n) f.name (aims n x f at is)
   plain_kind n x (kind.Try t) at is = refl
   plain_kind n x (kind.Parallel p) at is = absurd (never_parallel nodes n x p tells.built at is)
   plain_kind n x (kind.Flow f) at is = refl

@@ -2,9 +2,12 @@
 --     around        what stands around it
 --     config_of     the configuration
 --     IsStanding    its frames and layers fit the program's table, and it has something to do
-use Rattle.std.specs.Prelude.{◌≡◌, ℕ, List, [], ◌∷◌, None, Some, Option}
-use Rattle.std.specs.Coded.{Coded-set, coded_bool, ×_prop, Unit-prop, Π_prop, →_prop}
-use Rattle.wf_ast.specs.Tree.{Program}
+use Rattle.std.specs.Prelude.{◌≡◌, ℕ, true, false, List, [], ◌∷◌, None, Some, Option, is_some, option_map}
+use Rattle.std.specs.Coded.{Coded-set, codes, coded_bool, ×_prop, Unit-prop, Π_prop, →_prop}
+use Rattle.wf_ast.specs.Flows.{flow}
+use Rattle.wf_ast.specs.Func.{func_named}
+use Rattle.wf_ast.specs.Tree.{Flow, Program}
+use Rattle.wf_eval.specs.Built.{is_built}
 use Rattle.wf_frames.specs.Frames.{inner}
 use Rattle.wf_frames.specs.Owned.{Around, control_of, local_of, own_of}
 use Rattle.wf_frames.specs.Standing.{Standing, Standing-prop}
@@ -21,27 +24,49 @@ use Rattle.wf_moves.specs.declared.finish.End.TheVariants as end
 use Rattle.wf_moves.specs.declared.task.Move.{Move}
 use Rattle.wf_moves.specs.declared.task.Move.TheVariants as move
 use Rattle.wf_value.specs.Data.{Data}
+use Rattle.wf_value.specs.Pairs.{Text}
 use Rattle.wf_value.specs.Plain.{plain}
 use Rattle.wf_moves.specs.Going.{Going, Going-prop}
 use Rattle.wf_moves.specs.declared.task.Task.{Task}
 use Rattle.wf_nodes.specs.Sets.{Part-set}
-use Rattle.wf_nodes.specs.Spots.{spots}
+use Rattle.wf_library.specs.declared.functions.Function.{Function}
+use Rattle.wf_nodes.specs.Spots.{Spot, part_at, spots}
 use Rattle.wf_nodes.specs.declared.node.Node.{Node}
 use Rattle.wf_scope.specs.Store.{layers_of}
 use Rattle.wf_scope.specs.Tasks.{own_layers}
 use Rattle.wf_scope.specs.declared.scopes.Scopes.{Scopes}
-use Rattle.wf_steps.specs.Built.{AreTargets}
+use Rattle.wf_steps.specs.Built.{AreTargets, IsFunction, IsTarget, IsWorkflow, flow_part, function_parts, listed}
+use Rattle.wf_steps.specs.declared.target.Target.{Target}
+use Rattle.wf_steps.specs.declared.target.Target.TheVariants as target
 
 -- the workflows of its program and their parts, no layer outside, and the limit of the first rules
 abbrev pub around : Program → Around
 around p = record { flows = p.flows; spots = spots p.flows; keys = []; limit = (limits 1).variables; others = 0 }
 
--- each call names a workflow, whose number stands at the call's own
-abbrev pub Aims : Program → List Node → List ℕ → Type 0
+-- what each call names stands at the call's own number
+abbrev pub Aims : Program → List Node → List Target → Type 0
 Aims p nodes targets = AreTargets p.flows (spots p.flows) nodes targets
 
-pub Aims-prop : (p : Program) (nodes : List Node) (targets : List ℕ) → IsProp (Aims p nodes targets)
-Aims-prop p nodes targets = Π_prop (λ i. Π_prop (λ x. Π_prop (λ f. →_prop (→_prop (×_prop (Coded-set coded_bool _ _) (Part-set _ _))))))
+IsWorkflow-prop : (fs : List Flow) (ns : List Spot) (n : ℕ) (x : Text) → IsProp (IsWorkflow fs ns n x)
+IsWorkflow-prop fs ns n x = λ g h i. record {
+  named = Coded-set coded_bool (is_some (flow fs x)) true g.named h.named i;
+  part = Part-set (part_at ns n) (flow_part (flow fs x)) g.part h.part i;
+}
+
+IsFunction-prop : (fs : List Flow) (f : Function) (x : Text) → IsProp (IsFunction fs f x)
+IsFunction-prop fs f x = λ g h i. record {
+  free = Coded-set coded_bool (is_some (flow fs x)) false g.free h.free i;
+  named = Coded-set (hlevel codes) (option_map listed (func_named x)) (Some (function_parts f)) g.named h.named i;
+  built = Coded-set coded_bool (is_built f.func) true g.built h.built i;
+}
+
+IsTarget-prop : (fs : List Flow) (ns : List Spot) (o : Option Target) (x : Text) → IsProp (IsTarget fs ns o x)
+IsTarget-prop fs ns None x = λ g h. absurd g
+IsTarget-prop fs ns (Some (target.Flow n)) x = IsWorkflow-prop fs ns n x
+IsTarget-prop fs ns (Some (target.Function f)) x = IsFunction-prop fs f x
+
+pub Aims-prop : (p : Program) (nodes : List Node) (targets : List Target) → IsProp (Aims p nodes targets)
+Aims-prop p nodes targets = Π_prop (λ i. Π_prop (λ x. Π_prop (λ f. →_prop (→_prop (IsTarget-prop _ _ _ _)))))
 
 -- ## The configuration
 abbrev pub task_view : Program → Task → Scopes → model.Task

@@ -83,7 +83,7 @@ pub struct Machine {
     alloc: Global,
     program: Checked,
     /// The number of the workflow that a call names, at the call's own number.
-    targets: Vec<u32>,
+    targets: Vec<Target>,
     facts: Facts,
     last: u64,
     /// `main`, until it has ended.
@@ -315,7 +315,7 @@ impl Machine {
         ensures { next_kind (state_of self.now).program (control_by self.now task.now)
             ≡ by_clock result }
     {
-        match kind_of(&self.program, task) {
+        match kind_of(&self.program, self.targets.as_slice(), task) {
             Kind::Plain => false,
             Kind::Clock => true,
             Kind::Call => unreachable!(),

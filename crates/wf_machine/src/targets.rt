@@ -1,19 +1,28 @@
-// The workflows that calls name.
-ghost use Rattle.std.specs.Prelude.{◌≡◌, IfOk, IfSome, Some};
+// What calls name.
+ghost use Rattle.std.specs.Prelude.{◌≡◌, IfOk, IfSome, None, Some, false, is_some, option_map, true};
+ghost use Rattle.wf_ast.specs.Flows.{flow};
+ghost use Rattle.wf_ast.specs.Func.{func_named};
 ghost use Rattle.wf_check.specs.Seen.{nodes_of, program_of};
+ghost use Rattle.wf_eval.specs.Built.{is_built};
 ghost use Rattle.wf_machine.specs.Main.{Aims};
 ghost use Rattle.wf_nodes.specs.Spots.{spots};
 ghost use Rattle.wf_nodes.specs.declared.node.CallNode as call_node;
 ghost use Rattle.wf_nodes.specs.declared.node.NodeKind.TheVariants as kind;
-ghost use Rattle.wf_steps.specs.Built.{IsTarget};
+ghost use Rattle.wf_steps.specs.Built.{IsTarget, IsWorkflow, function_parts, listed};
 
 use std::alloc::Global;
 use wf_check::Checked;
+use wf_eval::is_built;
+use wf_library::{Function, function_named};
 use wf_nodes::{Node, NodeKind};
+use wf_steps::Target;
 use wf_value::OutOfMemory;
 
-/// The number of the workflow that each call names, at the call's own number; none where a call names no workflow.
-pub(crate) fn targets_of(alloc: Global, program: &Checked) -> Result<Option<Vec<u32>>, OutOfMemory>
+/// What each call names, at the call's own number; none where a call names neither a workflow nor a function that is built.
+pub(crate) fn targets_of(
+    alloc: Global,
+    program: &Checked,
+) -> Result<Option<Vec<Target>>, OutOfMemory>
     ensures { IfOk result (λ o. IfSome o (λ v. Aims (program_of program.now) (nodes_of program.now)
         v.items)) }
 {
@@ -29,26 +38,52 @@ pub(crate) fn targets_of(alloc: Global, program: &Checked) -> Result<Option<Vec<
     Ok(Some(targets))
 }
 
-// The number of the workflow that a node calls; 0 of a node that calls none.
-fn target(program: &Checked, node: &Node) -> Option<u32>
-    ensures { IfSome result (λ n. (f : call_node.CallNode) → node.now.kind ≡ kind.Call f
-        → IsTarget (program_of program.now).flows (spots (program_of program.now).flows) (Some n)
+// What a node calls; workflow 0 of a node that calls nothing.
+fn target(program: &Checked, node: &Node) -> Option<Target>
+    ensures { IfSome result (λ t. (f : call_node.CallNode) → node.now.kind ≡ kind.Call f
+        → IsTarget (program_of program.now).flows (spots (program_of program.now).flows) (Some t)
         f.name) }
 {
     match &node.kind {
-        NodeKind::Call(call) => flow(program, call.name.as_str()),
-        _ => Some(0),
+        NodeKind::Call(call) => named(program, call.name.as_str()),
+        _ => Some(Target::Flow(0)),
+    }
+}
+
+// What may be called by a name: the workflow of that name, and where there is none a function.
+fn named(program: &Checked, name: &str) -> Option<Target>
+    ensures { IfSome result (λ t. IsTarget (program_of program.now).flows
+        (spots (program_of program.now).flows) (Some t) name.now) }
+{
+    match flow(program, name) {
+        Some(flow) => Some(Target::Flow(flow)),
+        None => Some(Target::Function(function(name)?)),
     }
 }
 
 // The number of the workflow of a name that may be called: `main` may not.
 fn flow(program: &Checked, name: &str) -> Option<u32>
-    ensures { IfSome result (λ n. IsTarget (program_of program.now).flows
-        (spots (program_of program.now).flows) (Some n) name.now) }
+    ensures workflow { IfSome result (λ n. IsWorkflow (program_of program.now).flows
+        (spots (program_of program.now).flows) n name.now) }
+    ensures none { result ≡ None → is_some (flow (program_of program.now).flows name.now) ≡ false }
 {
     if name == "main" {
         None
     } else {
         program.flow(name)
+    }
+}
+
+// The function of a name, if it is built.
+fn function(name: &str) -> Option<Function>
+    ensures named { IfSome result (λ g. option_map listed (func_named name.now)
+        ≡ Some (function_parts g)) }
+    ensures built { IfSome result (λ g. is_built g.func ≡ true) }
+{
+    let function = function_named(name)?;
+    if is_built(function.func) {
+        Some(function)
+    } else {
+        None
     }
 }

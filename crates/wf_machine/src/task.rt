@@ -13,7 +13,7 @@ ghost use Rattle.wf_model.specs.Kinds.{next_kind};
 ghost use Rattle.wf_model.specs.Local.{Scene};
 ghost use Rattle.wf_model.specs.Move.{move};
 ghost use Rattle.wf_model.specs.Run.{main_vars};
-ghost use Rattle.wf_steps.specs.Built.{AreNamed, Tells};
+ghost use Rattle.wf_steps.specs.Built.{AreTargets, Tells};
 ghost use Rattle.wf_steps.specs.Kinds.{kind_view};
 ghost use Rattle.wf_moves.specs.Moved.{IsGoing, IsLeft};
 ghost use Rattle.wf_moves.specs.Tasks.{IsFirst, MovesSo, went_of};
@@ -25,7 +25,7 @@ use wf_check::Checked;
 use wf_frames::Facts as StepFacts;
 use wf_moves::{Move, Task};
 use wf_scope::Scopes;
-use wf_steps::Kind;
+use wf_steps::{Kind, Target};
 use wf_value::{OutOfMemory, Value};
 
 /// `main` before its first step, with its parameter bound to the argument if it has one; or none where it has no steps. An argument past
@@ -54,20 +54,21 @@ pub(crate) fn first_task(
 }
 
 /// Which event `main`'s next move wants.
-pub(crate) fn kind_of(program: &Checked, task: &Task) -> Kind
+pub(crate) fn kind_of(program: &Checked, targets: &[Target], task: &Task) -> Kind
     ghost plain: { Program }
     requires tells { Tells (spots plain.flows) (nodes_of program.now) }
     requires fits { Fits (spots plain.flows) (nodes_of program.now) (inner task.now.frames) }
-    ensures { (p : Program) → AreNamed p.flows (nodes_of program.now) → kind_view result
-        ≡ next_kind p (control_of (around plain) task.now.frames) }
+    ensures { (p : Program)
+        → AreTargets p.flows (spots plain.flows) (nodes_of program.now) targets.now
+        → kind_view result ≡ next_kind p (control_of (around plain) task.now.frames) }
 {
-    task.next_kind(program.nodes())
+    task.next_kind(program.nodes(), targets)
 }
 
 /// `main`'s next move. Without memory the task and the layers are only to be let go.
 pub(crate) fn advance(
     program: &Checked,
-    targets: &[u32],
+    targets: &[Target],
     task: &mut Task,
     scopes: &mut Scopes,
     facts: &StepFacts,

@@ -37,7 +37,7 @@ use Rattle.wf_model.specs.Unwind.{calls_in}
 use Rattle.wf_moves.specs.Moved.{IsMove}
 use Rattle.wf_moves.specs.declared.finish.Went.{Went}
 use Rattle.wf_nodes.specs.Spots.{FlowAt, Part, Spot, owners_at, part_at, part_list, spot_part}
-use Rattle.wf_steps.specs.Built.{IsTarget, flow_part, target_part}
+use Rattle.wf_steps.specs.Built.{IsWorkflow, flow_part}
 use Rattle.wf_value.specs.Data.{Data, Pairs, pairs_of}
 use Rattle.wf_value.specs.Errors.{error_map}
 use Rattle.wf_value.specs.declared.Tag.TheVariants.{RecursionError, ResourceLimitError}
@@ -72,22 +72,6 @@ given_none (y ∷ xs) (suc n) x args at e = by (value_for y args) (given_none xs
     by : (o : Option Data) → given xs args ≡ None → ◌≡◌ {A = Option (List (Text × Data))} (elim o [ None ↦ None | Some w ↦ option_map (λ ys. (y.name, w) ∷ ys) (given xs args) ]) None
     by None later = refl
     by (Some w) later = ap (option_map (λ ys. (y.name, w) ∷ ys)) later
-
--- ## The workflow of a call
-pub record Called (fs : List Flow) (ns : List Spot) (target : Option ℕ) (x : Text) : Type 0 where
-  pub number : ℕ
-  pub workflow : Flow
-  pub at : target ≡ Some number
-  pub named : flow fs x ≡ Some workflow
-  pub part : part_at ns number ≡ FlowAt workflow
-
-pub called : (fs : List Flow) (ns : List Spot) (target : Option ℕ) (x : Text) → IsTarget fs ns target x → Called fs ns target x
-called fs ns target x h = by target (flow fs x) refl refl h.0 h.1
-  where
-    by : (t : Option ℕ) (o : Option Flow) → target ≡ t → flow fs x ≡ o → is_some o ≡ true → target_part ns t ≡ flow_part o → Called fs ns target x
-    by t None p e s q = absurd (cc s)
-    by None (Some f) p e s q = absurd (cc q)
-    by (Some n) (Some f) p e s q = record { number = n; workflow = f; at = p; named = e; part = q }
 
 module _ (s : Scene) (r : Option Text) (x : Text) (args : Pairs) (f : Flow) (k : List Item) (l : Local) (w : Went) (m : Local) (named : flow s.program.flows x ≡ Some f) where
   by_flow : (o : Option (List (Text × Data))) → bindings f.params args ≡ o → IsMove (calls_with s f r o k l) w m → IsMove (calls_named s r (flow s.program.flows x) x args k l) w m
@@ -171,11 +155,12 @@ pub record Begun (fs : List Flow) (ns : List Spot) (nodes : List Node) (number :
   pub part : part_at ns number ≡ FlowAt workflow
   pub is : IsFlow nodes number
 
-pub begun : (fs : List Flow) (ns : List Spot) (nodes : List Node) (targets : List ℕ) (n : ℕ) (x : Text) → Resolves ns nodes → IsTarget fs ns (slice_get targets n) x → Begun fs ns nodes (get_or targets n 0) x
-begun fs ns nodes targets n x r h =
-    let t = called fs ns (slice_get targets n) x h in
-    let here : part_at ns (get_or targets n 0) ≡ FlowAt t.workflow = ap (part_at ns) (get_or_from_slice_get targets n t.number 0 t.at) ∙ t.part in
-    record { workflow = t.workflow; named = t.named; part = here; is = flow_there ns nodes (get_or targets n 0) t.workflow r here }
+pub begun : (fs : List Flow) (ns : List Spot) (nodes : List Node) (n : ℕ) (x : Text) → Resolves ns nodes → IsWorkflow fs ns n x → Begun fs ns nodes n x
+begun fs ns nodes n x r h = by (flow fs x) refl h.named h.part
+  where
+    by : (o : Option Flow) → flow fs x ≡ o → is_some o ≡ true → part_at ns n ≡ flow_part o → Begun fs ns nodes n x
+    by None e s p = absurd (cc s)
+    by (Some f) e s p = record { workflow = f; named = e; part = p; is = flow_there ns nodes n f r p }
 
 -- ## The node of a call
 pub call_within : (nodes : List Node) (n : ℕ) → (f : CallNode) × IsCall nodes n f → n < length nodes

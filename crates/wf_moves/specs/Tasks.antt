@@ -1,9 +1,10 @@
 -- Tasks: their start and their moves.
 --     begun       a task before a workflow, with its argument
 --     argued      a layer with the argument in it
+--     Names       a node is a call of such a name
 use Rattle.std.specs.Prelude.{◌≡◌, ℕ, Bool, true, false, List, [], ◌∷◌, Some}
 use Rattle.wf_ast.specs.Tree.{Flow, Param, no_steps}
-use Rattle.wf_frames.specs.Fits.{view_at}
+use Rattle.wf_frames.specs.Fits.{IsCall, view_at}
 use Rattle.wf_frames.specs.Owned.{Around}
 use Rattle.wf_frames.specs.declared.frames.Frame.{Frame}
 use Rattle.wf_model.specs.Config.{Awake, Do}
@@ -17,12 +18,14 @@ use Rattle.wf_moves.specs.declared.task.Move.TheVariants as move
 use Rattle.wf_nodes.specs.Kinds as kind
 use Rattle.wf_nodes.specs.Kinds.{Listed, View}
 use Rattle.wf_nodes.specs.Spots.{FlowAt, Part, part_list}
+use Rattle.wf_nodes.specs.declared.node.CallNode.{CallNode}
 use Rattle.wf_nodes.specs.declared.node.Node.{Node}
 use Rattle.wf_scope.specs.Layers.{put_at}
 use Rattle.wf_scope.specs.Store.{layers_of}
 use Rattle.wf_scope.specs.declared.layer.Layer.{Layer}
 use Rattle.wf_scope.specs.declared.scopes.Scopes.{Scopes}
 use Rattle.wf_value.specs.Data.{Data}
+use Rattle.wf_value.specs.Pairs.{Text}
 
 -- ## The start
 -- the node is a workflow
@@ -67,6 +70,11 @@ first p v = settle (Do (part_list p) (part_list p) ∷ []) (begun (part_params p
 abbrev pub argued : ℕ → List Param → Data → List Layer → List Layer
 argued n [] v ls = ls
 argued n (x ∷ xs) v ls = put_at n x.name v ls
+
+-- ## Calls
+-- the node is a call, and its name is such a one
+abbrev pub Names : List Node → ℕ → (Text → Type 0) → Type 0
+Names nodes n P = (f : CallNode) × IsCall nodes n f × P f.name
 
 -- ## Moves
 -- no frame is left

@@ -80,8 +80,8 @@ pub(crate) fn store(
     }
 }
 
-// The error of an evaluation goes outward.
-fn fails(
+/// The error of an evaluation goes outward.
+pub(crate) fn fails(
     alloc: Global,
     nodes: &[Node],
     raise: Raise,

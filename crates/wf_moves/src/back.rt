@@ -75,8 +75,8 @@ fn result_of(nodes: &[Node], call: Option<u32>) -> Option<&Text>
     }
 }
 
-// A value goes into the variable that the call names.
-fn give(
+/// A value goes into the variable that the call names.
+pub(crate) fn give(
     alloc: Global,
     nodes: &[Node],
     call: Option<u32>,

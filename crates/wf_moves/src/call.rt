@@ -1,4 +1,4 @@
-// Calls of workflows.
+// Calls of workflows and functions.
 ghost use Rattle.std.specs.Prelude.{◌≡◌, IfOk, List, OnOk, Some, map, option_map};
 ghost use Rattle.wf_ast.specs.View.{param_view};
 ghost use Rattle.wf_frames.specs.Fits.{IsCall};
@@ -7,23 +7,28 @@ ghost use Rattle.wf_frames.specs.Frames.{body_result, inner};
 ghost use Rattle.wf_frames.specs.Owned.{Around, control_of, held_by};
 ghost use Rattle.wf_frames.specs.Stands.{Stands};
 ghost use Rattle.wf_model.specs.Calls as calls;
-ghost use Rattle.wf_moves.specs.Moved.{IsLeft, MovesBy};
-ghost use Rattle.wf_moves.specs.Tasks.{IsFlow, flow_at};
+ghost use Rattle.wf_moves.specs.Moved.{IsLeft, MovesBy, SeesBy};
+ghost use Rattle.wf_moves.specs.Tasks.{IsFlow, Names, flow_at};
 ghost use Rattle.wf_nodes.specs.Spots.{part_at, part_body};
 ghost use Rattle.wf_nodes.specs.declared.node.CallNode as call_node;
-ghost use Rattle.wf_steps.specs.Built.{AreTargets, Tells};
+ghost use Rattle.wf_steps.specs.Built.{AreTargets, IsFunction, IsWorkflow, Tells};
 ghost use Rattle.wf_steps.specs.Steps.{calls_by};
 ghost use Rattle.wf_value.specs.Data.{pairs_of};
 ghost use Rattle.wf_value.specs.Plain.{plain};
 
+use crate::assign::fails;
+use crate::back::give;
 use crate::finish::{Went, goes};
 use crate::start::params;
 use crate::unwind::raises_tag;
 use std::alloc::Global;
 use wf_ast::Param;
-use wf_frames::{Bindings, Frame, Frames, enter_call};
+use wf_frames::{Bindings, Facts, Frame, Frames, enter_call};
+use wf_library::Function;
 use wf_nodes::Node;
 use wf_scope::Scopes;
+use wf_shapes::call_function;
+use wf_steps::Target;
 use wf_value::{Map, OutOfMemory, Tag, Value};
 
 /// How many calls of workflows may stand in each other.
@@ -98,21 +103,20 @@ fn begin(
     }
 }
 
-/// The call of a step, with its arguments. `targets` has the number of the workflow at the call's own.
-pub(crate) fn call(
+// The call of a workflow, with its arguments by their names. Where they don't fit its parameters nothing is done.
+fn call_flow(
     alloc: Global,
     nodes: &[Node],
-    targets: &[u32],
     n: u32,
+    flow: u32,
     args: &Map,
     frames: &mut Frames,
     scopes: &mut Scopes,
 ) -> Result<Went, OutOfMemory>
     ghost around: { Around }
     requires tells { Tells around.spots nodes.now }
-    requires targets { AreTargets around.flows around.spots nodes.now targets.now }
     requires stands { Stands around nodes.now frames.old scopes.old }
-    requires call { (f : call_node.CallNode) × IsCall nodes.now n f }
+    requires names { Names nodes.now n (IsWorkflow around.flows around.spots flow) }
     ensures moved { IfOk result (λ w. MovesBy around
         (λ s l. calls_by s (part_body (part_at around.spots n)) (pairs_of args.now)
         (control_of around frames.old) l)
@@ -120,9 +124,67 @@ pub(crate) fn call(
     ensures stands { OnOk result (Stands around nodes.now frames.new scopes.new) }
     ensures left { IfOk result (λ w. IsLeft nodes.now w (inner frames.new)) }
 {
-    let flow = targets[n as usize];
     match bindings(alloc, params(nodes, flow), args)? {
         Some(bindings) => begin(alloc, nodes, n, flow, bindings, frames, scopes),
         None => Ok(goes(frames, nodes, scopes)),
+    }
+}
+
+// The call of a function, with its arguments by their names: its answer goes into the call's result.
+fn evaluates(
+    alloc: Global,
+    nodes: &[Node],
+    n: u32,
+    function: &Function,
+    args: &Map,
+    frames: &mut Frames,
+    scopes: &mut Scopes,
+    facts: &Facts,
+) -> Result<Went, OutOfMemory>
+    ghost around: { Around }
+    requires tells { Tells around.spots nodes.now }
+    requires stands { Stands around nodes.now frames.old scopes.old }
+    requires names { Names nodes.now n (IsFunction around.flows function.now) }
+    ensures moved { IfOk result (λ w. SeesBy around facts.entry.now
+        (λ s l. calls_by s (part_body (part_at around.spots n)) (pairs_of args.now)
+        (control_of around frames.old) l)
+        (held_by around frames.old scopes.old) w frames.new scopes.new) }
+    ensures stands { OnOk result (Stands around nodes.now frames.new scopes.new) }
+    ensures left { IfOk result (λ w. IsLeft nodes.now w (inner frames.new)) }
+{
+    match call_function(alloc, function, args, facts.now) {
+        Ok(value) => give(alloc, nodes, Some(n), value, frames, scopes),
+        Err(raise) => fails(alloc, nodes, raise, frames, scopes),
+    }
+}
+
+/// The call of a step, with its arguments. `targets` has what the call names at the call's own number.
+pub(crate) fn call(
+    alloc: Global,
+    nodes: &[Node],
+    targets: &[Target],
+    n: u32,
+    args: &Map,
+    frames: &mut Frames,
+    scopes: &mut Scopes,
+    facts: &Facts,
+) -> Result<Went, OutOfMemory>
+    ghost around: { Around }
+    requires tells { Tells around.spots nodes.now }
+    requires targets { AreTargets around.flows around.spots nodes.now targets.now }
+    requires stands { Stands around nodes.now frames.old scopes.old }
+    requires call { (f : call_node.CallNode) × IsCall nodes.now n f }
+    ensures moved { IfOk result (λ w. SeesBy around facts.entry.now
+        (λ s l. calls_by s (part_body (part_at around.spots n)) (pairs_of args.now)
+        (control_of around frames.old) l)
+        (held_by around frames.old scopes.old) w frames.new scopes.new) }
+    ensures stands { OnOk result (Stands around nodes.now frames.new scopes.new) }
+    ensures left { IfOk result (λ w. IsLeft nodes.now w (inner frames.new)) }
+{
+    match &targets[n as usize] {
+        Target::Flow(flow) => call_flow(alloc, nodes, n, *flow, args, frames, scopes),
+        Target::Function(function) => {
+            evaluates(alloc, nodes, n, function, args, frames, scopes, facts)
+        }
     }
 }

@@ -19,14 +19,14 @@ use std::alloc::Global;
 use wf_frames::{Facts, Frame, Frames, seen};
 use wf_nodes::Node;
 use wf_scope::Scopes;
-use wf_steps::{Step, loop_node, step_of};
+use wf_steps::{Step, Target, loop_node, step_of};
 use wf_value::{OutOfMemory, Value};
 
 // What is left of a step, beside its frames.
 fn finish(
     alloc: Global,
     nodes: &[Node],
-    targets: &[u32],
+    targets: &[Target],
     step: Step,
     frames: &mut Frames,
     scopes: &mut Scopes,
@@ -49,7 +49,7 @@ fn finish(
         Step::Returns(value) => returns(alloc, nodes, frames, scopes, value),
         Step::Jumps(n) => jump(alloc, frames, nodes, scopes, n),
         Step::Assigns(n) => assign(alloc, nodes, n, frames, scopes, facts),
-        Step::Calls(n, args) => call(alloc, nodes, targets, n, &args, frames, scopes),
+        Step::Calls(n, args) => call(alloc, nodes, targets, n, &args, frames, scopes, facts),
     }
 }
 
@@ -67,7 +67,7 @@ fn is_at_back(frames: &Frames) -> bool
 pub(crate) fn advance(
     alloc: Global,
     nodes: &[Node],
-    targets: &[u32],
+    targets: &[Target],
     frames: &mut Frames,
     scopes: &mut Scopes,
     facts: &Facts,

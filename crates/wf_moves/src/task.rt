@@ -20,7 +20,7 @@ use std::alloc::Global;
 use wf_frames::{Facts, Frame, Frames};
 use wf_nodes::Node;
 use wf_scope::Scopes;
-use wf_steps::{Kind, frame_kind};
+use wf_steps::{Kind, Target, frame_kind};
 use wf_value::{OutOfMemory, Value};
 
 /// What a move has done.
@@ -42,7 +42,6 @@ pub struct Task {
 impl Task {
     ghost use Rattle.wf_ast.specs.Tree.{Program};
     ghost use Rattle.wf_model.specs.Kinds.{next_kind};
-    ghost use Rattle.wf_steps.specs.Built.{AreNamed};
     ghost use Rattle.wf_steps.specs.Kinds.{kind_view};
     ghost use Rattle.wf_moves.specs.Tasks.{IsFirst, IsFlow, MovesSo, first, has_ended, went_of};
 
@@ -82,26 +81,26 @@ impl Task {
         }
     }
 
-    /// Which event the next move wants.
-    pub fn next_kind(&self, nodes: &[Node]) -> Kind
+    /// Which event the next move wants. `targets` has what a call names at the call's own number.
+    pub fn next_kind(&self, nodes: &[Node], targets: &[Target]) -> Kind
         ghost around: { Around }
         requires tells { Tells around.spots nodes.now }
         requires fits { Fits around.spots nodes.now (inner self.now.frames) }
-        ensures { (p : Program) → AreNamed p.flows nodes.now
+        ensures { (p : Program) → AreTargets p.flows around.spots nodes.now targets.now
             → kind_view result ≡ next_kind p (control_of around self.now.frames) }
     {
         match self.frames.top() {
-            Some(frame) => frame_kind(nodes, frame),
+            Some(frame) => frame_kind(nodes, targets, frame),
             None => Kind::Plain,
         }
     }
 
-    /// The next move. `targets` has the number of the workflow that a call names at the call's own. Without memory the task and the layers
+    /// The next move. `targets` has what a call names at the call's own number. Without memory the task and the layers
     /// are left in any state, and are only to be let go.
     pub fn advance(
         &mut self,
         nodes: &[Node],
-        targets: &[u32],
+        targets: &[Target],
         scopes: &mut Scopes,
         facts: &Facts,
     ) -> Result<Move, OutOfMemory>

@@ -1,17 +1,23 @@
 -- Which event a frame's move wants.
 use Rattle.std.proofs.Common.{◌≡◌, ℕ, ◌≤◌, Bool, true, false, List, [], ◌∷◌, length, drop, Some, None, refl, ap, ◌∙◌, arith}
-use Rattle.std.specs.Prelude.{zero, suc, is_some, slice_get, Option}
+use Rattle.std.specs.Prelude.{zero, suc, ◌||◌, is_some, option_map, slice_get, Option}
 use Rattle.std.proofs.lemmas.Option.{get_or_from_slice_get, slice_get_within}
 use Rattle.wf_ast.specs.Flows.{flow}
+use Rattle.wf_ast.specs.Func.{Listing, func_named, special_named}
 use Rattle.wf_ast.specs.Tree.{Flow, Program}
+use Rattle.wf_ast.specs.declared.Func.{Func}
 use Rattle.wf_frames.specs.Fits.{entries_at, list_at}
 use Rattle.wf_frames.specs.Frames.{item}
 use Rattle.wf_frames.specs.declared.frames.Frame.TheVariants as frame
 use Rattle.wf_model.specs.Config.{Item, Do, Entries}
-use Rattle.wf_model.specs.Kinds.{Plainly, body_kind, by_clock, call_kind, entry_now, next_kind}
+use Rattle.wf_library.specs.declared.Function.{Function}
+use Rattle.wf_model.specs.Kinds.{Plainly, body_kind, by_clock, call_kind, entry_now, is_now, listed_kind, next_kind}
 use Rattle.wf_steps.proofs.Advancing.{entries_next, from_next}
 use Rattle.wf_steps.proofs.Lists.{drop_end, entries_long, from_end}
 use Rattle.wf_steps.proofs.Parts.{as_part, entries_is, list_is, part_is}
+use Rattle.wf_steps.specs.Built.{IsFunction, IsTarget, IsWorkflow, function_parts, listed}
+use Rattle.wf_steps.specs.declared.target.Target.{Target}
+use Rattle.wf_steps.specs.declared.target.Target.TheVariants as target
 use Rattle.wf_nodes.specs.Kinds.{Listed, entry_by, kind_by}
 use Rattle.wf_nodes.specs.Shapes.{Compiled}
 use Rattle.wf_nodes.specs.Spots.{Spot, entries_by, from, part_at, part_body, part_entry, part_list}
@@ -80,9 +86,27 @@ module _ (ns : List Spot) (nodes : List Node) (n : ℕ) (x : Node) (r : Resolves
 
 -- ## Calls
 -- a call of a workflow reads the clock where an argument does
-pub call_plain : (p : Program) (x : Text) (b : Bool) → is_some (flow p.flows x) ≡ true → call_kind (flow p.flows x) x b ≡ by_clock b
-call_plain p x b h = by (flow p.flows x) h
+pub flow_clock : (fs : List Flow) (ns : List Spot) (n : ℕ) (x : Text) (b : Bool) → IsWorkflow fs ns n x → call_kind (flow fs x) x b ≡ by_clock b
+flow_clock fs ns n x b h = by (flow fs x) h.named
   where
     by : (o : Option Flow) → is_some o ≡ true → call_kind o x b ≡ by_clock b
     by (Some w) t = refl
     by None t = absurd (cc t)
+
+-- and one of a function also where the function does
+pub function_clock : (fs : List Flow) (g : Function) (x : Text) (b : Bool) → IsFunction fs g x → call_kind (flow fs x) x b ≡ by_clock (is_now g.func || b)
+function_clock fs g x b h = by (flow fs x) h.free ∙ in_library (func_named x) h.named
+  where
+    by : (o : Option Flow) → is_some o ≡ false → call_kind o x b ≡ listed_kind (func_named x) (special_named x) b
+    by (Some w) t = absurd (cc t)
+    by None t = refl
+
+    in_library : (o : Option Listing) → option_map listed o ≡ Some (function_parts g) → listed_kind o (special_named x) b ≡ by_clock (is_now g.func || b)
+    in_library None e = absurd (cc e)
+    in_library (Some l) e = let same : listed l ≡ function_parts g = cc e in ap (λ (p : Func × (List Text × List Text)). by_clock (is_now p.0 || b)) same
+
+-- where another thing than a function is found
+pub other_clock : (fs : List Flow) (ns : List Spot) (o : Option Target) (x : Text) (b : Bool) → ((g : Function) → o ≡ Some (target.Function g) → ⊥) → IsTarget fs ns o x → call_kind (flow fs x) x b ≡ by_clock b
+other_clock fs ns None x b no h = absurd h
+other_clock fs ns (Some (target.Flow n)) x b no h = flow_clock fs ns n x b h
+other_clock fs ns (Some (target.Function g)) x b no h = absurd (no g refl)

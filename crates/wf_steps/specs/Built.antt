@@ -1,12 +1,16 @@
 -- Tables whose steps are built.
 --     is_table_built     none is parallel or retries, and none calls a function that isn't built
 --     Tells              such a table tells of a program's parts
---     AreTargets         the numbers of the workflows that its calls name
-use Rattle.std.specs.Prelude.{◌≡◌, ℕ, Bool, true, false, ◌&&◌, not, List, slice_get, is_none, is_some, Some, None, Option}
+--     AreTargets         what its calls name: workflows, and functions that are built
+use Rattle.std.specs.Prelude.{◌≡◌, ℕ, Bool, true, false, ◌&&◌, not, List, map, option_map, slice_get, is_none, is_some, Some, None, Option}
 use Rattle.std.specs.List.{list_all}
 use Rattle.wf_ast.specs.Flows.{flow}
+use Rattle.wf_ast.specs.Func.{Listing, func_named}
 use Rattle.wf_ast.specs.Tree.{Flow}
+use Rattle.wf_ast.specs.declared.Func.{Func}
+use Rattle.wf_eval.specs.Built.{is_built}
 use Rattle.wf_frames.specs.Fits.{has_next, view_at}
+use Rattle.wf_library.specs.declared.Function.{Function}
 use Rattle.wf_nodes.specs.Spots.{FlowAt, NoPart, Part, Spot, part_at, part_next}
 use Rattle.wf_nodes.specs.Table.{Resolves}
 use Rattle.wf_nodes.specs.declared.node.CallNode.{CallNode}
@@ -14,6 +18,8 @@ use Rattle.wf_nodes.specs.declared.node.Node.{Node}
 use Rattle.wf_nodes.specs.declared.node.NodeKind.{NodeKind}
 use Rattle.wf_nodes.specs.declared.node.NodeKind.TheVariants as kind
 use Rattle.wf_shapes.specs.Built.{are_built}
+use Rattle.wf_steps.specs.declared.target.Target.{Target}
+use Rattle.wf_steps.specs.declared.target.Target.TheVariants as target
 use Rattle.wf_value.specs.Pairs.{Text}
 
 -- ## Nodes
@@ -34,23 +40,36 @@ pub record Tells (ns : List Spot) (nodes : List Node) : Type 0 where
   pub nexts : (i : ℕ) (x : Node) → slice_get nodes i ≡ Some x → part_next (part_at ns i) ≡ x.next
   pub built : is_table_built nodes ≡ true
 
--- ## Workflows that are called
+-- ## What is called
+-- the part of a workflow
 abbrev pub flow_part : Option Flow → Part
 flow_part None = NoPart
 flow_part (Some f) = FlowAt f
 
-abbrev pub target_part : List Spot → Option ℕ → Part
-target_part ns None = NoPart
-target_part ns (Some n) = part_at ns n
+-- a function, and the names of its arguments: as the library has it, and as the code
+abbrev pub listed : Listing → Func × (List Text × List Text)
+listed e = (e.func, (e.signature.needs, e.signature.may))
+
+abbrev pub function_parts : Function → Func × (List Text × List Text)
+function_parts g = (g.func, (map (λ n. n.now) g.arguments.needs.now, map (λ n. n.now) g.arguments.may.now))
+
+-- no workflow that may be called has this name, but a function that is built
+pub record IsFunction (fs : List Flow) (g : Function) (x : Text) : Type 0 where
+  pub free : is_some (flow fs x) ≡ false
+  pub named : option_map listed (func_named x) ≡ Some (function_parts g)
+  pub built : is_built g.func ≡ true
 
 -- a workflow of this name may be called, and the number is that of its node
-abbrev pub IsTarget : List Flow → List Spot → Option ℕ → Text → Type 0
-IsTarget fs ns target x = (is_some (flow fs x) ≡ true) × (target_part ns target ≡ flow_part (flow fs x))
+pub record IsWorkflow (fs : List Flow) (ns : List Spot) (n : ℕ) (x : Text) : Type 0 where
+  pub named : is_some (flow fs x) ≡ true
+  pub part : part_at ns n ≡ flow_part (flow fs x)
 
--- each call names a workflow, whose number stands at the call's own
-abbrev pub AreTargets : List Flow → List Spot → List Node → List ℕ → Type 0
+-- a call of this name comes to this
+abbrev pub IsTarget : List Flow → List Spot → Option Target → Text → Type 0
+IsTarget fs ns None x = ⊥
+IsTarget fs ns (Some (target.Flow n)) x = IsWorkflow fs ns n x
+IsTarget fs ns (Some (target.Function g)) x = IsFunction fs g x
+
+-- what each call names stands at the call's own number
+abbrev pub AreTargets : List Flow → List Spot → List Node → List Target → Type 0
 AreTargets fs ns nodes targets = (i : ℕ) (x : Node) (f : CallNode) → slice_get nodes i ≡ Some x → x.kind ≡ kind.Call f → IsTarget fs ns (slice_get targets i) f.name
-
--- each call names a workflow
-abbrev pub AreNamed : List Flow → List Node → Type 0
-AreNamed fs nodes = (i : ℕ) (x : Node) (f : CallNode) → slice_get nodes i ≡ Some x → x.kind ≡ kind.Call f → is_some (flow fs f.name) ≡ true

@@ -1,18 +1,22 @@
 // Which event a move wants.
 ghost use Rattle.std.specs.Prelude.{◌≡◌, ◌<◌, ◌∷◌, ℕ, List, length, slice_get};
-ghost use Rattle.wf_ast.specs.Tree.{Body, Program};
+ghost use Rattle.wf_ast.specs.Flows.{flow};
+ghost use Rattle.wf_ast.specs.Tree.{Body, Flow, Program};
 ghost use Rattle.wf_frames.specs.Fits.{HasNode};
 ghost use Rattle.wf_frames.specs.Frames.{item};
 ghost use Rattle.wf_model.specs.Config.{Item};
-ghost use Rattle.wf_model.specs.Kinds.{arms_now, body_kind, by_clock, entry_now, next_kind, over_now, template_now};
-ghost use Rattle.wf_steps.specs.Built.{AreNamed, Tells};
+ghost use Rattle.wf_model.specs.Kinds.{arms_now, body_kind, by_clock, call_kind, entry_now, is_now, next_kind, over_now, template_now};
+ghost use Rattle.wf_steps.specs.Built.{AreTargets, IsTarget, Tells};
 ghost use Rattle.wf_steps.specs.Kinds.{kind_view};
 ghost use Rattle.wf_nodes.specs.Kinds.{entry_by, over_by};
 ghost use Rattle.wf_nodes.specs.Shapes.{shape_by};
 ghost use Rattle.wf_nodes.specs.Spots.{Spot, arms_by, entries_by, part_at, part_body, part_condition, part_entry};
 ghost use Rattle.wf_nodes.specs.Table.{AreBelow, ArmsStandIn};
+ghost use Rattle.wf_value.specs.Pairs.{Text};
 
 use crate::nodes::{block, entries, first_of};
+use crate::target::Target;
+use wf_ast::Func;
 use wf_frames::Frame;
 use wf_nodes::{EntryNode, Node, NodeKind, OverShape};
 use wf_postfix::Postfix;
@@ -107,12 +111,34 @@ fn first_kind(nodes: &[Node], numbers: &[u32]) -> Kind
     }
 }
 
+// Whether a function reads the clock.
+fn is_now(function: Func) -> bool
+    ensures { result ≡ is_now function }
+{
+    match function {
+        Func::SysNow => true,
+        _ => false,
+    }
+}
+
+// Of the call at a number, where an argument names the clock, or none does.
+fn call_kind(targets: &[Target], n: u32, clock: bool) -> Kind
+    ensures { (fs : List Flow) (ns : List Spot) (x : Text)
+        → IsTarget fs ns (slice_get targets.now n) x
+        → kind_view result ≡ call_kind (flow fs x) x clock }
+{
+    match targets.get(n as usize) {
+        Some(Target::Function(function)) => by_clock(is_now(function.func) || clock),
+        _ => by_clock(clock),
+    }
+}
+
 // Of the body of a node.
-fn node_kind(nodes: &[Node], n: u32) -> Kind
+fn node_kind(nodes: &[Node], targets: &[Target], n: u32) -> Kind
     ghost ns: { List Spot }
     requires tells { Tells ns nodes.now }
     requires within { n < length nodes.now }
-    ensures { (p : Program) → AreNamed p.flows nodes.now
+    ensures { (p : Program) → AreTargets p.flows ns nodes.now targets.now
         → kind_view result ≡ body_kind p (part_body (part_at ns n)) }
 {
     let node = &nodes[n as usize];
@@ -123,7 +149,7 @@ fn node_kind(nodes: &[Node], n: u32) -> Kind
         NodeKind::For(body) => by_clock(is_over(&body.over, codes)),
         NodeKind::Raise(shape) => by_clock(is_clock_in(shape, codes)),
         NodeKind::Return(shape) => by_clock(is_clock_in(shape, codes)),
-        NodeKind::Call(call) => by_clock(is_clock_named(&call.args, codes)),
+        NodeKind::Call(call) => call_kind(targets, n, is_clock_named(&call.args, codes)),
         NodeKind::Block(_) => Kind::Plain,
         NodeKind::Try(_) => Kind::Plain,
         NodeKind::Parallel(_) => unreachable!(),
@@ -142,20 +168,20 @@ fn number_at(numbers: &[u32], at: usize) -> Option<u32>
     }
 }
 
-/// Of the innermost frame.
-pub fn frame_kind(nodes: &[Node], frame: &Frame) -> Kind
+/// Of the innermost frame. `targets` has what a call names at the call's own number.
+pub fn frame_kind(nodes: &[Node], targets: &[Target], frame: &Frame) -> Kind
     ghost ns: { List Spot }
     requires tells { Tells ns nodes.now }
     requires node { HasNode nodes.now frame.now }
-    ensures { (p : Program) (k : List Item) → AreNamed p.flows nodes.now
+    ensures { (p : Program) (k : List Item) → AreTargets p.flows ns nodes.now targets.now
         → kind_view result ≡ next_kind p (item ns frame.now ∷ k) }
 {
     match frame {
         Frame::Do(list, at) => match number_at(block(nodes, *list).steps.as_slice(), *at) {
-            Some(n) => node_kind(nodes, n),
+            Some(n) => node_kind(nodes, targets, n),
             None => Kind::Plain,
         },
-        Frame::Lone(n, false) => node_kind(nodes, *n),
+        Frame::Lone(n, false) => node_kind(nodes, targets, *n),
         Frame::Entries(n, at) => match number_at(entries(nodes, *n), *at) {
             Some(entry) => by_clock(is_entry_at(nodes, entry)),
             None => Kind::Plain,

@@ -8,8 +8,10 @@ mod advance;
 mod kinds;
 mod nodes;
 mod step;
+mod target;
 
 pub use advance::step_of;
 pub use kinds::{Kind, frame_kind};
 pub use nodes::{are_built, block, entries, first_of, loop_node, try_node};
 pub use step::{Step, map_of};
+pub use target::Target;

@@ -1,10 +1,7 @@
 use Rattle.wf_moves.proofs.call.call.Given as goal
 
-abbrev pub ghost-params : goal.ghost-params
-ghost-params g a = g.around.spots
+abbrev pub ghost-call_flow : goal.ghost-call_flow
+ghost-call_flow g a = g.around
 
-abbrev pub ghost-begin : goal.ghost-begin
-ghost-begin g a = g.around
-
-abbrev pub ghost-goes : goal.ghost-goes
-ghost-goes g a = g.around
+abbrev pub ghost-evaluates : goal.ghost-evaluates
+ghost-evaluates g a = g.around

@@ -1,7 +1,8 @@
 use Rattle.std.proofs.Common.{length, ap, sym, subst, ◌∙◌}
 use Rattle.wf_ast.specs.Tree.{Body, fields}
-use Rattle.wf_model.specs.Kinds.{arms_now, body_kind, by_clock, fields_now, over_now, template_now}
-use Rattle.wf_steps.proofs.Clocked.{body_so, call_plain}
+use Rattle.wf_ast.specs.Flows.{flow}
+use Rattle.wf_model.specs.Kinds.{arms_now, body_kind, by_clock, call_kind, fields_now, over_now, template_now}
+use Rattle.wf_steps.proofs.Clocked.{body_so}
 use Rattle.wf_steps.proofs.Parts.{node_at}
 use Rattle.wf_steps.proofs.Performed.{default_body}
 use Rattle.wf_nodes.specs.Kinds.{kind_by, over_by}
@@ -84,8 +85,8 @@ pub returns-in-Call : goal.returns-in-Call
 returns-in-Call g c p named =
     let x = c.index-nodes-n.result in
     let there = node_at c.args.nodes.now c.args.n x c.requires.1 c.index-nodes-n.is in
-    c.by_clock-in-Call.ensures ∙ ap by_clock (c.is_clock_named.ensures ∙ ap (λ cs. fields_now (fields (fields_by cs c.in-Call.call.args))) c.items-codes.ensures)
-    ∙ sym (call_plain p c.in-Call.call.name (fields_now (fields (fields_by x.codes.items.items c.in-Call.call.args))) (named c.args.n x c.in-Call.call there c.in-Call.is))
+    c.call_kind.ensures p.flows g.ns c.in-Call.call.name (named c.args.n x c.in-Call.call there c.in-Call.is)
+    ∙ ap (call_kind (flow p.flows c.in-Call.call.name) c.in-Call.call.name) (c.is_clock_named.ensures ∙ ap (λ cs. fields_now (fields (fields_by cs c.in-Call.call.args))) c.items-codes.ensures)
     ∙ sym (body_so g.ns c.args.nodes.now c.args.n x c.requires.0.resolves there p (kind.Call c.in-Call.call) c.in-Call.is)
 
 pub returns-in-Try : goal.returns-in-Try

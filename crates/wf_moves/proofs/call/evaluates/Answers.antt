@@ -1,0 +1,1 @@
+use Rattle.wf_moves.proofs.call.evaluates.Goals as goal
