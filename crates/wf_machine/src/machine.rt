@@ -21,7 +21,7 @@ use wf_events::{Event, Start};
 use wf_moves::{End, Move, Task};
 use wf_never_wrong::never_wrong;
 use wf_scope::Scopes;
-use wf_steps::{Kind, are_built};
+use wf_steps::{Kind, Target, are_built};
 use wf_value::{OutOfMemory, Tag, Value, error_map};
 
 /// The counted event with this number isn't carried out: it ends the execution with a `ResourceLimitError`.

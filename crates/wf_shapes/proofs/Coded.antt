@@ -1,11 +1,10 @@
 -- Compiled expressions by their code.
-use Rattle.std.proofs.Common.{◌≡◌, ℕ, ◌+◌, ◌<◌, ◌≤◌, zero, suc, Bool, true, List, [], ◌∷◌, ◌++◌, Result, Ok, Err, Option, Some, None, refl, sym, ap, subst, ◌∙◌, length, get_or, drop, slice_get, add-one, drop-cons, map, arith}
-use Rattle.std.specs.List.{list_all}
+use Rattle.std.proofs.Common.{◌≡◌, ℕ, ◌+◌, ◌<◌, ◌≤◌, zero, suc, true, List, [], ◌∷◌, ◌++◌, Ok, Err, Some, refl, sym, ap, subst, ◌∙◌, length, get_or, drop, slice_get, add-one, drop-cons, map}
 use Rattle.std.proofs.lemmas.Bool.{and_parts}
-use Rattle.std.proofs.lemmas.List.{append-nil, drop_all, map-append}
+use Rattle.std.proofs.lemmas.List.{append-nil, drop_all}
 use Rattle.wf_ast.specs.Apply.{View}
 use Rattle.wf_ast.specs.Eval.{eval, eval_all}
-use Rattle.wf_ast.specs.Tree.{Expr, Exprs, exprs}
+use Rattle.wf_ast.specs.Tree.{Expr, exprs}
 use Rattle.wf_eval.specs.Answers.{Answers, Gives}
 use Rattle.wf_postfix.specs.Instrs.{instrs}
 use Rattle.wf_postfix.specs.Machine.{code}

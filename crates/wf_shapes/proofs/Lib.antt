@@ -1,3 +1,4 @@
+pub mod Called
 mod Coded
 mod Filled
 mod Timed

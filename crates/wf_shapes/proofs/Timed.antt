@@ -2,21 +2,17 @@
 use Rattle.std.proofs.Common.{◌≡◌, ℕ, ◌+◌, ◌<◌, ◌≤◌, Bool, true, false, ◌||◌, List, [], ◌∷◌, ◌++◌, length, drop, get_or, map, refl, sym, ap, ◌∙◌, suc, arith}
 use Rattle.std.proofs.Common as seq
 use Rattle.std.proofs.lemmas.List.{drop_all}
-use Rattle.wf_ast.specs.Tree as t
-use Rattle.wf_ast.specs.Tree.{Expr, Exprs, no_exprs, expr, exprs, templates, fields}
-use Rattle.wf_model.specs.Kinds.{expr_now, exprs_now, is_now, parts_now, template_now, templates_now, fields_now}
+use Rattle.wf_ast.specs.Tree.{Expr, Exprs, no_exprs, expr, templates, fields}
+use Rattle.wf_model.specs.Kinds.{expr_now, exprs_now, is_now, template_now, templates_now, fields_now}
 use Rattle.wf_postfix.specs.Instrs.{instr, instrs}
 use Rattle.wf_postfix.specs.Machine.{Instr, and_skip, call, check, code, all_code, combine, index, invert, many, member, negate, or_skip}
 use Rattle.wf_postfix.specs.declared.code.Instr as declared
 use Rattle.wf_shapes.proofs.Coded.{coded, next}
 use Rattle.wf_shapes.specs.Clocks.{any_now, call_now}
-use Rattle.wf_nodes.proofs.Decoding.{decoded_code}
 use Rattle.wf_nodes.proofs.Views.{view_list, view_map}
-use Rattle.wf_nodes.specs.Decoded.{decode}
-use Rattle.wf_nodes.specs.Shapes.{Compiled, decoded, named_by, named_list, piece_by, shape_by, shape_list}
+use Rattle.wf_nodes.specs.Shapes.{Compiled, decoded, named_by, named_list, shape_by, shape_list}
 use Rattle.wf_nodes.specs.declared.shape.NamedShape.{NamedShape}
 use Rattle.wf_nodes.specs.declared.shape.NamedShapes.{NamedShapes}
-use Rattle.wf_nodes.specs.declared.shape.Piece.{Piece}
 use Rattle.wf_nodes.specs.declared.shape.Shape.{Shape, Map}
 use Rattle.wf_nodes.specs.declared.shape.Shape.TheViews as shape
 use Rattle.wf_nodes.specs.declared.shape.Shapes.{Shapes}

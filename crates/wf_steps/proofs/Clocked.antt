@@ -10,7 +10,7 @@ use Rattle.wf_frames.specs.Fits.{entries_at, list_at}
 use Rattle.wf_frames.specs.Frames.{item}
 use Rattle.wf_frames.specs.declared.frames.Frame.TheVariants as frame
 use Rattle.wf_model.specs.Config.{Item, Do, Entries}
-use Rattle.wf_library.specs.declared.Function.{Function}
+use Rattle.wf_library.specs.declared.functions.Function.{Function}
 use Rattle.wf_model.specs.Kinds.{Plainly, body_kind, by_clock, call_kind, entry_now, is_now, listed_kind, next_kind}
 use Rattle.wf_steps.proofs.Advancing.{entries_next, from_next}
 use Rattle.wf_steps.proofs.Lists.{drop_end, entries_long, from_end}

@@ -10,7 +10,7 @@ use Rattle.wf_ast.specs.Tree.{Flow}
 use Rattle.wf_ast.specs.declared.Func.{Func}
 use Rattle.wf_eval.specs.Built.{is_built}
 use Rattle.wf_frames.specs.Fits.{has_next, view_at}
-use Rattle.wf_library.specs.declared.Function.{Function}
+use Rattle.wf_library.specs.declared.functions.Function.{Function}
 use Rattle.wf_nodes.specs.Spots.{FlowAt, NoPart, Part, Spot, part_at, part_next}
 use Rattle.wf_nodes.specs.Table.{Resolves}
 use Rattle.wf_nodes.specs.declared.node.CallNode.{CallNode}

@@ -1,4 +1,4 @@
-use Rattle.std.proofs.Common.{rules, ◌≡◌, sym, subst, map, List, Result, Err}
+use Rattle.std.proofs.Common.{rules, ◌≡◌, sym, subst, map, Result, Err}
 use Rattle.std.specs.Prelude.{Vec}
 use Rattle.std.specs.declared.alloc.Global.{Global}
 use Rattle.wf_ast.specs.Eval.{eval_all}

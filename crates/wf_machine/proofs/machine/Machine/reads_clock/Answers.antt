@@ -1,5 +1,7 @@
-use Rattle.wf_check.specs.Seen.{program_of}
-use Rattle.wf_machine.proofs.Places.{named, never_calls, stands_now, tells_of}
+use Rattle.std.proofs.Common.{sym, subst}
+use Rattle.wf_check.specs.Seen.{nodes_of, program_of}
+use Rattle.wf_machine.proofs.Places.{never_calls, stands_now, tells_of}
+use Rattle.wf_machine.specs.Main.{Aims}
 use Rattle.wf_machine.proofs.machine.Machine.reads_clock.Goals as goal
 
 pub kind_of-requires : goal.kind_of-requires
@@ -8,4 +10,6 @@ kind_of-requires c =
     (tells_of m.program m.built, (stands_now m c.args.task.now c.requires).fits)
 
 pub unreachable-requires : goal.unreachable-requires
-unreachable-requires c = never_calls c.args.self.now c.args.task.now c.requires (c.in-Call.ensures (program_of c.args.self.now.program) (named c.args.self.now c.args.task.now c.requires))
+unreachable-requires c =
+    let m = c.args.self.now in
+    never_calls m c.args.task.now c.requires (c.in-Call.ensures (program_of m.program) (subst (Aims (program_of m.program) (nodes_of m.program)) (sym c.as_slice.ensures.value) m.aims))
