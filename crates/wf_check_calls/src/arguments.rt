@@ -6,12 +6,12 @@ ghost use Rattle.wf_ast.specs.Tree.{field_names, fields};
 ghost use Rattle.wf_ast.specs.View.{field_view, param_view, params_view};
 ghost use Rattle.wf_symbols.specs.Around.{SameNames};
 ghost use Rattle.wf_symbols.specs.Names.{names_of};
-ghost use Rattle.wf_check_calls.specs.Signatures.{signature_of};
+ghost use Rattle.wf_library.specs.Functions.{signature_of};
 ghost use Rattle.wf_shared.specs.HttpRequest.{is_among};
 
-use crate::signature::ArgumentNames;
 use std::alloc::Global;
 use wf_ast::{Flow, NamedTemplate, Param};
+use wf_library::ArgumentNames;
 use wf_symbols::{Names, param_names};
 use wf_value::OutOfMemory;
 

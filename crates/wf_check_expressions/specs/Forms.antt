@@ -1,7 +1,8 @@
 -- The forms of the language that aren't built yet: one line a form, so that a line goes when its form comes.
 --     not_yet     where a node uses one of them
-use Rattle.std.specs.Prelude.{Bool, true, false, ◌&&◌, List, codes, Option, Some, None}
+use Rattle.std.specs.Prelude.{Bool, true, false, ◌&&◌, List, codes, Option, Some, None, if◌then◌else◌}
 use Rattle.wf_ast.specs.Flows.{flow}
+use Rattle.wf_ast.specs.Func.{Listing, func_named}
 use Rattle.wf_ast.specs.Nodes.{Path, NodePart, part_body, below}
 use Rattle.wf_ast.specs.Tree.{Expr, Exprs, no_exprs, expr, Body, Flow, try}
 use Rattle.wf_ast.specs.declared.expr.Func.{Func}
@@ -10,19 +11,7 @@ use Rattle.wf_check_expressions.specs.Expressions.{part_failing}
 use Rattle.wf_shared.specs.HttpUrl.{first_of_two}
 use Rattle.wf_value.specs.Pairs.{Text}
 
--- ## Steps
--- the key of a body whose form isn't built: a call of no workflow, what runs in parallel, a retry
-abbrev pub form_key : List Flow → Body → Option Text
-form_key fs (Body.Call f) = elim (flow fs f.name) [ None ↦ Some (codes "call") | Some g ↦ None ]
-form_key fs (Body.Parallel p) = Some (codes "parallel")
-form_key fs (Body.Try (try body (Some policy) x)) = Some (codes "retry")
-form_key fs body = None
-
--- such a body
-abbrev pub form : List Flow → Body → Path → Option Path
-form fs body path = elim (form_key fs body) [ None ↦ None | Some k ↦ Some (below path k) ]
-
--- ## Functions
+-- ## Functions that are built
 -- the function is built
 abbrev pub is_built : Func → Bool
 is_built func.Default = true
@@ -35,6 +24,24 @@ is_built func.If = true
 is_built func.SysNow = true
 is_built f = false
 
+-- ## Steps
+-- the key of a call that names no workflow, where its function isn't built
+abbrev pub uncalled : Option Listing → Option Text
+uncalled (Some e) = if is_built e.func then None else Some (codes "call")
+uncalled None = Some (codes "call")
+
+-- the key of a body whose form isn't built: a call of no workflow and of no function that is built, what runs in parallel, a retry
+abbrev pub form_key : List Flow → Body → Option Text
+form_key fs (Body.Call f) = elim (flow fs f.name) [ None ↦ uncalled (func_named f.name) | Some g ↦ None ]
+form_key fs (Body.Parallel p) = Some (codes "parallel")
+form_key fs (Body.Try (try body (Some policy) x)) = Some (codes "retry")
+form_key fs body = None
+
+-- such a body
+abbrev pub form : List Flow → Body → Path → Option Path
+form fs body path = elim (form_key fs body) [ None ↦ None | Some k ↦ Some (below path k) ]
+
+-- ## Functions in expressions
 -- the expression calls no other
 abbrev mutual
   pub is_expr_built : Expr → Bool

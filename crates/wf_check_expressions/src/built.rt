@@ -6,7 +6,8 @@ ghost use Rattle.wf_check_expressions.specs.Forms.{are_exprs_built, is_built, is
 
 use wf_ast::{Expr, Func};
 
-fn is_built(function: Func) -> bool
+// The function is built.
+pub(crate) fn is_built(function: Func) -> bool
     ensures { result ≡ is_built function }
 {
     match function {

@@ -1,5 +1,6 @@
 // The forms that aren't built yet: one line a form, so that it goes when its form comes.
 ghost use Rattle.std.specs.Prelude.{◌≡◌, map, option_map};
+ghost use Rattle.wf_ast.specs.Func.{func_named};
 ghost use Rattle.wf_ast.specs.Nodes.{part_body};
 ghost use Rattle.wf_ast.specs.View.{body_view, flow_view};
 ghost use Rattle.wf_diagnostics.specs.Answers.{Tells};
@@ -8,11 +9,23 @@ ghost use Rattle.wf_diagnostics.specs.Parts.{part_view};
 ghost use Rattle.wf_diagnostics.specs.Said.{as_said};
 ghost use Rattle.wf_diagnostics.specs.declared.kind.CheckKind.TheVariants as kinds;
 
+use crate::built::is_built;
 use crate::expressions::unbuilt;
 use std::alloc::Global;
 use wf_ast::{Body, Flow};
 use wf_check_calls::flow_named;
 use wf_diagnostics::{CheckKind, Part, Stop, speak_at};
+use wf_library::function_named;
+
+// The key of a call that names no workflow, where its function isn't built.
+fn uncalled(name: &str) -> Option<&'static str>
+    ensures { option_map (λ k. k.now) result ≡ forms.uncalled (func_named name.now) }
+{
+    match function_named(name) {
+        Some(function) if is_built(function.func) => None,
+        _ => Some("call"),
+    }
+}
 
 // The key of a body whose form isn't built.
 fn form_key(flows: &[Flow], body: &Body) -> Option<&'static str>
@@ -21,7 +34,7 @@ fn form_key(flows: &[Flow], body: &Body) -> Option<&'static str>
 {
     match body {
         Body::Call(call) => match flow_named(flows, call.name.as_str()) {
-            None => Some("call"),
+            None => uncalled(call.name.as_str()),
             Some(_) => None,
         },
         Body::Parallel(_) => Some("parallel"),

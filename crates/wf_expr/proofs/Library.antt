@@ -1,24 +1,32 @@
--- The function of a name, looked for in parts of the library.
-use Rattle.std.proofs.Common.{◌≡◌, Bool, true, false, List, [], ◌∷◌, ◌++◌, Option, Some, None, option_map, if◌then◌else◌, bytes_eq, refl, ap}
-use Rattle.std.specs.Option.{option_or}
-use Rattle.wf_ast.specs.Func.{Listing, entry_in, func_named}
+-- The function of a name, as the library's table has it.
+use Rattle.std.proofs.Common.{◌≡◌, ◌+◌, List, Option, Some, None, length, option_map, refl, sym, ap, ◌∙◌}
+use Rattle.std.proofs.lemmas.List.{length-map}
+use Rattle.wf_ast.specs.Func.{Listing}
 use Rattle.wf_ast.specs.Tree.{Expr, exprs}
-use Rattle.wf_expr.specs.Callees.{callee_of, basic, of_texts, of_values, of_system}
+use Rattle.wf_expr.specs.Callees.{callee_of}
 use Rattle.wf_expr.specs.Grammar.{call_of}
 use Rattle.wf_expr.specs.declared.callee.Callee.{Callee}
-use Rattle.wf_value.specs.Pairs.{Text}
+use Rattle.wf_library.specs.Functions.{Callable, callable, function_of}
+use Rattle.wf_library.specs.declared.functions.Function.{Function}
 
-by_test : (b : Bool) (e : Listing) (o p q : Option Listing) → option_or (option_map callee_of o) (option_map callee_of p) ≡ option_map callee_of q → option_or (option_map callee_of (if b then Some e else o)) (option_map callee_of p) ≡ option_map callee_of (if b then Some e else q)
-by_test true e o p q h = refl
-by_test false e o p q h = h
+-- what a function with the names of its arguments is to calls
+abbrev counted : Callable → Callee
+counted c = record { func = c.func; least = length c.signature.needs; most = length c.signature.needs + length c.signature.may }
 
-either_part : (front back : List Listing) (x : Text) → option_or (option_map callee_of (entry_in front x)) (option_map callee_of (entry_in back x)) ≡ option_map callee_of (entry_in (front ++ back) x)
-either_part [] back x = refl
-either_part (e ∷ front) back x = by_test (bytes_eq x e.name) e (entry_in front x) (entry_in back x) (entry_in (front ++ back) x) (either_part front back x)
+as_counted : (f : Function) → record { func = f.func; least = length f.arguments.needs.now; most = length f.arguments.needs.now + length f.arguments.may.now } ≡ counted (function_of f)
+as_counted f =
+    let needs = sym (length-map f.arguments.needs.now (λ n. n.now)) in
+    let may = sym (length-map f.arguments.may.now (λ n. n.now)) in
+    λ i. record { func = f.func; least = needs i; most = needs i + may i }
 
-pub first_named : (x : Text) → option_or (option_or (option_or (option_map callee_of (entry_in basic x)) (option_map callee_of (entry_in of_texts x))) (option_map callee_of (entry_in of_values x))) (option_map callee_of (entry_in of_system x)) ≡ option_map callee_of (func_named x)
-first_named x =
-    rw (either_part basic of_texts x, either_part (basic ++ of_texts) of_values x, either_part ((basic ++ of_texts) ++ of_values) of_system x) refl
+module _ (o : Option Function) where
+  pub found : (l : Option Listing) (f : Function) → o ≡ Some f → option_map function_of o ≡ option_map callable l → Some (record { func = f.func; least = length f.arguments.needs.now; most = length f.arguments.needs.now + length f.arguments.may.now }) ≡ option_map callee_of l
+  found None f is same = absurd (cc (ap (option_map function_of) (sym is) ∙ same))
+  found (Some e) f is same = ap Some (as_counted f) ∙ ap (option_map counted) (ap (option_map function_of) (sym is) ∙ same)
+
+  pub lacks : (l : Option Listing) → o ≡ None → option_map function_of o ≡ option_map callable l → None ≡ option_map callee_of l
+  lacks None is same = refl
+  lacks (Some e) is same = absurd (cc (ap (option_map function_of) (sym is) ∙ same))
 
 some_callee : (f g : Callee) → Some f ≡ Some g → f ≡ g
 some_callee f g h = cc

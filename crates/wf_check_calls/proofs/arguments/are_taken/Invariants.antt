@@ -3,7 +3,7 @@ use Rattle.wf_ast.specs.Func.{all_among}
 use Rattle.wf_ast.specs.Tree.{field_names, fields}
 use Rattle.wf_ast.specs.View.{field_view}
 use Rattle.wf_check_calls.proofs.arguments.are_taken.Given as goal
-use Rattle.wf_check_calls.specs.Signatures.{signature_of}
+use Rattle.wf_library.specs.Functions.{signature_of}
 
 -- what is left tells
 abbrev pub invariant-loop-argument : goal.invariant-loop-argument
