@@ -1,5 +1,5 @@
 -- Which event a frame's move wants.
-use Rattle.std.proofs.Common.{◌≡◌, ℕ, ◌≤◌, Bool, true, false, List, [], ◌∷◌, length, drop, Some, None, refl, ap, ◌∙◌, arith}
+use Rattle.std.proofs.Common.{◌≡◌, ℕ, ◌≤◌, Bool, true, false, List, [], ◌∷◌, length, drop, Some, None, refl, sym, ap, ◌∙◌, arith}
 use Rattle.std.specs.Prelude.{zero, suc, ◌||◌, is_some, option_map, slice_get, Option}
 use Rattle.std.proofs.lemmas.Option.{get_or_from_slice_get, slice_get_within}
 use Rattle.wf_ast.specs.Flows.{flow}
@@ -15,9 +15,7 @@ use Rattle.wf_model.specs.Kinds.{Plainly, body_kind, by_clock, call_kind, entry_
 use Rattle.wf_steps.proofs.Advancing.{entries_next, from_next}
 use Rattle.wf_steps.proofs.Lists.{drop_end, entries_long, from_end}
 use Rattle.wf_steps.proofs.Parts.{as_part, entries_is, list_is, part_is}
-use Rattle.wf_steps.specs.Built.{IsFunction, IsTarget, IsWorkflow, function_parts, listed}
-use Rattle.wf_steps.specs.declared.target.Target.{Target}
-use Rattle.wf_steps.specs.declared.target.Target.TheVariants as target
+use Rattle.wf_steps.specs.Built.{IsFunction, IsWorkflow, function_parts, listed}
 use Rattle.wf_nodes.specs.Kinds.{Listed, entry_by, kind_by}
 use Rattle.wf_nodes.specs.Shapes.{Compiled}
 use Rattle.wf_nodes.specs.Spots.{Spot, entries_by, from, part_at, part_body, part_entry, part_list}
@@ -105,8 +103,9 @@ function_clock fs g x b h = by (flow fs x) h.free ∙ in_library (func_named x) 
     in_library None e = absurd (cc e)
     in_library (Some l) e = let same : listed l ≡ function_parts g = cc e in ap (λ (p : Func × (List Text × List Text)). by_clock (is_now p.0 || b)) same
 
--- where another thing than a function is found
-pub other_clock : (fs : List Flow) (ns : List Spot) (o : Option Target) (x : Text) (b : Bool) → ((g : Function) → o ≡ Some (target.Function g) → ⊥) → IsTarget fs ns o x → call_kind (flow fs x) x b ≡ by_clock b
-other_clock fs ns None x b no h = absurd h
-other_clock fs ns (Some (target.Flow n)) x b no h = flow_clock fs ns n x b h
-other_clock fs ns (Some (target.Function g)) x b no h = absurd (no g refl)
+-- a test or another
+pub either_true : (a b v : Bool) → a ≡ true → v ≡ true → v ≡ (a || b)
+either_true a b v t e = e ∙ sym (ap (λ (c : Bool). c || b) t)
+
+pub either_false : (a b v : Bool) → a ≡ false → v ≡ b → v ≡ (a || b)
+either_false a b v t e = e ∙ sym (ap (λ (c : Bool). c || b) t)

@@ -127,9 +127,12 @@ fn call_kind(targets: &[Target], n: u32, clock: bool) -> Kind
         → IsTarget fs ns (slice_get targets.now n) x
         → kind_view result ≡ call_kind (flow fs x) x clock }
 {
-    match targets.get(n as usize) {
-        Some(Target::Function(function)) => by_clock(is_now(function.func) || clock),
-        _ => by_clock(clock),
+    let Some(target) = targets.get(n as usize) else {
+        return by_clock(clock);
+    };
+    match target {
+        Target::Flow(_) => by_clock(clock),
+        Target::Function(function) => by_clock(is_now(function.func) || clock),
     }
 }
 

@@ -1,6 +1,23 @@
-use Rattle.std.proofs.Common.{sym, ap, subst, ◌∙◌}
-use Rattle.std.specs.Prelude.{◌||◌}
-use Rattle.wf_model.specs.Kinds.{by_clock}
-use Rattle.wf_steps.proofs.Clocked.{function_clock, other_clock}
+use Rattle.std.proofs.Common.{◌≡◌, Some, length, refl, sym, ap, subst, ◌∙◌}
+use Rattle.std.specs.Prelude.{◌||◌, Option, slice_get}
+use Rattle.std.proofs.lemmas.Bool.{ltb-true}
+use Rattle.std.proofs.lemmas.Option.{slice_get_read}
+use Rattle.wf_model.specs.Kinds.{by_clock, is_now}
+use Rattle.wf_steps.proofs.Clocked.{either_false, either_true, function_clock}
 use Rattle.wf_steps.specs.Built.{IsTarget}
+use Rattle.wf_steps.specs.declared.target.Target.{Target}
+use Rattle.wf_steps.specs.declared.target.Target.TheVariants as target
 use Rattle.wf_steps.proofs.kinds.call_kind.Goals as goal
+use Rattle.wf_steps.proofs.kinds.call_kind.Goals.{then-is_now, else-is_now}
+
+pub returns-after-is_now : goal.returns-after-is_now
+returns-after-is_now c fs ns x h =
+    let g = c.in-Function.function in
+    let found : slice_get c.args.targets.now c.args.n ≡ Some (target.Function g) =
+    slice_get_read c.args.targets.now (length c.args.targets.now) c.args.n c.in-Some.target.now refl (ltb-true c.args.n (length c.args.targets.now) (sym c.in-Some.ensures.lookup.0)) c.in-Some.ensures.lookup.1 ∙ ap (λ (t : Target). Some t) c.in-Function.is in
+    let value : c.if-is_now.by_clock ≡ (is_now g.func || c.args.clock) = elim c.if-is_now.branch [
+      | then-is_now w ↦ either_true (is_now g.func) c.args.clock c.if-is_now.by_clock (sym c.is_now.ensures ∙ w.if-is_now.true) (w.by_clock-is ∙ w.if-is_now.true)
+      | else-is_now w ↦ either_false (is_now g.func) c.args.clock c.if-is_now.by_clock (sym c.is_now.ensures ∙ w.if-is_now.false) w.by_clock-is
+    ] in
+    c.by_clock-in-Function.ensures ∙ ap by_clock value
+    ∙ sym (function_clock fs g x c.args.clock (subst (λ (o : Option Target). IsTarget fs ns o x) found h))
