@@ -1,5 +1,5 @@
 -- Calls of functions.
-use Rattle.std.proofs.Common.{◌≡◌, Bool, true, false, List, Some, None, Ok, Err, ap, sym, subst, ◌∙◌}
+use Rattle.std.proofs.Common.{◌≡◌, Bool, true, false, List, Some, None, Ok, Err, sym, subst}
 use Rattle.std.specs.Prelude.{Option, if◌then◌else◌, is_some, option_map}
 use Rattle.wf_ast.specs.Accept.{BadArgument}
 use Rattle.wf_ast.specs.Apply.{apply}
@@ -7,7 +7,7 @@ use Rattle.wf_ast.specs.Flows.{flow}
 use Rattle.wf_ast.specs.Func.{Listing, func_named, in_order, special_named, takes}
 use Rattle.wf_ast.specs.Tree.{Flow}
 use Rattle.wf_ast.specs.declared.Func.{Func}
-use Rattle.wf_eval.specs.Answers.{Answers, Gives}
+use Rattle.wf_eval.specs.Answers.{Gives}
 use Rattle.wf_library.specs.Functions.{signature_of}
 use Rattle.wf_library.specs.declared.functions.Function.{Function}
 use Rattle.wf_model.specs.Calls.{calls_listed, calls_named, evaluates}

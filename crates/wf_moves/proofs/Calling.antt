@@ -1,7 +1,7 @@
 -- Calls of workflows.
 use Rattle.std.proofs.Common.{◌≡◌, ◌≤◌, ◌<◌, ℕ, Bool, true, false, List, [], ◌∷◌, length, Some, None, refl, sym, ap, subst, ◌∙◌, arith}
-use Rattle.std.specs.Prelude.{Option, get_or, if◌then◌else◌, is_some, nat_le, option_map, slice_get, suc, zero}
-use Rattle.std.proofs.lemmas.Option.{get_or_from_slice_get, slice_get_within}
+use Rattle.std.specs.Prelude.{Option, if◌then◌else◌, is_some, nat_le, option_map, slice_get, suc, zero}
+use Rattle.std.proofs.lemmas.Option.{slice_get_within}
 use Rattle.std.proofs.lemmas.Bool.{leb-true, leb-false}
 use Rattle.wf_ast.specs.Flows.{flow}
 use Rattle.wf_ast.specs.Tree.{Flow, Param}
@@ -37,7 +37,8 @@ use Rattle.wf_model.specs.Unwind.{calls_in}
 use Rattle.wf_moves.specs.Moved.{IsMove}
 use Rattle.wf_moves.specs.declared.finish.Went.{Went}
 use Rattle.wf_nodes.specs.Spots.{FlowAt, Part, Spot, owners_at, part_at, part_list, spot_part}
-use Rattle.wf_steps.specs.Built.{IsWorkflow, flow_part}
+use Rattle.wf_steps.specs.Built.{IsTarget, IsWorkflow, flow_part}
+use Rattle.wf_steps.specs.declared.target.Target.{Target}
 use Rattle.wf_value.specs.Data.{Data, Pairs, pairs_of}
 use Rattle.wf_value.specs.Errors.{error_map}
 use Rattle.wf_value.specs.declared.Tag.TheVariants.{RecursionError, ResourceLimitError}
@@ -161,6 +162,14 @@ begun fs ns nodes n x r h = by (flow fs x) refl h.named h.part
     by : (o : Option Flow) → flow fs x ≡ o → is_some o ≡ true → part_at ns n ≡ flow_part o → Begun fs ns nodes n x
     by None e s p = absurd (cc s)
     by (Some f) e s p = record { workflow = f; named = e; part = p; is = flow_there ns nodes n f r p }
+
+-- ## What stands at the number of a call
+pub target_within : (fs : List Flow) (ns : List Spot) (ts : List Target) (n : ℕ) (x : Text) → IsTarget fs ns (slice_get ts n) x → n < length ts
+target_within fs ns ts n x h = by (slice_get ts n) refl h
+  where
+    by : (o : Option Target) → slice_get ts n ≡ o → IsTarget fs ns o x → n < length ts
+    by None e q = absurd q
+    by (Some t) e q = slice_get_within ts n t e
 
 -- ## The node of a call
 pub call_within : (nodes : List Node) (n : ℕ) → (f : CallNode) × IsCall nodes n f → n < length nodes

@@ -181,7 +181,8 @@ pub(crate) fn call(
     ensures stands { OnOk result (Stands around nodes.now frames.new scopes.new) }
     ensures left { IfOk result (λ w. IsLeft nodes.now w (inner frames.new)) }
 {
-    match &targets[n as usize] {
+    let target = &targets[n as usize];
+    match target {
         Target::Flow(flow) => call_flow(alloc, nodes, n, *flow, args, frames, scopes),
         Target::Function(function) => {
             evaluates(alloc, nodes, n, function, args, frames, scopes, facts)

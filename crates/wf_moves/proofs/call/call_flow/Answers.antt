@@ -19,22 +19,22 @@ use Rattle.wf_moves.proofs.call.call_flow.Goals as goal
 pub params-requires : goal.params-requires
 params-requires g c =
     let f = c.requires.1.1 in
-    let t = begun g.around.flows g.around.spots c.args.nodes.now c.args.flow f.0.name c.requires.0.resolves f.1.1 in
+    let t = begun g.around.flows g.around.spots c.args.nodes.now c.args.flow f.0.name c.requires.0.resolves f.2 in
     (c.requires.0, t.is)
 
 pub begin-requires : goal.begin-requires
 begin-requires g c =
     let f = c.requires.1.1 in
-    let t = begun g.around.flows g.around.spots c.args.nodes.now c.args.flow f.0.name c.requires.0.resolves f.1.1 in
-    (c.requires.0, (c.requires.1.0, ((f.0, f.1.0), t.is)))
+    let t = begun g.around.flows g.around.spots c.args.nodes.now c.args.flow f.0.name c.requires.0.resolves f.2 in
+    (c.requires.0, (c.requires.1.0, ((f.0, f.1), t.is)))
 
 pub returns-in-Some-clause-moved : goal.returns-in-Some-clause-moved
 returns-in-Some-clause-moved g c =
     let f = c.requires.1.1 in
-    let t = begun g.around.flows g.around.spots c.args.nodes.now c.args.flow f.0.name c.requires.0.resolves f.1.1 in
+    let t = begun g.around.flows g.around.spots c.args.nodes.now c.args.flow f.0.name c.requires.0.resolves f.2 in
     let k = control_of g.around c.args.frames.now in
     let args = pairs_of c.args.args.now in
-    let body = ap part_body (as_part g.around.spots c.args.nodes.now c.args.n f.1.0.node (kind.Call f.0) c.requires.0.resolves f.1.0.at f.1.0.is) in
+    let body = ap part_body (as_part g.around.spots c.args.nodes.now c.args.n f.1.node (kind.Call f.0) c.requires.0.resolves f.1.at f.1.is) in
     let params = c.params.ensures ∙ flow_param_list (part_at g.around.spots (c.args.flow)) t.workflow t.part in
     let values : given t.workflow.params args ≡ Some (bindings_of c.in-Some.bindings) = ap (λ ps. given ps args) (sym params) ∙ sym c.in_ok-bindings.ensures ∙ ap (option_map bindings_of) c.in-Some.is in
     with_ok _ _ c.begin.result
@@ -48,11 +48,11 @@ returns-in-Some-clause-moved g c =
 pub returns-in-None-clause-moved : goal.returns-in-None-clause-moved
 returns-in-None-clause-moved g c s d agrees =
     let f = c.requires.1.1 in
-    let t = begun g.around.flows g.around.spots c.args.nodes.now c.args.flow f.0.name c.requires.0.resolves f.1.1 in
+    let t = begun g.around.flows g.around.spots c.args.nodes.now c.args.flow f.0.name c.requires.0.resolves f.2 in
     let k = control_of g.around c.args.frames.now in
     let l = beside d g.around c.args.frames.now c.args.scopes.now in
     let args = pairs_of c.args.args.now in
-    let body = ap part_body (as_part g.around.spots c.args.nodes.now c.args.n f.1.0.node (kind.Call f.0) c.requires.0.resolves f.1.0.at f.1.0.is) in
+    let body = ap part_body (as_part g.around.spots c.args.nodes.now c.args.n f.1.node (kind.Call f.0) c.requires.0.resolves f.1.at f.1.is) in
     let params = c.params.ensures ∙ flow_param_list (part_at g.around.spots (c.args.flow)) t.workflow t.part in
     let values : given t.workflow.params args ≡ None = ap (λ ps. given ps args) (sym params) ∙ sym c.in_ok-bindings.ensures ∙ ap (option_map bindings_of) c.in-None.is in
     subst (λ b. IsMove (calls_by s b args k l) c.goes.result (local_of g.around c.goes.new.frames c.goes.new.scopes)) (sym body)

@@ -52,5 +52,5 @@ returns-in-Assigns-clause-moved g c =
 pub returns-in-Calls-clause-moved : goal.returns-in-Calls-clause-moved
 returns-in-Calls-clause-moved g c =
     with_ok _ _ c.call.result
-    (λ w h s d sees agrees. subst (λ st. IsMove (come g.around.spots st s (control_of g.around c.args.frames.now) (beside d g.around c.args.frames.now c.args.scopes.now)) w (local_of g.around c.call.new.frames c.call.new.scopes)) (sym c.in-Calls.is) (h s d agrees))
+    (λ w h s d sees agrees. subst (λ st. IsMove (come g.around.spots st s (control_of g.around c.args.frames.now) (beside d g.around c.args.frames.now c.args.scopes.now)) w (local_of g.around c.call.new.frames c.call.new.scopes)) (sym c.in-Calls.is) (h s d sees agrees))
     c.call.ensures.moved
