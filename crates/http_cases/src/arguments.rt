@@ -1,12 +1,14 @@
-// The arguments of a call, and their kinds.
+// The arguments of calls.
 use std::alloc::Global;
-use wf_callbacks::Method;
 use wf_cases::{Case, CaseFault, bytes_of};
 use wf_http_out::{Asked, OutFault};
-use wf_value::{Bytes, List, Map, OutOfMemory, Pairs, Tag, Text, Value};
+use wf_value::{Bytes, List, Map, OutOfMemory, Raise, Tag, Text, Value};
 
 /// Lists and maps in each other, at most, and one more for what stands in the innermost.
 const DEEPEST: u32 = 101;
+
+/// The arguments that the first items of a case are.
+const NAMES: [&str; 5] = ["method", "url", "headers", "query", "body"];
 
 /// Why a case has no bytes: the arguments raise an error, the request is refused, or the line is no
 /// case.
@@ -29,57 +31,28 @@ impl From<OutOfMemory> for Stop {
     }
 }
 
-/// What the first five items of a case ask for: their kinds are tried first, and then the method.
+impl From<Raise> for Stop {
+    fn from(raise: Raise) -> Stop {
+        match raise {
+            Raise::Error(tag) => Stop::Raised(tag),
+            Raise::OutOfMemory => Stop::Case(CaseFault::OutOfMemory),
+        }
+    }
+}
+
+/// What the first five items of a case ask for.
 pub(crate) fn asked_of(alloc: Global, case: &Case<'_>) -> Result<Asked, Stop> {
-    let name = text_in(case.item(0)?)?;
-    let url = text_in(case.item(1)?)?.copy()?;
-    let fields = pairs_of(alloc, case.item(2)?, false)?;
-    let query = pairs_of(alloc, case.item(3)?, true)?;
-    let Some(method) = Method::named(name.as_str()) else {
-        return Err(Stop::Raised(Tag::ValueError));
-    };
-    Ok(Asked {
-        method,
-        url,
-        fields,
-        query,
-        body: Some(body_of(alloc, case.item(4)?, DEEPEST)?),
-        timeout: 300,
-    })
-}
-
-fn text_in(value: &Value) -> Result<&Text, Stop> {
-    match value {
-        Value::Text(text) => Ok(text),
-        _ => Err(Stop::Raised(Tag::TypeError)),
+    let mut args = Map::new(alloc)?;
+    for i in 0..NAMES.len() {
+        let value = value_of(alloc, case.item(i)?)?;
+        args.insert(Text::new(alloc, NAMES[i])?, value)?;
     }
+    Ok(wf_http_ask::asked_of(alloc, None, &args)?)
 }
 
-/// The pairs of a map of texts and whole numbers, and of truth values where these may stand in it.
-fn pairs_of(alloc: Global, value: &Value, with_truth: bool) -> Result<Pairs, Stop> {
-    let Value::Map(map) = value else {
-        return Err(Stop::Raised(Tag::TypeError));
-    };
-    let mut pairs = Pairs::new(alloc);
-    for i in 0..usize::MAX {
-        let Some((key, value)) = map.entry(i) else {
-            break;
-        };
-        let text = match value {
-            Value::Text(text) => text.copy()?,
-            Value::Int(number) => shown(alloc, *number)?,
-            Value::Bool(true) if with_truth => Text::new(alloc, "true")?,
-            Value::Bool(false) if with_truth => Text::new(alloc, "false")?,
-            _ => return Err(Stop::Raised(Tag::TypeError)),
-        };
-        pairs.push(Text::new(alloc, key)?, text)?;
-    }
-    Ok(pairs)
-}
-
-fn shown(alloc: Global, number: i64) -> Result<Text, CaseFault> {
-    let digits = format!(in alloc; "{number}")?;
-    Ok(Text::new(alloc, digits.as_str())?)
+/// The value that an item stands for, as `body_of` reads it.
+pub(crate) fn value_of(alloc: Global, item: &Value) -> Result<Value, CaseFault> {
+    body_of(alloc, item, DEEPEST)
 }
 
 /// The value that an item stands for: a map of the one key `hex` with a text is bytes, at any

@@ -4,6 +4,7 @@
 
 mod answers;
 mod arguments;
+mod asks;
 mod requests;
 mod results;
 mod urls;
@@ -26,6 +27,8 @@ fn answer(alloc: Global, line: &str) -> Result<String, CaseFault> {
         "results_of_visits" => results::results_of_visits(alloc, &case),
         "visits" | "visits_at_edges" => visits::knows(alloc, &case),
         "visits_of_fronts" => visits::knows_of_fronts(alloc, &case),
+        "asked" => asks::asks(alloc, &case),
+        "asked_and_sent" => asks::asks_to_send(alloc, &case),
         "replies" => visits::replies(alloc, &case),
         _ => Err(CaseFault::NoCase),
     }

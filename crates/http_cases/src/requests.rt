@@ -15,19 +15,24 @@ use wf_value::{Bytes, Tag, Value};
 /// its number: the bytes of its request in hex, or the tag of the error that it raises. There are
 /// no routes.
 pub(crate) fn sends(alloc: Global, case: &Case<'_>) -> Result<String, CaseFault> {
-    match sent(alloc, case) {
-        Ok(bytes) => hex_of(alloc, bytes.as_slice()),
-        Err(Stop::Raised(tag)) => Ok(String::from_str(alloc, tag.name())?),
-        Err(Stop::Refused(fault)) => Ok(String::from_str(alloc, tag_of(fault)?.name())?),
-        Err(Stop::Case(fault)) => Err(fault),
-    }
+    told(alloc, sent(alloc, case))
 }
 
 /// The same, where a request that is refused tells the fault itself.
 pub(crate) fn refuses(alloc: Global, case: &Case<'_>) -> Result<String, CaseFault> {
     match sent(alloc, case) {
         Err(Stop::Refused(fault)) => Ok(format!(in alloc; "{fault:?}")?),
-        _ => sends(alloc, case),
+        answer => told(alloc, answer),
+    }
+}
+
+/// The answer, or the tag of the error that is raised.
+pub(crate) fn told(alloc: Global, answer: Result<String, Stop>) -> Result<String, CaseFault> {
+    match answer {
+        Ok(text) => Ok(text),
+        Err(Stop::Raised(tag)) => Ok(String::from_str(alloc, tag.name())?),
+        Err(Stop::Refused(fault)) => Ok(String::from_str(alloc, tag_of(fault)?.name())?),
+        Err(Stop::Case(fault)) => Err(fault),
     }
 }
 
@@ -40,7 +45,7 @@ fn tag_of(fault: OutFault) -> Result<Tag, CaseFault> {
     }
 }
 
-fn sent(alloc: Global, case: &Case<'_>) -> Result<Bytes, Stop> {
+fn sent(alloc: Global, case: &Case<'_>) -> Result<String, Stop> {
     let asked = asked_of(alloc, case)?;
     let id = case.text(5)?;
     let Ok(k) = u64::try_from(case.number(6)?) else {
@@ -50,13 +55,13 @@ fn sent(alloc: Global, case: &Case<'_>) -> Result<Bytes, Stop> {
         return Err(Stop::Case(CaseFault::NoCase));
     }
     match request_of(alloc, &asked, id, k) {
-        Ok(bytes) => Ok(bytes),
+        Ok(bytes) => Ok(hex_of(alloc, bytes.as_slice())?),
         Err(fault) => Err(Stop::Refused(fault)),
     }
 }
 
 /// Whether a body nests at most 100 deep.
-fn is_shallow(body: &Option<Value>) -> bool
+pub(crate) fn is_shallow(body: &Option<Value>) -> bool
     ensures { IsTrue result → ForSome body.now (λ v. depth (plain v) ≤ 100) }
 {
     match body {

@@ -71,7 +71,8 @@ fn given(alloc: Global, answer: &Result<Value, ReplyFault>) -> Result<String, Ca
     }
 }
 
-fn shown(alloc: Global, value: &Value) -> Result<String, CaseFault> {
+/// The value as JSON.
+pub(crate) fn shown(alloc: Global, value: &Value) -> Result<String, CaseFault> {
     if value.depth() > 100 {
         return Err(CaseFault::NoCase);
     }

@@ -1,0 +1,4 @@
+pub mod Depths
+pub mod KindsFirst
+pub mod Listed
+pub mod Texts
