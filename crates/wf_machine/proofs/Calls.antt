@@ -76,14 +76,14 @@ numbered x (f ∷ fs) k n pre h e = by (λ q. numbered x fs (k + suc (steps_size
 -- no number is that of no workflow
 unnumbered : (x : Text) (fs : List Flow) (k : ℕ) → flow_number x fs k ≡ None → flow_in fs x ≡ None
 unnumbered x [] k e = refl
-unnumbered x (f ∷ fs) k e = by (bytes_eq x f.name) refl
+unnumbered x (f ∷ fs) k e = by (unnumbered x fs (k + suc (steps_size f.steps))) (bytes_eq x f.name) refl
   where
     chosen : (b : Bool) → bytes_eq x f.name ≡ b → first_of_two (if b then Some k else None) (flow_number x fs (k + suc (steps_size f.steps))) ≡ None
     chosen b t = sym (ap (λ (b : Bool). first_of_two (if b then Some k else None) (flow_number x fs (k + suc (steps_size f.steps)))) t) ∙ e
 
-    by : (b : Bool) → bytes_eq x f.name ≡ b → flow_in (f ∷ fs) x ≡ None
-    by true t = absurd (let h : Some k ≡ None = chosen true t in cc h)
-    by false t = ap (λ (b : Bool). if b then Some f else flow_in fs x) (other_name x f.name t) ∙ unnumbered x fs (k + suc (steps_size f.steps)) (chosen false t)
+    by : (flow_number x fs (k + suc (steps_size f.steps)) ≡ None → flow_in fs x ≡ None) → (b : Bool) → bytes_eq x f.name ≡ b → flow_in (f ∷ fs) x ≡ None
+    by rest true t = absurd (let h : Some k ≡ None = chosen true t in cc h)
+    by rest false t = ap (λ (b : Bool). if b then Some f else flow_in fs x) (other_name x f.name t) ∙ rest (chosen false t)
 
 -- ## The workflow of a call
 flow_target : (fs : List Flow) (x : Text) (n : ℕ) → bytes_eq x (codes "main") ≡ false → flow_number x fs 0 ≡ Some n → IsWorkflow fs (spots fs) n x

@@ -1,5 +1,6 @@
 use Rattle.std.proofs.Common.{sym, subst}
 use Rattle.wf_machine.proofs.task.kind_of.Goals as goal
+use Rattle.wf_nodes.specs.Spots.{spots}
 use Rattle.wf_steps.specs.Built.{AreTargets}
 
 pub returns : goal.returns
