@@ -1,6 +1,7 @@
-//! Cases of retries and of callback endpoints: each line is a table's name, a blank and a case, and a line of answer is printed for it.
+//! Cases of retries, of callback endpoints and of HTTP calls: each line is a table's name, a blank and a case, and a line of answer is printed for it.
 #![tactic(auto)]
 
+mod calls;
 mod queues;
 mod retries;
 
@@ -15,6 +16,7 @@ fn answer(alloc: Global, line: &str) -> Result<String, CaseFault> {
         "predicates" | "predicates_at_edges" => {
             retries::says(alloc, case.text(0)?, case.item(1)?)
         }
+        "calls" | "calls_made" => calls::answers(alloc, case.items()),
         "methods" => queues::method(alloc, case.text(0)?),
         "queues" | "queues_made" => queues::answers(alloc, case.items()),
         _ => Err(CaseFault::NoCase),

@@ -163,7 +163,8 @@ fn named(name: &str) -> Result<Method, CaseFault> {
     }
 }
 
-fn text(bytes: &Bytes) -> Result<&str, CaseFault> {
+/// Bytes as a text.
+pub(crate) fn text(bytes: &Bytes) -> Result<&str, CaseFault> {
     match str::from_utf8(bytes.as_slice()) {
         Ok(text) => Ok(text),
         Err(_) => Err(CaseFault::NoCase),

@@ -1,0 +1,3 @@
+pub mod NextOpen
+pub mod Numbers
+pub mod View
