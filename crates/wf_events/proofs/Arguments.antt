@@ -1,28 +1,14 @@
--- Texts and arguments, as they are read.
-use Rattle.std.proofs.Common.{◌≡◌, ℕ, ◌<◌, ◌≤◌, Bool, true, false, length, nat_le, min, Option, Some, None, Ok, Err, refl, sym, ap, ◌∙◌, arith}
-use Rattle.std.specs.Str.{is_utf8, IsUtf8, bytes_eq}
-use Rattle.std.proofs.lemmas.Str.{IsUtf8-from_is_utf8, is_utf8-from_IsUtf8}
+-- Arguments, as they are read.
+use Rattle.std.proofs.Common.{◌≡◌, ℕ, ◌<◌, ◌≤◌, Bool, true, false, nat_le, min, Option, Some, None, refl, sym, ap, ◌∙◌, arith}
+use Rattle.std.specs.Str.{bytes_eq}
 use Rattle.std.proofs.lemmas.Bool.Decides.{nat_tests}
-use Rattle.wf_events.specs.Reading.{string_at, text_at, is_argument, is_written}
-use Rattle.wf_events.specs.Spelling.{Bytes}
+use Rattle.wf_events.specs.Reading.{is_argument, is_written}
+use Rattle.wf_record_parts.specs.Spelling.{Bytes}
 use Rattle.wf_value.proofs.JsonCases.{value_found}
 use Rattle.wf_value.specs.Data.{Data, depth, size}
 use Rattle.wf_value.specs.Decode.{json_value}
 use Rattle.wf_value.specs.Json.{value_of, json_text, IsNotJson, HasDecimal, IsTooDeep, IsValue}
 
-is_false : (b : Bool) → (b ≡ true → ⊥) → b ≡ false
-is_false true h = absurd (h refl)
-is_false false h = refl
-
-pub text_taken : (bytes s rest t : Bytes) → string_at bytes ≡ Ok (s, rest) → IsUtf8 s → t ≡ s → text_at bytes ≡ Ok (t, rest)
-unfolding text_at
-text_taken bytes s rest t e utf8 same = rw (e, is_utf8-from_IsUtf8 s utf8, same) refl
-
-pub no_text : (bytes s rest : Bytes) → string_at bytes ≡ Ok (s, rest) → (IsUtf8 s → ⊥) → text_at bytes ≡ Err (length bytes)
-unfolding text_at
-no_text bytes s rest e bad = rw (e, is_false (is_utf8 s) (λ h. bad (IsUtf8-from_is_utf8 s h))) refl
-
--- ## Arguments
 none_some : {A : Type 0} (o : Option A) (a : A) → o ≡ None → o ≡ Some a → ⊥
 none_some {A = A} o a none some = let bad : ◌≡◌ {A = Option A} None (Some a) = sym none ∙ some in cc bad
 
