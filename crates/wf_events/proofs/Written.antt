@@ -1,5 +1,5 @@
 -- What is asked of the parts of a record that is written, and what they come to.
-use Rattle.std.proofs.Common.{◌≡◌, List, [], ◌∷◌, ◌++◌, map, All, Result, OnOk, ap, ◌∙◌, append_assoc}
+use Rattle.std.proofs.Common.{◌≡◌, ℕ, List, [], ◌∷◌, ◌++◌, map, All, Result, OnOk, ap, ◌∙◌, append_assoc}
 use Rattle.std.specs.List.{AllByRecursion}
 use Rattle.std.proofs.lemmas.List.Elements.{All-from_recursion}
 use Rattle.std.proofs.lemmas.Result.{on_ok_weaker}
@@ -17,6 +17,10 @@ are_viewed view P xs fits = All-from_recursion (λ x. P (view x)) xs (each_viewe
 -- a part, and the one behind it
 pub two_parts : {T E : Type 0} (r : Result T E) (old a b x z : Bytes) → x ≡ old ++ a → OnOk r (z ≡ x ++ b) → OnOk r (z ≡ old ++ (a ++ b))
 two_parts r old a b x z first second = on_ok_weaker r (λ h. h ∙ ap (λ (l : Bytes). l ++ b) first ∙ append_assoc old a b) second
+
+-- a code, a part and the one behind it
+pub coded_parts : {T E : Type 0} (r : Result T E) (code : ℕ) (old a b x y z : Bytes) → x ≡ old ++ code ∷ [] → y ≡ x ++ a → OnOk r (z ≡ y ++ b) → OnOk r (z ≡ old ++ (code ∷ a ++ b))
+coded_parts r code old a b x y z first second third = two_parts r old (code ∷ a) b y z (second ∙ ap (λ (l : Bytes). l ++ a) first ∙ append_assoc old (code ∷ []) a) third
 
 three : (old a b c x y z : Bytes) → x ≡ old ++ a → y ≡ x ++ b → z ≡ y ++ c → z ≡ old ++ (a ++ (b ++ c))
 three old a b c x y z first second third =
