@@ -3,14 +3,16 @@ ghost use Rattle.wf_events.specs.Spelling.{HasSpelling};
 ghost use Rattle.wf_events.specs.View.{record_view};
 
 use std::alloc::Global;
+use wf_callbacks::Fields;
 use wf_cases::{Case, CaseFault, bytes_of, text_of};
 use wf_events::{
-    Event, Events, Record, RecordFault, Start, Turn, copy_routes, decode, encode, encode_start,
+    Event, Record, RecordFault, Start, Turn, copy_routes, decode, encode, encode_start,
     encode_turn, is_argument,
 };
 use wf_host::{Address, Routes};
 use wf_host_cases::write_bytes;
-use wf_value::{Pairs, Text, Value};
+use wf_record_parts::Reply;
+use wf_value::{Bytes, Pairs, Text, Value};
 
 /// A kind of payload.
 #[derive(Clone, Copy)]
@@ -73,7 +75,7 @@ fn write_bytes_behind(out: &mut String, alloc: Global, bytes: Vec<u8>) -> Result
     write_bytes(out, alloc, &bytes)
 }
 
-/// Writes what a record says. Its pairs and routes are copied first, and its events pushed anew.
+/// Writes what a record says. Its pairs and routes are copied first.
 fn write_record(out: &mut String, alloc: Global, record: &Record) -> Result<(), CaseFault> {
     match record {
         Record::Start(start) => write_start(out, alloc, start),
@@ -115,39 +117,63 @@ fn write_pairs(out: &mut String, pairs: &Pairs) -> Result<(), CaseFault> {
     Ok(())
 }
 
-/// A turn: its session and its waits, and then the task of each move, with its reading where it has one.
+/// A turn: its session and its waits, and then its events.
 fn write_turn(out: &mut String, alloc: Global, turn: &Turn) -> Result<(), CaseFault> {
     write!(out, "{} {}", turn.session, turn.waits)?;
-    write_events(out, &pushed_anew(alloc, &turn.events)?)
-}
-
-fn pushed_anew(alloc: Global, events: &Events) -> Result<Events, CaseFault> {
-    let mut anew = Events::new(alloc);
-    for event in events.items() {
-        anew.push(match *event {
-            Event::Move(task) => Event::Move(task),
-            Event::MoveAt(task, reading) => Event::MoveAt(task, reading),
-        })?;
-    }
-    Ok(anew)
-}
-
-/// The task of each move, with its reading where it has one.
-fn write_events(out: &mut String, events: &Events) -> Result<(), CaseFault> {
-    for event in events.items() {
+    for event in turn.events.items() {
         out.push(' ')?;
-        write_event(out, event)?;
+        write_event(out, alloc, event)?;
     }
     Ok(())
 }
 
-/// The task of a move, with its reading where it has one.
-fn write_event(out: &mut String, event: &Event) -> Result<(), CaseFault> {
+/// The task of a move, with its reading where it has one; of another event what it is, its number,
+/// its reading where it has one, and what came.
+fn write_event(out: &mut String, alloc: Global, event: &Event) -> Result<(), CaseFault> {
     match event {
         Event::Move(task) => write!(out, "{task}")?,
         Event::MoveAt(task, reading) => write!(out, "{task}@{reading}")?,
+        Event::Begin(task) => write!(out, "begin {task}")?,
+        Event::Issue(task, reading) => write!(out, "issue {task}@{reading}")?,
+        Event::Answer(call, reading, reply) => {
+            write!(out, "answer {call}@{reading} ")?;
+            write_reply(out, alloc, reply)?;
+        }
+        Event::Due(task, reading) => write!(out, "due {task}@{reading}")?,
+        Event::Arrive(endpoint, reading, visitor) => {
+            write!(out, "arrive {endpoint}@{reading} {}", visitor.method.name())?;
+            write_content(out, alloc, &visitor.headers, &visitor.body)?;
+        }
     }
     Ok(())
+}
+
+fn write_reply(out: &mut String, alloc: Global, reply: &Reply) -> Result<(), CaseFault> {
+    match reply {
+        Reply::Response(response) => {
+            write!(out, "{}", response.code)?;
+            write_content(out, alloc, &response.headers, &response.body)
+        }
+        Reply::Broken => Ok(out.push_str("broken")?),
+        Reply::TooLong => Ok(out.push_str("too long")?),
+    }
+}
+
+/// The name and the value of each field, and a body.
+fn write_content(
+    out: &mut String,
+    alloc: Global,
+    headers: &Fields,
+    body: &Bytes,
+) -> Result<(), CaseFault> {
+    for (name, value) in headers.items() {
+        out.push(' ')?;
+        write_bytes(out, alloc, name.as_slice())?;
+        out.push('=')?;
+        write_bytes(out, alloc, value.as_slice())?;
+    }
+    out.push(' ')?;
+    write_bytes(out, alloc, body.as_slice())
 }
 
 /// Where the fault is for each front of these bytes, from the empty one on; `ok` where a front is a record.

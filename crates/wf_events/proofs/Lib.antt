@@ -1,7 +1,5 @@
-pub mod Loop
-pub mod Texts
+pub mod Arguments
 pub mod Written
-pub mod Fields
 pub mod Parts
 pub mod Meanings
 pub mod Formats

@@ -1,17 +1,18 @@
 -- Records that are read by now: what is read was spelled so, and what is spelled so is read.
 use Rattle.std.proofs.Common.{◌≡◌, ◌↔◌, ℕ, ◌-◌, ◌<◌, min, nat_eq, if◌then◌else◌, List, [], ◌∷◌, ◌++◌, length, Some, Result, Ok, Err, refl, sym, ap, subst, ◌∙◌, append_assoc, arith, inl, inr}
 use Rattle.std.specs.Int.{w64}
-use Rattle.std.specs.List.{AllByRecursion}
 use Rattle.std.specs.Result.{OkIff, result_unwrap_or}
 use Rattle.std.proofs.lemmas.Bool.{eqb-true, cases_lt}
 use Rattle.std.proofs.lemmas.List.{append-nil, nil_from_length}
-use Rattle.wf_events.proofs.Fields.{Reads, bind_ok, ok_is, chosen, guard_yes, first_of_two, first_again, reads_64, reads_string, reads_list}
-use Rattle.wf_events.proofs.Parts.{joined, bytes-rest, reads_text, reads_argument, reads_pair, reads_route, reads_turn, IsRead, IsReadTurn}
-use Rattle.wf_events.specs.Laws.{AreBytes}
-use Rattle.wf_events.specs.Reading.{Read, ◌>>=◌, number_at, string_at, text_at, argument_at, list_at, pair_at, route_at, start_at, turn_at, taken_as, record_at, whole_at, by_offset, record_of, known, meaning}
+use Rattle.wf_events.proofs.Parts.{reads_argument, reads_pair, reads_route, reads_turn, IsOldTurn}
+use Rattle.wf_events.specs.Reading.{argument_at, pair_at, route_at, start_at, turn_at, taken_as, record_at, whole_at, by_offset, record_of, known, meaning}
 use Rattle.wf_events.specs.Records.{Record, Started, Turned, Kept, Upgrade, Packed, StartedTwo}
-use Rattle.wf_events.specs.Spelling.{Bytes, eight, string, listed, pair, route, event, turn, start, record_bytes, Fits64, Each, IsString, IsText, IsPair, IsRoute, IsArgument, IsOld, IsMove, IsStart, HasSpelling, Spells, IsBuilt}
-use Rattle.wf_shared.specs.Events.{Event, Routes, Start}
+use Rattle.wf_events.specs.Spelling.{route, event, turn, start, record_bytes, IsPair, IsRoute, IsArgument, IsStart, HasSpelling, Spells, IsBuilt}
+use Rattle.wf_record_parts.proofs.Parts.{bind_ok, ok_is, guard_yes, first_of_two, first_again, joined, by_code, bytes-rest, reads_64, reads_string, reads_text, reads_list}
+use Rattle.wf_record_parts.specs.Laws.{AreBytes, Reads}
+use Rattle.wf_record_parts.specs.Reading.{Read, ◌>>=◌, number_at, string_at, text_at, list_at}
+use Rattle.wf_record_parts.specs.Spelling.{Bytes, eight, string, listed, pair, Fits64, Each, IsString, IsText}
+use Rattle.wf_shared.specs.Events.{Routes, Start}
 
 -- ## Starts
 abbrev Pairs : Type 0
@@ -98,18 +99,6 @@ reads_start = record { takes = start_takes; again = start_again }
 abbrev IsReadRecord : Record → Type 0
 IsReadRecord r = HasSpelling r × IsBuilt r
 
-are_old : (es : List Event) → AllByRecursion IsRead es → AllByRecursion IsOld es
-are_old [] fits = tt
-are_old (e ∷ es) fits = (fits.0.0, are_old es fits.1)
-
-are_moves : (es : List Event) → AllByRecursion IsRead es → AllByRecursion IsMove es
-are_moves [] fits = tt
-are_moves (e ∷ es) fits = (fits.0.1, are_moves es fits.1)
-
-are_read : (es : List Event) → AllByRecursion IsOld es → AllByRecursion IsMove es → AllByRecursion IsRead es
-are_read [] old moves = tt
-are_read (e ∷ es) old moves = ((old.0, moves.0), are_read es old.1 moves.1)
-
 abbrev Parts : ℕ → Bytes → Record → Bytes → Type 0
 Parts kind bytes r rest = (kind ∷ bytes ≡ record_bytes r ++ rest) × AreBytes rest × IsReadRecord r
 
@@ -122,29 +111,22 @@ started_takes bytes r rest are h =
 turned_takes : (bytes : Bytes) (r : Record) (rest : Bytes) → AreBytes bytes → taken_as Turned (turn_at bytes) ≡ Ok (r, rest) → Parts 2 bytes r rest
 unfolding record_bytes
 turned_takes bytes r rest are h =
-    let a = first_of_two turn_at (turn (listed event)) IsReadTurn reads_turn bytes (λ t l. Ok (Turned t, l)) (r, rest) are h in
-    let es = a.what.events in
-    subst (λ (z : Record × Bytes). Parts 2 bytes z.0 z.1) (ok_is (Turned a.what, a.rest) (r, rest) a.goes_on)
-    (ap (λ (l : Bytes). 2 ∷ l) a.parts, a.are_bytes, ((a.fits.is_turn, (a.fits.events.0, are_old es a.fits.events.1)), are_moves es a.fits.events.1))
+    let a = first_of_two turn_at (turn (listed event)) IsOldTurn reads_turn bytes (λ t l. Ok (Turned t, l)) (r, rest) are h in
+    subst (λ (z : Record × Bytes). Parts 2 bytes z.0 z.1) (ok_is (Turned a.what, a.rest) (r, rest) a.goes_on) (ap (λ (l : Bytes). 2 ∷ l) a.parts, a.are_bytes, (a.fits, tt))
 
 record_takes : (bytes : Bytes) (r : Record) (rest : Bytes) → AreBytes bytes → record_at bytes ≡ Ok (r, rest) → (bytes ≡ record_bytes r ++ rest) × AreBytes rest × IsReadRecord r
 unfolding record_at
 record_takes [] r rest are h = absurd cc
 record_takes (kind ∷ bytes) r rest are h =
-    let others : Read Record = if nat_eq kind 2 then taken_as Turned (turn_at bytes) else Err (length (kind ∷ bytes)) in
-    elim (chosen (nat_eq kind 1) (taken_as Started (start_at bytes)) others (Ok (r, rest)) h) [
-      | inl w ↦ subst (λ (k : ℕ). Parts k bytes r rest) (sym (eqb-true kind 1 w.0)) (started_takes bytes r rest (bytes-rest kind bytes are) w.1)
-      | inr v ↦ elim (chosen (nat_eq kind 2) (taken_as Turned (turn_at bytes)) (Err (length (kind ∷ bytes))) (Ok (r, rest)) v.1) [
-        | inl w ↦ subst (λ (k : ℕ). Parts k bytes r rest) (sym (eqb-true kind 2 w.0)) (turned_takes bytes r rest (bytes-rest kind bytes are) w.1)
-        | inr w ↦ absurd (let bad : ◌≡◌ {A = Read Record} (Err (length (kind ∷ bytes))) (Ok (r, rest)) = w.1 in cc)
-      ]
-    ]
+    let P : Type 0 = Parts kind bytes r rest in
+    let behind = bytes-rest kind bytes are in
+    by_code P kind 1 _ _ _ h (λ is w. subst (λ (k : ℕ). Parts k bytes r rest) (sym is) (started_takes bytes r rest behind w)) (λ h1.
+    by_code P kind 2 _ _ _ h1 (λ is w. subst (λ (k : ℕ). Parts k bytes r rest) (sym is) (turned_takes bytes r rest behind w)) (λ h2. absurd cc))
 
 record_again : (r : Record) (rest : Bytes) → IsReadRecord r → record_at (record_bytes r ++ rest) ≡ Ok (r, rest)
 unfolding record_at record_bytes
 record_again (Started s) rest fits = first_again start_at start IsFirstStart reads_start.again s rest (λ s l. Ok (Started s, l)) (record { is_start = fits.0.0; rules = fits.0.1 })
-record_again (Turned t) rest fits =
-    first_again turn_at (turn (listed event)) IsReadTurn reads_turn.again t rest (λ t l. Ok (Turned t, l)) (record { is_turn = fits.0.0; events = (fits.0.1.0, are_read t.events fits.0.1.1 fits.1) })
+record_again (Turned t) rest fits = first_again turn_at (turn (listed event)) IsOldTurn reads_turn.again t rest (λ t l. Ok (Turned t, l)) fits.0
 record_again (Kept s) rest fits = absurd fits.1
 record_again Upgrade rest fits = absurd fits.1
 record_again (Packed t) rest fits = absurd fits.1

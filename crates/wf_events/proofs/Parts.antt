@@ -1,57 +1,24 @@
--- Texts, arguments, pairs, routes, moves and their turns: what is read was spelled so, and what is spelled so is read.
-use Rattle.std.proofs.Common.{◌≡◌, ◌↔◌, IsTrue, ℕ, suc, ◌<◌, ◌≤◌, ◌^◌, Bool, true, false, nat_eq, nat_le, if◌then◌else◌, List, [], ◌∷◌, ◌++◌, length, Option, Some, None, Result, Ok, Err, refl, sym, ap, subst, ◌∙◌, append_assoc, arith, inl, inr}
+-- Arguments, pairs, routes, events and turns: what is read was spelled so, and what is spelled so is read.
+use Rattle.std.proofs.Common.{◌≡◌, ◌↔◌, IsTrue, ℕ, ◌<◌, ◌≤◌, ◌^◌, Bool, true, false, nat_eq, nat_le, if◌then◌else◌, List, [], ◌∷◌, ◌++◌, length, Option, Some, None, Ok, Err, refl, sym, ap, subst, ◌∙◌, append_assoc, arith, inl, inr}
 use Rattle.std.specs.Int.{w16, w32, w64}
 use Rattle.std.specs.List.{flat_map}
-use Rattle.std.specs.Str.{is_utf8, IsUtf8, bytes_eq}
-use Rattle.std.proofs.lemmas.Bool.{eqb-true, and_parts, and_from, false≢true}
+use Rattle.std.specs.Str.{bytes_eq}
+use Rattle.std.proofs.lemmas.Bool.{and_parts, and_from, false≢true}
 use Rattle.std.proofs.lemmas.Bool.Decides.{nat_tests}
 use Rattle.std.proofs.lemmas.Slice.Eq.{bytes_eq-Decides}
-use Rattle.std.proofs.lemmas.Str.{IsUtf8-from_is_utf8, is_utf8-from_IsUtf8}
-use Rattle.wf_events.proofs.Fields.{Reads, TakesAgain, ok_is, chosen, guard_yes, first_of_two, first_again, reads_16, reads_32, reads_64, reads_string, items_take, items_again}
-use Rattle.wf_events.specs.Laws.{AreBytes}
-use Rattle.wf_events.specs.Reading.{Read, ◌>>=◌, number_at, string_at, text_at, is_written, is_argument, argument_at, items_at, pair_at, route_at, move_at, timed_move_at, event_at, events_at, turn_at}
-use Rattle.wf_events.specs.Spelling.{Bytes, two, four, eight, string, listed, pair, route, event, turn, Fits32, Fits64, Each, IsString, IsText, IsPair, IsRoute, IsArgument, IsOld, IsMove, IsTurn}
-use Rattle.wf_shared.specs.Events.{Address, Event, Move, MoveAt, Begin, Issue, Answer, Due, Arrive, Cancel, Turn}
+use Rattle.wf_events.specs.Reading.{is_written, is_argument, argument_at, pair_at, route_at, timed_at, numbered_at, taken_as, event_at, events_at, turn_at}
+use Rattle.wf_events.specs.Spelling.{route, event, turn, IsPair, IsRoute, IsArgument, IsOld, IsTurn}
+use Rattle.wf_record_parts.proofs.Heard.{three, reads_reply, reads_visitor}
+use Rattle.wf_record_parts.proofs.Parts.{ok_is, chosen, first_of_two, first_again, joined, next_again, by_code, bytes-rest, reads_16, reads_32, reads_64, reads_text, reads_tested, items_take, items_again}
+use Rattle.wf_record_parts.specs.Laws.{AreBytes, TakesAgain, Reads}
+use Rattle.wf_record_parts.specs.Reading.{Read, ◌>>=◌, number_at, text_at, items_at, reply_at, visitor_at}
+use Rattle.wf_record_parts.specs.Spelling.{Bytes, two, four, eight, string, listed, pair, reply, visitor, Fits32, Fits64, Each, IsString, IsText, IsReply, IsVisitor}
+use Rattle.wf_shared.specs.Events.{Address, Event, Move, MoveAt, Begin, Issue, Answer, Due, Arrive, Cancel, Reply, Visitor, Turn}
 use Rattle.wf_value.specs.Data.{Data, size}
 use Rattle.wf_value.specs.Decode.{json_value}
 use Rattle.wf_value.specs.Json.{json_text}
 
--- one part behind another
-pub joined : (x a y b z : Bytes) → x ≡ a ++ y → y ≡ b ++ z → x ≡ (a ++ b) ++ z
-joined x a y b z first second = first ∙ ap (λ (l : Bytes). a ++ l) second ∙ sym (append_assoc a b z)
-
--- a part that others follow is taken again
-pub next_again : {A B : Type 0} (at : Bytes → Read A) (part : A → Bytes) (Fits : A → Type 0) → TakesAgain at part Fits → (x : A) (behind rest : Bytes) (next : A → Bytes → Result B ℕ)
-    → Fits x → (at ((part x ++ behind) ++ rest) >>= λ z. next z.0 z.1) ≡ next x (behind ++ rest)
-next_again at part Fits again x behind rest next fits =
-    ap (λ (l : Bytes). at l >>= λ z. next z.0 z.1) (append_assoc (part x) behind rest) ∙ first_again at part Fits again x (behind ++ rest) next fits
-
--- ## Strings under a test
-module _ (test : Bytes → Bool) (Fits : Bytes → Type 0) (holds : (s : Bytes) → test s ≡ true → Fits s) (tests : (s : Bytes) → Fits s → test s ≡ true) where
-  abbrev tested : ℕ → Bytes → Bytes → Read Bytes
-  tested left s rest = if test s then Ok (s, rest) else Err left
-
-  abbrev tested_at : Bytes → Read Bytes
-  tested_at bytes = string_at bytes >>= λ s. if test s.0 then Ok s else Err (length bytes)
-
-  tested_takes : (bytes s rest : Bytes) → AreBytes bytes → tested_at bytes ≡ Ok (s, rest) → (bytes ≡ string s ++ rest) × AreBytes rest × (IsString s × Fits s)
-  tested_takes bytes s rest are e =
-      let a = first_of_two string_at string IsString reads_string bytes (tested (length bytes)) (s, rest) are e in
-      let g = guard_yes (test a.what) (length bytes) (a.what, a.rest) (s, rest) a.goes_on in
-      subst (λ (p : Bytes × Bytes). (bytes ≡ string p.0 ++ p.1) × AreBytes p.1 × (IsString p.0 × Fits p.0)) g.1 (a.parts, a.are_bytes, (a.fits, holds a.what g.0))
-
-  tested_again : (s rest : Bytes) → IsString s × Fits s → tested_at (string s ++ rest) ≡ Ok (s, rest)
-  tested_again s rest fits =
-      let behind : tested (length (string s ++ rest)) s rest ≡ Ok (s, rest) = rw (tests s fits.1) refl in
-      first_again string_at string IsString reads_string.again s rest (tested (length (string s ++ rest))) fits.0 ∙ behind
-
-  reads_tested : Reads tested_at string (λ s. IsString s × Fits s)
-  reads_tested = record { takes = tested_takes; again = tested_again }
-
-pub reads_text : Reads text_at string IsText
-unfolding text_at
-reads_text = reads_tested is_utf8 IsUtf8 IsUtf8-from_is_utf8 is_utf8-from_IsUtf8
-
+-- ## Arguments
 le_of : (n : ℕ) → nat_le n 32768 ≡ true → n ≤ 32768
 le_of n h = grind (arith, nat_tests)
 
@@ -128,63 +95,136 @@ route_again r rest fits =
 pub reads_route : Reads route_at route IsRoute
 reads_route = record { takes = route_takes; again = route_again }
 
+-- ## What events are made of
+abbrev Timed : Type 0
+Timed = ℕ × ℕ
+
+abbrev timed_bytes : Timed → Bytes
+timed_bytes p = four p.0 ++ eight p.1
+
+abbrev IsTimed : Timed → Type 0
+IsTimed p = Fits32 p.0 × Fits64 p.1
+
+abbrev behind_task : ℕ → Bytes → Read Timed
+behind_task b rest = number_at w64 rest >>= λ t. Ok ((b, t.0), t.1)
+
+timed_takes : (bytes : Bytes) (p : Timed) (rest : Bytes) → AreBytes bytes → timed_at bytes ≡ Ok (p, rest) → (bytes ≡ timed_bytes p ++ rest) × AreBytes rest × IsTimed p
+unfolding timed_at
+timed_takes bytes p rest are h =
+    let a = first_of_two (number_at w32) four Fits32 reads_32 bytes behind_task (p, rest) are h in
+    let b = first_of_two (number_at w64) eight Fits64 reads_64 a.rest (λ t r. Ok ((a.what, t), r)) (p, rest) a.are_bytes a.goes_on in
+    subst (λ (q : Timed × Bytes). (bytes ≡ timed_bytes q.0 ++ q.1) × AreBytes q.1 × IsTimed q.0) (ok_is ((a.what, b.what), b.rest) (p, rest) b.goes_on)
+    (joined bytes (four a.what) a.rest (eight b.what) b.rest a.parts b.parts, b.are_bytes, (a.fits, b.fits))
+
+timed_again : TakesAgain timed_at timed_bytes IsTimed
+unfolding timed_at
+timed_again p rest fits =
+    next_again (number_at w32) four Fits32 reads_32.again p.0 (eight p.1) rest behind_task fits.0
+    ∙ first_again (number_at w64) eight Fits64 reads_64.again p.1 rest (λ t r. Ok ((p.0, t), r)) fits.1
+
+reads_timed : Reads timed_at timed_bytes IsTimed
+reads_timed = record { takes = timed_takes; again = timed_again }
+
+module _ {A : Type 0} (at : Bytes → Read A) (part : A → Bytes) (Fits : A → Type 0) (reads : Reads at part Fits) where
+  abbrev Numbered : Type 0
+  Numbered = ℕ × ℕ × A
+
+  abbrev numbered_bytes : Numbered → Bytes
+  numbered_bytes p = eight p.0 ++ eight p.1 ++ part p.2
+
+  abbrev IsNumbered : Numbered → Type 0
+  IsNumbered p = Fits64 p.0 × Fits64 p.1 × Fits p.2
+
+  abbrev behind_reading : ℕ → ℕ → Bytes → Read Numbered
+  behind_reading k t rest = at rest >>= λ x. Ok ((k, t, x.0), x.1)
+
+  abbrev behind_number : ℕ → Bytes → Read Numbered
+  behind_number k rest = number_at w64 rest >>= λ t. behind_reading k t.0 t.1
+
+  numbered_takes : (bytes : Bytes) (p : Numbered) (rest : Bytes) → AreBytes bytes → numbered_at at bytes ≡ Ok (p, rest) → (bytes ≡ numbered_bytes p ++ rest) × AreBytes rest × IsNumbered p
+  unfolding numbered_at
+  numbered_takes bytes p rest are h =
+      let a = first_of_two (number_at w64) eight Fits64 reads_64 bytes behind_number (p, rest) are h in
+      let b = first_of_two (number_at w64) eight Fits64 reads_64 a.rest (behind_reading a.what) (p, rest) a.are_bytes a.goes_on in
+      let c = first_of_two at part Fits reads b.rest (λ x l. Ok ((a.what, b.what, x), l)) (p, rest) b.are_bytes b.goes_on in
+      subst (λ (q : Numbered × Bytes). (bytes ≡ numbered_bytes q.0 ++ q.1) × AreBytes q.1 × IsNumbered q.0) (ok_is ((a.what, b.what, c.what), c.rest) (p, rest) c.goes_on) (
+        joined bytes (eight a.what ++ eight b.what) b.rest (part c.what) c.rest (joined bytes (eight a.what) a.rest (eight b.what) b.rest a.parts b.parts) c.parts,
+        c.are_bytes,
+        (a.fits, b.fits, c.fits),
+      )
+
+  numbered_again : TakesAgain (numbered_at at) numbered_bytes IsNumbered
+  unfolding numbered_at
+  numbered_again p rest fits =
+      ap (numbered_at at) (three (eight p.0) (eight p.1) (part p.2) rest)
+      ∙ first_again (number_at w64) eight Fits64 reads_64.again p.0 (eight p.1 ++ (part p.2 ++ rest)) behind_number fits.0
+      ∙ first_again (number_at w64) eight Fits64 reads_64.again p.1 (part p.2 ++ rest) (behind_reading p.0) fits.1
+      ∙ first_again at part Fits reads.again p.2 rest (λ x l. Ok ((p.0, p.1, x), l)) fits.2
+
+  reads_numbered : Reads (numbered_at at) numbered_bytes IsNumbered
+  reads_numbered = record { takes = numbered_takes; again = numbered_again }
+
+abbrev IsAnswer : ℕ × ℕ × Reply → Type 0
+IsAnswer = IsNumbered reply_at reply IsReply reads_reply
+
+abbrev IsArrival : ℕ × ℕ × Visitor → Type 0
+IsArrival = IsNumbered visitor_at visitor IsVisitor reads_visitor
+
+abbrev answer_bytes : ℕ × ℕ × Reply → Bytes
+answer_bytes = numbered_bytes reply_at reply IsReply reads_reply
+
+abbrev arrival_bytes : ℕ × ℕ × Visitor → Bytes
+arrival_bytes = numbered_bytes visitor_at visitor IsVisitor reads_visitor
+
+reads_answer : Reads (numbered_at reply_at) answer_bytes IsAnswer
+reads_answer = reads_numbered reply_at reply IsReply reads_reply
+
+reads_arrival : Reads (numbered_at visitor_at) arrival_bytes IsArrival
+reads_arrival = reads_numbered visitor_at visitor IsVisitor reads_visitor
+
 -- ## Events
--- an event that is read by now
-abbrev pub IsRead : Event → Type 0
-IsRead e = IsOld e × IsMove e
-
 abbrev Parts : ℕ → Bytes → Event → Bytes → Type 0
-Parts kind bytes e rest = (kind ∷ bytes ≡ event e ++ rest) × AreBytes rest × IsRead e
+Parts kind bytes e rest = (kind ∷ bytes ≡ event e ++ rest) × AreBytes rest × IsOld e
 
-move_takes : (bytes : Bytes) (e : Event) (rest : Bytes) → AreBytes bytes → move_at bytes ≡ Ok (e, rest) → Parts 1 bytes e rest
-unfolding move_at
-move_takes bytes e rest are h =
-    let a = first_of_two (number_at w32) four Fits32 reads_32 bytes (λ b r. Ok (Move b, r)) (e, rest) are h in
-    subst (λ (q : Event × Bytes). Parts 1 bytes q.0 q.1) (ok_is (Move a.what, a.rest) (e, rest) a.goes_on) (ap (λ (l : Bytes). 1 ∷ l) a.parts, a.are_bytes, (a.fits, tt))
+-- an event is its code and one part
+made_takes : {A : Type 0} (at : Bytes → Read A) (part : A → Bytes) (Fits : A → Type 0) → Reads at part Fits → (made : A → Event) (code : ℕ) → ((x : A) → event (made x) ≡ code ∷ part x) → ((x : A) → Fits x → IsOld (made x))
+    → (kind : ℕ) (bytes : Bytes) (e : Event) (rest : Bytes) → AreBytes bytes → kind ≡ code → taken_as made (at bytes) ≡ Ok (e, rest) → Parts kind bytes e rest
+made_takes at part Fits reads made code spelled old kind bytes e rest are is h =
+    let a = first_of_two at part Fits reads bytes (λ x l. Ok (made x, l)) (e, rest) are h in
+    let front : kind ∷ bytes ≡ event (made a.what) ++ a.rest = rw (is, spelled a.what) (ap (λ (l : Bytes). code ∷ l) a.parts) in
+    subst (λ (q : Event × Bytes). Parts kind bytes q.0 q.1) (ok_is (made a.what, a.rest) (e, rest) a.goes_on) (front, a.are_bytes, old a.what a.fits)
 
-timed_move_takes : (bytes : Bytes) (e : Event) (rest : Bytes) → AreBytes bytes → timed_move_at bytes ≡ Ok (e, rest) → Parts 2 bytes e rest
-unfolding timed_move_at
-timed_move_takes bytes e rest are h =
-    let a = first_of_two (number_at w32) four Fits32 reads_32 bytes (λ b r. number_at w64 r >>= λ t. Ok (MoveAt b t.0, t.1)) (e, rest) are h in
-    let b = first_of_two (number_at w64) eight Fits64 reads_64 a.rest (λ t r. Ok (MoveAt a.what t, r)) (e, rest) a.are_bytes a.goes_on in
-    subst (λ (q : Event × Bytes). Parts 2 bytes q.0 q.1) (ok_is (MoveAt a.what b.what, b.rest) (e, rest) b.goes_on)
-    (ap (λ (l : Bytes). 2 ∷ l) (joined bytes (four a.what) a.rest (eight b.what) b.rest a.parts b.parts), b.are_bytes, ((a.fits, b.fits), tt))
-
-pub bytes-rest : (b : ℕ) (bytes : Bytes) → AreBytes (b ∷ bytes) → AreBytes bytes
-bytes-rest b bytes are i = are (suc i)
-
-event_takes : (bytes : Bytes) (e : Event) (rest : Bytes) → AreBytes bytes → event_at bytes ≡ Ok (e, rest) → (bytes ≡ event e ++ rest) × AreBytes rest × IsRead e
+event_takes : (bytes : Bytes) (e : Event) (rest : Bytes) → AreBytes bytes → event_at bytes ≡ Ok (e, rest) → (bytes ≡ event e ++ rest) × AreBytes rest × IsOld e
 unfolding event_at
 event_takes [] e rest are h = absurd cc
 event_takes (kind ∷ bytes) e rest are h =
-    let others : Read Event = if nat_eq kind 2 then timed_move_at bytes else Err (length (kind ∷ bytes)) in
-    elim (chosen (nat_eq kind 1) (move_at bytes) others (Ok (e, rest)) h) [
-      | inl w ↦ subst (λ (k : ℕ). Parts k bytes e rest) (sym (eqb-true kind 1 w.0)) (move_takes bytes e rest (bytes-rest kind bytes are) w.1)
-      | inr v ↦ elim (chosen (nat_eq kind 2) (timed_move_at bytes) (Err (length (kind ∷ bytes))) (Ok (e, rest)) v.1) [
-        | inl w ↦ subst (λ (k : ℕ). Parts k bytes e rest) (sym (eqb-true kind 2 w.0)) (timed_move_takes bytes e rest (bytes-rest kind bytes are) w.1)
-        | inr w ↦ absurd (let bad : ◌≡◌ {A = Read Event} (Err (length (kind ∷ bytes))) (Ok (e, rest)) = w.1 in cc)
-      ]
-    ]
+    let P : Type 0 = Parts kind bytes e rest in
+    let behind = bytes-rest kind bytes are in
+    by_code P kind 1 _ _ _ h (made_takes (number_at w32) four Fits32 reads_32 Move 1 (λ b. refl) (λ b f. f) kind bytes e rest behind) (λ h1.
+    by_code P kind 2 _ _ _ h1 (made_takes timed_at timed_bytes IsTimed reads_timed (λ p. MoveAt p.0 p.1) 2 (λ p. refl) (λ p f. f) kind bytes e rest behind) (λ h2.
+    by_code P kind 3 _ _ _ h2 (made_takes (number_at w32) four Fits32 reads_32 Begin 3 (λ b. refl) (λ b f. f) kind bytes e rest behind) (λ h3.
+    by_code P kind 4 _ _ _ h3 (made_takes timed_at timed_bytes IsTimed reads_timed (λ p. Issue p.0 p.1) 4 (λ p. refl) (λ p f. f) kind bytes e rest behind) (λ h4.
+    by_code P kind 5 _ _ _ h4 (made_takes (numbered_at reply_at) answer_bytes IsAnswer reads_answer (λ p. Answer p.0 p.1 p.2) 5 (λ p. refl) (λ p f. f) kind bytes e rest behind) (λ h5.
+    by_code P kind 6 _ _ _ h5 (made_takes timed_at timed_bytes IsTimed reads_timed (λ p. Due p.0 p.1) 6 (λ p. refl) (λ p f. f) kind bytes e rest behind) (λ h6.
+    by_code P kind 7 _ _ _ h6 (made_takes (numbered_at visitor_at) arrival_bytes IsArrival reads_arrival (λ p. Arrive p.0 p.1 p.2) 7 (λ p. refl) (λ p f. f) kind bytes e rest behind) (λ h7. absurd cc)))))))
 
-event_again : (e : Event) (rest : Bytes) → IsRead e → event_at (event e ++ rest) ≡ Ok (e, rest)
-unfolding event_at move_at timed_move_at
-event_again (Move b) rest fits = first_again (number_at w32) four Fits32 reads_32.again b rest (λ b r. Ok (Move b, r)) fits.0
-event_again (MoveAt b t) rest fits =
-    next_again (number_at w32) four Fits32 reads_32.again b (eight t) rest (λ b r. number_at w64 r >>= λ t. Ok (MoveAt b t.0, t.1)) fits.0.0
-    ∙ first_again (number_at w64) eight Fits64 reads_64.again t rest (λ t r. Ok (MoveAt b t, r)) fits.0.1
-event_again (Begin b) rest fits = absurd fits.1
-event_again (Issue b t) rest fits = absurd fits.1
-event_again (Answer k t a) rest fits = absurd fits.1
-event_again (Due b t) rest fits = absurd fits.1
-event_again (Arrive n t r) rest fits = absurd fits.1
-event_again (Cancel t) rest fits = absurd fits.1
+pub event_again : (e : Event) (rest : Bytes) → IsOld e → event_at (event e ++ rest) ≡ Ok (e, rest)
+unfolding event_at
+event_again (Move b) rest fits = ap (taken_as Move) (reads_32.again b rest fits)
+event_again (MoveAt b t) rest fits = ap (taken_as (λ p. MoveAt p.0 p.1)) (reads_timed.again (b, t) rest fits)
+event_again (Begin b) rest fits = ap (taken_as Begin) (reads_32.again b rest fits)
+event_again (Issue b t) rest fits = ap (taken_as (λ p. Issue p.0 p.1)) (reads_timed.again (b, t) rest fits)
+event_again (Answer k t a) rest fits = ap (taken_as (λ p. Answer p.0 p.1 p.2)) (reads_answer.again (k, t, a) rest fits)
+event_again (Due b t) rest fits = ap (taken_as (λ p. Due p.0 p.1)) (reads_timed.again (b, t) rest fits)
+event_again (Arrive n t r) rest fits = ap (taken_as (λ p. Arrive p.0 p.1 p.2)) (reads_arrival.again (n, t, r) rest fits)
+event_again (Cancel t) rest fits = absurd fits
 
-pub reads_event : Reads event_at event IsRead
+pub reads_event : Reads event_at event IsOld
 reads_event = record { takes = event_takes; again = event_again }
 
 -- ## Turns
 abbrev AreEvents : List Event → Type 0
-AreEvents es = (1 ≤ length es) × Each IsRead es
+AreEvents es = (1 ≤ length es) × Each IsOld es
 
 abbrev counted : ℕ → ℕ → Bytes → Read (List Event)
 counted left n rest = if nat_eq n 0 then Err left else items_at event_at n rest
@@ -202,7 +242,7 @@ events_take bytes es rest are e =
     elim (chosen (nat_eq a.what 0) (Err (length bytes)) (items_at event_at a.what a.rest) (Ok (es, rest)) a.goes_on) [
       | inl w ↦ absurd (let bad : ◌≡◌ {A = Read (List Event)} (Err (length bytes)) (Ok (es, rest)) = w.1 in cc)
       | inr w ↦
-          let items = items_take event_at event IsRead reads_event a.what a.rest es rest a.are_bytes w.1 in
+          let items = items_take event_at event IsOld reads_event a.what a.rest es rest a.are_bytes w.1 in
           let some = at_least_one a.what w.0 in (
             a.parts ∙ ap (λ (l : Bytes). four a.what ++ l) items.0 ∙ ap (λ (k : ℕ). four k ++ (flat_map event es ++ rest)) (sym items.2),
             items.1,
@@ -215,15 +255,14 @@ unfolding events_at
 events_again es rest fits =
     let left = length (listed event es ++ rest) in
     let behind : counted left (length es) (flat_map event es ++ rest) ≡ items_at event_at (length es) (flat_map event es ++ rest) = rw (not_none (length es) fits.0) refl in
-    first_again (number_at w32) four Fits32 reads_32.again (length es) (flat_map event es ++ rest) (counted left) fits.1.0 ∙ behind ∙ items_again event_at event IsRead reads_event.again es rest fits.1.1
+    first_again (number_at w32) four Fits32 reads_32.again (length es) (flat_map event es ++ rest) (counted left) fits.1.0 ∙ behind ∙ items_again event_at event IsOld reads_event.again es rest fits.1.1
 
 reads_events : Reads events_at (listed event) AreEvents
 reads_events = record { takes = events_take; again = events_again }
 
 -- a turn that is read by now
-pub record IsReadTurn (t : Turn) : Type 0 where
-  pub is_turn : IsTurn t
-  pub events : Each IsRead t.events
+abbrev pub IsOldTurn : Turn → Type 0
+IsOldTurn t = IsTurn t × Each IsOld t.events
 
 abbrev a_turn : ℕ → ℕ → List Event → Turn
 a_turn session waits es = record { session = session; waits = waits; events = es }
@@ -234,24 +273,24 @@ behind_waits session waits rest = events_at rest >>= λ es. Ok (a_turn session w
 abbrev behind_session : ℕ → Bytes → Read Turn
 behind_session session rest = number_at w64 rest >>= λ waits. behind_waits session waits.0 waits.1
 
-turn_takes : (bytes : Bytes) (t : Turn) (rest : Bytes) → AreBytes bytes → turn_at bytes ≡ Ok (t, rest) → (bytes ≡ turn (listed event) t ++ rest) × AreBytes rest × IsReadTurn t
+turn_takes : (bytes : Bytes) (t : Turn) (rest : Bytes) → AreBytes bytes → turn_at bytes ≡ Ok (t, rest) → (bytes ≡ turn (listed event) t ++ rest) × AreBytes rest × IsOldTurn t
 unfolding turn_at
 turn_takes bytes t rest are e =
     let a = first_of_two (number_at w64) eight Fits64 reads_64 bytes behind_session (t, rest) are e in
     let b = first_of_two (number_at w64) eight Fits64 reads_64 a.rest (behind_waits a.what) (t, rest) a.are_bytes a.goes_on in
     let c = first_of_two events_at (listed event) AreEvents reads_events b.rest (λ es l. Ok (a_turn a.what b.what es, l)) (t, rest) b.are_bytes b.goes_on in
-    subst (λ (q : Turn × Bytes). (bytes ≡ turn (listed event) q.0 ++ q.1) × AreBytes q.1 × IsReadTurn q.0) (ok_is (a_turn a.what b.what c.what, c.rest) (t, rest) c.goes_on) (
+    subst (λ (q : Turn × Bytes). (bytes ≡ turn (listed event) q.0 ++ q.1) × AreBytes q.1 × IsOldTurn q.0) (ok_is (a_turn a.what b.what c.what, c.rest) (t, rest) c.goes_on) (
       joined bytes (eight a.what) a.rest (eight b.what ++ listed event c.what) c.rest a.parts (joined a.rest (eight b.what) b.rest (listed event c.what) c.rest b.parts c.parts),
       c.are_bytes,
-      record { is_turn = record { session = a.fits; waits = b.fits; events = c.fits.0 }; events = c.fits.1 },
+      (record { session = a.fits; waits = b.fits; events = c.fits.0 }, c.fits.1),
     )
 
-turn_again : (t : Turn) (rest : Bytes) → IsReadTurn t → turn_at (turn (listed event) t ++ rest) ≡ Ok (t, rest)
+turn_again : (t : Turn) (rest : Bytes) → IsOldTurn t → turn_at (turn (listed event) t ++ rest) ≡ Ok (t, rest)
 unfolding turn_at
 turn_again t rest fits =
-    next_again (number_at w64) eight Fits64 reads_64.again t.session (eight t.waits ++ listed event t.events) rest behind_session fits.is_turn.session
-    ∙ next_again (number_at w64) eight Fits64 reads_64.again t.waits (listed event t.events) rest (behind_waits t.session) fits.is_turn.waits
-    ∙ first_again events_at (listed event) AreEvents reads_events.again t.events rest (λ es l. Ok (a_turn t.session t.waits es, l)) (fits.is_turn.events, fits.events)
+    next_again (number_at w64) eight Fits64 reads_64.again t.session (eight t.waits ++ listed event t.events) rest behind_session fits.0.session
+    ∙ next_again (number_at w64) eight Fits64 reads_64.again t.waits (listed event t.events) rest (behind_waits t.session) fits.0.waits
+    ∙ first_again events_at (listed event) AreEvents reads_events.again t.events rest (λ es l. Ok (a_turn t.session t.waits es, l)) (fits.0.events, fits.1)
 
-pub reads_turn : Reads turn_at (turn (listed event)) IsReadTurn
+pub reads_turn : Reads turn_at (turn (listed event)) IsOldTurn
 reads_turn = record { takes = turn_takes; again = turn_again }

@@ -1,44 +1,22 @@
 -- Reading a record's bytes from left to right, as far as records are read by now: a start under the first rules, or a turn
--- of moves.
+-- of any events but a cancelling.
 --     record_of     the record, or the offset of the first part that no such record goes on with
 --     meaning       the record, if there is one
-use Rattle.std.specs.Prelude.{ℕ, zero, suc, ◌-◌, Bool, false, ◌&&◌, nat_eq, nat_le, nat_lt, if◌then◌else◌, List, [], ◌∷◌, length, take, drop, bytes_eq, Option, Some, None, Result, Ok, Err}
-use Rattle.std.specs.Int.{Width, w16, w32, w64, byte_len, from_be_bytes}
-use Rattle.std.specs.Str.{is_utf8}
+use Rattle.std.specs.Prelude.{ℕ, ◌-◌, Bool, false, ◌&&◌, nat_eq, nat_le, if◌then◌else◌, List, length, bytes_eq, Option, Some, None, Result, Ok, Err}
+use Rattle.std.specs.Int.{w16, w32, w64}
 use Rattle.wf_events.specs.Records.{Record, Started, Turned}
-use Rattle.wf_events.specs.Spelling.{Bytes}
-use Rattle.wf_shared.specs.Events.{Address, Event, Move, MoveAt, Start, Turn}
+use Rattle.wf_record_parts.specs.Reading.{Read, ◌>>=◌, byte_at, number_at, string_at, text_at, items_at, list_at, visitor_at, reply_at}
+use Rattle.wf_record_parts.specs.Spelling.{Bytes}
+use Rattle.wf_shared.specs.Events.{Address, Event, Move, MoveAt, Begin, Issue, Answer, Due, Arrive, Start, Turn}
 use Rattle.wf_value.specs.Data.{Data, size}
 use Rattle.wf_value.specs.Decode.{json_value}
 use Rattle.wf_value.specs.Json.{json_text}
 
--- what stands at the front and the bytes behind it, or how many bytes are left where no part stands
-abbrev pub Read : Type 0 → Type 0
-Read A = Result (A × Bytes) ℕ
+-- what was read, as such a thing
+abbrev pub taken_as : {A B : Type 0} → (A → B) → Read A → Read B
+taken_as made read = read >>= λ x. Ok (made x.0, x.1)
 
-infixl 10 ◌>>=◌
-abbrev pub ◌>>=◌ : {A B : Type 0} → Result A ℕ → (A → Result B ℕ) → Result B ℕ
-(Ok x) >>= f = f x
-(Err left) >>= f = Err left
-
--- ## Parts
-abbrev pub byte_at : Bytes → Read ℕ
-byte_at [] = Err 0
-byte_at (b ∷ bytes) = Ok (b, bytes)
-
-abbrev pub number_at : Width → Bytes → Read ℕ
-number_at w bytes = if nat_lt (length bytes) (byte_len w) then Err (length bytes) else Ok (from_be_bytes w (take (byte_len w) bytes), drop (byte_len w) bytes)
-
-unfoldable pub string_at : Bytes → Read Bytes
-string_at bytes = do
-  n ← number_at w32 bytes
-  if nat_lt (length n.1) n.0 then Err (length bytes) else Ok (take n.0 n.1, drop n.0 n.1)
-
-unfoldable pub text_at : Bytes → Read Bytes
-text_at bytes = do
-  s ← string_at bytes
-  if is_utf8 s.0 then Ok s else Err (length bytes)
-
+-- ## Parts of starts
 -- whether the value that these bytes say counts at most 32,768 and is written so
 abbrev pub is_written : Bytes → Option Data → Bool
 is_written s None = false
@@ -51,18 +29,6 @@ unfoldable pub argument_at : Bytes → Read Bytes
 argument_at bytes = do
   s ← string_at bytes
   if is_argument s.0 then Ok s else Err (length bytes)
-
-unfoldable pub items_at : {A : Type 0} → (Bytes → Read A) → ℕ → Bytes → Read (List A)
-items_at item zero bytes = Ok ([], bytes)
-items_at item (suc n) bytes = do
-  x ← item bytes
-  xs ← items_at item n x.1
-  Ok (x.0 ∷ xs.0, xs.1)
-
-unfoldable pub list_at : {A : Type 0} → (Bytes → Read A) → Bytes → Read (List A)
-list_at item bytes = do
-  n ← number_at w32 bytes
-  items_at item n.0 n.1
 
 unfoldable pub pair_at : Bytes → Read (Bytes × Bytes)
 pair_at bytes = do
@@ -78,22 +44,40 @@ route_at bytes = do
   Ok ((host.0, record { name = name.0; port = port.0 }), port.1)
 
 -- ## Events
-unfoldable pub move_at : Bytes → Read Event
-move_at bytes = do
-  b ← number_at w32 bytes
-  Ok (Move b.0, b.1)
+-- a task and a reading
+unfoldable pub timed_at : Bytes → Read (ℕ × ℕ)
+timed_at bytes = do
+  task ← number_at w32 bytes
+  reading ← number_at w64 task.1
+  Ok ((task.0, reading.0), reading.1)
 
-unfoldable pub timed_move_at : Bytes → Read Event
-timed_move_at bytes = do
-  b ← number_at w32 bytes
-  t ← number_at w64 b.1
-  Ok (MoveAt b.0 t.0, t.1)
+-- the number of a call or of an endpoint, a reading, and what came
+unfoldable pub numbered_at : {A : Type 0} → (Bytes → Read A) → Bytes → Read (ℕ × ℕ × A)
+numbered_at at bytes = do
+  number ← number_at w64 bytes
+  reading ← number_at w64 number.1
+  what ← at reading.1
+  Ok ((number.0, reading.0, what.0), what.1)
 
 -- by the first byte
 unfoldable pub event_at : Bytes → Read Event
 event_at bytes = do
   kind ← byte_at bytes
-  if nat_eq kind.0 1 then move_at kind.1 else if nat_eq kind.0 2 then timed_move_at kind.1 else Err (length bytes)
+  if nat_eq kind.0 1
+      then taken_as Move (number_at w32 kind.1)
+      else if nat_eq kind.0 2
+      then taken_as (λ p. MoveAt p.0 p.1) (timed_at kind.1)
+      else if nat_eq kind.0 3
+      then taken_as Begin (number_at w32 kind.1)
+      else if nat_eq kind.0 4
+      then taken_as (λ p. Issue p.0 p.1) (timed_at kind.1)
+      else if nat_eq kind.0 5
+      then taken_as (λ p. Answer p.0 p.1 p.2) (numbered_at reply_at kind.1)
+      else if nat_eq kind.0 6
+      then taken_as (λ p. Due p.0 p.1) (timed_at kind.1)
+      else if nat_eq kind.0 7
+      then taken_as (λ p. Arrive p.0 p.1 p.2) (numbered_at visitor_at kind.1)
+      else Err (length bytes)
 
 -- at least one
 unfoldable pub events_at : Bytes → Read (List Event)
@@ -120,9 +104,6 @@ start_at bytes = do
   base ← text_at env.1
   reading ← number_at w64 base.1
   Ok (record { rules = 1; id = id.0; source = source.0; argument = argument.0; routes = routes.0; env = env.0; base = base.0; reading = reading.0 }, reading.1)
-
-abbrev pub taken_as : {A : Type 0} → (A → Record) → Read A → Read Record
-taken_as r read = read >>= λ x. Ok (r x.0, x.1)
 
 -- by the first byte
 unfoldable pub record_at : Bytes → Read Record

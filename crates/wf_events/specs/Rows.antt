@@ -2,8 +2,9 @@
 use Rattle.std.specs.Prelude.{◌≡◌, ℕ, List, [], ◌∷◌, ◌++◌, Some, None, Err, codes}
 use Rattle.wf_events.specs.Reading.{record_of, meaning}
 use Rattle.wf_events.specs.Records.{Started, Turned, Kept, Upgrade, Packed, StartedTwo}
-use Rattle.wf_events.specs.Spelling.{Bytes, event, record_bytes}
-use Rattle.wf_shared.specs.Events.{Post, Response, Broken, TooLong, Event, Move, MoveAt, Begin, Issue, Answer, Due, Arrive, Cancel, Start, Turn}
+use Rattle.wf_events.specs.Spelling.{event, record_bytes}
+use Rattle.wf_record_parts.specs.Spelling.{Bytes}
+use Rattle.wf_shared.specs.Events.{Post, Reply, Response, Broken, TooLong, Visitor, Event, Move, MoveAt, Begin, Issue, Answer, Due, Arrive, Cancel, Start, Turn}
 
 -- a number below 256 in two bytes, in four and in eight
 abbrev pub in_two : ℕ → Bytes
@@ -60,11 +61,16 @@ BeginningOfATask = event (Begin 3) ≡ joined ((3 ∷ []) ∷ in_four 3 ∷ [])
 abbrev pub IssueOfACall : Type 0
 IssueOfACall = event (Issue 3 9) ≡ joined ((4 ∷ []) ∷ in_four 3 ∷ in_eight 9 ∷ [])
 
--- call 1 is answered at the reading 9 by the code 200, one field and a body
+-- the code 200, one field and a body
+abbrev pub a_response : Reply
+a_response = Response 200 ((codes "A", codes "bc") ∷ []) (codes "x")
+
+-- call 1 is answered by it at the reading 9
+abbrev pub answer_of_a_call : Bytes
+answer_of_a_call = joined ((5 ∷ []) ∷ in_eight 1 ∷ in_eight 9 ∷ (0 ∷ []) ∷ in_two 200 ∷ in_four 1 ∷ in_four 1 ∷ codes "A" ∷ in_four 2 ∷ codes "bc" ∷ in_four 1 ∷ codes "x" ∷ [])
+
 abbrev pub AnswerOfACall : Type 0
-AnswerOfACall =
-    event (Answer 1 9 (Response 200 ((codes "A", codes "bc") ∷ []) (codes "x")))
-    ≡ joined ((5 ∷ []) ∷ in_eight 1 ∷ in_eight 9 ∷ (0 ∷ []) ∷ in_two 200 ∷ in_four 1 ∷ in_four 1 ∷ codes "A" ∷ in_four 2 ∷ codes "bc" ∷ in_four 1 ∷ codes "x" ∷ [])
+AnswerOfACall = event (Answer 1 9 a_response) ≡ answer_of_a_call
 
 abbrev pub BrokenAnswer : Type 0
 BrokenAnswer = event (Answer 2 9 Broken) ≡ joined ((5 ∷ []) ∷ in_eight 2 ∷ in_eight 9 ∷ (1 ∷ []) ∷ [])
@@ -75,11 +81,39 @@ LongAnswer = event (Answer 3 9 TooLong) ≡ joined ((5 ∷ []) ∷ in_eight 3 �
 abbrev pub DueMoment : Type 0
 DueMoment = event (Due 3 9) ≡ joined ((6 ∷ []) ∷ in_four 3 ∷ in_eight 9 ∷ [])
 
+abbrev pub a_post : Visitor
+a_post = record { method = Post; headers = []; body = codes "y" }
+
+-- it comes to endpoint 4
+abbrev pub arrival_of_a_post : Bytes
+arrival_of_a_post = joined ((7 ∷ []) ∷ in_eight 4 ∷ in_eight 9 ∷ (1 ∷ []) ∷ in_four 0 ∷ in_four 1 ∷ codes "y" ∷ [])
+
 abbrev pub ArrivalOfAPost : Type 0
-ArrivalOfAPost = event (Arrive 4 9 (record { method = Post; headers = []; body = codes "y" })) ≡ joined ((7 ∷ []) ∷ in_eight 4 ∷ in_eight 9 ∷ (1 ∷ []) ∷ in_four 0 ∷ in_four 1 ∷ codes "y" ∷ [])
+ArrivalOfAPost = event (Arrive 4 9 a_post) ≡ arrival_of_a_post
 
 abbrev pub Cancelling : Type 0
 Cancelling = event (Cancel 9) ≡ joined ((8 ∷ []) ∷ in_eight 9 ∷ [])
+
+-- the seven events of the first format, one after the other
+abbrev pub seven : List Event
+seven = Move 0 ∷ MoveAt 0 9 ∷ Begin 0 ∷ Issue 1 9 ∷ Answer 1 9 a_response ∷ Due 1 9 ∷ Arrive 4 9 a_post ∷ []
+
+abbrev pub seven_events : Bytes
+seven_events =
+    joined
+    (head 2 7 ∷ (1 ∷ []) ∷ in_four 0 ∷ (2 ∷ []) ∷ in_four 0 ∷ in_eight 9 ∷ (3 ∷ []) ∷ in_four 0 ∷ (4 ∷ []) ∷ in_four 1 ∷ in_eight 9 ∷ answer_of_a_call ∷ (6 ∷ [])
+    ∷ in_four 1 ∷ in_eight 9 ∷ arrival_of_a_post ∷ [])
+
+abbrev pub SevenEventsAreRead : Type 0
+SevenEventsAreRead = meaning seven_events ≡ Some (Turned (turn_of seven))
+
+-- what was kept of an answer begins at offset 38
+abbrev pub ReplyOfNoKind : Type 0
+ReplyOfNoKind = record_of (joined (head 2 1 ∷ (5 ∷ []) ∷ in_eight 1 ∷ in_eight 9 ∷ (3 ∷ []) ∷ [])) ≡ Err 38
+
+-- so does the method of a request
+abbrev pub SixIsNoMethod : Type 0
+SixIsNoMethod = record_of (joined (head 2 1 ∷ (7 ∷ []) ∷ in_eight 4 ∷ in_eight 9 ∷ (6 ∷ []) ∷ in_four 0 ∷ in_four 0 ∷ [])) ≡ Err 38
 
 -- ## Starts
 abbrev pub start_of : ℕ → Start
@@ -135,8 +169,8 @@ abbrev pub ByteBehindATurn : Type 0
 ByteBehindATurn = record_of (one_move ++ 0 ∷ []) ≡ Err 26
 
 -- what isn't built is not read yet
-abbrev pub BeginIsNotReadYet : Type 0
-BeginIsNotReadYet = record_of (joined (head 2 1 ∷ (3 ∷ []) ∷ in_four 0 ∷ [])) ≡ Err 21
+abbrev pub CancellingIsNotReadYet : Type 0
+CancellingIsNotReadYet = record_of (joined (head 2 1 ∷ (8 ∷ []) ∷ in_eight 9 ∷ [])) ≡ Err 21
 
 abbrev pub PackedIsNotReadYet : Type 0
 PackedIsNotReadYet = meaning (joined (head 5 1 ∷ (1 ∷ []) ∷ in_four 0 ∷ in_four 1 ∷ [])) ≡ None

@@ -3,60 +3,17 @@
 --     HasSpelling         which records have a spelling
 --     Spells              these bytes spell this record
 --     IsBuilt             which records are read and written by now
-use Rattle.std.specs.Prelude.{◌≡◌, ◌⊎◌, ℕ, suc, ◌<◌, ◌≤◌, ◌^◌, nat_eq, if◌then◌else◌, List, [], ◌∷◌, ◌++◌, length, Some, IsUtf8}
-use Rattle.std.specs.Int.{w16, w32, w64, to_be_bytes}
-use Rattle.std.specs.List.{AllByRecursion, flat_map}
+use Rattle.std.specs.Prelude.{◌≡◌, ◌⊎◌, ℕ, suc, ◌<◌, ◌≤◌, ◌^◌, nat_eq, if◌then◌else◌, List, [], ◌∷◌, ◌++◌, length, Some}
 use Rattle.wf_events.specs.Records.{Record, Started, Turned, Kept, Upgrade, Packed, StartedTwo}
-use Rattle.wf_shared.specs.Events.{Headers, Method, Get, Post, Put, Patch, Delete, Options, Reply, Response, Broken, TooLong, Visitor, Address, Event, Move, MoveAt, Begin, Issue, Answer, Due, Arrive, Cancel, Start, Turn}
+use Rattle.wf_record_parts.specs.Spelling.{Bytes, two, four, eight, string, listed, pair, reply, visitor, Fits32, Fits64, Each, IsString, IsText, IsReply, IsVisitor}
+use Rattle.wf_shared.specs.Events.{Address, Event, Move, MoveAt, Begin, Issue, Answer, Due, Arrive, Cancel, Start, Turn}
 use Rattle.wf_value.specs.Data.{Data, size}
 use Rattle.wf_value.specs.Decode.{json_value}
 use Rattle.wf_value.specs.Json.{json_text}
 
-abbrev pub Bytes : Type 0
-Bytes = List ℕ
-
--- ## Parts
-abbrev pub two : ℕ → Bytes
-two n = to_be_bytes w16 n
-
-abbrev pub four : ℕ → Bytes
-four n = to_be_bytes w32 n
-
-abbrev pub eight : ℕ → Bytes
-eight n = to_be_bytes w64 n
-
--- four bytes of length, and that many bytes
-abbrev pub string : Bytes → Bytes
-string s = four (length s) ++ s
-
--- four bytes of count, and each item
-abbrev pub listed : {A : Type 0} → (A → Bytes) → List A → Bytes
-listed item xs = four (length xs) ++ flat_map item xs
-
-abbrev pub pair : Bytes × Bytes → Bytes
-pair p = string p.0 ++ string p.1
-
+-- ## Routes
 abbrev pub route : Bytes × Address → Bytes
 route r = string r.0 ++ string r.1.name ++ two r.1.port
-
-abbrev pub headers : Headers → Bytes
-headers fs = listed pair fs
-
-abbrev pub method : Method → Bytes
-method Get = 0 ∷ []
-method Post = 1 ∷ []
-method Put = 2 ∷ []
-method Patch = 3 ∷ []
-method Delete = 4 ∷ []
-method Options = 5 ∷ []
-
-abbrev pub reply : Reply → Bytes
-reply (Response code fs body) = 0 ∷ two code ++ headers fs ++ string body
-reply Broken = 1 ∷ []
-reply TooLong = 2 ∷ []
-
-abbrev pub visitor : Visitor → Bytes
-visitor r = method r.method ++ headers r.headers ++ string r.body
 
 -- ## Events
 abbrev pub event : Event → Bytes
@@ -108,35 +65,11 @@ record_bytes (Packed t) = 5 ∷ turn (λ es. listed group (groups es)) t
 record_bytes (StartedTwo s) = 6 ∷ s.rules ∷ start s
 
 -- ## Which have a spelling
-abbrev pub Fits32 : ℕ → Type 0
-Fits32 n = n < 2 ^ 32
-
-abbrev pub Fits64 : ℕ → Type 0
-Fits64 n = n < 2 ^ 64
-
--- few enough to be counted, and each of them fits
-abbrev pub Each : {A : Type 0} → (A → Type 0) → List A → Type 0
-Each P xs = Fits32 (length xs) × AllByRecursion P xs
-
-abbrev pub IsString : Bytes → Type 0
-IsString s = Fits32 (length s)
-
-abbrev pub IsText : Bytes → Type 0
-IsText s = IsString s × IsUtf8 s
-
 abbrev pub IsRoute : Bytes × Address → Type 0
 IsRoute r = IsText r.0 × IsText r.1.name × (r.1.port < 2 ^ 16)
 
 abbrev pub IsPair : Bytes × Bytes → Type 0
 IsPair p = IsText p.0 × IsText p.1
-
-abbrev pub IsHeaders : Headers → Type 0
-IsHeaders fs = Each (λ f. IsString f.0 × IsString f.1) fs
-
-abbrev pub IsReply : Reply → Type 0
-IsReply (Response code fs body) = (code < 2 ^ 16) × IsHeaders fs × IsString body
-IsReply Broken = Unit {0}
-IsReply TooLong = Unit {0}
 
 abbrev pub IsEvent : Event → Type 0
 IsEvent (Move b) = Fits32 b
@@ -145,7 +78,7 @@ IsEvent (Begin b) = Fits32 b
 IsEvent (Issue b t) = Fits32 b × Fits64 t
 IsEvent (Answer k t a) = Fits64 k × Fits64 t × IsReply a
 IsEvent (Due b t) = Fits32 b × Fits64 t
-IsEvent (Arrive n t r) = Fits64 n × Fits64 t × IsHeaders r.headers × IsString r.body
+IsEvent (Arrive n t r) = Fits64 n × Fits64 t × IsVisitor r
 IsEvent (Cancel t) = Fits64 t
 
 -- a cancelling stands in packed turns alone
@@ -192,13 +125,8 @@ abbrev pub Spells : Bytes → Record → Type 0
 Spells bytes r = HasSpelling r × (bytes ≡ record_bytes r)
 
 -- ## Which are read and written by now
-abbrev pub IsMove : Event → Type 0
-IsMove (Move b) = Unit {0}
-IsMove (MoveAt b t) = Unit {0}
-IsMove e = ⊥
-
--- a start under the first rules, or a turn of moves
+-- the first format: a start under the first rules, or a turn
 abbrev pub IsBuilt : Record → Type 0
 IsBuilt (Started s) = Unit {0}
-IsBuilt (Turned t) = AllByRecursion IsMove t.events
+IsBuilt (Turned t) = Unit {0}
 IsBuilt r = ⊥

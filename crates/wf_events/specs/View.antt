@@ -1,6 +1,8 @@
 -- What the program's records are, as plain data.
 use Rattle.std.specs.Prelude.{ℕ, List, map}
+use Rattle.wf_callbacks.specs.Plain.{plain_visitor}
 use Rattle.wf_host.specs.declared.data.Address.{Address}
+use Rattle.wf_record_parts.specs.View.{reply_view}
 use Rattle.wf_shared.specs.Events as plain
 use Rattle.wf_events.specs.Records as records
 use Rattle.wf_events.specs.declared.data.Event.{Event}
@@ -14,6 +16,11 @@ use Rattle.wf_events.specs.declared.data.Record.TheVariants as record_of
 abbrev pub event_view : Event → plain.Event
 event_view (event.Move b) = plain.Event.Move b
 event_view (event.MoveAt b t) = plain.Event.MoveAt b t
+event_view (event.Begin b) = plain.Event.Begin b
+event_view (event.Issue b t) = plain.Event.Issue b t
+event_view (event.Answer k t a) = plain.Event.Answer k t (reply_view a)
+event_view (event.Due b t) = plain.Event.Due b t
+event_view (event.Arrive n t r) = plain.Event.Arrive n t (plain_visitor r)
 
 abbrev pub event_list : Events → List Event
 event_list es = es.items.items

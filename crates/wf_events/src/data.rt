@@ -3,18 +3,29 @@ ghost use Rattle.std.specs.Prelude.{◌≡◌, [], ◌∷◌, ◌++◌, IfOk, On
 ghost use Rattle.wf_events.specs.View.{event_view, events_view, event_list};
 
 use std::alloc::Global;
-use std::marker::Model;
+use wf_callbacks::Visitor;
 use wf_host::Routes;
+use wf_record_parts::Reply;
 use wf_value::{Bytes, OutOfMemory, Pairs, Text};
 
-/// An atomic step of an execution: one change of its configuration. The reading of the clock that an event takes is in
-/// milliseconds since 1970.
-#[derive(Debug, PartialEq, Eq, Drop)]
+/// An atomic step of an execution: one change of its configuration. Tasks, calls and endpoints have
+/// numbers; `main` is task 0. A reading is the clock's, in milliseconds since 1970.
+#[derive(Drop)]
 pub enum Event {
-    /// A move of the task with this number, which reads no clock. `main` is task 0.
+    /// A move of this task, which reads no clock.
     Move(u32),
-    /// A move of the task with this number, at this reading of the clock.
+    /// A move of this task, at this reading.
     MoveAt(u32, u64),
+    /// This task begins its next branch or iteration.
+    Begin(u32),
+    /// This task issues a call, at this reading.
+    Issue(u32, u64),
+    /// This call is answered, at this reading and with this reply.
+    Answer(u64, u64, Reply),
+    /// The moment for which this task waits has come, at this reading.
+    Due(u32, u64),
+    /// A request came to this endpoint, at this reading.
+    Arrive(u64, u64, Visitor),
 }
 
 /// Events in the order in which they came.

@@ -1,215 +1,187 @@
 // From bytes to records.
 ghost use Rattle.std.specs.Prelude.{◌≡◌, IfOk, IfErr, Some, map};
-ghost use Rattle.std.specs.Int.{w16, w32, w64};
-ghost use Rattle.wf_events.specs.Faults.{Gives, GivesWhole, IsFaultOf, IsUnspelled};
-ghost use Rattle.wf_events.specs.Reading.{byte_at, number_at, string_at, text_at, argument_at, list_at, route_at, pair_at, start_at, event_at, events_at, turn_at, record_at, whole_at, meaning};
+ghost use Rattle.wf_events.specs.Faults.{GivesWhole, IsFaultOf, IsUnspelled};
+ghost use Rattle.wf_events.specs.Reading.{argument_at, pair_at, route_at, start_at, timed_at, numbered_at, event_at, events_at, turn_at, record_at, whole_at, taken_as, meaning};
 ghost use Rattle.wf_events.specs.Spelling.{Spells};
 ghost use Rattle.wf_events.specs.View.{route_view, start_view, event_view, events_view, turn_view, record_view};
+ghost use Rattle.wf_record_parts.specs.Faults.{Gives};
+ghost use Rattle.wf_record_parts.specs.Reading.{list_at, reply_at, visitor_at};
+ghost use Rattle.wf_shared.specs.Events.{Answer, Arrive};
 
 use crate::argument::is_argument;
 use crate::data::{Event, Events, Record, Start, Turn};
-use crate::fault::{ReadFault, RecordFault};
+use crate::fault::RecordFault;
 use std::alloc::Global;
 use wf_host::{Address, Routes};
+use wf_record_parts::{ReadFault, Reader};
 use wf_value::{Bytes, Pairs, Text};
 
-/// The bytes of a record that are still to read. Each of its calls takes a part from the front, or says how many bytes were
-/// left where no such part stands.
-#[derive(Drop)]
-struct Reader<'a> {
-    rest: &'a [u8],
+#[tactic(auto, unfolding(crate::specs::Reading::argument_at))]
+fn argument(reader: &mut Reader<'_>, alloc: Global) -> Result<Bytes, ReadFault>
+    ensures { Gives (λ s. s) result reader.new (argument_at reader.old) }
+{
+    let left = reader.left();
+    let text = reader.string()?;
+    if !is_argument(alloc, text)? {
+        return Err(ReadFault::NoPart(left));
+    }
+    Ok(Bytes::new(alloc, text)?)
 }
 
-impl<'a> Reader<'a> {
-    fn byte(&mut self) -> Result<u8, ReadFault>
-        ensures { Gives (λ n. n) result self.new.rest.now (byte_at self.old.rest.now) }
-    {
-        let Some((first, rest)) = self.rest.split_first() else {
-            return Err(ReadFault::NoPart(0));
-        };
-        self.rest = rest;
-        Ok(*first)
-    }
+#[tactic(auto, unfolding(crate::specs::Reading::route_at))]
+fn route(reader: &mut Reader<'_>, alloc: Global) -> Result<(Text, Address), ReadFault>
+    ensures { Gives (λ r. route_view r) result reader.new (route_at reader.old) }
+{
+    let host = reader.text(alloc)?;
+    let name = reader.text(alloc)?;
+    let port = reader.u16()?;
+    Ok((host, Address { name, port }))
+}
 
-    fn u16(&mut self) -> Result<u16, ReadFault>
-        ensures { Gives (λ n. n) result self.new.rest.now (number_at w16 self.old.rest.now) }
-    {
-        let Some((number, rest)) = self.rest.split_first_chunk::<2>() else {
-            return Err(ReadFault::NoPart(self.rest.len()));
-        };
-        self.rest = rest;
-        Ok(u16::from_be_bytes(*number))
+#[tactic(auto, unfolding(wf_record_parts::specs::Reading::list_at))]
+fn routes(reader: &mut Reader<'_>, alloc: Global) -> Result<Routes, ReadFault>
+    ensures { Gives (λ rs. map route_view rs) result reader.new (list_at route_at reader.old) }
+{
+    let count = reader.u32()?;
+    let mut routes = Routes::new(alloc);
+    for _ in 0..count {
+        let (host, to) = route(reader, alloc)?;
+        routes.push(host, to)?;
     }
+    Ok(routes)
+}
 
-    fn u32(&mut self) -> Result<u32, ReadFault>
-        ensures { Gives (λ n. n) result self.new.rest.now (number_at w32 self.old.rest.now) }
-    {
-        let Some((number, rest)) = self.rest.split_first_chunk::<4>() else {
-            return Err(ReadFault::NoPart(self.rest.len()));
-        };
-        self.rest = rest;
-        Ok(u32::from_be_bytes(*number))
+#[tactic(auto, unfolding(crate::specs::Reading::pair_at))]
+fn pair(reader: &mut Reader<'_>, alloc: Global) -> Result<(Text, Text), ReadFault>
+    ensures { Gives (λ p. p) result reader.new (pair_at reader.old) }
+{
+    let key = reader.text(alloc)?;
+    let value = reader.text(alloc)?;
+    Ok((key, value))
+}
+
+#[tactic(auto, unfolding(wf_record_parts::specs::Reading::list_at))]
+fn pairs(reader: &mut Reader<'_>, alloc: Global) -> Result<Pairs, ReadFault>
+    ensures { Gives (λ ps. ps) result reader.new (list_at pair_at reader.old) }
+{
+    let count = reader.u32()?;
+    let mut pairs = Pairs::new(alloc);
+    for _ in 0..count {
+        let (key, value) = pair(reader, alloc)?;
+        pairs.push(key, value)?;
     }
+    Ok(pairs)
+}
 
-    fn u64(&mut self) -> Result<u64, ReadFault>
-        ensures { Gives (λ n. n) result self.new.rest.now (number_at w64 self.old.rest.now) }
-    {
-        let Some((number, rest)) = self.rest.split_first_chunk::<8>() else {
-            return Err(ReadFault::NoPart(self.rest.len()));
-        };
-        self.rest = rest;
-        Ok(u64::from_be_bytes(*number))
-    }
+#[tactic(auto, unfolding(crate::specs::Reading::start_at))]
+fn start(reader: &mut Reader<'_>, alloc: Global) -> Result<Start, ReadFault>
+    ensures { Gives start_view result reader.new (start_at reader.old) }
+{
+    Ok(Start {
+        id: reader.text(alloc)?,
+        source: reader.bytes(alloc)?,
+        argument: argument(reader, alloc)?,
+        routes: routes(reader, alloc)?,
+        env: pairs(reader, alloc)?,
+        base: reader.text(alloc)?,
+        reading: reader.u64()?,
+    })
+}
 
-    #[tactic(auto, unfolding(crate::specs::Reading::string_at))]
-    fn string(&mut self) -> Result<&'a [u8], ReadFault>
-        ensures { Gives (λ s. s.now) result self.new.rest.now (string_at self.old.rest.now) }
-    {
-        let left = self.rest.len();
-        let length = self.u32()? as usize;
-        let Some((string, rest)) = self.rest.split_at_checked(length) else {
-            return Err(ReadFault::NoPart(left));
-        };
-        self.rest = rest;
-        Ok(string)
-    }
+/// A task and a reading.
+#[tactic(auto, unfolding(crate::specs::Reading::timed_at))]
+fn timed(reader: &mut Reader<'_>) -> Result<(u32, u64), ReadFault>
+    ensures { Gives (λ p. p) result reader.new (timed_at reader.old) }
+{
+    let task = reader.u32()?;
+    let reading = reader.u64()?;
+    Ok((task, reading))
+}
 
-    #[tactic(auto, unfolding(crate::specs::Reading::text_at))]
-    fn text(&mut self, alloc: Global) -> Result<Text, ReadFault>
-        ensures { Gives (λ t. t) result self.new.rest.now (text_at self.old.rest.now) }
-    {
-        let left = self.rest.len();
-        match str::from_utf8(self.string()?) {
-            Ok(text) => Ok(Text::new(alloc, text)?),
-            Err(_) => Err(ReadFault::NoPart(left)),
+/// The answer to a call, behind its code.
+#[tactic(auto, unfolding(crate::specs::Reading::numbered_at))]
+fn answer(reader: &mut Reader<'_>, alloc: Global) -> Result<Event, ReadFault>
+    ensures { Gives event_view result reader.new
+        (taken_as (λ p. Answer p.0 p.1 p.2) (numbered_at reply_at reader.old)) }
+{
+    let call = reader.u64()?;
+    let reading = reader.u64()?;
+    Ok(Event::Answer(call, reading, reader.reply(alloc)?))
+}
+
+/// The arrival of a request, behind its code.
+#[tactic(auto, unfolding(crate::specs::Reading::numbered_at))]
+fn arrival(reader: &mut Reader<'_>, alloc: Global) -> Result<Event, ReadFault>
+    ensures { Gives event_view result reader.new
+        (taken_as (λ p. Arrive p.0 p.1 p.2) (numbered_at visitor_at reader.old)) }
+{
+    let endpoint = reader.u64()?;
+    let reading = reader.u64()?;
+    Ok(Event::Arrive(endpoint, reading, reader.visitor(alloc)?))
+}
+
+#[tactic(auto, unfolding(crate::specs::Reading::event_at))]
+fn event(reader: &mut Reader<'_>, alloc: Global) -> Result<Event, ReadFault>
+    ensures { Gives event_view result reader.new (event_at reader.old) }
+{
+    let left = reader.left();
+    match reader.byte()? {
+        1 => Ok(Event::Move(reader.u32()?)),
+        2 => {
+            let (task, reading) = timed(reader)?;
+            Ok(Event::MoveAt(task, reading))
         }
-    }
-
-    #[tactic(auto, unfolding(crate::specs::Reading::argument_at))]
-    fn argument(&mut self, alloc: Global) -> Result<Bytes, ReadFault>
-        ensures { Gives (λ s. s) result self.new.rest.now (argument_at self.old.rest.now) }
-    {
-        let left = self.rest.len();
-        let text = self.string()?;
-        if !is_argument(alloc, text)? {
-            return Err(ReadFault::NoPart(left));
+        3 => Ok(Event::Begin(reader.u32()?)),
+        4 => {
+            let (task, reading) = timed(reader)?;
+            Ok(Event::Issue(task, reading))
         }
-        Ok(Bytes::new(alloc, text)?)
-    }
-
-    #[tactic(auto, unfolding(crate::specs::Reading::route_at))]
-    fn route(&mut self, alloc: Global) -> Result<(Text, Address), ReadFault>
-        ensures { Gives (λ r. route_view r) result self.new.rest.now (route_at self.old.rest.now) }
-    {
-        let host = self.text(alloc)?;
-        let name = self.text(alloc)?;
-        let port = self.u16()?;
-        Ok((host, Address { name, port }))
-    }
-
-    #[tactic(auto, unfolding(crate::specs::Reading::list_at))]
-    fn routes(&mut self, alloc: Global) -> Result<Routes, ReadFault>
-        ensures { Gives (λ rs. map route_view rs) result self.new.rest.now
-            (list_at route_at self.old.rest.now) }
-    {
-        let count = self.u32()?;
-        let mut routes = Routes::new(alloc);
-        for _ in 0..count {
-            let (host, to) = self.route(alloc)?;
-            routes.push(host, to)?;
+        5 => answer(reader, alloc),
+        6 => {
+            let (task, reading) = timed(reader)?;
+            Ok(Event::Due(task, reading))
         }
-        Ok(routes)
+        7 => arrival(reader, alloc),
+        _ => Err(ReadFault::NoPart(left)),
     }
+}
 
-    #[tactic(auto, unfolding(crate::specs::Reading::pair_at))]
-    fn pair(&mut self, alloc: Global) -> Result<(Text, Text), ReadFault>
-        ensures { Gives (λ p. p) result self.new.rest.now (pair_at self.old.rest.now) }
-    {
-        let key = self.text(alloc)?;
-        let value = self.text(alloc)?;
-        Ok((key, value))
+#[tactic(auto, unfolding(crate::specs::Reading::events_at))]
+fn events(reader: &mut Reader<'_>, alloc: Global) -> Result<Events, ReadFault>
+    ensures { Gives events_view result reader.new (events_at reader.old) }
+{
+    let left = reader.left();
+    let count = reader.u32()?;
+    if count == 0 {
+        return Err(ReadFault::NoPart(left));
     }
-
-    #[tactic(auto, unfolding(crate::specs::Reading::list_at))]
-    fn pairs(&mut self, alloc: Global) -> Result<Pairs, ReadFault>
-        ensures { Gives (λ ps. ps) result self.new.rest.now (list_at pair_at self.old.rest.now) }
-    {
-        let count = self.u32()?;
-        let mut pairs = Pairs::new(alloc);
-        for _ in 0..count {
-            let (key, value) = self.pair(alloc)?;
-            pairs.push(key, value)?;
-        }
-        Ok(pairs)
+    let mut events = Events::new(alloc);
+    for _ in 0..count {
+        events.push(event(reader, alloc)?)?;
     }
+    Ok(events)
+}
 
-    #[tactic(auto, unfolding(crate::specs::Reading::start_at))]
-    fn start(&mut self, alloc: Global) -> Result<Start, ReadFault>
-        ensures { Gives start_view result self.new.rest.now (start_at self.old.rest.now) }
-    {
-        Ok(Start {
-            id: self.text(alloc)?,
-            source: Bytes::new(alloc, self.string()?)?,
-            argument: self.argument(alloc)?,
-            routes: self.routes(alloc)?,
-            env: self.pairs(alloc)?,
-            base: self.text(alloc)?,
-            reading: self.u64()?,
-        })
-    }
+#[tactic(auto, unfolding(crate::specs::Reading::turn_at))]
+fn turn(reader: &mut Reader<'_>, alloc: Global) -> Result<Turn, ReadFault>
+    ensures { Gives turn_view result reader.new (turn_at reader.old) }
+{
+    Ok(Turn {
+        session: reader.u64()?,
+        waits: reader.u64()?,
+        events: events(reader, alloc)?,
+    })
+}
 
-    #[tactic(auto, unfolding(crate::specs::Reading::event_at, crate::specs::Reading::move_at, crate::specs::Reading::timed_move_at))]
-    fn event(&mut self) -> Result<Event, ReadFault>
-        ensures { Gives event_view result self.new.rest.now (event_at self.old.rest.now) }
-    {
-        let left = self.rest.len();
-        match self.byte()? {
-            1 => Ok(Event::Move(self.u32()?)),
-            2 => {
-                let task = self.u32()?;
-                Ok(Event::MoveAt(task, self.u64()?))
-            }
-            _ => Err(ReadFault::NoPart(left)),
-        }
-    }
-
-    #[tactic(auto, unfolding(crate::specs::Reading::events_at))]
-    fn events(&mut self, alloc: Global) -> Result<Events, ReadFault>
-        ensures { Gives events_view result self.new.rest.now (events_at self.old.rest.now) }
-    {
-        let left = self.rest.len();
-        let count = self.u32()?;
-        if count == 0 {
-            return Err(ReadFault::NoPart(left));
-        }
-        let mut events = Events::new(alloc);
-        for _ in 0..count {
-            events.push(self.event()?)?;
-        }
-        Ok(events)
-    }
-
-    #[tactic(auto, unfolding(crate::specs::Reading::turn_at))]
-    fn turn(&mut self, alloc: Global) -> Result<Turn, ReadFault>
-        ensures { Gives turn_view result self.new.rest.now (turn_at self.old.rest.now) }
-    {
-        Ok(Turn {
-            session: self.u64()?,
-            waits: self.u64()?,
-            events: self.events(alloc)?,
-        })
-    }
-
-    #[tactic(auto, unfolding(crate::specs::Reading::record_at))]
-    fn record(&mut self, alloc: Global) -> Result<Record, ReadFault>
-        ensures { Gives record_view result self.new.rest.now (record_at self.old.rest.now) }
-    {
-        let left = self.rest.len();
-        match self.byte()? {
-            1 => Ok(Record::Start(self.start(alloc)?)),
-            2 => Ok(Record::Turn(self.turn(alloc)?)),
-            _ => Err(ReadFault::NoPart(left)),
-        }
+#[tactic(auto, unfolding(crate::specs::Reading::record_at))]
+fn record(reader: &mut Reader<'_>, alloc: Global) -> Result<Record, ReadFault>
+    ensures { Gives record_view result reader.new (record_at reader.old) }
+{
+    let left = reader.left();
+    match reader.byte()? {
+        1 => Ok(Record::Start(start(reader, alloc)?)),
+        2 => Ok(Record::Turn(turn(reader, alloc)?)),
+        _ => Err(ReadFault::NoPart(left)),
     }
 }
 
@@ -218,17 +190,18 @@ impl<'a> Reader<'a> {
 fn whole(alloc: Global, bytes: &[u8]) -> Result<Record, ReadFault>
     ensures { GivesWhole result (whole_at bytes.now) }
 {
-    let mut reader = Reader { rest: bytes };
-    let record = reader.record(alloc)?;
-    if !reader.rest.is_empty() {
-        return Err(ReadFault::NoPart(reader.rest.len()));
+    let mut reader = Reader::new(bytes);
+    let found = record(&mut reader, alloc)?;
+    match reader.left() {
+        0 => Ok(found),
+        left => Err(ReadFault::NoPart(left)),
     }
-    Ok(record)
 }
 
-/// The record that these bytes spell, all of them. By now a start under the first rules is read, and a turn of moves.
-/// `BadRecord` comes exactly where the bytes spell no such record, memory aside; `OutOfMemory` where there is no memory for
-/// the record, or to read its argument.
+/// The record that these bytes spell, all of them. By now the first format is read: a start under
+/// the first rules, and a turn of any events but a cancelling. `BadRecord` comes exactly where the
+/// bytes spell no such record, memory aside; `OutOfMemory` where there is no memory for the record,
+/// or to read its argument.
 pub fn decode(alloc: Global, bytes: &[u8]) -> Result<Record, RecordFault>
     ensures found { IfOk result (λ r. Spells bytes.now (record_view r)) }
     ensures record { IfOk result (λ r. meaning bytes.now ≡ Some (record_view r)) }
