@@ -27,4 +27,4 @@ reached_sound first steps p c (s, es, run) = stays_sound steps p _ es c (first p
 pub is_sound : SoundAtFirst → StepsStaySound → (m : Machine) → m.broken ≡ false → (state_of m).config.outcome ≡ Active → ∥ Sound (state_of m).config ∥₁
 is_sound first steps m whole active =
     let t = has_main m whole (running_of m.ending active) in
-    ∥∥₁_map (λ reached. reached_sound first steps (program_of m.program) (state_of m).config (reached (ap is_some t.1))) m.reached
+    ∥∥₁_map m.reached (λ reached. reached_sound first steps (program_of m.program) (state_of m).config (reached (ap is_some t.1)))
