@@ -65,7 +65,7 @@ nows_both (Drop k ∷ D) E = nows_both D E
 nows_both (Print b ∷ D) E = nows_both D E
 
 pub polls_both : (D E : List Deed) → polls (D ++ E) ≡ polls D + polls E
-polls_both [] E = refl
+polls_both [] E = omega arith
 polls_both (Start k a b ∷ D) E = polls_both D E
 polls_both (Poll u h ∷ D) E = let rest = polls_both D E in omega (arith, rest)
 polls_both (Now t ∷ D) E = polls_both D E
@@ -122,11 +122,11 @@ all_at P [] x behind all = all.0
 all_at P (y ∷ before) x behind all = all_at P before x behind all.1
 
 -- ## A deed among deeds with prints behind
-first_of : Deed → List Deed → Deed
+abbrev first_of : Deed → List Deed → Deed
 first_of e [] = e
 first_of e (d ∷ D) = d
 
-rest_of : List Deed → List Deed
+abbrev rest_of : List Deed → List Deed
 rest_of [] = []
 rest_of (d ∷ D) = D
 

@@ -139,7 +139,7 @@ module _ (x : Call) (mid : World) (r : Result Said Silence) (w : InTheOutside (Î
 
   module _ (O : Outside) (e : Option Status) (c : List â„•) (d : List Deed) (now : PrintedSoFar mid (text_of r) c d) where
     -- the deeds of the work
-    did : List Deed
+    abbrev did : List Deed
     did = (w O).silently.done
 
     -- those since the beginning of the call, at the end of the work, are these

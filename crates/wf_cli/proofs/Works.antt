@@ -278,7 +278,7 @@ history_gives L s new D done it line unpolled says image may =
 module _ (O : Outside) (s : Scene) (command : kept.Command) (old mid new : World) (e : Engine) (r : Result Said Silence) (line : IsLineOf s (λ c. executes c ≡ true)) (taken : IsTaken s) (which : IsLineOf s (λ c. c ≡ Resume) → command ≡ kept.Resume) (found : old.seen ≡ s.found)
     (counts : CountsNow mid) (counts_new : CountsNow new) (o : Opening O command s old mid (Ok e)) (g : Going the_language O command (memory e) o.silently.done mid new r) where
   -- the deeds of the opening and those of the session
-  all : List Deed
+  abbrev all : List Deed
   all = o.silently.done ++ g.silently.done
 
   all_done : new.deeds ≡ old.deeds ++ all
