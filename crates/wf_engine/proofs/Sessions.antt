@@ -3,9 +3,9 @@ use Rattle.std.specs.Prelude.{◌≡◌, ◌≢◌, ◌⊎◌, ◌↔◌, ◌<�
 use Rattle.std.proofs.Common.{inl, inr, ⊎_elim, refl, sym, ◌∙◌, ap, subst, arith, append_assoc}
 use Rattle.std.proofs.lemmas.List.{append-nil}
 use Rattle.std.specs.List.{AllByRecursion}
-use Rattle.wf_deeds.specs.Clauses.{HowItEnds, IsOfSession, KeptAt, Sessions, StandsIsKept, Went, ended, paused}
+use Rattle.wf_deeds.specs.Clauses.{IsOfSession, KeptAt, Sessions, StandsIsKept, Went, ended, paused}
 use Rattle.wf_deeds.specs.Kept.{Command, Kept}
-use Rattle.wf_deeds.specs.Memory.{IsSettled, Memory, StandsFor, session}
+use Rattle.wf_deeds.specs.Memory.{IsSettled, Memory, StandsFor}
 use Rattle.wf_deeds.specs.Outside.{Outside}
 use Rattle.wf_deeds.specs.Steps.{fresh}
 use Rattle.wf_engine.proofs.Added.{Choice, Laws, kept_now, kept_with, one_turn_more, payload_by, turn_by, turn_is_own}
@@ -184,8 +184,8 @@ module _ (p : Program) (c : Config) (number reading : ℕ) where
       by false (plain.Returned v) is = refl
       by false (plain.Raised e) is = refl
       by false plain.Cancelled is = refl
-      by false plain.Active (inl no) = absurd (cc no)
-      by false plain.Active (inr no) = absurd (no refl)
+      by false plain.Active (inl moves) = absurd (cc moves)
+      by false plain.Active (inr over) = absurd (over refl)
 
   -- as a test tells
   pub busy_where : (b : Bool) → (IsTrue b ↔ IsSettled (fresh p c number reading)) → b ≡ false → is_still c reading ≡ false
@@ -222,19 +222,11 @@ busy_active c r busy = by (quiet c r) c.outcome busy
     by false plain.Cancelled is = absurd (cc is)
 
 -- of an engine that isn't closed
-pub is_busy : (e : Engine) (b : Bool) → is_closed e ≡ false → (is_closed e ≡ false → IsTrue b ↔ IsSettled (memory e)) → not b ≡ true → is_still (memory e).config (memory e).reading ≡ false
-is_busy e b open_now tells on = busy_where (memory e).program (memory e).config (memory e).session (memory e).reading b (tells open_now) (by b on)
-  where
-    by : (v : Bool) → not v ≡ true → v ≡ false
-    by false is = refl
-    by true is = absurd (cc is)
+pub is_busy : (e : Engine) (b : Bool) → is_closed e ≡ false → (is_closed e ≡ false → IsTrue b ↔ IsSettled (memory e)) → b ≡ false → is_still (memory e).config (memory e).reading ≡ false
+is_busy e b open_now tells off = busy_where (memory e).program (memory e).config (memory e).session (memory e).reading b (tells open_now) off
 
-pub is_settled_now : (e : Engine) (b : Bool) → is_closed e ≡ false → (is_closed e ≡ false → IsTrue b ↔ IsSettled (memory e)) → not b ≡ false → IsSettled (memory e)
-is_settled_now e b open_now tells off = (tells open_now).0 (by b off)
-  where
-    by : (v : Bool) → not v ≡ false → IsTrue v
-    by true is = refl
-    by false is = absurd (cc is)
+pub is_settled_now : (e : Engine) (b : Bool) → is_closed e ≡ false → (is_closed e ≡ false → IsTrue b ↔ IsSettled (memory e)) → b ≡ true → IsSettled (memory e)
+is_settled_now e b open_now tells on = (tells open_now).0 on
 
 -- ## What a session comes to
 went : (O : Outside) (m n : Memory) (first now : World) → Far O m n first now → Went the_language O m n first now []
