@@ -145,6 +145,11 @@ passed_on (Err f) cause e gives is = let same : f ≡ e = cc is in ap Err (sym g
 pub not_both : (b : Bool) → b ≡ false → b ≡ true → ⊥
 not_both b open_now shut = let no : false ≡ true = sym open_now ∙ shut in cc no
 
+-- one of two that isn't the other
+pub first_of : {A B C : Type 0} → (A × B) ⊎ C → (C → ⊥) → A
+first_of (inl both) not_other = both.0
+first_of (inr other) not_other = absurd (not_other other)
+
 -- what is lent and isn't `Active` is a result
 pub ends : (o : Outcome) (p : plain.Outcome) → outcome_view o ≡ p → (o ≡ outcome.Active → ⊥) → IsResult p
 ends outcome.Active p is other = absurd (other refl)
