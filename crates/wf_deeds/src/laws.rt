@@ -1,7 +1,7 @@
 // Laws of the rules on deeds.
 ghost use Rattle.wf_deeds.specs.Clauses.{StandsIsKept};
 ghost use Rattle.wf_deeds.specs.Rules.{DeedKeepsRules, EndKeepsRules, HandedKeepsRules, TurnKeepsRules};
-ghost use Rattle.wf_deeds.specs.Steps.{DropGoesOn, EndIsKept, FreshStands, HandedStands, HearingGoesOn, PollIsKept, ReplyGoesOn, StartGoesOn, TurnGoesOn, TurnIsChosen};
+ghost use Rattle.wf_deeds.specs.Steps.{DropGoesOn, EndIsKept, FreshStands, HandedStands, HearingGoesOn, PollIsKept, PrintGoesOn, ReplyGoesOn, StartGoesOn, TurnGoesOn, TurnIsChosen};
 ghost use Rattle.wf_deeds.specs.Laws.{OnlyReadings};
 
 use wf_journal_laws::{laws_of_histories, laws_of_moments};
@@ -24,7 +24,7 @@ pub fn laws_of_deeds()
 }
 
 /// Carries laws of what an engine stands for: at first, with a call started or dropped, with what was heard, with a turn, with a reply,
-/// and at an end.
+/// with a print, and at an end.
 pub fn laws_of_steps()
     ensures fresh { FreshStands }
     ensures start { StartGoesOn }
@@ -34,6 +34,7 @@ pub fn laws_of_steps()
     ensures turn { TurnGoesOn }
     ensures chosen { TurnIsChosen }
     ensures reply { ReplyGoesOn }
+    ensures print { PrintGoesOn }
     ensures end { EndIsKept }
     ensures handed { HandedStands }
     ensures moment { StandsIsKept }

@@ -13,7 +13,6 @@ use Rattle.wf_deeds.specs.Outside.{Outside}
 use Rattle.wf_deeds.specs.Steps.{TurnGoesOn, TurnIsChosen, fresh}
 use Rattle.wf_deeds.specs.Turns.{turn_of}
 use Rattle.wf_events.specs.Laws.{MeaningOfSpelling}
-use Rattle.wf_events.specs.Reading.{meaning}
 use Rattle.wf_events.specs.Records.{Turned}
 use Rattle.wf_events.specs.Spelling.{record_bytes, event, HasSpelling, IsOld}
 use Rattle.wf_events.specs.View.{event_view}

@@ -8,7 +8,7 @@ use Rattle.wf_ast.specs.Tree.{Program}
 use Rattle.wf_deeds.specs.Deeds.{nows, polls, reading_by, starts_or_polls, IsSmall}
 use Rattle.wf_deeds.specs.Kept.{Run, Resume, Session, Place, own, last_of, ReadingsAreOfTheClock}
 use Rattle.wf_deeds.specs.Laws.{OnlyReadings}
-use Rattle.wf_deeds.specs.Memory.{Memory, StandsFor, session}
+use Rattle.wf_deeds.specs.Memory.{StandsFor, session}
 use Rattle.wf_deeds.specs.Steps.{FreshStands, fresh}
 use Rattle.wf_engine.specs.Openings.{Clocked}
 use Rattle.wf_deeds.specs.Outside.{Outside}

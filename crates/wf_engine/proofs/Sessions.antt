@@ -3,9 +3,9 @@ use Rattle.std.specs.Prelude.{◌≡◌, ◌≢◌, ◌⊎◌, ◌↔◌, ◌<�
 use Rattle.std.proofs.Common.{inl, inr, ⊎_elim, refl, sym, ◌∙◌, ap, subst, arith, append_assoc}
 use Rattle.std.proofs.lemmas.List.{append-nil}
 use Rattle.std.specs.List.{AllByRecursion}
-use Rattle.wf_deeds.specs.Clauses.{HowItEnds, IsOfSession, KeptAt, Sessions, StandsIsKept, Went, ended, paused}
+use Rattle.wf_deeds.specs.Clauses.{IsOfSession, KeptAt, Sessions, StandsIsKept, Went, ended, paused}
 use Rattle.wf_deeds.specs.Kept.{Command, Kept}
-use Rattle.wf_deeds.specs.Memory.{IsSettled, Memory, StandsFor, session}
+use Rattle.wf_deeds.specs.Memory.{IsSettled, Memory, StandsFor}
 use Rattle.wf_deeds.specs.Outside.{Outside}
 use Rattle.wf_deeds.specs.Steps.{fresh}
 use Rattle.wf_engine.proofs.Added.{Choice, Laws, kept_now, kept_with, one_turn_more, payload_by, turn_by, turn_is_own}
@@ -145,6 +145,11 @@ passed_on (Err f) cause e gives is = let same : f ≡ e = cc is in ap Err (sym g
 pub not_both : (b : Bool) → b ≡ false → b ≡ true → ⊥
 not_both b open_now shut = let no : false ≡ true = sym open_now ∙ shut in cc no
 
+-- one of two that isn't the other
+pub first_of : {A B C : Type 0} → (A × B) ⊎ C → (C → ⊥) → A
+first_of (inl both) not_other = both.0
+first_of (inr other) not_other = absurd (not_other other)
+
 -- what is lent and isn't `Active` is a result
 pub ends : (o : Outcome) (p : plain.Outcome) → outcome_view o ≡ p → (o ≡ outcome.Active → ⊥) → IsResult p
 ends outcome.Active p is other = absurd (other refl)
@@ -184,8 +189,8 @@ module _ (p : Program) (c : Config) (number reading : ℕ) where
       by false (plain.Returned v) is = refl
       by false (plain.Raised e) is = refl
       by false plain.Cancelled is = refl
-      by false plain.Active (inl no) = absurd (cc no)
-      by false plain.Active (inr no) = absurd (no refl)
+      by false plain.Active (inl moves) = absurd (cc moves)
+      by false plain.Active (inr over) = absurd (over refl)
 
   -- as a test tells
   pub busy_where : (b : Bool) → (IsTrue b ↔ IsSettled (fresh p c number reading)) → b ≡ false → is_still c reading ≡ false
@@ -222,19 +227,11 @@ busy_active c r busy = by (quiet c r) c.outcome busy
     by false plain.Cancelled is = absurd (cc is)
 
 -- of an engine that isn't closed
-pub is_busy : (e : Engine) (b : Bool) → is_closed e ≡ false → (is_closed e ≡ false → IsTrue b ↔ IsSettled (memory e)) → not b ≡ true → is_still (memory e).config (memory e).reading ≡ false
-is_busy e b open_now tells on = busy_where (memory e).program (memory e).config (memory e).session (memory e).reading b (tells open_now) (by b on)
-  where
-    by : (v : Bool) → not v ≡ true → v ≡ false
-    by false is = refl
-    by true is = absurd (cc is)
+pub is_busy : (e : Engine) (b : Bool) → is_closed e ≡ false → (is_closed e ≡ false → IsTrue b ↔ IsSettled (memory e)) → b ≡ false → is_still (memory e).config (memory e).reading ≡ false
+is_busy e b open_now tells off = busy_where (memory e).program (memory e).config (memory e).session (memory e).reading b (tells open_now) off
 
-pub is_settled_now : (e : Engine) (b : Bool) → is_closed e ≡ false → (is_closed e ≡ false → IsTrue b ↔ IsSettled (memory e)) → not b ≡ false → IsSettled (memory e)
-is_settled_now e b open_now tells off = (tells open_now).0 (by b off)
-  where
-    by : (v : Bool) → not v ≡ false → IsTrue v
-    by true is = refl
-    by false is = absurd (cc is)
+pub is_settled_now : (e : Engine) (b : Bool) → is_closed e ≡ false → (is_closed e ≡ false → IsTrue b ↔ IsSettled (memory e)) → b ≡ true → IsSettled (memory e)
+is_settled_now e b open_now tells on = (tells open_now).0 on
 
 -- ## What a session comes to
 went : (O : Outside) (m n : Memory) (first now : World) → Far O m n first now → Went the_language O m n first now []

@@ -1,4 +1,4 @@
-use Rattle.std.proofs.Common.{sym, ◌∙◌, ap, arith, length, length-append, ◌∷◌, ◌++◌, ◌+◌, []}
+use Rattle.std.proofs.Common.{sym, ◌∙◌, ap, arith, length, length-append, ◌∷◌, ◌++◌, []}
 use Rattle.std.proofs.lemmas.List.{length-map}
 use Rattle.std.specs.Prelude.{option_map}
 use Rattle.wf_engine.proofs.Chosen.{turns_at_first, turns_on, turn_ends, turn_is_full, whole_after}
@@ -52,6 +52,7 @@ pub returns-clause-steps : goal.returns-clause-steps
 returns-clause-steps g c = c.loop-machine.invariant.1
 
 pub spelled-requires : goal.spelled-requires
-spelled-requires g c =
-    c.laws_of_readings.ensures.chosen_is_from_inside (state_of c.loop-machine.machine).program (state_of c.loop-machine.machine).config c.args.reading (event_view c.in-Some.event)
-    (sym c.choose.ensures.choice ∙ ap (λ o. option_map event_view o) c.in-Some.is)
+spelled-requires g c = record {
+  inside = c.laws_of_readings.ensures.chosen_is_from_inside (state_of c.loop-machine.machine).program (state_of c.loop-machine.machine).config c.args.reading (event_view c.in-Some.event)
+      (sym c.choose.ensures.choice ∙ ap (λ o. option_map event_view o) c.in-Some.is);
+}

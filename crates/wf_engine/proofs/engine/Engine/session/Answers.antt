@@ -1,6 +1,6 @@
 use Rattle.std.proofs.Common.{inl, inr, ⊎_elim, refl, sym, ◌∙◌, ap}
 use Rattle.std.proofs.lemmas.List.{append-nil}
-use Rattle.wf_engine.proofs.Sessions.{at_first, busy_active, ends, falls_none, goes_far, has_ended, is_busy, is_settled_now, is_suspended, lent_active, moments_on, none_fell, not_both, passed_on, result_is_over, rose_later, told_on, turn_takes}
+use Rattle.wf_engine.proofs.Sessions.{at_first, busy_active, ends, falls_none, first_of, goes_far, has_ended, is_busy, is_settled_now, is_suspended, lent_active, moments_on, none_fell, not_both, passed_on, result_is_over, rose_later, told_on, turn_takes}
 use Rattle.wf_engine.proofs.engine.Engine.session.Goals as goal
 use Rattle.wf_engine.specs.Engine.{is_closed, memory}
 use Rattle.wf_engine.specs.TheLanguage.{the_language}
@@ -111,7 +111,7 @@ returns-in-Active g c =
       suspended = λ O told _. is_suspended O (memory c.args.self.now) (memory c.loop-self.self) (g.H.Host.world c.args.host.now) (g.H.Host.world c.loop-self.host) (so.so_far O told) settled active;
       result = tt;
       any_moment = λ O open_now told command handed D s. ((so.so_far O told).1 command handed D s).begun.moments;
-      finished = λ told ended. ⊎_elim (λ same. same.0) (λ was. absurd (ended was)) so.rest;
+      finished = λ told ended. first_of so.rest (λ was. ended was);
       session = so.number;
       disk_fault = λ is. absurd (cc is);
       closed = (λ is. absurd (cc is), λ shut. absurd (not_both (is_closed c.args.self.now) c.if-self.false shut));
@@ -135,7 +135,7 @@ returns-in_default g c =
       suspended = λ O told is. absurd (cc is);
       result = result;
       any_moment = λ O open_now told command handed D s. ((so.so_far O told).1 command handed D s).begun.moments;
-      finished = λ told ended. ⊎_elim (λ same. same.0) (λ was. absurd (ended was)) so.rest;
+      finished = λ told ended. first_of so.rest (λ was. ended was);
       session = so.number;
       disk_fault = λ is. absurd (cc is);
       closed = (λ is. absurd (cc is), λ shut. absurd (not_both (is_closed c.args.self.now) c.if-self.false shut));

@@ -1,16 +1,12 @@
-use Rattle.std.proofs.Common.{◌≡◌, ◌≤◌, ◌<◌, ◌^◌, ◌+◌, ◌++◌, [], length, ap, refl, sym, subst, ◌∙◌, arith}
-use Rattle.std.proofs.lemmas.List.{append-nil}
-use Rattle.wf_deeds.specs.Clauses.{turn_records}
-use Rattle.wf_deeds.specs.Memory.{Memory, StandsFor}
+use Rattle.std.proofs.Common.{◌≤◌, ◌<◌, ◌^◌, ◌+◌, length, ap, ◌∙◌, arith}
 use Rattle.wf_deeds.specs.Steps.{fresh}
-use Rattle.wf_engine.proofs.Added.{Choice, Laws, is_short, is_spelled, none_of, not_none, records_of, some_of}
+use Rattle.wf_engine.proofs.Added.{Choice, Laws, is_short, is_spelled, none_of, not_none, some_of}
 use Rattle.wf_engine.proofs.Sessions.{turn_adds, turn_begun}
 use Rattle.wf_engine.proofs.TurnsAdded.{added, goes_on, idle}
 use Rattle.wf_engine.proofs.engine.Engine.turn.Goals as goal
 use Rattle.wf_engine.specs.Engine.{memory}
 use Rattle.wf_engine.specs.TheLanguage.{the_language}
-use Rattle.wf_events.specs.View.{event_list, events_view}
-use Rattle.wf_journal.specs.Records.{records}
+use Rattle.wf_events.specs.View.{events_view}
 use Rattle.wf_machine.specs.Counts.{counts_of}
 use Rattle.wf_machine.specs.Seen.{state_of}
 
