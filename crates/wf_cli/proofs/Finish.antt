@@ -1,5 +1,5 @@
 -- What a command comes to once it has printed.
-use Rattle.std.proofs.Common.{◌≡◌, ◌≤◌, ◌≢◌, inl, inr, ⊎_elim, IsTrue, ℕ, true, List, [], ◌∷◌, ◌++◌, Contains, Option, None, Some, option_map, Result, Ok, Err, refl, sym, ◌∙◌, ap, subst, append_assoc, arith}
+use Rattle.std.proofs.Common.{◌≡◌, ◌≤◌, inl, inr, ⊎_elim, IsTrue, ℕ, true, List, [], ◌∷◌, ◌++◌, Contains, Option, None, Some, Result, Ok, Err, refl, sym, ◌∙◌, ap, subst, append_assoc, arith}
 use Rattle.std.proofs.lemmas.List.{append_cancel_left}
 use Rattle.std.proofs.lemmas.List.Elements.{Contains-append_right}
 use Rattle.std.specs.Prelude.{IfOk}
@@ -23,7 +23,7 @@ use Rattle.wf_engine.specs.Safe.{IsFit, IsLate, Safe, SafeAt, LateAt, session}
 use Rattle.wf_engine.specs.TheLanguage.{the_language}
 use Rattle.wf_engine.specs.TheOutside.{InTheOutside}
 use Rattle.wf_host.specs.Moments.{CountsNow, joined}
-use Rattle.wf_host.specs.World.{World, Faults, Told, LeavesOnly, NoneFell, Rose}
+use Rattle.wf_host.specs.World.{World, Faults, Told, NoneFell, Rose}
 use Rattle.wf_host.specs.declared.data.Deed.{Deed}
 use Rattle.wf_host.specs.declared.data.Deed.TheVariants.{Print}
 use Rattle.wf_host.specs.Printing as printing
@@ -32,7 +32,6 @@ use Rattle.wf_journal_laws.specs.Language.{Language}
 use Rattle.wf_status.specs.Statuses.{status_code}
 use Rattle.wf_status.specs.declared.Refusal.{Refusal}
 use Rattle.wf_status.specs.declared.Status.{Status}
-use Rattle.wf_status.specs.declared.Status.TheVariants as status
 
 -- a count that rises from a later one rises from an earlier one
 pub rose_from : (a b c : ℕ) → a ≤ b → Rose b c → Rose a c

@@ -1,10 +1,9 @@
 -- An execution that has gone on to its outcome, or to where it waits no more.
-use Rattle.std.proofs.Common.{◌≡◌, ◌≢◌, ◌⊎◌, inl, inr, ⊎_elim, IsTrue, ℕ, Bool, true, false, List, ◌++◌, Some, None, Result, Ok, Err, IfOk, IfErr, refl, sym, ◌∙◌, ap, subst, arith}
+use Rattle.std.proofs.Common.{◌≡◌, ◌≢◌, ◌⊎◌, inl, inr, IsTrue, ℕ, Bool, true, false, List, ◌++◌, Some, None, Result, Ok, Err, IfOk, refl, sym, ◌∙◌, ap, subst, arith}
 use Rattle.std.proofs.lemmas.List.{append_cancel_left}
 use Rattle.wf_cli.proofs.Causes.{same_some}
 use Rattle.wf_cli.proofs.Safe.{of_command}
-use Rattle.wf_cli.proofs.Works.{fault_silence}
-use Rattle.wf_cli.specs.Said.{SaysFault, SaysOutcome, SaysStatus, SaysStanding, DoneSilently, Unwritten, SaysResult, SaysHistory, Going}
+use Rattle.wf_cli.specs.Said.{SaysFault, SaysOutcome, SaysStatus, SaysStanding, DoneSilently, Unwritten, SaysHistory, Going}
 use Rattle.wf_cli.specs.declared.end.Said.{Said}
 use Rattle.wf_cli.specs.declared.end.Silence.{Silence}
 use Rattle.wf_cli.specs.declared.end.Silence.TheVariants as silence
@@ -15,17 +14,16 @@ use Rattle.wf_deeds.specs.Memory.{Memory, IsSettled, StandsFor, session}
 use Rattle.wf_deeds.specs.Outside.{Outside}
 use Rattle.wf_deeds.specs.Rules.{MayEnd}
 use Rattle.wf_deeds.specs.Steps.{EndIsKept}
-use Rattle.wf_engine.specs.Engine.{memory, Holds}
+use Rattle.wf_engine.specs.Engine.{Holds}
 use Rattle.wf_engine.specs.Printed.{status_of}
 use Rattle.wf_engine.specs.declared.engine.Engine.{Engine}
 use Rattle.wf_engine.specs.declared.fault.EngineFault.{EngineFault}
 use Rattle.wf_engine.specs.declared.fault.EngineFault.TheVariants as engine
 use Rattle.wf_host.specs.Moments.{CountsNow}
-use Rattle.wf_host.specs.World.{World, Faults, LeavesOnly, Rose, Only}
+use Rattle.wf_host.specs.World.{World, LeavesOnly, Only}
 use Rattle.wf_host.specs.declared.data.Deed.{Deed}
 use Rattle.wf_journal.specs.Records.{records}
 use Rattle.wf_journal.specs.Steps.{Moment}
-use Rattle.wf_machine.specs.Outcome.{IsResult}
 use Rattle.wf_model.specs.Config.{Outcome, Active, Returned, Raised, Cancelled}
 use Rattle.wf_model.specs.Ready.{quiet}
 use Rattle.wf_journal_laws.specs.Language.{Language}
@@ -135,12 +133,3 @@ pub fault_said : (L : Language) (O : Outside) (command : kept.Command) (m n : Me
 fault_said L O command m n D old new f (Ok it) law is says ss same only stands silently =
     let that = said_of_fault f it is says in says_suspended L O command m n D old new law (ss that.0) same (only that.0) stands it that.1 silently
 fault_said L O command m n D old new f (Err e) law is says ss same only stands silently = tt
-
-pub fault_result : (f : EngineFault) (r : Result Said Silence) (a b : Faults) → IsOfSession f → SaysFault f r → (f ≡ engine.DiskFault → Rose a.disk b.disk) → SaysResult a b r
-fault_result f (Ok it) a b is says rose = inr (said_of_fault f it is says).1
-fault_result f (Err e) a b is says rose =
-    ⊎_elim (λ disk. subst (λ x. SaysResult a b (Err x)) (sym disk.1) (rose disk.0)) (λ lack. subst (λ x. SaysResult a b (Err x)) (sym lack) tt) (fault_silence f e says)
-
-pub says_result : (o : Outcome) (r : Result Said Silence) (a b : Faults) → IsResult o → IfOk r (λ it. SaysOutcome it o) → IfErr r (λ e. e ≡ silence.OutOfMemory) → SaysResult a b r
-says_result o (Ok it) a b result says lacks = inl (o, result, says)
-says_result o (Err e) a b result says lacks = subst (λ x. SaysResult a b (Err x)) (sym lacks) tt

@@ -8,7 +8,7 @@ use Rattle.wf_cli.specs.Said.{IsEnd, Worked, Tells, Printing, text_of}
 use Rattle.wf_cli.specs.Top.{Call, Ends}
 use Rattle.wf_cli.specs.declared.end.Said.{Said}
 use Rattle.wf_cli.specs.declared.end.Silence.{Silence}
-use Rattle.wf_cli.proofs.Outsides.{some_outside, in_some}
+use Rattle.wf_cli.proofs.Outsides.{in_some}
 use Rattle.wf_deeds.specs.Rules.{DeedKeepsRules, EndKeepsRules}
 use Rattle.wf_engine.specs.TheOutside.{InTheOutside}
 use Rattle.wf_host.specs.Moments.{CountsNow}

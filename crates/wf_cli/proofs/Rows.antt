@@ -3,7 +3,7 @@ use Rattle.std.proofs.Common.{◌≡◌, ◌<◌, ◌⊎◌, inl, inr, ⊎_elim,
 use Rattle.std.specs.Prelude.{codes, decimal}
 use Rattle.wf_cli.proofs.Causes.{same_ok, same_some, no_bad_line, one_command, executing, journal_executes, check_reports, format_reports, line_is, run_executes, resume_executes, reported_line, Cause, says_cause, says_text, EarlyCause, says_early, text_early, not_said}
 use Rattle.wf_cli.proofs.Together.{IsOrBefore, where_bad_line, where_bad_argument, where_told, when_told, where_refused, where_of_file, where_no_history, at_magic, at_started, at_not_started}
-use Rattle.wf_cli.specs.Top.{Call, IsLineOf, IsBadArgument, IsRefused, IsChecked, HasOutcome, IsSuspended, Reported, Gives, IsTaken, IsOfFile, ComesBack, Says, bad_line, bad_argument, refused, reported, of_file, Ends, said, cut, unread, failed, no_memory, Prints, IsOrYields, Exactly, BadLineRow, BadArgumentRow, ReadFaultRow, RefusedRow, DiskFaultRow, NotAJournalRow, AlreadyStartedRow, NotStartedRow, NotAHistoryRow, HasNoOutcome, SuspendedRow, OutcomeRow, DoneRow, AcceptedRow, ComesBackRow, PrintFaultRow, OnlyThese}
+use Rattle.wf_cli.specs.Top.{Call, IsLineOf, IsBadArgument, IsRefused, IsChecked, HasOutcome, IsSuspended, Reported, Gives, IsTaken, IsOfFile, ComesBack, Says, bad_line, bad_argument, refused, reported, of_file, Ends, said, cut, unread, failed, no_memory, Prints, IsOrYields, Exactly, BadLineRow, BadArgumentRow, ReadFaultRow, RefusedRow, DiskFaultRow, NotAJournalRow, AlreadyStartedRow, NotStartedRow, NotAHistoryRow, WaitsNoMore, SuspendedRow, OutcomeRow, DoneRow, AcceptedRow, ComesBackRow, PrintFaultRow, OnlyThese}
 use Rattle.wf_engine.specs.Printed as end
 use Rattle.wf_engine.specs.Printed.{Scene, uses_source, uses_journal, executes, status_of, outcome_text, accepted_text}
 use Rattle.wf_engine.specs.Safe.{Since}
@@ -303,7 +303,7 @@ suspended_of_says s old new _ _ told (refused r why fine) is = absurd (cc is)
 suspended_of_says s old new _ _ told (reported text report back) is = absurd (cc is)
 suspended_of_says s old new _ _ told (of_file st text isf line accepted gives) is = let g = (gives told).0 in (g.0, g.1, suspended_of_gives the_language s new.seen g.0 st text g.2 is)
 
-suspended_comes : (x : Call) → IsTrue x.old.tells → Ends x → x.status ≡ status.Suspended → HasNoOutcome the_language x
+suspended_comes : (x : Call) → IsTrue x.old.tells → Ends x → x.status ≡ status.Suspended → WaitsNoMore the_language x
 suspended_comes x told (said text says prints) is = suspended_of_says x.scene x.old x.new x.status text told says is
 suspended_comes x told (cut other text it says why some) is = let no : status.PrintFault ≡ status.Suspended = sym it ∙ is in absurd (cc no)
 suspended_comes x told (unread it line fine rose prints) is = let no : status.ReadFault ≡ status.Suspended = sym it ∙ is in absurd (cc no)

@@ -188,11 +188,11 @@ module _ (L : Language) (x : Call) where
   NotAHistoryRow = (n : ℕ) → Exactly x (status.NotAHistory n) (IsNoHistory L x.scene n) (line_end (codes "not a history at record " ++ decimal n))
 
   -- at the end the journal has no outcome, and the call has polled as often as it may
-  abbrev pub HasNoOutcome : Type 0
-  HasNoOutcome = Deeds x (λ D. IsSuspended L x.scene x.new.seen D)
+  abbrev pub WaitsNoMore : Type 0
+  WaitsNoMore = Deeds x (λ D. IsSuspended L x.scene x.new.seen D)
 
   abbrev pub SuspendedRow : Type 0
-  SuspendedRow = Exactly x status.Suspended HasNoOutcome (line_end (codes "suspended"))
+  SuspendedRow = Exactly x status.Suspended WaitsNoMore (line_end (codes "suspended"))
 
   -- of a command that executes: the outcome that the journal has at the end
   pub record OutcomeRow : Type 0 where
@@ -243,7 +243,7 @@ module _ (L : Language) (x : Call) where
   pub record Completes : Type 0 where
     -- and it may be suspended, but not where the journal has an outcome at the end
     pub any : HasNoCause → (x.status ≡ status.Done) ⊎ (x.status ≡ status.Raised) ⊎ (x.status ≡ status.Suspended) ⊎ (x.status ≡ status.OutOfMemory)
-    pub outcome : HasNoCause → ¬ HasNoOutcome L x → (x.status ≡ status.Done) ⊎ (x.status ≡ status.Raised) ⊎ (x.status ≡ status.OutOfMemory)
+    pub outcome : HasNoCause → ¬ WaitsNoMore L x → (x.status ≡ status.Done) ⊎ (x.status ≡ status.Raised) ⊎ (x.status ≡ status.OutOfMemory)
     pub report : HasNoCause → IsLineOf x.scene (λ c. executes c ≡ false) → (x.status ≡ status.Done) ⊎ (x.status ≡ status.OutOfMemory)
 
 module _ (x : Call) where
