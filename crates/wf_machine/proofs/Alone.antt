@@ -1,0 +1,1 @@
+-- The laws of an execution in which `main` is the only task.
