@@ -4,5 +4,4 @@ pub mod Only
 pub mod Carried
 pub mod Reached
 pub mod Begun
-pub mod OnlyMoves
 pub mod Laws
