@@ -1,11 +1,17 @@
 -- The lemmas of the machine.
+pub mod Alone
+pub mod Answering
+pub mod Applying
 pub mod Arguments
 pub mod Begun
 pub mod Calls
+pub mod Choosing
 pub mod Counts
 pub mod First
-pub mod Making
+pub mod Going
 pub mod Moving
 pub mod Places
 pub mod Plainly
-pub mod Stopping
+pub mod Replies
+pub mod Stepping
+pub mod Waiting

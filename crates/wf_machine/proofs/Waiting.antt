@@ -9,7 +9,7 @@ use Rattle.wf_frames.specs.Frames.{inner}
 use Rattle.wf_frames.specs.Owned.{Around}
 use Rattle.wf_frames.specs.declared.frames.Frame.{Frame}
 use Rattle.wf_model.specs.Config.{Awake, Calling}
-use Rattle.wf_model.specs.Ready.{call_due}
+use Rattle.wf_model.specs.Ready.{call_due, is_awake}
 use Rattle.wf_moves.specs.Going.{Going}
 use Rattle.wf_moves.specs.Waits.{CanGoOn, GoesFrom, call_in, result_in, wait_view}
 use Rattle.wf_moves.specs.declared.task.Task.{Task}
@@ -52,3 +52,7 @@ call_of_view a (wait.Calling call node) = refl
 pub waits_for_one : (w : Wait) → is_some (call_in w) ≡ true → (n : ℕ) × (call_in w ≡ Some n)
 waits_for_one wait.Awake is = absurd (cc is)
 waits_for_one (wait.Calling call node) is = (call, refl)
+
+pub not_awake : (a : Around) (w : Wait) → is_some (call_in w) ≡ true → is_awake (wait_view a w) ≡ false
+not_awake a wait.Awake is = absurd (cc is)
+not_awake a (wait.Calling call node) is = refl

@@ -1,6 +1,7 @@
 -- Why `main` goes on.
 --     does_by, calls_by     what it does, and the calls then
---     SuitsTo               it waits for what comes
+--     SuitsTo               it waits for what comes, or for nothing
+--     ReachesFor            what it sees of the calls
 --     Comes, Stops          where an event leads a machine
 use Rattle.std.specs.Prelude.{◌≡◌, ◌≤◌, ℕ, true, is_some, List, None, Some, Option, IfErr}
 use Rattle.wf_alone.specs.Machine.{config_by, main_at, main_local, main_scene}
@@ -19,8 +20,10 @@ use Rattle.wf_model.specs.Local.{Local, Moved, Scene}
 use Rattle.wf_model.specs.Move.{resumed}
 use Rattle.wf_model.specs.Step.{next}
 use Rattle.wf_model.specs.Taken.{merged}
+use Rattle.wf_moves.specs.Sending.{Reaches}
 use Rattle.wf_moves.specs.Stepped.{stepped}
 use Rattle.wf_moves.specs.Waits.{answer_view, call_in, result_in}
+use Rattle.wf_moves.specs.declared.sending.Sending.{Sending}
 use Rattle.wf_moves.specs.declared.task.Task.{Task}
 use Rattle.wf_shared.specs.Events.{Event}
 use Rattle.wf_value.specs.Data.{depth}
@@ -43,6 +46,11 @@ calls_by (cause.Heard h) calls = closed_at calls h.call (closed_view h.how)
 abbrev pub SuitsTo : Cause → Task → Type 0
 SuitsTo cause.Step t = call_in t.wait ≡ None
 SuitsTo (cause.Heard h) t = (is_some (call_in t.wait) ≡ true) × IfErr h.with (λ e. depth (plain e) ≤ 100)
+
+-- what a step sees of the calls; what comes sees nothing of them
+abbrev pub ReachesFor : Cause → Scene → Sending → Type 0
+ReachesFor cause.Step s x = Reaches s x
+ReachesFor (cause.Heard h) s x = Unit {0}
 
 -- by an event `main` goes on for this cause at the reading `now`, and all else stands so then
 pub record Comes (m : Machine) (c : Cause) (now : ℕ) (y : Tally) (e : Event) : Type 0 where

@@ -8,11 +8,10 @@ ghost use Rattle.wf_frames.specs.Owned.{control_of};
 ghost use Rattle.wf_frames.specs.Sights.{Sees};
 ghost use Rattle.wf_frames.specs.Stands.{Stands};
 ghost use Rattle.wf_frames.specs.Turns.{Agrees};
-ghost use Rattle.wf_machine.specs.Causes.{SuitsTo, calls_by, does_by};
+ghost use Rattle.wf_machine.specs.Causes.{ReachesFor, SuitsTo, calls_by, does_by};
 ghost use Rattle.wf_machine.specs.Main.{Aims, Begins, IsStanding, around};
 ghost use Rattle.wf_model.specs.Kinds.{next_kind};
 ghost use Rattle.wf_model.specs.Local.{Scene};
-ghost use Rattle.wf_moves.specs.Sending.{Reaches};
 ghost use Rattle.wf_moves.specs.Tasks.{IsFirst, MovesSo, Stays};
 ghost use Rattle.wf_moves.specs.Waits.{CanGoOn, result_in, task_local};
 ghost use Rattle.wf_nodes.specs.Spots.{spots};
@@ -100,7 +99,7 @@ pub(crate) fn go_on(
     requires going { CanGoOn (nodes_of program.now) task.old }
     requires suits { SuitsTo cause task.old }
     ensures moved { IfOk result (λ m. (s : Scene) → Sees s facts.now.of_step
-        → Reaches s facts.now.sending → Agrees s (around plain)
+        → ReachesFor cause s facts.now.sending → Agrees s (around plain)
         → MovesSo (does_by cause (result_in (around plain) task.old.wait) s
         (task_local (around plain) task.old scopes.old)) m
         (task_local (around plain) task.new scopes.new)) }
