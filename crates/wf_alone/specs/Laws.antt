@@ -1,16 +1,16 @@
 -- Laws of executions in which `main` is the only task, and its control has no parallel steps. It stands at a control k with layers ls, and is
 -- awake, or waits for an answer.
-use Rattle.std.specs.Prelude.{◌≡◌, ◌<◌, ◌≤◌, ◌+◌, ℕ, Bool, false, not, if◌then◌else◌, nat_le, List, [], None, Some, Option, max}
+use Rattle.std.specs.Prelude.{◌≡◌, ◌<◌, ◌≤◌, ◌+◌, ℕ, false, not, if◌then◌else◌, nat_le, List, [], None, Some, Option, max}
 use Rattle.wf_alone.specs.Machine.{Rest, IsReached, closed, config_by, heard, main_at, main_by, main_local, main_scene, one_more, read_by, read_for, seen_by, sent, step_by}
 use Rattle.wf_alone.specs.Plain.{ArePlain, Moves}
 use Rattle.wf_alone.specs.Waiting.{IsOff, Matches, call_by, call_of, caller}
 use Rattle.wf_ast.specs.Accept.{Accept}
 use Rattle.wf_ast.specs.Tree.{Program}
 use Rattle.wf_model.specs.Choose.{choose, wanted}
-use Rattle.wf_model.specs.Config.{Active, Answered, Awake, Calling, Config, Item, Layer, NotNow, Outcome, Raised, TimedOut, To, Wait}
+use Rattle.wf_model.specs.Config.{Answered, Awake, Calling, Config, Item, Layer, NotNow, Raised, TimedOut, To, Wait}
 use Rattle.wf_model.specs.Kinds.{NextKind, next_kind}
 use Rattle.wf_model.specs.Law.{NeverWrong}
-use Rattle.wf_model.specs.Local.{Does, End, Ends, Goes, Local, Moved, Scene, Sends}
+use Rattle.wf_model.specs.Local.{Does, End, Ends, Goes, Local, Sends}
 use Rattle.wf_model.specs.Move.{resumed, timeout_error}
 use Rattle.wf_model.specs.Ready.{call_due, least_due, quiet}
 use Rattle.wf_model.specs.Run.{initial}

@@ -5,7 +5,7 @@
 --     main_scene, main_local   what `main`'s step reads, and what it changes
 --     step_by ..               the step that `main`'s control wants, by its kind
 --     facts_of, argument_of    what a start tells
-use Rattle.std.specs.Prelude.{ℕ, ◌+◌, List, [], ◌∷◌, ◌++◌, length, None, Option, slice_set, zero, suc, unwrap_or}
+use Rattle.std.specs.Prelude.{ℕ, ◌+◌, List, [], ◌∷◌, ◌++◌, length, None, slice_set, zero, suc, unwrap_or}
 use Rattle.wf_ast.specs.Tree.{Program}
 use Rattle.wf_model.specs.Config.{Active, Call, Config, Facts, Item, Layer, Open, Outcome, Wait}
 use Rattle.wf_model.specs.Config as model

@@ -2,7 +2,7 @@
 --     caller, call_of     the task of an open call, and the call for which a task waits
 --     Matches             `main` waits for the open call, if there is one, and for no other
 --     IsOff               why an event can't come where `main` stands
-use Rattle.std.specs.Prelude.{◌≡◌, ◌<◌, ◌⊎◌, ℕ, true, false, List, [], None, Some, Option}
+use Rattle.std.specs.Prelude.{◌≡◌, ◌<◌, ◌⊎◌, ℕ, false, List, [], None, Some, Option}
 use Rattle.std.specs.Coded.{Coded-set, codes, ×_prop, Π_prop, →_prop}
 use Rattle.wf_alone.specs.Machine.{Rest, config_by}
 use Rattle.wf_ast.specs.Tree.{Program}
