@@ -1,7 +1,7 @@
 pub mod Assigned
 pub mod Going
 pub mod Moved
-pub mod Sending
+pub mod Requests
 pub mod Stepped
 pub mod Tasks
 pub mod Waits

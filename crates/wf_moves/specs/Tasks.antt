@@ -19,7 +19,7 @@ use Rattle.wf_model.specs.Config.{Awake, Do, Item}
 use Rattle.wf_model.specs.Local.{Breaks, Does, Goes, Local, Moved, Scene, Sends, settle}
 use Rattle.wf_model.specs.Run.{argument_in}
 use Rattle.wf_moves.specs.Moved.{IsLeft, IsMove}
-use Rattle.wf_moves.specs.Sending.{Reaches}
+use Rattle.wf_moves.specs.Requests.{Reaches}
 use Rattle.wf_moves.specs.Waits.{CanGoOn, GoesFrom, call_in, wait_view}
 use Rattle.wf_moves.specs.declared.finish.Done.{Done}
 use Rattle.wf_moves.specs.declared.finish.Done.TheVariants as done

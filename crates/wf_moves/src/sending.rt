@@ -7,7 +7,7 @@ ghost use Rattle.wf_frames.specs.Owned.{Around, control_of, held_by};
 ghost use Rattle.wf_frames.specs.Sights.{Sees};
 ghost use Rattle.wf_frames.specs.Stands.{Stands};
 ghost use Rattle.wf_model.specs.Local.{Scene};
-ghost use Rattle.wf_moves.specs.Sending.{Reaches, request_by, sent_view};
+ghost use Rattle.wf_moves.specs.Requests.{Reaches, request_by, sent_view};
 ghost use Rattle.wf_moves.specs.Tasks.{DoesBy, IsLeftSo, Names};
 ghost use Rattle.wf_nodes.specs.Spots.{part_at, part_body};
 ghost use Rattle.wf_steps.specs.Built.{IsHttp, Tells};

@@ -62,7 +62,7 @@ impl Task {
     ghost use Rattle.wf_model.specs.Kinds.{next_kind};
     ghost use Rattle.wf_steps.specs.Kinds.{kind_view};
     ghost use Rattle.wf_model.specs.Move.{resumed};
-    ghost use Rattle.wf_moves.specs.Sending.{Reaches};
+    ghost use Rattle.wf_moves.specs.Requests.{Reaches};
     ghost use Rattle.wf_moves.specs.Stepped.{stepped};
     ghost use Rattle.wf_moves.specs.Tasks.{IsFirst, IsFlow, MovesSo, Stays, first, has_ended, is_sent};
     ghost use Rattle.wf_moves.specs.Waits.{CanGoOn, answer_view, call_in, result_in, task_local};

@@ -7,7 +7,7 @@ ghost use Rattle.wf_frames.specs.Frames.{inner};
 ghost use Rattle.wf_frames.specs.Owned.{own_of};
 ghost use Rattle.wf_frames.specs.declared.frames.Frame.TheVariants as frame;
 ghost use Rattle.wf_steps.specs.Built.{Tells};
-ghost use Rattle.wf_steps.specs.Steps.{HasStep, IsBefore, IsBeforeEntry, IsReady, Issues, Moves, WantsSame};
+ghost use Rattle.wf_steps.specs.Steps.{HasStep, IsBefore, IsBeforeEntry, IsNoCall, IsReady, Issues, Moves, WantsSame};
 ghost use Rattle.wf_nodes.specs.Spots.{Spot, owners_at};
 
 use crate::nodes::{block, entries};
@@ -89,6 +89,7 @@ fn entry_step(nodes: &[Node], n: u32, at: usize, frames: &mut Frames) -> Result<
     ensures fits { OnOk result (Fits ns nodes.now (inner frames.new)) }
     ensures own { OnOk result (own_of frames.new ≡ own_of frames.old) }
     ensures ready { IfOk result (IsReady ns nodes.now (inner frames.new)) }
+    ensures no_call { IfOk result IsNoCall }
 {
     let entry = entries(nodes, n)[at];
     frames.push(Frame::Entries(n, at + 1))?;

@@ -6,23 +6,23 @@ use Rattle.wf_frames.specs.Fits.{reach}
 use Rattle.wf_frames.specs.Frames.{inner}
 use Rattle.wf_steps.proofs.Fitting.{block_fits, entries_fits, entry_ready}
 use Rattle.wf_steps.proofs.Parts.{as_part, codes_built, never_parallel, node_at}
-use Rattle.wf_steps.proofs.Performed.{nothing_done, default_body, loop_body, none_left, one_left, with_ok, block_put, none_assigned, first_assigned, performs_return, performs_raise, performs_call}
-use Rattle.wf_steps.specs.Steps.{CallsWith, Performs, ReturnsValue, RaisesValue}
+use Rattle.wf_steps.proofs.Performed.{nothing_done, default_body, loop_body, none_left, one_left, with_ok, block_put, none_assigned, first_assigned, performs_return, performs_raise}
+use Rattle.wf_steps.specs.Steps.{Performs, ReturnsValue, RaisesValue}
 use Rattle.wf_shapes.specs.Built.{are_built}
-use Rattle.wf_nodes.specs.Kinds.{call_by, kind_by}
+use Rattle.wf_nodes.specs.Kinds.{kind_by}
 use Rattle.wf_nodes.specs.Shapes.{shape_by}
 use Rattle.wf_nodes.specs.Spots.{arms_by, entries_by, steps_by, owners_at, part_at, part_body}
 use Rattle.wf_nodes.specs.Table.{ArmsStandIn, PartsStand}
 use Rattle.wf_nodes.specs.declared.node.NodeKind.TheVariants as kind
-use Rattle.wf_steps.proofs.step.perform.Goals as goal
+use Rattle.wf_steps.proofs.step.perform_plain.Goals as goal
 
 pub switch-requires : goal.switch-requires
 switch-requires g c κs within =
     let there = node_at c.args.nodes.now c.args.n c.index-nodes-n.result c.requires.1.1.0 c.index-nodes-n.is in
     let x = c.index-nodes-n.result in
     let stand = subst (λ k. PartsStand g.ns (length c.args.nodes.now) (owners_at g.ns c.args.n) (kind_by x.codes.items.items k)) c.in-Switch.is (c.requires.1.0.resolves.each c.args.n x there).parts in
-    let here = subst (λ (os : List ℕ). ArmsStandIn g.ns (length c.args.nodes.now) os c.in-Switch.arms.items) c.requires.1.1.1.1 stand in
-    (within, (c.requires.1.0, (subst (ArmsStandIn g.ns (length c.args.nodes.now) (reach (inner c.args.frames.now))) (sym c.as_slice-in-Switch.ensures.value) here, (c.requires.1.1.1.0, refl))))
+    let here = subst (λ (os : List ℕ). ArmsStandIn g.ns (length c.args.nodes.now) os c.in-Switch.arms.items) c.requires.1.1.1.1.1 stand in
+    (within, (c.requires.1.0, (subst (ArmsStandIn g.ns (length c.args.nodes.now) (reach (inner c.args.frames.now))) (sym c.as_slice-in-Switch.ensures.value) here, (c.requires.1.1.1.1.0, refl))))
 
 pub begin_loop-requires : goal.begin_loop-requires
 begin_loop-requires g c κs within =
@@ -77,7 +77,7 @@ pub returns-in-For-clause-fits : goal.returns-in-For-clause-fits
 returns-in-For-clause-fits g c =
     let x = c.index-nodes-n.result in
     let there = node_at c.args.nodes.now c.args.n x c.requires.1.1.0 c.index-nodes-n.is in
-    c.begin_loop.ensures.fits c.args.nodes.now c.in-For.body (record { node = x; at = there; is = c.in-For.is }) c.requires.1.1.1.0
+    c.begin_loop.ensures.fits c.args.nodes.now c.in-For.body (record { node = x; at = there; is = c.in-For.is }) c.requires.1.1.1.1.0
 
 pub returns-in_ok-push-in-Block-clause-performed : goal.returns-in_ok-push-in-Block-clause-performed
 returns-in_ok-push-in-Block-clause-performed g c =
@@ -91,13 +91,13 @@ pub returns-in_ok-push-in-Block-clause-fits : goal.returns-in_ok-push-in-Block-c
 returns-in_ok-push-in-Block-clause-fits g c =
     let x = c.index-nodes-n.result in
     let there = node_at c.args.nodes.now c.args.n x c.requires.1.1.0 c.index-nodes-n.is in
-    block_fits g.ns c.args.nodes.now c.args.n x (inner c.args.frames.now) (inner c.push-in-Block.new.self) there c.requires.1.1.1.0 c.in-Block.field-0 c.in-Block.is c.requires.1.1.1.1 c.in_ok-push-in-Block.ensures.pushed
+    block_fits g.ns c.args.nodes.now c.args.n x (inner c.args.frames.now) (inner c.push-in-Block.new.self) there c.requires.1.1.1.1.0 c.in-Block.field-0 c.in-Block.is c.requires.1.1.1.1.1 c.in_ok-push-in-Block.ensures.pushed
 
 pub returns-in_ok-push-in-len1-up-clause-fits : goal.returns-in_ok-push-in-len1-up-clause-fits
 returns-in_ok-push-in-len1-up-clause-fits g c =
     let x = c.index-nodes-n.result in
     let there = node_at c.args.nodes.now c.args.n x c.requires.1.1.0 c.index-nodes-n.is in
-    entries_fits g.ns c.args.nodes.now c.args.n x (inner c.args.frames.now) (inner c.push.new.self) there c.requires.1.1.1.0 c.in-Assign.entries c.in-Assign.is (omega (arith, ap (λ xs. length xs) c.as_slice.ensures.value, c.in-len1-up.len_at_least)) c.in_ok-push-in-len1-up.ensures.pushed
+    entries_fits g.ns c.args.nodes.now c.args.n x (inner c.args.frames.now) (inner c.push.new.self) there c.requires.1.1.1.1.0 c.in-Assign.entries c.in-Assign.is (omega (arith, ap (λ xs. length xs) c.as_slice.ensures.value, c.in-len1-up.len_at_least)) c.in_ok-push-in-len1-up.ensures.pushed
 
 pub returns-in_ok-push-in-len1-up-clause-ready : goal.returns-in_ok-push-in-len1-up-clause-ready
 returns-in_ok-push-in-len1-up-clause-ready g c =
@@ -130,34 +130,13 @@ returns-in_default-clause-performed g c =
     let x = c.index-nodes-n.result in
     let there = node_at c.args.nodes.now c.args.n x c.requires.1.1.0 c.index-nodes-n.is in
     let n = c.in_default in
-    nothing_done g.ns v (inner c.args.frames.now) c.args.n (ap part_body (c.requires.1.0.resolves.each c.args.n x there).part ∙ default_body g.ns x.codes.items.items x.name x.next x.kind n.not-Assign n.not-Switch n.not-For n.not-Block n.not-Raise n.not-Return n.not-Call n.not-Parallel n.not-Try)
-
-pub calls-requires : goal.calls-requires
-calls-requires g c =
-    let there = node_at c.args.nodes.now c.args.n c.index-nodes-n.result c.requires.1.1.0 c.index-nodes-n.is in
-    ap are_built c.items-codes.ensures ∙ codes_built c.args.nodes.now c.args.n c.index-nodes-n.result c.requires.1.0.built there
-
-pub returns-in-Call-clause-performed : goal.returns-in-Call-clause-performed
-returns-in-Call-clause-performed g c =
-    let v = seen (g.K.Look.sight c.args.look.now) c.args.now in
-    let x = c.index-nodes-n.result in
-    let there = node_at c.args.nodes.now c.args.n x c.requires.1.1.0 c.index-nodes-n.is in
-    let f = call_by c.items-codes.result.now c.in-Call.call in
-    let part = as_part g.ns c.args.nodes.now c.args.n x (kind.Call c.in-Call.call) c.requires.1.0.resolves there c.in-Call.is in
-    with_ok (CallsWith c.args.n f v) (Performs g.ns (part_body (part_at g.ns c.args.n)) v (inner c.args.frames.now) (inner c.args.frames.now)) c.calls.result
-    (λ st h. performs_call g.ns c.args.n f v (inner c.args.frames.now) st (ap part_body part ∙ ap (λ cs. Body.Call (call_by cs c.in-Call.call)) (sym c.items-codes.ensures)) h) c.calls.ensures.called
-
-pub returns-in-Call-clause-ready : goal.returns-in-Call-clause-ready
-returns-in-Call-clause-ready g c =
-    let x = c.index-nodes-n.result in
-    let there = node_at c.args.nodes.now c.args.n x c.requires.1.1.0 c.index-nodes-n.is in
-    c.calls.ensures.ready g.ns c.args.nodes.now (inner c.args.frames.now) (record { node = x; at = there; is = c.in-Call.is })
+    nothing_done g.ns v (inner c.args.frames.now) c.args.n (ap part_body (c.requires.1.0.resolves.each c.args.n x there).part ∙ default_body g.ns x.codes.items.items x.name x.next x.kind n.not-Assign n.not-Switch n.not-For n.not-Block n.not-Raise n.not-Return (λ f is. c.requires.1.1.1.0 f (record { node = x; at = there; is = is })) n.not-Parallel n.not-Try)
 
 pub enter_try-requires : goal.enter_try-requires
 enter_try-requires g c =
     let x = c.index-nodes-n.result in
     let there = node_at c.args.nodes.now c.args.n x c.requires.1.1.0 c.index-nodes-n.is in
-    (c.requires.1.0, (record { node = x; at = there; is = c.in-Try.is }, (c.requires.1.1.1.0, c.requires.1.1.1.1)))
+    (c.requires.1.0, (record { node = x; at = there; is = c.in-Try.is }, (c.requires.1.1.1.1.0, c.requires.1.1.1.1.1)))
 
 pub unreachable-requires : goal.unreachable-requires
 unreachable-requires g c =

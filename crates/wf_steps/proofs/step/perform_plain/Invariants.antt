@@ -1,6 +1,6 @@
 use Rattle.wf_frames.specs.Fits.{reach}
 use Rattle.wf_frames.specs.Frames.{inner}
-use Rattle.wf_steps.proofs.step.perform.Given as goal
+use Rattle.wf_steps.proofs.step.perform_plain.Given as goal
 
 abbrev pub ghost-switch : goal.ghost-switch
 ghost-switch g a = record { spots = g.ns; owners = reach (inner a.frames.now) }
