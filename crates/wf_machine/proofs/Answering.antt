@@ -4,7 +4,8 @@
 --     answer_off, due_off            what can't come
 use Rattle.std.proofs.Common.{◌≡◌, ◌<◌, ◌≤◌, ◌+◌, ◌⊎◌, inl, inr, ℕ, zero, suc, true, false, List, Option, None, Some, Result, Ok, Err, refl, sym, ap, ◌∙◌, subst, arith}
 use Rattle.std.specs.Prelude.{IfErr, is_some}
-use Rattle.wf_alone.specs.Laws.{MainIsAnswered, MainIsDue, MainIsFlooded}
+use Rattle.wf_alone.proofs.Waiting.{is_answered, is_due, is_flooded}
+use Rattle.wf_alone.specs.Laws.{MainMatches}
 use Rattle.wf_alone.specs.Machine.{Rest, closed_in, config_by, main_at, main_by, main_local, main_scene}
 use Rattle.wf_alone.specs.Waiting.{IsOff, call_by, call_of, caller, due_for}
 use Rattle.wf_calls.specs.Numbers.{NumbersAreThoseOfSteps, call_in as call_at, call_task, closed_at}
@@ -91,9 +92,9 @@ module _ (m : Machine) (t : Task) (is : m.task ≡ Some t) (run : m.ending ≡ e
   stands : (state_of m).config ≡ main_at (X m t is) (K m t is) (Ls m t is) (Calling n V)
   stands = here m t is run ∙ ap (main_at (X m t is) (K m t is) (Ls m t is)) calling
 
-  pub answer_comes : MainIsAnswered → (r : ℕ) (a : Reply) (with : Result Value Value) → caller (call_by (X m t is) n) ≡ Some 0 → m.tally.last ≤ r → m.tally.bodies + reply_length a ≤ 67108864 → answer_view with ≡ reply_result a
+  pub answer_comes : (r : ℕ) (a : Reply) (with : Result Value Value) → caller (call_by (X m t is) n) ≡ Some 0 → m.tally.last ≤ r → m.tally.bodies + reply_length a ≤ 67108864 → answer_view with ≡ reply_result a
       → IfErr with (λ e. depth (plain e) ≤ 100) → Comes m (answered_by n with) 0 (tally_at m r (m.tally.bodies + reply_length a)) (Event.Answer n r a)
-  answer_comes law r a with its le few same shallow = record {
+  answer_comes r a with its le few same shallow = record {
     task = t;
     is = is;
     running = run;
@@ -101,23 +102,23 @@ module _ (m : Machine) (t : Task) (is : m.task ≡ Some t) (run : m.ending ≡ e
     leads =
         let Y : List Call → Rest = λ cs. rest_of m.facts (tally_at m r (m.tally.bodies + reply_length a)) cs in
         ap (λ c. next (P m t is) c (Event.Answer n r a)) stands
-        ∙ law (P m t is) (X m t is) (K m t is) (Ls m t is) n V r a its le few
+        ∙ is_answered (P m t is) (X m t is) (K m t is) (Ls m t is) n V r a its le few
         ∙ ap (λ cs. merged 0 None (resumed (main_scene (P m t is) (Y cs) 0) V (reply_result a) (main_local (K m t is) (Ls m t is) (Calling n V))) (main_at (Y cs) (K m t is) (Ls m t is) (Calling n V))) (closed_same n Answered m.calls)
         ∙ ap (λ x. merged 0 None (resumed (main_scene (P m t is) (Y (closed_at m.calls n Answered)) 0) V x (main_local (K m t is) (Ls m t is) (Calling n V))) (main_at (Y (closed_at m.calls n Answered)) (K m t is) (Ls m t is) (Calling n V))) (sym same)
         ∙ ap (λ w. merged 0 None (resumed (main_scene (P m t is) (Y (closed_at m.calls n Answered)) 0) V (answer_view with) (main_local (K m t is) (Ls m t is) w)) (main_at (Y (closed_at m.calls n Answered)) (K m t is) (Ls m t is) w)) (sym calling);
   }
 
-  pub answer_stops : MainIsFlooded → (r : ℕ) (a : Reply) → caller (call_by (X m t is) n) ≡ Some 0 → m.tally.last ≤ r → 67108864 < m.tally.bodies + reply_length a → Stops m (tally_at m r m.tally.bodies) (Event.Answer n r a)
-  answer_stops law r a its le many =
+  pub answer_stops : (r : ℕ) (a : Reply) → caller (call_by (X m t is) n) ≡ Some 0 → m.tally.last ≤ r → 67108864 < m.tally.bodies + reply_length a → Stops m (tally_at m r m.tally.bodies) (Event.Answer n r a)
+  answer_stops r a its le many =
       ap (λ c. next (P m t is) c (Event.Answer n r a)) stands
-      ∙ law (P m t is) (X m t is) (K m t is) (Ls m t is) n V r a its le many
+      ∙ is_flooded (P m t is) (X m t is) (K m t is) (Ls m t is) n V r a its le many
       ∙ ap (λ w. To (main_by (rest_of m.facts (tally_at m r m.tally.bodies) m.calls) (K m t is) (Ls m t is) w (Raised (error_map ResourceLimitError)))) (sym calling)
       ∙ ap (λ o. To (config_by (rest_of m.facts (tally_at m r m.tally.bodies) m.calls) (tasks_view (P m t is) o m.scopes) (Raised (error_map ResourceLimitError)))) (sym is)
 
 -- ## Due moments
-pub due_comes : MainIsDue → (m : Machine) (b n r : ℕ) → b ≡ 0 → DuesBy m n r → m.tally.last ≤ r → (e : Value) → plain e ≡ error_map TimeoutError → depth (plain e) ≤ 100
+pub due_comes : (m : Machine) (b n r : ℕ) → b ≡ 0 → DuesBy m n r → m.tally.last ≤ r → (e : Value) → plain e ≡ error_map TimeoutError → depth (plain e) ≤ 100
     → Comes m (timed_out_by n (Err e)) r (tally_at m r m.tally.bodies) (Event.Due b r)
-due_comes law m b n r zero_is dues le e error shallow =
+due_comes m b n r zero_is dues le e error shallow =
     let t = dues.task in
     let is = dues.is in
     let V : Option Text = result_in (around (P m t is)) t.wait in
@@ -130,7 +131,7 @@ due_comes law m b n r zero_is dues le e error shallow =
       suits = (ap is_some dues.waits, shallow);
       leads =
           ap (λ c. next (P m t is) c (Event.Due 0 r)) (here m t is dues.running ∙ ap (main_at (X m t is) (K m t is) (Ls m t is)) calls)
-          ∙ law (P m t is) (X m t is) (K m t is) (Ls m t is) n V dues.moment r dues.due le dues.come
+          ∙ is_due (P m t is) (X m t is) (K m t is) (Ls m t is) n V dues.moment r dues.due le dues.come
           ∙ ap (λ cs. merged 0 None (resumed (main_scene (P m t is) (Y cs) r) V timeout_error (main_local (K m t is) (Ls m t is) (Calling n V))) (main_at (Y cs) (K m t is) (Ls m t is) (Calling n V))) (closed_same n TimedOut m.calls)
           ∙ ap (λ (d : Data). merged 0 None (resumed (main_scene (P m t is) (Y (closed_at m.calls n TimedOut)) r) V (Err d) (main_local (K m t is) (Ls m t is) (Calling n V))) (main_at (Y (closed_at m.calls n TimedOut)) (K m t is) (Ls m t is) (Calling n V))) (sym error)
           ∙ ap (λ w. merged 0 None (resumed (main_scene (P m t is) (Y (closed_at m.calls n TimedOut)) r) V (Err (plain e)) (main_local (K m t is) (Ls m t is) w)) (main_at (Y (closed_at m.calls n TimedOut)) (K m t is) (Ls m t is) w)) (sym calls);
@@ -138,9 +139,9 @@ due_comes law m b n r zero_is dues le e error shallow =
 
 -- ## Which call
 -- an open call is the one for which `main` waits
-pub awaited : (m : Machine) (t : Task) → m.task ≡ Some t → m.ending ≡ ending.Running → (n b : ℕ) → caller (call_by (rest_by m) n) ≡ Some b → (b ≡ 0) × (call_in t.wait ≡ Some n)
-awaited m t is run n b its =
-    let y = (matches_now m t is run).lone n b its in
+pub awaited : MainMatches → (m : Machine) (t : Task) → m.task ≡ Some t → m.ending ≡ ending.Running → (n b : ℕ) → caller (call_by (rest_by m) n) ≡ Some b → (b ≡ 0) × (call_in t.wait ≡ Some n)
+awaited law m t is run n b its =
+    let y = (matches_now m t is law run).lone n b its in
     (y.0, sym (call_of_view (around (program_of m.program)) t.wait) ∙ y.1)
 
 -- ## What can't come

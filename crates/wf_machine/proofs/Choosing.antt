@@ -5,7 +5,10 @@
 use Rattle.std.proofs.Common.{◌≡◌, ◌≤◌, ℕ, zero, suc, max, Bool, true, false, not, List, [], ◌∷◌, Option, None, Some, refl, sym, ap, ◌∙◌, subst, arith}
 use Rattle.std.specs.Prelude.{◌&&◌, IsTrue, if◌then◌else◌, is_some, nat_le}
 use Rattle.std.proofs.lemmas.Bool.{le-leb}
-use Rattle.wf_alone.specs.Laws.{DuesCanCome, MainCanStep, MainIsBusy, MainIsChosen, MainWaits}
+use Rattle.wf_alone.proofs.Reached.{can_step, dues_can_come}
+use Rattle.wf_alone.proofs.Steps.{main_is_busy, main_is_chosen}
+use Rattle.wf_alone.proofs.Waiting.{waiting}
+use Rattle.wf_alone.specs.Laws.{MainMatches}
 use Rattle.wf_alone.specs.Machine.{IsReached, Rest, config_by, main_at, main_by, main_task}
 use Rattle.wf_alone.specs.Waiting.{call_by, caller, due_for}
 use Rattle.wf_check.specs.Seen.{program_of}
@@ -35,36 +38,36 @@ use Rattle.wf_shared.specs.Events.{Event}
 use Rattle.wf_value.specs.Pairs.{Text}
 
 -- ## The choice
-pub step_chosen : MainIsChosen → (m : Machine) (q : NextKind) → StepsBy m q → (r : ℕ) → choose (program_of m.program) (state_of m).config r ≡ Some (wanted q 0 (max r m.tally.last))
-step_chosen law m q steps r =
+pub step_chosen : (m : Machine) (q : NextKind) → StepsBy m q → (r : ℕ) → choose (program_of m.program) (state_of m).config r ≡ Some (wanted q 0 (max r m.tally.last))
+step_chosen m q steps r =
     let t = steps.task in
     let is = steps.is in
     ap (λ c. choose (P m t is) c r) (here m t is steps.running)
     ∙ ap (λ w. choose (P m t is) (main_at (X m t is) (K m t is) (Ls m t is) w) r) (awake_view (around (P m t is)) t.wait steps.awake)
-    ∙ law (P m t is) (X m t is) (K m t is) (Ls m t is) q (plain m t is) steps.wanted r
+    ∙ main_is_chosen (P m t is) (X m t is) (K m t is) (Ls m t is) q (plain m t is) steps.wanted r
 
 -- where `main` waits for call n, whose due moment is d
 waits_at : (m : Machine) (t : Task) (is : m.task ≡ Some t) → m.ending ≡ ending.Running → (n : ℕ) → call_in t.wait ≡ Some n
     → (state_of m).config ≡ main_at (X m t is) (K m t is) (Ls m t is) (Calling n (result_in (around (P m t is)) t.wait))
 waits_at m t is run n waits = here m t is run ∙ ap (main_at (X m t is) (K m t is) (Ls m t is)) (calling_view (around (P m t is)) t.wait n waits)
 
-pub due_chosen : MainWaits → (m : Machine) (n r : ℕ) → DuesBy m n r → choose (program_of m.program) (state_of m).config r ≡ Some (Event.Due 0 (max r m.tally.last))
-due_chosen law m n r dues =
+pub due_chosen : (m : Machine) (n r : ℕ) → DuesBy m n r → choose (program_of m.program) (state_of m).config r ≡ Some (Event.Due 0 (max r m.tally.last))
+due_chosen m n r dues =
     let t = dues.task in
     let is = dues.is in
     ap (λ c. choose (P m t is) c r) (waits_at m t is dues.running n dues.waits)
-    ∙ (law (P m t is) (X m t is) (K m t is) (Ls m t is) n (result_in (around (P m t is)) t.wait) dues.moment dues.due).chosen r
+    ∙ (waiting (P m t is) (X m t is) (K m t is) (Ls m t is) n (result_in (around (P m t is)) t.wait) dues.moment dues.due).chosen r
     ∙ ap (λ b. if b then Some (Event.Due 0 (max r m.tally.last)) else None) (le-leb dues.moment r dues.come)
 
 -- the call for which `main` waits is open
-pub is_due_some : (m : Machine) (t : Task) (is : m.task ≡ Some t) → m.ending ≡ ending.Running → (n : ℕ) → call_in t.wait ≡ Some n → (d : ℕ) × (call_due (call_by (X m t is) n) ≡ Some d)
-is_due_some m t is run n waits = open_due (call_by (X m t is) n) 0 ((matches_now m t is run).waited n (call_of_view (around (P m t is)) t.wait ∙ waits))
+pub is_due_some : MainMatches → (m : Machine) (t : Task) (is : m.task ≡ Some t) → m.ending ≡ ending.Running → (n : ℕ) → call_in t.wait ≡ Some n → (d : ℕ) × (call_due (call_by (X m t is) n) ≡ Some d)
+is_due_some law m t is run n waits = open_due (call_by (X m t is) n) 0 ((matches_now m t is law run).waited n (call_of_view (around (P m t is)) t.wait ∙ waits))
 
 -- the due moment by the wait
 pub due_for_is : (m : Machine) (t : Task) (is : m.task ≡ Some t) (n : ℕ) → call_in t.wait ≡ Some n → due_for (X m t is) (W m t is) ≡ call_due (call_by (X m t is) n)
 due_for_is m t is n waits = ap (due_for (X m t is)) (calling_view (around (P m t is)) t.wait n waits)
 
-pub none_chosen : MainWaits → (m : Machine) (r : ℕ) → StepsNot m → DuesNot m r → choose (program_of m.program) (state_of m).config r ≡ None
+pub none_chosen : MainMatches → (m : Machine) (r : ℕ) → StepsNot m → DuesNot m r → choose (program_of m.program) (state_of m).config r ≡ None
 none_chosen law m r steps dues = by m.ending refl m.task refl
   where
     at : (o : Option Task) (e : Ending) → m.task ≡ o → m.ending ≡ e → choose (program_of m.program) (state_of m).config r ≡ choose (program_of m.program) (config_of (program_of m.program) m.facts m.tally o m.scopes m.calls e) r
@@ -76,25 +79,25 @@ none_chosen law m r steps dues = by m.ending refl m.task refl
     by ending.Running run None is = at None ending.Running is run
     by ending.Running run (Some t) is =
         let n = waits_for_one t.wait (steps t is run) in
-        let d = is_due_some m t is run n.0 n.1 in
+        let d = is_due_some law m t is run n.0 n.1 in
         let late : nat_le d.0 r ≡ false = sym (ap (is_by r) (due_for_is m t is n.0 n.1 ∙ d.1)) ∙ dues t is run in
         ap (λ c. choose (P m t is) c r) (waits_at m t is run n.0 n.1)
-        ∙ (law (P m t is) (X m t is) (K m t is) (Ls m t is) n.0 (result_in (around (P m t is)) t.wait) d.0 d.1).chosen r
+        ∙ (waiting (P m t is) (X m t is) (K m t is) (Ls m t is) n.0 (result_in (around (P m t is)) t.wait) d.0 d.1).chosen r
         ∙ ap (λ b. if b then Some (Event.Due 0 (max r m.tally.last)) else None) late
 
 -- ## It can come
-pub step_can_come : MainCanStep → NeverWrong → (m : Machine) (q : NextKind) → StepsBy m q → (r : ℕ) → (d : Config) × (next (program_of m.program) (state_of m).config (wanted q 0 (max r m.tally.last)) ≡ To d)
-step_can_come law right m q steps r =
+pub step_can_come : NeverWrong → (m : Machine) (q : NextKind) → StepsBy m q → (r : ℕ) → (d : Config) × (next (program_of m.program) (state_of m).config (wanted q 0 (max r m.tally.last)) ≡ To d)
+step_can_come right m q steps r =
     let t = steps.task in
     let is = steps.is in
     let le : m.tally.last ≤ max r m.tally.last = omega arith in
     let awake = awake_view (around (P m t is)) t.wait steps.awake in
     comes_from m t is steps.running (wanted q 0 (max r m.tally.last)) (λ accept reached.
     subst (λ w. (d : Config) × (next (P m t is) (main_at (X m t is) (K m t is) (Ls m t is) w) (wanted q 0 (max r m.tally.last)) ≡ To d)) (sym awake)
-    (law right (P m t is) (X m t is) (K m t is) (Ls m t is) q (max r m.tally.last) accept (subst (λ w. IsReached (P m t is) (main_at (X m t is) (K m t is) (Ls m t is) w)) awake reached) (plain m t is) (has_move m t is steps.awake) steps.wanted le))
+    (can_step right (P m t is) (X m t is) (K m t is) (Ls m t is) q (max r m.tally.last) accept (subst (λ w. IsReached (P m t is) (main_at (X m t is) (K m t is) (Ls m t is) w)) awake reached) (plain m t is) (has_move m t is steps.awake) steps.wanted le))
 
-pub due_can_come : DuesCanCome → NeverWrong → (m : Machine) (n r : ℕ) → DuesBy m n r → (d : Config) × (next (program_of m.program) (state_of m).config (Event.Due 0 (max r m.tally.last)) ≡ To d)
-due_can_come law right m n r dues =
+pub due_can_come : NeverWrong → (m : Machine) (n r : ℕ) → DuesBy m n r → (d : Config) × (next (program_of m.program) (state_of m).config (Event.Due 0 (max r m.tally.last)) ≡ To d)
+due_can_come right m n r dues =
     let t = dues.task in
     let is = dues.is in
     let moment = dues.moment in
@@ -104,7 +107,7 @@ due_can_come law right m n r dues =
     let calls = calling_view (around (P m t is)) t.wait n dues.waits in
     comes_from m t is dues.running (Event.Due 0 (max r m.tally.last)) (λ accept reached.
     subst (λ w. (d : Config) × (next (P m t is) (main_at (X m t is) (K m t is) (Ls m t is) w) (Event.Due 0 (max r m.tally.last)) ≡ To d)) (sym calls)
-    (law right (P m t is) (X m t is) (K m t is) (Ls m t is) n (result_in (around (P m t is)) t.wait) moment (max r m.tally.last) accept (subst (λ w. IsReached (P m t is) (main_at (X m t is) (K m t is) (Ls m t is) w)) calls reached) dues.due le due))
+    (dues_can_come right (P m t is) (X m t is) (K m t is) (Ls m t is) n (result_in (around (P m t is)) t.wait) moment (max r m.tally.last) accept (subst (λ w. IsReached (P m t is) (main_at (X m t is) (K m t is) (Ls m t is) w)) calls reached) dues.due le due))
 
 -- ## Quiet
 -- a call is the same whatever the tasks and the outcome
@@ -129,10 +132,10 @@ least_one (Some d) = refl
 calling_least : (x : Rest) (k : List Item) (ls : List Layer) (n : ℕ) (v : Option Text) (o : Outcome) → least_due (main_by x k ls (Calling n v) o) ≡ call_due (call_by x n)
 calling_least x k ls n v o = least_one (call_due (call (main_by x k ls (Calling n v) o) n)) ∙ ap call_due (call_same x ((0, main_task k ls (Calling n v)) ∷ []) o n)
 
-module _ (busy : MainIsBusy) (m : Machine) (t : Task) (is : m.task ≡ Some t) where
+module _ (m : Machine) (t : Task) (is : m.task ≡ Some t) where
   -- it is still where it waits for what isn't due yet
   quiet_by : (w : Wait) (r : ℕ) → (is_some (call_in w) && not (is_by r (due_for (X m t is) (wait_view (around (P m t is)) w)))) ≡ quiet (main_by (X m t is) (K m t is) (Ls m t is) (wait_view (around (P m t is)) w) (outcome_by m.ending)) r
-  quiet_by wait.Awake r = sym ((busy (X m t is) (K m t is) (Ls m t is) (plain m t is)).0 r)
+  quiet_by wait.Awake r = sym ((main_is_busy (X m t is) (K m t is) (Ls m t is) (plain m t is)).0 r)
   quiet_by (wait.Calling n node) r = sym (calling_quiet (X m t is) (K m t is) (Ls m t is) n (result_of (spots (P m t is).flows) (Some node)) (outcome_by m.ending) r)
 
   -- where it stands, with or without an outcome
@@ -151,12 +154,12 @@ module _ (busy : MainIsBusy) (m : Machine) (t : Task) (is : m.task ≡ Some t) w
   least_is = least_by t.wait ∙ sym (ap least_due stands)
 
   -- where it is still something will be due
-  still_due : m.ending ≡ ending.Running → (o : Option ℕ) → call_in t.wait ≡ o → (r : ℕ) → IsTrue (is_some o && not (is_by r (due_for (X m t is) (W m t is)))) → is_some (due_for (X m t is) (W m t is)) ≡ true
-  still_due run None waits r still = absurd (cc still)
-  still_due run (Some n) waits r still = ap is_some (due_for_is m t is n waits ∙ (is_due_some m t is run n waits).1)
+  still_due : MainMatches → m.ending ≡ ending.Running → (o : Option ℕ) → call_in t.wait ≡ o → (r : ℕ) → IsTrue (is_some o && not (is_by r (due_for (X m t is) (W m t is)))) → is_some (due_for (X m t is) (W m t is)) ≡ true
+  still_due law run None waits r still = absurd (cc still)
+  still_due law run (Some n) waits r still = ap is_some (due_for_is m t is n waits ∙ (is_due_some law m t is run n waits).1)
 
-  pub has_due : m.ending ≡ ending.Running → (r : ℕ) → IsTrue (quiet (state_of m).config r) → is_some (least_due (state_of m).config) ≡ true
-  has_due run r still = sym (ap is_some least_is) ∙ still_due run (call_in t.wait) refl r (subst IsTrue (sym (quiet_is r)) still)
+  pub has_due : MainMatches → m.ending ≡ ending.Running → (r : ℕ) → IsTrue (quiet (state_of m).config r) → is_some (least_due (state_of m).config) ≡ true
+  has_due law run r still = sym (ap is_some least_is) ∙ still_due law run (call_in t.wait) refl r (subst IsTrue (sym (quiet_is r)) still)
 
 -- without a task
 pub quiet_none : (m : Machine) → m.task ≡ None → (r : ℕ) → true ≡ quiet (state_of m).config r
@@ -166,8 +169,8 @@ pub least_none : (m : Machine) → m.task ≡ None → None ≡ least_due (state
 least_none m none = sym (ap (λ o. least_due (config_of (program_of m.program) m.facts m.tally o m.scopes m.calls m.ending)) none)
 
 -- where nothing can move something is due
-pub waits_until : MainIsBusy → (m : Machine) → m.broken ≡ false → (state_of m).config.outcome ≡ Active → (r : ℕ) → IsTrue (quiet (state_of m).config r) → is_some (least_due (state_of m).config) ≡ true
-waits_until busy m whole active r still =
+pub waits_until : MainMatches → (m : Machine) → m.broken ≡ false → (state_of m).config.outcome ≡ Active → (r : ℕ) → IsTrue (quiet (state_of m).config r) → is_some (least_due (state_of m).config) ≡ true
+waits_until law m whole active r still =
     let run = running_of m.ending active in
     let t = has_main m whole run in
-    has_due busy m t.0 t.1 run r still
+    has_due m t.0 t.1 law run r still

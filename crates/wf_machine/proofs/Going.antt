@@ -2,7 +2,7 @@
 --     moved        the configuration
 --     shallow      how deep the outcome nests
 use Rattle.std.proofs.Common.{◌≡◌, ◌≤◌, ℕ, List, length, Some, refl, sym, ap, ◌∙◌, subst}
-use Rattle.wf_alone.specs.Laws.{MainMerges}
+use Rattle.wf_alone.proofs.Carried.{merges}
 use Rattle.wf_alone.specs.Machine.{Rest, config_by, main_at, main_local, main_scene}
 use Rattle.wf_ast.specs.Accept.{Kind}
 use Rattle.wf_ast.specs.Tree.{Program}
@@ -43,7 +43,7 @@ reaches_for : (c : Cause) (m : Machine) (y : Tally) (now : ℕ) (f : Facts) → 
 reaches_for cause.Step m y now f looks = record { routes = ap routes_view (sym looks.routes); calls = sym looks.calls }
 reaches_for (cause.Heard h) m y now f looks = tt
 
-module _ (law : NeverWrong) (merges : MainMerges) (m : Machine) (c : Cause) (now : ℕ) (y : Tally) (e : Event) (comes : Comes m c now y e) (t : Task) (is : m.task ≡ Some t) (f : Facts) (looks : Looks m now f) (u : Task) (x : Scopes) (did : Move)
+module _ (law : NeverWrong) (m : Machine) (c : Cause) (now : ℕ) (y : Tally) (e : Event) (comes : Comes m c now y e) (t : Task) (is : m.task ≡ Some t) (f : Facts) (looks : Looks m now f) (u : Task) (x : Scopes) (did : Move)
     (so : (s : Scene) → Sees s f.of_step → ReachesFor c s f.sending → Agrees s (around (program_of m.program))
     → MovesSo (does_by c (result_in (around (program_of m.program)) t.wait) s (task_local (around (program_of m.program)) t m.scopes)) did (task_local (around (program_of m.program)) u x)) where
   abbrev P : Program

@@ -1,5 +1,4 @@
 -- The lemmas of the machine.
-pub mod Alone
 pub mod Answering
 pub mod Applying
 pub mod Arguments

@@ -7,6 +7,9 @@
 use Rattle.std.specs.Prelude.{is_some}
 use Rattle.std.proofs.Common.{◌≡◌, ◌<◌, ℕ, Bool, true, false, List, Option, Some, None, refl, sym, ap, ◌∙◌, subst}
 use Rattle.std.proofs.Math.Logic.{∥∥₁_elim, ∥∥₁_map}
+use Rattle.wf_alone.proofs.Off.{off}
+use Rattle.wf_alone.proofs.Reached.{never as never_wrong}
+use Rattle.wf_alone.specs.Laws.{MainMatches}
 use Rattle.wf_alone.specs.Machine.{IsReached, Rest, config_by, main_at}
 use Rattle.wf_alone.specs.Plain.{ArePlain, Moves}
 use Rattle.wf_alone.specs.Waiting.{IsOff, Matches, Matches-prop}
@@ -19,7 +22,6 @@ use Rattle.wf_frames.proofs.Standing.{stands}
 use Rattle.wf_frames.specs.Frames.{inner}
 use Rattle.wf_frames.specs.Standing.{Standing}
 use Rattle.wf_frames.specs.Stands.{Stands}
-use Rattle.wf_machine.proofs.Alone.{main_matches, never_wrong_here, off_law}
 use Rattle.wf_machine.proofs.Plainly.{are_plain, moves}
 use Rattle.wf_machine.proofs.Waiting.{going_by}
 use Rattle.wf_machine.specs.Main.{IsStanding, around, config_of}
@@ -93,12 +95,12 @@ module _ (m : Machine) (t : Task) (is : m.task ≡ Some t) where
   here run = ap (λ o. config_of P m.facts m.tally o m.scopes m.calls m.ending) is ∙ ap (λ e. config_of P m.facts m.tally (Some t) m.scopes m.calls e) run
 
   -- the call for which it waits is the only open one
-  pub matches_now : m.ending ≡ ending.Running → Matches X W
-  matches_now run = ∥∥₁_elim m.reached (Matches-prop X W) (λ reached. main_matches P X K Ls W (subst (IsReached P) (here run) (reached (ap is_some is))))
+  pub matches_now : MainMatches → m.ending ≡ ending.Running → Matches X W
+  matches_now law run = ∥∥₁_elim m.reached (Matches-prop X W) (λ reached. law P X K Ls W (subst (IsReached P) (here run) (reached (ap is_some is))))
 
   -- no event goes wrong
   pub goes_right : NeverWrong → (e : Event) (k : Kind) → next P (state_of m).config e ≡ Wrong k → ⊥
-  goes_right law e k wrong = ∥∥₁_elim m.reached (λ a b. absurd a) (λ reached. never_wrong_here law P (state_of m).config (accept_of P m.program.accepted) (reached (ap is_some is)) e k wrong)
+  goes_right law e k wrong = ∥∥₁_elim m.reached (λ a b. absurd a) (λ reached. never_wrong law P (state_of m).config (accept_of P m.program.accepted) (reached (ap is_some is)) e k wrong)
 
   -- an event comes that comes in each such run
   pub comes_from : m.ending ≡ ending.Running → (e : Event) → (Accept P → IsReached P (main_at X K Ls W) → (d : Config) × (next P (main_at X K Ls W) e ≡ To d))
@@ -117,7 +119,7 @@ module _ (m : Machine) (t : Task) (is : m.task ≡ Some t) where
 
   -- what is off never comes
   pub off_never : m.ending ≡ ending.Running → (e : Event) → IsOff P X K W e → (d : Config) → next P (state_of m).config e ≡ To d → ⊥
-  off_never run e off d comes = nowhere_is_no_config d (sym (off_law P X K Ls W e plain off) ∙ sym (ap (λ c. next P c e) (here run)) ∙ comes)
+  off_never run e why d comes = nowhere_is_no_config d (sym (off P X K Ls W e plain why) ∙ sym (ap (λ c. next P c e) (here run)) ∙ comes)
 
 -- ## Either way
 -- a machine that runs has `main`
@@ -131,12 +133,12 @@ has_main m whole run = by m.task refl
 -- behind an outcome nothing comes, and before it nothing that is off
 pub never : (m : Machine) → m.broken ≡ false → (e : Event) → ((t : Task) → m.task ≡ Some t → m.ending ≡ ending.Running → IsOff (program_of m.program) (rest_by m) (control_by m t) (wait_by m t) e)
     → (d : Config) → next (program_of m.program) (state_of m).config e ≡ To d → ⊥
-never m whole e off d comes = by m.ending refl
+never m whole e why d comes = by m.ending refl
   where
     ended : (outcome_by m.ending ≡ Active → ⊥) → ⊥
     ended over = nowhere_is_no_config d (sym (nothing_follows_an_outcome (program_of m.program) (state_of m).config e over) ∙ comes)
 
     by : (x : Ending) → m.ending ≡ x → ⊥
-    by ending.Running run = let y = has_main m whole run in off_never m y.0 y.1 run e (off y.0 y.1 run) d comes
+    by ending.Running run = let y = has_main m whole run in off_never m y.0 y.1 run e (why y.0 y.1 run) d comes
     by (ending.Returned v) it = ended (λ active. cc (sym (ap outcome_by it) ∙ active))
     by (ending.Raised v) it = ended (λ active. cc (sym (ap outcome_by it) ∙ active))

@@ -3,7 +3,7 @@
 --     step_off                   an event of a step that can't come
 use Rattle.std.proofs.Common.{◌≡◌, ◌<◌, ◌≤◌, ◌+◌, ◌⊎◌, inl, inr, ⊎_elim, ℕ, true, false, List, None, Some, refl, sym, ap, ◌∙◌, subst, arith}
 use Rattle.std.specs.Prelude.{is_some}
-use Rattle.wf_alone.specs.Laws.{MainIsStopped, MainSteps}
+use Rattle.wf_alone.proofs.Steps.{main_is_stopped, main_steps}
 use Rattle.wf_alone.specs.Machine.{Rest, config_by, main_at, main_by, main_local, main_scene, one_more, read_for, seen_by, step_by}
 use Rattle.wf_alone.specs.Waiting.{IsOff, IsOffStep}
 use Rattle.wf_ast.specs.Tree.{Program}
@@ -82,17 +82,17 @@ module _ (m : Machine) (q : NextKind) (steps : StepsBy m q) (r : ℕ) (le : m.ta
   awake = awake_view (around (P m T steps.is)) T.wait steps.awake
 
   -- it is carried out
-  below : MainSteps → m.tally.moves + 1 < 100000 → next (P m T steps.is) (main_at (X m T steps.is) KT (Ls m T steps.is) Awake) (wanted q 0 r)
+  below : m.tally.moves + 1 < 100000 → next (P m T steps.is) (main_at (X m T steps.is) KT (Ls m T steps.is) Awake) (wanted q 0 r)
       ≡ merged 0 None (stepped (main_scene (P m T steps.is) Y (seen_by q r)) (main_local KT (Ls m T steps.is) Awake)) (main_at Y KT (Ls m T steps.is) Awake)
-  below law few =
+  below few =
       ap (next (P m T steps.is) (main_at (X m T steps.is) KT (Ls m T steps.is) Awake)) (sym (wanted_same q 0 r m.tally.last))
-      ∙ law (P m T steps.is) (X m T steps.is) KT (Ls m T steps.is) q Last (plain m T steps.is) steps.wanted le few
+      ∙ main_steps (P m T steps.is) (X m T steps.is) KT (Ls m T steps.is) q Last (plain m T steps.is) steps.wanted le few
       ∙ ap (λ y. merged 0 None (step_by q (main_scene (P m T steps.is) y (seen_by q Last)) (main_local KT (Ls m T steps.is) Awake)) (main_at y KT (Ls m T steps.is) Awake)) behind_is
       ∙ ap (λ n. merged 0 None (step_by q (main_scene (P m T steps.is) Y n) (main_local KT (Ls m T steps.is) Awake)) (main_at Y KT (Ls m T steps.is) Awake)) (seen_same q r m.tally.last)
       ∙ ap (λ a. merged 0 None a (main_at Y KT (Ls m T steps.is) Awake)) (stepped_is q (main_scene (P m T steps.is) Y (seen_by q r)) (main_local KT (Ls m T steps.is) Awake) steps.wanted)
 
-  comes : MainSteps → m.tally.moves + 1 < 100000 → Comes m cause.Step (seen_by q r) Behind (wanted q 0 r)
-  comes law few = record {
+  comes : m.tally.moves + 1 < 100000 → Comes m cause.Step (seen_by q r) Behind (wanted q 0 r)
+  comes few = record {
     task = T;
     is = steps.is;
     running = steps.running;
@@ -101,16 +101,16 @@ module _ (m : Machine) (q : NextKind) (steps : StepsBy m q) (r : ℕ) (le : m.ta
         ∙ subst
         (λ w. next (P m T steps.is) (main_at (X m T steps.is) KT (Ls m T steps.is) w) (wanted q 0 r)
         ≡ merged 0 None (stepped (main_scene (P m T steps.is) Y (seen_by q r)) (main_local KT (Ls m T steps.is) w)) (main_at Y KT (Ls m T steps.is) w))
-        (sym awake) (below law few);
+        (sym awake) (below few);
   }
 
   -- or is the last one
-  stops : MainIsStopped → 100000 ≤ m.tally.moves + 1 → Stops m Behind (wanted q 0 r)
-  stops law many =
+  stops : 100000 ≤ m.tally.moves + 1 → Stops m Behind (wanted q 0 r)
+  stops many =
       ap (λ c. next (P m T steps.is) c (wanted q 0 r)) (here m T steps.is steps.running)
       ∙ ap (λ w. next (P m T steps.is) (main_at (X m T steps.is) KT (Ls m T steps.is) w) (wanted q 0 r)) awake
       ∙ ap (next (P m T steps.is) (main_at (X m T steps.is) KT (Ls m T steps.is) Awake)) (sym (wanted_same q 0 r m.tally.last))
-      ∙ law (P m T steps.is) (X m T steps.is) KT (Ls m T steps.is) q Last (plain m T steps.is) steps.wanted le many
+      ∙ main_is_stopped (P m T steps.is) (X m T steps.is) KT (Ls m T steps.is) q Last (plain m T steps.is) steps.wanted le many
       ∙ ap (λ y. To (main_by y KT (Ls m T steps.is) Awake (Raised (error_map ResourceLimitError)))) behind_is
       ∙ ap (λ w. To (main_by Y KT (Ls m T steps.is) w (Raised (error_map ResourceLimitError)))) (sym awake)
       ∙ ap (λ o. To (config_by Y (tasks_view (P m T steps.is) o m.scopes) (Raised (error_map ResourceLimitError)))) (sym steps.is)
@@ -119,17 +119,17 @@ module _ (m : Machine) (q : NextKind) (steps : StepsBy m q) (r : ℕ) (le : m.ta
 abbrev pub tally_by : Machine → ℕ → Tally
 tally_by m last = record { last = last; moves = m.tally.moves + 1; bodies = m.tally.bodies }
 
-pub step_comes : MainSteps → (m : Machine) (q : NextKind) → StepsBy m q → (b r now last : ℕ) → b ≡ 0 → now ≡ seen_by q r → last ≡ last_by q r m.tally.last → m.tally.last ≤ last → m.tally.moves + 1 < 100000
+pub step_comes : (m : Machine) (q : NextKind) → StepsBy m q → (b r now last : ℕ) → b ≡ 0 → now ≡ seen_by q r → last ≡ last_by q r m.tally.last → m.tally.last ≤ last → m.tally.moves + 1 < 100000
     → Comes m cause.Step now (tally_by m last) (wanted q b r)
-step_comes law m q steps b r now last zero_is now_is last_is le few =
-    let at = comes m q steps r (subst (λ n. m.tally.last ≤ n) last_is le) law few in
+step_comes m q steps b r now last zero_is now_is last_is le few =
+    let at = comes m q steps r (subst (λ n. m.tally.last ≤ n) last_is le) few in
     subst (λ n. Comes m cause.Step now (tally_by m last) (wanted q n r)) (sym zero_is)
     (subst (λ n. Comes m cause.Step n (tally_by m last) (wanted q 0 r)) (sym now_is)
     (subst (λ n. Comes m cause.Step (seen_by q r) (tally_by m n) (wanted q 0 r)) (sym last_is) at))
 
-pub step_stops : MainIsStopped → (m : Machine) (q : NextKind) → StepsBy m q → (b r last : ℕ) → b ≡ 0 → last ≡ last_by q r m.tally.last → m.tally.last ≤ last → 100000 ≤ m.tally.moves + 1 → Stops m (tally_by m last) (wanted q b r)
-step_stops law m q steps b r last zero_is last_is le many =
-    let at = stops m q steps r (subst (λ n. m.tally.last ≤ n) last_is le) law many in
+pub step_stops : (m : Machine) (q : NextKind) → StepsBy m q → (b r last : ℕ) → b ≡ 0 → last ≡ last_by q r m.tally.last → m.tally.last ≤ last → 100000 ≤ m.tally.moves + 1 → Stops m (tally_by m last) (wanted q b r)
+step_stops m q steps b r last zero_is last_is le many =
+    let at = stops m q steps r (subst (λ n. m.tally.last ≤ n) last_is le) many in
     subst (λ n. Stops m (tally_by m last) (wanted q n r)) (sym zero_is)
     (subst (λ n. Stops m (tally_by m n) (wanted q 0 r)) (sym last_is) at)
 

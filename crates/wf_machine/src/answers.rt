@@ -11,6 +11,7 @@ use crate::events::ApplyFault;
 use crate::machine::{Machine, Tally};
 use crate::reply::{reply_length, reply_result};
 use crate::task::{Cause, Heard};
+use wf_alone::laws_of_waiting;
 use wf_calls::{Closed, numbers_are_those_of_steps};
 use wf_moves::Task;
 use wf_record_parts::Reply;
@@ -75,6 +76,7 @@ impl Machine {
         ensures { Applied (state_of self.old) (state_of self.new)
             (AnyEvent.Answer call reading (reply_view reply.now)) result }
     {
+        laws_of_waiting();
         numbers_are_those_of_steps();
         if !self.ending.is_running() || self.calls.task(call).is_none() || reading < self.tally.last
         {
@@ -106,7 +108,6 @@ impl Machine {
         ensures { Applied (state_of self.old) (state_of self.new) (AnyEvent.Due task reading)
             result }
     {
-        numbers_are_those_of_steps();
         if task != 0 || reading < self.tally.last {
             return Err(ApplyFault::NotEnabled);
         }

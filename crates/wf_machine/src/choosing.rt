@@ -8,8 +8,7 @@ ghost use Rattle.wf_model.specs.Step.{next};
 ghost use Rattle.wf_steps.specs.Kinds.{kind_view};
 
 use crate::machine::Machine;
-use wf_alone::{laws_of_main, laws_of_waiting};
-use wf_calls::numbers_are_those_of_steps;
+use wf_alone::laws_of_waiting;
 use wf_events::Event;
 use wf_never_wrong::never_wrong;
 use wf_steps::Kind;
@@ -35,7 +34,6 @@ impl Machine {
         ensures enabled { IfSome result (λ e. (d : Config)
             × (next (state_of self.now).program (state_of self.now).config (event_view e) ≡ To d)) }
     {
-        laws_of_main();
         laws_of_waiting();
         never_wrong();
         let last = reading.max(self.tally.last);

@@ -14,12 +14,12 @@ use crate::facts::Facts;
 use crate::targets::targets_of;
 use crate::task::first_task;
 use std::alloc::Global;
+use wf_alone::laws_of_waiting;
 use wf_ast::Program;
 use wf_calls::{Calls, numbers_are_those_of_steps};
 use wf_check::Checked;
 use wf_events::Start;
 use wf_http_ask::Request;
-use wf_model::laws_of_waits;
 use wf_moves::Task;
 use wf_scope::Scopes;
 use wf_steps::{Target, are_built};
@@ -151,7 +151,6 @@ impl Machine {
     pub fn is_quiet(&self, reading: u64) -> bool
         ensures { result ≡ quiet (state_of self.now).config reading }
     {
-        numbers_are_those_of_steps();
         match &self.task {
             None => true,
             Some(task) => self.is_still(task, reading),
@@ -166,8 +165,7 @@ impl Machine {
             → (state_of self.now).config.outcome ≡ Active
             → (r : ℕ) → IsTrue (quiet (state_of self.now).config r) → IsSome result }
     {
-        numbers_are_those_of_steps();
-        laws_of_waits();
+        laws_of_waiting();
         match &self.task {
             None => None,
             Some(task) => self.due_of(task),

@@ -14,7 +14,6 @@ use crate::ending::{Ending, ending_of};
 use crate::events::ApplyFault;
 use crate::machine::{Machine, Tally};
 use crate::task::{Cause, go_on, kind_of};
-use wf_alone::laws_of_main;
 use wf_never_wrong::never_wrong;
 use wf_steps::Kind;
 use wf_value::{OutOfMemory, Tag, error_map};
@@ -82,7 +81,6 @@ impl Machine {
         ensures { Applied (state_of self.old) (state_of self.new)
             (wanted (kind_view kind) task reading) result }
     {
-        laws_of_main();
         let readings = readings_of(kind, reading, self.tally.last);
         if task != 0 || !self.wants(kind) || readings.last < self.tally.last {
             return Err(ApplyFault::NotEnabled);
@@ -117,7 +115,6 @@ impl Machine {
         ensures tally { OnOk result (self.new.tally ≡ tally) }
         ensures broken { (self.new.broken ≡ true) ↔ IsErr result }
     {
-        laws_of_main();
         never_wrong();
         // until `main` has gone on
         self.broken = true;

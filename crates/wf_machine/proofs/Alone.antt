@@ -1,1 +1,0 @@
--- The laws of an execution in which `main` is the only task.
