@@ -40,38 +40,17 @@ use Rattle.wf_value.specs.declared.Raise.{Raise}
 use Rattle.wf_value.specs.declared.Raise.TheVariants.{Error, OutOfMemory}
 use Rattle.wf_value.specs.declared.Tag.{Tag}
 
--- ## What arguments ask for
--- an error of the first of two steps, and one of the second
-pub first_error : {A B C : Type 0} (f : A → B) (g : C → Request × ℕ) (raise : Raise) (r : Answer B) (next : B → Answer (Request × ℕ)) → ask.Answers f (Err raise) r → eval.Answers g (Err raise) (r >>= next)
-first_error f g (Error t) r next h = subst (λ q. eval.Answers g (Err (Error t)) (q >>= next)) (sym h) refl
-first_error f g OutOfMemory r next h = tt
-
-pub second_error : {A B C D E : Type 0} (f : A → B) (e : D → E) (g : C → Request × ℕ) (raise : Raise) (v : A) (r : Answer B) (q : B → Answer E) (next : B → E → Answer (Request × ℕ)) → ask.Answers f (Ok v) r → ask.Answers e (Err raise) (q (f v))
-    → eval.Answers g (Err raise) (r >>= λ b. q b >>= next b)
-second_error f e g (Error t) v r q next h i = subst (λ x. eval.Answers g (Err (Error t)) (x >>= λ b. q b >>= next b)) (sym h) (subst (λ x. eval.Answers g (Err (Error t)) (x >>= next (f v))) (sym i) refl)
-second_error f e g OutOfMemory v r q next h i = tt
-
-pub both_made : (m : Option Method) (args : Pairs) (facts : Facts) (routes : List (List ℕ × Address)) (n : ℕ) (x : declared_asked.Asked) (y : declared.Request) (due : ℕ) (sent : Sent) → asked (option_map plain_method m) args ≡ Ok (asked_view x)
-    → request (routes_view routes) (asked_view x) facts.id n ≡ Ok (request_view y) → due ≡ later facts.now (x.timeout * 1000) → sent_view sent ≡ (request_view y, due) → eval.Answers sent_view (Ok sent) (request_by m args facts routes n)
-both_made m args facts routes n x y due sent a r d e =
-    let made : request_by m args facts routes n ≡ Ok (request_view y, due) =
-    ap (λ q. q >>= λ b. request (routes_view routes) b facts.id n >>= λ z. Ok (z, later facts.now (b.timeout * 1000))) a
-    ∙ ap (λ q. q >>= λ z. Ok (z, later facts.now (x.timeout * 1000))) r
-    ∙ ap (λ (t : ℕ). Ok (request_view y, t)) (sym d) in
-    subst (λ q. eval.Answers sent_view (Ok sent) q) (sym made) e
-
--- ## The request of a scene
 -- two steps, and then what comes of both
-both : (s : Scene) (k : List Item) (l : Local) (r : Answer Asked) (g : Asked → Answer Request) (t : Asked → ℕ) (f : Request → ℕ → Moved) → on s k l r (λ a. on s k l (g a) (λ q. f q (t a))) ≡ on s k l (r >>= λ a. g a >>= λ q. Ok (q, t a)) (λ p. f p.0 p.1)
+both : (s : Scene) (k : List Item) (l : Local) (r : Answer Asked) (g : Asked → Answer Request) (t : Asked → ℕ) (f : Request → ℕ → Moved) → on s k l r (λ a. on s k l (g a) (λ q. f q (t a))) ≡ on {A = Request × ℕ} s k l (r >>= λ a. g a >>= λ q. Ok (q, t a)) (λ p. f p.0 p.1)
 both s k l (Err e) g t f = refl
 both s k l (Ok a) g t f = second (g a)
   where
-    second : (x : Answer Request) → on s k l x (λ q. f q (t a)) ≡ on s k l (x >>= λ q. Ok (q, t a)) (λ p. f p.0 p.1)
+    second : (x : Answer Request) → on s k l x (λ q. f q (t a)) ≡ on {A = Request × ℕ} s k l (x >>= λ q. Ok (q, t a)) (λ p. f p.0 p.1)
     second (Err e) = refl
     second (Ok q) = refl
 
 -- by what it depends on
-made : Option plain.Method → Pairs → plain.Routes → Text → ℕ → ℕ → Answer (Request × ℕ)
+abbrev made : Option plain.Method → Pairs → plain.Routes → Text → ℕ → ℕ → Answer (Request × ℕ)
 made m args routes id n now = asked m args >>= λ a. request routes a id n >>= λ q. Ok (q, later now (a.timeout * 1000))
 
 module _ (a : Around) (s : Scene) (d k : List Item) (h : Held) (n : ℕ) (f : CallBody) (m : Option Method) (args : Pairs) (facts : Facts) (x : Sending) (number : ℕ) (body : part_body (part_at a.spots n) ≡ Body.Call f)

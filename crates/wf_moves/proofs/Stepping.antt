@@ -30,10 +30,11 @@ use Rattle.wf_scope.specs.Tasks.{Own}
 use Rattle.wf_scope.specs.declared.layer.Layer.{Layer}
 use Rattle.wf_steps.proofs.Clocked.{flow_clock, function_clock, http_asks}
 use Rattle.wf_steps.specs.Built.{IsFunction, IsHttp, IsWorkflow}
-use Rattle.wf_steps.specs.Steps.{IsOrBreaks, Issues, Moves, WantsSame, asks, asks_with, calls_by, come}
+use Rattle.wf_steps.specs.Steps.{IsNoCall, IsOrBreaks, Issues, Moves, WantsSame, asks, asks_with, calls_by, come}
 use Rattle.wf_steps.specs.declared.step.Step.{Step}
 use Rattle.wf_steps.specs.declared.step.Step.TheVariants as step
 use Rattle.wf_value.specs.Data.{Pairs, pairs_of}
+use Rattle.wf_value.specs.declared.value.Map.{Map}
 
 -- ## By the event
 plainly : (b : Bool) (request move : Moved) → by_kind (by_clock b) request move ≡ move
@@ -56,6 +57,23 @@ module _ (s : Scene) (fs : List Flow) (f : CallBody) (args : Pairs) (k : List It
       ap (λ q. by_kind q (asks_with s (Body.Call f) args k l) (calls_by s (Body.Call f) args k l)) (http_asks s.program.flows m f.name (fields_now f.args) (subst (λ gs. IsHttp gs m f.name) (sym same) h))
 
 -- ## What is left of a step
+-- one that doesn't call
+pub no_call : (st : Step) → ((n : ℕ) (m : Map) → st ≡ step.Calls n m → ⊥) → IsNoCall st
+no_call step.Goes h = tt
+no_call (step.Raises v) h = tt
+no_call (step.Returns v) h = tt
+no_call (step.Jumps n) h = tt
+no_call (step.Assigns n) h = tt
+no_call (step.Calls n m) h = h n m refl
+
+pub leads_apart : (ns : List Spot) (st : Step) (s : Scene) (k : List Item) (l : Local) → IsNoCall st → leads ns st s k l ≡ come ns st s k l
+leads_apart ns step.Goes s k l h = refl
+leads_apart ns (step.Raises v) s k l h = refl
+leads_apart ns (step.Returns v) s k l h = refl
+leads_apart ns (step.Jumps n) s k l h = refl
+leads_apart ns (step.Assigns n) s k l h = refl
+leads_apart ns (step.Calls n m) s k l h = absurd h
+
 module _ (a : Around) (old new : List Frame) (st : Step) (s : Scene) (l : Local) (wants : WantsSame a.spots old st) where
   -- of a move it leads on as it says
   leads_on : (q : NextKind) → (q ≡ ByCall → ⊥) → next_kind s.program (control a.spots old) ≡ q → leads a.spots st s (control a.spots new) l ≡ come a.spots st s (control a.spots new) l

@@ -3,23 +3,26 @@ use Rattle.std.proofs.Common.{◌≡◌, ◌∷◌, ℕ, true, false, List, [], 
 use Rattle.std.specs.Prelude.{Option, is_some, slice_get}
 use Rattle.wf_frames.specs.Fits.{IsCall, IsCallOf}
 use Rattle.wf_frames.specs.Frames.{inner}
-use Rattle.wf_frames.specs.Owned.{Around, local_of}
+use Rattle.wf_frames.specs.Owned.{Around, control_of, local_of}
 use Rattle.wf_frames.specs.declared.frames.Frame.{Frame}
 use Rattle.wf_frames.specs.declared.frames.Frames.{Frames}
 use Rattle.wf_model.specs.Config as model
-use Rattle.wf_model.specs.Local.{Moved}
+use Rattle.wf_model.specs.Local.{Local, Moved, Scene}
 use Rattle.wf_moves.proofs.Going.{going, is_going}
 use Rattle.wf_moves.specs.Moved.{IsGoing, IsLeft, IsMove}
-use Rattle.wf_moves.specs.Tasks.{IsDone, IsLeftSo, MovesSo, Stays, is_sent, move_of}
+use Rattle.wf_moves.specs.Stepped.{stepped, stepped_at}
+use Rattle.wf_moves.specs.Tasks.{IsRequest, MovesSo, Stays, is_sent, move_of}
 use Rattle.wf_moves.specs.Waits.{CanGoOn, GoesFrom, call_in, is_call_at, is_call_kind, is_call_node, wait_view}
 use Rattle.wf_moves.specs.declared.finish.Done.{Done}
 use Rattle.wf_moves.specs.declared.finish.Done.TheVariants as done
 use Rattle.wf_moves.specs.declared.finish.Went.{Went}
 use Rattle.wf_moves.specs.declared.finish.Went.TheVariants as went
+use Rattle.wf_moves.specs.declared.sending.Sent.{Sent}
+use Rattle.wf_moves.specs.declared.task.Move.{Move}
 use Rattle.wf_moves.specs.declared.task.Task.{Task}
 use Rattle.wf_moves.specs.declared.wait.Wait.{Wait}
 use Rattle.wf_moves.specs.declared.wait.Wait.TheVariants as wait
-use Rattle.wf_model.specs.Local.{Local}
+use Rattle.wf_scope.specs.declared.scopes.Scopes.{Scopes}
 use Rattle.wf_nodes.specs.declared.node.CallNode.{CallNode}
 use Rattle.wf_nodes.specs.declared.node.Node.{Node}
 use Rattle.wf_nodes.specs.declared.node.NodeKind.{NodeKind}
@@ -78,3 +81,20 @@ went_so m (went.Ended e) l h = h
 pub went_unsent : (w : Went) → is_sent (move_of w) ≡ false
 went_unsent went.Goes = refl
 went_unsent (went.Ended e) = refl
+
+-- ## By itself
+module _ (a : Around) (s : Scene) (w : Wait) (old new : Frames) (xs ys : Scopes) where
+  awake_local : (fs : Frames) (x : Scopes) → call_in w ≡ None → record (local_of a fs x) { wait = wait_view a w } ≡ local_of a fs x
+  awake_local fs x e = ap (λ v. record (local_of a fs x) { wait = wait_view a v }) (is_awake w e)
+
+  -- a task that was awake and is
+  pub went_on : (v : Went) (m : Move) → call_in w ≡ None → m ≡ move_of v → IsMove (stepped_at s (control_of a old) (local_of a old xs)) v (local_of a new ys)
+      → MovesSo (stepped s (record (local_of a old xs) { wait = wait_view a w })) m (record (local_of a new ys) { wait = wait_view a w })
+  went_on v m e is h =
+      subst (λ l. MovesSo (stepped s l) m (record (local_of a new ys) { wait = wait_view a w })) (sym (awake_local old xs e))
+      (subst (λ l. MovesSo (stepped s (local_of a old xs)) m l) (sym (awake_local new ys e)) (subst (λ n. MovesSo (stepped s (local_of a old xs)) n (local_of a new ys)) (sym is) (went_so (stepped s (local_of a old xs)) v (local_of a new ys) h)))
+
+  -- or waits now
+  pub sent_on : (v : Sent) → call_in w ≡ None → (u : Wait) → IsRequest (stepped_at s (control_of a old) (local_of a old xs)) v (record (local_of a new ys) { wait = wait_view a u })
+      → IsRequest (stepped s (record (local_of a old xs) { wait = wait_view a w })) v (record (local_of a new ys) { wait = wait_view a u })
+  sent_on v e u h = subst (λ l. IsRequest (stepped s l) v (record (local_of a new ys) { wait = wait_view a u })) (sym (awake_local old xs e)) h

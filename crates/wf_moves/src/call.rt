@@ -1,5 +1,5 @@
 // Calls of workflows and functions.
-ghost use Rattle.std.specs.Prelude.{◌≡◌, IfOk, List, OnOk, Some, map, option_map};
+ghost use Rattle.std.specs.Prelude.{◌≡◌, ◌≤◌, IfOk, List, OnOk, Some, map, option_map};
 ghost use Rattle.wf_ast.specs.View.{param_view};
 ghost use Rattle.wf_frames.specs.Fits.{IsCall};
 ghost use Rattle.wf_frames.specs.Bound.{bindings_of};
