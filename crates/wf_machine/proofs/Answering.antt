@@ -2,7 +2,7 @@
 --     answer_comes, answer_stops     where an answer leads, within the limit on bodies and past it
 --     due_comes                      where the due moment leads
 --     answer_off, due_off            what can't come
-use Rattle.std.proofs.Common.{◌≡◌, ◌<◌, ◌≤◌, ◌+◌, ◌⊎◌, inl, inr, ℕ, zero, suc, true, false, List, Option, None, Some, Result, Ok, Err, refl, sym, ap, ◌∙◌, subst, arith}
+use Rattle.std.proofs.Common.{◌≡◌, ◌<◌, ◌≤◌, ◌+◌, ◌⊎◌, inl, inr, ℕ, zero, suc, true, false, List, [], Option, None, Some, Result, Ok, Err, refl, sym, ap, ◌∙◌, subst, arith}
 use Rattle.std.specs.Prelude.{IfErr, is_some}
 use Rattle.wf_alone.proofs.Waiting.{is_answered, is_due, is_flooded}
 use Rattle.wf_alone.specs.Laws.{MainMatches}
@@ -154,4 +154,4 @@ pub due_off : (m : Machine) (b r : ℕ) → (r < m.tally.last) ⊎ (b ≡ 0 → 
     → IsOff (program_of m.program) (rest_by m) (control_by m t) (wait_by m t) (Event.Due b r)
 due_off m b r (inl lt) t is run = inl lt
 due_off m b r (inr (inl other)) t is run = inr (inl other)
-due_off m b r (inr (inr none)) t is run = inr (inr (inr (none t is run)))
+due_off m b r (inr (inr none)) t is run = inr (inr (none t is run))

@@ -23,7 +23,7 @@ refused s e whole never = record {
 }
 
 pub done : (old new : State) (e : Event) → next old.program old.config e ≡ To new.config → new.program ≡ old.program → new.config.moves ≡ old.config.moves + counts e → new.config.last ≡ unwrap_or (reading_of e) old.config.last
-    → new.broken ≡ false → Applied old new e (Ok tt)
+    → (new.broken ≡ true → ⊥) → Applied old new e (Ok tt)
 done old new e comes program counted last whole = record {
   applied = comes;
   never = λ is. absurd (cc is);
@@ -31,7 +31,7 @@ done old new e comes program counted last whole = record {
   program = program;
   counted = counted;
   last = last;
-  broken = (λ is. absurd (let no : false ≡ true = sym whole ∙ is in cc no), λ is. absurd (cc is));
+  broken = (λ is. absurd (whole is), λ is. absurd (cc is));
 }
 
 pub broke_off : (old new : State) (e : Event) → new.program ≡ old.program → new.broken ≡ true → Applied old new e (Err OutOfMemory)

@@ -4,11 +4,11 @@ pub mod Applying
 pub mod Arguments
 pub mod Begun
 pub mod Calls
-pub mod Choosing
+pub mod Choice
 pub mod Counts
 pub mod First
 pub mod Going
-pub mod Moving
+pub mod Moves
 pub mod Places
 pub mod Plainly
 pub mod Replies

@@ -20,7 +20,7 @@ use Rattle.wf_model.specs.Local.{Local, Moved, Scene}
 use Rattle.wf_model.specs.Move.{resumed}
 use Rattle.wf_model.specs.Step.{next}
 use Rattle.wf_model.specs.Taken.{merged}
-use Rattle.wf_moves.specs.Sending.{Reaches}
+use Rattle.wf_moves.specs.Requests.{Reaches}
 use Rattle.wf_moves.specs.Stepped.{stepped}
 use Rattle.wf_moves.specs.Waits.{answer_view, call_in, result_in}
 use Rattle.wf_moves.specs.declared.sending.Sending.{Sending}

@@ -102,7 +102,7 @@ IsStanding p nodes (Some t) x = Standing (around p) nodes t.frames x × CanGoOn 
 
 pub IsStanding-prop : (p : Program) (nodes : List Node) (t : Option Task) (x : Scopes) → IsProp (IsStanding p nodes t x)
 IsStanding-prop p nodes None x = Unit-prop
-IsStanding-prop p nodes (Some t) x = ×_prop (Standing-prop _ _ _ _) (CanGoOn-prop _ _)
+IsStanding-prop p nodes (Some t) x = ×_prop (Standing-prop _ _ _ _) (CanGoOn-prop nodes t)
 
 -- ## Where it begins, and what it leaves
 -- before the steps of `main`, settled

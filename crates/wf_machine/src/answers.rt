@@ -55,7 +55,9 @@ impl Machine {
         if !self.ending.is_running() {
             return None;
         }
-        let task = self.task.as_ref()?;
+        let Some(task) = &self.task else {
+            return None;
+        };
         let call = task.call()?;
         if is_by(reading, self.due_of(task)) {
             Some(call)
@@ -84,15 +86,15 @@ impl Machine {
         }
         let mut tally = self.tally;
         tally.last = reading;
-        let bodies = tally.bodies + reply_length(reply);
-        if bodies > BODY_LIMIT {
+        let length = reply_length(reply);
+        if length > BODY_LIMIT - tally.bodies {
             return Ok(self.stop(tally)?);
         }
-        tally.bodies = bodies;
-        // until there is what the answer gives
-        self.broken = true;
-        let with = reply_result(self.alloc, reply)?;
-        self.broken = false;
+        tally.bodies += length;
+        let Ok(with) = reply_result(self.alloc, reply) else {
+            self.broken = true;
+            return Err(ApplyFault::OutOfMemory);
+        };
         let heard = Heard {
             call,
             how: Closed::Answered,
@@ -116,10 +118,10 @@ impl Machine {
         };
         let mut tally = self.tally;
         tally.last = reading;
-        // until there is an error to raise
-        self.broken = true;
-        let error = error_map(self.alloc, Tag::TimeoutError)?;
-        self.broken = false;
+        let Ok(error) = error_map(self.alloc, Tag::TimeoutError) else {
+            self.broken = true;
+            return Err(ApplyFault::OutOfMemory);
+        };
         let heard = Heard {
             call,
             how: Closed::TimedOut,

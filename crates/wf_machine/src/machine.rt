@@ -58,7 +58,7 @@ pub struct Machine {
     ghost built: { is_table_built (nodes_of program) ≡ true },
     ghost aims: { Aims (program_of program) (nodes_of program) targets.items } by { Aims-prop _ _ _ },
     ghost standing: { IsStanding (program_of program) (nodes_of program) task scopes } by { IsStanding-prop _ _ _ _ },
-    ghost reached: { ∥ (broken ≡ false → IsReached (program_of program)
+    ghost reached: { ∥ (is_some task ≡ true → IsReached (program_of program)
         (config_of (program_of program) facts tally task scopes calls ending)) ∥₁ },
     ghost running: { broken ≡ false → ending ≡ Running → (is_some task ≡ true) × (tally.moves < 100000) },
     ghost shallow: { outcome_depth (outcome_by ending) ≤ 100 },

@@ -51,7 +51,9 @@ impl Machine {
         if !self.ending.is_running() {
             return None;
         }
-        let task = self.task.as_ref()?;
+        let Some(task) = &self.task else {
+            return None;
+        };
         match task.call() {
             Some(_) => None,
             None => Some(kind_of(&self.program, self.targets.as_slice(), task)),
@@ -104,26 +106,24 @@ impl Machine {
         now: u64,
         tally: Tally,
     ) -> Result<(), OutOfMemory>
-        ghost event: { AnyEvent }
         requires whole { self.old.broken ≡ false }
-        requires comes { Comes self.old cause now tally event }
+        requires comes { (e : AnyEvent) × Comes self.old cause now tally e }
         requires below { tally.moves < 100000 }
         requires bounded { tally.bodies ≤ 67108864 }
-        ensures moved { OnOk result (next (state_of self.old).program (state_of self.old).config
-            event ≡ To (state_of self.new).config) }
+        ensures moved { OnOk result ((e : AnyEvent) → Comes self.old cause now tally e
+            → next (state_of self.old).program (state_of self.old).config e
+            ≡ To (state_of self.new).config) }
         ensures program { (state_of self.new).program ≡ (state_of self.old).program }
         ensures tally { OnOk result (self.new.tally ≡ tally) }
         ensures broken { (self.new.broken ≡ true) ↔ IsErr result }
     {
         never_wrong();
-        // until `main` has gone on
-        self.broken = true;
         let Some(mut task) = self.task.take() else {
             unreachable!()
         };
         self.facts.of_step.now = now;
         self.facts.sending.calls = self.calls.count();
-        let did = go_on(
+        let Ok(did) = go_on(
             &self.program,
             self.targets.as_slice(),
             &self.facts,
@@ -131,35 +131,45 @@ impl Machine {
             &mut self.scopes,
             &mut self.calls,
             cause,
-        )?;
-        self.ending = ending_of(did, &mut self.calls)?;
+        ) else {
+            self.broken = true;
+            return Err(OutOfMemory);
+        };
+        let Ok(ending) = ending_of(did, &mut self.calls) else {
+            self.broken = true;
+            return Err(OutOfMemory);
+        };
         self.tally = tally;
+        self.ending = ending;
         if self.ending.is_running() {
             self.task = Some(task);
         }
-        self.broken = false;
         Ok(())
     }
 
     /// The end at a limit: nothing of the event is carried out. Without memory the machine is broken.
     pub(crate) fn stop(&mut self, tally: Tally) -> Result<(), OutOfMemory>
-        ghost event: { AnyEvent }
         requires whole { self.old.broken ≡ false }
-        requires comes { Stops self.old tally event }
+        requires comes { (e : AnyEvent) × Stops self.old tally e }
         requires most { tally.moves ≤ 100000 }
         requires bounded { tally.bodies ≤ 67108864 }
-        ensures moved { OnOk result (next (state_of self.old).program (state_of self.old).config
-            event ≡ To (state_of self.new).config) }
+        ensures moved { OnOk result ((e : AnyEvent) → Stops self.old tally e
+            → next (state_of self.old).program (state_of self.old).config e
+            ≡ To (state_of self.new).config) }
         ensures program { (state_of self.new).program ≡ (state_of self.old).program }
         ensures tally { OnOk result (self.new.tally ≡ tally) }
         ensures broken { (self.new.broken ≡ true) ↔ IsErr result }
     {
-        // until there is an error to end with
-        self.broken = true;
-        let error = error_map(self.alloc, Tag::ResourceLimitError)?;
-        self.tally = tally;
-        self.ending = Ending::Raised(error);
-        self.broken = false;
-        Ok(())
+        match error_map(self.alloc, Tag::ResourceLimitError) {
+            Ok(error) => {
+                self.tally = tally;
+                self.ending = Ending::Raised(error);
+                Ok(())
+            }
+            Err(_) => {
+                self.broken = true;
+                Err(OutOfMemory)
+            }
+        }
     }
 }

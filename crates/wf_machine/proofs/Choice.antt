@@ -4,7 +4,7 @@
 --     quiet_is, due_at                         whether anything can move, and when something is due
 use Rattle.std.proofs.Common.{◌≡◌, ◌≤◌, ℕ, zero, suc, max, Bool, true, false, not, List, [], ◌∷◌, Option, None, Some, refl, sym, ap, ◌∙◌, subst, arith}
 use Rattle.std.specs.Prelude.{◌&&◌, IsTrue, if◌then◌else◌, is_some, nat_le}
-use Rattle.std.proofs.lemmas.Bool.{le-leb}
+use Rattle.std.proofs.lemmas.Bool.{le-leb, leb-true}
 use Rattle.wf_alone.proofs.Reached.{can_step, dues_can_come}
 use Rattle.wf_alone.proofs.Steps.{main_is_busy, main_is_chosen}
 use Rattle.wf_alone.proofs.Waiting.{waiting}
@@ -16,8 +16,8 @@ use Rattle.wf_frames.specs.Frames.{result_of}
 use Rattle.wf_machine.proofs.Answering.{open_due}
 use Rattle.wf_machine.proofs.Places.{K, Ls, P, W, X, comes_from, has_main, has_move, here, matches_now, plain, running_of}
 use Rattle.wf_machine.proofs.Waiting.{awake_view, call_of_view, calling_view, waits_for_one}
-use Rattle.wf_machine.specs.Main.{around, config_of}
-use Rattle.wf_machine.specs.Seen.{DuesBy, DuesNot, StepsBy, StepsNot, state_of, wait_by}
+use Rattle.wf_machine.specs.Main.{around, config_of, tasks_view}
+use Rattle.wf_machine.specs.Seen.{DuesBy, DuesNot, StepsBy, StepsNot, rest_by, state_of}
 use Rattle.wf_machine.specs.State.{outcome_by}
 use Rattle.wf_machine.specs.declared.ending.Ending.{Ending}
 use Rattle.wf_machine.specs.declared.ending.Ending.TheVariants as ending
@@ -67,6 +67,19 @@ is_due_some law m t is run n waits = open_due (call_by (X m t is) n) 0 ((matches
 pub due_for_is : (m : Machine) (t : Task) (is : m.task ≡ Some t) (n : ℕ) → call_in t.wait ≡ Some n → due_for (X m t is) (W m t is) ≡ call_due (call_by (X m t is) n)
 due_for_is m t is n waits = ap (due_for (X m t is)) (calling_view (around (P m t is)) t.wait n waits)
 
+-- the call for which it waits, where it is due
+pub due_by : (m : Machine) (t : Task) (is : m.task ≡ Some t) → m.ending ≡ ending.Running → (n : ℕ) → call_in t.wait ≡ Some n → (r : ℕ) (o : Option ℕ) → o ≡ due_for (X m t is) (W m t is) → is_by r o ≡ true → DuesBy m n r
+due_by m t is run n waits r None its by = absurd (cc by)
+due_by m t is run n waits r (Some d) its by = record {
+  task = t;
+  is = is;
+  running = run;
+  waits = waits;
+  moment = d;
+  due = sym (its ∙ due_for_is m t is n waits);
+  come = leb-true d r by;
+}
+
 pub none_chosen : MainMatches → (m : Machine) (r : ℕ) → StepsNot m → DuesNot m r → choose (program_of m.program) (state_of m).config r ≡ None
 none_chosen law m r steps dues = by m.ending refl m.task refl
   where
@@ -114,6 +127,10 @@ due_can_come right m n r dues =
 call_same : (x : Rest) (ts : List (ℕ × model.Task)) (o : Outcome) (n : ℕ) → call (config_by x ts o) n ≡ call_by x n
 call_same x ts o zero = refl
 call_same x ts o (suc n) = refl
+
+-- so of a machine
+pub call_by_is : (m : Machine) (n : ℕ) → call (state_of m).config n ≡ call_by (rest_by m) n
+call_by_is m n = call_same (rest_by m) (tasks_view (program_of m.program) m.task m.scopes) (outcome_by m.ending) n
 
 and_true : (b : Bool) → b && true ≡ b
 and_true true = refl

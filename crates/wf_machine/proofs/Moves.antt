@@ -2,7 +2,7 @@
 --     came             the move of the definitions, by what a call says of it
 --     comes_to         the configuration
 --     tasks_on, off    the tasks then
-use Rattle.std.proofs.Common.{◌≡◌, ◌≤◌, ℕ, true, false, List, [], ◌∷◌, refl, ap, ◌∙◌, subst, arith}
+use Rattle.std.proofs.Common.{◌≡◌, ◌≤◌, ℕ, true, false, List, [], ◌∷◌, None, refl, ap, ◌∙◌, subst, arith}
 use Rattle.wf_alone.specs.Laws.{Merges}
 use Rattle.wf_alone.specs.Machine.{Rest, config_by, main_at}
 use Rattle.wf_ast.specs.Accept.{Kind}
@@ -123,3 +123,9 @@ pub not_running : (e : Ending) → is_running e ≡ false → e ≡ ending.Runni
 not_running ending.Running run is = cc run
 not_running (ending.Returned u) run is = cc is
 not_running (ending.Raised u) run is = cc is
+
+-- and what runs has none
+pub runs : (e : Ending) → is_running e ≡ true → e ≡ ending.Running
+runs ending.Running run = refl
+runs (ending.Returned u) run = absurd (cc run)
+runs (ending.Raised u) run = absurd (cc run)

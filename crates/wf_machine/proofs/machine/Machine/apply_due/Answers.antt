@@ -1,0 +1,1 @@
+use Rattle.wf_machine.proofs.machine.Machine.apply_due.Goals as goal
