@@ -2,16 +2,16 @@
 --     answer_comes, answer_stops     where an answer leads, within the limit on bodies and past it
 --     due_comes                      where the due moment leads
 --     answer_off, due_off            what can't come
-use Rattle.std.proofs.Common.{◌≡◌, ◌<◌, ◌≤◌, ◌+◌, ◌⊎◌, inl, inr, ℕ, zero, suc, true, false, List, [], Option, None, Some, Result, Ok, Err, refl, sym, ap, ◌∙◌, subst, arith}
+use Rattle.std.proofs.Common.{◌≡◌, ◌<◌, ◌≤◌, ◌+◌, ◌⊎◌, inl, inr, ℕ, zero, suc, true, false, List, [], Option, None, Some, Result, Err, refl, sym, ap, ◌∙◌, subst}
 use Rattle.std.specs.Prelude.{IfErr, is_some}
 use Rattle.wf_alone.proofs.Waiting.{is_answered, is_due, is_flooded}
 use Rattle.wf_alone.specs.Laws.{MainMatches}
 use Rattle.wf_alone.specs.Machine.{Rest, closed_in, config_by, main_at, main_by, main_local, main_scene}
-use Rattle.wf_alone.specs.Waiting.{IsOff, call_by, call_of, caller, due_for}
+use Rattle.wf_alone.specs.Waiting.{IsOff, call_by, caller}
 use Rattle.wf_calls.specs.Numbers.{NumbersAreThoseOfSteps, call_in as call_at, call_task, closed_at}
 use Rattle.wf_calls.specs.declared.closed.Closed.TheVariants as closed
 use Rattle.wf_check.specs.Seen.{program_of}
-use Rattle.wf_machine.proofs.Places.{K, Ls, P, W, X, here, matches_now}
+use Rattle.wf_machine.proofs.Places.{K, Ls, P, W, X, has_main, here, matches_now}
 use Rattle.wf_machine.proofs.Waiting.{call_of_view, calling_view}
 use Rattle.wf_machine.specs.Causes.{Comes, Stops}
 use Rattle.wf_machine.specs.Main.{around, rest_of, tasks_view}
@@ -21,10 +21,9 @@ use Rattle.wf_machine.specs.declared.machine.Machine.{Machine}
 use Rattle.wf_machine.specs.declared.machine.Tally.{Tally}
 use Rattle.wf_machine.specs.declared.task.Cause.{Cause}
 use Rattle.wf_machine.specs.declared.task.Cause.TheVariants as cause
-use Rattle.wf_model.specs.Config as model
-use Rattle.wf_model.specs.Config.{Active, Answered, Call, Calling, Open, Raised, TimedOut, To, Wait}
+use Rattle.wf_model.specs.Config.{Active, Answered, Call, Calling, Open, Raised, TimedOut, To}
 use Rattle.wf_model.specs.Move.{resumed, timeout_error}
-use Rattle.wf_model.specs.Ready.{call, call_due, is_by}
+use Rattle.wf_model.specs.Ready.{call_due}
 use Rattle.wf_model.specs.Step.{next}
 use Rattle.wf_model.specs.Taken.{merged}
 use Rattle.wf_moves.specs.Waits.{answer_view, call_in, result_in}
@@ -143,6 +142,32 @@ pub awaited : MainMatches → (m : Machine) (t : Task) → m.task ≡ Some t →
 awaited law m t is run n b its =
     let y = (matches_now m t is law run).lone n b its in
     (y.0, sym (call_of_view (around (program_of m.program)) t.wait) ∙ y.1)
+
+-- `main` waits for the answer of call n, which is open
+pub record Answerable (m : Machine) (n : ℕ) : Type 0 where
+  pub task : Task
+  pub is : m.task ≡ Some task
+  pub running : m.ending ≡ ending.Running
+  pub waits : call_in task.wait ≡ Some n
+  pub its : caller (call_by (rest_by m) n) ≡ Some 0
+
+pub answerable : MainMatches → NumbersAreThoseOfSteps → (m : Machine) → m.broken ≡ false → m.ending ≡ ending.Running → (n : ℕ) (o : Option ℕ) → o ≡ call_task (call_at m.calls n) → is_some o ≡ true → Answerable m n
+answerable law numbers m whole run n None is there = absurd (cc there)
+answerable law numbers m whole run n (Some b) is there =
+    let t = has_main m whole run in
+    let its : caller (call_by (rest_by m) n) ≡ Some b = caller_is numbers (rest_by m) n ∙ sym is in
+    let y = awaited law m t.0 t.1 run n b its in
+    record { task = t.0; is = t.1; running = run; waits = y.1; its = its ∙ ap Some y.0 }
+
+-- by the length of its body
+pub body_comes : (m : Machine) (n : ℕ) → Answerable m n → (r : ℕ) (a : Reply) (with : Result Value Value) (k : ℕ) → k ≡ reply_length a → m.tally.last ≤ r → m.tally.bodies + k ≤ 67108864 → answer_view with ≡ reply_result a → IfErr with (λ e. depth (plain e) ≤ 100)
+    → Comes m (answered_by n with) 0 (tally_at m r (m.tally.bodies + k)) (Event.Answer n r a)
+body_comes m n y r a with k is le few same shallow =
+    subst (λ j. Comes m (answered_by n with) 0 (tally_at m r (m.tally.bodies + j)) (Event.Answer n r a)) (sym is)
+    (answer_comes m y.task y.is y.running n y.waits r a with y.its le (subst (λ j. m.tally.bodies + j ≤ 67108864) is few) same shallow)
+
+pub body_stops : (m : Machine) (n : ℕ) → Answerable m n → (r : ℕ) (a : Reply) (k : ℕ) → k ≡ reply_length a → m.tally.last ≤ r → 67108864 < m.tally.bodies + k → Stops m (tally_at m r m.tally.bodies) (Event.Answer n r a)
+body_stops m n y r a k is le many = answer_stops m y.task y.is y.running n y.waits r a y.its le (subst (λ j. 67108864 < m.tally.bodies + j) is many)
 
 -- ## What can't come
 pub answer_off : (m : Machine) (n r : ℕ) (a : Reply) → (r < m.tally.last) ⊎ (caller (call_by (rest_by m) n) ≡ None) → (t : Task) → m.task ≡ Some t → m.ending ≡ ending.Running

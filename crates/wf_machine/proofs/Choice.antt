@@ -10,7 +10,7 @@ use Rattle.wf_alone.proofs.Steps.{main_is_busy, main_is_chosen}
 use Rattle.wf_alone.proofs.Waiting.{waiting}
 use Rattle.wf_alone.specs.Laws.{MainMatches}
 use Rattle.wf_alone.specs.Machine.{IsReached, Rest, config_by, main_at, main_by, main_task}
-use Rattle.wf_alone.specs.Waiting.{call_by, caller, due_for}
+use Rattle.wf_alone.specs.Waiting.{call_by, due_for}
 use Rattle.wf_check.specs.Seen.{program_of}
 use Rattle.wf_frames.specs.Frames.{result_of}
 use Rattle.wf_machine.proofs.Answering.{open_due}

@@ -22,9 +22,9 @@ use Rattle.wf_machine.specs.declared.machine.Machine.{Machine}
 use Rattle.wf_machine.specs.declared.machine.Tally.{Tally}
 use Rattle.wf_machine.specs.declared.task.Cause.{Cause}
 use Rattle.wf_machine.specs.declared.task.Cause.TheVariants as cause
-use Rattle.wf_model.specs.Config.{Call, To, Wrong}
+use Rattle.wf_model.specs.Config.{Call, To}
 use Rattle.wf_model.specs.Law.{NeverWrong}
-use Rattle.wf_model.specs.Local.{Breaks, Local, Moved, Scene}
+use Rattle.wf_model.specs.Local.{Breaks, Moved, Scene}
 use Rattle.wf_model.specs.Step.{next}
 use Rattle.wf_model.specs.Taken.{merged}
 use Rattle.wf_moves.specs.Tasks.{MovesSo}

@@ -5,12 +5,12 @@
 --     comes_from           an event that comes in each such run comes here
 --     off_never, never     an event that can't come
 use Rattle.std.specs.Prelude.{is_some}
-use Rattle.std.proofs.Common.{◌≡◌, ◌<◌, ℕ, Bool, true, false, List, Option, Some, None, refl, sym, ap, ◌∙◌, subst}
-use Rattle.std.proofs.Math.Logic.{∥∥₁_elim, ∥∥₁_map}
+use Rattle.std.proofs.Common.{◌≡◌, true, false, List, Option, Some, None, refl, sym, ap, ◌∙◌, subst}
+use Rattle.std.proofs.Math.Logic.{∥∥₁_elim}
 use Rattle.wf_alone.proofs.Off.{off}
 use Rattle.wf_alone.proofs.Reached.{never as never_wrong}
 use Rattle.wf_alone.specs.Laws.{MainMatches}
-use Rattle.wf_alone.specs.Machine.{IsReached, Rest, config_by, main_at}
+use Rattle.wf_alone.specs.Machine.{IsReached, Rest, main_at}
 use Rattle.wf_alone.specs.Plain.{ArePlain, Moves}
 use Rattle.wf_alone.specs.Waiting.{IsOff, Matches, Matches-prop}
 use Rattle.wf_ast.specs.Accept.{Accept, Kind}

@@ -1,8 +1,7 @@
 -- What answers give: an error nests at most 100 deep.
-use Rattle.std.proofs.Common.{◌≡◌, ◌≤◌, ℕ, Bool, true, false, Result, Ok, Err, refl, sym, ap, ◌∙◌, subst, arith}
-use Rattle.std.specs.Prelude.{◌&&◌, IfErr, IfOk, if◌then◌else◌, nat_le, nat_lt}
+use Rattle.std.proofs.Common.{◌≡◌, ◌≤◌, ℕ, Bool, true, false, Result, Ok, Err, refl, subst, arith}
+use Rattle.std.specs.Prelude.{◌&&◌, if◌then◌else◌, nat_le, nat_lt}
 use Rattle.std.proofs.lemmas.Bool.{leb-true}
-use Rattle.wf_moves.specs.Waits.{answer_view}
 use Rattle.wf_shared.specs.Events.{Reply, Response, Broken, TooLong}
 use Rattle.wf_shared.specs.HttpText.{body_value, header_map, reply_result, response_result, result_map}
 use Rattle.wf_value.specs.Data.{Data, depth, map, size}

@@ -1,19 +1,17 @@
 -- Steps of `main`.
 --     step_comes, step_stops     where the event of a step leads, below the limit on counted events and at it
 --     step_off                   an event of a step that can't come
-use Rattle.std.proofs.Common.{◌≡◌, ◌<◌, ◌≤◌, ◌+◌, ◌⊎◌, inl, inr, ⊎_elim, ℕ, true, false, List, None, Some, refl, sym, ap, ◌∙◌, subst, arith}
-use Rattle.std.specs.Prelude.{is_some}
+use Rattle.std.proofs.Common.{◌≡◌, ◌<◌, ◌≤◌, ◌+◌, ◌⊎◌, inl, inr, ⊎_elim, ℕ, List, None, Some, refl, sym, ap, ◌∙◌, subst, arith}
 use Rattle.wf_alone.proofs.Steps.{main_is_stopped, main_steps}
 use Rattle.wf_alone.specs.Machine.{Rest, config_by, main_at, main_by, main_local, main_scene, one_more, read_for, seen_by, step_by}
 use Rattle.wf_alone.specs.Waiting.{IsOff, IsOffStep}
 use Rattle.wf_ast.specs.Tree.{Program}
 use Rattle.wf_check.specs.Seen.{program_of}
-use Rattle.wf_frames.specs.Owned.{Around}
 use Rattle.wf_machine.proofs.Places.{K, Ls, P, W, X, here, plain}
 use Rattle.wf_machine.proofs.Waiting.{awake_view, not_awake}
 use Rattle.wf_machine.specs.Causes.{Comes, Stops}
 use Rattle.wf_machine.specs.Main.{around, rest_of, tasks_view}
-use Rattle.wf_machine.specs.Seen.{StepsBy, WantsNot, control_by, last_by, rest_by, state_of, wait_by}
+use Rattle.wf_machine.specs.Seen.{StepsBy, WantsNot, control_by, last_by, rest_by, wait_by}
 use Rattle.wf_machine.specs.declared.ending.Ending.TheVariants as ending
 use Rattle.wf_machine.specs.declared.machine.Machine.{Machine}
 use Rattle.wf_machine.specs.declared.machine.Tally.{Tally}
@@ -27,7 +25,6 @@ use Rattle.wf_model.specs.Step.{next}
 use Rattle.wf_model.specs.Taken.{merged}
 use Rattle.wf_moves.specs.Stepped.{by_kind, stepped}
 use Rattle.wf_moves.specs.declared.task.Task.{Task}
-use Rattle.wf_shared.specs.Events.{Event}
 use Rattle.wf_value.specs.Errors.{error_map}
 use Rattle.wf_value.specs.declared.Tag.TheVariants.{ResourceLimitError}
 

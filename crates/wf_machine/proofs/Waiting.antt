@@ -1,15 +1,14 @@
 -- What a task waits for.
 --     can_go, going_by       of a task that is awake
 --     awake_view ..          its wait, by the call that it waits for
-use Rattle.std.proofs.Common.{◌≡◌, ℕ, true, false, List, Option, None, Some, refl, ap, ◌∙◌}
-use Rattle.std.specs.Prelude.{is_some, nat_le}
-use Rattle.wf_alone.specs.Machine.{Rest}
-use Rattle.wf_alone.specs.Waiting.{call_by, call_of, due_for}
+use Rattle.std.proofs.Common.{◌≡◌, ℕ, true, false, List, None, Some, refl, ap}
+use Rattle.std.specs.Prelude.{is_some}
+use Rattle.wf_alone.specs.Waiting.{call_of}
 use Rattle.wf_frames.specs.Frames.{inner}
 use Rattle.wf_frames.specs.Owned.{Around}
 use Rattle.wf_frames.specs.declared.frames.Frame.{Frame}
 use Rattle.wf_model.specs.Config.{Awake, Calling}
-use Rattle.wf_model.specs.Ready.{call_due, is_awake}
+use Rattle.wf_model.specs.Ready.{is_awake}
 use Rattle.wf_moves.specs.Going.{Going}
 use Rattle.wf_moves.specs.Waits.{CanGoOn, GoesFrom, call_in, result_in, wait_view}
 use Rattle.wf_moves.specs.declared.task.Task.{Task}

@@ -80,7 +80,9 @@ impl Machine {
     {
         laws_of_waiting();
         numbers_are_those_of_steps();
-        if !self.ending.is_running() || self.calls.task(call).is_none() || reading < self.tally.last
+        if !self.ending.is_running()
+            || self.calls.task(call).is_none()
+            || reading < self.tally.last
         {
             return Err(ApplyFault::NotEnabled);
         }

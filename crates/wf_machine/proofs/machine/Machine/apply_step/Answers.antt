@@ -1,4 +1,4 @@
-use Rattle.std.proofs.Common.{◌≡◌, ◌+◌, true, refl, sym, ap, ◌∙◌}
+use Rattle.std.proofs.Common.{◌+◌, sym, ap, ◌∙◌}
 use Rattle.wf_machine.proofs.Applying.{done}
 use Rattle.wf_machine.proofs.Counts.{counts_one, reads_last}
 use Rattle.wf_machine.proofs.Stepping.{step_comes, step_stops}
@@ -10,16 +10,18 @@ use Rattle.wf_steps.specs.Kinds.{kind_view}
 pub carry_on-requires-clause-comes : goal.carry_on-requires-clause-comes
 carry_on-requires-clause-comes c =
     let r = c.readings_of-readings in
-    let q = kind_view c.args.kind in
-    (wanted q c.args.task c.args.reading,
-    step_comes c.args.self.now q (c.wants.ensures.some c.if-not-wants.false) c.args.task c.args.reading r.result.now r.result.last c.if-task-ne0.false r.ensures.now r.ensures.last c.if-readings-self.false c.if-tally-lt-MOVE_LIMIT.true)
+    let q = kind_view c.args.kind in (
+      wanted q c.args.task c.args.reading,
+      step_comes c.args.self.now q (c.wants.ensures.some c.if-not-wants.false) c.args.task c.args.reading r.result.now r.result.last c.if-task-ne0.false r.ensures.now r.ensures.last c.if-readings-self.false c.if-tally-lt-MOVE_LIMIT.true,
+    )
 
 pub stop-requires-clause-comes : goal.stop-requires-clause-comes
 stop-requires-clause-comes c =
     let r = c.readings_of-readings in
-    let q = kind_view c.args.kind in
-    (wanted q c.args.task c.args.reading,
-    step_stops c.args.self.now q (c.wants.ensures.some c.if-not-wants.false) c.args.task c.args.reading r.result.last c.if-task-ne0.false r.ensures.last c.if-readings-self.false c.if-tally-lt-MOVE_LIMIT.false)
+    let q = kind_view c.args.kind in (
+      wanted q c.args.task c.args.reading,
+      step_stops c.args.self.now q (c.wants.ensures.some c.if-not-wants.false) c.args.task c.args.reading r.result.last c.if-task-ne0.false r.ensures.last c.if-readings-self.false c.if-tally-lt-MOVE_LIMIT.false,
+    )
 
 pub returns-in_ok-carry_on : goal.returns-in_ok-carry_on
 returns-in_ok-carry_on c =
