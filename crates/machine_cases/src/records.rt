@@ -34,7 +34,7 @@ fn start_in(alloc: Global, payload: &[u8]) -> Result<Start, CaseFault>
     }
 }
 
-/// The task of each move, with its reading where it has one.
+/// The events, each behind a blank.
 pub fn write_events(out: &mut String, events: &Events) -> Result<(), CaseFault> {
     for event in events.items() {
         out.push(' ')?;
@@ -43,11 +43,17 @@ pub fn write_events(out: &mut String, events: &Events) -> Result<(), CaseFault> 
     Ok(())
 }
 
-/// The task of a move, with its reading where it has one.
+/// An event: of a move its task alone, of another one a word before the task, the call or the endpoint; and its reading where it has
+/// one. What an answer or a request holds isn't written.
 pub fn write_event(out: &mut String, event: &Event) -> Result<(), CaseFault> {
     match event {
         Event::Move(task) => write!(out, "{task}")?,
         Event::MoveAt(task, reading) => write!(out, "{task}@{reading}")?,
+        Event::Begin(task) => write!(out, "begin {task}")?,
+        Event::Issue(task, reading) => write!(out, "issue {task}@{reading}")?,
+        Event::Answer(call, reading, _) => write!(out, "answer {call}@{reading}")?,
+        Event::Due(task, reading) => write!(out, "due {task}@{reading}")?,
+        Event::Arrive(endpoint, reading, _) => write!(out, "arrive {endpoint}@{reading}")?,
     }
     Ok(())
 }
