@@ -2,16 +2,17 @@
 ghost use Rattle.std.specs.Prelude.{◌≡◌, ◌<◌, false, IfOk};
 ghost use Rattle.wf_machine.specs.Seen.{state_of};
 
+use crate::events::event_of;
 use crate::records::{start_of, write_event};
 use std::alloc::Global;
 use std::marker::Brand;
 use std::sync::ledger::{Blank, Ledger};
 use wf_cases::{Case, CaseFault, text_of};
-use wf_events::{Event, Start};
+use wf_events::Start;
 use wf_host_cases::{items_of, number_of};
 use wf_machine::{ApplyFault, Machine, Outcome, Steps};
 use wf_source::read_source;
-use wf_value::{Value, to_json};
+use wf_value::{Text, Value, to_json};
 
 /// The text of a source: a text, or a list of its pieces.
 fn source_of(alloc: Global, value: &Value) -> Result<String, CaseFault> {
@@ -75,13 +76,57 @@ fn write_applied(out: &mut String, applied: Result<(), ApplyFault>) -> Result<()
     }
 }
 
-/// The task of a move.
-fn task_of(value: &Value) -> Result<u32, CaseFault> {
-    u32::try_from(number_of(value)?).map_err(|_| CaseFault::NoCase)
+/// Writes where the request of an open call is sent, and its bytes, as JSON; or `none`.
+fn write_request(
+    out: &mut String,
+    alloc: Global,
+    machine: &Machine,
+    call: u64,
+) -> Result<(), CaseFault> {
+    let Some(request) = machine.request(call) else {
+        return Ok(out.push_str("none")?);
+    };
+    let Ok(text) = str::from_utf8(request.bytes.as_slice()) else {
+        return Err(CaseFault::NoCase);
+    };
+    let json = to_json(alloc, &Value::Text(Text::new(alloc, text)?))?;
+    let Ok(json) = str::from_utf8(&json) else {
+        return Err(CaseFault::NoCase);
+    };
+    let address = &request.address;
+    Ok(write!(out, "{}:{} {json}", address.name.as_str(), address.port)?)
 }
 
-/// Makes a call on a machine: `["choose", reading]`, `["move", task]`, `["move", task, reading]`, `["run", reading]`, which applies what
-/// is chosen at the reading until nothing is, or `["state", reading]`.
+/// Asks a machine: `["choose", reading]`, `["run", reading]`, which applies what is chosen at the reading until nothing is,
+/// `["state", reading]`, `["next_open", number]` or `["request", number]`.
+fn ask<L: Ledger>(
+    machine: &mut Machine,
+    name: &str,
+    number: u64,
+    alloc: Global,
+    out: &mut String,
+    steps: &mut Steps<L>,
+) -> Result<(), CaseFault> {
+    match name {
+        "state" => write_state(out, alloc, machine, number),
+        "request" => write_request(out, alloc, machine, number),
+        "next_open" => match machine.next_open(number) {
+            Some(call) => Ok(write!(out, "{call}")?),
+            None => Ok(out.push_str("none")?),
+        },
+        "choose" => match machine.choose(number) {
+            Some(event) => write_event(out, &event),
+            None => Ok(out.push_str("none")?),
+        },
+        "run" => {
+            out.push_str("ran")?;
+            run(machine, number, out, steps)
+        }
+        _ => Err(CaseFault::NoCase),
+    }
+}
+
+/// Makes a call on a machine: it applies an event (`event_of`), or asks (`ask`).
 fn make<L: Ledger>(
     machine: &mut Machine,
     call: &Value,
@@ -90,35 +135,25 @@ fn make<L: Ledger>(
     steps: &mut Steps<L>,
 ) -> Result<(), CaseFault> {
     match items_of(call)? {
-        [Value::Text(name), task, reading] if name.as_str() == "move" => {
-            let event = Event::MoveAt(task_of(task)?, number_of(reading)?);
+        [Value::Text(name), number] if !is_event(name.as_str()) => {
+            ask(machine, name.as_str(), number_of(number)?, alloc, out, steps)
+        }
+        items => {
+            let event = event_of(alloc, items)?;
             write_applied(out, machine.apply(&event, steps))
         }
-        [Value::Text(name), task] if name.as_str() == "move" => {
-            write_applied(out, machine.apply(&Event::Move(task_of(task)?), steps))
-        }
-        [Value::Text(name), reading] if name.as_str() == "state" => {
-            write_state(out, alloc, machine, number_of(reading)?)
-        }
-        [Value::Text(name), reading] if name.as_str() == "choose" => {
-            match machine.choose(number_of(reading)?) {
-                Some(event) => write_event(out, alloc, &event),
-                None => Ok(out.push_str("none")?),
-            }
-        }
-        [Value::Text(name), reading] if name.as_str() == "run" => {
-            out.push_str("ran")?;
-            run(machine, number_of(reading)?, alloc, out, steps)
-        }
-        _ => Err(CaseFault::NoCase),
     }
+}
+
+/// Whether a word is that of an event without a reading.
+fn is_event(name: &str) -> bool {
+    name == "move" || name == "begin"
 }
 
 /// Applies what is chosen at a reading, until nothing is or there were ten events.
 fn run<L: Ledger>(
     machine: &mut Machine,
     reading: u64,
-    alloc: Global,
     out: &mut String,
     steps: &mut Steps<L>,
 ) -> Result<(), CaseFault> {
@@ -127,7 +162,7 @@ fn run<L: Ledger>(
             break;
         };
         out.push(' ')?;
-        write_event(out, alloc, &event)?;
+        write_event(out, &event)?;
         if machine.apply(&event, steps).is_err() {
             return Err(CaseFault::OutOfMemory);
         }

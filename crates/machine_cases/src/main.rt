@@ -3,6 +3,7 @@
 #![tactic(auto)]
 
 mod engines;
+mod events;
 mod machines;
 mod records;
 mod replays;

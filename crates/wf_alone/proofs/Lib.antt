@@ -1,8 +1,8 @@
 -- The lemmas of an execution in which `main` is the only task.
-pub mod Real
-pub mod Only
-pub mod Carried
-pub mod Reached
 pub mod Begun
-pub mod OnlyMoves
-pub mod Laws
+pub mod Carried
+pub mod Off
+pub mod Reached
+pub mod Real
+pub mod Steps
+pub mod Waiting

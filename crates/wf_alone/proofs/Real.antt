@@ -1,26 +1,29 @@
--- Control of plain forms: it neither waits nor begins a branch, and it moves.
+-- Control of plain forms: it neither waits for branches nor begins one, and its step is none that is ruled out.
 --     waits, begins_none   what stands there
---     kind                 the move reads the clock or doesn't, and is no call
---     real                 the move is none that is ruled out
-use Rattle.std.proofs.Common.{◌≡◌, ℕ, suc, Bool, true, false, List, [], ◌∷◌, Option, None, Some, Ok, Err, refl}
+--     real                 a step, by its kind
+--     resumed_real         what a task does that has waited for a call
+use Rattle.std.proofs.Common.{◌≡◌, ℕ, suc, Bool, true, false, List, [], ◌∷◌, Option, Result, None, Some, Ok, Err, refl, sym, ◌∙◌, subst}
 use Rattle.std.specs.Prelude.{if◌then◌else◌, ◌||◌, codes, bytes_eq, is_some, nat_le}
+use Rattle.wf_alone.specs.Machine.{step_by}
 use Rattle.wf_alone.specs.Plain.{is_plain_body, ArePlain, Moves, IsReal}
 use Rattle.wf_ast.specs.Accept.{BreakOutsideLoop}
 use Rattle.wf_ast.specs.Eval.{eval_all, fill, fill_fields}
 use Rattle.wf_ast.specs.Apply.{apply}
 use Rattle.wf_ast.specs.Flows.{flow}
-use Rattle.wf_ast.specs.Func.{Listing, SpecialListing, func_named, in_order, special_named, takes}
+use Rattle.wf_ast.specs.Func.{AwaitCallback, CreateEndpoint, HttpCall, Listing, Special, SpecialListing, SysLog, SysSleep, SysSleepUntil, func_named, in_order, special_named, takes}
 use Rattle.wf_ast.specs.declared.Func.{Func}
-use Rattle.wf_ast.specs.Tree.{Entry, Flow, Param, Steps, TryBody, except, loop, LoopBody, no_except, step, no_steps, more, Body, Program, try}
-use Rattle.wf_model.specs.Calls.{bindings, calls_listed, calls_named, calls_with, evaluates}
+use Rattle.wf_ast.specs.Tree.{CallBody, Entry, Flow, OfBranches, OfLoop, Param, parallel, Steps, TryBody, except, loop, LoopBody, no_except, step, no_steps, more, Body, try}
+use Rattle.wf_model.specs.Calls.{bindings, calls_listed, calls_named, calls_with, evaluates, fits_call, http_method, issues_call, requests}
 use Rattle.wf_model.specs.Config.{Item, Do, Entries, Then, Loop, Try, Judge, Mark, Back, Join, Left, call_limit, next_of}
-use Rattle.wf_model.specs.Kinds.{next_kind, by_clock, arms_now, body_kind, call_kind, entry_now, fields_now, is_now, listed_kind, over_now, template_now}
+use Rattle.wf_model.specs.Kinds.{ByCall, ByClock, NextKind, Plainly, next_kind, by_clock, arms_now, body_kind, call_kind, entry_now, fields_now, is_now, listed_kind, over_now, special_kind, template_now}
 use Rattle.wf_model.specs.Layers.{Assigned, Done, Refused, Undeclared, assign, enter, opened, view}
 use Rattle.wf_model.specs.Leave.{raises, on, on_assigned, given_to, gives, returns, returns_in, returned, continues, breaks, jumps, jumps_to}
 use Rattle.wf_model.specs.Local.{Local, Root, Main, Branch, Iteration, Scene, Moved, Breaks, leave, settle, ended, goes}
-use Rattle.wf_model.specs.Move.{assigns, chosen, entered, in_arm, loop_names, loop_steps, moves, over, performs, raised, steps_on, then_item, turns}
+use Rattle.wf_model.specs.Move.{assigns, awake, chosen, entered, in_arm, issues, loop_names, loop_steps, moves, over, performs, raised, resumed, steps_on, then_item, turns}
 use Rattle.wf_model.specs.Ready.{stands_waiting, begins}
 use Rattle.wf_model.specs.Unwind.{Asks, Found, Judgement, Says, Stands, AtEnd, NotFound, answered, asked_one, asks, called, calls_in, decided, excepted, handled, judged, policy_of, retried, to_back, to_loop, to_step, unwind}
+use Rattle.wf_shared.specs.Events.{Method}
+use Rattle.wf_shared.specs.HttpRequest.{asked, request}
 use Rattle.wf_value.specs.Data.{Data, Pairs, boolean, bytes, integer, list, map, null, text}
 use Rattle.wf_value.specs.Errors.{Answer, ◌>>=◌, error_map, kept}
 use Rattle.wf_value.specs.Pairs.{Text, keys}
@@ -52,44 +55,6 @@ begins_none (Judge t n d e ∷ k) plain = refl
 begins_none (Mark ∷ k) plain = refl
 begins_none (Back r ∷ k) plain = refl
 begins_none (Join body left n running es ∷ k) plain = absurd (cc plain)
-
--- ## The kind of its move
--- of a body
-listed_clock : (e : Option Listing) (g : Option SpecialListing) (b : Bool) → is_some e ≡ true → (clock : Bool) × (listed_kind e g b ≡ by_clock clock)
-listed_clock (Some e) g b there = (is_now e.func || b, refl)
-listed_clock None g b there = absurd (cc there)
-
-call_clock : (o : Option Flow) (x : Text) (b : Bool) → (is_some o || is_some (func_named x)) ≡ true → (clock : Bool) × (call_kind o x b ≡ by_clock clock)
-call_clock (Some w) x b there = (b, refl)
-call_clock None x b there = listed_clock (func_named x) (special_named x) b there
-
-body_clock : (p : Program) (body : Body) → is_plain_body p.flows body ≡ true → (clock : Bool) × (body_kind p body ≡ by_clock clock)
-body_clock p Body.Nothing plain = (false, refl)
-body_clock p (Body.Assign []) plain = (false, refl)
-body_clock p (Body.Assign (e ∷ es)) plain = (entry_now e, refl)
-body_clock p (Body.Call f) plain = call_clock (flow p.flows f.name) f.name (fields_now f.args) plain
-body_clock p (Body.Switch arms) plain = (arms_now arms, refl)
-body_clock p (Body.For (loop x i o ss)) plain = (over_now o, refl)
-body_clock p (Body.Parallel q) plain = absurd (cc plain)
-body_clock p (Body.Block ss) plain = (false, refl)
-body_clock p (Body.Try t) plain = (false, refl)
-body_clock p (Body.Raise t) plain = (template_now t, refl)
-body_clock p (Body.Return t) plain = (template_now t, refl)
-
--- of what is innermost
-pub kind : (p : Program) (k : List Item) → Moves p.flows k → (clock : Bool) × (next_kind p k ≡ by_clock clock)
-kind p [] has = absurd has
-kind p (Do block no_steps ∷ k) has = absurd (cc has)
-kind p (Do block (more (step x body next) left) ∷ k) has = body_clock p body has
-kind p (Entries [] ∷ k) has = absurd (cc has)
-kind p (Entries (e ∷ es) ∷ k) has = (entry_now e, refl)
-kind p (Then x ∷ k) has = (false, refl)
-kind p (Loop l left i ∷ k) has = (false, refl)
-kind p (Try t n d ∷ k) has = absurd (cc has)
-kind p (Judge t n d e ∷ k) has = absurd (cc has)
-kind p (Mark ∷ k) has = absurd (cc has)
-kind p (Back r ∷ k) has = (false, refl)
-kind p (Join body left n running es ∷ k) has = absurd (cc has)
 
 -- ## Going on and leaving
 -- whether a control has ended or not
@@ -261,53 +226,138 @@ calls_with_real s w r (Some xs) k l =
 evaluates_real : (s : Scene) (r : Option Text) (f : Func) (vs : List Data) (k : List Item) (l : Local) → IsReal (evaluates s r f vs k l)
 evaluates_real s r f vs k l = on_real s k l (apply (view s l) f vs >>= kept) _ (λ v. gives_real s r v k l)
 
-listed_real : (s : Scene) (r : Option Text) (e : Option Listing) (g : Option SpecialListing) (args : Pairs) (k : List Item) (l : Local) → is_some e ≡ true → IsReal (calls_listed s r e g args k l)
-listed_real s r (Some e) g args k l there = either_real (takes e.signature (keys args)) _ _ (evaluates_real s r e.func (in_order e.signature args) k l) tt
-listed_real s r None g args k l there = absurd (cc there)
+-- no step of another kind is one of HTTP
+listed_real : (s : Scene) (r : Option Text) (e : Option Listing) (g : Option SpecialListing) (args : Pairs) (k : List Item) (l : Local) (clock : Bool) → (is_some e || is_some (http_method g)) ≡ true
+    → (listed_kind e g clock ≡ ByCall → ⊥) → IsReal (calls_listed s r e g args k l)
+listed_real s r (Some e) g args k l clock there plain = either_real (takes e.signature (keys args)) _ _ (evaluates_real s r e.func (in_order e.signature args) k l) tt
+listed_real s r None None args k l clock there plain = absurd (cc there)
+listed_real s r None (Some g) args k l clock there plain = absurd (special g.special there plain)
+  where
+    special : (x : Special) → is_some (elim x [ HttpCall m ↦ Some m | y ↦ None ]) ≡ true → (special_kind x clock ≡ ByCall → ⊥) → ⊥
+    special (HttpCall m) there plain = plain refl
+    special SysLog there plain = cc there
+    special SysSleep there plain = cc there
+    special SysSleepUntil there plain = cc there
+    special CreateEndpoint there plain = cc there
+    special AwaitCallback there plain = cc there
 
-named_real : (s : Scene) (r : Option Text) (o : Option Flow) (x : Text) (args : Pairs) (k : List Item) (l : Local) → (is_some o || is_some (func_named x)) ≡ true → IsReal (calls_named s r o x args k l)
-named_real s r (Some w) x args k l there = calls_with_real s w r (bindings w.params args) k l
-named_real s r None x args k l there = listed_real s r (func_named x) (special_named x) args k l there
+named_real : (s : Scene) (r : Option Text) (o : Option Flow) (x : Text) (args : Pairs) (k : List Item) (l : Local) (clock : Bool) → (is_some o || is_some (func_named x) || is_some (http_method (special_named x))) ≡ true
+    → (call_kind o x clock ≡ ByCall → ⊥) → IsReal (calls_named s r o x args k l)
+named_real s r (Some w) x args k l clock there plain = calls_with_real s w r (bindings w.params args) k l
+named_real s r None x args k l clock there plain = listed_real s r (func_named x) (special_named x) args k l clock there plain
 
 -- a body
-performs_real : (s : Scene) (body : Body) (k : List Item) (l : Local) → is_plain_body s.program.flows body ≡ true → IsReal (performs s body k l)
-performs_real s Body.Nothing k l form = goes_real k l
-performs_real s (Body.Assign []) k l form = goes_real k l
-performs_real s (Body.Assign (e ∷ es)) k l form = assigns_real s e (Entries es ∷ k) l
-performs_real s (Body.Call f) k l form = on_real s k l (fill_fields f.args (view s l)) _ (λ args. named_real s f.result (flow s.program.flows f.name) f.name args k l form)
-performs_real s (Body.Switch arms) k l form = on_real s k l (chosen (view s l) arms) _ (λ a. goes_real (in_arm a k) l)
-performs_real s (Body.For (loop x i o ss)) k l form = on_real s k l (over (view s l) o) _ (λ left. goes_real (Loop (loop x i o ss) left 0 ∷ k) l)
-performs_real s (Body.Parallel q) k l form = absurd (cc form)
-performs_real s (Body.Block ss) k l form = goes_real (Do ss ss ∷ k) l
-performs_real s (Body.Try (try body p x)) k l form = goes_real (entered body ∷ Try (try body p x) 0 None ∷ k) l
-performs_real s (Body.Raise t) k l form = on_real s k l (fill t (view s l) >>= raised) _ (λ v. raises_real s k l v)
-performs_real s (Body.Return t) k l form = on_real s k l (fill t (view s l)) _ (λ v. returns_real s v k l)
+performs_real : (s : Scene) (body : Body) (k : List Item) (l : Local) → is_plain_body s.program.flows body ≡ true → (body_kind s.program body ≡ ByCall → ⊥) → IsReal (performs s body k l)
+performs_real s Body.Nothing k l form plain = goes_real k l
+performs_real s (Body.Assign []) k l form plain = goes_real k l
+performs_real s (Body.Assign (e ∷ es)) k l form plain = assigns_real s e (Entries es ∷ k) l
+performs_real s (Body.Call f) k l form plain = on_real s k l (fill_fields f.args (view s l)) _ (λ args. named_real s f.result (flow s.program.flows f.name) f.name args k l (fields_now f.args) form plain)
+performs_real s (Body.Switch arms) k l form plain = on_real s k l (chosen (view s l) arms) _ (λ a. goes_real (in_arm a k) l)
+performs_real s (Body.For (loop x i o ss)) k l form plain = on_real s k l (over (view s l) o) _ (λ left. goes_real (Loop (loop x i o ss) left 0 ∷ k) l)
+performs_real s (Body.Parallel q) k l form plain = absurd (cc form)
+performs_real s (Body.Block ss) k l form plain = goes_real (Do ss ss ∷ k) l
+performs_real s (Body.Try (try body p x)) k l form plain = goes_real (entered body ∷ Try (try body p x) 0 None ∷ k) l
+performs_real s (Body.Raise t) k l form plain = on_real s k l (fill t (view s l) >>= raised) _ (λ v. raises_real s k l v)
+performs_real s (Body.Return t) k l form plain = on_real s k l (fill t (view s l)) _ (λ v. returns_real s v k l)
 
 -- a step, with its `next` behind it
-steps_on_real : (s : Scene) (body : Body) (next : Option Text) (k : List Item) (l : Local) → is_plain_body s.program.flows body ≡ true → IsReal (steps_on s body next k l)
-steps_on_real s Body.Nothing (Some x) k l form = jumps_real s x k l
-steps_on_real s Body.Nothing None k l form = goes_real k l
-steps_on_real s (Body.Assign es) next k l form = performs_real s (Body.Assign es) (then_item next k) l form
-steps_on_real s (Body.Call f) next k l form = performs_real s (Body.Call f) (then_item next k) l form
-steps_on_real s (Body.Switch arms) next k l form = performs_real s (Body.Switch arms) (then_item next k) l form
-steps_on_real s (Body.For b) next k l form = performs_real s (Body.For b) (then_item next k) l form
-steps_on_real s (Body.Parallel q) next k l form = absurd (cc form)
-steps_on_real s (Body.Block ss) next k l form = performs_real s (Body.Block ss) (then_item next k) l form
-steps_on_real s (Body.Try t) next k l form = performs_real s (Body.Try t) (then_item next k) l form
-steps_on_real s (Body.Raise t) next k l form = performs_real s (Body.Raise t) (then_item next k) l form
-steps_on_real s (Body.Return t) next k l form = performs_real s (Body.Return t) (then_item next k) l form
+steps_on_real : (s : Scene) (body : Body) (next : Option Text) (k : List Item) (l : Local) → is_plain_body s.program.flows body ≡ true → (body_kind s.program body ≡ ByCall → ⊥) → IsReal (steps_on s body next k l)
+steps_on_real s Body.Nothing (Some x) k l form plain = jumps_real s x k l
+steps_on_real s Body.Nothing None k l form plain = goes_real k l
+steps_on_real s (Body.Assign es) next k l form plain = performs_real s (Body.Assign es) (then_item next k) l form plain
+steps_on_real s (Body.Call f) next k l form plain = performs_real s (Body.Call f) (then_item next k) l form plain
+steps_on_real s (Body.Switch arms) next k l form plain = performs_real s (Body.Switch arms) (then_item next k) l form plain
+steps_on_real s (Body.For b) next k l form plain = performs_real s (Body.For b) (then_item next k) l form plain
+steps_on_real s (Body.Parallel q) next k l form plain = absurd (cc form)
+steps_on_real s (Body.Block ss) next k l form plain = performs_real s (Body.Block ss) (then_item next k) l form plain
+steps_on_real s (Body.Try t) next k l form plain = performs_real s (Body.Try t) (then_item next k) l form plain
+steps_on_real s (Body.Raise t) next k l form plain = performs_real s (Body.Raise t) (then_item next k) l form plain
+steps_on_real s (Body.Return t) next k l form plain = performs_real s (Body.Return t) (then_item next k) l form plain
 
--- of a task that has something to do
-pub real : (s : Scene) (k : List Item) (l : Local) → Moves s.program.flows k → IsReal (moves s k l)
-real s [] l has = absurd has
-real s (Do block no_steps ∷ k) l has = absurd (cc has)
-real s (Do block (more (step x body next) left) ∷ k) l has = steps_on_real s body next (Do block left ∷ k) l has
-real s (Entries [] ∷ k) l has = absurd (cc has)
-real s (Entries (e ∷ es) ∷ k) l has = assigns_real s e (Entries es ∷ k) l
-real s (Then x ∷ k) l has = jumps_real s x k l
-real s (Loop b left i ∷ k) l has = turns_real s b (next_of left) i k l
-real s (Try t n d ∷ k) l has = absurd (cc has)
-real s (Judge t n d e ∷ k) l has = absurd (cc has)
-real s (Mark ∷ k) l has = absurd (cc has)
-real s (Back r ∷ k) l has = returns_real s null (Back r ∷ k) l
-real s (Join body left n running es ∷ k) l has = absurd (cc has)
+-- of a task that has something to do, and doesn't stand before a call of HTTP
+pub moves_real : (s : Scene) (k : List Item) (l : Local) → Moves s.program.flows k → (next_kind s.program k ≡ ByCall → ⊥) → IsReal (moves s k l)
+moves_real s [] l has plain = absurd has
+moves_real s (Do block no_steps ∷ k) l has plain = absurd (cc has)
+moves_real s (Do block (more (step x body next) left) ∷ k) l has plain = steps_on_real s body next (Do block left ∷ k) l has plain
+moves_real s (Entries [] ∷ k) l has plain = absurd (cc has)
+moves_real s (Entries (e ∷ es) ∷ k) l has plain = assigns_real s e (Entries es ∷ k) l
+moves_real s (Then x ∷ k) l has plain = jumps_real s x k l
+moves_real s (Loop b left i ∷ k) l has plain = turns_real s b (next_of left) i k l
+moves_real s (Try t n d ∷ k) l has plain = absurd (cc has)
+moves_real s (Judge t n d e ∷ k) l has plain = absurd (cc has)
+moves_real s (Mark ∷ k) l has plain = absurd (cc has)
+moves_real s (Back r ∷ k) l has plain = returns_real s null (Back r ∷ k) l
+moves_real s (Join body left n running es ∷ k) l has plain = absurd (cc has)
+
+-- ## Requests
+-- a request, or an error in its arguments
+requests_real : (s : Scene) (f : CallBody) (m : Option Method) (k : List Item) (l : Local) (args : Pairs) → IsReal (requests s f m k l args)
+requests_real s f m k l args = on_real s k l (asked m args) _ (λ a. on_real s k l (request s.facts.routes a s.facts.id (suc s.calls)) _ (λ q. tt))
+
+issues_call_real : (s : Scene) (f : CallBody) (o : Option (Option Method)) (k : List Item) (l : Local) → is_some o ≡ true → IsReal (issues_call s f o k l)
+issues_call_real s f None k l there = absurd (cc there)
+issues_call_real s f (Some m) k l there = either_real (fits_call f) _ _ (on_real s k l (fill_fields f.args (view s l)) _ (λ args. requests_real s f m k l args)) tt
+
+-- no move is one of HTTP that reads the clock, or doesn't
+not_clock : (clock : Bool) → by_clock clock ≡ ByCall → ⊥
+not_clock true is = cc is
+not_clock false is = cc is
+
+-- what is of this kind is a call of HTTP
+listed_http : (e : Option Listing) (g : Option SpecialListing) (clock : Bool) → listed_kind e g clock ≡ ByCall → is_some (http_method g) ≡ true
+listed_http (Some e) g clock is = absurd (not_clock (is_now e.func || clock) is)
+listed_http None None clock is = absurd (not_clock clock is)
+listed_http None (Some g) clock is = special g.special is
+  where
+    special : (x : Special) → special_kind x clock ≡ ByCall → is_some (elim x [ HttpCall m ↦ Some m | y ↦ None ]) ≡ true
+    special (HttpCall m) is = refl
+    special SysLog is = absurd (not_clock clock is)
+    special SysSleep is = absurd (cc is)
+    special SysSleepUntil is = absurd (cc is)
+    special CreateEndpoint is = absurd (not_clock clock is)
+    special AwaitCallback is = absurd (cc is)
+
+call_http : (o : Option Flow) (x : Text) (clock : Bool) → call_kind o x clock ≡ ByCall → is_some (http_method (special_named x)) ≡ true
+call_http (Some w) x clock is = absurd (not_clock clock is)
+call_http None x clock is = listed_http (func_named x) (special_named x) clock is
+
+body_issues : (s : Scene) (x : Text) (body : Body) (next : Option Text) (block left : Steps) (k : List Item) (l : Local) → body_kind s.program body ≡ ByCall → IsReal (issues s (Do block (more (step x body next) left) ∷ k) l)
+body_issues s x (Body.Call f) next block left k l is = issues_call_real s f (http_method (special_named f.name)) (then_item next (Do block left ∷ k)) l (call_http (flow s.program.flows f.name) f.name (fields_now f.args) is)
+body_issues s x Body.Nothing next block left k l is = absurd (cc is)
+body_issues s x (Body.Assign []) next block left k l is = absurd (cc is)
+body_issues s x (Body.Assign (e ∷ es)) next block left k l is = absurd (not_clock (entry_now e) is)
+body_issues s x (Body.Switch arms) next block left k l is = absurd (not_clock (arms_now arms) is)
+body_issues s x (Body.For (loop y i o ss)) next block left k l is = absurd (not_clock (over_now o) is)
+body_issues s x (Body.Parallel (parallel names limit (OfBranches bs))) next block left k l is = absurd (cc is)
+body_issues s x (Body.Parallel (parallel names limit (OfLoop (loop y i o ss)))) next block left k l is = absurd (not_clock (over_now o) is)
+body_issues s x (Body.Block ss) next block left k l is = absurd (cc is)
+body_issues s x (Body.Try t) next block left k l is = absurd (cc is)
+body_issues s x (Body.Raise t) next block left k l is = absurd (not_clock (template_now t) is)
+body_issues s x (Body.Return t) next block left k l is = absurd (not_clock (template_now t) is)
+
+-- of a task that stands before one
+pub issues_real : (s : Scene) (k : List Item) (l : Local) → next_kind s.program k ≡ ByCall → IsReal (issues s k l)
+issues_real s (Do block (more (step x body next) left) ∷ k) l is = body_issues s x body next block left k l is
+issues_real s (Entries (e ∷ es) ∷ k) l is = absurd (not_clock (entry_now e) is)
+issues_real s [] l is = absurd (cc is)
+issues_real s (Do block no_steps ∷ k) l is = absurd (cc is)
+issues_real s (Entries [] ∷ k) l is = absurd (cc is)
+issues_real s (Then x ∷ k) l is = absurd (cc is)
+issues_real s (Loop b left i ∷ k) l is = absurd (cc is)
+issues_real s (Try t n d ∷ k) l is = absurd (cc is)
+issues_real s (Judge t n d e ∷ k) l is = absurd (cc is)
+issues_real s (Mark ∷ k) l is = absurd (cc is)
+issues_real s (Back r ∷ k) l is = absurd (cc is)
+issues_real s (Join body left n running es ∷ k) l is = absurd (cc is)
+
+-- ## By its kind
+pub real : (s : Scene) (k : List Item) (l : Local) (kind : NextKind) → l.control ≡ k → Moves s.program.flows k → next_kind s.program k ≡ kind → IsReal (step_by kind s l)
+real s k l Plainly at has is = subst (λ j. IsReal (moves s j l)) (sym at) (moves_real s k l has (λ call. cc (sym is ∙ call)))
+real s k l ByClock at has is = subst (λ j. IsReal (moves s j l)) (sym at) (moves_real s k l has (λ call. cc (sym is ∙ call)))
+real s k l ByCall at has is = subst (λ j. IsReal (issues s j l)) (sym at) (issues_real s k l is)
+
+-- ## Behind a wait
+-- with a value or an error
+pub resumed_real : (s : Scene) (r : Option Text) (e : Result Data Data) (l : Local) → IsReal (resumed s r e l)
+resumed_real s r (Ok v) l = gives_real s r v l.control (awake l)
+resumed_real s r (Err e) l = raises_real s l.control (awake l) e

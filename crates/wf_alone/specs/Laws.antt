@@ -1,47 +1,178 @@
--- Laws of executions in which `main` is the only task, and what it has still to do is of plain forms.
-use Rattle.std.specs.Prelude.{◌≡◌, ◌≤◌, ℕ, Bool, List, Some, max}
-use Rattle.wf_alone.specs.Machine.{main_at, main_event, IsReached}
-use Rattle.wf_alone.specs.OnlyMoves.{OnlyMoves}
+-- Laws of executions in which `main` is the only task, and its control has no parallel steps. It stands at a control k with layers ls, and is
+-- awake, or waits for an answer.
+use Rattle.std.specs.Prelude.{◌≡◌, ◌<◌, ◌≤◌, ◌+◌, ℕ, false, not, if◌then◌else◌, nat_le, List, [], None, Some, Option, max}
+use Rattle.wf_alone.specs.Machine.{Rest, IsReached, closed, config_by, heard, main_at, main_by, main_local, main_scene, one_more, read_by, read_for, seen_by, sent, step_by}
 use Rattle.wf_alone.specs.Plain.{ArePlain, Moves}
+use Rattle.wf_alone.specs.Waiting.{IsOff, Matches, call_by, call_of, caller}
 use Rattle.wf_ast.specs.Accept.{Accept}
 use Rattle.wf_ast.specs.Tree.{Program}
-use Rattle.wf_model.specs.Choose.{choose}
-use Rattle.wf_model.specs.Config.{Config, Facts, Item, Layer, To}
-use Rattle.wf_model.specs.Kinds.{next_kind, by_clock}
+use Rattle.wf_model.specs.Choose.{choose, wanted}
+use Rattle.wf_model.specs.Config.{Answered, Awake, Calling, Config, Item, Layer, NotNow, Raised, TimedOut, To, Wait}
+use Rattle.wf_model.specs.Kinds.{NextKind, next_kind}
 use Rattle.wf_model.specs.Law.{NeverWrong}
+use Rattle.wf_model.specs.Local.{Does, End, Ends, Goes, Local, Sends}
+use Rattle.wf_model.specs.Move.{resumed, timeout_error}
+use Rattle.wf_model.specs.Ready.{call_due, least_due, quiet}
 use Rattle.wf_model.specs.Run.{initial}
 use Rattle.wf_model.specs.Step.{next}
-use Rattle.wf_shared.specs.Events.{Start}
-
--- `main`'s move is chosen, at the given reading or the last one, whichever is greater
-abbrev pub MainIsChosen : Type 0
-MainIsChosen =
-    (p : Program) (facts : Facts) (last m : ℕ) (k : List Item) (ls : List Layer) (clock : Bool)
-    → ArePlain k
-    → next_kind p k ≡ by_clock clock
-    → (r : ℕ) → choose p (main_at facts last m k ls) r ≡ Some (main_event clock (max r last))
-
--- it counts, and nothing else can come but a cancelling
-abbrev pub MainOnlyMoves : Type 0
-MainOnlyMoves =
-    (p : Program) (facts : Facts) (last m : ℕ) (k : List Item) (ls : List Layer)
-    → ArePlain k
-    → Moves p.flows k
-    → OnlyMoves p (main_at facts last m k ls)
-
--- and in a run of an accepted program it can come, at each reading that isn't below the last one
-abbrev pub MainCanMove : Type 0
-MainCanMove =
-    NeverWrong
-    → (p : Program) (facts : Facts) (last m : ℕ) (k : List Item) (ls : List Layer) (clock : Bool)
-    → Accept p
-    → IsReached p (main_at facts last m k ls)
-    → ArePlain k
-    → Moves p.flows k
-    → next_kind p k ≡ by_clock clock
-    → (r : ℕ) → last ≤ r
-    → (d : Config) × (next p (main_at facts last m k ls) (main_event clock r) ≡ To d)
+use Rattle.wf_model.specs.Taken.{merged, outcome_of}
+use Rattle.wf_model.specs.WaitLaws.{Sound}
+use Rattle.wf_shared.specs.Events.{Event, Reply, Start}
+use Rattle.wf_shared.specs.HttpRequest.{Request}
+use Rattle.wf_shared.specs.HttpText.{reply_length, reply_result}
+use Rattle.wf_value.specs.Errors.{error_map}
+use Rattle.wf_value.specs.Pairs.{Text}
+use Rattle.wf_value.specs.declared.Tag.TheVariants.{ResourceLimitError}
 
 -- each program starts
 abbrev pub EachProgramStarts : Type 0
 EachProgramStarts = (p : Program) (s : Start) → (c : Config) × (initial p s ≡ To c)
+
+-- ## Awake
+-- `main`'s step is chosen, at the given reading or the last one, whichever is greater
+abbrev pub MainIsChosen : Type 0
+MainIsChosen =
+    (p : Program) (x : Rest) (k : List Item) (ls : List Layer) (kind : NextKind)
+    → ArePlain k
+    → next_kind p k ≡ kind
+    → (r : ℕ) → choose p (main_at x k ls Awake) r ≡ Some (wanted kind 0 (max r x.last))
+
+-- it is never quiet, and nothing will be due
+abbrev pub MainIsBusy : Type 0
+MainIsBusy =
+    (x : Rest) (k : List Item) (ls : List Layer)
+    → ArePlain k
+    → ((r : ℕ) → quiet (main_at x k ls Awake) r ≡ false) × (least_due (main_at x k ls Awake) ≡ None)
+
+-- below the limit on counted events the step is carried out
+abbrev pub MainSteps : Type 0
+MainSteps =
+    (p : Program) (x : Rest) (k : List Item) (ls : List Layer) (kind : NextKind) (r : ℕ)
+    → ArePlain k
+    → next_kind p k ≡ kind
+    → x.last ≤ r
+    → x.moves + 1 < 100000
+    → let y = one_more (read_for kind r x) in
+    next p (main_at x k ls Awake) (wanted kind 0 r) ≡ merged 0 None (step_by kind (main_scene p y (seen_by kind r)) (main_local k ls Awake)) (main_at y k ls Awake)
+
+-- the one at the limit isn't, and ends the execution
+abbrev pub MainIsStopped : Type 0
+MainIsStopped =
+    (p : Program) (x : Rest) (k : List Item) (ls : List Layer) (kind : NextKind) (r : ℕ)
+    → ArePlain k
+    → next_kind p k ≡ kind
+    → x.last ≤ r
+    → 100000 ≤ x.moves + 1
+    → next p (main_at x k ls Awake) (wanted kind 0 r) ≡ To (main_by (one_more (read_for kind r x)) k ls Awake (Raised (error_map ResourceLimitError)))
+
+-- in a run of an accepted program the step comes at each reading that isn't below the last one
+abbrev pub MainCanStep : Type 0
+MainCanStep =
+    NeverWrong
+    → (p : Program) (x : Rest) (k : List Item) (ls : List Layer) (kind : NextKind) (r : ℕ)
+    → Accept p
+    → IsReached p (main_at x k ls Awake)
+    → ArePlain k
+    → Moves p.flows k
+    → next_kind p k ≡ kind
+    → x.last ≤ r
+    → (d : Config) × (next p (main_at x k ls Awake) (wanted kind 0 r) ≡ To d)
+
+-- ## Waiting
+-- in a run, the call for which `main` waits is open and its own, and no other call is open
+abbrev pub MainMatches : Type 0
+MainMatches = (p : Program) (x : Rest) (k : List Item) (ls : List Layer) (w : Wait) → IsReached p (main_at x k ls w) → Matches x w
+
+-- and so is each configuration of a run sound
+abbrev pub ReachedIsSound : Type 0
+ReachedIsSound = (p : Program) (c : Config) → IsReached p c → Sound c
+
+-- the due moment of the call is the only one; it is quiet before, and from then on the due moment is chosen
+pub record StandsWaiting (p : Program) (c : Config) (last d : ℕ) : Type 0 where
+  pub due : least_due c ≡ Some d
+  pub still : (r : ℕ) → quiet c r ≡ not (nat_le d r)
+  pub chosen : (r : ℕ) → choose p c r ≡ (if nat_le d r then Some (Event.Due 0 (max r last)) else None)
+
+abbrev pub MainWaits : Type 0
+MainWaits =
+    (p : Program) (x : Rest) (k : List Item) (ls : List Layer) (n : ℕ) (v : Option Text) (d : ℕ)
+    → call_due (call_by x n) ≡ Some d
+    → StandsWaiting p (main_at x k ls (Calling n v)) x.last d
+
+-- from that moment on the call is closed, and `main` goes on with a TimeoutError
+abbrev pub MainIsDue : Type 0
+MainIsDue =
+    (p : Program) (x : Rest) (k : List Item) (ls : List Layer) (n : ℕ) (v : Option Text) (d r : ℕ)
+    → call_due (call_by x n) ≡ Some d
+    → x.last ≤ r
+    → d ≤ r
+    → let y = closed n TimedOut (read_by r x) in
+    next p (main_at x k ls (Calling n v)) (Event.Due 0 r) ≡ merged 0 None (resumed (main_scene p y r) v timeout_error (main_local k ls (Calling n v))) (main_at y k ls (Calling n v))
+
+-- an answer within the limit on bodies closes the call, and `main` goes on with what it gives
+abbrev pub MainIsAnswered : Type 0
+MainIsAnswered =
+    (p : Program) (x : Rest) (k : List Item) (ls : List Layer) (n : ℕ) (v : Option Text) (r : ℕ) (a : Reply)
+    → caller (call_by x n) ≡ Some 0
+    → x.last ≤ r
+    → x.bodies + reply_length a ≤ 67108864
+    → let y = closed n Answered (heard (reply_length a) (read_by r x)) in
+    next p (main_at x k ls (Calling n v)) (Event.Answer n r a) ≡ merged 0 None (resumed (main_scene p y 0) v (reply_result a) (main_local k ls (Calling n v))) (main_at y k ls (Calling n v))
+
+-- one past the limit ends the execution, and closes nothing
+abbrev pub MainIsFlooded : Type 0
+MainIsFlooded =
+    (p : Program) (x : Rest) (k : List Item) (ls : List Layer) (n : ℕ) (v : Option Text) (r : ℕ) (a : Reply)
+    → caller (call_by x n) ≡ Some 0
+    → x.last ≤ r
+    → 67108864 < x.bodies + reply_length a
+    → next p (main_at x k ls (Calling n v)) (Event.Answer n r a) ≡ To (main_by (read_by r x) k ls (Calling n v) (Raised (error_map ResourceLimitError)))
+
+-- in a run of an accepted program each answer to an open call comes at each reading that isn't below the last one
+abbrev pub AnswersCanCome : Type 0
+AnswersCanCome =
+    NeverWrong
+    → (p : Program) (x : Rest) (k : List Item) (ls : List Layer) (w : Wait) (n b r : ℕ) (a : Reply)
+    → Accept p
+    → IsReached p (main_at x k ls w)
+    → caller (call_by x n) ≡ Some b
+    → x.last ≤ r
+    → (d : Config) × (next p (main_at x k ls w) (Event.Answer n r a) ≡ To d)
+
+-- and so does a due moment that has come
+abbrev pub DuesCanCome : Type 0
+DuesCanCome =
+    NeverWrong
+    → (p : Program) (x : Rest) (k : List Item) (ls : List Layer) (n : ℕ) (v : Option Text) (d r : ℕ)
+    → Accept p
+    → IsReached p (main_at x k ls (Calling n v))
+    → call_due (call_by x n) ≡ Some d
+    → x.last ≤ r
+    → d ≤ r
+    → (e : Config) × (next p (main_at x k ls (Calling n v)) (Event.Due 0 r) ≡ To e)
+
+-- ## What a step comes to
+-- where no layer stands outside: the task goes on, or waits; it makes a request first; or it has ended
+pub record Merges (x : Rest) (k : List Item) (ls : List Layer) (w : Wait) : Type 0 where
+  pub goes : (l : Local) → l.outer ≡ [] → merged 0 None (Goes l) (main_at x k ls w) ≡ To (main_at x l.control l.layers l.wait)
+  pub sends : (q : Request) (due : ℕ) (l : Local) → l.outer ≡ [] → merged 0 None (Does (Sends q due) (Goes l)) (main_at x k ls w) ≡ To (main_at (sent q due x) l.control l.layers l.wait)
+  pub ends : (e : End) (l : Local) → l.outer ≡ [] → merged 0 None (Ends e l) (main_at x k ls w) ≡ To (config_by x [] (outcome_of e))
+
+abbrev pub MainMerges : Type 0
+MainMerges = (x : Rest) (k : List Item) (ls : List Layer) (w : Wait) → Merges x k ls w
+
+-- ## What can't come
+abbrev pub OffNever : Type 0
+OffNever =
+    (p : Program) (x : Rest) (k : List Item) (ls : List Layer) (w : Wait) (e : Event)
+    → ArePlain k
+    → IsOff p x k w e
+    → next p (main_at x k ls w) e ≡ NotNow
+
+-- an answer to a call for which `main` doesn't wait
+abbrev pub OtherAnswersNever : Type 0
+OtherAnswersNever =
+    (p : Program) (x : Rest) (k : List Item) (ls : List Layer) (w : Wait) (n r : ℕ) (a : Reply)
+    → Matches x w
+    → (call_of w ≡ Some n → ⊥)
+    → next p (main_at x k ls w) (Event.Answer n r a) ≡ NotNow

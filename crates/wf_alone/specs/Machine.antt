@@ -1,71 +1,124 @@
 -- A configuration in which `main` is the only task.
---     main_task                the task, at a control and with layers of its own
+--     Rest                     what it has beside its tasks and its outcome
+--     main_task                the task, at a control, with layers of its own and a wait
 --     config_by, main_at       a configuration of some live tasks, and of that one
---     main_scene, main_local   what `main`'s move reads, and what it changes
---     main_event               the event of `main`'s move
+--     main_scene, main_local   what `main`'s step reads, and what it changes
+--     step_by ..               the step that `main`'s control wants, by its kind
 --     facts_of, argument_of    what a start tells
-use Rattle.std.specs.Prelude.{ℕ, Bool, List, [], ◌∷◌, None, unwrap_or}
+use Rattle.std.specs.Prelude.{ℕ, ◌+◌, List, [], ◌∷◌, ◌++◌, length, None, slice_set, zero, suc, unwrap_or}
 use Rattle.wf_ast.specs.Tree.{Program}
-use Rattle.wf_model.specs.Choose.{wanted}
-use Rattle.wf_model.specs.Config.{Active, Awake, Config, Facts, Item, Layer, Outcome}
+use Rattle.wf_model.specs.Config.{Active, Call, Config, Facts, Item, Layer, Open, Outcome, Wait}
 use Rattle.wf_model.specs.Config as model
-use Rattle.wf_model.specs.Kinds.{by_clock}
-use Rattle.wf_model.specs.Local.{Local, Main, Scene}
+use Rattle.wf_model.specs.Kinds.{ByCall, ByClock, NextKind, Plainly}
+use Rattle.wf_model.specs.Local.{Local, Main, Moved, Scene}
+use Rattle.wf_model.specs.Move.{issue, move}
 use Rattle.wf_model.specs.Run.{Run}
 use Rattle.wf_model.specs.Taken.{first_visitor}
 use Rattle.wf_shared.specs.Events.{Event, Start}
+use Rattle.wf_shared.specs.HttpRequest.{Request}
 use Rattle.wf_shared.specs.Queues.{queue_of}
 use Rattle.wf_value.specs.Data.{Data, null}
 use Rattle.wf_value.specs.Decode.{json_value}
 
--- `main`'s task, which waits for nothing
-abbrev pub main_task : List Item → List Layer → model.Task
-main_task control layers = record { parent = None; control = control; layers = layers; wait = Awake }
+-- what a configuration has beside its tasks and its outcome, where one task alone was made, and nothing was awaited or logged
+pub record Rest : Type 0 where
+  pub facts : Facts
+  pub last : ℕ
+  pub calls : List Call
+  pub moves : ℕ
+  pub bodies : ℕ
 
--- a configuration of these live tasks, in which nothing was sent, awaited or logged
-abbrev pub config_by : Facts → ℕ → List (ℕ × model.Task) → ℕ → Outcome → Config
-config_by facts reading tasks moves outcome = record {
-  facts = facts;
+-- `main`'s task
+abbrev pub main_task : List Item → List Layer → Wait → model.Task
+main_task control layers wait = record { parent = None; control = control; layers = layers; wait = wait }
+
+-- a configuration of these live tasks
+abbrev pub config_by : Rest → List (ℕ × model.Task) → Outcome → Config
+config_by rest tasks outcome = record {
+  facts = rest.facts;
   tasks = tasks;
   made = 1;
-  calls = [];
+  calls = rest.calls;
   endpoints = [];
   log = [];
-  moves = moves;
-  bodies = 0;
-  last = reading;
+  moves = rest.moves;
+  bodies = rest.bodies;
+  last = rest.last;
   outcome = outcome;
 }
 
--- `main` stands at this control, with these layers, after so many counted events
-abbrev pub main_at : Facts → ℕ → ℕ → List Item → List Layer → Config
-main_at facts reading moves control layers =
-    config_by facts reading ((0, main_task control layers) ∷ []) moves Active
+-- `main` alone is live
+abbrev pub main_by : Rest → List Item → List Layer → Wait → Outcome → Config
+main_by rest control layers wait outcome = config_by rest ((0, main_task control layers wait) ∷ []) outcome
 
--- ## A move
--- what `main`'s move reads beside the task, where the clock reads `now`
-abbrev pub main_scene : Program → Facts → (last now : ℕ) → Scene
-main_scene program facts last now = record {
+-- `main` stands at this control, with these layers, and waits so
+abbrev pub main_at : Rest → List Item → List Layer → Wait → Config
+main_at rest control layers wait = main_by rest control layers wait Active
+
+-- ## What events change
+-- the last reading
+abbrev pub read_by : ℕ → Rest → Rest
+read_by r x = record x { last = r }
+
+-- one more counted event
+abbrev pub one_more : Rest → Rest
+one_more x = record x { moves = x.moves + 1 }
+
+-- one more call, which `main` has made
+abbrev pub sent : Request → (due : ℕ) → Rest → Rest
+sent q due x = record x { calls = x.calls ++ Open 0 q due ∷ [] }
+
+-- the calls, with this one in the place of call n
+abbrev pub closed_in : ℕ → Call → List Call → List Call
+closed_in zero y calls = calls
+closed_in (suc n) y calls = slice_set calls n y
+
+-- call n is closed so
+abbrev pub closed : ℕ → Call → Rest → Rest
+closed n y x = record x { calls = closed_in n y x.calls }
+
+-- so many bytes of bodies more
+abbrev pub heard : ℕ → Rest → Rest
+heard bytes x = record x { bodies = x.bodies + bytes }
+
+-- ## A step
+-- what `main`'s step reads beside the task, where the clock reads `now`
+abbrev pub main_scene : Program → Rest → (now : ℕ) → Scene
+main_scene program rest now = record {
   program = program;
-  facts = facts;
-  calls = 0;
+  facts = rest.facts;
+  calls = length rest.calls;
   endpoints = 0;
   logged = 0;
   oldest = λ n. first_visitor (queue_of [] n);
   root = Main;
   nesting = 0;
   others = 0;
-  last = last;
+  last = rest.last;
   now = now;
 }
 
 -- the task by itself, which sees no layer but its own
-abbrev pub main_local : List Item → List Layer → Local
-main_local control layers = record { control = control; layers = layers; outer = []; wait = Awake }
+abbrev pub main_local : List Item → List Layer → Wait → Local
+main_local control layers wait = record { control = control; layers = layers; outer = []; wait = wait }
 
--- the event of `main`'s move, at this reading where it reads the clock
-abbrev pub main_event : Bool → ℕ → Event
-main_event clock now = wanted (by_clock clock) 0 now
+-- the step that a task takes whose control wants this kind of event
+abbrev pub step_by : NextKind → Scene → Local → Moved
+step_by Plainly = move
+step_by ByClock = move
+step_by ByCall = issue
+
+-- the reading that it sees, at this one: 0 where it sees none
+abbrev pub seen_by : NextKind → ℕ → ℕ
+seen_by Plainly r = 0
+seen_by ByClock r = r
+seen_by ByCall r = r
+
+-- and the last reading behind it
+abbrev pub read_for : NextKind → ℕ → Rest → Rest
+read_for Plainly r x = x
+read_for ByClock r x = read_by r x
+read_for ByCall r x = read_by r x
 
 -- ## From a start
 -- some events lead there from some start
@@ -75,6 +128,10 @@ IsReached p c = (s : Start) × (es : List Event) × Run p s es c
 -- what no event changes
 abbrev pub facts_of : Start → Facts
 facts_of s = record { id = s.id; routes = s.routes; env = s.env; base = s.base; rules = s.rules }
+
+-- before the first event
+abbrev pub rest_of : Start → Rest
+rest_of s = record { facts = facts_of s; last = s.reading; calls = []; moves = 0; bodies = 0 }
 
 -- what `main` is given
 abbrev pub argument_of : Start → Data

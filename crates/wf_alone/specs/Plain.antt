@@ -1,18 +1,19 @@
--- Control that doesn't wait: no parallel step stands in it, and no call of a function that only call steps may call.
+-- Control without parallel steps, whose calls are those of workflows, of functions that expressions may call too, and of HTTP.
 --     is_plain, ArePlain   an item of these forms, and a control
 --     has_move, Moves      an item that has something to do, and a control whose innermost item has
 --     IsReal               a move that isn't ruled out
 use Rattle.std.specs.Prelude.{◌≡◌, Bool, true, false, ◌||◌, is_some, List, [], ◌∷◌}
 use Rattle.std.specs.List.{list_all}
 use Rattle.wf_ast.specs.Flows.{flow}
-use Rattle.wf_ast.specs.Func.{func_named}
+use Rattle.wf_ast.specs.Func.{func_named, special_named}
 use Rattle.wf_ast.specs.Tree.{Body, Flow, more, step}
+use Rattle.wf_model.specs.Calls.{http_method}
 use Rattle.wf_model.specs.Config.{Item, Back, Do, Entries, Join, Then, Loop}
-use Rattle.wf_model.specs.Local.{Moved, Goes, Ends, Does, Breaks, Not}
+use Rattle.wf_model.specs.Local.{Moved, Goes, Ends, Does, Breaks, Not, Sends}
 
--- a body of these forms: a call is one of these workflows, or of a function that expressions may call too
+-- a body of these forms: a call is one of these workflows, of a function that expressions may call too, or of HTTP
 abbrev pub is_plain_body : List Flow → Body → Bool
-is_plain_body fs (Body.Call f) = is_some (flow fs f.name) || is_some (func_named f.name)
+is_plain_body fs (Body.Call f) = is_some (flow fs f.name) || is_some (func_named f.name) || is_some (http_method (special_named f.name))
 is_plain_body fs (Body.Parallel p) = false
 is_plain_body fs body = true
 
@@ -38,10 +39,11 @@ abbrev pub Moves : List Flow → List Item → Type 0
 Moves fs [] = ⊥
 Moves fs (i ∷ k) = has_move fs i ≡ true
 
--- a move that isn't ruled out
+-- a move that isn't ruled out: beside the task it does nothing but make a request
 abbrev pub IsReal : Moved → Type 0
 IsReal (Goes l) = Unit {0}
 IsReal (Ends e l) = Unit {0}
+IsReal (Does (Sends q due) m) = IsReal m
 IsReal (Does x m) = ⊥
 IsReal (Breaks kind) = Unit {0}
 IsReal Not = ⊥

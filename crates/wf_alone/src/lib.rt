@@ -1,16 +1,40 @@
-//! Laws of an execution in which `main` is the only task, and what it has still to do doesn't wait.
+//! Laws of an execution in which `main` is the only task, and what it has still to do has no parallel steps. It may make HTTP calls, and
+//! wait for their answers.
 //!
-//! The laws are about the definitions of wf_model; the function here does nothing and carries them as clauses. The machine above stands
+//! The laws are about the definitions of wf_model; the functions here do nothing and carry them as clauses. The machine above stands
 //! on the lemmas in proofs/.
 #![tactic(auto)]
 
-ghost use Rattle.wf_alone.specs.Laws.{EachProgramStarts, MainCanMove, MainIsChosen, MainOnlyMoves};
+ghost use Rattle.wf_alone.specs.Laws.{AnswersCanCome, DuesCanCome, EachProgramStarts, MainCanStep, MainIsAnswered, MainIsBusy, MainIsChosen, MainIsDue, MainIsFlooded, MainIsStopped, MainMatches, MainMerges, MainSteps, MainWaits, OffNever, OtherAnswersNever, ReachedIsSound};
 
-/// Each program starts. While `main` is alone and stands before a step, an entry of an assignment, a jump or a turn of a loop: its move
-/// is the one that is chosen, it counts, and nothing else can come but a cancelling; and in a run of an accepted program it can come.
+use wf_model::laws_of_waits;
+
+/// Each program starts. While `main` is alone, awake, and stands before a step, an entry of an assignment, a jump or a turn of a loop:
+/// its step is the one that is chosen, it counts, and in a run of an accepted program it can come. What it comes to is said of each
+/// kind of move; and which events can't come.
 pub fn laws_of_main()
     ensures starts { EachProgramStarts }
     ensures chosen { MainIsChosen }
-    ensures only_moves { MainOnlyMoves }
-    ensures can_move { MainCanMove }
+    ensures busy { MainIsBusy }
+    ensures steps { MainSteps }
+    ensures stopped { MainIsStopped }
+    ensures can_step { MainCanStep }
+    ensures merges { MainMerges }
+    ensures off { OffNever }
 {}
+
+/// While `main` waits for an answer, its call is the only open one. Nothing else comes but an answer to it, its due moment once that has
+/// come, and a cancelling; and in a run of an accepted program each of these can come.
+pub fn laws_of_waiting()
+    ensures sound { ReachedIsSound }
+    ensures matches { MainMatches }
+    ensures waits { MainWaits }
+    ensures due { MainIsDue }
+    ensures answered { MainIsAnswered }
+    ensures flooded { MainIsFlooded }
+    ensures answers_can_come { AnswersCanCome }
+    ensures dues_can_come { DuesCanCome }
+    ensures other_answers { OtherAnswersNever }
+{
+    laws_of_waits();
+}

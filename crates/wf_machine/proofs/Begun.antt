@@ -2,22 +2,25 @@
 use Rattle.std.specs.Prelude.{is_some}
 use Rattle.std.proofs.Common.{◌≡◌, ◌≤◌, ◌⊎◌, inl, inr, arith, true, false, Option, List, [], ◌∷◌, Some, None, refl, sym, ap, ◌∙◌, subst}
 use Rattle.wf_alone.proofs.Begun.{begun, begun_ended}
-use Rattle.wf_alone.specs.Machine.{argument_of, config_by, facts_of, main_at}
+use Rattle.wf_alone.specs.Machine.{argument_of, config_by, facts_of, main_at, rest_of as rest_from}
 use Rattle.wf_ast.specs.Tree.{Program, Steps, more, no_steps}
-use Rattle.wf_frames.specs.Owned.{control_of, local_of, own_of}
+use Rattle.wf_frames.specs.Owned.{control_of, own_of}
 use Rattle.wf_frames.specs.Frames.{control, inner}
 use Rattle.wf_frames.specs.declared.frames.Frame.{Frame}
 use Rattle.wf_machine.specs.Facts.{facts_view}
-use Rattle.wf_machine.specs.Main.{Begins, IsStanding, around, config_of}
+use Rattle.wf_machine.proofs.Waiting.{going_by}
+use Rattle.wf_machine.specs.Main.{Begins, IsStanding, around, config_of, first_local}
 use Rattle.wf_machine.specs.State.{outcome_by, outcome_depth}
 use Rattle.wf_machine.specs.declared.facts.Facts.{Facts}
-use Rattle.wf_machine.specs.declared.machine.Ending.{Ending}
-use Rattle.wf_machine.specs.declared.machine.Ending.TheVariants as ending
+use Rattle.wf_machine.specs.declared.ending.Ending.{Ending}
+use Rattle.wf_machine.specs.declared.ending.Ending.TheVariants as ending
+use Rattle.wf_machine.specs.declared.machine.Tally.{Tally}
 use Rattle.wf_moves.specs.Going.{Going}
+use Rattle.wf_moves.specs.Waits.{task_local, wait_view}
 use Rattle.wf_nodes.specs.Spots.{Spot, spots}
 use Rattle.wf_nodes.specs.declared.node.Node.{Node}
 use Rattle.wf_value.specs.declared.value.Value.TheVariants as value
-use Rattle.wf_model.specs.Config.{Do, Item, Returned, To}
+use Rattle.wf_model.specs.Config.{Awake, Call, Do, Item, Returned, To}
 use Rattle.wf_model.specs.Local.{Local, settle}
 use Rattle.wf_model.specs.Run.{initial, main_local, main_steps, main_vars}
 use Rattle.wf_moves.specs.declared.task.Task.{Task}
@@ -41,25 +44,25 @@ module _ (p : Program) (s : Start) where
   V = argument_of s
 
   -- it stands before its first step
-  pub stands_first : (t : Task) (x : Scopes) → IsSome (control_of (around p) t.frames) → Begins p V (Some t) x
-      → initial p s ≡ To (main_at (facts_of s) s.reading 0 (control_of (around p) t.frames) (own_layers (own_of t.frames) (layers_of x)))
+  pub stands_first : (t : Task) (x : Scopes) → IsSome (control_of (around p) t.frames) → first_local p V ≡ task_local (around p) t x
+      → initial p s ≡ To (main_at (rest_from s) (control_of (around p) t.frames) (own_layers (own_of t.frames) (layers_of x)) (wait_view (around p) t.wait))
   stands_first t x some begins = by (main_steps p.flows) refl
     where
-      by : (ss : Steps) → main_steps p.flows ≡ ss → initial p s ≡ To (main_at (facts_of s) s.reading 0 (control_of (around p) t.frames) (own_layers (own_of t.frames) (layers_of x)))
+      by : (ss : Steps) → main_steps p.flows ≡ ss → initial p s ≡ To (main_at (rest_from s) (control_of (around p) t.frames) (own_layers (own_of t.frames) (layers_of x)) (wait_view (around p) t.wait))
       by no_steps is =
           let none : control_of (around p) t.frames ≡ [] = sym (ap (λ l. l.control) begins) ∙ ap (λ ss. (settled_from p V ss).control) is in
           absurd (subst IsSome none some)
       by (more st rest) is =
-          let at : settled_from p V (more st rest) ≡ local_of (around p) t.frames x = sym (ap (settled_from p V) is) ∙ begins in
+          let at : settled_from p V (more st rest) ≡ task_local (around p) t x = sym (ap (settled_from p V) is) ∙ begins in
           begun p s st rest (main_vars p.flows V) is refl
-          ∙ ap (λ ss. To (main_at (facts_of s) s.reading 0 (Do ss ss ∷ []) (record { vars = main_vars p.flows V; by_call = false } ∷ []))) is
-          ∙ ap (λ l. To (main_at (facts_of s) s.reading 0 l.control l.layers)) at
+          ∙ ap (λ ss. To (main_at (rest_from s) (Do ss ss ∷ []) (record { vars = main_vars p.flows V; by_call = false } ∷ []) Awake)) is
+          ∙ ap (λ l. To (main_at (rest_from s) l.control l.layers l.wait)) at
 
   -- or has no steps
-  pub stands_ended : (x : Scopes) → Begins p V None x → initial p s ≡ To (config_by (facts_of s) s.reading [] 0 (Returned null))
+  pub stands_ended : (x : Scopes) → Begins p V None x → initial p s ≡ To (config_by (rest_from s) [] (Returned null))
   stands_ended x begins = by (main_steps p.flows) refl
     where
-      by : (ss : Steps) → main_steps p.flows ≡ ss → initial p s ≡ To (config_by (facts_of s) s.reading [] 0 (Returned null))
+      by : (ss : Steps) → main_steps p.flows ≡ ss → initial p s ≡ To (config_by (rest_from s) [] (Returned null))
       by no_steps is = begun_ended p s is
       by (more st rest) is = absurd (let some : Do (more st rest) (more st rest) ∷ [] ≡ [] = sym (ap (λ ss. (settled_from p V ss).control) is) ∙ begins in cc some)
 
@@ -80,14 +83,22 @@ ending_for None e (inr is) = is.1
 ending_for (Some t) e (inl is) = is.1
 ending_for (Some t) e (inr is) = absurd (cc is.0)
 
-pub begins_so : (p : Program) (s : Start) (nodes : List Node) (o : Option Task) (x : Scopes) (e : Ending) (f : Facts) → Begins p (argument_of s) o x → IsStanding p nodes o x → EndingFor o e → facts_view f ≡ facts_of s
-    → initial p s ≡ To (config_of p f s.reading o x 0 e)
-begins_so p s nodes None x e f begins stands is facts =
-    stands_ended p s x begins ∙ ap (λ k. To (config_by k s.reading [] 0 (Returned null))) (sym facts) ∙ ap (λ d. To (config_of p f s.reading None x 0 d)) (sym is)
-begins_so p s nodes (Some t) x e f begins stands is facts =
-    stands_first p s t x (some_left (spots p.flows) nodes (inner t.frames) stands.1) begins
-    ∙ ap (λ k. To (main_at k s.reading 0 (control_of (around p) t.frames) (own_layers (own_of t.frames) (layers_of x)))) (sym facts)
-    ∙ ap (λ d. To (config_of p f s.reading (Some t) x 0 d)) (sym is)
+-- before the first event
+abbrev pub first_tally : Start → Tally
+first_tally s = record { last = s.reading; moves = 0; bodies = 0 }
+
+pub begins_so : (p : Program) (s : Start) (nodes : List Node) (o : Option Task) (x : Scopes) (calls : List Call) (e : Ending) (f : Facts) → Begins p (argument_of s) o x → IsStanding p nodes o x → EndingFor o e → calls ≡ [] → facts_view f ≡ facts_of s
+    → initial p s ≡ To (config_of p f (first_tally s) o x calls e)
+begins_so p s nodes None x calls e f begins stands is none facts =
+    stands_ended p s x begins
+    ∙ ap (λ k. To (config_by (record (rest_from s) { facts = k }) [] (Returned null))) (sym facts)
+    ∙ ap (λ d. To (config_of p f (first_tally s) None x [] d)) (sym is)
+    ∙ ap (λ cs. To (config_of p f (first_tally s) None x cs e)) (sym none)
+begins_so p s nodes (Some t) x calls e f begins stands is none facts =
+    stands_first p s t x (some_left (spots p.flows) nodes (inner t.frames) (going_by nodes t begins.1 stands.1)) begins.0
+    ∙ ap (λ k. To (main_at (record (rest_from s) { facts = k }) (control_of (around p) t.frames) (own_layers (own_of t.frames) (layers_of x)) (wait_view (around p) t.wait))) (sym facts)
+    ∙ ap (λ d. To (config_of p f (first_tally s) (Some t) x [] d)) (sym is)
+    ∙ ap (λ cs. To (config_of p f (first_tally s) (Some t) x cs e)) (sym none)
 
 -- one that runs has a task
 pub runs_with : (o : Option Task) (e : Ending) → EndingFor o e → e ≡ ending.Running → is_some o ≡ true

@@ -5,10 +5,11 @@ use Rattle.std.proofs.Math.Seq.{take-suc}
 use Rattle.std.proofs.lemmas.List.{append_assoc, length-append, take_all}
 use Rattle.std.proofs.lemmas.Slice.Eq.{bytes_eq-Decides}
 use Rattle.wf_ast.specs.Flows.{flow, flow_in}
-use Rattle.wf_ast.specs.Func.{Listing, func_named}
+use Rattle.wf_ast.specs.Func.{Listing, func_named, special_named}
 use Rattle.wf_ast.specs.Tree.{Flow}
 use Rattle.wf_library.specs.Functions.{Callable, callable, function_of}
 use Rattle.wf_library.specs.declared.functions.Function.{Function}
+use Rattle.wf_model.specs.Calls.{http_method}
 use Rattle.wf_nodes.specs.Spots.{FlowAt, Spot, flow_spots, flows_spots, spot, spot_part, spots, steps_size}
 use Rattle.wf_shared.specs.HttpUrl.{first_of_two}
 use Rattle.wf_nodes.specs.declared.node.CallNode.{CallNode}
@@ -110,15 +111,30 @@ function_is (Some l) g e =
     let same : function_of g ≡ callable l = cc e in
     ap (λ (c : Callable). Some (c.func, (c.signature.needs, c.signature.may))) (sym same)
 
+-- none is listed where none is found
+pub no_function : (o : Option Listing) → option_map function_of None ≡ option_map callable o → is_some o ≡ false
+no_function None e = refl
+no_function (Some l) e = absurd (cc e)
+
+-- where no workflow may be called by a name, the function or the call of HTTP may
+pub listed_so : (fs : List Flow) (ns : List Spot) (x : Text) (o : Option Target) → IfSome o (λ t. (gs : List Flow) (ms : List Spot) → is_some (flow gs x) ≡ false → IsTarget gs ms (Some t) x) → is_some (flow fs x) ≡ false
+    → IfSome o (λ t. IsTarget fs ns (Some t) x)
+listed_so fs ns x None so free = tt
+listed_so fs ns x (Some t) so free = so fs ns free
+
 -- ## What a call comes to
-pub plain_target : (fs : List Flow) (ns : List Spot) (o : Option Target) (x : Text) → IsTarget fs ns o x → (is_some (flow fs x) || is_some (func_named x)) ≡ true
+pub plain_target : (fs : List Flow) (ns : List Spot) (o : Option Target) (x : Text) → IsTarget fs ns o x → (is_some (flow fs x) || is_some (func_named x) || is_some (http_method (special_named x))) ≡ true
 plain_target fs ns None x h = absurd h
-plain_target fs ns (Some (target.Flow n)) x h = ap (λ (b : Bool). b || is_some (func_named x)) h.named
-plain_target fs ns (Some (target.Function g)) x h = ap (λ (b : Bool). b || is_some (func_named x)) h.free ∙ by (func_named x) h.named
+plain_target fs ns (Some (target.Flow n)) x h = ap (λ (b : Bool). b || is_some (func_named x) || is_some (http_method (special_named x))) h.named
+plain_target fs ns (Some (target.Function g)) x h = ap (λ (b : Bool). b || is_some (func_named x) || is_some (http_method (special_named x))) h.free ∙ by (func_named x) h.named
   where
-    by : (o : Option Listing) → option_map listed o ≡ Some (function_parts g) → is_some o ≡ true
+    by : (o : Option Listing) → option_map listed o ≡ Some (function_parts g) → (is_some o || is_some (http_method (special_named x))) ≡ true
     by None e = absurd (cc e)
     by (Some l) e = refl
+plain_target fs ns (Some (target.Http m)) x h =
+    ap (λ (b : Bool). b || is_some (func_named x) || is_some (http_method (special_named x))) h.free
+    ∙ ap (λ (b : Bool). b || is_some (http_method (special_named x))) h.unlisted
+    ∙ ap is_some h.named
 
 -- ## The targets of a table
 -- a node, and what stands at its number

@@ -1,12 +1,16 @@
 -- The lemmas of the machine.
+pub mod Answering
+pub mod Applying
 pub mod Arguments
 pub mod Begun
 pub mod Calls
+pub mod Choice
+pub mod Counts
 pub mod First
-pub mod Making
-pub mod Moving
-pub mod Others
+pub mod Going
+pub mod Moves
 pub mod Places
 pub mod Plainly
-pub mod Soundness
-pub mod Stopping
+pub mod Replies
+pub mod Stepping
+pub mod Waiting

@@ -1,4 +1,4 @@
--- The control of a task: what its frames stand for neither calls nor waits.
+-- The control of a task: no parallel step stands in what its frames stand for, and it has a move.
 use Rattle.std.proofs.Common.{◌≡◌, ◌<◌, ℕ, zero, suc, arith, true, false, Option, List, [], ◌∷◌, length, Some, None, refl, ap, ◌∙◌}
 use Rattle.std.specs.Prelude.{get_or, unwrap_or, drop, slice_get}
 use Rattle.wf_alone.specs.Plain.{ArePlain, Moves, has_move, is_plain_body}

@@ -1,4 +1,6 @@
 -- The definitions of the machine.
+pub mod Applied
+pub mod Causes
 pub mod Counts
 pub mod Facts
 pub mod Laws

@@ -1,33 +1,37 @@
--- Where `main` stands, by its frames and the store of its layers.
+-- Where `main` stands, by its frames, the store of its layers and what it waits for.
 --     around        what stands around it
 --     config_of     the configuration
---     IsStanding    its frames and layers fit the program's table, and it has something to do
-use Rattle.std.specs.Prelude.{◌≡◌, ℕ, true, false, List, [], ◌∷◌, None, Some, Option, is_some, option_map}
+--     IsStanding    its frames and layers fit the program's table, and it has something to do or waits for an answer
+use Rattle.std.specs.Prelude.{◌≡◌, ℕ, true, false, List, [], ◌∷◌, ◌++◌, None, Some, Option, is_some, option_map}
 use Rattle.std.specs.Coded.{Coded-set, codes, coded_bool, ×_prop, Unit-prop, Π_prop, →_prop}
 use Rattle.wf_ast.specs.Flows.{flow}
-use Rattle.wf_ast.specs.Func.{func_named}
+use Rattle.wf_ast.specs.Func.{func_named, special_named}
 use Rattle.wf_ast.specs.Tree.{Flow, Program}
+use Rattle.wf_callbacks.specs.Plain.{plain_method}
+use Rattle.wf_callbacks.specs.declared.method.Method.{Method}
 use Rattle.wf_eval.specs.Built.{is_built}
-use Rattle.wf_frames.specs.Frames.{inner}
-use Rattle.wf_frames.specs.Owned.{Around, control_of, local_of, own_of}
+use Rattle.wf_frames.specs.Owned.{Around, control_of, own_of}
 use Rattle.wf_frames.specs.Standing.{Standing, Standing-prop}
+use Rattle.wf_http_ask.specs.View.{request_view}
 use Rattle.wf_machine.specs.Facts.{facts_view}
 use Rattle.wf_machine.specs.State.{outcome_by}
+use Rattle.wf_machine.specs.declared.ending.Ending.{Ending}
 use Rattle.wf_machine.specs.declared.facts.Facts.{Facts}
-use Rattle.wf_machine.specs.declared.machine.Ending.{Ending}
-use Rattle.wf_alone.specs.Machine.{config_by, main_task}
+use Rattle.wf_machine.specs.declared.machine.Tally.{Tally}
+use Rattle.wf_alone.specs.Machine.{Rest, config_by, main_task}
+use Rattle.wf_model.specs.Calls.{http_method}
 use Rattle.wf_model.specs.Config as model
-use Rattle.wf_model.specs.Config.{Active, Config, Do, Outcome, Raised, Returned, limits}
+use Rattle.wf_model.specs.Config.{Active, Call, Config, Do, Open, Outcome, Raised, Returned, limits}
 use Rattle.wf_model.specs.Local.{Local, settle}
 use Rattle.wf_model.specs.Run.{main_local, main_steps}
+use Rattle.wf_moves.specs.Waits.{CanGoOn, CanGoOn-prop, call_in, task_local, wait_view}
 use Rattle.wf_moves.specs.declared.finish.End.TheVariants as end
 use Rattle.wf_moves.specs.declared.task.Move.{Move}
 use Rattle.wf_moves.specs.declared.task.Move.TheVariants as move
+use Rattle.wf_moves.specs.declared.task.Task.{Task}
 use Rattle.wf_value.specs.Data.{Data}
 use Rattle.wf_value.specs.Pairs.{Text}
 use Rattle.wf_value.specs.Plain.{plain}
-use Rattle.wf_moves.specs.Going.{Going, Going-prop}
-use Rattle.wf_moves.specs.declared.task.Task.{Task}
 use Rattle.wf_nodes.specs.Sets.{Part-set}
 use Rattle.wf_library.specs.declared.functions.Function.{Function}
 use Rattle.wf_nodes.specs.Spots.{Spot, part_at, spots}
@@ -35,7 +39,7 @@ use Rattle.wf_nodes.specs.declared.node.Node.{Node}
 use Rattle.wf_scope.specs.Store.{layers_of}
 use Rattle.wf_scope.specs.Tasks.{own_layers}
 use Rattle.wf_scope.specs.declared.scopes.Scopes.{Scopes}
-use Rattle.wf_steps.specs.Built.{AreTargets, IsFunction, IsTarget, IsWorkflow, flow_part, function_parts, listed}
+use Rattle.wf_steps.specs.Built.{AreTargets, IsFunction, IsHttp, IsTarget, IsWorkflow, flow_part, function_parts, listed}
 use Rattle.wf_steps.specs.declared.target.Target.{Target}
 use Rattle.wf_steps.specs.declared.target.Target.TheVariants as target
 
@@ -60,44 +64,62 @@ IsFunction-prop fs f x = λ g h i. record {
   built = Coded-set coded_bool (is_built f.func) true g.built h.built i;
 }
 
+IsHttp-prop : (fs : List Flow) (m : Option Method) (x : Text) → IsProp (IsHttp fs m x)
+IsHttp-prop fs m x = λ g h i. record {
+  free = Coded-set coded_bool (is_some (flow fs x)) false g.free h.free i;
+  unlisted = Coded-set coded_bool (is_some (func_named x)) false g.unlisted h.unlisted i;
+  named = Coded-set (hlevel codes) (http_method (special_named x)) (Some (option_map plain_method m)) g.named h.named i;
+}
+
 IsTarget-prop : (fs : List Flow) (ns : List Spot) (o : Option Target) (x : Text) → IsProp (IsTarget fs ns o x)
 IsTarget-prop fs ns None x = λ g h. absurd g
 IsTarget-prop fs ns (Some (target.Flow n)) x = IsWorkflow-prop fs ns n x
 IsTarget-prop fs ns (Some (target.Function f)) x = IsFunction-prop fs f x
+IsTarget-prop fs ns (Some (target.Http m)) x = IsHttp-prop fs m x
 
 pub Aims-prop : (p : Program) (nodes : List Node) (targets : List Target) → IsProp (Aims p nodes targets)
 Aims-prop p nodes targets = Π_prop (λ i. Π_prop (λ x. Π_prop (λ f. →_prop (→_prop (IsTarget-prop _ _ _ _)))))
 
 -- ## The configuration
+-- what it has beside its tasks and its outcome
+abbrev pub rest_of : Facts → Tally → List Call → Rest
+rest_of f y calls = record { facts = facts_view f; last = y.last; calls = calls; moves = y.moves; bodies = y.bodies }
+
 abbrev pub task_view : Program → Task → Scopes → model.Task
-task_view p t x = main_task (control_of (around p) t.frames) (own_layers (own_of t.frames) (layers_of x))
+task_view p t x = main_task (control_of (around p) t.frames) (own_layers (own_of t.frames) (layers_of x)) (wait_view (around p) t.wait)
 
 abbrev pub tasks_view : Program → Option Task → Scopes → List (ℕ × model.Task)
 tasks_view p None x = []
 tasks_view p (Some t) x = (0, task_view p t x) ∷ []
 
-abbrev pub config_of : Program → Facts → ℕ → Option Task → Scopes → ℕ → Ending → Config
-config_of p f last t x moves e = config_by (facts_view f) last (tasks_view p t x) moves (outcome_by e)
+abbrev pub config_of : Program → Facts → Tally → Option Task → Scopes → List Call → Ending → Config
+config_of p f y t x calls e = config_by (rest_of f y calls) (tasks_view p t x) (outcome_by e)
 
 -- ## Where it stands
 abbrev pub IsStanding : Program → List Node → Option Task → Scopes → Type 0
 IsStanding p nodes None x = Unit {0}
-IsStanding p nodes (Some t) x = Standing (around p) nodes t.frames x × Going nodes (inner t.frames)
+IsStanding p nodes (Some t) x = Standing (around p) nodes t.frames x × CanGoOn nodes t
 
 pub IsStanding-prop : (p : Program) (nodes : List Node) (t : Option Task) (x : Scopes) → IsProp (IsStanding p nodes t x)
 IsStanding-prop p nodes None x = Unit-prop
-IsStanding-prop p nodes (Some t) x = ×_prop (Standing-prop _ _ _ _) (Going-prop _ _)
+IsStanding-prop p nodes (Some t) x = ×_prop (Standing-prop _ _ _ _) (CanGoOn-prop nodes t)
 
--- ## Where it begins, and what a move leaves
+-- ## Where it begins, and what it leaves
 -- before the steps of `main`, settled
 abbrev pub first_local : Program → Data → Local
 first_local p v = settle (Do (main_steps p.flows) (main_steps p.flows) ∷ []) (main_local p v)
 
 abbrev pub Begins : Program → Data → Option Task → Scopes → Type 0
 Begins p v None x = (first_local p v).control ≡ []
-Begins p v (Some t) x = first_local p v ≡ local_of (around p) t.frames x
+Begins p v (Some t) x = (first_local p v ≡ task_local (around p) t x) × (call_in t.wait ≡ None)
 
+-- the outcome behind what `main` has done, and the calls
 abbrev pub outcome_behind : Move → Outcome
 outcome_behind move.Went = Active
 outcome_behind (move.Ended (end.Value v)) = Returned (plain v)
 outcome_behind (move.Ended (end.Error e)) = Raised (plain e)
+outcome_behind (move.Sent x) = Active
+
+abbrev pub calls_behind : Move → List Call → List Call
+calls_behind (move.Sent x) calls = calls ++ Open 0 (request_view x.request) x.due ∷ []
+calls_behind m calls = calls

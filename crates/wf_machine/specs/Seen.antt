@@ -1,21 +1,81 @@
 -- What a machine is seen as.
-use Rattle.std.specs.Prelude.{List}
+--     state_of                  its program, its configuration, and whether it is broken
+--     control_by ..             what `main` has, and what stands beside it
+--     StepsBy, DuesBy           what `main` wants
+use Rattle.std.specs.Prelude.{◌≡◌, ◌≤◌, ◌⊎◌, ℕ, true, false, is_some, List, None, Some}
+use Rattle.wf_alone.specs.Machine.{Rest}
+use Rattle.wf_alone.specs.Waiting.{call_by, due_for}
 use Rattle.wf_check.specs.Seen.{program_of}
-use Rattle.wf_frames.specs.Owned.{control_of}
-use Rattle.wf_machine.specs.Main.{around, config_of}
+use Rattle.wf_frames.specs.Owned.{control_of, own_of}
+use Rattle.wf_machine.specs.Main.{around, config_of, rest_of}
 use Rattle.wf_machine.specs.State.{State}
+use Rattle.wf_machine.specs.declared.ending.Ending.TheVariants.{Running}
 use Rattle.wf_machine.specs.declared.machine.Machine.{Machine}
-use Rattle.wf_model.specs.Config.{Item}
+use Rattle.wf_model.specs.Config.{Item, Layer, Wait}
+use Rattle.wf_model.specs.Kinds.{NextKind, Plainly, ByClock, ByCall, next_kind}
+use Rattle.wf_model.specs.Ready.{call_due, is_by}
+use Rattle.wf_moves.specs.Waits.{call_in, wait_view}
 use Rattle.wf_moves.specs.declared.task.Task.{Task}
+use Rattle.wf_scope.specs.Store.{layers_of}
+use Rattle.wf_scope.specs.Tasks.{own_layers}
 
 -- its program, the configuration that it stands in, and whether it is broken
 abbrev pub state_of : Machine → State
 state_of m = record {
   program = program_of m.program;
-  config = config_of (program_of m.program) m.facts m.last m.task m.scopes m.moves m.ending;
+  config = config_of (program_of m.program) m.facts m.tally m.task m.scopes m.calls m.ending;
   broken = m.broken;
 }
 
--- what a task of it has still to do
+-- what the configuration has beside its tasks and its outcome
+abbrev pub rest_by : Machine → Rest
+rest_by m = rest_of m.facts m.tally m.calls
+
+-- ## Of a task of it
+-- what it has still to do
 abbrev pub control_by : Machine → Task → List Item
 control_by m t = control_of (around (program_of m.program)) t.frames
+
+-- its layers
+abbrev pub layers_by : Machine → Task → List Layer
+layers_by m t = own_layers (own_of t.frames) (layers_of m.scopes)
+
+-- what it waits for
+abbrev pub wait_by : Machine → Task → Wait
+wait_by m t = wait_view (around (program_of m.program)) t.wait
+
+-- ## What `main` wants
+-- it is to take a step, which wants this kind of event
+pub record StepsBy (m : Machine) (kind : NextKind) : Type 0 where
+  pub task : Task
+  pub is : m.task ≡ Some task
+  pub running : m.ending ≡ Running
+  pub awake : call_in task.wait ≡ None
+  pub wanted : next_kind (program_of m.program) (control_by m task) ≡ kind
+
+-- it is to take no step, or none of this kind
+abbrev pub StepsNot : Machine → Type 0
+StepsNot m = (t : Task) → m.task ≡ Some t → m.ending ≡ Running → is_some (call_in t.wait) ≡ true
+
+abbrev pub WantsNot : Machine → NextKind → Type 0
+WantsNot m kind = (t : Task) → m.task ≡ Some t → m.ending ≡ Running → (is_some (call_in t.wait) ≡ true) ⊎ (next_kind (program_of m.program) (control_by m t) ≡ kind → ⊥)
+
+-- it waits for the answer of call n, whose due moment is at or before a reading
+pub record DuesBy (m : Machine) (n reading : ℕ) : Type 0 where
+  pub task : Task
+  pub is : m.task ≡ Some task
+  pub running : m.ending ≡ Running
+  pub waits : call_in task.wait ≡ Some n
+  pub moment : ℕ
+  pub due : call_due (call_by (rest_by m) n) ≡ Some moment
+  pub come : moment ≤ reading
+
+-- it waits for none whose due moment is
+abbrev pub DuesNot : Machine → ℕ → Type 0
+DuesNot m reading = (t : Task) → m.task ≡ Some t → m.ending ≡ Running → is_by reading (due_for (rest_by m) (wait_by m t)) ≡ false
+
+-- the last reading behind a step
+abbrev pub last_by : NextKind → ℕ → ℕ → ℕ
+last_by Plainly reading last = last
+last_by ByClock reading last = reading
+last_by ByCall reading last = reading

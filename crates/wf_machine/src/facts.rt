@@ -6,13 +6,13 @@ ghost use Rattle.wf_machine.specs.Facts.{facts_of, facts_view};
 use std::alloc::Global;
 use wf_events::{Start, copy_routes};
 use wf_frames::Facts as StepFacts;
-use wf_host::Routes;
+use wf_moves::Sending;
 use wf_value::OutOfMemory;
 
-/// What no event of an execution changes, and the reading of the clock that a step sees.
+/// What no event of an execution changes, and what a step sees of the rest: the reading of the clock, and how many calls were made.
 pub(crate) struct Facts {
     pub(crate) of_step: StepFacts,
-    routes: Routes,
+    pub(crate) sending: Sending,
 }
 
 // Written, and not derived: it is one call wherever facts are let go.
@@ -20,13 +20,13 @@ impl Drop for Facts {
     fn drop(self) {
         let Facts {
             of_step: _,
-            routes: _,
+            sending: _,
         } = self;
     }
 }
 
 impl Facts {
-    /// Those of a start. No step has seen the clock.
+    /// Those of a start. No step has seen the clock, and no call was made.
     pub(crate) fn of(alloc: Global, start: &Start) -> Result<Facts, OutOfMemory>
         ensures { IfOk result (λ f. facts_view f ≡ facts_of (start_view start.now)) }
     {
@@ -37,7 +37,10 @@ impl Facts {
                 id: start.id.copy()?,
                 env: start.env.copy(alloc)?,
             },
-            routes: copy_routes(alloc, &start.routes)?,
+            sending: Sending {
+                routes: copy_routes(alloc, &start.routes)?,
+                calls: 0,
+            },
         })
     }
 }

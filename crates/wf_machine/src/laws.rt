@@ -1,29 +1,29 @@
-// Laws of machines. The function does nothing; its clause is the law.
+// Laws of machines. The functions do nothing; their clauses are the laws.
 ghost use Rattle.std.specs.Prelude.{◌≡◌, false};
-ghost use Rattle.wf_machine.specs.Laws.{OnlyMoves};
+ghost use Rattle.wf_machine.specs.Laws.{AnswersLead, IsSound};
 ghost use Rattle.wf_machine.specs.Seen.{state_of};
-ghost use Rattle.wf_model.specs.Config.{Active};
-ghost use Rattle.wf_model.specs.WaitLaws.{Sound};
 
 use crate::machine::Machine;
-use wf_model::{laws_of_choice, laws_of_waits};
+use wf_alone::laws_of_waiting;
+use wf_never_wrong::never_wrong;
 
-/// Carries what a machine does while its programs neither wait nor call: until it has ended something can move at each reading; what it
-/// chooses counts against the limit; and in its place could come only the same move at another reading, and a cancelling.
-pub fn only_moves(machine: &Machine)
+/// Carries that an answer can come. Until the execution has ended, each answer to an open call can be applied, whatever it says, at each
+/// reading that isn't below the last one.
+pub fn answers_lead(machine: &Machine)
     requires { (state_of machine.now).broken ≡ false }
-    ensures { OnlyMoves (state_of machine.now) }
+    ensures { AnswersLead (state_of machine.now) }
 {
-    laws_of_choice();
+    laws_of_waiting();
+    never_wrong();
     let _ = machine;
 }
 
-/// Carries that the configuration of a machine is sound until it has ended: whoever waits for a call waits for an open one of its own, and
-/// `main` lives.
+/// Carries that calls are awaited. Until the execution has ended, an open call is one for whose answer `main` waits, and `main` waits
+/// for none but an open call.
 pub fn is_sound(machine: &Machine)
     requires { (state_of machine.now).broken ≡ false }
-    ensures { (state_of machine.now).config.outcome ≡ Active → ∥ Sound (state_of machine.now).config ∥₁ }
+    ensures { IsSound (state_of machine.now) }
 {
-    laws_of_waits();
+    laws_of_waiting();
     let _ = machine;
 }

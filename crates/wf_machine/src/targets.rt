@@ -1,24 +1,25 @@
 // What calls name.
-ghost use Rattle.std.specs.Prelude.{◌≡◌, IfOk, IfSome, None, Some, false, is_some, option_map, true};
+ghost use Rattle.std.specs.Prelude.{◌≡◌, IfOk, IfSome, List, None, Some, false, is_some, true};
 ghost use Rattle.wf_ast.specs.Flows.{flow};
-ghost use Rattle.wf_ast.specs.Func.{func_named};
+ghost use Rattle.wf_ast.specs.Tree.{Flow};
 ghost use Rattle.wf_check.specs.Seen.{nodes_of, program_of};
 ghost use Rattle.wf_eval.specs.Built.{is_built};
 ghost use Rattle.wf_machine.specs.Main.{Aims};
-ghost use Rattle.wf_nodes.specs.Spots.{spots};
+ghost use Rattle.wf_nodes.specs.Spots.{Spot, spots};
 ghost use Rattle.wf_nodes.specs.declared.node.CallNode as call_node;
 ghost use Rattle.wf_nodes.specs.declared.node.NodeKind.TheVariants as kind;
-ghost use Rattle.wf_steps.specs.Built.{IsTarget, IsWorkflow, function_parts, listed};
+ghost use Rattle.wf_steps.specs.Built.{IsTarget, IsWorkflow};
 
 use std::alloc::Global;
 use wf_check::Checked;
 use wf_eval::is_built;
 use wf_library::{Function, function_named};
 use wf_nodes::{Node, NodeKind};
-use wf_steps::Target;
+use wf_steps::{Target, http_named};
 use wf_value::OutOfMemory;
 
-/// What each call names, at the call's own number; none where a call names neither a workflow nor a function that is built.
+/// What each call names, at the call's own number; none where a call names neither a workflow, nor a function that is built, nor a call
+/// of HTTP.
 pub(crate) fn targets_of(
     alloc: Global,
     program: &Checked,
@@ -50,14 +51,25 @@ fn target(program: &Checked, node: &Node) -> Option<Target>
     }
 }
 
-// What may be called by a name: the workflow of that name, and where there is none a function.
+// What may be called by a name: the workflow of that name, where there is none a function, and where that isn't one either a call of HTTP.
 fn named(program: &Checked, name: &str) -> Option<Target>
     ensures { IfSome result (λ t. IsTarget (program_of program.now).flows
         (spots (program_of program.now).flows) (Some t) name.now) }
 {
     match flow(program, name) {
         Some(flow) => Some(Target::Flow(flow)),
-        None => Some(Target::Function(function(name)?)),
+        None => listed(name),
+    }
+}
+
+// The function of a name, or the call of HTTP.
+fn listed(name: &str) -> Option<Target>
+    ensures { IfSome result (λ t. (fs : List Flow) (ns : List Spot)
+        → is_some (flow fs name.now) ≡ false → IsTarget fs ns (Some t) name.now) }
+{
+    match function_named(name) {
+        Some(function) => Some(Target::Function(built(function)?)),
+        None => Some(Target::Http(http_named(name)?)),
     }
 }
 
@@ -74,13 +86,10 @@ fn flow(program: &Checked, name: &str) -> Option<u32>
     }
 }
 
-// The function of a name, if it is built.
-fn function(name: &str) -> Option<Function>
-    ensures named { IfSome result (λ g. option_map listed (func_named name.now)
-        ≡ Some (function_parts g)) }
-    ensures built { IfSome result (λ g. is_built g.func ≡ true) }
+// A function, if it is built.
+fn built(function: Function) -> Option<Function>
+    ensures { IfSome result (λ g. (g ≡ function) × (is_built g.func ≡ true)) }
 {
-    let function = function_named(name)?;
     if is_built(function.func) {
         Some(function)
     } else {

@@ -1,28 +1,28 @@
 // `main`, over the table of its program.
-ghost use Rattle.std.specs.Prelude.{◌≡◌, IfOk, OnOk, Some};
+ghost use Rattle.std.specs.Prelude.{◌≡◌, IfOk, OnOk};
 ghost use Rattle.wf_ast.specs.Tree.{Program};
 ghost use Rattle.wf_check.specs.Seen.{nodes_of};
 ghost use Rattle.wf_frames.specs.Fits.{Fits};
 ghost use Rattle.wf_frames.specs.Frames.{inner};
-ghost use Rattle.wf_frames.specs.Owned.{control_of, local_of};
+ghost use Rattle.wf_frames.specs.Owned.{control_of};
 ghost use Rattle.wf_frames.specs.Sights.{Sees};
 ghost use Rattle.wf_frames.specs.Stands.{Stands};
 ghost use Rattle.wf_frames.specs.Turns.{Agrees};
+ghost use Rattle.wf_machine.specs.Causes.{ReachesFor, SuitsTo, calls_by, does_by};
 ghost use Rattle.wf_machine.specs.Main.{Aims, Begins, IsStanding, around};
 ghost use Rattle.wf_model.specs.Kinds.{next_kind};
 ghost use Rattle.wf_model.specs.Local.{Scene};
-ghost use Rattle.wf_model.specs.Move.{move};
-ghost use Rattle.wf_model.specs.Run.{main_vars};
+ghost use Rattle.wf_moves.specs.Tasks.{IsFirst, MovesSo, Stays};
+ghost use Rattle.wf_moves.specs.Waits.{CanGoOn, result_in, task_local};
+ghost use Rattle.wf_nodes.specs.Spots.{spots};
 ghost use Rattle.wf_steps.specs.Built.{AreTargets, Tells};
 ghost use Rattle.wf_steps.specs.Kinds.{kind_view};
-ghost use Rattle.wf_moves.specs.Moved.{IsGoing, IsLeft};
-ghost use Rattle.wf_moves.specs.Tasks.{IsFirst, MovesSo, went_of};
-ghost use Rattle.wf_nodes.specs.Spots.{spots};
 ghost use Rattle.wf_value.specs.Plain as values;
 
+use crate::facts::Facts;
 use std::alloc::Global;
+use wf_calls::{Calls, Closed};
 use wf_check::Checked;
-use wf_frames::Facts as StepFacts;
 use wf_moves::{Move, Task};
 use wf_scope::Scopes;
 use wf_steps::{Kind, Target};
@@ -65,26 +65,55 @@ pub(crate) fn kind_of(program: &Checked, targets: &[Target], task: &Task) -> Kin
     task.next_kind(program.nodes(), targets)
 }
 
-/// `main`'s next move. Without memory the task and the layers are only to be let go.
-pub(crate) fn advance(
+/// Why `main` goes on.
+#[derive(Drop)]
+pub(crate) enum Cause {
+    /// It takes its next step.
+    Step,
+    /// What it has waited for has come.
+    Heard(Heard),
+}
+
+/// The end of a call: how it is closed, and the value that it gives or the error that it raises.
+#[derive(Drop)]
+pub(crate) struct Heard {
+    pub(crate) call: u64,
+    pub(crate) how: Closed,
+    pub(crate) with: Result<Value, Value>,
+}
+
+/// `main` goes on for this cause. Without memory the task, the layers and the calls are only to be let go.
+pub(crate) fn go_on(
     program: &Checked,
     targets: &[Target],
+    facts: &Facts,
     task: &mut Task,
     scopes: &mut Scopes,
-    facts: &StepFacts,
+    calls: &mut Calls,
+    cause: Cause,
 ) -> Result<Move, OutOfMemory>
     ghost plain: { Program }
     requires tells { Tells (spots plain.flows) (nodes_of program.now) }
     requires aims { Aims plain (nodes_of program.now) targets.now }
     requires stands { Stands (around plain) (nodes_of program.now) task.old.frames scopes.old }
-    requires going { IsGoing (nodes_of program.now) (inner task.old.frames) }
-    ensures moved { IfOk result (λ m. (s : Scene) → Sees s facts.entry.now → Agrees s (around plain)
-        → MovesSo (move s (local_of (around plain) task.old.frames scopes.old)) m
-        (local_of (around plain) task.new.frames scopes.new)) }
+    requires going { CanGoOn (nodes_of program.now) task.old }
+    requires suits { SuitsTo cause task.old }
+    ensures moved { IfOk result (λ m. (s : Scene) → Sees s facts.now.of_step
+        → ReachesFor cause s facts.now.sending → Agrees s (around plain)
+        → MovesSo (does_by cause (result_in (around plain) task.old.wait) s
+        (task_local (around plain) task.old scopes.old)) m
+        (task_local (around plain) task.new scopes.new)) }
+    ensures calls { OnOk result (calls.new ≡ calls_by cause calls.old) }
     ensures stands { OnOk result (Stands (around plain) (nodes_of program.now) task.new.frames
         scopes.new) }
-    ensures left { IfOk result (λ m. IsLeft (nodes_of program.now) (went_of m)
-        (inner task.new.frames)) }
+    ensures left { IfOk result (λ m. Stays (nodes_of program.now) m task.new) }
 {
-    task.advance(program.nodes(), targets, scopes, facts)
+    let nodes = program.nodes();
+    match cause {
+        Cause::Step => task.advance(nodes, targets, scopes, &facts.of_step, &facts.sending),
+        Cause::Heard(heard) => {
+            calls.close(heard.call, heard.how);
+            task.go_on(nodes, scopes, heard.with)
+        }
+    }
 }

@@ -3,7 +3,7 @@ use Rattle.std.proofs.Common.{inl, inr, refl, sym, ap, ◌∙◌, arith, subst}
 use Rattle.wf_alone.proofs.Reached.{reached_first}
 use Rattle.wf_check.specs.Seen.{nodes_of, program_of}
 use Rattle.wf_events.specs.View.{start_view}
-use Rattle.wf_machine.proofs.Begun.{EndingFor, begins_so, ending_for, runs_with, shallow_first}
+use Rattle.wf_machine.proofs.Begun.{EndingFor, begins_so, ending_for, first_tally, runs_with, shallow_first}
 use Rattle.wf_machine.proofs.Places.{tells_of}
 use Rattle.wf_machine.proofs.machine.Machine.new.Goals as goal
 use Rattle.wf_machine.proofs.machine.Machine.new.Goals.{then-is_some, else-is_some}
@@ -26,8 +26,8 @@ invariant_of-result-clause-reached c =
     let s = start_view c.args.start.now in
     let p = program_of c.args.program in
     let e : EndingFor c.in_ok-task.task c.if-is_some.ending = ending_for c.in_ok-task.task c.if-is_some.ending (elim c.if-is_some.branch [ then-is_some w ↦ inl (sym c.is_some.ensures ∙ w.if-is_some.true, w.ending-is) | else-is_some w ↦ inr (sym c.is_some.ensures ∙ w.if-is_some.false, w.ending-is) ]) in
-    ∣ (λ some. reached_first p s (config_of p c.in_ok-facts.facts c.args.start.now.reading c.in_ok-task.task c.first_task.new.scopes 0 c.if-is_some.ending)
-    (begins_so p s (nodes_of c.args.program) c.in_ok-task.task c.first_task.new.scopes c.if-is_some.ending c.in_ok-facts.facts (subst (λ v. Begins p v c.in_ok-task.task c.first_task.new.scopes) c.in_ok-argument.ensures c.in_ok-task.ensures.begins) c.in_ok-task.ensures.standing e c.in_ok-facts.ensures)) ∣₁
+    ∣ (λ some. reached_first p s (config_of p c.in_ok-facts.facts (first_tally s) c.in_ok-task.task c.first_task.new.scopes c.new-2.result c.if-is_some.ending)
+    (begins_so p s (nodes_of c.args.program) c.in_ok-task.task c.first_task.new.scopes c.new-2.result c.if-is_some.ending c.in_ok-facts.facts (subst (λ v. Begins p v c.in_ok-task.task c.first_task.new.scopes) c.in_ok-argument.ensures c.in_ok-task.ensures.begins) c.in_ok-task.ensures.standing e c.new-2.ensures c.in_ok-facts.ensures)) ∣₁
 
 pub invariant_of-result-clause-running : goal.invariant_of-result-clause-running
 invariant_of-result-clause-running c =
@@ -45,8 +45,8 @@ pub returns-clause-initial : goal.returns-clause-initial
 returns-clause-initial c =
     let s = start_view c.args.start.now in
     let p = program_of c.args.program in
-    begins_so p s (nodes_of c.args.program) c.in_ok-task.task c.first_task.new.scopes c.if-is_some.ending c.in_ok-facts.facts (subst (λ v. Begins p v c.in_ok-task.task c.first_task.new.scopes) c.in_ok-argument.ensures c.in_ok-task.ensures.begins) c.in_ok-task.ensures.standing
-    (ending_for c.in_ok-task.task c.if-is_some.ending (elim c.if-is_some.branch [ then-is_some w ↦ inl (sym c.is_some.ensures ∙ w.if-is_some.true, w.ending-is) | else-is_some w ↦ inr (sym c.is_some.ensures ∙ w.if-is_some.false, w.ending-is) ])) c.in_ok-facts.ensures
+    begins_so p s (nodes_of c.args.program) c.in_ok-task.task c.first_task.new.scopes c.new-2.result c.if-is_some.ending c.in_ok-facts.facts (subst (λ v. Begins p v c.in_ok-task.task c.first_task.new.scopes) c.in_ok-argument.ensures c.in_ok-task.ensures.begins) c.in_ok-task.ensures.standing
+    (ending_for c.in_ok-task.task c.if-is_some.ending (elim c.if-is_some.branch [ then-is_some w ↦ inl (sym c.is_some.ensures ∙ w.if-is_some.true, w.ending-is) | else-is_some w ↦ inr (sym c.is_some.ensures ∙ w.if-is_some.false, w.ending-is) ])) c.new-2.ensures c.in_ok-facts.ensures
 
 pub invariant_of-result-clause-aims : goal.invariant_of-result-clause-aims
 invariant_of-result-clause-aims c =

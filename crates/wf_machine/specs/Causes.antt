@@ -1,0 +1,71 @@
+-- Why `main` goes on.
+--     does_by, calls_by     what it does, and the calls then
+--     SuitsTo               it waits for what comes, or for nothing
+--     ReachesFor            what it sees of the calls
+--     Comes, Stops          where an event leads a machine
+use Rattle.std.specs.Prelude.{◌≡◌, ◌≤◌, ℕ, true, is_some, List, None, Some, Option, IfErr}
+use Rattle.wf_alone.specs.Machine.{config_by, main_at, main_local, main_scene}
+use Rattle.wf_calls.specs.Numbers.{closed_at}
+use Rattle.wf_calls.specs.View.{closed_view}
+use Rattle.wf_check.specs.Seen.{program_of}
+use Rattle.wf_machine.specs.Main.{around, rest_of, tasks_view}
+use Rattle.wf_machine.specs.Seen.{control_by, layers_by, state_of, wait_by}
+use Rattle.wf_machine.specs.declared.ending.Ending.TheVariants.{Running}
+use Rattle.wf_machine.specs.declared.machine.Machine.{Machine}
+use Rattle.wf_machine.specs.declared.machine.Tally.{Tally}
+use Rattle.wf_machine.specs.declared.task.Cause.{Cause}
+use Rattle.wf_machine.specs.declared.task.Cause.TheVariants as cause
+use Rattle.wf_model.specs.Config.{Call, Raised, To}
+use Rattle.wf_model.specs.Local.{Local, Moved, Scene}
+use Rattle.wf_model.specs.Move.{resumed}
+use Rattle.wf_model.specs.Step.{next}
+use Rattle.wf_model.specs.Taken.{merged}
+use Rattle.wf_moves.specs.Requests.{Reaches}
+use Rattle.wf_moves.specs.Stepped.{stepped}
+use Rattle.wf_moves.specs.Waits.{answer_view, call_in, result_in}
+use Rattle.wf_moves.specs.declared.sending.Sending.{Sending}
+use Rattle.wf_moves.specs.declared.task.Task.{Task}
+use Rattle.wf_shared.specs.Events.{Event}
+use Rattle.wf_value.specs.Data.{depth}
+use Rattle.wf_value.specs.Errors.{error_map}
+use Rattle.wf_value.specs.Pairs.{Text}
+use Rattle.wf_value.specs.Plain.{plain}
+use Rattle.wf_value.specs.declared.Tag.TheVariants.{ResourceLimitError}
+
+-- what it does, where this variable takes what comes
+abbrev pub does_by : Cause → Option Text → Scene → Local → Moved
+does_by cause.Step v s l = stepped s l
+does_by (cause.Heard h) v s l = resumed s v (answer_view h.with) l
+
+-- the calls then: the one that was heard of is closed
+abbrev pub calls_by : Cause → List Call → List Call
+calls_by cause.Step calls = calls
+calls_by (cause.Heard h) calls = closed_at calls h.call (closed_view h.how)
+
+-- a step is taken by a task that doesn't wait; what comes is given to one that does, and an error nests at most 100 deep
+abbrev pub SuitsTo : Cause → Task → Type 0
+SuitsTo cause.Step t = call_in t.wait ≡ None
+SuitsTo (cause.Heard h) t = (is_some (call_in t.wait) ≡ true) × IfErr h.with (λ e. depth (plain e) ≤ 100)
+
+-- what a step sees of the calls; what comes sees nothing of them
+abbrev pub ReachesFor : Cause → Scene → Sending → Type 0
+ReachesFor cause.Step s x = Reaches s x
+ReachesFor (cause.Heard h) s x = Unit {0}
+
+-- by an event `main` goes on for this cause at the reading `now`, and all else stands so then
+pub record Comes (m : Machine) (c : Cause) (now : ℕ) (y : Tally) (e : Event) : Type 0 where
+  pub task : Task
+  pub is : m.task ≡ Some task
+  pub running : m.ending ≡ Running
+  pub suits : SuitsTo c task
+  pub leads : next (program_of m.program) (state_of m).config e
+      ≡ merged 0 None
+      (does_by c (result_in (around (program_of m.program)) task.wait) (main_scene (program_of m.program) (rest_of m.facts y (calls_by c m.calls)) now)
+      (main_local (control_by m task) (layers_by m task) (wait_by m task)))
+      (main_at (rest_of m.facts y (calls_by c m.calls)) (control_by m task) (layers_by m task) (wait_by m task))
+
+-- by an event the execution ends at a limit, and all else stands so then
+abbrev pub Stops : Machine → Tally → Event → Type 0
+Stops m y e =
+    next (program_of m.program) (state_of m).config e
+    ≡ To (config_by (rest_of m.facts y m.calls) (tasks_view (program_of m.program) m.task m.scopes) (Raised (error_map ResourceLimitError)))

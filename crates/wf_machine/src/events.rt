@@ -1,0 +1,102 @@
+// Events that are applied.
+ghost use Rattle.std.specs.Prelude.{◌≡◌, ◌≤◌, ◌↔◌, ◌+◌, true, false, unwrap_or, OnErr, OnOk, IsErrOf};
+ghost use Rattle.wf_events.specs.View.{event_view};
+ghost use Rattle.wf_machine.specs.Applied.{Applied};
+ghost use Rattle.wf_machine.specs.Counts.{counts};
+ghost use Rattle.wf_machine.specs.Seen.{state_of};
+ghost use Rattle.wf_model.specs.ChoiceLaws.{reading_of};
+ghost use Rattle.wf_model.specs.Config.{Config, To};
+ghost use Rattle.wf_model.specs.Step.{next};
+
+use crate::machine::Machine;
+use crate::steps::Steps;
+use std::sync::ledger::Ledger;
+use wf_events::Event;
+use wf_steps::Kind;
+use wf_value::OutOfMemory;
+
+/// An event that wasn't applied.
+#[derive(Debug, Clone, Copy, PartialEq, Eq)]
+pub enum ApplyFault {
+    /// The event can't come now: it isn't `main`'s next step, nor an answer to an open call, nor has its due moment come; or its reading
+    /// is below the last one, or the execution has ended. The machine stays as it was.
+    NotEnabled,
+    /// There was no memory. The machine is broken from then on: each later `apply` answers this too, and what it shows is of no use.
+    OutOfMemory,
+}
+
+impl From<OutOfMemory> for ApplyFault {
+    ghost use Rattle.wf_machine.specs.declared.events.ApplyFault.TheVariants.{OutOfMemory};
+    ghost use Rattle.std.specs.Prelude.{◌≡◌};
+
+    ghost from_gives = { λ _ e. e ≡ OutOfMemory };
+
+    fn from(_refused: OutOfMemory) -> ApplyFault {
+        ApplyFault::OutOfMemory
+    }
+}
+
+impl Machine {
+    /// Applies the event, if it can come now, and counts it as a step. A move or an issue also counts against the limit: the one with
+    /// the number 100,000 ends the execution with a `ResourceLimitError` and isn't carried out. So does an answer whose body would lift
+    /// the sum of all bodies past 67,108,864 bytes, and its call stays open. Raising an error of the program is no fault: it is an
+    /// outcome.
+    ///
+    /// It answers `NotEnabled` where the event can't come, and the machine stays as it was. It answers `OutOfMemory` where memory ran
+    /// out, now or earlier: the machine is broken then, and can't be used further. Neither is a step.
+    pub fn apply<L: Ledger>(
+        &mut self,
+        event: &Event,
+        steps: &mut Steps<L>,
+    ) -> Result<(), ApplyFault>
+        ensures applied { OnOk result (next (state_of self.old).program (state_of self.old).config
+            (event_view event.now) ≡ To (state_of self.new).config) }
+        ensures whole { OnOk result ((state_of self.old).broken ≡ false) }
+        ensures not_enabled { IsErrOf result ApplyFault.NotEnabled → (d : Config)
+            → next (state_of self.old).program (state_of self.old).config (event_view event.now)
+            ≡ To d → ⊥ }
+        ensures stays { IsErrOf result ApplyFault.NotEnabled
+            → state_of self.new ≡ state_of self.old }
+        ensures program { (state_of self.new).program ≡ (state_of self.old).program }
+        ensures counted { OnOk result ((state_of self.new).config.moves
+            ≡ (state_of self.old).config.moves + counts (event_view event.now)) }
+        ensures steps { OnOk result (steps.new ≡ steps.old + 1) }
+        ensures no_step { OnErr result (steps.new ≡ steps.old) }
+        // The event's reading, if it has one, becomes the last one.
+        ensures last { OnOk result ((state_of self.new).config.last
+            ≡ unwrap_or (reading_of (event_view event.now)) (state_of self.old).config.last) }
+        ensures most { (state_of self.new).config.moves ≤ 100000 }
+        // After want of memory, and only then, the machine is broken.
+        ensures broken { ((state_of self.new).broken ≡ true)
+            ↔ IsErrOf result ApplyFault.OutOfMemory }
+        ensures stays_broken { (state_of self.old).broken ≡ true
+            → IsErrOf result ApplyFault.OutOfMemory }
+    {
+        if self.broken {
+            return Err(ApplyFault::OutOfMemory);
+        }
+        match self.carry_out(event) {
+            Ok(()) => {
+                steps.tick();
+                Ok(())
+            }
+            Err(fault) => Err(fault),
+        }
+    }
+
+    /// Carries the event out, by its kind.
+    fn carry_out(&mut self, event: &Event) -> Result<(), ApplyFault>
+        requires { self.old.broken ≡ false }
+        ensures { Applied (state_of self.old) (state_of self.new) (event_view event.now) result }
+    {
+        match event {
+            Event::Move(task) => self.apply_step(Kind::Plain, *task, 0),
+            Event::MoveAt(task, reading) => self.apply_step(Kind::Clock, *task, *reading),
+            Event::Issue(task, reading) => self.apply_step(Kind::Call, *task, *reading),
+            Event::Answer(call, reading, reply) => self.apply_answer(*call, *reading, reply),
+            Event::Due(task, reading) => self.apply_due(*task, *reading),
+            // no branch begins, and no endpoint takes requests
+            Event::Begin(_) | Event::Arrive(_, _, _) => Err(ApplyFault::NotEnabled),
+        }
+    }
+}

@@ -1,0 +1,175 @@
+// Steps that `main` takes.
+ghost use Rattle.std.specs.Prelude.{◌≡◌, ◌<◌, ◌≤◌, ◌↔◌, true, false, IfSome, IsErr, IsFalse, IsNone, IsTrue, OnOk};
+ghost use Rattle.wf_alone.specs.Machine.{seen_by};
+ghost use Rattle.wf_machine.specs.Applied.{Applied};
+ghost use Rattle.wf_machine.specs.Causes.{Comes, Stops};
+ghost use Rattle.wf_machine.specs.Seen.{StepsBy, StepsNot, WantsNot, last_by, state_of};
+ghost use Rattle.wf_model.specs.Choose.{wanted};
+ghost use Rattle.wf_model.specs.Config.{To};
+ghost use Rattle.wf_model.specs.Step.{next};
+ghost use Rattle.wf_shared.specs.Events.{Event as AnyEvent};
+ghost use Rattle.wf_steps.specs.Kinds.{kind_view};
+
+use crate::ending::{Ending, ending_of};
+use crate::events::ApplyFault;
+use crate::machine::{Machine, Tally};
+use crate::task::{Cause, go_on, kind_of};
+use wf_never_wrong::never_wrong;
+use wf_steps::Kind;
+use wf_value::{OutOfMemory, Tag, error_map};
+
+/// The counted event with this number isn't carried out: it ends the execution with a `ResourceLimitError`.
+const MOVE_LIMIT: u64 = 100_000;
+
+/// The reading of the clock that a step sees, and the last reading behind it, both in milliseconds since 1970.
+#[derive(Clone, Copy)]
+struct Readings {
+    now: u64,
+    last: u64,
+}
+
+/// What a step of this kind sees at a reading, where `last` is the last one. One that reads no clock sees 0, which it doesn't look at.
+fn readings_of(kind: Kind, reading: u64, last: u64) -> Readings
+    ensures now { result.now ≡ seen_by (kind_view kind) reading }
+    ensures last { result.last ≡ last_by (kind_view kind) reading last }
+{
+    match kind {
+        Kind::Plain => Readings { now: 0, last },
+        Kind::Clock | Kind::Call => Readings {
+            now: reading,
+            last: reading,
+        },
+    }
+}
+
+impl Machine {
+    /// The kind of event that `main`'s next step wants; none where the execution or `main` has ended, and none where it waits.
+    pub(crate) fn wanted_kind(&self) -> Option<Kind>
+        ensures some { IfSome result (λ q. StepsBy self.now (kind_view q)) }
+        ensures none { IsNone result → StepsNot self.now }
+    {
+        if !self.ending.is_running() {
+            return None;
+        }
+        let Some(task) = &self.task else {
+            return None;
+        };
+        match task.call() {
+            Some(_) => None,
+            None => Some(kind_of(&self.program, self.targets.as_slice(), task)),
+        }
+    }
+
+    /// Whether `main`'s next step wants an event of this kind.
+    fn wants(&self, kind: Kind) -> bool
+        ensures some { IsTrue result → StepsBy self.now (kind_view kind) }
+        ensures none { IsFalse result → WantsNot self.now (kind_view kind) }
+    {
+        match self.wanted_kind() {
+            Some(wanted) => wanted == kind,
+            None => false,
+        }
+    }
+
+    /// Takes a step of a task, where it is `main` and wants an event of this kind. It counts: the one with the number 100,000 isn't
+    /// carried out, and ends the execution.
+    pub(crate) fn apply_step(
+        &mut self,
+        kind: Kind,
+        task: u32,
+        reading: u64,
+    ) -> Result<(), ApplyFault>
+        requires { self.old.broken ≡ false }
+        ensures { Applied (state_of self.old) (state_of self.new)
+            (wanted (kind_view kind) task reading) result }
+    {
+        let readings = readings_of(kind, reading, self.tally.last);
+        if task != 0 || !self.wants(kind) || readings.last < self.tally.last {
+            return Err(ApplyFault::NotEnabled);
+        }
+        let tally = Tally {
+            last: readings.last,
+            moves: self.tally.moves + 1,
+            bodies: self.tally.bodies,
+        };
+        if tally.moves < MOVE_LIMIT {
+            Ok(self.carry_on(Cause::Step, readings.now, tally)?)
+        } else {
+            Ok(self.stop(tally)?)
+        }
+    }
+
+    /// `main` goes on for this cause, and the rest stands so behind it. Without memory the machine is broken.
+    pub(crate) fn carry_on(
+        &mut self,
+        cause: Cause,
+        now: u64,
+        tally: Tally,
+    ) -> Result<(), OutOfMemory>
+        requires whole { self.old.broken ≡ false }
+        requires comes { (e : AnyEvent) × Comes self.old cause now tally e }
+        requires below { tally.moves < 100000 }
+        requires bounded { tally.bodies ≤ 67108864 }
+        ensures moved { OnOk result ((e : AnyEvent) → Comes self.old cause now tally e
+            → next (state_of self.old).program (state_of self.old).config e
+            ≡ To (state_of self.new).config) }
+        ensures program { (state_of self.new).program ≡ (state_of self.old).program }
+        ensures tally { OnOk result (self.new.tally ≡ tally) }
+        ensures broken { (self.new.broken ≡ true) ↔ IsErr result }
+    {
+        never_wrong();
+        let Some(mut task) = self.task.take() else {
+            unreachable!()
+        };
+        self.facts.of_step.now = now;
+        self.facts.sending.calls = self.calls.count();
+        let Ok(did) = go_on(
+            &self.program,
+            self.targets.as_slice(),
+            &self.facts,
+            &mut task,
+            &mut self.scopes,
+            &mut self.calls,
+            cause,
+        ) else {
+            self.broken = true;
+            return Err(OutOfMemory);
+        };
+        let Ok(ending) = ending_of(did, &mut self.calls) else {
+            self.broken = true;
+            return Err(OutOfMemory);
+        };
+        self.tally = tally;
+        self.ending = ending;
+        if self.ending.is_running() {
+            self.task = Some(task);
+        }
+        Ok(())
+    }
+
+    /// The end at a limit: nothing of the event is carried out. Without memory the machine is broken.
+    pub(crate) fn stop(&mut self, tally: Tally) -> Result<(), OutOfMemory>
+        requires whole { self.old.broken ≡ false }
+        requires comes { (e : AnyEvent) × Stops self.old tally e }
+        requires most { tally.moves ≤ 100000 }
+        requires bounded { tally.bodies ≤ 67108864 }
+        ensures moved { OnOk result ((e : AnyEvent) → Stops self.old tally e
+            → next (state_of self.old).program (state_of self.old).config e
+            ≡ To (state_of self.new).config) }
+        ensures program { (state_of self.new).program ≡ (state_of self.old).program }
+        ensures tally { OnOk result (self.new.tally ≡ tally) }
+        ensures broken { (self.new.broken ≡ true) ↔ IsErr result }
+    {
+        match error_map(self.alloc, Tag::ResourceLimitError) {
+            Ok(error) => {
+                self.tally = tally;
+                self.ending = Ending::Raised(error);
+                Ok(())
+            }
+            Err(_) => {
+                self.broken = true;
+                Err(OutOfMemory)
+            }
+        }
+    }
+}
