@@ -136,7 +136,14 @@ fn make<L: Ledger>(
 ) -> Result<(), CaseFault> {
     match items_of(call)? {
         [Value::Text(name), number] if !is_event(name.as_str()) => {
-            ask(machine, name.as_str(), number_of(number)?, alloc, out, steps)
+            ask(
+                machine,
+                name.as_str(),
+                number_of(number)?,
+                alloc,
+                out,
+                steps,
+            )
         }
         items => {
             let event = event_of(alloc, items)?;
