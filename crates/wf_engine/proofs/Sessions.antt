@@ -26,8 +26,8 @@ use Rattle.wf_journal.specs.Records.{records}
 use Rattle.wf_journal.specs.Steps.{Begun, Moment, begun_over, part_goes_on, record_goes_on, still_begun}
 use Rattle.wf_machine.specs.Lent.{outcome_view}
 use Rattle.wf_machine.specs.Outcome.{IsResult}
-use Rattle.wf_machine.specs.declared.machine.Outcome.{Outcome}
-use Rattle.wf_machine.specs.declared.machine.Outcome.TheVariants as outcome
+use Rattle.wf_machine.specs.declared.Outcome.{Outcome}
+use Rattle.wf_machine.specs.declared.Outcome.TheVariants as outcome
 use Rattle.wf_model.specs.Config as plain
 use Rattle.wf_model.specs.Config.{Active, Config}
 use Rattle.wf_model.specs.Ready.{quiet}
