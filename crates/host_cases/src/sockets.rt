@@ -116,7 +116,14 @@ fn take<H: Host>(
             Ok(out.push('+')?)
         }
         _ => match items_of(step)? {
-            [Value::Text(word), number] => one(host, service, word.as_str(), number_of(number)?, alloc, out),
+            [Value::Text(word), number] => one(
+                host,
+                service,
+                word.as_str(),
+                number_of(number)?,
+                alloc,
+                out,
+            ),
             [Value::Text(word), number, bytes] if word.as_str() == "say" => {
                 let bytes = bytes_of(alloc, bytes)?;
                 say(service.stream(number_of(number)?)?, &bytes, out)

@@ -1,6 +1,6 @@
 -- No visit is ahead of a host in memory.
 use Rattle.std.proofs.Common.{◌≡◌, ℕ, Bool, true, false, cond, if◌then◌else◌, leb, length, List, [], ◌∷◌, ◌++◌, drop, filter, Option, None, Some, not, refl}
-use Rattle.std.specs.Prelude.{Vec, ◌==◌}
+use Rattle.std.specs.Prelude.{⊤, Vec, ◌==◌}
 use Rattle.std.specs.Global.{Global}
 use Rattle.wf_host.specs.declared.data.Deed.{Deed}
 use Rattle.wf_host.specs.declared.data.Deed.TheVariants.{Start, Poll, Now, Reply, Drop, Print}

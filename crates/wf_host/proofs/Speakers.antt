@@ -8,7 +8,7 @@ use Rattle.std.proofs.lemmas.List.{length-take}
 use Rattle.wf_host.specs.declared.data.What.{What}
 use Rattle.wf_host.specs.declared.data.What.TheVariants.{Nothing, Bytes, End, Broken, Visit, VisitEnd}
 use Rattle.wf_host.specs.World.{piece_len}
-use Rattle.wf_host.specs.Ahead.{Line, Ahead, piece_limit, next_thing, front, speaks, spoken, first_of, next_of, told, any_speaks}
+use Rattle.wf_host.specs.Ahead.{Line, Ahead, piece_limit, next_thing, front, speaks, spoken, first_of, next_of, told}
 
 abbrev first : ℕ → List Line → ℕ
 first polls [] = 0

@@ -106,7 +106,6 @@ impl<R: Files<File = File> + Clock + Print + Drop> FileHost<R> {
         self.poll_faults = self.poll_faults.saturating_add(1);
         PollError::Failed
     }
-
 }
 
 impl<R: Files<File = File> + Clock + Print + Net + Drop> FileHost<R> {

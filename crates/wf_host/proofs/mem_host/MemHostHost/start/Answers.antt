@@ -12,7 +12,7 @@ invariant_of-self-2 c =
     let to = c.in_ok-copy.field-0 in
     let d = Start c.args.call to c.in_ok-new.field-0 in
     let script = same_services h.progress c.begin_call-fails.new.self c.begin_call-fails.ensures.counts in
-    let line = started_line c.args.call h.outlook.polls c.services-services.result.now h.progress.services c.args.to.now to c.deeds.result.now (record_world h.log).deeds (option_to_list c.in_ok-speaker.speaker) c.in_ok-speaker.ensures (c.services-services.ensures ∙ script.services) (sym c.in_ok-copy.ensures) c.deeds.ensures in
+    let line = started_line c.args.call h.outlook.polls c.services-services.result.now h.progress.services c.args.to.now to c.deeds.result.now (record_world h.log).deeds (option_to_list c.in_ok-speaker.speaker) c.in_ok-speaker.ensures (c.services-services.ensures ∙ script) (sym c.in_ok-copy.ensures) c.deeds.ensures in
     record {
       shown = shown_either c.start.result d (record_world h.log) w h.printed.items c.start.ensures.time refl h.shown;
       foreseen = foreseen_at h.progress c.begin_call-fails.new.self c.start.new.self w.deeds script
