@@ -11,7 +11,7 @@ use Rattle.wf_host.specs.declared.plan.Reply.{Reply as Answer}
 use Rattle.wf_host.specs.declared.plan.Close.{Close}
 use Rattle.wf_host.specs.declared.plan.Close.TheVariants.{End as Whole, Broken as Cut, Silent}
 use Rattle.wf_host.specs.World.{visit_of}
-use Rattle.wf_host.specs.Ahead.{Line, Ahead, front, back, first_of, without_first, speaks, spoken, next_of, told, next_thing, after_poll, without, answer_to, starts_to, ending, pieces, line_of, at_first, piece_limit, after_deed, ahead_from, ahead}
+use Rattle.wf_host.specs.Ahead.{Line, Ahead, front, back, first_of, without_first, speaks, spoken, next_of, told, next_thing, answer_to, starts_to, ending, pieces, line_of, at_first, piece_limit, after_deed, ahead_from, ahead}
 
 -- none of these things is of a visit
 abbrev NoVisit : List What → Type 0

@@ -1,5 +1,5 @@
 -- The line that tells something first.
-use Rattle.std.proofs.Common.{◌≡◌, ◌<◌, ◌≤◌, ◌+◌, ℕ, suc, Bool, true, false, cond, if◌then◌else◌, List, [], ◌∷◌, length, get_or, slice_set, Option, Some, None, T, not, refl, sym, ◌∙◌, ap, subst, arith, nltb→le}
+use Rattle.std.proofs.Common.{◌≡◌, ◌<◌, ◌≤◌, ◌+◌, ℕ, suc, Bool, true, false, cond, if◌then◌else◌, List, [], ◌∷◌, length, get_or, slice_set, Some, None, T, not, refl, sym, ◌∙◌, ap, subst, arith, nltb→le}
 use Rattle.std.specs.List.{position, position_or_len}
 use Rattle.std.proofs.lemmas.List.Recursion.{is_position_or_len}
 use Rattle.std.proofs.lemmas.List.Sums.{position_or_len_is}

@@ -1,5 +1,5 @@
 -- What the services of a plan have still to tell, by the deeds so far.
-use Rattle.std.specs.Prelude.{◌≡◌, ◌==◌, ◌&&◌, not, if◌then◌else◌, ℕ, ◌+◌, ◌-◌, leb, Bool, true, false, List, [], ◌∷◌, ◌++◌, length, take, drop, filter, slice_get, min, Option, None, Some}
+use Rattle.std.specs.Prelude.{◌==◌, ◌&&◌, not, if◌then◌else◌, ℕ, ◌+◌, ◌-◌, leb, Bool, List, [], ◌∷◌, ◌++◌, length, take, drop, filter, slice_get, min, Option, None, Some}
 use Rattle.std.specs.Str.{bytes_eq}
 use Rattle.std.specs.Prelude.{Vec}
 use Rattle.std.specs.Global.{Global}

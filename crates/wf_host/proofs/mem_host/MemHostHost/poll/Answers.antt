@@ -1,4 +1,4 @@
-use Rattle.std.proofs.Common.{[], ◌≡◌, ◌≤◌, ℕ, None, refl, sym, ◌∙◌, ap, subst}
+use Rattle.std.proofs.Common.{[], ◌≤◌, refl, sym, ◌∙◌, ap, subst}
 use Rattle.std.proofs.lemmas.List.{append-nil}
 use Rattle.wf_host.specs.declared.data.What.{What}
 use Rattle.wf_host.specs.World.{Same, piece_len, visit_of}

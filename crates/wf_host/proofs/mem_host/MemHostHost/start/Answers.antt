@@ -1,5 +1,4 @@
-use Rattle.std.proofs.Common.{[], ◌++◌, ◌∙◌, ap, refl, sym, option_to_list}
-use Rattle.wf_host.specs.Stage.{Stage}
+use Rattle.std.proofs.Common.{◌∙◌, refl, sym, option_to_list}
 use Rattle.wf_host.specs.declared.data.Deed.TheVariants.{Start}
 use Rattle.wf_host.specs.CallRecord.{record_world}
 use Rattle.wf_host.proofs.Foreseen.{foreseen_either, shown_either, started_line, more_calls, foreseen_at, same_services}
