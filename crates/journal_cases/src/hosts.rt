@@ -5,6 +5,7 @@ ghost use Rattle.wf_host.specs.World.{longest, Told};
 use std::alloc::Global;
 use std::fs::{self, File, Files};
 use std::io::Print;
+use std::net::Net;
 use std::time::Clock;
 use wf_cases::{Case, CaseFault, bytes_of};
 use wf_host::{
@@ -225,7 +226,7 @@ fn write_print(
 /// the clock `later` is told, where it stands past the year 2023 and not behind an earlier reading.
 pub fn file_calls<R>(rt: R, case: &Case<'_>) -> Result<String, CaseFault>
 where
-    R: Files<File = File> + Clock + Print + AllocGlobal + Copy + Drop,
+    R: Files<File = File> + Clock + Print + Net + AllocGlobal + Copy + Drop,
 {
     let path = case.text(0)?;
     let items = items_of(case.item(1)?)?;
@@ -239,7 +240,7 @@ where
 /// Makes calls on the real host, with the journal at a path or in memory.
 fn call_real<R>(rt: R, path: &str, calls: &[Value], out: &mut String) -> Result<(), CaseFault>
 where
-    R: Files<File = File> + Clock + Print + AllocGlobal + Copy + Drop,
+    R: Files<File = File> + Clock + Print + Net + AllocGlobal + Copy + Drop,
 {
     let alloc = rt.alloc();
     let mut host = match path {
@@ -256,7 +257,7 @@ fn make_real<R>(
     out: &mut String,
 ) -> Result<(), CaseFault>
 where
-    R: Files<File = File> + Clock + Print + Drop,
+    R: Files<File = File> + Clock + Print + Net + Drop,
 {
     let mut last = 1_700_000_000_000;
     for item in calls {

@@ -8,6 +8,7 @@ use crate::hosts::write_file;
 use std::alloc::Global;
 use std::fs::{File, Files};
 use std::io::Print;
+use std::net::Net;
 use std::time::Clock;
 use wf_cases::{Case, CaseFault, bytes_of};
 use wf_host::{FileHost, Host, MemHost};
@@ -160,7 +161,7 @@ fn write_host(
 /// The same with the real host, in a file at a path, and the file at the end, which stays for the next case.
 pub fn in_a_file<R>(rt: R, case: &Case<'_>) -> Result<String, CaseFault>
 where
-    R: Files<File = File> + Clock + Print + AllocGlobal + Copy + Drop,
+    R: Files<File = File> + Clock + Print + Net + AllocGlobal + Copy + Drop,
 {
     let path = case.text(0)?;
     let items = items_of(case.item(1)?)?;
@@ -172,7 +173,7 @@ where
 
 fn make_in_file<R>(rt: R, path: &str, calls: &[Value], out: &mut String) -> Result<(), CaseFault>
 where
-    R: Files<File = File> + Clock + Print + AllocGlobal + Copy + Drop,
+    R: Files<File = File> + Clock + Print + Net + AllocGlobal + Copy + Drop,
 {
     let mut host = FileHost::with_journal(rt.alloc(), rt, path)?;
     make_all(&mut host, calls, rt.alloc(), out)

@@ -9,13 +9,14 @@ mod journals;
 use anyhow::Result;
 use std::fs::{File, Files};
 use std::io::Print;
+use std::net::Net;
 use std::time::Clock;
 use wf_cases::{Case, CaseFault, case_of};
 
 /// What is printed for a case.
 fn answer<R>(rt: R, case: &Case<'_>) -> Result<String, CaseFault>
 where
-    R: Files<File = File> + Clock + Print + AllocGlobal + Copy + Drop,
+    R: Files<File = File> + Clock + Print + Net + AllocGlobal + Copy + Drop,
 {
     let alloc = rt.alloc();
     match case.table {
@@ -35,7 +36,7 @@ where
 /// What is printed for a line.
 fn line_answer<R>(rt: R, line: &str) -> Result<String, CaseFault>
 where
-    R: Files<File = File> + Clock + Print + AllocGlobal + Copy + Drop,
+    R: Files<File = File> + Clock + Print + Net + AllocGlobal + Copy + Drop,
 {
     answer(rt, &case_of(rt.alloc(), line)?)
 }

@@ -1,3 +1,6 @@
 pub mod Replay
 pub mod Printed
 pub mod Printings
+pub mod Foreseen
+pub mod Speakers
+pub mod Alone

@@ -5,11 +5,14 @@ pub mod Printing
 pub mod Source
 pub mod MemSource
 pub mod FileSource
+pub mod Ahead
 pub mod Stage
 pub mod Memory
 pub mod Recorded
 pub mod CallRecord
+pub mod Outlook
 pub mod MemHost
 pub mod MemLaws
 pub mod Untold
 pub mod FileHost
+pub mod Sockets

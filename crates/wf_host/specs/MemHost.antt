@@ -28,4 +28,4 @@ mem_short h = h.short
 
 -- a plan before the first call
 abbrev pub first_stage : Plan → Stage
-first_stage p = record { fail = p.fail.items; stop = p.stop; clock = p.clock.items; print_room = p.print_room; calls = 0; changes = 0; ticks = 0 }
+first_stage p = record { fail = p.fail.items; stop = p.stop; clock = p.clock.items; print_room = p.print_room; services = p.services.items; calls = 0; changes = 0; ticks = 0 }

@@ -1,6 +1,8 @@
 -- What a host is seen as: a file, what a crash may leave of it, and the deeds so far.
-use Rattle.std.specs.Prelude.{◌≡◌, ◌⊎◌, ℕ, ◌+◌, ◌-◌, ◌^◌, ◌≤◌, min, max, Bool, IsTrue, List, ◌++◌, length, take, drop}
+use Rattle.std.specs.Prelude.{◌≡◌, ◌⊎◌, ℕ, ◌+◌, ◌-◌, ◌^◌, ◌≤◌, min, max, Bool, IsTrue, Option, None, Some, List, ◌++◌, length, take, drop}
 use Rattle.wf_host.specs.declared.data.Deed.{Deed}
+use Rattle.wf_host.specs.declared.data.What.{What}
+use Rattle.wf_host.specs.declared.data.What.TheVariants.{Nothing, Bytes, End, Broken, Visit, VisitEnd}
 
 pub record World : Type 1 where
   pub tells : Bool  -- whether the rest is told
@@ -69,6 +71,21 @@ pub record Elapses (step : List ℕ → List ℕ → Type 0) (deed : List Deed) 
 abbrev pub next_count : ℕ → ℕ
 next_count n = min (n + 1) (2 ^ 64 - 1)
 
+-- how many bytes are heard at once
+abbrev pub piece_len : What → ℕ
+piece_len Nothing = 0
+piece_len (Bytes k bytes) = length bytes
+piece_len (End k) = 0
+piece_len (Broken k) = 0
+piece_len (Visit n bytes) = length bytes
+piece_len (VisitEnd n) = 0
+
+-- the visit of which this is heard
+abbrev pub visit_of : What → Option ℕ
+visit_of (Visit n bytes) = Some n
+visit_of (VisitEnd n) = Some n
+visit_of w = None
+
 -- the count has risen; at the end of its type it counts as risen
 abbrev pub Rose : ℕ → ℕ → Type 0
 Rose before now = next_count before ≤ now
@@ -76,6 +93,10 @@ Rose before now = next_count before ≤ now
 -- a disk call failed
 abbrev pub disk_failed : Faults → Faults
 disk_failed f = record { disk = next_count f.disk; poll = f.poll; print = f.print }
+
+-- a poll failed
+abbrev pub poll_failed : Faults → Faults
+poll_failed f = record { disk = f.disk; poll = next_count f.poll; print = f.print }
 
 -- a print failed
 abbrev pub print_failed : Faults → Faults

@@ -27,6 +27,28 @@ pub struct Address {
     pub port: u16,
 }
 
+impl Address {
+    ghost use Rattle.std.specs.Prelude.{◌≡◌, IfOk};
+    ghost use Rattle.wf_host.specs.Ahead.{is_same};
+
+    /// An equal address.
+    pub fn copy(&self) -> Result<Address, OutOfMemory>
+        ensures { IfOk result (λ a. a ≡ self.now) }
+    {
+        Ok(Address {
+            name: self.name.copy()?,
+            port: self.port,
+        })
+    }
+
+    /// Whether it is this address.
+    pub fn is_same(&self, other: &Address) -> bool
+        ensures { result ≡ is_same self.now other.now }
+    {
+        self.name.as_str() == other.name.as_str() && self.port == other.port
+    }
+}
+
 /// What a poll heard.
 #[derive(Drop)]
 pub struct Heard {
@@ -51,6 +73,24 @@ pub enum What {
     Visit(u64, Bytes),
     /// A visit has ended.
     VisitEnd(u64),
+}
+
+impl What {
+    ghost use Rattle.std.specs.Prelude.{◌≡◌, IfOk};
+
+    /// An equal one.
+    pub fn copy(&self) -> Result<What, OutOfMemory>
+        ensures { IfOk result (λ w. w ≡ self.now) }
+    {
+        match self {
+            What::Nothing => Ok(What::Nothing),
+            What::Bytes(call, bytes) => Ok(What::Bytes(*call, bytes.copy()?)),
+            What::End(call) => Ok(What::End(*call)),
+            What::Broken(call) => Ok(What::Broken(*call)),
+            What::Visit(visit, bytes) => Ok(What::Visit(*visit, bytes.copy()?)),
+            What::VisitEnd(visit) => Ok(What::VisitEnd(*visit)),
+        }
+    }
 }
 
 /// What was done outside the disk, in the order in which it was begun.

@@ -1,10 +1,10 @@
 // The trait of the outside.
-ghost use Rattle.std.specs.Prelude.{◌≡◌, ◌≤◌, ◌+◌, ◌-◌, ◌++◌, ◌∷◌, [], min, List, ℕ, length, take, drop, IsTrue, IfOk, OnOk, OnErr, MatchResult};
+ghost use Rattle.std.specs.Prelude.{◌≡◌, ◌≤◌, ◌+◌, ◌-◌, ◌++◌, ◌∷◌, [], min, List, ℕ, length, take, drop, IsTrue, IfOk, OnOk, OnErr, IsErrOf, MatchResult, None};
 ghost use Rattle.wf_host.specs.declared.data.Deed.{Deed};
-ghost use Rattle.wf_host.specs.declared.data.Deed.TheVariants.{Now, Print};
-ghost use Rattle.wf_host.specs.World.{World, Faults, longest, Told, Holds, Torn, Same, Only, Elapses, Rose, NoneFell};
+ghost use Rattle.wf_host.specs.declared.data.Deed.TheVariants.{Start, Poll, Now, Drop, Print};
+ghost use Rattle.wf_host.specs.World.{World, Faults, longest, piece_len, visit_of, Told, Holds, Torn, Same, Only, Elapses, Rose, NoneFell};
 
-use crate::Failed;
+use crate::{Address, Failed, Heard, PollError};
 use wf_value::OutOfMemory;
 
 /// No file is longer, in bytes.
@@ -75,6 +75,37 @@ pub trait Host {
         ensures seen { Told (world self.old) ((world self.new).seen ≡ (world self.old).seen) }
         ensures time { Told (world self.old)
             (MatchResult result (λ t. Elapses Same (Now t ∷ []) (world self.old) (world self.new))
+            (λ _. Elapses Same [] (world self.old) (world self.new))) }
+        ensures tells { (world self.new).tells ≡ (world self.old).tells }
+        ensures counts { NoneFell (faults self.old) (faults self.new) };
+
+    /// Begins to send a call of this number. A connection that is refused is heard later as broken. On an error there
+    /// is no deed.
+    fn start(&mut self, call: u64, to: &Address, bytes: &[u8]) -> Result<(), OutOfMemory>
+        ensures seen { Told (world self.old) ((world self.new).seen ≡ (world self.old).seen) }
+        ensures time { Told (world self.old) (MatchResult result
+            (λ _. Elapses Same (Start call to.now bytes.now ∷ []) (world self.old) (world self.new))
+            (λ _. Elapses Same [] (world self.old) (world self.new))) }
+        ensures tells { (world self.new).tells ≡ (world self.old).tells }
+        ensures counts { NoneFell (faults self.old) (faults self.new) };
+
+    /// Waits for something to be heard, at most to a moment of the clock. On an error there is no deed.
+    fn poll(&mut self, until: u64) -> Result<Heard, PollError>
+        ensures piece { IfOk result (λ h. piece_len h.what ≤ 65536) }
+        ensures calls_alone { IfOk result (λ h. visit_of h.what ≡ None) }
+        ensures seen { Told (world self.old) ((world self.new).seen ≡ (world self.old).seen) }
+        ensures time { Told (world self.old) (MatchResult result
+            (λ h. Elapses Same (Poll until h ∷ []) (world self.old) (world self.new))
+            (λ _. Elapses Same [] (world self.old) (world self.new))) }
+        ensures tells { (world self.new).tells ≡ (world self.old).tells }
+        ensures counts { NoneFell (faults self.old) (faults self.new) }
+        ensures cause { IsErrOf result PollError.Failed → Rose (faults self.old).poll (faults self.new).poll };
+
+    /// Forgets a call, of which nothing more is heard. On an error there is no deed, and the call isn't forgotten.
+    fn drop_call(&mut self, call: u64) -> Result<(), OutOfMemory>
+        ensures seen { Told (world self.old) ((world self.new).seen ≡ (world self.old).seen) }
+        ensures time { Told (world self.old) (MatchResult result
+            (λ _. Elapses Same (Drop call ∷ []) (world self.old) (world self.new))
             (λ _. Elapses Same [] (world self.old) (world self.new))) }
         ensures tells { (world self.new).tells ≡ (world self.old).tells }
         ensures counts { NoneFell (faults self.old) (faults self.new) };

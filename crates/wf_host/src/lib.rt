@@ -1,6 +1,7 @@
 //! The outside of the engine: what is read, and one object that holds a journal file, a clock and an output.
 #![tactic(auto)]
 
+mod connection;
 mod data;
 mod disk;
 mod file_host;
@@ -8,14 +9,17 @@ mod file_source;
 mod host;
 mod journal_file;
 mod late_file;
+mod late_sockets;
 mod mem_host;
 mod mem_source;
 mod memory;
 mod moves;
+mod outlook;
 mod plan;
 mod printing;
 mod progress;
 mod reading;
+mod sockets;
 mod source;
 
 pub use data::{Address, Deed, Failed, Heard, PollError, Routes, What};

@@ -1,14 +1,16 @@
 // A host in memory, by a plan.
 ghost use Rattle.std.specs.Prelude.{◌≡◌};
 ghost use Rattle.wf_host.specs.Memory.{prints};
+ghost use Rattle.wf_host.specs.Ahead.{ahead};
 
 use crate::host::LONGEST;
 use crate::memory::CallRecord;
 use crate::moves::{copy_from, take_down};
+use crate::outlook::Outlook;
 use crate::progress::Progress;
-use crate::{Deed, Failed, Host, Plan, Service, Visitation};
+use crate::{Address, Deed, Failed, Heard, Host, Plan, PollError};
 use std::alloc::{AllocError, Global};
-use wf_value::OutOfMemory;
+use wf_value::{Bytes, OutOfMemory};
 
 /// A host in memory. It tells what it stands for from a record of its calls.
 pub struct MemHost {
@@ -16,13 +18,13 @@ pub struct MemHost {
     log: CallRecord,
     printed: Vec<u8>,
     progress: Progress,
-    services: Vec<Service>,
-    visits: Vec<Visitation>,
+    outlook: Outlook,
     disk_faults: u64,
     poll_faults: u64,
     print_faults: u64,
     short: u64,
     ghost shown: { printed.items ≡ prints log.deeds.items },
+    ghost foreseen: { outlook ≡ ahead progress.services log.deeds.items },
 }
 
 // Written, and not derived: it is one call wherever a host is let go.
@@ -33,8 +35,7 @@ impl Drop for MemHost {
             log: _,
             printed: _,
             progress: _,
-            services: _,
-            visits: _,
+            outlook: _,
             disk_faults: _,
             poll_faults: _,
             print_faults: _,
@@ -45,7 +46,7 @@ impl Drop for MemHost {
 
 impl MemHost {
     ghost use Rattle.std.specs.Prelude.{◌≡◌, [], IfOk, true, false};
-    ghost use Rattle.wf_host.specs.World.{Only, NoneFell, no_faults, disk_failed, print_failed};
+    ghost use Rattle.wf_host.specs.World.{Only, NoneFell, no_faults, disk_failed, poll_failed, print_failed};
     ghost use Rattle.wf_host.specs.MemHost.{mem_world, mem_stable, mem_stage, mem_faults, mem_short, first_stage};
 
     /// A host with the plan's file, all of it on the disk.
@@ -64,9 +65,14 @@ impl MemHost {
                 alloc,
                 log,
                 printed: Vec::new(alloc),
-                progress: Progress::new(plan.clock, plan.fail, plan.stop, plan.print_room),
-                services: plan.services,
-                visits: plan.visits,
+                progress: Progress::new(
+                    plan.clock,
+                    plan.fail,
+                    plan.stop,
+                    plan.print_room,
+                    plan.services,
+                ),
+                outlook: Outlook::new(alloc),
                 disk_faults: 0,
                 poll_faults: 0,
                 print_faults: 0,
@@ -133,6 +139,18 @@ impl MemHost {
         Failed
     }
 
+    fn poll_fault(&mut self) -> PollError
+        ensures error { result ≡ PollError.Failed }
+        ensures log { self.new.log ≡ self.old.log }
+        ensures stage { mem_stage self.new ≡ mem_stage self.old }
+        ensures faults { mem_faults self.new ≡ poll_failed (mem_faults self.old) }
+        ensures counts { NoneFell (mem_faults self.old) (mem_faults self.new) }
+        ensures short { mem_short self.new ≡ mem_short self.old }
+    {
+        self.poll_faults = self.poll_faults.saturating_add(1);
+        PollError::Failed
+    }
+
     fn print_fault(&mut self) -> Failed
         ensures log { self.new.log ≡ self.old.log }
         ensures stage { mem_stage self.new ≡ mem_stage self.old }
@@ -146,12 +164,12 @@ impl MemHost {
 }
 
 impl Host for MemHost {
-    ghost use Rattle.std.specs.Prelude.{◌≡◌, ◌≤◌, ◌+◌, ◌-◌, ◌++◌, ◌∷◌, [], ◌⊎◌, ◌↔◌, min, length, take, drop, IsTrue, IfOk, OnOk, OnErr, IsErr, MatchResult};
-    ghost use Rattle.wf_host.specs.World.{longest, Told, Holds, Torn, Same, Only, Elapses, Rose, NoneFell, disk_failed, print_failed};
-    ghost use Rattle.wf_host.specs.Stage.{call_fails, after_call, after_change, after_reading, reading, fitting};
+    ghost use Rattle.std.specs.Prelude.{◌≡◌, ◌≤◌, ◌+◌, ◌-◌, ◌++◌, ◌∷◌, [], ◌⊎◌, ◌↔◌, min, length, take, drop, IsTrue, IfOk, OnOk, OnErr, IsErr, IsErrOf, MatchResult, None};
+    ghost use Rattle.wf_host.specs.World.{longest, piece_len, visit_of, Told, Holds, Torn, Same, Only, Elapses, Rose, NoneFell, disk_failed, poll_failed, print_failed};
+    ghost use Rattle.wf_host.specs.Stage.{call_fails, after_call, after_change, after_reading, reading, fitting, next_heard};
     ghost use Rattle.wf_host.specs.MemHost.{mem_world, mem_stable, mem_stage, mem_faults, mem_short};
     ghost use Rattle.wf_host.specs.MemLaws.{mem_counts_now, mem_only_now, mem_reads_back, mem_fits};
-    ghost use Rattle.wf_host.specs.declared.data.Deed.TheVariants.{Now, Print};
+    ghost use Rattle.wf_host.specs.declared.data.Deed.TheVariants.{Start, Poll, Now, Drop, Print};
 
     ghost world = { mem_world };
 
@@ -333,6 +351,102 @@ impl Host for MemHost {
             Ok(()) => {
                 self.progress.count_reading();
                 Ok(reading)
+            }
+            Err(AllocError) => Err(OutOfMemory),
+        }
+    }
+
+    /// Starts a call, which counts as a call of the host that can't fail by the plan. It fails only without memory.
+    fn start(&mut self, call: u64, to: &Address, bytes: &[u8]) -> Result<(), OutOfMemory>
+        ensures seen { Told (mem_world self.old) ((mem_world self.new).seen ≡ (mem_world self.old).seen) }
+        ensures time { Told (mem_world self.old) (MatchResult result
+            (λ _. Elapses Same (Start call to.now bytes.now ∷ []) (mem_world self.old) (mem_world self.new))
+            (λ _. Elapses Same [] (mem_world self.old) (mem_world self.new))) }
+        ensures tells { (mem_world self.new).tells ≡ (mem_world self.old).tells }
+        ensures counts { NoneFell (mem_faults self.old) (mem_faults self.new) }
+        ensures faults { mem_faults self.new ≡ mem_faults self.old }
+        ensures short { mem_short self.new ≡ mem_short self.old }
+        ensures stage { mem_stage self.new ≡ after_call (mem_stage self.old) }
+        ensures stable { mem_stable self.new ≡ mem_stable self.old }
+    {
+        let _fails = self.progress.begin_call();
+        let services = self.progress.services();
+        let speaker = self
+            .outlook
+            .answer(self.alloc, services, self.log.deeds(), call, to)?;
+        let deed = Deed::Start(call, to.copy()?, Bytes::new(self.alloc, bytes)?);
+        match self.outlook.start(&mut self.log, speaker, deed) {
+            Ok(()) => Ok(()),
+            Err(AllocError) => Err(OutOfMemory),
+        }
+    }
+
+    /// Hears what the plan says. It fails exactly where the plan says, or without memory, and then takes no reading.
+    fn poll(&mut self, until: u64) -> Result<Heard, PollError>
+        ensures piece { IfOk result (λ h. piece_len h.what ≤ 65536) }
+        ensures calls_alone { IfOk result (λ h. visit_of h.what ≡ None) }
+        ensures seen { Told (mem_world self.old) ((mem_world self.new).seen ≡ (mem_world self.old).seen) }
+        ensures time { Told (mem_world self.old) (MatchResult result
+            (λ h. Elapses Same (Poll until h ∷ []) (mem_world self.old) (mem_world self.new))
+            (λ _. Elapses Same [] (mem_world self.old) (mem_world self.new))) }
+        ensures tells { (mem_world self.new).tells ≡ (mem_world self.old).tells }
+        ensures counts { NoneFell (mem_faults self.old) (mem_faults self.new) }
+        ensures cause { IsErrOf result PollError.Failed → Rose (mem_faults self.old).poll (mem_faults self.new).poll }
+        ensures heard { IfOk result (λ h. h ≡ next_heard (mem_stage self.old) (mem_world self.old).deeds until) }
+        ensures fails { IsErrOf result PollError.Failed ↔ IsTrue (call_fails (mem_stage self.old)) }
+        ensures faults_on_ok { OnOk result (mem_faults self.new ≡ mem_faults self.old) }
+        ensures faults_on_failed { IsErrOf result PollError.Failed → mem_faults self.new ≡ poll_failed (mem_faults self.old) }
+        ensures faults_on_out { IsErrOf result PollError.OutOfMemory → mem_faults self.new ≡ mem_faults self.old }
+        ensures short { mem_short self.new ≡ mem_short self.old }
+        ensures stage_on_ok { OnOk result (mem_stage self.new ≡ after_reading (after_call (mem_stage self.old))) }
+        ensures stage_on_err { OnErr result (mem_stage self.new ≡ after_call (mem_stage self.old)) }
+        ensures stable { mem_stable self.new ≡ mem_stable self.old }
+    {
+        if self.progress.begin_call() {
+            return Err(self.poll_fault());
+        }
+        let Ok(what) = self.outlook.next_thing(self.alloc) else {
+            return Err(PollError::OutOfMemory);
+        };
+        let Ok(copy) = what.copy() else {
+            return Err(PollError::OutOfMemory);
+        };
+        let reading = self.progress.poll_reading(until, &what);
+        let deed = Deed::Poll(
+            until,
+            Heard {
+                reading,
+                what: copy,
+            },
+        );
+        match self.log.act(deed) {
+            Ok(()) => {
+                self.outlook.count_poll();
+                self.progress.count_reading();
+                Ok(Heard { reading, what })
+            }
+            Err(AllocError) => Err(PollError::OutOfMemory),
+        }
+    }
+
+    /// Forgets a call. It fails only without memory.
+    fn drop_call(&mut self, call: u64) -> Result<(), OutOfMemory>
+        ensures seen { Told (mem_world self.old) ((mem_world self.new).seen ≡ (mem_world self.old).seen) }
+        ensures time { Told (mem_world self.old) (MatchResult result
+            (λ _. Elapses Same (Drop call ∷ []) (mem_world self.old) (mem_world self.new))
+            (λ _. Elapses Same [] (mem_world self.old) (mem_world self.new))) }
+        ensures tells { (mem_world self.new).tells ≡ (mem_world self.old).tells }
+        ensures counts { NoneFell (mem_faults self.old) (mem_faults self.new) }
+        ensures faults { mem_faults self.new ≡ mem_faults self.old }
+        ensures short { mem_short self.new ≡ mem_short self.old }
+        ensures stage { mem_stage self.new ≡ after_call (mem_stage self.old) }
+        ensures stable { mem_stable self.new ≡ mem_stable self.old }
+    {
+        let _fails = self.progress.begin_call();
+        match self.log.act(Deed::Drop(call)) {
+            Ok(()) => {
+                self.outlook.drop_call(call);
+                Ok(())
             }
             Err(AllocError) => Err(OutOfMemory),
         }

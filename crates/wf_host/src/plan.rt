@@ -15,7 +15,7 @@ pub struct Plan {
     pub stop: Option<u64>,
     /// Who answers the calls that are started.
     pub services: Vec<Service>,
-    /// Who visits. The first visit has the number 0.
+    /// Who visits. The first visit has the number 0. No visit is heard yet.
     pub visits: Vec<Visitation>,
     /// How many bytes are printed before a print takes none.
     pub print_room: Option<u64>,

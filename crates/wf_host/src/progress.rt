@@ -1,7 +1,8 @@
 // How far a host in memory has come in its plan.
 ghost use Rattle.std.specs.Prelude.{◌≡◌};
-ghost use Rattle.wf_host.specs.Stage.{call_fails, after_call, after_change, after_reading, reading, fitting};
+ghost use Rattle.wf_host.specs.Stage.{call_fails, after_call, after_change, after_reading, reading, fitting, poll_reading};
 
+use crate::{Service, What};
 use std::marker::Model;
 
 /// The clock and the failures of a plan, and how much of them has passed.
@@ -14,6 +15,7 @@ pub(crate) struct Progress {
     stop: Option<u64>,
     changes: u64,
     print_room: Option<u64>,
+    services: Vec<Service>,
 }
 
 impl Model for Progress {
@@ -21,7 +23,7 @@ impl Model for Progress {
 
     ghost Value = { Stage };
 
-    ghost view = { λ p. record { fail = p.fail.items; stop = p.stop; clock = p.clock.items; print_room = p.print_room; calls = p.calls; changes = p.changes; ticks = p.ticks } };
+    ghost view = { λ p. record { fail = p.fail.items; stop = p.stop; clock = p.clock.items; print_room = p.print_room; services = p.services.items; calls = p.calls; changes = p.changes; ticks = p.ticks } };
 }
 
 impl Progress {
@@ -30,13 +32,14 @@ impl Progress {
         fail: Vec<u64>,
         stop: Option<u64>,
         print_room: Option<u64>,
+        services: Vec<Service>,
     ) -> Progress
         ensures { result ≡ record {
           fail = fail.items;
           stop = stop;
           clock = clock.items;
-          print_room
-              = print_room;
+          print_room = print_room;
+          services = services.items;
           calls = 0;
           changes = 0;
           ticks = 0;
@@ -50,6 +53,7 @@ impl Progress {
             stop,
             changes: 0,
             print_room,
+            services,
         }
     }
 
@@ -82,6 +86,24 @@ impl Progress {
             Some(reading) => *reading,
             None => 0,
         }
+    }
+
+    /// The reading of a poll until this moment, which hears something or nothing.
+    pub(crate) fn poll_reading(&self, until: u64, what: &What) -> u64
+        ensures { result ≡ poll_reading self.now until what.now }
+    {
+        let reading = self.reading();
+        match what {
+            What::Nothing if self.ticks >= self.clock.len() => reading.max(until),
+            _ => reading,
+        }
+    }
+
+    /// Who answers calls.
+    pub(crate) fn services(&self) -> &[Service]
+        ensures { result.now ≡ self.now.services }
+    {
+        &self.services
     }
 
     /// Counts a reading that was taken.

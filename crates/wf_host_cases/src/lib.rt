@@ -1,8 +1,10 @@
-//! What the case programs of records, journals and machines share: numbers and bytes as cases have them, and hosts in memory by plans.
+//! What the case programs of records, hosts, journals and machines share: numbers and bytes as cases have them, and hosts in memory by plans.
 #![tactic(auto)]
 
 mod forms;
 mod plans;
+mod services;
 
 pub use forms::{gap, items_of, number_of, numbers_of, write_bytes};
 pub use plans::{host_of, write_left};
+pub use services::address_of;

@@ -1,4 +1,5 @@
 // Hosts in memory, by the plans that cases tell, and what they leave.
+use crate::services::services_of;
 use crate::{number_of, numbers_of, write_bytes};
 use std::alloc::Global;
 use wf_cases::{CaseFault, bytes_of};
@@ -21,7 +22,7 @@ fn limit_of(plan: &Map, key: &str) -> Result<Option<u64>, CaseFault> {
     }
 }
 
-/// A host by a plan of at most `image`, `clock`, `fail`, `stop` and `print_room`.
+/// A host by a plan of at most `image`, `clock`, `fail`, `stop`, `services` and `print_room`.
 pub fn host_of(alloc: Global, plan: &Value) -> Result<MemHost, CaseFault> {
     let Value::Map(plan) = plan else {
         return Err(CaseFault::NoCase);
@@ -34,7 +35,10 @@ pub fn host_of(alloc: Global, plan: &Value) -> Result<MemHost, CaseFault> {
         clock: plan_numbers(alloc, plan, "clock")?,
         fail: plan_numbers(alloc, plan, "fail")?,
         stop: limit_of(plan, "stop")?,
-        services: Vec::new(alloc),
+        services: match plan.get("services") {
+            Some(services) => services_of(alloc, services)?,
+            None => Vec::new(alloc),
+        },
         visits: Vec::new(alloc),
         print_room: limit_of(plan, "print_room")?,
     };

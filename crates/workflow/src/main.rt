@@ -10,6 +10,7 @@ use descriptors::take_standard_descriptors;
 use std::env;
 use std::fs::{File, Files};
 use std::io::{Eprint, ErrorKind, Input, Print};
+use std::net::Net;
 use std::process::ExitCode;
 use std::rt::Env;
 use std::time::Clock;
@@ -31,7 +32,7 @@ fn main(rt: HostRuntime) -> ExitCode {
 /// that: 2 where a word isn't UTF-8, 14 where there is no memory for the words or the paths.
 fn run<R>(rt: R) -> Result<u8, u8>
 where
-    R: Env + Files<File = File> + Clock + Input + Print + Eprint + AllocGlobal + Copy + Drop,
+    R: Env + Files<File = File> + Clock + Input + Print + Eprint + Net + AllocGlobal + Copy + Drop,
 {
     let alloc = rt.alloc();
     let words = words_of(&rt)?;
