@@ -2,7 +2,7 @@
 #![tactic(auto)]
 
 mod answers;
-mod apply;
+mod calling;
 mod filling;
 mod functions;
 mod look;
@@ -11,7 +11,7 @@ mod members;
 mod operators;
 
 pub use answers::{copied, keep, owned};
-pub use apply::apply;
+pub use calling::apply;
 pub use filling::{fill, map_of};
 pub use functions::shown;
 pub use look::Look;

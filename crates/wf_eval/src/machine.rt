@@ -16,7 +16,7 @@ ghost use Rattle.wf_eval.specs.Sight.{seen};
 ghost use Rattle.wf_eval.specs.Steps.{Leads, Pops, Pushes, Steps, settled, tops};
 
 use crate::answers::{copied, keep, number, truth, whole};
-use crate::apply::apply;
+use crate::calling::apply;
 use crate::look::Look;
 use crate::members::{at_index, at_key};
 use crate::operators::operate;

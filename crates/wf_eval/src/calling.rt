@@ -1,5 +1,5 @@
 //! What each function answers to its arguments.
-ghost use Rattle.std.specs.Prelude.{[], ◌∷◌, Err};
+ghost use Rattle.std.specs.Prelude.{◌≡◌, ◌∷◌, [], ℕ};
 ghost use Rattle.wf_ast.specs.Apply.{View, apply, as_env};
 ghost use Rattle.wf_shared.specs.LibData.{json_encode, json_encode_to_string};
 ghost use Rattle.wf_value.specs.Data.{Data};
