@@ -4,7 +4,10 @@ pub mod Calling
 pub mod Going
 pub mod Jumps
 pub mod Leaving
+pub mod Requesting
 pub mod Returning
 pub mod Starting
+pub mod Stepping
 pub mod Turning
 pub mod Unwinding
+pub mod Waiting

@@ -1,4 +1,7 @@
 pub mod Assigned
 pub mod Going
 pub mod Moved
+pub mod Requests
+pub mod Stepped
 pub mod Tasks
+pub mod Waits

@@ -2,19 +2,34 @@
 --     begun       a task before a workflow, with its argument
 --     argued      a layer with the argument in it
 --     Names       a node is a call of such a name
-use Rattle.std.specs.Prelude.{◌≡◌, ℕ, Bool, true, false, List, [], ◌∷◌, Some}
+--     MovesSo     a move or a request of the model, by what a call gives and leaves
+use Rattle.std.specs.Prelude.{◌≡◌, ℕ, Bool, true, false, List, [], ◌∷◌, Some, None, is_some}
 use Rattle.wf_ast.specs.Tree.{Flow, Param, no_steps}
 use Rattle.wf_frames.specs.Fits.{IsCall, view_at}
-use Rattle.wf_frames.specs.Owned.{Around}
+use Rattle.wf_frames.specs.Frames.{inner}
+use Rattle.wf_frames.specs.Held.{Held, standing}
+use Rattle.wf_frames.specs.Owned.{Around, local_of}
+use Rattle.wf_frames.specs.Sights.{Sees}
+use Rattle.wf_frames.specs.Turns.{Agrees}
+use Rattle.wf_frames.specs.declared.facts.Facts.{Facts}
 use Rattle.wf_frames.specs.declared.frames.Frame.{Frame}
-use Rattle.wf_model.specs.Config.{Awake, Do}
-use Rattle.wf_model.specs.Local.{Local, Moved, settle}
+use Rattle.wf_frames.specs.declared.frames.Frames.{Frames}
+use Rattle.wf_http_ask.specs.View.{request_view}
+use Rattle.wf_model.specs.Config.{Awake, Do, Item}
+use Rattle.wf_model.specs.Local.{Breaks, Does, Goes, Local, Moved, Scene, Sends, settle}
 use Rattle.wf_model.specs.Run.{argument_in}
-use Rattle.wf_moves.specs.Moved.{IsMove}
+use Rattle.wf_moves.specs.Moved.{IsLeft, IsMove}
+use Rattle.wf_moves.specs.Requests.{Reaches}
+use Rattle.wf_moves.specs.Waits.{CanGoOn, GoesFrom, call_in, wait_view}
+use Rattle.wf_moves.specs.declared.finish.Done.{Done}
+use Rattle.wf_moves.specs.declared.finish.Done.TheVariants as done
 use Rattle.wf_moves.specs.declared.finish.Went.{Went}
 use Rattle.wf_moves.specs.declared.finish.Went.TheVariants as went
 use Rattle.wf_moves.specs.declared.task.Move.{Move}
 use Rattle.wf_moves.specs.declared.task.Move.TheVariants as move
+use Rattle.wf_moves.specs.declared.sending.Sending.{Sending}
+use Rattle.wf_moves.specs.declared.sending.Sent.{Sent}
+use Rattle.wf_moves.specs.declared.task.Task.{Task}
 use Rattle.wf_nodes.specs.Kinds as kind
 use Rattle.wf_nodes.specs.Kinds.{Listed, View}
 use Rattle.wf_nodes.specs.Spots.{FlowAt, Part, part_list}
@@ -82,10 +97,42 @@ abbrev pub has_ended : List Frame → Bool
 has_ended [] = true
 has_ended (f ∷ fs) = false
 
-abbrev pub went_of : Move → Went
-went_of move.Went = went.Goes
-went_of (move.Ended e) = went.Ended e
+abbrev pub move_of : Went → Move
+move_of went.Goes = move.Went
+move_of (went.Ended e) = move.Ended e
 
--- the model's move, where it isn't one that no accepted program makes
+-- the model's request, where it isn't one that no accepted program makes
+abbrev pub IsRequest : Moved → Sent → Local → Type 0
+IsRequest (Breaks kind) x l = Unit {0}
+IsRequest (Does (Sends q d) m) x l = (q ≡ request_view x.request) × (d ≡ x.due) × (m ≡ Goes l)
+IsRequest m x l = ⊥
+
+-- the model's move or request, by what a call gives and leaves
 abbrev pub MovesSo : Moved → Move → Local → Type 0
-MovesSo x m l = IsMove x (went_of m) l
+MovesSo m move.Went l = IsMove m went.Goes l
+MovesSo m (move.Ended e) l = IsMove m (went.Ended e) l
+MovesSo m (move.Sent x) l = IsRequest m x l
+
+abbrev pub is_sent : Move → Bool
+is_sent (move.Sent x) = true
+is_sent m = false
+
+-- a task that goes on or waits can go on, and of one that has ended no frame is left
+abbrev pub Stays : List Node → Move → Task → Type 0
+Stays nodes move.Went t = (call_in t.wait ≡ None) × CanGoOn nodes t
+Stays nodes (move.Ended e) t = inner t.frames ≡ []
+Stays nodes (move.Sent x) t = (is_some (call_in t.wait) ≡ true) × CanGoOn nodes t
+
+-- ## Moves and requests within a call
+-- the model's move or request, of a task that goes on so or waits
+abbrev pub IsDone : Around → Moved → Done → Local → Type 0
+IsDone a m (done.Went w) l = IsMove m w l
+IsDone a m (done.Sent x w) l = IsRequest m x (record l { wait = wait_view a w })
+
+-- it is this one, whatever the scene that has these facts, and agrees on the limit, the rest and the workflows
+abbrev pub DoesBy : Around → Facts → Sending → (Scene → Local → Moved) → Held → Done → Frames → Scopes → Type 0
+DoesBy a f g m h d fs x = (s : Scene) (c : List Item) → Sees s f → Reaches s g → Agrees s a → IsDone a (m s (standing c h)) d (local_of a fs x)
+
+abbrev pub IsLeftSo : List Node → Done → List Frame → Type 0
+IsLeftSo nodes (done.Went w) fs = IsLeft nodes w fs
+IsLeftSo nodes (done.Sent x w) fs = (is_some (call_in w) ≡ true) × GoesFrom nodes w fs

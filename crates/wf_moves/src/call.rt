@@ -1,5 +1,5 @@
 // Calls of workflows and functions.
-ghost use Rattle.std.specs.Prelude.{◌≡◌, IfOk, List, OnOk, Some, map, option_map};
+ghost use Rattle.std.specs.Prelude.{◌≡◌, ◌≤◌, IfOk, List, OnOk, Some, map, option_map};
 ghost use Rattle.wf_ast.specs.View.{param_view};
 ghost use Rattle.wf_frames.specs.Fits.{IsCall};
 ghost use Rattle.wf_frames.specs.Bound.{bindings_of};
@@ -8,17 +8,19 @@ ghost use Rattle.wf_frames.specs.Owned.{Around, control_of, held_by};
 ghost use Rattle.wf_frames.specs.Stands.{Stands};
 ghost use Rattle.wf_model.specs.Calls as calls;
 ghost use Rattle.wf_moves.specs.Moved.{IsLeft, MovesBy, SeesBy};
-ghost use Rattle.wf_moves.specs.Tasks.{IsFlow, Names, flow_at};
+ghost use Rattle.wf_moves.specs.Tasks.{DoesBy, IsFlow, IsLeftSo, Names, flow_at};
 ghost use Rattle.wf_nodes.specs.Spots.{part_at, part_body};
 ghost use Rattle.wf_nodes.specs.declared.node.CallNode as call_node;
 ghost use Rattle.wf_steps.specs.Built.{AreTargets, IsFunction, IsWorkflow, Tells};
+ghost use Rattle.wf_moves.specs.Stepped.{leads_with};
 ghost use Rattle.wf_steps.specs.Steps.{calls_by};
-ghost use Rattle.wf_value.specs.Data.{pairs_of};
+ghost use Rattle.wf_value.specs.Data.{pairs_depth, pairs_of};
 ghost use Rattle.wf_value.specs.Plain.{plain};
 
 use crate::assign::fails;
 use crate::back::give;
-use crate::finish::{Went, goes};
+use crate::finish::{Done, Went, goes};
+use crate::sending::{Sending, sends};
 use crate::start::params;
 use crate::unwind::raises_tag;
 use std::alloc::Global;
@@ -168,24 +170,31 @@ pub(crate) fn call(
     frames: &mut Frames,
     scopes: &mut Scopes,
     facts: &Facts,
-) -> Result<Went, OutOfMemory>
+    sending: &Sending,
+) -> Result<Done, OutOfMemory>
     ghost around: { Around }
     requires tells { Tells around.spots nodes.now }
     requires targets { AreTargets around.flows around.spots nodes.now targets.now }
     requires stands { Stands around nodes.now frames.old scopes.old }
     requires call { (f : call_node.CallNode) × IsCall nodes.now n f }
-    ensures moved { IfOk result (λ w. SeesBy around facts.entry.now
-        (λ s l. calls_by s (part_body (part_at around.spots n)) (pairs_of args.now)
+    requires shallow { pairs_depth (pairs_of args.now) ≤ 100 }
+    ensures moved { IfOk result (λ d. DoesBy around facts.entry.now sending.now
+        (λ s l. leads_with s (part_body (part_at around.spots n)) (pairs_of args.now)
         (control_of around frames.old) l)
-        (held_by around frames.old scopes.old) w frames.new scopes.new) }
+        (held_by around frames.old scopes.old) d frames.new scopes.new) }
     ensures stands { OnOk result (Stands around nodes.now frames.new scopes.new) }
-    ensures left { IfOk result (λ w. IsLeft nodes.now w (inner frames.new)) }
+    ensures left { IfOk result (λ d. IsLeftSo nodes.now d (inner frames.new)) }
 {
     let target = &targets[n as usize];
     match target {
-        Target::Flow(flow) => call_flow(alloc, nodes, n, *flow, args, frames, scopes),
-        Target::Function(function) => {
-            evaluates(alloc, nodes, n, function, args, frames, scopes, facts)
-        }
+        Target::Flow(flow) => Ok(Done::Went(call_flow(
+            alloc, nodes, n, *flow, args, frames, scopes,
+        )?)),
+        Target::Function(function) => Ok(Done::Went(evaluates(
+            alloc, nodes, n, function, args, frames, scopes, facts,
+        )?)),
+        Target::Http(method) => sends(
+            alloc, nodes, n, *method, args, frames, scopes, facts, sending,
+        ),
     }
 }

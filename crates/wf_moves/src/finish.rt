@@ -11,6 +11,8 @@ ghost use Rattle.wf_moves.specs.Moved.{HasMove, IsLeft, IsMove, IsSettled, Settl
 ghost use Rattle.wf_nodes.specs.Spots.{Spot};
 ghost use Rattle.wf_nodes.specs.declared.node.Node.{Node};
 
+use crate::sending::Sent;
+use crate::wait::Wait;
 use wf_frames::{Frame, Frames, leave};
 use wf_nodes::Node;
 use wf_scope::Scopes;
@@ -29,6 +31,13 @@ pub enum End {
 pub(crate) enum Went {
     Goes,
     Ended(End),
+}
+
+/// What a move gives, or the request that the task has made, with its wait.
+#[derive(Drop)]
+pub(crate) enum Done {
+    Went(Went),
+    Sent(Sent, Wait),
 }
 
 // Whether a frame has ended.

@@ -1,7 +1,8 @@
 //! The moves of one task: what a step does to its frames and its layers.
 //!
 //! A task stands before a step of a program, in frames of numbers over the program's table. Each move is one of the definition of steps:
-//! the innermost frame says what is next, it is carried out, and what has ended is left.
+//! the innermost frame says what is next, it is carried out, and what has ended is left. A call of HTTP makes a request, and the task waits
+//! for its answer.
 #![tactic(auto)]
 
 mod assign;
@@ -10,10 +11,13 @@ mod call;
 mod finish;
 mod jump;
 mod moves;
+mod sending;
 mod start;
 mod task;
 mod turn;
 mod unwind;
+mod wait;
 
 pub use finish::End;
+pub use sending::{Sending, Sent};
 pub use task::{Move, Task};

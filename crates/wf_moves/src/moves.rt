@@ -1,18 +1,21 @@
 // The move of the innermost frame.
-ghost use Rattle.std.specs.Prelude.{◌≡◌, IfOk, OnOk};
-ghost use Rattle.wf_frames.specs.Frames.{inner};
-ghost use Rattle.wf_frames.specs.Owned.{Around, control_of, held_by};
+ghost use Rattle.std.specs.Prelude.{◌≡◌, ◌∷◌, IfOk, OnOk};
+ghost use Rattle.wf_frames.specs.Fits.{Fits};
+ghost use Rattle.wf_frames.specs.Frames.{control, inner};
+ghost use Rattle.wf_frames.specs.Owned.{Around, IsLinked, control_of, held_by, own_of};
 ghost use Rattle.wf_frames.specs.Stands.{Stands};
-ghost use Rattle.wf_model.specs.Move.{moves};
 ghost use Rattle.wf_moves.specs.Moved.{IsGoing, IsLeft, SeesBy, is_at_back};
+ghost use Rattle.wf_moves.specs.Stepped.{leads, stepped_at};
+ghost use Rattle.wf_moves.specs.Tasks.{DoesBy, IsLeftSo};
 ghost use Rattle.wf_steps.specs.Built.{AreTargets, Tells};
-ghost use Rattle.wf_steps.specs.Steps.{IsReady, come};
+ghost use Rattle.wf_steps.specs.Steps.{HasStep, IsNoCall, IsReady, come};
 
 use crate::assign::assign;
 use crate::back::returns;
 use crate::call::call;
-use crate::finish::{Went, goes};
+use crate::finish::{Done, Went, goes};
 use crate::jump::jump;
+use crate::sending::Sending;
 use crate::turn::turn;
 use crate::unwind::raises;
 use std::alloc::Global;
@@ -22,11 +25,10 @@ use wf_scope::Scopes;
 use wf_steps::{Step, Target, loop_node, step_of};
 use wf_value::{OutOfMemory, Value};
 
-// What is left of a step, beside its frames.
+// What is left of a step that doesn't call, beside its frames.
 fn finish(
     alloc: Global,
     nodes: &[Node],
-    targets: &[Target],
     step: Step,
     frames: &mut Frames,
     scopes: &mut Scopes,
@@ -34,9 +36,9 @@ fn finish(
 ) -> Result<Went, OutOfMemory>
     ghost around: { Around }
     requires tells { Tells around.spots nodes.now }
-    requires targets { AreTargets around.flows around.spots nodes.now targets.now }
     requires stands { Stands around nodes.now frames.old scopes.old }
     requires ready { IsReady around.spots nodes.now (inner frames.old) step }
+    requires no_call { IsNoCall step }
     ensures moved { IfOk result (λ w. SeesBy around facts.entry.now
         (λ s l. come around.spots step s (control_of around frames.old) l)
         (held_by around frames.old scopes.old) w frames.new scopes.new) }
@@ -49,7 +51,37 @@ fn finish(
         Step::Returns(value) => returns(alloc, nodes, frames, scopes, value),
         Step::Jumps(n) => jump(alloc, frames, nodes, scopes, n),
         Step::Assigns(n) => assign(alloc, nodes, n, frames, scopes, facts),
-        Step::Calls(n, args) => call(alloc, nodes, targets, n, &args, frames, scopes, facts),
+        Step::Calls(_, _) => unreachable!(),
+    }
+}
+
+// What is left of a step, beside its frames.
+fn finish_step(
+    alloc: Global,
+    nodes: &[Node],
+    targets: &[Target],
+    step: Step,
+    frames: &mut Frames,
+    scopes: &mut Scopes,
+    facts: &Facts,
+    sending: &Sending,
+) -> Result<Done, OutOfMemory>
+    ghost around: { Around }
+    requires tells { Tells around.spots nodes.now }
+    requires targets { AreTargets around.flows around.spots nodes.now targets.now }
+    requires stands { Stands around nodes.now frames.old scopes.old }
+    requires ready { IsReady around.spots nodes.now (inner frames.old) step }
+    ensures moved { IfOk result (λ d. DoesBy around facts.entry.now sending.now
+        (λ s l. leads around.spots step s (control_of around frames.old) l)
+        (held_by around frames.old scopes.old) d frames.new scopes.new) }
+    ensures stands { OnOk result (Stands around nodes.now frames.new scopes.new) }
+    ensures left { IfOk result (λ d. IsLeftSo nodes.now d (inner frames.new)) }
+{
+    match step {
+        Step::Calls(n, args) => call(
+            alloc, nodes, targets, n, &args, frames, scopes, facts, sending,
+        ),
+        step => Ok(Done::Went(finish(alloc, nodes, step, frames, scopes, facts)?)),
     }
 }
 
@@ -63,7 +95,35 @@ fn is_at_back(frames: &Frames) -> bool
     }
 }
 
-/// The move of a task. The end of a workflow that was called is a return of null.
+// The move of a task that stands neither at the end of a workflow that was called nor before a loop's turn. Its frame was taken.
+fn step_on(
+    alloc: Global,
+    nodes: &[Node],
+    targets: &[Target],
+    frame: Frame,
+    frames: &mut Frames,
+    scopes: &mut Scopes,
+    facts: &Facts,
+    sending: &Sending,
+) -> Result<Done, OutOfMemory>
+    ghost around: { Around }
+    requires tells { Tells around.spots nodes.now }
+    requires targets { AreTargets around.flows around.spots nodes.now targets.now }
+    requires step { HasStep nodes.now frame }
+    requires fits { Fits around.spots nodes.now (frame ∷ inner frames.old) }
+    requires linked { IsLinked around (own_of frames.old) scopes.old }
+    ensures moved { IfOk result (λ d. DoesBy around facts.entry.now sending.now
+        (λ s l. stepped_at s (control around.spots (frame ∷ inner frames.old)) l)
+        (held_by around frames.old scopes.old) d frames.new scopes.new) }
+    ensures stands { OnOk result (Stands around nodes.now frames.new scopes.new) }
+    ensures left { IfOk result (λ d. IsLeftSo nodes.now d (inner frames.new)) }
+{
+    let look = seen(frames, scopes, facts);
+    let step = step_of(alloc, nodes, frame, frames, &look, facts.now)?;
+    finish_step(alloc, nodes, targets, step, frames, scopes, facts, sending)
+}
+
+/// The move of a task, or its request. The end of a workflow that was called is a return of null.
 pub(crate) fn advance(
     alloc: Global,
     nodes: &[Node],
@@ -71,20 +131,21 @@ pub(crate) fn advance(
     frames: &mut Frames,
     scopes: &mut Scopes,
     facts: &Facts,
-) -> Result<Went, OutOfMemory>
+    sending: &Sending,
+) -> Result<Done, OutOfMemory>
     ghost around: { Around }
     requires tells { Tells around.spots nodes.now }
     requires targets { AreTargets around.flows around.spots nodes.now targets.now }
     requires stands { Stands around nodes.now frames.old scopes.old }
     requires going { IsGoing nodes.now (inner frames.old) }
-    ensures moved { IfOk result (λ w. SeesBy around facts.entry.now
-        (λ s l. moves s (control_of around frames.old) l)
-        (held_by around frames.old scopes.old) w frames.new scopes.new) }
+    ensures moved { IfOk result (λ d. DoesBy around facts.entry.now sending.now
+        (λ s l. stepped_at s (control_of around frames.old) l)
+        (held_by around frames.old scopes.old) d frames.new scopes.new) }
     ensures stands { OnOk result (Stands around nodes.now frames.new scopes.new) }
-    ensures left { IfOk result (λ w. IsLeft nodes.now w (inner frames.new)) }
+    ensures left { IfOk result (λ d. IsLeftSo nodes.now d (inner frames.new)) }
 {
     if is_at_back(frames) {
-        return returns(alloc, nodes, frames, scopes, Value::Null);
+        return Ok(Done::Went(returns(alloc, nodes, frames, scopes, Value::Null)?));
     }
     let Some(frame) = frames.pop() else {
         unreachable!()
@@ -92,12 +153,8 @@ pub(crate) fn advance(
     match frame {
         Frame::Loop(n, left, index) => {
             let body = loop_node(nodes, n);
-            turn(alloc, nodes, n, body, left, index, frames, scopes)
+            Ok(Done::Went(turn(alloc, nodes, n, body, left, index, frames, scopes)?))
         }
-        frame => {
-            let look = seen(frames, scopes, facts);
-            let step = step_of(alloc, nodes, frame, frames, &look, facts.now)?;
-            finish(alloc, nodes, targets, step, frames, scopes, facts)
-        }
+        frame => step_on(alloc, nodes, targets, frame, frames, scopes, facts, sending),
     }
 }

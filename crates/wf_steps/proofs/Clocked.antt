@@ -3,19 +3,23 @@ use Rattle.std.proofs.Common.{◌≡◌, ℕ, ◌≤◌, Bool, true, false, List
 use Rattle.std.specs.Prelude.{zero, suc, ◌||◌, is_some, option_map, slice_get, Option}
 use Rattle.std.proofs.lemmas.Option.{get_or_from_slice_get, slice_get_within}
 use Rattle.wf_ast.specs.Flows.{flow}
-use Rattle.wf_ast.specs.Func.{Listing, func_named, special_named}
+use Rattle.wf_ast.specs.Func.{HttpCall, Listing, Special, SpecialListing, SysLog, SysSleep, SysSleepUntil, CreateEndpoint, AwaitCallback, func_named, special_named}
 use Rattle.wf_ast.specs.Tree.{Flow, Program}
 use Rattle.wf_ast.specs.declared.Func.{Func}
 use Rattle.wf_frames.specs.Fits.{entries_at, list_at}
 use Rattle.wf_frames.specs.Frames.{item}
 use Rattle.wf_frames.specs.declared.frames.Frame.TheVariants as frame
+use Rattle.wf_callbacks.specs.Plain.{plain_method}
+use Rattle.wf_callbacks.specs.declared.method.Method.{Method}
+use Rattle.wf_shared.specs.Events as plain
+use Rattle.wf_model.specs.Calls.{http_method}
 use Rattle.wf_model.specs.Config.{Item, Do, Entries}
 use Rattle.wf_library.specs.declared.functions.Function.{Function}
-use Rattle.wf_model.specs.Kinds.{Plainly, body_kind, by_clock, call_kind, entry_now, is_now, listed_kind, next_kind}
+use Rattle.wf_model.specs.Kinds.{ByCall, Plainly, body_kind, by_clock, call_kind, entry_now, is_now, listed_kind, next_kind, special_kind}
 use Rattle.wf_steps.proofs.Advancing.{entries_next, from_next}
 use Rattle.wf_steps.proofs.Lists.{drop_end, entries_long, from_end}
 use Rattle.wf_steps.proofs.Parts.{as_part, entries_is, list_is, part_is}
-use Rattle.wf_steps.specs.Built.{IsFunction, IsWorkflow, function_parts, listed}
+use Rattle.wf_steps.specs.Built.{IsFunction, IsHttp, IsWorkflow, function_parts, listed}
 use Rattle.wf_nodes.specs.Kinds.{Listed, entry_by, kind_by}
 use Rattle.wf_nodes.specs.Shapes.{Compiled}
 use Rattle.wf_nodes.specs.Spots.{Spot, entries_by, from, part_at, part_body, part_entry, part_list}
@@ -102,6 +106,30 @@ function_clock fs g x b h = by (flow fs x) h.free ∙ in_library (func_named x) 
     in_library : (o : Option Listing) → option_map listed o ≡ Some (function_parts g) → listed_kind o (special_named x) b ≡ by_clock (is_now g.func || b)
     in_library None e = absurd (cc e)
     in_library (Some l) e = let same : listed l ≡ function_parts g = cc e in ap (λ (p : Func × (List Text × List Text)). by_clock (is_now p.0 || b)) same
+
+-- one of HTTP makes a request
+pub http_asks : (fs : List Flow) (m : Option Method) (x : Text) (b : Bool) → IsHttp fs m x → call_kind (flow fs x) x b ≡ ByCall
+http_asks fs m x b h = by (flow fs x) h.free ∙ in_library (func_named x) h.unlisted ∙ special (special_named x) h.named
+  where
+    by : (o : Option Flow) → is_some o ≡ false → call_kind o x b ≡ listed_kind (func_named x) (special_named x) b
+    by (Some w) t = absurd (cc t)
+    by None t = refl
+
+    in_library : (o : Option Listing) → is_some o ≡ false → listed_kind o (special_named x) b ≡ listed_kind None (special_named x) b
+    in_library (Some e) t = absurd (cc t)
+    in_library None t = refl
+
+    by_special : (y : Special) → ◌≡◌ {A = Option (Option plain.Method)} (elim y [ HttpCall k ↦ Some k | z ↦ None ]) (Some (option_map plain_method m)) → special_kind y b ≡ ByCall
+    by_special SysLog e = absurd (cc e)
+    by_special SysSleep e = absurd (cc e)
+    by_special SysSleepUntil e = absurd (cc e)
+    by_special (HttpCall k) e = refl
+    by_special CreateEndpoint e = absurd (cc e)
+    by_special AwaitCallback e = absurd (cc e)
+
+    special : (g : Option SpecialListing) → http_method g ≡ Some (option_map plain_method m) → listed_kind None g b ≡ ByCall
+    special None e = absurd (cc e)
+    special (Some g) e = by_special g.special e
 
 -- a test or another
 pub either_true : (a b v : Bool) → a ≡ true → v ≡ true → v ≡ (a || b)

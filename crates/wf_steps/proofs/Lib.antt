@@ -1,4 +1,5 @@
 pub mod Advancing
+pub mod Asking
 pub mod Choices
 pub mod Clocked
 pub mod Evaluated

@@ -7,7 +7,7 @@ use Rattle.std.proofs.lemmas.Bool.{and_parts}
 use Rattle.std.proofs.lemmas.Option.{slice_get_read, slice_get_within}
 use Rattle.wf_ast.specs.Tree.{Body, try}
 use Rattle.wf_ast.specs.View.{policy_option_view}
-use Rattle.wf_frames.specs.Fits.{IsLoop, IsTry, entries_at, has_next, kind_entries, list_at, outside_at, view_at, view_entries, view_outside}
+use Rattle.wf_frames.specs.Fits.{IsCall, IsLoop, IsTry, entries_at, has_next, kind_entries, list_at, outside_at, view_at, view_entries, view_outside}
 use Rattle.wf_frames.specs.Frames.{body_entries}
 use Rattle.wf_steps.specs.Built.{is_node_built, is_table_built, kind_built}
 use Rattle.wf_shapes.specs.Built.{are_built}
@@ -16,6 +16,7 @@ use Rattle.wf_nodes.specs.Kinds.{Handler, Kind, Listed, Repeated, Side, View, bl
 use Rattle.wf_nodes.specs.Shapes.{Compiled}
 use Rattle.wf_nodes.specs.Spots.{Spot, entries_by, owners_at, part_at, part_body, part_list, steps_by}
 use Rattle.wf_nodes.specs.Table.{AreBelow, ListStands, PartsStand, Resolves, StandIn, except_of, kind_list, outside, part_by, view_list}
+use Rattle.wf_nodes.specs.declared.node.CallNode.{CallNode}
 use Rattle.wf_nodes.specs.declared.node.LoopNode.{LoopNode}
 use Rattle.wf_nodes.specs.declared.node.Node.{Node}
 use Rattle.wf_nodes.specs.declared.node.NodeKind.{NodeKind}
@@ -230,3 +231,10 @@ pub entries_is : (ns : List Spot) (nodes : List Node) (n : ℕ) (b : List ℕ) �
 entries_is ns nodes n b r h =
     let s = seen_entries nodes n b h in
     ap (λ p. body_entries (part_body p)) (part_is ns nodes n s.node r s.at ∙ entries_in ns s.node.name s.node.next (node_view s.node).kind b (sym (entries_of nodes n s.node s.at) ∙ h))
+
+-- a node of another kind is no call
+pub other_node : (nodes : List Node) (n : ℕ) (x : Node) → slice_get nodes n ≡ Some x → ((f : CallNode) → x.kind ≡ kind.Call f → ⊥) → (f : CallNode) → IsCall nodes n f → ⊥
+other_node nodes n x at other f h = (
+    let same : h.node ≡ x = cc (sym h.at ∙ at) in
+    other f (ap (λ (y : Node). y.kind) (sym same) ∙ h.is)
+    )

@@ -1,12 +1,15 @@
 -- The value of a template nests at most 100 deep.
-use Rattle.std.proofs.Common.{◌≡◌, ◌≤◌, Bool, true, false, ◌&&◌, Result, Ok, Err, refl, subst, arith}
+use Rattle.std.proofs.Common.{◌≡◌, ◌≤◌, Bool, true, false, ◌&&◌, List, [], ◌∷◌, Ordering, Less, Equal, Greater, Result, Ok, Err, refl, sym, ap, subst, arith}
+use Rattle.std.specs.Ordering.{match_ordering}
 use Rattle.std.specs.Prelude.{nat_le, not, if◌then◌else◌}
 use Rattle.std.proofs.lemmas.Bool.{leb-true}
 use Rattle.wf_ast.specs.Apply.{View, apply}
 use Rattle.wf_ast.specs.Eval.{truth, whole, operate, at_key, at_index, eval, eval_all, joined, fill, fill_all, fill_fields}
-use Rattle.wf_ast.specs.Tree.{Expr, Template, Scalar, Whole, Joined, Listed, Mapped}
-use Rattle.wf_value.specs.Data.{Data, boolean, text, list, map, depth, size}
+use Rattle.wf_ast.specs.Tree.{Expr, Template, Scalar, Whole, Joined, Listed, Mapped, Fields, no_fields, field}
+use Rattle.wf_value.specs.Data.{Data, boolean, text, list, map, depth, size, Pairs, no_pairs, pair, pairs_depth, pairs_of}
 use Rattle.wf_value.specs.Errors.{Answer, ◌>>=◌, error_map, or_error, kept}
+use Rattle.wf_value.specs.Maps.{key_cmp, with_value}
+use Rattle.wf_value.specs.Pairs.{Text, pair_list, put}
 use Rattle.wf_value.specs.Numbers.{whole_negative, as_answer}
 use Rattle.wf_value.specs.declared.NumFault.{NumFault}
 use Rattle.wf_value.specs.declared.Tag.{Tag}
@@ -82,6 +85,38 @@ module _ (s : View) where
 -- the value of a template
 pub value_shallow : (t : Template) (s : View) (v : Data) → fill t s ≡ Ok v → depth v ≤ 100
 value_shallow t s v is = subst Shallow is (fill_shallow s t)
+
+-- ## Arguments
+-- those of a map, with one more
+module _ (k : Text) (d : Data) (low : depth d ≤ 100) where
+  placed : (o : Ordering) (p : Text × Data) (ps : List (Text × Data)) → pairs_depth (pairs_of (p ∷ ps)) ≤ 100 → (pairs_depth (pairs_of ps) ≤ 100 → pairs_depth (pairs_of (with_value k d ps)) ≤ 100)
+      → pairs_depth (pairs_of (match_ordering o ((k, d) ∷ p ∷ ps) ((p.0, d) ∷ ps) (p ∷ with_value k d ps))) ≤ 100
+  placed Less p ps h later = omega (arith, low, h)
+  placed Equal p ps h later = omega (arith, low, h)
+  placed Greater p ps h later = let rest = later (omega (arith, h)) in omega (arith, h, rest)
+
+  put_shallow : (ps : List (Text × Data)) → pairs_depth (pairs_of ps) ≤ 100 → pairs_depth (pairs_of (with_value k d ps)) ≤ 100
+  put_shallow [] h = omega (arith, low)
+  put_shallow (p ∷ ps) h = placed (key_cmp k p.0) p ps h (put_shallow ps)
+
+as_listed : (ps : Pairs) → pairs_of (pair_list ps) ≡ ps
+as_listed no_pairs = refl
+as_listed (pair k d ps) = ap (pair k d) (as_listed ps)
+
+-- the arguments of a call
+pub args_shallow : (fs : Fields) (s : View) (ps : Pairs) → fill_fields fs s ≡ Ok ps → pairs_depth ps ≤ 100
+args_shallow no_fields s ps is = let none : no_pairs ≡ ps = cc is in subst (λ (qs : Pairs). pairs_depth qs ≤ 100) none (omega arith)
+args_shallow (field k t fs) s ps is = first (fill t s) (value_shallow t s) (args_shallow fs s) is
+  where
+    rest : (d : Data) → depth d ≤ 100 → (r : Answer Pairs) → ((qs : Pairs) → r ≡ Ok qs → pairs_depth qs ≤ 100) → (r >>= λ qs. Ok (put k d qs)) ≡ Ok ps → pairs_depth ps ≤ 100
+    rest d low (Err t) h e = absurd (cc e)
+    rest d low (Ok qs) h e =
+        let same : put k d qs ≡ ps = cc e in
+        subst (λ (xs : Pairs). pairs_depth xs ≤ 100) same (put_shallow k d low (pair_list qs) (subst (λ (xs : Pairs). pairs_depth xs ≤ 100) (sym (as_listed qs)) (h qs refl)))
+
+    first : (r : Answer Data) → ((d : Data) → r ≡ Ok d → depth d ≤ 100) → ((qs : Pairs) → fill_fields fs s ≡ Ok qs → pairs_depth qs ≤ 100) → (r >>= λ d. fill_fields fs s >>= λ qs. Ok (put k d qs)) ≡ Ok ps → pairs_depth ps ≤ 100
+    first (Err t) h others e = absurd (cc e)
+    first (Ok d) h others e = rest d (h d refl) (fill_fields fs s) others e
 
 -- and so the map of an error
 pub error_shallow : (t : Tag) → depth (error_map t) ≤ 100

@@ -1,16 +1,19 @@
 -- Tables whose steps are built.
 --     is_table_built     none is parallel or retries, and none calls a function that isn't built
 --     Tells              such a table tells of a program's parts
---     AreTargets         what its calls name: workflows, and functions that are built
+--     AreTargets         what its calls name: workflows, functions that are built, and calls of HTTP
 use Rattle.std.specs.Prelude.{◌≡◌, ℕ, Bool, true, false, ◌&&◌, not, List, map, option_map, slice_get, is_none, is_some, Some, None, Option}
 use Rattle.std.specs.List.{list_all}
 use Rattle.wf_ast.specs.Flows.{flow}
-use Rattle.wf_ast.specs.Func.{Listing, func_named}
+use Rattle.wf_ast.specs.Func.{Listing, func_named, special_named}
 use Rattle.wf_ast.specs.Tree.{Flow}
 use Rattle.wf_ast.specs.declared.Func.{Func}
+use Rattle.wf_callbacks.specs.Plain.{plain_method}
+use Rattle.wf_callbacks.specs.declared.method.Method.{Method}
 use Rattle.wf_eval.specs.Built.{is_built}
 use Rattle.wf_frames.specs.Fits.{has_next, view_at}
 use Rattle.wf_library.specs.declared.functions.Function.{Function}
+use Rattle.wf_model.specs.Calls.{http_method}
 use Rattle.wf_nodes.specs.Spots.{FlowAt, NoPart, Part, Spot, part_at, part_next}
 use Rattle.wf_nodes.specs.Table.{Resolves}
 use Rattle.wf_nodes.specs.declared.node.CallNode.{CallNode}
@@ -64,11 +67,18 @@ pub record IsWorkflow (fs : List Flow) (ns : List Spot) (n : ℕ) (x : Text) : T
   pub named : is_some (flow fs x) ≡ true
   pub part : part_at ns n ≡ flow_part (flow fs x)
 
+-- no workflow and no function of expressions that may be called has this name, but a call of HTTP whose name tells this method, or none
+pub record IsHttp (fs : List Flow) (m : Option Method) (x : Text) : Type 0 where
+  pub free : is_some (flow fs x) ≡ false
+  pub unlisted : is_some (func_named x) ≡ false
+  pub named : http_method (special_named x) ≡ Some (option_map plain_method m)
+
 -- a call of this name comes to this
 abbrev pub IsTarget : List Flow → List Spot → Option Target → Text → Type 0
 IsTarget fs ns None x = ⊥
 IsTarget fs ns (Some (target.Flow n)) x = IsWorkflow fs ns n x
 IsTarget fs ns (Some (target.Function g)) x = IsFunction fs g x
+IsTarget fs ns (Some (target.Http m)) x = IsHttp fs m x
 
 -- what each call names stands at the call's own number
 abbrev pub AreTargets : List Flow → List Spot → List Node → List Target → Type 0

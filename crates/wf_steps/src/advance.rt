@@ -7,7 +7,7 @@ ghost use Rattle.wf_frames.specs.Frames.{inner};
 ghost use Rattle.wf_frames.specs.Owned.{own_of};
 ghost use Rattle.wf_frames.specs.declared.frames.Frame.TheVariants as frame;
 ghost use Rattle.wf_steps.specs.Built.{Tells};
-ghost use Rattle.wf_steps.specs.Steps.{HasStep, IsBefore, IsBeforeEntry, IsReady, Moves};
+ghost use Rattle.wf_steps.specs.Steps.{HasStep, IsBefore, IsBeforeEntry, IsNoCall, IsReady, Issues, Moves, WantsSame};
 ghost use Rattle.wf_nodes.specs.Spots.{Spot, owners_at};
 
 use crate::nodes::{block, entries};
@@ -35,6 +35,10 @@ fn do_step<K: Look>(
     ensures moves { IfOk result
         (Moves ns (frame.Do list at ∷ inner frames.old) (seen (K.sight look.now) now)
         (inner frames.new)) }
+    ensures issues { IfOk result
+        (Issues ns (frame.Do list at ∷ inner frames.old) (seen (K.sight look.now) now)
+        (inner frames.new)) }
+    ensures same { IfOk result (WantsSame ns (frame.Do list at ∷ inner frames.old)) }
     ensures fits { OnOk result (Fits ns nodes.now (inner frames.new)) }
     ensures own { OnOk result (own_of frames.new ≡ own_of frames.old) }
     ensures ready { IfOk result (IsReady ns nodes.now (inner frames.new)) }
@@ -61,6 +65,10 @@ fn lone_step<K: Look>(
     ensures moves { IfOk result
         (Moves ns (frame.Lone n false ∷ inner frames.old) (seen (K.sight look.now) now)
         (inner frames.new)) }
+    ensures issues { IfOk result
+        (Issues ns (frame.Lone n false ∷ inner frames.old) (seen (K.sight look.now) now)
+        (inner frames.new)) }
+    ensures same { IfOk result (WantsSame ns (frame.Lone n false ∷ inner frames.old)) }
     ensures fits { OnOk result (Fits ns nodes.now (inner frames.new)) }
     ensures own { OnOk result (own_of frames.new ≡ own_of frames.old) }
     ensures ready { IfOk result (IsReady ns nodes.now (inner frames.new)) }
@@ -81,6 +89,7 @@ fn entry_step(nodes: &[Node], n: u32, at: usize, frames: &mut Frames) -> Result<
     ensures fits { OnOk result (Fits ns nodes.now (inner frames.new)) }
     ensures own { OnOk result (own_of frames.new ≡ own_of frames.old) }
     ensures ready { IfOk result (IsReady ns nodes.now (inner frames.new)) }
+    ensures no_call { IfOk result IsNoCall }
 {
     let entry = entries(nodes, n)[at];
     frames.push(Frame::Entries(n, at + 1))?;
@@ -102,6 +111,9 @@ pub fn step_of<K: Look>(
     requires fits { Fits ns nodes.now (frame ∷ inner frames.old) }
     ensures moves { IfOk result
         (Moves ns (frame ∷ inner frames.old) (seen (K.sight look.now) now) (inner frames.new)) }
+    ensures issues { IfOk result
+        (Issues ns (frame ∷ inner frames.old) (seen (K.sight look.now) now) (inner frames.new)) }
+    ensures same { IfOk result (WantsSame ns (frame ∷ inner frames.old)) }
     ensures fits { OnOk result (Fits ns nodes.now (inner frames.new)) }
     ensures own { OnOk result (own_of frames.new ≡ own_of frames.old) }
     ensures ready { IfOk result (IsReady ns nodes.now (inner frames.new)) }

@@ -14,4 +14,4 @@ pub use advance::step_of;
 pub use kinds::{Kind, frame_kind};
 pub use nodes::{are_built, block, entries, first_of, loop_node, try_node};
 pub use step::{Step, map_of};
-pub use target::Target;
+pub use target::{Target, http_named};

@@ -11,13 +11,14 @@ ghost use Rattle.wf_ast.specs.Apply.{View};
 ghost use Rattle.wf_model.specs.Move as move;
 ghost use Rattle.wf_model.specs.Move.{entered};
 ghost use Rattle.wf_steps.specs.Built.{Tells};
-ghost use Rattle.wf_steps.specs.Steps.{CallsWith, CarriesOut, Fails, Holds, IsDone, IsReady, Performs, RaisesValue, ReturnsValue, Within, arm_in, ends, is_idle, is_idle_kind};
+ghost use Rattle.wf_steps.specs.Steps.{AsksWith, CallsWith, CarriesCall, CarriesOut, Fails, Holds, IsDone, IsNoCall, IsOf, IsReady, Performs, PerformsCall, RaisesValue, ReturnsValue, Within, arm_in, ends, is_idle, is_idle_kind};
 ghost use Rattle.wf_shapes.specs.Built.{are_built};
 ghost use Rattle.wf_frames.specs.declared.frames.Frame.{Frame};
 ghost use Rattle.wf_nodes.specs.Kinds.{call_by, over_by};
 ghost use Rattle.wf_nodes.specs.Shapes.{shape_by};
 ghost use Rattle.wf_nodes.specs.Spots.{Spot, arms_by, owners_at, part_at, part_body, part_next};
 ghost use Rattle.wf_nodes.specs.Table.{ArmsStandIn};
+ghost use Rattle.wf_nodes.specs.declared.node.CallNode as call_node;
 ghost use Rattle.wf_nodes.specs.declared.node.LoopNode.{LoopNode};
 ghost use Rattle.wf_nodes.specs.declared.node.Node.{Node};
 ghost use Rattle.wf_value.specs.Data.{depth};
@@ -317,6 +318,9 @@ fn calls<K: Look>(
     requires { are_built codes.now ≡ true }
     ensures called { IfOk result (CallsWith n (call_by codes.now call.now)
         (seen (K.sight look.now) now)) }
+    ensures asked { IfOk result (AsksWith n (call_by codes.now call.now)
+        (seen (K.sight look.now) now)) }
+    ensures of { IfOk result (IsOf n) }
     ensures ready { (ns : List Spot) (nodes : List Node) (fs : List Frame)
         → IsCall nodes n call.now → IfOk result (IsReady ns nodes fs) }
 {
@@ -367,8 +371,8 @@ fn enter_try(
     Ok(Step::Goes)
 }
 
-// The body of a node is carried out.
-fn perform<K: Look>(
+// The body of a node that is no call is carried out.
+fn perform_plain<K: Look>(
     alloc: Global,
     nodes: &[Node],
     n: u32,
@@ -379,6 +383,7 @@ fn perform<K: Look>(
     ghost ns: { List Spot }
     requires tells { Tells ns nodes.now }
     requires within { n < length nodes.now }
+    requires other { (f : call_node.CallNode) → IsCall nodes.now n f → ⊥ }
     requires fits { Fits ns nodes.now (inner frames.old) }
     requires inside { owners_at ns n ≡ reach (inner frames.old) }
     ensures performed { IfOk result
@@ -387,6 +392,7 @@ fn perform<K: Look>(
     ensures fits { OnOk result (Fits ns nodes.now (inner frames.new)) }
     ensures own { OnOk result (own_of frames.new ≡ own_of frames.old) }
     ensures ready { IfOk result (IsReady ns nodes.now (inner frames.new)) }
+    ensures no_call { IfOk result IsNoCall }
 {
     let node = &nodes[n as usize];
     let codes = node.codes.items();
@@ -406,10 +412,41 @@ fn perform<K: Look>(
         }
         NodeKind::Raise(shape) => raises(alloc, shape, codes, look, now),
         NodeKind::Return(shape) => returns(alloc, shape, codes, look, now),
-        NodeKind::Call(call) => calls(alloc, n, call, codes, look, now),
         NodeKind::Try(tried) => enter_try(nodes, n, tried, frames),
         NodeKind::Parallel(_) => unreachable!(),
         _ => Ok(Step::Goes),
+    }
+}
+
+// The body of a node is carried out.
+fn perform<K: Look>(
+    alloc: Global,
+    nodes: &[Node],
+    n: u32,
+    frames: &mut Frames,
+    look: &K,
+    now: u64,
+) -> Result<Step, OutOfMemory>
+    ghost ns: { List Spot }
+    requires tells { Tells ns nodes.now }
+    requires within { n < length nodes.now }
+    requires fits { Fits ns nodes.now (inner frames.old) }
+    requires inside { owners_at ns n ≡ reach (inner frames.old) }
+    ensures performed { IfOk result
+        (Performs ns (part_body (part_at ns n)) (seen (K.sight look.now) now) (inner frames.old)
+        (inner frames.new)) }
+    ensures asked { IfOk result
+        (PerformsCall ns (part_body (part_at ns n)) (seen (K.sight look.now) now)
+        (inner frames.old) (inner frames.new)) }
+    ensures of { IfOk result (IsOf n) }
+    ensures fits { OnOk result (Fits ns nodes.now (inner frames.new)) }
+    ensures own { OnOk result (own_of frames.new ≡ own_of frames.old) }
+    ensures ready { IfOk result (IsReady ns nodes.now (inner frames.new)) }
+{
+    let node = &nodes[n as usize];
+    match &node.kind {
+        NodeKind::Call(call) => calls(alloc, n, call, node.codes.items(), look, now),
+        _ => perform_plain(alloc, nodes, n, frames, look, now),
     }
 }
 
@@ -430,6 +467,10 @@ pub(crate) fn carry_out<K: Look>(
     ensures carried { IfOk result
         (CarriesOut ns (part_body (part_at ns n)) (part_next (part_at ns n))
         (seen (K.sight look.now) now) (inner frames.old) (inner frames.new)) }
+    ensures asked { IfOk result
+        (CarriesCall ns (part_body (part_at ns n)) (part_next (part_at ns n))
+        (seen (K.sight look.now) now) (inner frames.old) (inner frames.new)) }
+    ensures of { IfOk result (IsOf n) }
     ensures fits { OnOk result (Fits ns nodes.now (inner frames.new)) }
     ensures own { OnOk result (own_of frames.new ≡ own_of frames.old) }
     ensures ready { IfOk result (IsReady ns nodes.now (inner frames.new)) }

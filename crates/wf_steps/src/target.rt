@@ -1,9 +1,32 @@
 // What the calls of a program come to.
+ghost use Rattle.std.specs.Prelude.{◌≡◌, option_map};
+ghost use Rattle.wf_ast.specs.Func.{special_named};
+ghost use Rattle.wf_callbacks.specs.Plain.{plain_method};
+ghost use Rattle.wf_model.specs.Calls.{http_method};
+
+use wf_callbacks::Method;
 use wf_library::Function;
 
-/// What a call names: the workflow of the node with this number, or a function.
+/// What a call names: the workflow of the node with this number, a function, or a call of HTTP, whose name tells its method, or none
+/// where the method is among the arguments.
 #[derive(Clone, Copy)]
 pub enum Target {
     Flow(u32),
     Function(Function),
+    Http(Option<Method>),
+}
+
+/// The call of HTTP of a name, with the method that the name tells.
+pub fn http_named(name: &str) -> Option<Option<Method>>
+    ensures { option_map (option_map plain_method) result ≡ http_method (special_named name.now) }
+{
+    match name {
+        "http.get" => Some(Some(Method::Get)),
+        "http.post" => Some(Some(Method::Post)),
+        "http.put" => Some(Some(Method::Put)),
+        "http.patch" => Some(Some(Method::Patch)),
+        "http.delete" => Some(Some(Method::Delete)),
+        "http.request" => Some(None),
+        _ => None,
+    }
 }

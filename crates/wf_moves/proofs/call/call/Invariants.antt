@@ -5,3 +5,6 @@ ghost-call_flow g a = g.around
 
 abbrev pub ghost-evaluates : goal.ghost-evaluates
 ghost-evaluates g a = g.around
+
+abbrev pub ghost-sends : goal.ghost-sends
+ghost-sends g a = g.around

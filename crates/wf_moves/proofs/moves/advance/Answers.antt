@@ -12,9 +12,10 @@ use Rattle.wf_model.specs.Layers.{view}
 use Rattle.wf_steps.specs.Steps.{Moves}
 use Rattle.wf_frames.specs.Sights.{sight_of}
 use Rattle.wf_frames.specs.declared.frames.Frame.TheVariants as frame
-use Rattle.wf_moves.proofs.Leaving.{going_has, going_plain, no_back}
+use Rattle.wf_moves.proofs.Leaving.{going_has, going_plain, going_step, no_back}
+use Rattle.wf_moves.proofs.Stepping.{back_stepped, loop_stepped, stepped_same}
 use Rattle.wf_steps.proofs.Performed.{with_ok}
-use Rattle.wf_moves.proofs.Turning.{loop_there, moved_on, moved_same}
+use Rattle.wf_moves.proofs.Turning.{loop_there, moved_same}
 use Rattle.wf_scope.specs.Store.{layers_of}
 use Rattle.wf_moves.proofs.moves.advance.Goals as goal
 
@@ -30,36 +31,35 @@ turn-requires g c =
     let own = own_pushed c.pop.new.self.first c.args.frames.now.first c.in-Some.frame (inner c.pop.new.self) (inner c.args.frames.now) (sym c.in-Some.ensures.first) (going_plain c.args.nodes.now c.in-Some.frame has (no_back c.in-Some.frame (inner c.args.frames.now) (inner c.pop.new.self) c.in-Some.ensures.popped (sym c.is_at_back.ensures ∙ c.if-is_at_back.false))) c.in-Some.ensures.popped in
     (c.requires.0, (record { fits = fits.1; linked = subst (λ os. IsLinked g.around os c.args.scopes.now) own c.requires.1.1.0.linked }, c.loop_node-body.ensures))
 
-pub returns-in-Loop-clause-moved : goal.returns-in-Loop-clause-moved
-returns-in-Loop-clause-moved g c =
+pub step_on-requires : goal.step_on-requires
+step_on-requires g c =
+    let fits = subst (Fits g.around.spots c.args.nodes.now) c.in-Some.ensures.popped c.requires.1.1.0.fits in
+    let has = going_has c.args.nodes.now c.in-Some.frame (inner c.args.frames.now) (inner c.pop.new.self) c.in-Some.ensures.popped c.requires.1.1.1 in
+    let back = no_back c.in-Some.frame (inner c.args.frames.now) (inner c.pop.new.self) c.in-Some.ensures.popped (sym c.is_at_back.ensures ∙ c.if-is_at_back.false) in
+    let own = own_pushed c.pop.new.self.first c.args.frames.now.first c.in-Some.frame (inner c.pop.new.self) (inner c.args.frames.now) (sym c.in-Some.ensures.first) (going_plain c.args.nodes.now c.in-Some.frame has back) c.in-Some.ensures.popped in
+    (c.requires.0, (c.requires.1.0, (going_step c.args.nodes.now c.in-Some.frame has back c.in_default-frame.not-Loop, (fits, subst (λ os. IsLinked g.around os c.args.scopes.now) own c.requires.1.1.0.linked))))
+
+pub returns-in_ok-turn-in-Loop-clause-moved : goal.returns-in_ok-turn-in-Loop-clause-moved
+returns-in_ok-turn-in-Loop-clause-moved g c s d sees reaches agrees =
     let has = going_has c.args.nodes.now c.in-Some.frame (inner c.args.frames.now) (inner c.pop.new.self) c.in-Some.ensures.popped c.requires.1.1.1 in
     let own = own_pushed c.pop.new.self.first c.args.frames.now.first c.in-Some.frame (inner c.pop.new.self) (inner c.args.frames.now) (sym c.in-Some.ensures.first) (going_plain c.args.nodes.now c.in-Some.frame has (no_back c.in-Some.frame (inner c.args.frames.now) (inner c.pop.new.self) c.in-Some.ensures.popped (sym c.is_at_back.ensures ∙ c.if-is_at_back.false))) c.in-Some.ensures.popped in
     let fs = c.in-Some.ensures.popped ∙ ap (λ f. f ∷ inner c.pop.new.self) c.in-Loop.is in
-    with_ok _ _ c.turn.result
-    (λ w h s d sees agrees. moved_same g.around s (own_of c.args.frames.now) (own_of c.pop.new.self) (layers_of c.args.scopes.now) own d (inner c.args.frames.now) (frame.Loop c.in-Loop.n c.in-Loop.left c.in-Loop.index ∷ inner c.pop.new.self) w (local_of g.around c.turn.new.frames c.turn.new.scopes) fs
-    (h s d agrees))
-    c.turn.ensures.moved
+    let m = local_of g.around c.turn.new.frames c.turn.new.scopes in
+    subst (λ y. IsMove y c.in_ok-turn-in-Loop.field-0 m) (sym (loop_stepped g.around.spots s (inner c.args.frames.now) (inner c.pop.new.self) c.in-Loop.n c.in-Loop.index c.in-Loop.left (beside d g.around c.args.frames.now c.args.scopes.now) fs))
+    (moved_same g.around s (own_of c.args.frames.now) (own_of c.pop.new.self) (layers_of c.args.scopes.now) own d (inner c.args.frames.now) (frame.Loop c.in-Loop.n c.in-Loop.left c.in-Loop.index ∷ inner c.pop.new.self) c.in_ok-turn-in-Loop.field-0 m fs
+    (c.in_ok-turn-in-Loop.ensures.moved s d agrees))
 
-pub returns-in_ok-step-in_default-frame : goal.returns-in_ok-step-in_default-frame
-returns-in_ok-step-in_default-frame g c =
+pub returns-in_default-frame-clause-moved : goal.returns-in_default-frame-clause-moved
+returns-in_default-frame-clause-moved g c =
     let has = going_has c.args.nodes.now c.in-Some.frame (inner c.args.frames.now) (inner c.pop.new.self) c.in-Some.ensures.popped c.requires.1.1.1 in
     let own = own_pushed c.pop.new.self.first c.args.frames.now.first c.in-Some.frame (inner c.pop.new.self) (inner c.args.frames.now) (sym c.in-Some.ensures.first) (going_plain c.args.nodes.now c.in-Some.frame has (no_back c.in-Some.frame (inner c.args.frames.now) (inner c.pop.new.self) c.in-Some.ensures.popped (sym c.is_at_back.ensures ∙ c.if-is_at_back.false))) c.in-Some.ensures.popped in
-    let both = own ∙ sym c.in_ok-step-in_default-frame.ensures.own in
-    let st = c.in_ok-step-in_default-frame.step in
-    let v = seen (sight_of c.seen-look.result) c.args.facts.now.now in
-    let moves_so = subst (λ fs. Moves g.around.spots fs v (inner c.step_of.new.frames) st) (sym c.in-Some.ensures.popped) c.in_ok-step-in_default-frame.ensures.moves in
-    record {
-      moved = with_ok _ _ c.finish.result
-          (λ w h s d sees agrees. moved_on g.around s (own_of c.args.frames.now) (own_of c.step_of.new.frames) (layers_of c.args.scopes.now) both d (inner c.args.frames.now) (inner c.step_of.new.frames) st v w (local_of g.around c.finish.new.frames c.finish.new.scopes) moves_so
-          (subst (λ os. view s (standing d (held_of g.around.keys os (layers_of c.args.scopes.now))) ≡ v) (sym own) (c.seen-look.ensures s sees)) (h s d sees agrees))
-          c.finish.ensures.moved;
-      stands = c.finish.ensures.stands;
-      left = c.finish.ensures.left;
-    }
+    with_ok _ _ c.step_on.result
+    (λ w h s d sees reaches agrees. stepped_same g.around s (own_of c.args.frames.now) (own_of c.pop.new.self) (layers_of c.args.scopes.now) d (inner c.args.frames.now) (c.in-Some.frame ∷ inner c.pop.new.self) w (local_of g.around c.step_on.new.frames c.step_on.new.scopes) own c.in-Some.ensures.popped (h s d sees reaches agrees))
+    c.step_on.ensures.moved
 
 pub returns-then-is_at_back-clause-moved : goal.returns-then-is_at_back-clause-moved
-returns-then-is_at_back-clause-moved g c =
-    with_ok _ _ c.returns.result
-    (λ w h s d sees agrees. subst (λ (m : Moved). IsMove m w (local_of g.around c.returns.new.frames c.returns.new.scopes))
-    (sym (moves_back g.around.spots s (inner c.args.frames.now) (beside d g.around c.args.frames.now c.args.scopes.now) (sym c.is_at_back.ensures ∙ c.if-is_at_back.true))) (h s d agrees))
-    c.returns.ensures.moved
+returns-then-is_at_back-clause-moved g c s d sees reaches agrees =
+    let at = sym c.is_at_back.ensures ∙ c.if-is_at_back.true in
+    let l = beside d g.around c.args.frames.now c.args.scopes.now in
+    subst (λ (m : Moved). IsMove m c.in_ok-returns.field-0 (local_of g.around c.returns.new.frames c.returns.new.scopes))
+    (sym (back_stepped g.around.spots s (inner c.args.frames.now) l at ∙ moves_back g.around.spots s (inner c.args.frames.now) l at)) (c.in_ok-returns.ensures.moved s d agrees)

@@ -3,23 +3,20 @@ use Rattle.wf_frames.specs.Frames.{inner}
 use Rattle.wf_frames.specs.Owned.{beside, control_of, local_of}
 use Rattle.wf_moves.specs.Moved.{IsMove}
 use Rattle.wf_steps.proofs.Performed.{with_ok}
-use Rattle.wf_steps.specs.Steps.{IsReady, come}
+use Rattle.wf_steps.specs.Steps.{IsNoCall, IsReady, come}
 use Rattle.wf_moves.proofs.moves.finish.Goals as goal
 
 pub jump-requires : goal.jump-requires
-jump-requires g c = (c.requires.0, (c.requires.1.1.0, subst (λ st. IsReady g.around.spots c.args.nodes.now (inner c.args.frames.now) st) c.in-Jumps.is c.requires.1.1.1))
+jump-requires g c = (c.requires.0, (c.requires.1.0, subst (λ st. IsReady g.around.spots c.args.nodes.now (inner c.args.frames.now) st) c.in-Jumps.is c.requires.1.1.0))
 
 pub assign-requires : goal.assign-requires
-assign-requires g c = (c.requires.0, (c.requires.1.1.0, subst (λ st. IsReady g.around.spots c.args.nodes.now (inner c.args.frames.now) st) c.in-Assigns.is c.requires.1.1.1))
+assign-requires g c = (c.requires.0, (c.requires.1.0, subst (λ st. IsReady g.around.spots c.args.nodes.now (inner c.args.frames.now) st) c.in-Assigns.is c.requires.1.1.0))
 
 pub raises-requires : goal.raises-requires
-raises-requires g c = (c.requires.0, (c.requires.1.1.0, subst (λ st. IsReady g.around.spots c.args.nodes.now (inner c.args.frames.now) st) c.in-Raises.is c.requires.1.1.1))
+raises-requires g c = (c.requires.0, (c.requires.1.0, subst (λ st. IsReady g.around.spots c.args.nodes.now (inner c.args.frames.now) st) c.in-Raises.is c.requires.1.1.0))
 
 pub returns-requires : goal.returns-requires
-returns-requires g c = (c.requires.0, (c.requires.1.1.0, subst (λ st. IsReady g.around.spots c.args.nodes.now (inner c.args.frames.now) st) c.in-Returns.is c.requires.1.1.1))
-
-pub call-requires : goal.call-requires
-call-requires g c = (c.requires.0, (c.requires.1.0, (c.requires.1.1.0, subst (λ st. IsReady g.around.spots c.args.nodes.now (inner c.args.frames.now) st) c.in-Calls.is c.requires.1.1.1)))
+returns-requires g c = (c.requires.0, (c.requires.1.0, subst (λ st. IsReady g.around.spots c.args.nodes.now (inner c.args.frames.now) st) c.in-Returns.is c.requires.1.1.0))
 
 pub returns-in-Goes-clause-moved : goal.returns-in-Goes-clause-moved
 returns-in-Goes-clause-moved g c s d sees agrees =
@@ -49,8 +46,5 @@ returns-in-Assigns-clause-moved g c =
     (λ w h s d sees agrees. subst (λ st. IsMove (come g.around.spots st s (control_of g.around c.args.frames.now) (beside d g.around c.args.frames.now c.args.scopes.now)) w (local_of g.around c.assign.new.frames c.assign.new.scopes)) (sym c.in-Assigns.is) (h s d sees agrees))
     c.assign.ensures.moved
 
-pub returns-in-Calls-clause-moved : goal.returns-in-Calls-clause-moved
-returns-in-Calls-clause-moved g c =
-    with_ok _ _ c.call.result
-    (λ w h s d sees agrees. subst (λ st. IsMove (come g.around.spots st s (control_of g.around c.args.frames.now) (beside d g.around c.args.frames.now c.args.scopes.now)) w (local_of g.around c.call.new.frames c.call.new.scopes)) (sym c.in-Calls.is) (h s d sees agrees))
-    c.call.ensures.moved
+pub unreachable-requires : goal.unreachable-requires
+unreachable-requires g c = subst IsNoCall c.in-Calls.is c.requires.1.1.1

@@ -14,6 +14,3 @@ ghost-jump g a = g.around
 
 abbrev pub ghost-assign : goal.ghost-assign
 ghost-assign g a = g.around
-
-abbrev pub ghost-call : goal.ghost-call
-ghost-call g a = g.around

@@ -8,7 +8,8 @@ use Rattle.wf_ast.specs.Apply.{View}
 use Rattle.wf_steps.proofs.Advancing.{lone_first, some_step}
 use Rattle.wf_steps.proofs.Performed.{with_ok}
 use Rattle.wf_steps.specs.declared.step.Step.TheVariants as step
-use Rattle.wf_steps.specs.Steps.{HasStep, Moves}
+use Rattle.wf_steps.proofs.Asking.{entries_issue, no_call_same, then_issues}
+use Rattle.wf_steps.specs.Steps.{HasStep, IsNoCall, Issues, Moves, WantsSame}
 use Rattle.wf_steps.proofs.advance.step_of.Goals as goal
 
 pub do_step-requires : goal.do_step-requires
@@ -56,3 +57,35 @@ returns-in-Then-clause-ready g c =
 
 pub unreachable-requires : goal.unreachable-requires
 unreachable-requires g c = some_step c.args.nodes.now c.args.frame c.requires.1.1.0 c.in_default.not-Do c.in_default.not-Lone c.in_default.not-Entries c.in_default.not-Then
+
+pub returns-in-Do-clause-issues : goal.returns-in-Do-clause-issues
+returns-in-Do-clause-issues g c =
+    subst (λ f. IfOk c.do_step.result (Issues g.ns (f ∷ inner c.args.frames.now) (seen (g.K.Look.sight c.args.look.now) c.args.now) (inner c.do_step.new.frames))) (sym c.in-Do.is) c.do_step.ensures.issues
+
+pub returns-in-Do-clause-same : goal.returns-in-Do-clause-same
+returns-in-Do-clause-same g c = subst (λ f. IfOk c.do_step.result (WantsSame g.ns (f ∷ inner c.args.frames.now))) (sym c.in-Do.is) c.do_step.ensures.same
+
+pub returns-in-Lone-clause-issues : goal.returns-in-Lone-clause-issues
+returns-in-Lone-clause-issues g c =
+    let is = lone_first c.args.nodes.now c.args.frame c.in-Lone.n c.in-Lone.field-1 c.requires.1.1.0 c.in-Lone.is in
+    subst (λ f. IfOk c.lone_step.result (Issues g.ns (f ∷ inner c.args.frames.now) (seen (g.K.Look.sight c.args.look.now) c.args.now) (inner c.lone_step.new.frames))) (sym is) c.lone_step.ensures.issues
+
+pub returns-in-Lone-clause-same : goal.returns-in-Lone-clause-same
+returns-in-Lone-clause-same g c =
+    let is = lone_first c.args.nodes.now c.args.frame c.in-Lone.n c.in-Lone.field-1 c.requires.1.1.0 c.in-Lone.is in
+    subst (λ f. IfOk c.lone_step.result (WantsSame g.ns (f ∷ inner c.args.frames.now))) (sym is) c.lone_step.ensures.same
+
+pub returns-in-Entries-clause-issues : goal.returns-in-Entries-clause-issues
+returns-in-Entries-clause-issues g c =
+    let v = seen (g.K.Look.sight c.args.look.now) c.args.now in
+    subst (λ f. IfOk c.entry_step.result (Issues g.ns (f ∷ inner c.args.frames.now) v (inner c.entry_step.new.frames))) (sym c.in-Entries.is)
+    (with_ok IsNoCall (Issues g.ns (frame.Entries c.in-Entries.n c.in-Entries.at ∷ inner c.args.frames.now) v (inner c.entry_step.new.frames)) c.entry_step.result
+    (λ st h. entries_issue g.ns c.in-Entries.n c.in-Entries.at v (inner c.args.frames.now) (inner c.entry_step.new.frames) st) c.entry_step.ensures.no_call)
+
+pub returns-in-Entries-clause-same : goal.returns-in-Entries-clause-same
+returns-in-Entries-clause-same g c = with_ok IsNoCall (WantsSame g.ns (c.args.frame ∷ inner c.args.frames.now)) c.entry_step.result (no_call_same g.ns (c.args.frame ∷ inner c.args.frames.now)) c.entry_step.ensures.no_call
+
+pub returns-in-Then-clause-issues : goal.returns-in-Then-clause-issues
+returns-in-Then-clause-issues g c =
+    let v = seen (g.K.Look.sight c.args.look.now) c.args.now in
+    subst (λ f. Issues g.ns (f ∷ inner c.args.frames.now) v (inner c.args.frames.now) (step.Jumps c.in-Then.n)) (sym c.in-Then.is) (then_issues g.ns c.in-Then.n v (inner c.args.frames.now) (inner c.args.frames.now) (step.Jumps c.in-Then.n))

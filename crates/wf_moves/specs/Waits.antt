@@ -1,0 +1,74 @@
+-- What a task waits for.
+--     task_local     the task by itself, with its wait
+--     CanGoOn        a task that is awake has a move, and one that waits for an answer has its call; with at most one proof
+use Rattle.std.specs.Prelude.{◌≡◌, ℕ, Bool, true, false, List, Some, None, Ok, Err, Option, Result, slice_get}
+use Rattle.std.specs.Coded.{Coded-set, coded_bool}
+use Rattle.wf_frames.specs.Frames.{inner, result_of}
+use Rattle.wf_frames.specs.Owned.{Around, local_of}
+use Rattle.wf_frames.specs.declared.frames.Frame.{Frame}
+use Rattle.wf_model.specs.Config as model
+use Rattle.wf_model.specs.Local.{Local}
+use Rattle.wf_moves.specs.Going.{Going, Going-prop}
+use Rattle.wf_moves.specs.declared.task.Task.{Task}
+use Rattle.wf_moves.specs.declared.wait.Wait.{Wait}
+use Rattle.wf_moves.specs.declared.wait.Wait.TheVariants as wait
+use Rattle.wf_nodes.specs.declared.node.Node.{Node}
+use Rattle.wf_nodes.specs.declared.node.NodeKind.{NodeKind}
+use Rattle.wf_nodes.specs.declared.node.NodeKind.TheVariants as kind
+use Rattle.wf_scope.specs.declared.scopes.Scopes.{Scopes}
+use Rattle.wf_value.specs.Data.{Data}
+use Rattle.wf_value.specs.Pairs.{Text}
+use Rattle.wf_value.specs.Plain.{plain}
+use Rattle.wf_value.specs.declared.Value.{Value}
+
+-- ## Waits
+-- the number of the call that is waited for
+abbrev pub call_in : Wait → Option ℕ
+call_in wait.Awake = None
+call_in (wait.Calling call node) = Some call
+
+-- the variable that takes the answer
+abbrev pub result_in : Around → Wait → Option Text
+result_in a wait.Awake = None
+result_in a (wait.Calling call node) = result_of a.spots (Some node)
+
+abbrev pub wait_view : Around → Wait → model.Wait
+wait_view a wait.Awake = model.Awake
+wait_view a (wait.Calling call node) = model.Calling call (result_of a.spots (Some node))
+
+-- the task by itself, at the control of its frames
+abbrev pub task_local : Around → Task → Scopes → Local
+task_local a t x = record (local_of a t.frames x) { wait = wait_view a t.wait }
+
+-- an answer's value, or the error that it raises
+abbrev pub answer_view : Result Value Value → Result Data Data
+answer_view (Ok v) = Ok (plain v)
+answer_view (Err e) = Err (plain e)
+
+-- ## Going on
+-- whether the node of this number is a call
+abbrev pub is_call_kind : NodeKind → Bool
+is_call_kind (kind.Call f) = true
+is_call_kind k = false
+
+abbrev pub is_call_node : Option Node → Bool
+is_call_node None = false
+is_call_node (Some x) = is_call_kind x.kind
+
+abbrev pub is_call_at : List Node → ℕ → Bool
+is_call_at nodes n = is_call_node (slice_get nodes n)
+
+-- these frames have a move, or it is a call that is waited for
+abbrev pub GoesFrom : List Node → Wait → List Frame → Type 0
+GoesFrom nodes wait.Awake fs = Going nodes fs
+GoesFrom nodes (wait.Calling call node) fs = is_call_at nodes node ≡ true
+
+abbrev pub CanGoOn : List Node → Task → Type 0
+CanGoOn nodes t = GoesFrom nodes t.wait (inner t.frames)
+
+GoesFrom-prop : (nodes : List Node) (w : Wait) (fs : List Frame) → IsProp (GoesFrom nodes w fs)
+GoesFrom-prop nodes wait.Awake fs = Going-prop nodes fs
+GoesFrom-prop nodes (wait.Calling call node) fs = Coded-set coded_bool _ _
+
+pub CanGoOn-prop : (nodes : List Node) (t : Task) → IsProp (CanGoOn nodes t)
+CanGoOn-prop nodes t = GoesFrom-prop nodes t.wait (inner t.frames)

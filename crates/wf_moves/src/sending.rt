@@ -1,0 +1,117 @@
+// The requests of calls of HTTP.
+ghost use Rattle.std.specs.Prelude.{◌≡◌, ◌*◌, ◌≤◌, IfOk, OnOk};
+ghost use Rattle.wf_callbacks.specs.Plain.{plain_method};
+ghost use Rattle.wf_eval.specs.Answers.{Answers};
+ghost use Rattle.wf_frames.specs.Frames.{inner};
+ghost use Rattle.wf_frames.specs.Owned.{Around, control_of, held_by};
+ghost use Rattle.wf_frames.specs.Sights.{Sees};
+ghost use Rattle.wf_frames.specs.Stands.{Stands};
+ghost use Rattle.wf_model.specs.Local.{Scene};
+ghost use Rattle.wf_moves.specs.Requests.{Reaches, request_by, sent_view};
+ghost use Rattle.wf_moves.specs.Tasks.{DoesBy, IsLeftSo, Names};
+ghost use Rattle.wf_nodes.specs.Spots.{part_at, part_body};
+ghost use Rattle.wf_steps.specs.Built.{IsHttp, Tells};
+ghost use Rattle.wf_steps.specs.Steps.{asks_with};
+ghost use Rattle.wf_value.specs.Data.{pairs_depth, pairs_of};
+ghost use Rattle.wf_value.specs.Errors.{later};
+
+use crate::assign::fails;
+use crate::finish::Done;
+use crate::wait::Wait;
+use std::alloc::Global;
+use wf_callbacks::Method;
+use wf_frames::{Facts, Frames};
+use wf_host::Routes;
+use wf_http_ask::{Request, asked_of, request_of};
+use wf_nodes::Node;
+use wf_scope::Scopes;
+use wf_value::{Map, OutOfMemory, Raise};
+
+/// What a request depends on beside the facts of its execution: where URLs lead, and how many calls were made before.
+pub struct Sending {
+    pub routes: Routes,
+    pub calls: u64,
+}
+
+// Written, and not derived: it is one call wherever it is let go.
+impl Drop for Sending {
+    fn drop(self) {
+        let Sending {
+            routes: _,
+            calls: _,
+        } = self;
+    }
+}
+
+/// A request that a task has made, and the moment at which it stops waiting for the answer, in milliseconds since 1970.
+#[derive(Drop)]
+pub struct Sent {
+    pub request: Request,
+    pub due: u64,
+}
+
+// The moment so many seconds after a reading. A sum past the greatest moment is that moment.
+fn due_of(now: u64, timeout: u64) -> u64
+    ensures { result ≡ later now (timeout * 1000) }
+{
+    now.saturating_add(timeout.saturating_mul(1_000))
+}
+
+// The request for which the arguments of a call ask, which gets this number.
+fn sent_of(
+    alloc: Global,
+    method: Option<Method>,
+    args: &Map,
+    facts: &Facts,
+    routes: &Routes,
+    number: u64,
+) -> Result<Sent, Raise>
+    requires { pairs_depth (pairs_of args.now) ≤ 100 }
+    ensures { Answers sent_view result (request_by method (pairs_of args.now) facts.entry.now
+        routes.now number) }
+{
+    let asked = asked_of(alloc, method, args)?;
+    let request = request_of(alloc, routes, &asked, facts.id.as_str(), number)?;
+    let due = due_of(facts.now, asked.timeout);
+    Ok(Sent { request, due })
+}
+
+/// The request of a step's call, with its arguments. An error in them is raised, and nothing is sent.
+pub(crate) fn sends(
+    alloc: Global,
+    nodes: &[Node],
+    n: u32,
+    method: Option<Method>,
+    args: &Map,
+    frames: &mut Frames,
+    scopes: &mut Scopes,
+    facts: &Facts,
+    sending: &Sending,
+) -> Result<Done, OutOfMemory>
+    ghost around: { Around }
+    requires tells { Tells around.spots nodes.now }
+    requires stands { Stands around nodes.now frames.old scopes.old }
+    requires names { Names nodes.now n (IsHttp around.flows method) }
+    requires shallow { pairs_depth (pairs_of args.now) ≤ 100 }
+    ensures moved { IfOk result (λ d. DoesBy around facts.entry.now sending.now
+        (λ s l. asks_with s (part_body (part_at around.spots n)) (pairs_of args.now)
+        (control_of around frames.old) l)
+        (held_by around frames.old scopes.old) d frames.new scopes.new) }
+    ensures stands { OnOk result (Stands around nodes.now frames.new scopes.new) }
+    ensures left { IfOk result (λ d. IsLeftSo nodes.now d (inner frames.new)) }
+{
+    // No execution makes so many calls.
+    let Some(number) = sending.calls.checked_add(1) else {
+        return Err(OutOfMemory);
+    };
+    match sent_of(alloc, method, args, facts, &sending.routes, number) {
+        Ok(sent) => Ok(Done::Sent(
+            sent,
+            Wait::Calling {
+                call: number,
+                node: n,
+            },
+        )),
+        Err(raise) => Ok(Done::Went(fails(alloc, nodes, raise, frames, scopes)?)),
+    }
+}
