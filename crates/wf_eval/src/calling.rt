@@ -41,7 +41,7 @@ pub fn apply<K: Look>(
         [v] => apply_one(alloc, f, v, look),
         [v, w] => apply_two(alloc, f, v, w, look),
         [u, v, w] => apply_three(alloc, f, u, v, w),
-        _ => Err(Raise::Error(Tag::TypeError)),
+        [_, _, _, _, ..] => Err(Raise::Error(Tag::TypeError)),
     }
 }
 
