@@ -7,6 +7,7 @@ use Rattle.std.specs.Coded.{Coded-set, codes, coded_bool, ×_prop, Unit-prop, Π
 use Rattle.wf_ast.specs.Flows.{flow}
 use Rattle.wf_ast.specs.Func.{func_named}
 use Rattle.wf_ast.specs.Tree.{Flow, Program}
+use Rattle.wf_eval.specs.Built.{is_built}
 use Rattle.wf_frames.specs.Frames.{inner}
 use Rattle.wf_frames.specs.Owned.{Around, control_of, local_of, own_of}
 use Rattle.wf_frames.specs.Standing.{Standing, Standing-prop}
@@ -56,6 +57,7 @@ IsFunction-prop : (fs : List Flow) (f : Function) (x : Text) → IsProp (IsFunct
 IsFunction-prop fs f x = λ g h i. record {
   free = Coded-set coded_bool (is_some (flow fs x)) false g.free h.free i;
   named = Coded-set (hlevel codes) (option_map listed (func_named x)) (Some (function_parts f)) g.named h.named i;
+  built = Coded-set coded_bool (is_built f.func) true g.built h.built i;
 }
 
 IsTarget-prop : (fs : List Flow) (ns : List Spot) (o : Option Target) (x : Text) → IsProp (IsTarget fs ns o x)

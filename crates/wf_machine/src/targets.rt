@@ -3,6 +3,7 @@ ghost use Rattle.std.specs.Prelude.{◌≡◌, IfOk, IfSome, None, Some, false, 
 ghost use Rattle.wf_ast.specs.Flows.{flow};
 ghost use Rattle.wf_ast.specs.Func.{func_named};
 ghost use Rattle.wf_check.specs.Seen.{nodes_of, program_of};
+ghost use Rattle.wf_eval.specs.Built.{is_built};
 ghost use Rattle.wf_machine.specs.Main.{Aims};
 ghost use Rattle.wf_nodes.specs.Spots.{spots};
 ghost use Rattle.wf_nodes.specs.declared.node.CallNode as call_node;
@@ -11,12 +12,13 @@ ghost use Rattle.wf_steps.specs.Built.{IsTarget, IsWorkflow, function_parts, lis
 
 use std::alloc::Global;
 use wf_check::Checked;
+use wf_eval::is_built;
 use wf_library::{Function, function_named};
 use wf_nodes::{Node, NodeKind};
 use wf_steps::Target;
 use wf_value::OutOfMemory;
 
-/// What each call names, at the call's own number; none where a call names neither a workflow nor a function that expressions may call.
+/// What each call names, at the call's own number; none where a call names neither a workflow nor a function that is built.
 pub(crate) fn targets_of(
     alloc: Global,
     program: &Checked,
@@ -72,10 +74,16 @@ fn flow(program: &Checked, name: &str) -> Option<u32>
     }
 }
 
-// The function of a name.
+// The function of a name, if it is built.
 fn function(name: &str) -> Option<Function>
-    ensures { IfSome result (λ g. option_map listed (func_named name.now)
+    ensures named { IfSome result (λ g. option_map listed (func_named name.now)
         ≡ Some (function_parts g)) }
+    ensures built { IfSome result (λ g. is_built g.func ≡ true) }
 {
-    function_named(name)
+    let function = function_named(name)?;
+    if is_built(function.func) {
+        Some(function)
+    } else {
+        None
+    }
 }
