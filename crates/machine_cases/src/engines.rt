@@ -33,7 +33,7 @@ fn write_turn(
     ensures { OnOk result ((state_of machine.new).broken ≡ false) }
 {
     let events = choose_turn(alloc, machine, reading)?;
-    write_events(out, &events)
+    write_events(out, alloc, &events)
 }
 
 /// The events of two turns of the machine of a source, the first at one reading and the second at another, and the outcome then.

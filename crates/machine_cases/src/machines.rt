@@ -102,13 +102,13 @@ fn make<L: Ledger>(
         }
         [Value::Text(name), reading] if name.as_str() == "choose" => {
             match machine.choose(number_of(reading)?) {
-                Some(event) => write_event(out, &event),
+                Some(event) => write_event(out, alloc, &event),
                 None => Ok(out.push_str("none")?),
             }
         }
         [Value::Text(name), reading] if name.as_str() == "run" => {
             out.push_str("ran")?;
-            run(machine, number_of(reading)?, out, steps)
+            run(machine, number_of(reading)?, alloc, out, steps)
         }
         _ => Err(CaseFault::NoCase),
     }
@@ -118,6 +118,7 @@ fn make<L: Ledger>(
 fn run<L: Ledger>(
     machine: &mut Machine,
     reading: u64,
+    alloc: Global,
     out: &mut String,
     steps: &mut Steps<L>,
 ) -> Result<(), CaseFault> {
@@ -126,7 +127,7 @@ fn run<L: Ledger>(
             break;
         };
         out.push(' ')?;
-        write_event(out, &event)?;
+        write_event(out, alloc, &event)?;
         if machine.apply(&event, steps).is_err() {
             return Err(CaseFault::OutOfMemory);
         }

@@ -1,13 +1,14 @@
 -- The beginning of an execution for a line.
-use Rattle.std.proofs.Common.{◌≡◌, ◌≤◌, ◌⊎◌, ◌≢◌, inl, inr, ⊎_elim, ℕ, List, [], ◌∷◌, ◌++◌, length, take, None, Result, Ok, Err, IfOk, IfErr, OnOk, IsErrOf, refl, sym, ◌∙◌, ap, subst, arith}
+use Rattle.std.proofs.Common.{◌≡◌, ◌≤◌, ◌⊎◌, ◌≢◌, inl, inr, ⊎_elim, ℕ, Bool, false, List, [], ◌∷◌, ◌++◌, length, take, None, Result, Ok, Err, IfOk, IfErr, OnOk, IsErrOf, refl, sym, ◌∙◌, ap, subst, arith}
 use Rattle.wf_ast.specs.Tree.{Program}
 use Rattle.wf_cli.proofs.Moments.{early_nothing, early_now, no_turn_of_start, no_turns_next, kept_now, StartOfLine, late_start, late_found}
-use Rattle.wf_cli.proofs.Opens.{MayBegin, no_magic, not_resumed_by_run, no_history_by_run, passed_magic, passed_started, run_uses, run_command, little_nothing, little_now}
+use Rattle.wf_cli.proofs.Opens.{MayBegin, no_magic, not_resumed_by_run, no_history_by_run, passed_magic, passed_started, run_uses, run_command, nothing_silently, read_silently}
 use Rattle.wf_cli.specs.Reports.{the_reports}
-use Rattle.wf_cli.specs.Said.{DidLittle, IsOpened, FaultHolds, LateNow, Opening}
+use Rattle.wf_cli.specs.Said.{DoneSilently, IsOpened, FaultHolds, LateNow, Opening}
 use Rattle.wf_cli.specs.Top.{IsLineOf, HasOtherMagic, IsStarted, IsNotStarted, IsNoHistory}
 use Rattle.wf_cli.proofs.Causes.{not_run_and_resume}
-use Rattle.wf_engine.specs.Engine.{memory, StandsFor, OpeningMoment}
+use Rattle.wf_deeds.specs.Memory.{StandsFor}
+use Rattle.wf_engine.specs.Engine.{memory, OpeningMoment}
 use Rattle.wf_deeds.specs.Kept as kept
 use Rattle.wf_deeds.specs.Laws.{OnlyReadings}
 use Rattle.wf_deeds.specs.Outside.{Outside}
@@ -58,12 +59,12 @@ now_moments old mid t only time =
     (λ c d left deeds. (subst old.may_leave (sym left.2) left.1, ⊎_elim (λ is. inl is) (λ is. inr (t, is ∙ time.deeds)) deeds))
 
 -- ## An execution that isn't begun
-module _ (s : Scene) (old : World) (line : IsLineOf s (λ c. c ≡ Run)) where
+module _ (O : Outside) (s : Scene) (old : World) (line : IsLineOf s (λ c. c ≡ Run)) where
   -- the opening did nothing but read the clock, and memory ran out
-  pub lacking : (f : EngineFault) (new : World) → DidLittle old new → LeavesOnly old new (OpeningMoment old) → new.seen ≡ old.seen → f ≡ engine.OutOfMemory → Opening kept.Run s old new (Err f)
-  lacking f new little moments seen is = record {
-    little = little;
-    safe = λ fit O. weaker old new (OpeningMoment old) (SafeAt the_language O the_reports s None old) moments (λ c d now. moment_safe O c d now);
+  pub lacking : (f : EngineFault) (new : World) → DoneSilently old new → LeavesOnly old new (OpeningMoment old) → new.seen ≡ old.seen → f ≡ engine.OutOfMemory → Opening O kept.Run s old new (Err f)
+  lacking f new silently moments seen is = record {
+    silently = silently;
+    safe = λ fit. weaker old new (OpeningMoment old) (SafeAt the_language O the_reports s None old) moments (λ c d now. moment_safe c d now);
     opened = tt;
     fault = subst (FaultHolds the_language s) (sym is) tt;
     late = λ which. absurd (⊎_elim (λ other. let no : engine.OutOfMemory ≡ engine.AlreadyStarted = sym is ∙ other in cc no) (λ other. let no : engine.OutOfMemory ≡ engine.NotStarted = sym is ∙ other in cc no) which);
@@ -72,21 +73,21 @@ module _ (s : Scene) (old : World) (line : IsLineOf s (λ c. c ≡ Run)) where
     finished = λ st line2 h ended. absurd (not_run_and_resume s line line2);
   }
     where
-      moment_safe : (O : Outside) (c : List ℕ) (d : List Deed) → OpeningMoment old c d → SafeAt the_language O the_reports s None old c d
-      moment_safe O c d (may, inl is) = early_nothing the_language O s old c d may is
-      moment_safe O c d (may, inr (t, is)) = early_now the_language O s old c d t may is
+      moment_safe : (c : List ℕ) (d : List Deed) → OpeningMoment old c d → SafeAt the_language O the_reports s None old c d
+      moment_safe c d (may, inl is) = early_nothing the_language O s old c d may is
+      moment_safe c d (may, inr (t, is)) = early_now the_language O s old c d t may is
 
-  pub no_clock : (f : EngineFault) (new : World) → OnlyNow old → CountsNow old → Elapses Same [] old new → new.seen ≡ old.seen → f ≡ engine.OutOfMemory → Opening kept.Run s old new (Err f)
+  pub no_clock : (f : EngineFault) (new : World) → OnlyNow old → CountsNow old → Elapses Same [] old new → new.seen ≡ old.seen → f ≡ engine.OutOfMemory → Opening O kept.Run s old new (Err f)
   no_clock f new only counts time seen is =
-      lacking f new (little_nothing old new (same_deeds old new Same time)) (goes_on_same old old new (OpeningMoment old) (before_now old only) counts time) seen is
+      lacking f new (nothing_silently old new (same_deeds old new Same time)) (goes_on_same old old new (OpeningMoment old) (before_now old only) counts time) seen is
 
-  pub no_start : (f : EngineFault) (new : World) (t : ℕ) → OnlyNow old → Elapses Same (Now t ∷ []) old new → new.seen ≡ old.seen → f ≡ engine.OutOfMemory → Opening kept.Run s old new (Err f)
-  no_start f new t only time seen is = lacking f new (little_now old new t time.deeds) (now_moments old new t only time) seen is
+  pub no_start : (f : EngineFault) (new : World) (t : ℕ) → OnlyNow old → Elapses Same (Now t ∷ []) old new → new.seen ≡ old.seen → f ≡ engine.OutOfMemory → Opening O kept.Run s old new (Err f)
+  no_start f new t only time seen is = lacking f new (read_silently old new t time.deeds) (now_moments old new t only time) seen is
 
 -- ## Beginning
 -- what a beginning promises
-pub record Clauses (old new : World) (t : ℕ) (payload : List ℕ) (r : Result Engine EngineFault) : Type 0 where
-  pub stands : IfOk r (λ e. StandsFor the_language kept.Run (memory e) (records new.seen) (Now t ∷ []))
+pub record Clauses (O : Outside) (old new : World) (t : ℕ) (payload : List ℕ) (r : Result Engine EngineFault) : Type 0 where
+  pub stands : IfOk r (λ e. (handed : Bool) → StandsFor the_language O kept.Run handed (memory e) (records new.seen) (Now t ∷ []))
   pub session : IfOk r (λ e. (memory e).session ≡ 1)
   pub started : OnOk r (records new.seen ≡ payload ∷ [])
   pub any_moment : LeavesOnly old new (λ c d. (old.may_leave c × (d ≡ old.deeds)) ⊎ ((records old.seen ≡ []) × HasNoneOrThis old payload c d))
@@ -99,24 +100,25 @@ pub record Clauses (old new : World) (t : ℕ) (payload : List ℕ) (r : Result 
   pub only : IfErr r (λ e. (e ≡ engine.DiskFault) ⊎ (e ≡ engine.NotAJournal) ⊎ (e ≡ engine.AlreadyStarted) ⊎ (e ≡ engine.OutOfMemory))
   pub deeds : new.deeds ≡ old.deeds
 
-module _ (s : Scene) (old mid new : World) (t : ℕ) (payload : List ℕ) (line : IsLineOf s (λ c. c ≡ Run)) (found : old.seen ≡ s.found) (only_now : OnlyNow old) (counts : CountsNow mid) (time : Elapses Same (Now t ∷ []) old mid) (same : mid.seen ≡ old.seen)
+module _ (O : Outside) (s : Scene) (old mid new : World) (t : ℕ) (payload : List ℕ) (line : IsLineOf s (λ c. c ≡ Run)) (found : old.seen ≡ s.found) (only_now : OnlyNow old) (counts : CountsNow mid) (time : Elapses Same (Now t ∷ []) old mid) (same : mid.seen ≡ old.seen)
     (start : StartOfLine s t payload) (law : OnlyReadings) where
   found_is : mid.seen ≡ s.found
   found_is = same ∙ found
 
-  safe_begin : (O : Outside) (c : List ℕ) (d : List Deed) → (mid.may_leave c × (d ≡ mid.deeds)) ⊎ ((records mid.seen ≡ []) × HasNoneOrThis mid payload c d) → SafeAt the_language O the_reports s None old c d
-  safe_begin O c d (inl (may, is)) = early_now the_language O s old c d t (within old mid (Now t ∷ []) counts time c may) (is ∙ time.deeds)
-  safe_begin O c d (inr (none, (file, has, is))) = late_start O s old t payload c d law start (ap records (sym found_is) ∙ none) (is ∙ time.deeds) file has
+  safe_begin : (c : List ℕ) (d : List Deed) → (mid.may_leave c × (d ≡ mid.deeds)) ⊎ ((records mid.seen ≡ []) × HasNoneOrThis mid payload c d) → SafeAt the_language O the_reports s None old c d
+  safe_begin c d (inl (may, is)) = early_now the_language O s old c d t (within old mid (Now t ∷ []) counts time c may) (is ∙ time.deeds)
+  safe_begin c d (inr (none, (file, has, is))) = late_start O s old t payload c d law start (ap records (sym found_is) ∙ none) (is ∙ time.deeds) file has
 
-  safe_now : (L : Language) (O : Outside) (c : List ℕ) (d : List Deed) → OpeningMoment old c d → SafeAt L O the_reports s None old c d
-  safe_now L O c d (may, inl is) = early_nothing L O s old c d may is
-  safe_now L O c d (may, inr (u, is)) = early_now L O s old c d u may is
+  safe_now : (L : Language) (c : List ℕ) (d : List Deed) → OpeningMoment old c d → SafeAt L O the_reports s None old c d
+  safe_now L c d (may, inl is) = early_nothing L O s old c d may is
+  safe_now L c d (may, inr (u, is)) = early_now L O s old c d u may is
 
-  opened_of : (e : Engine) → Clauses mid new t payload (Ok e) → IsOpened the_language kept.Run s (Now t ∷ []) new e
+  opened_of : (e : Engine) → Clauses O mid new t payload (Ok e) → IsOpened the_language O kept.Run s (Now t ∷ []) new e
   opened_of e k =
       let none : records s.found ≡ [] = ap records (sym found_is) ∙ k.fresh in
       record {
-        stands = k.stands;
+        stands = k.stands false;
+        unpolled = refl;
         number = k.session ∙ ap (λ J. next_session (journal the_language J)) (sym none);
         added = payload ∷ [];
         own = (no_turn_of_start payload start.line start.bytes t (memory e).session start.means, tt);
@@ -131,7 +133,7 @@ module _ (s : Scene) (old mid new : World) (t : ℕ) (payload : List ℕ) (line 
         };
       }
 
-  fault_of : (f : EngineFault) → Clauses mid new t payload (Err f) → FaultHolds the_language s f
+  fault_of : (f : EngineFault) → Clauses O mid new t payload (Err f) → FaultHolds the_language s f
   fault_of engine.DiskFault k = tt
   fault_of engine.NotAJournal k =
       let why = subst (λ f. (5 ≤ length f) × (take 4 f ≢ magic)) found_is (k.not_a_journal refl) in
@@ -153,29 +155,36 @@ module _ (s : Scene) (old mid new : World) (t : ℕ) (payload : List ℕ) (line 
       none (inr (inl is)) = cc is
       none (inr (inr (inl is))) = cc is
       none (inr (inr (inr is))) = cc is
+  fault_of engine.Suspended k = absurd (none k.only)
+    where
+      none : (engine.Suspended ≡ engine.DiskFault) ⊎ (engine.Suspended ≡ engine.NotAJournal) ⊎ (engine.Suspended ≡ engine.AlreadyStarted) ⊎ (engine.Suspended ≡ engine.OutOfMemory) → ⊥
+      none (inl is) = cc is
+      none (inr (inl is)) = cc is
+      none (inr (inr (inl is))) = cc is
+      none (inr (inr (inr is))) = cc is
   fault_of engine.Closed k = tt
   fault_of engine.OutOfMemory k = tt
 
-  opened_if : (r : Result Engine EngineFault) → Clauses mid new t payload r → IfOk r (IsOpened the_language kept.Run s (Now t ∷ []) new)
+  opened_if : (r : Result Engine EngineFault) → Clauses O mid new t payload r → IfOk r (IsOpened the_language O kept.Run s (Now t ∷ []) new)
   opened_if (Ok e) k = opened_of e k
   opened_if (Err f) k = tt
 
-  fault_if : (r : Result Engine EngineFault) → Clauses mid new t payload r → IfErr r (FaultHolds the_language s)
+  fault_if : (r : Result Engine EngineFault) → Clauses O mid new t payload r → IfErr r (FaultHolds the_language s)
   fault_if (Ok e) k = tt
   fault_if (Err f) k = fault_of f k
 
   -- a file that was begun before is there as it was found
-  late_of : NoTurnsBehind → NextBehindHistory → (f : EngineFault) → (refused_seen : ((5 ≤ length mid.seen) × (take 4 mid.seen ≢ magic)) ⊎ (records mid.seen ≢ []) → new.seen ≡ mid.seen) → Clauses mid new t payload (Err f)
-      → (f ≡ engine.AlreadyStarted) ⊎ (f ≡ engine.NotStarted) → LateNow the_language s old new
-  late_of turns next f seen k (inl is) = λ fit O image may.
+  late_of : NoTurnsBehind → NextBehindHistory → (f : EngineFault) → (refused_seen : ((5 ≤ length mid.seen) × (take 4 mid.seen ≢ magic)) ⊎ (records mid.seen ≢ []) → new.seen ≡ mid.seen) → Clauses O mid new t payload (Err f)
+      → (f ≡ engine.AlreadyStarted) ⊎ (f ≡ engine.NotStarted) → LateNow the_language O s old new
+  late_of turns next f seen k (inl is) = λ fit image may.
       let some : records mid.seen ≢ [] = (k.already_started (ap Err is)).0 in
       let there : records s.found ≢ [] = subst (λ i. records i ≢ []) found_is some in
       late_found the_language O s old kept.Run (Now t ∷ []) image new.deeds (run_command s line) fit (k.settled (ap Err is) image may ∙ seen (inr some) ∙ found_is) (k.deeds ∙ time.deeds) refl
       (kept_now the_language O kept.Run (records s.found) (next_session (journal the_language (records s.found))) t law (no_turns_next turns next the_language s.found fit there) (λ c resumes was ended. absurd (cc resumes)))
-  late_of turns next f seen k (inr is) = absurd (not_resumed_by_run s line (fault_of engine.NotStarted (subst (λ x. Clauses mid new t payload (Err x)) is k)).0)
+  late_of turns next f seen k (inr is) = absurd (not_resumed_by_run s line (fault_of engine.NotStarted (subst (λ x. Clauses O mid new t payload (Err x)) is k)).0)
 
-  late_if : NoTurnsBehind → NextBehindHistory → (r : Result Engine EngineFault) → (refused_seen : ((5 ≤ length mid.seen) × (take 4 mid.seen ≢ magic)) ⊎ (records mid.seen ≢ []) → new.seen ≡ mid.seen) → Clauses mid new t payload r
-      → IfErr r (λ f. (f ≡ engine.AlreadyStarted) ⊎ (f ≡ engine.NotStarted) → LateNow the_language s old new)
+  late_if : NoTurnsBehind → NextBehindHistory → (r : Result Engine EngineFault) → (refused_seen : ((5 ≤ length mid.seen) × (take 4 mid.seen ≢ magic)) ⊎ (records mid.seen ≢ []) → new.seen ≡ mid.seen) → Clauses O mid new t payload r
+      → IfErr r (λ f. (f ≡ engine.AlreadyStarted) ⊎ (f ≡ engine.NotStarted) → LateNow the_language O s old new)
   late_if turns next (Ok e) seen k = tt
   late_if turns next (Err f) seen k = late_of turns next f seen k
 
@@ -185,12 +194,12 @@ module _ (s : Scene) (old mid new : World) (t : ℕ) (payload : List ℕ) (line 
   stays_where L (inr (inr (inl why))) = absurd (not_resumed_by_run s line why)
   stays_where L (inr (inr (inr (n, why)))) = absurd (no_history_by_run L s n line why)
 
-  pub opening_by_run : NoTurnsBehind → NextBehindHistory → (r : Result Engine EngineFault) → (refused_seen : ((5 ≤ length mid.seen) × (take 4 mid.seen ≢ magic)) ⊎ (records mid.seen ≢ []) → new.seen ≡ mid.seen) → Clauses mid new t payload r → Opening kept.Run s old new r
+  pub opening_by_run : NoTurnsBehind → NextBehindHistory → (r : Result Engine EngineFault) → (refused_seen : ((5 ≤ length mid.seen) × (take 4 mid.seen ≢ magic)) ⊎ (records mid.seen ≢ []) → new.seen ≡ mid.seen) → Clauses O mid new t payload r → Opening O kept.Run s old new r
   opening_by_run turns next r seen k = record {
-    little = little_now old new t (k.deeds ∙ time.deeds);
-    safe = λ fit O.
-        joined old mid new (SafeAt the_language O the_reports s None old) _ (weaker old mid (OpeningMoment old) (SafeAt the_language O the_reports s None old) (now_moments old mid t only_now time) (λ c d now. safe_now the_language O c d now)) k.any_moment
-        (λ c d now. safe_begin O c d now);
+    silently = read_silently old new t (k.deeds ∙ time.deeds);
+    safe = λ fit.
+        joined old mid new (SafeAt the_language O the_reports s None old) _ (weaker old mid (OpeningMoment old) (SafeAt the_language O the_reports s None old) (now_moments old mid t only_now time) (λ c d now. safe_now the_language c d now)) k.any_moment
+        (λ c d now. safe_begin c d now);
     opened = opened_if r k;
     fault = fault_if r k;
     late = late_if turns next r seen k;

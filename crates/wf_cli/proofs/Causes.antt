@@ -6,6 +6,7 @@ use Rattle.wf_engine.specs.Printed.{Scene, uses_source, uses_journal, executes, 
 use Rattle.wf_engine.specs.Starts.{HasArgument}
 use Rattle.wf_engine.specs.TheLanguage.{the_language}
 use Rattle.wf_host.specs.World.{World}
+use Rattle.wf_host.specs.declared.data.Deed.{Deed}
 use Rattle.wf_args.specs.Lines.{PlainLine, line_of}
 use Rattle.wf_args.specs.declared.command.Command.{Command}
 use Rattle.wf_args.specs.declared.command.Command.TheVariants.{Check, Format, Run, Resume, Help, Version}
@@ -130,23 +131,24 @@ outcome_cause L s (Returned v) st is = subst (Cause L s) (same_some (Some status
 outcome_cause L s (Raised e) st is = subst (Cause L s) (same_some (Some status.Raised) status.Raised st refl is) tt
 outcome_cause L s Cancelled st is = let no : None ≡ Some st = is in cc no
 
-pub gives_cause : (L : Language) (s : Scene) (image : List ℕ) (st : Status) (text : List ℕ) → Gives L s image st text → Cause L s st
-gives_cause L s image _ _ (end.bad_line n bad) = bad
-gives_cause L s image _ _ (end.bad_argument why) = why
-gives_cause L s image _ _ (end.refused r why) = why
-gives_cause L s image _ _ (end.not_a_journal why) = why
-gives_cause L s image _ _ (end.already_started why) = why
-gives_cause L s image _ _ (end.not_started why) = why
-gives_cause L s image _ _ (end.not_a_history n why) = why
-gives_cause L s image _ _ (end.ended o st has is) = outcome_cause L s o st is
-gives_cause L s image _ _ (end.done text report) = tt
+pub gives_cause : (L : Language) (s : Scene) (image : List ℕ) (D : List Deed) (st : Status) (text : List ℕ) → Gives L s image D st text → Cause L s st
+gives_cause L s image D _ _ (end.bad_line n bad) = bad
+gives_cause L s image D _ _ (end.bad_argument why) = why
+gives_cause L s image D _ _ (end.refused r why) = why
+gives_cause L s image D _ _ (end.not_a_journal why) = why
+gives_cause L s image D _ _ (end.already_started why) = why
+gives_cause L s image D _ _ (end.not_started why) = why
+gives_cause L s image D _ _ (end.not_a_history n why) = why
+gives_cause L s image D _ _ (end.suspended why) = tt
+gives_cause L s image D _ _ (end.ended o st has is) = outcome_cause L s o st is
+gives_cause L s image D _ _ (end.done text report) = tt
 
 pub says_cause : (s : Scene) (old new : World) (st : Status) (text : List ℕ) → IsTrue old.tells → Says s old new st text → Cause the_language s st
 says_cause s old new _ _ told (bad_line n bad) = bad
 says_cause s old new _ _ told (bad_argument why) = why
 says_cause s old new _ _ told (refused r why fine) = why
 says_cause s old new _ _ told (reported text report back) = tt
-says_cause s old new _ _ told (of_file st text is line accepted gives) = gives_cause the_language s new.seen st text (gives told).0
+says_cause s old new _ _ told (of_file st text is line accepted gives) = let g = (gives told).0 in gives_cause the_language s new.seen g.0 st text g.2
 
 -- ## Lines that are printed
 -- of a result no line is printed by the status itself
@@ -156,23 +158,24 @@ outcome_untexted (Returned v) st line is texted = let no : None ≡ Some line = 
 outcome_untexted (Raised e) st line is texted = let no : None ≡ Some line = subst (λ x. status_text x ≡ Some line) (sym (same_some (Some status.Raised) status.Raised st refl is)) texted in cc no
 outcome_untexted Cancelled st line is texted = let no : None ≡ Some st = is in cc no
 
-pub gives_text : (L : Language) (s : Scene) (image : List ℕ) (st : Status) (text line : List ℕ) → Gives L s image st text → status_text st ≡ Some line → text ≡ line
-gives_text L s image _ _ line (end.bad_line n bad) is = same_some (status_text (status.BadLine n)) _ line refl is
-gives_text L s image _ _ line (end.bad_argument why) is = same_some (status_text status.BadArgument) _ line refl is
-gives_text L s image _ _ line (end.refused r why) is = same_some (status_text (status.Refused r)) _ line refl is
-gives_text L s image _ _ line (end.not_a_journal why) is = same_some (status_text status.NotAJournal) _ line refl is
-gives_text L s image _ _ line (end.already_started why) is = same_some (status_text status.AlreadyStarted) _ line refl is
-gives_text L s image _ _ line (end.not_started why) is = same_some (status_text status.NotStarted) _ line refl is
-gives_text L s image _ _ line (end.not_a_history n why) is = same_some (status_text (status.NotAHistory n)) _ line refl is
-gives_text L s image _ _ line (end.ended o st has which) is = absurd (outcome_untexted o st line which is)
-gives_text L s image _ _ line (end.done text report) is = let no : None ≡ Some line = is in cc no
+pub gives_text : (L : Language) (s : Scene) (image : List ℕ) (D : List Deed) (st : Status) (text line : List ℕ) → Gives L s image D st text → status_text st ≡ Some line → text ≡ line
+gives_text L s image D _ _ line (end.bad_line n bad) is = same_some (status_text (status.BadLine n)) _ line refl is
+gives_text L s image D _ _ line (end.bad_argument why) is = same_some (status_text status.BadArgument) _ line refl is
+gives_text L s image D _ _ line (end.refused r why) is = same_some (status_text (status.Refused r)) _ line refl is
+gives_text L s image D _ _ line (end.not_a_journal why) is = same_some (status_text status.NotAJournal) _ line refl is
+gives_text L s image D _ _ line (end.already_started why) is = same_some (status_text status.AlreadyStarted) _ line refl is
+gives_text L s image D _ _ line (end.not_started why) is = same_some (status_text status.NotStarted) _ line refl is
+gives_text L s image D _ _ line (end.not_a_history n why) is = same_some (status_text (status.NotAHistory n)) _ line refl is
+gives_text L s image D _ _ line (end.suspended why) is = same_some (status_text status.Suspended) _ line refl is
+gives_text L s image D _ _ line (end.ended o st has which) is = absurd (outcome_untexted o st line which is)
+gives_text L s image D _ _ line (end.done text report) is = let no : None ≡ Some line = is in cc no
 
 pub says_text : (s : Scene) (old new : World) (st : Status) (text line : List ℕ) → IsTrue old.tells → Says s old new st text → status_text st ≡ Some line → text ≡ line
 says_text s old new _ _ line told (bad_line n bad) is = same_some (status_text (status.BadLine n)) _ line refl is
 says_text s old new _ _ line told (bad_argument why) is = same_some (status_text status.BadArgument) _ line refl is
 says_text s old new _ _ line told (refused r why fine) is = same_some (status_text (status.Refused r)) _ line refl is
 says_text s old new _ _ line told (reported text report back) is = let no : None ≡ Some line = is in cc no
-says_text s old new _ _ line told (of_file st text isf rline accepted gives) is = gives_text the_language s new.seen st text line (gives told).0 is
+says_text s old new _ _ line told (of_file st text isf rline accepted gives) is = let g = (gives told).0 in gives_text the_language s new.seen g.0 st text line g.2 is
 
 -- ## Statuses that are said
 abbrev pub is_said : Status → Bool
@@ -180,7 +183,6 @@ is_said status.ReadFault = false
 is_said status.PrintFault = false
 is_said status.DiskFault = false
 is_said status.PollFault = false
-is_said status.Suspended = false
 is_said status.OutOfMemory = false
 is_said st = true
 
@@ -190,7 +192,8 @@ file_said st (inr (inl is)) = ap is_said is
 file_said st (inr (inr (inl is))) = ap is_said is
 file_said st (inr (inr (inr (inl (n, is))))) = ap is_said is
 file_said st (inr (inr (inr (inr (inl is))))) = ap is_said is
-file_said st (inr (inr (inr (inr (inr is))))) = ap is_said is
+file_said st (inr (inr (inr (inr (inr (inl is)))))) = ap is_said is
+file_said st (inr (inr (inr (inr (inr (inr is)))))) = ap is_said is
 
 pub says_said : (s : Scene) (old new : World) (st : Status) (text : List ℕ) → Says s old new st text → is_said st ≡ true
 says_said s old new _ _ (bad_line n bad) = refl
@@ -210,7 +213,8 @@ file_rank st (inr (inl is)) = subst (λ x. (4 < rank x) × (rank x < 12)) (sym i
 file_rank st (inr (inr (inl is))) = subst (λ x. (4 < rank x) × (rank x < 12)) (sym is) (omega arith, omega arith)
 file_rank st (inr (inr (inr (inl (n, is))))) = subst (λ x. (4 < rank x) × (rank x < 12)) (sym is) (omega arith, omega arith)
 file_rank st (inr (inr (inr (inr (inl is))))) = subst (λ x. (4 < rank x) × (rank x < 12)) (sym is) (omega arith, omega arith)
-file_rank st (inr (inr (inr (inr (inr is))))) = subst (λ x. (4 < rank x) × (rank x < 12)) (sym is) (omega arith, omega arith)
+file_rank st (inr (inr (inr (inr (inr (inl is)))))) = subst (λ x. (4 < rank x) × (rank x < 12)) (sym is) (omega arith, omega arith)
+file_rank st (inr (inr (inr (inr (inr (inr is)))))) = subst (λ x. (4 < rank x) × (rank x < 12)) (sym is) (omega arith, omega arith)
 
 -- what is said of words or of a source doesn't depend on the file
 abbrev pub EarlyCause : Scene → Status → Type 0

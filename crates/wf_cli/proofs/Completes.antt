@@ -1,6 +1,7 @@
 -- Where no cause holds, the command does its work, or there is no memory.
 use Rattle.std.proofs.Common.{◌≡◌, ◌⊎◌, inl, inr, IsTrue, ℕ, false, List, refl, subst}
 use Rattle.wf_cli.proofs.Causes.{not_both, executing, Cause, gives_cause}
+use Rattle.wf_cli.proofs.Rows.{suspended_row}
 use Rattle.wf_cli.specs.Top.{Call, IsLineOf, IsOfFile, Says, bad_line, bad_argument, refused, reported, of_file, Ends, said, cut, unread, failed, no_memory, HasNoCause, Completes}
 use Rattle.wf_engine.specs.Printed.{executes}
 use Rattle.wf_engine.specs.TheLanguage.{the_language}
@@ -10,7 +11,7 @@ use Rattle.wf_status.specs.declared.Status.TheVariants as status
 
 module _ (x : Call) (none : HasNoCause the_language x) where
   abbrev IsWork : Status → Type 0
-  IsWork st = (st ≡ status.Done) ⊎ (st ≡ status.Raised)
+  IsWork st = (st ≡ status.Done) ⊎ (st ≡ status.Raised) ⊎ (st ≡ status.Suspended)
 
   -- a status of the file that has its cause
   of_the_file : (st : Status) → IsOfFile st → Cause the_language x.scene st → IsWork st
@@ -18,15 +19,16 @@ module _ (x : Call) (none : HasNoCause the_language x) where
   of_the_file st (inr (inl is)) cause = absurd (none.file.started (subst (Cause the_language x.scene) is cause))
   of_the_file st (inr (inr (inl is))) cause = absurd (none.file.not_started (subst (Cause the_language x.scene) is cause))
   of_the_file st (inr (inr (inr (inl (n, is))))) cause = absurd (none.file.history n (subst (Cause the_language x.scene) is cause))
-  of_the_file st (inr (inr (inr (inr (inl is))))) cause = inl is
-  of_the_file st (inr (inr (inr (inr (inr is))))) cause = inr is
+  of_the_file st (inr (inr (inr (inr (inl is))))) cause = inr (inr is)
+  of_the_file st (inr (inr (inr (inr (inr (inl is)))))) cause = inl is
+  of_the_file st (inr (inr (inr (inr (inr (inr is)))))) cause = inr (inl is)
 
   says_work : (st : Status) (text : List ℕ) → IsTrue x.old.tells → Says x.scene x.old x.new st text → IsWork st
   says_work _ _ told (bad_line n bad) = absurd (not_both (line_of x.scene.words) none.line.0 n none.line.1 bad)
   says_work _ _ told (bad_argument why) = absurd (none.argument why)
   says_work _ _ told (refused r why fine) = absurd (none.source r why)
   says_work _ _ told (reported text report back) = inl refl
-  says_work _ _ told (of_file st text is line accepted gives) = of_the_file st is (gives_cause the_language x.scene x.new.seen st text (gives told).0)
+  says_work _ _ told (of_file st text is line accepted gives) = let g = (gives told).0 in of_the_file st is (gives_cause the_language x.scene x.new.seen g.0 st text g.2)
 
   says_done : (st : Status) (text : List ℕ) → IsLineOf x.scene (λ c. executes c ≡ false) → Says x.scene x.old x.new st text → st ≡ status.Done
   says_done _ _ report (bad_line n bad) = absurd (not_both (line_of x.scene.words) none.line.0 n none.line.1 bad)
@@ -47,13 +49,25 @@ module _ (x : Call) (none : HasNoCause the_language x) where
   said_or_lacks P so (failed is line accepted rose prints) = absurd (none.disk rose)
   said_or_lacks P so (no_memory is prints) = inr is
 
-three : {A B C : Type 0} → (A ⊎ B) ⊎ C → A ⊎ B ⊎ C
-three (inl (inl a)) = inl a
-three (inl (inr b)) = inr (inl b)
-three (inr c) = inr (inr c)
+four : {A B C D : Type 0} → (A ⊎ B ⊎ C) ⊎ D → A ⊎ B ⊎ C ⊎ D
+four (inl (inl a)) = inl a
+four (inl (inr (inl b))) = inr (inl b)
+four (inl (inr (inr c))) = inr (inr (inl c))
+four (inr d) = inr (inr (inr d))
+
+-- where the third can't be
+three : {A B C D : Type 0} → ¬ C → A ⊎ B ⊎ C ⊎ D → A ⊎ B ⊎ D
+three never (inl a) = inl a
+three never (inr (inl b)) = inr (inl b)
+three never (inr (inr (inl c))) = absurd (never c)
+three never (inr (inr (inr d))) = inr (inr d)
+
+any_of : (x : Call) → IsTrue x.old.tells → Ends x → HasNoCause the_language x → (x.status ≡ status.Done) ⊎ (x.status ≡ status.Raised) ⊎ (x.status ≡ status.Suspended) ⊎ (x.status ≡ status.OutOfMemory)
+any_of x told ends none = four (said_or_lacks x none ((x.status ≡ status.Done) ⊎ (x.status ≡ status.Raised) ⊎ (x.status ≡ status.Suspended)) (λ text says. says_work x none x.status text told says) ends)
 
 pub completes : (x : Call) → IsTrue x.old.tells → Ends x → Completes the_language x
 completes x told ends = record {
-  any = λ none. three (said_or_lacks x none ((x.status ≡ status.Done) ⊎ (x.status ≡ status.Raised)) (λ text says. says_work x none x.status text told says) ends);
+  any = λ none. any_of x told ends none;
+  outcome = λ none over. three (λ is. over ((suspended_row x told ends).comes is)) (any_of x told ends none);
   report = λ none line. said_or_lacks x none (x.status ≡ status.Done) (λ text says. says_done x none x.status text line says) ends;
 }

@@ -1,9 +1,9 @@
 -- Lists of deeds, one behind another.
-use Rattle.std.proofs.Common.{◌≡◌, suc, List, [], ◌∷◌, ◌++◌, refl, sym, ◌∙◌, ap, subst, append_assoc}
+use Rattle.std.proofs.Common.{◌≡◌, ◌+◌, ◌||◌, ℕ, suc, Bool, true, false, nat_eq, List, [], ◌∷◌, ◌++◌, refl, sym, ◌∙◌, ap, subst, append_assoc, arith}
 use Rattle.std.specs.List.{AllByRecursion}
 use Rattle.std.proofs.lemmas.List.Elements.{All-head, All-tail}
 use Rattle.wf_cli.specs.Top.{IsPrint}
-use Rattle.wf_deeds.specs.Deeds.{polls, nows, poll_readings, starts_or_polls, printed, IsSmall}
+use Rattle.wf_deeds.specs.Deeds.{polls, nows, poll_readings, printed, before_poll, was_replied, IsSmall}
 use Rattle.wf_host.specs.declared.data.Deed.{Deed}
 use Rattle.wf_host.specs.declared.data.Deed.TheVariants.{Start, Poll, Now, Reply, Drop, Print}
 use Rattle.wf_host.specs.Printing as printing
@@ -54,21 +54,6 @@ poll_readings_behind (Reply n b ∷ D) P prints = poll_readings_behind D P print
 poll_readings_behind (Drop k ∷ D) P prints = poll_readings_behind D P prints
 poll_readings_behind (Print b ∷ D) P prints = poll_readings_behind D P prints
 
-pub starts_behind : (D P : List Deed) → AllByRecursion IsPrint P → starts_or_polls (D ++ P) ≡ starts_or_polls D
-starts_behind [] [] prints = refl
-starts_behind [] (Start k a b ∷ P) prints = absurd prints.0
-starts_behind [] (Poll u h ∷ P) prints = absurd prints.0
-starts_behind [] (Now t ∷ P) prints = absurd prints.0
-starts_behind [] (Reply n b ∷ P) prints = absurd prints.0
-starts_behind [] (Drop k ∷ P) prints = absurd prints.0
-starts_behind [] (Print b ∷ P) prints = starts_behind [] P prints.1
-starts_behind (Start k a b ∷ D) P prints = refl
-starts_behind (Poll u h ∷ D) P prints = refl
-starts_behind (Now t ∷ D) P prints = starts_behind D P prints
-starts_behind (Reply n b ∷ D) P prints = starts_behind D P prints
-starts_behind (Drop k ∷ D) P prints = starts_behind D P prints
-starts_behind (Print b ∷ D) P prints = starts_behind D P prints
-
 -- ## What was read and printed
 pub nows_both : (D E : List Deed) → nows (D ++ E) ≡ nows D ++ nows E
 nows_both [] E = refl
@@ -78,6 +63,15 @@ nows_both (Now t ∷ D) E = ap (λ l. t ∷ l) (nows_both D E)
 nows_both (Reply n b ∷ D) E = nows_both D E
 nows_both (Drop k ∷ D) E = nows_both D E
 nows_both (Print b ∷ D) E = nows_both D E
+
+pub polls_both : (D E : List Deed) → polls (D ++ E) ≡ polls D + polls E
+polls_both [] E = omega arith
+polls_both (Start k a b ∷ D) E = polls_both D E
+polls_both (Poll u h ∷ D) E = let rest = polls_both D E in omega (arith, rest)
+polls_both (Now t ∷ D) E = polls_both D E
+polls_both (Reply n b ∷ D) E = polls_both D E
+polls_both (Drop k ∷ D) E = polls_both D E
+polls_both (Print b ∷ D) E = polls_both D E
 
 pub printed_both : (D E : List Deed) → printed (D ++ E) ≡ printed D ++ printed E
 printed_both [] E = refl
@@ -126,3 +120,34 @@ prints_small (d ∷ D) all = (print_small d all.0, prints_small D all.1)
 pub all_at : {A : Type 0} (P : A → Type 0) (before : List A) (x : A) (behind : List A) → AllByRecursion P (before ++ x ∷ behind) → P x
 all_at P [] x behind all = all.0
 all_at P (y ∷ before) x behind all = all_at P before x behind all.1
+
+-- ## A deed among deeds with prints behind
+abbrev first_of : Deed → List Deed → Deed
+first_of e [] = e
+first_of e (d ∷ D) = d
+
+abbrev rest_of : List Deed → List Deed
+rest_of [] = []
+rest_of (d ∷ D) = D
+
+-- one that is no print stands before the prints
+pub before_prints : (D P before behind : List Deed) (d : Deed) → AllByRecursion IsPrint P → ¬ IsPrint d → D ++ P ≡ before ++ d ∷ behind → (rest : List Deed) × (D ≡ before ++ d ∷ rest) × (behind ≡ rest ++ P)
+before_prints [] P before behind d prints other is = absurd (other (all_at IsPrint before d behind (subst (λ l. AllByRecursion IsPrint l) is prints)))
+before_prints (e ∷ D) P [] behind d prints other is = (D, ap (λ f. f ∷ D) (ap (λ l. first_of e l) is), sym (ap rest_of is))
+before_prints (e ∷ D) P (b ∷ before) behind d prints other is =
+    let more = before_prints D P before behind d prints other (ap rest_of is) in
+    (more.0, ap (λ f. f ∷ D) (ap (λ l. first_of e l) is) ∙ ap (λ l. b ∷ l) more.1, more.2)
+
+or_more : (a b c : Bool) → (b ≡ true → c ≡ true) → (a || b) ≡ true → (a || c) ≡ true
+or_more true b c more is = refl
+or_more false b c more is = more is
+
+-- a reply that was made before the next poll
+pub replied_behind : (n : ℕ) (D P : List Deed) → was_replied n (before_poll D) ≡ true → was_replied n (before_poll (D ++ P)) ≡ true
+replied_behind n [] P is = let no : false ≡ true = is in absurd (cc no)
+replied_behind n (Start k a b ∷ D) P is = replied_behind n D P is
+replied_behind n (Poll u h ∷ D) P is = is
+replied_behind n (Now t ∷ D) P is = replied_behind n D P is
+replied_behind n (Reply j b ∷ D) P is = or_more (nat_eq j n) (was_replied n (before_poll D)) (was_replied n (before_poll (D ++ P))) (replied_behind n D P) is
+replied_behind n (Drop k ∷ D) P is = replied_behind n D P is
+replied_behind n (Print b ∷ D) P is = replied_behind n D P is

@@ -7,6 +7,7 @@ mod Fits
 mod Goes
 mod Moments
 mod Opens
+mod Outsides
 mod Promises
 mod Rows
 mod Safe

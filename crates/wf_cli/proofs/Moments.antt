@@ -4,12 +4,12 @@ use Rattle.std.specs.List.{AllByRecursion}
 use Rattle.std.proofs.lemmas.List.{append-nil, append_cancel_left}
 use Rattle.std.proofs.lemmas.List.Elements.{All-nil, Contains-append_left}
 use Rattle.wf_cli.proofs.Deeds.{nows_both, printed_both, all_both, all_at}
-use Rattle.wf_cli.proofs.Safe.{no_start, of_command}
+use Rattle.wf_cli.proofs.Safe.{no_start, no_deed, of_command}
 use Rattle.wf_cli.specs.Reports.{the_reports}
 use Rattle.wf_cli.specs.Said.{IsOpened}
-use Rattle.wf_deeds.specs.Clauses.{IsOfSession}
+use Rattle.wf_deeds.specs.Clauses.{IsOfSession, KeptAt}
 use Rattle.wf_deeds.specs.Deeds.{nows, printed, IsSmall}
-use Rattle.wf_engine.specs.Engine.{memory, KeptAt}
+use Rattle.wf_engine.specs.Engine.{memory}
 use Rattle.wf_deeds.specs.Kept as kept
 use Rattle.wf_deeds.specs.Kept.{Kept, own}
 use Rattle.wf_deeds.specs.Laws.{OnlyReadings}
@@ -60,7 +60,7 @@ pub kept_now : (L : Language) (O : Outside) (command : kept.Command) (payloads :
     → ReadsNone L command payloads number (Now t ∷ []) → Kept L O (of_command payloads number (Now t ∷ []) command None)
 kept_now L O command payloads number t only none quiet =
     let x = of_command payloads number (Now t ∷ []) command None in
-    only L O x (tt, tt) (λ no. cc no) (record {
+    only L O x (tt, tt) none (λ no. cc no) (record {
       waits = subst (λ ts. All (λ (u : Turn). u.waits ≤ 0) ts) (sym none) (All-nil (λ (u : Turn). u.waits ≤ 0));
       readings = λ u e r p is. absurd (no_place p.earlier p.later u (sym none ∙ p.turn));
       once = λ some. refl;
@@ -70,14 +70,10 @@ kept_now L O command payloads number t only none quiet =
     })
 
 -- no deed, and no turn
-no_deed : (before behind : List Deed) (d : Deed) → [] ≡ before ++ d ∷ behind → ⊥
-no_deed [] behind d is = cc is
-no_deed (e ∷ before) behind d is = cc is
-
 pub kept_still : (L : Language) (O : Outside) (command : kept.Command) (payloads : List (List ℕ)) (number : ℕ) → OnlyReadings → own L O (of_command payloads number [] command None) ≡ [] → Kept L O (of_command payloads number [] command None)
 kept_still L O command payloads number only none =
     let x = of_command payloads number [] command None in
-    only L O x tt (λ no. cc no) (record {
+    only L O x tt none (λ no. cc no) (record {
       waits = subst (λ ts. All (λ (u : Turn). u.waits ≤ 0) ts) (sym none) (All-nil (λ (u : Turn). u.waits ≤ 0));
       readings = λ u e r p is. absurd (no_place p.earlier p.later u (sym none ∙ p.turn));
       once = λ some. absurd (⊎_elim (λ turned. turned none) (λ polled. let no : false ≡ true = polled in cc no) some);
@@ -158,8 +154,8 @@ late_start O s old t payload c d only start none is file has = (
 
 -- ## Going on
 -- a moment of an execution that was opened
-pub late_going : (L : Language) (O : Outside) (s : Scene) (command : kept.Command) (old mid : World) (done : List Deed) (e : Engine) (c : List ℕ) (d : List Deed) → IsOpened L command s done mid e → mid.deeds ≡ old.deeds ++ done → printed done ≡ []
-    → Moment mid (KeptAt L command (memory e) (records mid.seen) done) c d → LateAt L O the_reports s None old c d
+pub late_going : (L : Language) (O : Outside) (s : Scene) (command : kept.Command) (old mid : World) (done : List Deed) (e : Engine) (c : List ℕ) (d : List Deed) → IsOpened L O command s done mid e → mid.deeds ≡ old.deeds ++ done → printed done ≡ []
+    → Moment mid (KeptAt L O command false (memory e) (records mid.seen) done) c d → LateAt L O the_reports s None old c d
 late_going L O s command old mid done e c d opened deeds silent (E, is, begins, k) = (
   done ++ E,
   is ∙ ap (λ l. l ++ E) deeds ∙ append_assoc old.deeds done E,
@@ -171,7 +167,7 @@ late_going L O s command old mid done e c d opened deeds silent (E, is, begins, 
     start = λ first rest found is_first. again first rest is_first (opened.start found);
     deeds =
         subst (λ n. Kept L O (of_command (records c) n (done ++ E) (command_by (line_of s.words)) None)) opened.number
-        (subst (λ q. Kept L O (of_command (records c) (memory e).session (done ++ E) q None)) (sym opened.is_of) (k.kept O));
+        (subst (λ q. Kept L O (of_command (records c) (memory e).session (done ++ E) q None)) (sym opened.is_of) k.kept);
     printed = inl (printed_both done E ∙ ap (λ l. l ++ printed E) silent ∙ k.silent);
   },
 )

@@ -1,18 +1,20 @@
 -- The opening of a file for a line.
-use Rattle.std.proofs.Common.{◌≡◌, ◌≤◌, ◌⊎◌, ◌≢◌, inl, inr, ℕ, true, List, [], ◌∷◌, ◌++◌, length, take, None, Result, Ok, Err, IfOk, IfErr, OnOk, IsErrOf, refl, sym, ◌∙◌, ap, subst, arith}
+use Rattle.std.proofs.Common.{◌≡◌, ◌≤◌, ◌⊎◌, ◌≢◌, inl, inr, ℕ, true, false, List, [], ◌∷◌, ◌++◌, length, take, None, Result, Ok, Err, IfOk, IfErr, OnOk, IsErrOf, refl, sym, ◌∙◌, ap, subst, arith}
 use Rattle.std.proofs.lemmas.List.{append-nil, append_cancel_left}
 use Rattle.wf_cli.proofs.Causes.{not_both, not_run_and_resume}
 use Rattle.wf_cli.proofs.Moments.{early_nothing, early_now, kept_now, kept_still, late_found, no_turns_of_none, reads_none_of_none}
 use Rattle.wf_cli.proofs.Safe.{of_command}
 use Rattle.wf_cli.specs.Reports.{the_reports}
-use Rattle.wf_cli.specs.Said.{DidLittle, IsOpened, FaultHolds, LateNow, Opening, Unwritten}
+use Rattle.wf_cli.specs.Said.{DoneSilently, IsOpened, FaultHolds, LateNow, Opening, Unwritten}
 use Rattle.wf_cli.specs.Top.{IsLineOf, HasOtherMagic, IsStarted, IsNotStarted, IsNoHistory, IsPassed, HasNoCauseInFile}
-use Rattle.wf_engine.specs.Engine.{memory, StandsFor, Opened, OpeningMoment}
-use Rattle.wf_deeds.specs.Deeds.{printed}
+use Rattle.wf_deeds.specs.Clauses.{Opened}
+use Rattle.wf_deeds.specs.Deeds.{polls, printed}
 use Rattle.wf_deeds.specs.Kept as kept
 use Rattle.wf_deeds.specs.Kept.{Kept}
 use Rattle.wf_deeds.specs.Laws.{OnlyReadings}
+use Rattle.wf_deeds.specs.Memory.{StandsFor}
 use Rattle.wf_deeds.specs.Outside.{Outside}
+use Rattle.wf_engine.specs.Engine.{memory, OpeningMoment}
 use Rattle.wf_engine.specs.Printed.{Scene, uses_journal}
 use Rattle.wf_engine.specs.Safe.{SafeAt, command_of, command_by}
 use Rattle.wf_engine.specs.TheLanguage.{the_language}
@@ -99,11 +101,11 @@ pub run_command : (s : Scene) → IsLineOf s (λ c. c ≡ Run) → command_by (l
 run_command s (l, is, it) = ap command_by is ∙ ap command_of it
 
 -- ## Deeds
-abbrev pub little_nothing : (old new : World) → new.deeds ≡ old.deeds → DidLittle old new
-little_nothing old new is = record { done = []; deeds = is ∙ sym (append-nil old.deeds); small = tt; silent = refl }
+abbrev pub nothing_silently : (old new : World) → new.deeds ≡ old.deeds → DoneSilently old new
+nothing_silently old new is = record { done = []; deeds = is ∙ sym (append-nil old.deeds); silent = refl }
 
-abbrev pub little_now : (old new : World) (t : ℕ) → new.deeds ≡ old.deeds ++ Now t ∷ [] → DidLittle old new
-little_now old new t is = record { done = Now t ∷ []; deeds = is; small = (tt, tt); silent = refl }
+abbrev pub read_silently : (old new : World) (t : ℕ) → new.deeds ≡ old.deeds ++ Now t ∷ [] → DoneSilently old new
+read_silently old new t is = record { done = Now t ∷ []; deeds = is; silent = refl }
 
 -- the first records of what is found are those of an empty front
 no_record_no_history : (L : Language) (J : List (List ℕ)) (st : Standing) → history L J ≡ Ok st → J ≡ [] → ⊥
@@ -112,8 +114,8 @@ no_record_no_history L J st is none = let no : Err 0 ≡ Ok st = ap (history L) 
 
 -- ## Resuming
 -- what an opening promises
-pub record Clauses (old new : World) (r : Result Engine EngineFault) : Type 0 where
-  pub opened : IfOk r (λ e. Opened the_language (memory e) old new)
+pub record Clauses (O : Outside) (old new : World) (r : Result Engine EngineFault) : Type 0 where
+  pub opened : IfOk r (λ e. Opened the_language O (memory e) old new)
   pub session : IfOk r (λ e. (memory e).session ≡ next_session (journal the_language (records old.seen)))
   pub begins : OnOk r (take 4 old.seen ≡ magic)
   pub seen : new.seen ≡ old.seen
@@ -126,14 +128,19 @@ pub record Clauses (old new : World) (r : Result Engine EngineFault) : Type 0 wh
   pub deeds : (new.deeds ≡ old.deeds) ⊎ ((t : ℕ) × (new.deeds ≡ old.deeds ++ Now t ∷ []))
   pub finished : (s : Standing) → history the_language (records old.seen) ≡ Ok s → s.config.outcome ≢ Active → new.deeds ≡ old.deeds
 
-module _ (s : Scene) (old new : World) (line : IsLineOf s (λ c. c ≡ Resume)) (found : old.seen ≡ s.found) where
-  moment_safe : (L : Language) (O : Outside) (c : List ℕ) (d : List Deed) → OpeningMoment old c d → SafeAt L O the_reports s None old c d
-  moment_safe L O c d (may, inl is) = early_nothing L O s old c d may is
-  moment_safe L O c d (may, inr (t, is)) = early_now L O s old c d t may is
+module _ (O : Outside) (s : Scene) (old new : World) (line : IsLineOf s (λ c. c ≡ Resume)) (found : old.seen ≡ s.found) where
+  moment_safe : (L : Language) (c : List ℕ) (d : List Deed) → OpeningMoment old c d → SafeAt L O the_reports s None old c d
+  moment_safe L c d (may, inl is) = early_nothing L O s old c d may is
+  moment_safe L c d (may, inr (t, is)) = early_now L O s old c d t may is
 
-  little_of : (new.deeds ≡ old.deeds) ⊎ ((t : ℕ) × (new.deeds ≡ old.deeds ++ Now t ∷ [])) → DidLittle old new
-  little_of (inl is) = little_nothing old new is
-  little_of (inr (t, is)) = little_now old new t is
+  silently_of : (new.deeds ≡ old.deeds) ⊎ ((t : ℕ) × (new.deeds ≡ old.deeds ++ Now t ∷ [])) → DoneSilently old new
+  silently_of (inl is) = nothing_silently old new is
+  silently_of (inr (t, is)) = read_silently old new t is
+
+  -- an opening polls nothing
+  unpolled_of : (D : List Deed) → (new.deeds ≡ old.deeds) ⊎ ((t : ℕ) × (new.deeds ≡ old.deeds ++ Now t ∷ [])) → new.deeds ≡ old.deeds ++ D → polls D ≡ 0
+  unpolled_of D (inl is) deeds = ap polls (append_cancel_left old.deeds D [] (sym deeds ∙ is ∙ sym (append-nil old.deeds)))
+  unpolled_of D (inr (t, is)) deeds = ap polls (append_cancel_left old.deeds D (Now t ∷ []) (sym deeds ∙ is))
 
   causes_of : (L : Language) → take 4 s.found ≡ magic → (st : Standing) → history L (records s.found) ≡ Ok st → HasNoCauseInFile L s
   causes_of L begins st is = record {
@@ -143,24 +150,26 @@ module _ (s : Scene) (old new : World) (line : IsLineOf s (λ c. c ≡ Resume)) 
     history = λ n why. not_both (history L (records s.found)) st n is why.1;
   }
 
-  opened_of : (e : Engine) (done : List Deed) → new.deeds ≡ old.deeds ++ done → Clauses old new (Ok e) → IsOpened the_language kept.Resume s done new e
+  opened_of : (e : Engine) (done : List Deed) → new.deeds ≡ old.deeds ++ done → Clauses O old new (Ok e) → IsOpened the_language O kept.Resume s done new e
   opened_of e done deeds k =
       let o = k.opened in
       let same : o.done ≡ done = append_cancel_left old.deeds o.done done (sym o.deeds ∙ deeds) in
       let stays : records new.seen ≡ records s.found = ap records (k.seen ∙ found) in
-      let is : history the_language (records s.found) ≡ Ok o.stands.leads.standing = subst (λ J. history the_language J ≡ Ok o.stands.leads.standing) stays o.stands.leads.history in
+      let leads = (o.stands false).leads in
+      let is : history the_language (records s.found) ≡ Ok leads.standing = subst (λ J. history the_language J ≡ Ok leads.standing) stays leads.history in
       record {
-        stands = subst (λ D. StandsFor the_language kept.Resume (memory e) (records new.seen) D) same o.stands;
+        stands = subst (λ D. StandsFor the_language O kept.Resume false (memory e) (records new.seen) D) same (o.stands false);
+        unpolled = unpolled_of done k.deeds deeds;
         number = k.session ∙ ap (λ f. next_session (journal the_language (records f))) found;
         added = [];
         own = tt;
         keeps = stays ∙ sym (append-nil (records s.found));
-        start = λ none. absurd (no_record_no_history the_language (records s.found) o.stands.leads.standing is none);
+        start = λ none. absurd (no_record_no_history the_language (records s.found) leads.standing is none);
         is_of = resume_command s line;
-        causes = causes_of the_language (subst (λ f. take 4 f ≡ magic) found k.begins) o.stands.leads.standing is;
+        causes = causes_of the_language (subst (λ f. take 4 f ≡ magic) found k.begins) leads.standing is;
       }
 
-  fault_of : (f : EngineFault) → Clauses old new (Err f) → FaultHolds the_language s f
+  fault_of : (f : EngineFault) → Clauses O old new (Err f) → FaultHolds the_language s f
   fault_of engine.DiskFault k = tt
   fault_of engine.NotAJournal k =
       let why = subst (λ f. (5 ≤ length f) × (take 4 f ≢ magic)) found (k.not_a_journal refl) in
@@ -179,25 +188,33 @@ module _ (s : Scene) (old new : World) (line : IsLineOf s (λ c. c ≡ Resume)) 
   fault_of engine.NotStarted k =
       let why = subst (λ f. (records f ≡ []) × MayBegin f) found (k.not_started refl) in
       ((line, why.0), passed_not_started the_language s (no_magic s why.1) (not_started_by_resume s line))
+  fault_of engine.Suspended k = absurd (none k.only)
+    where
+      none : (engine.Suspended ≡ engine.DiskFault) ⊎ (engine.Suspended ≡ engine.NotAJournal) ⊎ (engine.Suspended ≡ engine.NotStarted) ⊎ ((n : ℕ) × (engine.Suspended ≡ engine.NotAHistory n)) ⊎ (engine.Suspended ≡ engine.OutOfMemory) → ⊥
+      none (inl is) = cc is
+      none (inr (inl is)) = cc is
+      none (inr (inr (inl is))) = cc is
+      none (inr (inr (inr (inl (n, is))))) = cc is
+      none (inr (inr (inr (inr is)))) = cc is
   fault_of engine.Closed k = tt
   fault_of engine.OutOfMemory k = tt
 
-  opened_if : (r : Result Engine EngineFault) (done : List Deed) → new.deeds ≡ old.deeds ++ done → Clauses old new r → IfOk r (IsOpened the_language kept.Resume s done new)
+  opened_if : (r : Result Engine EngineFault) (done : List Deed) → new.deeds ≡ old.deeds ++ done → Clauses O old new r → IfOk r (IsOpened the_language O kept.Resume s done new)
   opened_if (Ok e) done deeds k = opened_of e done deeds k
   opened_if (Err f) done deeds k = tt
 
-  fault_if : (r : Result Engine EngineFault) → Clauses old new r → IfErr r (FaultHolds the_language s)
+  fault_if : (r : Result Engine EngineFault) → Clauses O old new r → IfErr r (FaultHolds the_language s)
   fault_if (Ok e) k = tt
   fault_if (Err f) k = fault_of f k
 
   -- a file without a record is there as it was found
-  one_reading : (L : Language) (O : Outside) (D : List Deed) → OnlyReadings → records s.found ≡ [] → (new.deeds ≡ old.deeds) ⊎ ((t : ℕ) × (new.deeds ≡ old.deeds ++ Now t ∷ [])) → new.deeds ≡ old.deeds ++ D
+  one_reading : (L : Language) (D : List Deed) → OnlyReadings → records s.found ≡ [] → (new.deeds ≡ old.deeds) ⊎ ((t : ℕ) × (new.deeds ≡ old.deeds ++ Now t ∷ [])) → new.deeds ≡ old.deeds ++ D
       → (printed D ≡ []) × Kept L O (of_command (records s.found) (next_session (journal L (records s.found))) D kept.Resume None)
-  one_reading L O D only none (inl is) deeds =
+  one_reading L D only none (inl is) deeds =
       let number = next_session (journal L (records s.found)) in
       let same : [] ≡ D = append_cancel_left old.deeds [] D (append-nil old.deeds ∙ sym is ∙ deeds) in
       (ap printed (sym same), subst (λ E. Kept L O (of_command (records s.found) number E kept.Resume None)) same (kept_still L O kept.Resume (records s.found) number only (no_turns_of_none L (records s.found) number none)))
-  one_reading L O D only none (inr (t, is)) deeds =
+  one_reading L D only none (inr (t, is)) deeds =
       let number = next_session (journal L (records s.found)) in
       let same : Now t ∷ [] ≡ D = append_cancel_left old.deeds (Now t ∷ []) D (sym is ∙ deeds) in (
         ap printed (sym same),
@@ -205,26 +222,26 @@ module _ (s : Scene) (old new : World) (line : IsLineOf s (λ c. c ≡ Resume)) 
             (kept_now L O kept.Resume (records s.found) number t only (no_turns_of_none L (records s.found) number none) (reads_none_of_none L kept.Resume (records s.found) number (Now t ∷ []) none)),
       )
 
-  late_of : OnlyReadings → (f : EngineFault) → Clauses old new (Err f) → (f ≡ engine.AlreadyStarted) ⊎ (f ≡ engine.NotStarted) → LateNow the_language s old new
-  late_of only f k (inl is) = absurd (not_started_by_resume s line (fault_of engine.AlreadyStarted (subst (λ x. Clauses old new (Err x)) is k)).0)
-  late_of only f k (inr is) = λ fit O image may.
-      let little = little_of k.deeds in
+  late_of : OnlyReadings → (f : EngineFault) → Clauses O old new (Err f) → (f ≡ engine.AlreadyStarted) ⊎ (f ≡ engine.NotStarted) → LateNow the_language O s old new
+  late_of only f k (inl is) = absurd (not_started_by_resume s line (fault_of engine.AlreadyStarted (subst (λ x. Clauses O old new (Err x)) is k)).0)
+  late_of only f k (inr is) = λ fit image may.
+      let silently = silently_of k.deeds in
       let none : records s.found ≡ [] = ap records (sym found) ∙ (k.not_started (ap Err is)).0 in
-      let rules = one_reading the_language O little.done only none k.deeds little.deeds in
-      late_found the_language O s old kept.Resume little.done image new.deeds (resume_command s line) fit (k.settled (ap Err is) image may ∙ k.seen ∙ found) little.deeds rules.0 rules.1
+      let rules = one_reading the_language silently.done only none k.deeds silently.deeds in
+      late_found the_language O s old kept.Resume silently.done image new.deeds (resume_command s line) fit (k.settled (ap Err is) image may ∙ k.seen ∙ found) silently.deeds rules.0 rules.1
 
-  late_if : OnlyReadings → (r : Result Engine EngineFault) → Clauses old new r → IfErr r (λ f. (f ≡ engine.AlreadyStarted) ⊎ (f ≡ engine.NotStarted) → LateNow the_language s old new)
+  late_if : OnlyReadings → (r : Result Engine EngineFault) → Clauses O old new r → IfErr r (λ f. (f ≡ engine.AlreadyStarted) ⊎ (f ≡ engine.NotStarted) → LateNow the_language O s old new)
   late_if only (Ok e) k = tt
   late_if only (Err f) k = late_of only f k
 
-  pub opening_by_resume : OnlyReadings → (r : Result Engine EngineFault) → Clauses old new r → Opening kept.Resume s old new r
+  pub opening_by_resume : OnlyReadings → (r : Result Engine EngineFault) → Clauses O old new r → Opening O kept.Resume s old new r
   opening_by_resume only r k =
-      let little = little_of k.deeds in
+      let silently = silently_of k.deeds in
       let unwritten : Unwritten old new = (weaker old new (OpeningMoment old) (λ c d. old.may_leave c) k.any_moment (λ c d now. now.0), k.seen) in
       record {
-        little = little;
-        safe = λ fit O. weaker old new (OpeningMoment old) (SafeAt the_language O the_reports s None old) k.any_moment (λ c d now. moment_safe the_language O c d now);
-        opened = opened_if r little.done little.deeds k;
+        silently = silently;
+        safe = λ fit. weaker old new (OpeningMoment old) (SafeAt the_language O the_reports s None old) k.any_moment (λ c d now. moment_safe the_language c d now);
+        opened = opened_if r silently.done silently.deeds k;
         fault = fault_if r k;
         late = late_if only r k;
         refused = λ why. unwritten;

@@ -3,11 +3,13 @@ use Rattle.std.proofs.Common.{◌≡◌, ◌<◌, ◌⊎◌, inl, inr, ⊎_elim,
 use Rattle.std.specs.Prelude.{codes, decimal}
 use Rattle.wf_cli.proofs.Causes.{same_ok, same_some, no_bad_line, one_command, executing, journal_executes, check_reports, format_reports, line_is, run_executes, resume_executes, reported_line, Cause, says_cause, says_text, EarlyCause, says_early, text_early, not_said}
 use Rattle.wf_cli.proofs.Together.{IsOrBefore, where_bad_line, where_bad_argument, where_told, when_told, where_refused, where_of_file, where_no_history, at_magic, at_started, at_not_started}
-use Rattle.wf_cli.specs.Top.{Call, IsLineOf, IsBadArgument, IsRefused, IsChecked, HasOutcome, Reported, Gives, IsTaken, IsOfFile, ComesBack, Says, bad_line, bad_argument, refused, reported, of_file, Ends, said, cut, unread, failed, no_memory, Prints, IsOrYields, Exactly, BadLineRow, BadArgumentRow, ReadFaultRow, RefusedRow, DiskFaultRow, NotAJournalRow, AlreadyStartedRow, NotStartedRow, NotAHistoryRow, OutcomeRow, DoneRow, AcceptedRow, ComesBackRow, PrintFaultRow, OnlyThese}
+use Rattle.wf_cli.specs.Top.{Call, IsLineOf, IsBadArgument, IsRefused, IsChecked, HasOutcome, IsSuspended, Reported, Gives, IsTaken, IsOfFile, ComesBack, Says, bad_line, bad_argument, refused, reported, of_file, Ends, said, cut, unread, failed, no_memory, Prints, IsOrYields, Exactly, BadLineRow, BadArgumentRow, ReadFaultRow, RefusedRow, DiskFaultRow, NotAJournalRow, AlreadyStartedRow, NotStartedRow, NotAHistoryRow, WaitsNoMore, SuspendedRow, OutcomeRow, DoneRow, AcceptedRow, ComesBackRow, PrintFaultRow, OnlyThese}
 use Rattle.wf_engine.specs.Printed as end
 use Rattle.wf_engine.specs.Printed.{Scene, uses_source, uses_journal, executes, status_of, outcome_text, accepted_text}
+use Rattle.wf_engine.specs.Safe.{Since}
 use Rattle.wf_engine.specs.TheLanguage.{the_language}
 use Rattle.wf_host.specs.World.{World}
+use Rattle.wf_host.specs.declared.data.Deed.{Deed}
 use Rattle.wf_journal.specs.Records.{records}
 use Rattle.wf_args.specs.declared.command.Command.TheVariants.{Check, Format, Help, Version}
 use Rattle.wf_model.specs.Config.{Outcome, Active, Returned, Raised, Cancelled}
@@ -160,7 +162,6 @@ print_fault_row x (no_memory is prints) = λ it. let no : status.OutOfMemory ≡
 -- a status of this part
 abbrev pub is_own : Status → Bool
 is_own status.PollFault = false
-is_own status.Suspended = false
 is_own st = true
 
 own_of_said : (s : Scene) (old new : World) (st : Status) (text : List ℕ) → Says s old new st text → is_own st ≡ true
@@ -173,9 +174,10 @@ own_of_said s old new _ _ (of_file st text (inr (inl is)) line accepted gives) =
 own_of_said s old new _ _ (of_file st text (inr (inr (inl is))) line accepted gives) = ap is_own is
 own_of_said s old new _ _ (of_file st text (inr (inr (inr (inl (n, is))))) line accepted gives) = ap is_own is
 own_of_said s old new _ _ (of_file st text (inr (inr (inr (inr (inl is))))) line accepted gives) = ap is_own is
-own_of_said s old new _ _ (of_file st text (inr (inr (inr (inr (inr is))))) line accepted gives) = ap is_own is
+own_of_said s old new _ _ (of_file st text (inr (inr (inr (inr (inr (inl is)))))) line accepted gives) = ap is_own is
+own_of_said s old new _ _ (of_file st text (inr (inr (inr (inr (inr (inr is)))))) line accepted gives) = ap is_own is
 
-pub own_status : (x : Call) → Ends x → is_own x.status ≡ true
+own_status : (x : Call) → Ends x → is_own x.status ≡ true
 own_status x (said text says prints) = own_of_said x.scene x.old x.new x.status text says
 own_status x (cut other text is says why some) = ap is_own is
 own_status x (unread is line fine rose prints) = ap is_own is
@@ -183,12 +185,9 @@ own_status x (failed is line accepted rose prints) = ap is_own is
 own_status x (no_memory is prints) = ap is_own is
 
 pub only_these : (x : Call) → Ends x → OnlyThese x
-only_these x ends = (λ is. none status.PollFault is refl, λ is. none status.Suspended is refl)
-  where
-    none : (st : Status) → x.status ≡ st → is_own st ≡ false → ⊥
-    none st is isnt = let no : true ≡ false = sym (own_status x ends) ∙ ap is_own is ∙ isnt in cc no
+only_these x ends is = let no : true ≡ false = sym (own_status x ends) ∙ ap is_own is in cc no
 
--- ## Outcomes and reports
+-- ## Outcomes
 -- a status that is said of an outcome
 abbrev pub is_outcome : Status → Bool
 is_outcome status.Done = true
@@ -219,17 +218,18 @@ outcome_rank status.Suspended is = let no : false ≡ true = is in absurd (cc no
 outcome_rank status.OutOfMemory is = let no : false ≡ true = is in absurd (cc no)
 
 -- Done and Raised are told of an outcome, where a command executes
-outcome_of_gives : (L : Language) (s : Scene) (image : List ℕ) (st : Status) (text : List ℕ) → IsLineOf s (λ c. executes c ≡ true) → Gives L s image st text → is_outcome st ≡ true
+outcome_of_gives : (L : Language) (s : Scene) (image : List ℕ) (D : List Deed) (st : Status) (text : List ℕ) → IsLineOf s (λ c. executes c ≡ true) → Gives L s image D st text → is_outcome st ≡ true
     → (o : Outcome) × HasOutcome L s image o × (status_of o ≡ Some st) × (text ≡ outcome_text o)
-outcome_of_gives L s image _ _ line (end.bad_line n bad) is = let no : false ≡ true = is in absurd (cc no)
-outcome_of_gives L s image _ _ line (end.bad_argument why) is = let no : false ≡ true = is in absurd (cc no)
-outcome_of_gives L s image _ _ line (end.refused r why) is = let no : false ≡ true = is in absurd (cc no)
-outcome_of_gives L s image _ _ line (end.not_a_journal why) is = let no : false ≡ true = is in absurd (cc no)
-outcome_of_gives L s image _ _ line (end.already_started why) is = let no : false ≡ true = is in absurd (cc no)
-outcome_of_gives L s image _ _ line (end.not_started why) is = let no : false ≡ true = is in absurd (cc no)
-outcome_of_gives L s image _ _ line (end.not_a_history n why) is = let no : false ≡ true = is in absurd (cc no)
-outcome_of_gives L s image _ _ line (end.ended o st has which) is = (o, has, which, refl)
-outcome_of_gives L s image _ _ line (end.done text report) is = absurd (executing s line (reported_line s text report))
+outcome_of_gives L s image D _ _ line (end.bad_line n bad) is = let no : false ≡ true = is in absurd (cc no)
+outcome_of_gives L s image D _ _ line (end.bad_argument why) is = let no : false ≡ true = is in absurd (cc no)
+outcome_of_gives L s image D _ _ line (end.refused r why) is = let no : false ≡ true = is in absurd (cc no)
+outcome_of_gives L s image D _ _ line (end.not_a_journal why) is = let no : false ≡ true = is in absurd (cc no)
+outcome_of_gives L s image D _ _ line (end.already_started why) is = let no : false ≡ true = is in absurd (cc no)
+outcome_of_gives L s image D _ _ line (end.not_started why) is = let no : false ≡ true = is in absurd (cc no)
+outcome_of_gives L s image D _ _ line (end.not_a_history n why) is = let no : false ≡ true = is in absurd (cc no)
+outcome_of_gives L s image D _ _ line (end.suspended why) is = let no : false ≡ true = is in absurd (cc no)
+outcome_of_gives L s image D _ _ line (end.ended o st has which) is = (o, has, which, refl)
+outcome_of_gives L s image D _ _ line (end.done text report) is = absurd (executing s line (reported_line s text report))
 
 outcome_of_says : (s : Scene) (old new : World) (st : Status) (text : List ℕ) → IsTrue old.tells → IsLineOf s (λ c. executes c ≡ true) → Says s old new st text → is_outcome st ≡ true
     → (o : Outcome) × HasOutcome the_language s new.seen o × (status_of o ≡ Some st) × (text ≡ outcome_text o)
@@ -237,7 +237,7 @@ outcome_of_says s old new _ _ told line (bad_line n bad) is = let no : false ≡
 outcome_of_says s old new _ _ told line (bad_argument why) is = let no : false ≡ true = is in absurd (cc no)
 outcome_of_says s old new _ _ told line (refused r why fine) is = let no : false ≡ true = is in absurd (cc no)
 outcome_of_says s old new _ _ told line (reported text report back) is = absurd (executing s line (reported_line s text report))
-outcome_of_says s old new _ _ told line (of_file st text isf line2 accepted gives) is = outcome_of_gives the_language s new.seen st text line (gives told).0 is
+outcome_of_says s old new _ _ told line (of_file st text isf line2 accepted gives) is = let g = (gives told).0 in outcome_of_gives the_language s new.seen g.0 st text line g.2 is
 
 outcome_comes : (x : Call) → IsTrue x.old.tells → Ends x → IsLineOf x.scene (λ c. executes c ≡ true) → is_outcome x.status ≡ true
     → (o : Outcome) × HasOutcome the_language x.scene x.new.seen o × (status_of o ≡ Some x.status) × Prints x (outcome_text o)
@@ -260,8 +260,9 @@ low_or_outcome other st (inl is) equal = inl (let r = ap rank is in omega (arith
 low_or_outcome other st (inr (inl is)) equal = inl (let r = ap rank is in omega (arith, r, equal))
 low_or_outcome other st (inr (inr (inl is))) equal = inl (let r = ap rank is in omega (arith, r, equal))
 low_or_outcome other st (inr (inr (inr (inl (n, is))))) equal = inl (let r = ap rank is in omega (arith, r, equal))
-low_or_outcome other st (inr (inr (inr (inr (inl is))))) equal = inr (ap is_outcome is)
-low_or_outcome other st (inr (inr (inr (inr (inr is))))) equal = inr (ap is_outcome is)
+low_or_outcome other st (inr (inr (inr (inr (inl is))))) equal = inl (let r = ap rank is in omega (arith, r, equal))
+low_or_outcome other st (inr (inr (inr (inr (inr (inl is)))))) equal = inr (ap is_outcome is)
+low_or_outcome other st (inr (inr (inr (inr (inr (inr is)))))) equal = inr (ap is_outcome is)
 
 where_outcome : (s : Scene) (old new : World) (o : Outcome) (st other : Status) (text : List ℕ) → IsTrue old.tells → status_of o ≡ Some st → HasOutcome the_language s new.seen o → Says s old new other text → IsOrBefore st other
 where_outcome s old new o st _ _ told which has (bad_line n bad) = inr (let r = outcome_rank st (outcome_status o st which) in omega (arith, r))
@@ -270,7 +271,7 @@ where_outcome s old new o st _ _ told which has (refused q why fine) = inr (let 
 where_outcome s old new o st _ _ told which has (reported text report back) = absurd (executing s has.0 (reported_line s text report))
 where_outcome s old new o st _ _ told which has (of_file other text is line accepted gives) =
     ⊎_elim (λ low. inr low)
-    (λ ends. let it = outcome_of_gives the_language s new.seen other text line (gives told).0 ends in inl (one_status the_language s new.seen o it.0 st other has it.1 which it.2))
+    (λ ends. let g = (gives told).0 in let it = outcome_of_gives the_language s new.seen g.0 other text line g.2 ends in inl (one_status the_language s new.seen o it.0 st other has it.1 which it.2))
     (low_or_outcome other st is (outcome_rank st (outcome_status o st which)))
 
 pub outcome_row : (x : Call) → IsTrue x.old.tells → Ends x → OutcomeRow the_language x
@@ -281,6 +282,69 @@ outcome_row x told ends = record {
       yields x st ends (λ other text says. where_outcome x.scene x.old x.new o st other text told which has says) (λ run fine. omega (arith, r)) (λ runs taken. omega (arith, r));
 }
 
+-- ## No outcome
+-- what is said where there is none tells of the file and of the deeds
+suspended_of_gives : (L : Language) (s : Scene) (image : List ℕ) (D : List Deed) (st : Status) (text : List ℕ) → Gives L s image D st text → st ≡ status.Suspended → IsSuspended L s image D
+suspended_of_gives L s image D _ _ (end.bad_line n bad) is = absurd (cc is)
+suspended_of_gives L s image D _ _ (end.bad_argument why) is = absurd (cc is)
+suspended_of_gives L s image D _ _ (end.refused r why) is = absurd (cc is)
+suspended_of_gives L s image D _ _ (end.not_a_journal why) is = absurd (cc is)
+suspended_of_gives L s image D _ _ (end.already_started why) is = absurd (cc is)
+suspended_of_gives L s image D _ _ (end.not_started why) is = absurd (cc is)
+suspended_of_gives L s image D _ _ (end.not_a_history n why) is = absurd (cc is)
+suspended_of_gives L s image D _ _ (end.suspended why) is = why
+suspended_of_gives L s image D _ _ (end.ended o st has which) is = let no : false ≡ true = ap is_outcome (sym is) ∙ outcome_status o st which in absurd (cc no)
+suspended_of_gives L s image D _ _ (end.done text report) is = absurd (cc is)
+
+suspended_of_says : (s : Scene) (old new : World) (st : Status) (text : List ℕ) → IsTrue old.tells → Says s old new st text → st ≡ status.Suspended → Since old new.deeds (λ D. IsSuspended the_language s new.seen D)
+suspended_of_says s old new _ _ told (bad_line n bad) is = absurd (cc is)
+suspended_of_says s old new _ _ told (bad_argument why) is = absurd (cc is)
+suspended_of_says s old new _ _ told (refused r why fine) is = absurd (cc is)
+suspended_of_says s old new _ _ told (reported text report back) is = absurd (cc is)
+suspended_of_says s old new _ _ told (of_file st text isf line accepted gives) is = let g = (gives told).0 in (g.0, g.1, suspended_of_gives the_language s new.seen g.0 st text g.2 is)
+
+suspended_comes : (x : Call) → IsTrue x.old.tells → Ends x → x.status ≡ status.Suspended → WaitsNoMore the_language x
+suspended_comes x told (said text says prints) is = suspended_of_says x.scene x.old x.new x.status text told says is
+suspended_comes x told (cut other text it says why some) is = let no : status.PrintFault ≡ status.Suspended = sym it ∙ is in absurd (cc no)
+suspended_comes x told (unread it line fine rose prints) is = let no : status.ReadFault ≡ status.Suspended = sym it ∙ is in absurd (cc no)
+suspended_comes x told (failed it line accepted rose prints) is = let no : status.DiskFault ≡ status.Suspended = sym it ∙ is in absurd (cc no)
+suspended_comes x told (no_memory it prints) is = let no : status.OutOfMemory ≡ status.Suspended = sym it ∙ is in absurd (cc no)
+
+-- without an outcome no outcome is told
+not_an_outcome : (L : Language) (s : Scene) (image : List ℕ) (o : Outcome) (st : Status) → HasOutcome L s image Active → HasOutcome L s image o → status_of o ≡ Some st → ⊥
+not_an_outcome L s image o st (line, (c, is, has)) (line2, (d, is2, has2)) which =
+    let active : o ≡ Active = sym has2 ∙ ap (λ (k : Standing). k.config.outcome) (same_ok (history L (records image)) d c is2 is) ∙ has in
+    let no : None ≡ Some st = ap status_of (sym active) ∙ which in cc no
+
+low_suspended_or_outcome : (other : Status) → IsOfFile other → IsOrBefore status.Suspended other ⊎ (is_outcome other ≡ true)
+low_suspended_or_outcome other (inl is) = inl (inr (let r = ap rank is in omega (arith, r)))
+low_suspended_or_outcome other (inr (inl is)) = inl (inr (let r = ap rank is in omega (arith, r)))
+low_suspended_or_outcome other (inr (inr (inl is))) = inl (inr (let r = ap rank is in omega (arith, r)))
+low_suspended_or_outcome other (inr (inr (inr (inl (n, is))))) = inl (inr (let r = ap rank is in omega (arith, r)))
+low_suspended_or_outcome other (inr (inr (inr (inr (inl is))))) = inl (inl is)
+low_suspended_or_outcome other (inr (inr (inr (inr (inr (inl is)))))) = inr (ap is_outcome is)
+low_suspended_or_outcome other (inr (inr (inr (inr (inr (inr is)))))) = inr (ap is_outcome is)
+
+where_suspended : (s : Scene) (old new : World) (D : List Deed) (other : Status) (text : List ℕ) → IsTrue old.tells → IsSuspended the_language s new.seen D → Says s old new other text → IsOrBefore status.Suspended other
+where_suspended s old new D _ _ told why (bad_line n bad) = inr (omega arith)
+where_suspended s old new D _ _ told why (bad_argument bad) = inr (omega arith)
+where_suspended s old new D _ _ told why (refused q is fine) = inr (omega arith)
+where_suspended s old new D _ _ told why (reported text report back) = absurd (executing s why.0.0 (reported_line s text report))
+where_suspended s old new D _ _ told why (of_file other text is line accepted gives) =
+    ⊎_elim (λ here. here)
+    (λ over. let g = (gives told).0 in let it = outcome_of_gives the_language s new.seen g.0 other text line g.2 over in absurd (not_an_outcome the_language s new.seen it.0 other why.0 it.1 it.2))
+    (low_suspended_or_outcome other is)
+
+pub suspended_row : (x : Call) → IsTrue x.old.tells → Ends x → SuspendedRow the_language x
+suspended_row x told ends =
+    let line = line_end (codes "suspended") in
+    record {
+      comes = λ is. suspended_comes x told ends is;
+      only = λ why. yields x status.Suspended ends (λ other text says. where_suspended x.scene x.old x.new why.0 other text told why.2 says) (λ run fine. omega arith) (λ runs taken. omega arith);
+      prints = λ is. line_printed x line ends (texted_as x status.Suspended line refl is);
+    }
+
+-- ## Reports
 report_of_says : (s : Scene) (old new : World) (st : Status) (text : List ℕ) → Says s old new st text → IsLineOf s (λ c. executes c ≡ false) → st ≡ status.Done → Reported s text
 report_of_says s old new _ _ (bad_line n bad) line is = absurd (cc is)
 report_of_says s old new _ _ (bad_argument why) line is = absurd (cc is)

@@ -4,7 +4,8 @@ use Rattle.std.specs.List.{AllByRecursion}
 use Rattle.std.proofs.lemmas.List.{length-append}
 use Rattle.std.proofs.lemmas.Str.{IsUtf8-from_ascii}
 use Rattle.wf_events.specs.Records.{Started}
-use Rattle.wf_events.specs.Spelling.{record_bytes, HasSpelling, IsText, IsArgument, IsRoute, IsPair, string, eight, four, listed, route, pair}
+use Rattle.wf_events.specs.Spelling.{record_bytes, HasSpelling, IsArgument, IsRoute, IsPair, route}
+use Rattle.wf_record_parts.specs.Spelling.{IsText, string, eight, four, listed, pair}
 use Rattle.wf_shared.specs.Events.{Start}
 
 -- an argument that may stand in a record, and is short

@@ -9,6 +9,7 @@ use Rattle.wf_engine.specs.Printed.{Scene, uses_source, executes, refuses}
 use Rattle.wf_engine.specs.TheLanguage.{the_language}
 use Rattle.wf_host.specs.Source.{Rest, IsFirst, WhereTold}
 use Rattle.wf_host.specs.World.{World}
+use Rattle.wf_host.specs.declared.data.Deed.{Deed}
 use Rattle.wf_journal.specs.Records.{records}
 use Rattle.wf_args.specs.Lines.{PlainLine, line_of}
 use Rattle.wf_args.specs.declared.command.Command.{Command}
@@ -127,38 +128,42 @@ at_magic other (inl is) equal = is
 at_magic other (inr (inl is)) equal = absurd (off other status.AlreadyStarted 5 is equal (λ no. cc no))
 at_magic other (inr (inr (inl is))) equal = absurd (off other status.NotStarted 5 is equal (λ no. cc no))
 at_magic other (inr (inr (inr (inl (n, is))))) equal = absurd (off other (status.NotAHistory n) 5 is equal (λ no. cc no))
-at_magic other (inr (inr (inr (inr (inl is))))) equal = absurd (off other status.Done 5 is equal (λ no. cc no))
-at_magic other (inr (inr (inr (inr (inr is))))) equal = absurd (off other status.Raised 5 is equal (λ no. cc no))
+at_magic other (inr (inr (inr (inr (inl is))))) equal = absurd (off other status.Suspended 5 is equal (λ no. cc no))
+at_magic other (inr (inr (inr (inr (inr (inl is)))))) equal = absurd (off other status.Done 5 is equal (λ no. cc no))
+at_magic other (inr (inr (inr (inr (inr (inr is)))))) equal = absurd (off other status.Raised 5 is equal (λ no. cc no))
 
 pub at_started : (other : Status) → IsOfFile other → rank other ≡ 6 → other ≡ status.AlreadyStarted
 at_started other (inl is) equal = absurd (off other status.NotAJournal 6 is equal (λ no. cc no))
 at_started other (inr (inl is)) equal = is
 at_started other (inr (inr (inl is))) equal = absurd (off other status.NotStarted 6 is equal (λ no. cc no))
 at_started other (inr (inr (inr (inl (n, is))))) equal = absurd (off other (status.NotAHistory n) 6 is equal (λ no. cc no))
-at_started other (inr (inr (inr (inr (inl is))))) equal = absurd (off other status.Done 6 is equal (λ no. cc no))
-at_started other (inr (inr (inr (inr (inr is))))) equal = absurd (off other status.Raised 6 is equal (λ no. cc no))
+at_started other (inr (inr (inr (inr (inl is))))) equal = absurd (off other status.Suspended 6 is equal (λ no. cc no))
+at_started other (inr (inr (inr (inr (inr (inl is)))))) equal = absurd (off other status.Done 6 is equal (λ no. cc no))
+at_started other (inr (inr (inr (inr (inr (inr is)))))) equal = absurd (off other status.Raised 6 is equal (λ no. cc no))
 
 pub at_not_started : (other : Status) → IsOfFile other → rank other ≡ 7 → other ≡ status.NotStarted
 at_not_started other (inl is) equal = absurd (off other status.NotAJournal 7 is equal (λ no. cc no))
 at_not_started other (inr (inl is)) equal = absurd (off other status.AlreadyStarted 7 is equal (λ no. cc no))
 at_not_started other (inr (inr (inl is))) equal = is
 at_not_started other (inr (inr (inr (inl (n, is))))) equal = absurd (off other (status.NotAHistory n) 7 is equal (λ no. cc no))
-at_not_started other (inr (inr (inr (inr (inl is))))) equal = absurd (off other status.Done 7 is equal (λ no. cc no))
-at_not_started other (inr (inr (inr (inr (inr is))))) equal = absurd (off other status.Raised 7 is equal (λ no. cc no))
+at_not_started other (inr (inr (inr (inr (inl is))))) equal = absurd (off other status.Suspended 7 is equal (λ no. cc no))
+at_not_started other (inr (inr (inr (inr (inr (inl is)))))) equal = absurd (off other status.Done 7 is equal (λ no. cc no))
+at_not_started other (inr (inr (inr (inr (inr (inr is)))))) equal = absurd (off other status.Raised 7 is equal (λ no. cc no))
 
 at_history : (other : Status) → IsOfFile other → rank other ≡ 8 → (n : ℕ) × (other ≡ status.NotAHistory n)
 at_history other (inl is) equal = absurd (off other status.NotAJournal 8 is equal (λ no. cc no))
 at_history other (inr (inl is)) equal = absurd (off other status.AlreadyStarted 8 is equal (λ no. cc no))
 at_history other (inr (inr (inl is))) equal = absurd (off other status.NotStarted 8 is equal (λ no. cc no))
 at_history other (inr (inr (inr (inl (n, is))))) equal = (n, is)
-at_history other (inr (inr (inr (inr (inl is))))) equal = absurd (off other status.Done 8 is equal (λ no. cc no))
-at_history other (inr (inr (inr (inr (inr is))))) equal = absurd (off other status.Raised 8 is equal (λ no. cc no))
+at_history other (inr (inr (inr (inr (inl is))))) equal = absurd (off other status.Suspended 8 is equal (λ no. cc no))
+at_history other (inr (inr (inr (inr (inr (inl is)))))) equal = absurd (off other status.Done 8 is equal (λ no. cc no))
+at_history other (inr (inr (inr (inr (inr (inr is)))))) equal = absurd (off other status.Raised 8 is equal (λ no. cc no))
 
 -- of this rank there is one status of the file, and one number of a record
-same_history : (L : Language) (s : Scene) (image text : List ℕ) (n : ℕ) (other : Status) → IsNoHistory L s n → IsOfFile other → Gives L s image other text → rank other ≡ 8 → other ≡ status.NotAHistory n
-same_history L s image text n other why is gives equal =
+same_history : (L : Language) (s : Scene) (image : List ℕ) (D : List Deed) (text : List ℕ) (n : ℕ) (other : Status) → IsNoHistory L s n → IsOfFile other → Gives L s image D other text → rank other ≡ 8 → other ≡ status.NotAHistory n
+same_history L s image D text n other why is gives equal =
     let found = at_history other is equal in
-    let why2 : IsNoHistory L s found.0 = subst (Cause L s) found.1 (gives_cause L s image other text gives) in
+    let why2 : IsNoHistory L s found.0 = subst (Cause L s) found.1 (gives_cause L s image D other text gives) in
     found.1 ∙ ap status.NotAHistory (same_err (history L (records s.found)) found.0 n why2.1 why.1)
 
 -- where a cause of the file holds, and the host tells: nothing behind it comes, and no other status of its rank
@@ -177,4 +182,5 @@ where_no_history s old new n _ _ told why (bad_argument bad) = inr (omega arith)
 where_no_history s old new n _ _ told why (refused q is fine) = inr (omega arith)
 where_no_history s old new n _ _ told why (reported text report back) = absurd (executing s (resume_executes s why.0) (reported_line s text report))
 where_no_history s old new n _ _ told why (of_file other text is line accepted gives) =
-    ordered (status.NotAHistory n) other is (λ low. (gives told).1.history n low why) (same_history the_language s new.seen text n other why is (gives told).0)
+    let g = (gives told).0 in
+    ordered (status.NotAHistory n) other is (λ low. (gives told).1.history n low why) (same_history the_language s new.seen g.0 text n other why is g.2)

@@ -1,25 +1,32 @@
 -- What a command has done, from the opening of its file and the way to the outcome.
-use Rattle.std.proofs.Common.{◌≡◌, ◌⊎◌, ◌≢◌, inl, inr, ⊎_elim, ℕ, Bool, true, false, List, [], ◌++◌, None, Some, Result, Ok, Err, IfOk, IsErr, IsErrAnd, refl, sym, ◌∙◌, ap, subst, arith}
+use Rattle.std.proofs.Common.{◌≡◌, ◌⊎◌, ◌≢◌, inl, inr, ⊎_elim, ℕ, Bool, true, false, List, [], ◌++◌, None, Some, Result, Ok, Err, IfOk, IsErr, IsErrAnd, refl, sym, ◌∙◌, ap, subst, append_assoc, arith}
 use Rattle.std.specs.Prelude.{codes, decimal}
 use Rattle.std.proofs.lemmas.List.{append-nil}
 use Rattle.wf_ast.specs.Tree.{Program}
 use Rattle.wf_cli.proofs.Causes.{same_ok, same_err, same_some, both, not_both, executing, no_argument, good_argument, argument_line, one_command, reported_line}
+use Rattle.wf_cli.proofs.Deeds.{polls_both, printed_both}
+use Rattle.wf_cli.proofs.Safe.{of_command, IsPlainEnd, plain_end, still_end}
 use Rattle.wf_cli.proofs.Together.{where_told, same_bytes}
 use Rattle.wf_cli.proofs.Moments.{early_nothing, late_going, safe_late}
 use Rattle.wf_cli.proofs.Opens.{passed_all}
 use Rattle.wf_cli.specs.Reports.{layout_of, the_reports}
-use Rattle.wf_cli.specs.Said.{SaysStatus, SaysFault, SaysReport, SaysBadLine, SaysArgument, SaysSource, SaysTree, SaysLayout, SaysVerdict, SaysChecked, DidLittle, SafeSince, LateNow, Unwritten, FaultHolds, Opening, SaysResult, SaysHistory, Going, IsEnd, Worked}
-use Rattle.wf_cli.specs.Top.{IsLineOf, IsBadLine, IsBadArgument, IsRefused, IsChecked, HasOtherMagic, IsStarted, IsNotStarted, IsNoHistory, Reported, IsAccepted, IsTaken, IsOfFile, IsPassed, HasNoCauseInFile, IsBehindSync, Gives, ReadsBack, Says, bad_line, bad_argument, refused, reported, of_file}
+use Rattle.wf_cli.specs.Said.{SaysStatus, SaysFault, SaysReport, SaysBadLine, SaysArgument, SaysSource, SaysTree, SaysLayout, SaysVerdict, SaysChecked, DoneSilently, SafeSince, LateNow, MayEndNow, Unwritten, FaultHolds, Opening, SaysResult, SaysHistory, Going, IsEnd, Worked}
+use Rattle.wf_cli.specs.Top.{IsLineOf, IsBadLine, IsBadArgument, IsRefused, IsChecked, HasOtherMagic, IsStarted, IsNotStarted, IsNoHistory, Reported, IsAccepted, IsTaken, IsOfFile, IsPassed, HasNoCauseInFile, IsBehindSync, HasOutcome, Gives, ReadsBack, Says, bad_line, bad_argument, refused, reported, of_file}
 use Rattle.wf_cli.specs.declared.argument.ArgumentFault.{ArgumentFault}
 use Rattle.wf_cli.specs.declared.argument.ArgumentFault.TheVariants as argument
 use Rattle.wf_cli.specs.declared.end.Said.{Said}
 use Rattle.wf_cli.specs.declared.end.Silence.{Silence}
 use Rattle.wf_cli.specs.declared.end.Silence.TheVariants as silence
-use Rattle.wf_engine.specs.Engine.{memory, KeptAt}
+use Rattle.wf_deeds.specs.Clauses.{KeptAt}
+use Rattle.wf_deeds.specs.Deeds.{polls, printed}
 use Rattle.wf_deeds.specs.Kept as kept
+use Rattle.wf_deeds.specs.Memory.{session as session_of}
+use Rattle.wf_deeds.specs.Outside.{Outside}
+use Rattle.wf_deeds.specs.Rules.{MayEnd}
+use Rattle.wf_engine.specs.Engine.{memory}
 use Rattle.wf_engine.specs.Printed as end
 use Rattle.wf_engine.specs.Printed.{Scene, uses_source, executes, status_of, accepted_text}
-use Rattle.wf_engine.specs.Safe.{IsFit, SafeAt}
+use Rattle.wf_engine.specs.Safe.{IsFit, Since, SafeAt, session}
 use Rattle.wf_engine.specs.Starts.{HasArgument}
 use Rattle.wf_engine.specs.TheLanguage.{the_language}
 use Rattle.wf_engine.specs.declared.engine.Engine.{Engine}
@@ -38,6 +45,7 @@ use Rattle.wf_args.specs.declared.command.Command.TheVariants.{Check, Format, Ru
 use Rattle.wf_args.specs.declared.read.LineFault.{LineFault}
 use Rattle.wf_args.specs.declared.read.LineFault.TheVariants as words
 use Rattle.wf_model.specs.Config.{Outcome, Active, Returned, Raised, Cancelled}
+use Rattle.wf_journal_laws.specs.At.{journal, next_session}
 use Rattle.wf_journal_laws.specs.History.{Standing, history}
 use Rattle.wf_journal_laws.specs.Language.{Language}
 use Rattle.wf_source.specs.Laws.{NotBoth}
@@ -47,7 +55,7 @@ use Rattle.wf_source.specs.Views.{TellsOf}
 use Rattle.wf_source.specs.declared.fault.SourceFault.{SourceFault}
 use Rattle.wf_source.specs.declared.fault.SourceFault.TheVariants as source_fault
 use Rattle.wf_status.specs.Refusals.{refusal_text}
-use Rattle.wf_status.specs.Statuses.{line_end, status_text}
+use Rattle.wf_status.specs.Statuses.{line_end, status_code, status_text}
 use Rattle.wf_status.specs.declared.Refusal.{Refusal}
 use Rattle.wf_status.specs.declared.Status.{Status}
 use Rattle.wf_status.specs.declared.Status.TheVariants as status
@@ -59,23 +67,50 @@ use Rattle.wf_yaml_write.specs.Layout.{written}
 says_line : (s : Scene) (old new : World) (st : Status) (line : List ℕ) (it : Said) → Says s old new st line → status_text st ≡ Some line → SaysStatus st it → Says s old new it.status it.text.items
 says_line s old new st line it says is that = subst (λ t. Says s old new it.status t) (sym (that.text line is)) (subst (λ x. Says s old new x line) (sym that.status) says)
 
-gives_line : (L : Language) (s : Scene) (image : List ℕ) (st : Status) (line : List ℕ) (it : Said) → Gives L s image st line → status_text st ≡ Some line → SaysStatus st it → Gives L s image it.status it.text.items
-gives_line L s image st line it gives is that = subst (λ t. Gives L s image it.status t) (sym (that.text line is)) (subst (λ x. Gives L s image x line) (sym that.status) gives)
+gives_line : (L : Language) (s : Scene) (image : List ℕ) (D : List Deed) (st : Status) (line : List ℕ) (it : Said) → Gives L s image D st line → status_text st ≡ Some line → SaysStatus st it → Gives L s image D it.status it.text.items
+gives_line L s image D st line it gives is that = subst (λ t. Gives L s image D it.status t) (sym (that.text line is)) (subst (λ x. Gives L s image D x line) (sym that.status) gives)
 
 -- ## A command that touches no file
 -- it did nothing
-nothing_done : (s : Scene) (w : World) → ((c : List ℕ) (d : List Deed) → w.left_since w.moment c d → w.may_leave c × (d ≡ w.deeds)) → SafeSince the_language s w w
-nothing_done s w only fit O = started w (SafeAt the_language O the_reports s None w) only (λ c may. early_nothing the_language O s w c w.deeds may refl)
+abbrev still : (w : World) → DoneSilently w w
+still w = record { done = []; deeds = sym (append-nil w.deeds); silent = refl }
+
+nothing_done : (O : Outside) (s : Scene) (w : World) → ((c : List ℕ) (d : List Deed) → w.left_since w.moment c d → w.may_leave c × (d ≡ w.deeds)) → SafeSince the_language O s w w
+nothing_done O s w only fit = started w (SafeAt the_language O the_reports s None w) only (λ c may. early_nothing the_language O s w c w.deeds may refl)
 
 pub still_unwritten : (w : World) → ((c : List ℕ) (d : List Deed) → w.left_since w.moment c d → w.may_leave c × (d ≡ w.deeds)) → Unwritten w w
 still_unwritten w only = (started w (λ c d. w.may_leave c) only (λ c may. may), refl)
 
-pub worked_nothing : (s : Scene) (w : World) (r : Result Said Silence) (little : DidLittle w w) → ((c : List ℕ) (d : List Deed) → w.left_since w.moment c d → w.may_leave c × (d ≡ w.deeds))
-    → IfOk r (λ it. (image : List ℕ) → Gives the_language s image it.status it.text.items) → IfOk r (λ it. ¬ IsBehindSync s it.status) → Worked s w w r
-worked_nothing s w r little only gives early = record {
-  little = little;
-  safe = nothing_done s w only;
+-- a status of a suspended command has its number alone
+suspended_code : (st : Status) → status_code st ≡ 13 → st ≡ status.Suspended
+suspended_code status.Done is = absurd (let no : ⊥ = omega (arith, is) in no)
+suspended_code status.Raised is = absurd (let no : ⊥ = omega (arith, is) in no)
+suspended_code (status.BadLine n) is = absurd (let no : ⊥ = omega (arith, is) in no)
+suspended_code (status.Refused r) is = absurd (let no : ⊥ = omega (arith, is) in no)
+suspended_code status.BadArgument is = absurd (let no : ⊥ = omega (arith, is) in no)
+suspended_code status.AlreadyStarted is = absurd (let no : ⊥ = omega (arith, is) in no)
+suspended_code status.NotStarted is = absurd (let no : ⊥ = omega (arith, is) in no)
+suspended_code status.ReadFault is = absurd (let no : ⊥ = omega (arith, is) in no)
+suspended_code status.PrintFault is = absurd (let no : ⊥ = omega (arith, is) in no)
+suspended_code status.DiskFault is = absurd (let no : ⊥ = omega (arith, is) in no)
+suspended_code status.PollFault is = absurd (let no : ⊥ = omega (arith, is) in no)
+suspended_code status.NotAJournal is = absurd (let no : ⊥ = omega (arith, is) in no)
+suspended_code (status.NotAHistory n) is = absurd (let no : ⊥ = omega (arith, is) in no)
+suspended_code status.Suspended is = refl
+suspended_code status.OutOfMemory is = absurd (let no : ⊥ = omega (arith, is) in no)
+
+-- where nothing was done a command may end, but as suspended
+ends_still : (O : Outside) (s : Scene) (w : World) (st : Status) → ¬ IsBehindSync s st → MayEndNow the_language O s w w st
+ends_still O s w st early image may =
+    ([], sym (append-nil w.deeds), still_end the_language O (records image) _ _ (status_code st) (λ is. early (subst (IsBehindSync s) (sym (suspended_code st is)) tt)))
+
+pub worked_nothing : (O : Outside) (s : Scene) (w : World) (r : Result Said Silence) → ((c : List ℕ) (d : List Deed) → w.left_since w.moment c d → w.may_leave c × (d ≡ w.deeds))
+    → IfOk r (λ it. (image : List ℕ) (D : List Deed) → Gives the_language s image D it.status it.text.items) → IfOk r (λ it. ¬ IsBehindSync s it.status) → Worked O s w w r
+worked_nothing O s w r only gives early = record {
+  silently = still w;
+  safe = nothing_done O s w only;
   gives = every r gives;
+  ends = may_end r early;
   late = none_late r early;
   finished = λ st line is ended. (still_unwritten w only, refl);
   refused = λ why. still_unwritten w only;
@@ -83,55 +118,64 @@ worked_nothing s w r little only gives early = record {
   idle = λ line. refl;
 }
   where
-    every : (q : Result Said Silence) → IfOk q (λ it. (image : List ℕ) → Gives the_language s image it.status it.text.items) → IfOk q (λ it. (image : List ℕ) → w.may_leave image → Gives the_language s image it.status it.text.items)
-    every (Ok it) gives = λ image may. gives image
+    every : (q : Result Said Silence) → IfOk q (λ it. (image : List ℕ) (D : List Deed) → Gives the_language s image D it.status it.text.items) → IfOk q (λ it. (image : List ℕ) → w.may_leave image → Gives the_language s image [] it.status it.text.items)
+    every (Ok it) gives = λ image may. gives image []
     every (Err e) gives = tt
 
-    none_late : (q : Result Said Silence) → IfOk q (λ it. ¬ IsBehindSync s it.status) → IfOk q (λ it. IsBehindSync s it.status → LateNow the_language s w w)
+    may_end : (q : Result Said Silence) → IfOk q (λ it. ¬ IsBehindSync s it.status) → IfOk q (λ it. MayEndNow the_language O s w w it.status)
+    may_end (Ok it) early = ends_still O s w it.status early
+    may_end (Err e) early = tt
+
+    none_late : (q : Result Said Silence) → IfOk q (λ it. ¬ IsBehindSync s it.status) → IfOk q (λ it. IsBehindSync s it.status → LateNow the_language O s w w)
     none_late (Ok it) early = λ behind. absurd (early behind)
     none_late (Err e) early = tt
 
 -- words that are no line
-pub gives_bad_line : (L : Language) (s : Scene) (n : ℕ) (r : Result Said Silence) → IsBadLine s n → IfOk r (SaysStatus (status.BadLine n)) → IfOk r (λ it. (image : List ℕ) → Gives L s image it.status it.text.items)
-gives_bad_line L s n (Ok it) bad says = λ image. gives_line L s image (status.BadLine n) (line_end (codes "bad line at word " ++ decimal n)) it (end.bad_line n bad) refl says
+pub gives_bad_line : (L : Language) (s : Scene) (n : ℕ) (r : Result Said Silence) → IsBadLine s n → IfOk r (SaysStatus (status.BadLine n)) → IfOk r (λ it. (image : List ℕ) (D : List Deed) → Gives L s image D it.status it.text.items)
+gives_bad_line L s n (Ok it) bad says = λ image D. gives_line L s image D (status.BadLine n) (line_end (codes "bad line at word " ++ decimal n)) it (end.bad_line n bad) refl says
 gives_bad_line L s n (Err e) bad says = tt
 
 pub end_bad_line : (s : Scene) (old new : World) (a b : ℕ) (f g : Faults) (n : ℕ) (it : Said) → IsBadLine s n → SaysStatus (status.BadLine n) it → IsEnd s old new a b f g (Ok it)
 end_bad_line s old new a b f g n it bad says = says_line s old new (status.BadLine n) (line_end (codes "bad line at word " ++ decimal n)) it (bad_line n bad) refl says
 
 -- an argument that is bad
-gives_bad_argument : (L : Language) (s : Scene) (it : Said) → IsBadArgument s → SaysStatus status.BadArgument it → (image : List ℕ) → Gives L s image it.status it.text.items
-gives_bad_argument L s it bad says = λ image. gives_line L s image status.BadArgument (line_end (codes "bad argument")) it (end.bad_argument bad) refl says
+gives_bad_argument : (L : Language) (s : Scene) (it : Said) → IsBadArgument s → SaysStatus status.BadArgument it → (image : List ℕ) (D : List Deed) → Gives L s image D it.status it.text.items
+gives_bad_argument L s it bad says = λ image D. gives_line L s image D status.BadArgument (line_end (codes "bad argument")) it (end.bad_argument bad) refl says
 
 end_bad_argument : (s : Scene) (old new : World) (a b : ℕ) (f g : Faults) (it : Said) → IsBadArgument s → SaysStatus status.BadArgument it → IsEnd s old new a b f g (Ok it)
 end_bad_argument s old new a b f g it bad says = says_line s old new status.BadArgument (line_end (codes "bad argument")) it (bad_argument bad) refl says
 
 -- a source that is refused
-pub gives_refused : (L : Language) (s : Scene) (why : Refusal) (it : Said) → IsRefused s why → SaysStatus (status.Refused why) it → (image : List ℕ) → Gives L s image it.status it.text.items
-gives_refused L s why it is says = λ image. gives_line L s image (status.Refused why) (line_end (refusal_text why)) it (end.refused why is) refl says
+pub gives_refused : (L : Language) (s : Scene) (why : Refusal) (it : Said) → IsRefused s why → SaysStatus (status.Refused why) it → (image : List ℕ) (D : List Deed) → Gives L s image D it.status it.text.items
+gives_refused L s why it is says = λ image D. gives_line L s image D (status.Refused why) (line_end (refusal_text why)) it (end.refused why is) refl says
 
 pub end_refused : (s : Scene) (old new : World) (a b : ℕ) (f g : Faults) (why : Refusal) (it : Said) → IsRefused s why → ¬ IsBadArgument s → SaysStatus (status.Refused why) it → IsEnd s old new a b f g (Ok it)
 end_refused s old new a b f g why it is fine says = says_line s old new (status.Refused why) (line_end (refusal_text why)) it (refused why is fine) refl says
 
 -- a report
-pub gives_report : (L : Language) (s : Scene) (text : List ℕ) (it : Said) → Reported s text → (it.status ≡ status.Done) × (it.text.items ≡ text) → (image : List ℕ) → Gives L s image it.status it.text.items
-gives_report L s text it report says = λ image. subst (λ t. Gives L s image it.status t) (sym says.1) (subst (λ x. Gives L s image x text) (sym says.0) (end.done text report))
+pub gives_report : (L : Language) (s : Scene) (text : List ℕ) (it : Said) → Reported s text → (it.status ≡ status.Done) × (it.text.items ≡ text) → (image : List ℕ) (D : List Deed) → Gives L s image D it.status it.text.items
+gives_report L s text it report says = λ image D. subst (λ t. Gives L s image D it.status t) (sym says.1) (subst (λ x. Gives L s image D x text) (sym says.0) (end.done text report))
 
 pub end_report : (s : Scene) (old new : World) (a b : ℕ) (f g : Faults) (text : List ℕ) (it : Said) → Reported s text → ReadsBack s text → (it.status ≡ status.Done) × (it.text.items ≡ text) → IsEnd s old new a b f g (Ok it)
 end_report s old new a b f g text it report back says = subst (λ t. Says s old new it.status t) (sym says.1) (subst (λ x. Says s old new x text) (sym says.0) (reported text report back))
 
 -- ## A file that isn't opened
--- the status and the line of a fault
-fault_gives : (L : Language) (s : Scene) (f : EngineFault) (it : Said) → FaultHolds L s f → SaysFault f (Ok it) → ((image : List ℕ) → Gives L s image it.status it.text.items) × IsPassed L s it.status × IsOfFile it.status
+-- an end of such a status
+plain_code : (it : Said) (st : Status) → it.status ≡ st → IsPlainEnd (status_code st) → IsPlainEnd (status_code it.status)
+plain_code it st is plain = subst (λ x. IsPlainEnd (status_code x)) (sym is) plain
+
+-- the status and the line of a fault, of which the rules ask nothing at the end
+fault_gives : (L : Language) (s : Scene) (f : EngineFault) (it : Said) → FaultHolds L s f → SaysFault f (Ok it) → ((image : List ℕ) (D : List Deed) → Gives L s image D it.status it.text.items) × IsPassed L s it.status × IsPlainEnd (status_code it.status)
 fault_gives L s engine.DiskFault it holds says = absurd (cc says)
 fault_gives L s engine.NotAJournal it holds says =
-    (λ image. gives_line L s image status.NotAJournal (line_end (codes "not a journal")) it (end.not_a_journal holds.0) refl says, subst (IsPassed L s) (sym says.status) holds.1, inl says.status)
+    (λ image D. gives_line L s image D status.NotAJournal (line_end (codes "not a journal")) it (end.not_a_journal holds.0) refl says, subst (IsPassed L s) (sym says.status) holds.1, plain_code it status.NotAJournal says.status (omega arith, omega arith, omega arith))
 fault_gives L s (engine.NotAHistory n) it holds says =
-    (λ image. gives_line L s image (status.NotAHistory n) (line_end (codes "not a history at record " ++ decimal n)) it (end.not_a_history n holds.0) refl says, subst (IsPassed L s) (sym says.status) holds.1, inr (inr (inr (inl (n, says.status)))))
+    (λ image D. gives_line L s image D (status.NotAHistory n) (line_end (codes "not a history at record " ++ decimal n)) it (end.not_a_history n holds.0) refl says, subst (IsPassed L s) (sym says.status) holds.1, plain_code it (status.NotAHistory n) says.status (omega arith, omega arith, omega arith))
 fault_gives L s engine.AlreadyStarted it holds says =
-    (λ image. gives_line L s image status.AlreadyStarted (line_end (codes "already started")) it (end.already_started holds.0) refl says, subst (IsPassed L s) (sym says.status) holds.1, inr (inl says.status))
+    (λ image D. gives_line L s image D status.AlreadyStarted (line_end (codes "already started")) it (end.already_started holds.0) refl says, subst (IsPassed L s) (sym says.status) holds.1, plain_code it status.AlreadyStarted says.status (omega arith, omega arith, omega arith))
 fault_gives L s engine.NotStarted it holds says =
-    (λ image. gives_line L s image status.NotStarted (line_end (codes "not started")) it (end.not_started holds.0) refl says, subst (IsPassed L s) (sym says.status) holds.1, inr (inr (inl says.status)))
+    (λ image D. gives_line L s image D status.NotStarted (line_end (codes "not started")) it (end.not_started holds.0) refl says, subst (IsPassed L s) (sym says.status) holds.1, plain_code it status.NotStarted says.status (omega arith, omega arith, omega arith))
+fault_gives L s engine.Suspended it holds says = absurd holds
 fault_gives L s engine.Closed it holds says = absurd (cc says)
 fault_gives L s engine.OutOfMemory it holds says = absurd (cc says)
 
@@ -142,14 +186,15 @@ no_fit L s n why passed (inr (inl (begins, none))) = passed.not_started (omega a
 no_fit L s n why passed (inr (inr (begins, (st, is)))) = not_both (history L (records s.found)) st n is why.1
 
 -- what a status behind the opening's sync tells
-fault_late : (s : Scene) (old new : World) (f : EngineFault) (it : Said) → FaultHolds the_language s f → ((f ≡ engine.AlreadyStarted) ⊎ (f ≡ engine.NotStarted) → LateNow the_language s old new) → SaysFault f (Ok it) → IsBehindSync s it.status → LateNow the_language s old new
-fault_late s old new engine.DiskFault it holds late says behind = absurd (cc says)
-fault_late s old new engine.NotAJournal it holds late says behind = absurd (subst (IsBehindSync s) says.status behind)
-fault_late s old new (engine.NotAHistory n) it holds late says behind = λ fit. absurd (no_fit the_language s n holds.0 holds.1 fit)
-fault_late s old new engine.AlreadyStarted it holds late says behind = late (inl refl)
-fault_late s old new engine.NotStarted it holds late says behind = late (inr refl)
-fault_late s old new engine.Closed it holds late says behind = absurd (cc says)
-fault_late s old new engine.OutOfMemory it holds late says behind = absurd (cc says)
+fault_late : (O : Outside) (s : Scene) (old new : World) (f : EngineFault) (it : Said) → FaultHolds the_language s f → ((f ≡ engine.AlreadyStarted) ⊎ (f ≡ engine.NotStarted) → LateNow the_language O s old new) → SaysFault f (Ok it) → IsBehindSync s it.status → LateNow the_language O s old new
+fault_late O s old new engine.DiskFault it holds late says behind = absurd (cc says)
+fault_late O s old new engine.NotAJournal it holds late says behind = absurd (subst (IsBehindSync s) says.status behind)
+fault_late O s old new (engine.NotAHistory n) it holds late says behind = λ fit. absurd (no_fit the_language s n holds.0 holds.1 fit)
+fault_late O s old new engine.AlreadyStarted it holds late says behind = late (inl refl)
+fault_late O s old new engine.NotStarted it holds late says behind = late (inr refl)
+fault_late O s old new engine.Suspended it holds late says behind = absurd holds
+fault_late O s old new engine.Closed it holds late says behind = absurd (cc says)
+fault_late O s old new engine.OutOfMemory it holds late says behind = absurd (cc says)
 
 -- a fault is of the file, whether or not the host tells
 fault_of_file : (f : EngineFault) (it : Said) → SaysFault f (Ok it) → IsOfFile it.status
@@ -158,6 +203,7 @@ fault_of_file engine.NotAJournal it says = inl says.status
 fault_of_file (engine.NotAHistory n) it says = inr (inr (inr (inl (n, says.status))))
 fault_of_file engine.AlreadyStarted it says = inr (inl says.status)
 fault_of_file engine.NotStarted it says = inr (inr (inl says.status))
+fault_of_file engine.Suspended it says = inr (inr (inr (inr (inl says.status))))
 fault_of_file engine.Closed it says = absurd (cc says)
 fault_of_file engine.OutOfMemory it says = absurd (cc says)
 
@@ -174,22 +220,24 @@ fault_silence engine.NotAJournal e says = inr says
 fault_silence (engine.NotAHistory n) e says = inr says
 fault_silence engine.AlreadyStarted e says = inr says
 fault_silence engine.NotStarted e says = inr says
+fault_silence engine.Suspended e says = inr says
 fault_silence engine.Closed e says = inr (err_is e silence.OutOfMemory says)
 fault_silence engine.OutOfMemory e says = inr (err_is e silence.OutOfMemory says)
 
-pub end_fault : (s : Scene) (old new : World) (a b : ℕ) (f g : Faults) (why : EngineFault) (r : Result Said Silence) → SaysFault why r → IsLineOf s (λ c. executes c ≡ true) → IsTaken s → Told old (FaultHolds the_language s why)
+pub end_fault : (s : Scene) (old new : World) (a b : ℕ) (f g : Faults) (why : EngineFault) (r : Result Said Silence) → SaysFault why r → IsLineOf s (λ c. executes c ≡ true) → IsTaken s → Told old (FaultHolds the_language s why) → Told old (DoneSilently old new)
     → (why ≡ engine.DiskFault → Rose f.disk g.disk) → IsEnd s old new a b f g r
-end_fault s old new a b f g why (Ok it) says line taken holds rose =
-    of_file it.status it.text.items (fault_of_file why it says) line taken (λ told. let x = fault_gives the_language s why it (holds told) says in (x.0 new.seen, x.1))
-end_fault s old new a b f g why (Err e) says line taken holds rose =
+end_fault s old new a b f g why (Ok it) says line taken holds silently rose =
+    of_file it.status it.text.items (fault_of_file why it says) line taken (λ told. let x = fault_gives the_language s why it (holds told) says in let did = silently told in ((did.done, did.deeds, x.0 new.seen did.done), x.1))
+end_fault s old new a b f g why (Err e) says line taken holds silently rose =
     ⊎_elim (λ disk. subst (λ x. IsEnd s old new a b f g (Err x)) (sym disk.1) (line, taken, rose disk.0)) (λ lack. subst (λ x. IsEnd s old new a b f g (Err x)) (sym lack) tt) (fault_silence why e says)
 
-pub worked_fault : (s : Scene) (command : kept.Command) (old new : World) (why : EngineFault) (r : Result Said Silence) → Opening command s old new (Err why) → SaysFault why r → IsLineOf s (λ c. executes c ≡ true)
-    → IsTaken s → (IsLineOf s (λ c. c ≡ Resume) → command ≡ kept.Resume) → Worked s old new r
-worked_fault s command old new why r o says line taken which = record {
-  little = o.little;
+pub worked_fault : (O : Outside) (s : Scene) (command : kept.Command) (old new : World) (why : EngineFault) (r : Result Said Silence) → Opening O command s old new (Err why) → SaysFault why r → IsLineOf s (λ c. executes c ≡ true)
+    → IsTaken s → (IsLineOf s (λ c. c ≡ Resume) → command ≡ kept.Resume) → Worked O s old new r
+worked_fault O s command old new why r o says line taken which = record {
+  silently = o.silently;
   safe = o.safe;
   gives = given r says;
+  ends = may_end r says;
   late = late_if r says;
   finished = λ st line2 is ended. (o.resumed (which line2), o.finished st line2 is ended);
   refused = o.refused;
@@ -197,36 +245,62 @@ worked_fault s command old new why r o says line taken which = record {
   idle = λ none. absurd (⊎_elim (executing s line) taken.argument none);
 }
   where
-    given : (q : Result Said Silence) → SaysFault why q → IfOk q (λ it. (image : List ℕ) → new.may_leave image → Gives the_language s image it.status it.text.items)
-    given (Ok it) says = λ image may. (fault_gives the_language s why it o.fault says).0 image
+    given : (q : Result Said Silence) → SaysFault why q → IfOk q (λ it. (image : List ℕ) → new.may_leave image → Gives the_language s image o.silently.done it.status it.text.items)
+    given (Ok it) says = λ image may. (fault_gives the_language s why it o.fault says).0 image o.silently.done
     given (Err e) says = tt
 
-    late_if : (q : Result Said Silence) → SaysFault why q → IfOk q (λ it. IsBehindSync s it.status → LateNow the_language s old new)
-    late_if (Ok it) says = λ behind. fault_late s old new why it o.fault o.late says behind
+    may_end : (q : Result Said Silence) → SaysFault why q → IfOk q (λ it. MayEndNow the_language O s old new it.status)
+    may_end (Ok it) says = λ image may. (o.silently.done, o.silently.deeds, plain_end the_language O (session the_language O the_reports s None image o.silently.done) (status_code it.status) (fault_gives the_language s why it o.fault says).2)
+    may_end (Err e) says = tt
+
+    late_if : (q : Result Said Silence) → SaysFault why q → IfOk q (λ it. IsBehindSync s it.status → LateNow the_language O s old new)
+    late_if (Ok it) says = λ behind. fault_late O s old new why it o.fault o.late says behind
     late_if (Err e) says = tt
 
 -- ## The outcome
 -- a status that is said of an outcome is of the file
 outcome_of_file : (o : Outcome) (st : Status) → status_of o ≡ Some st → IsOfFile st
 outcome_of_file Active st is = let no : None ≡ Some st = is in absurd (cc no)
-outcome_of_file (Returned v) st is = inr (inr (inr (inr (inl (sym (same_some (Some status.Done) status.Done st refl is))))))
-outcome_of_file (Raised e) st is = inr (inr (inr (inr (inr (sym (same_some (Some status.Raised) status.Raised st refl is))))))
+outcome_of_file (Returned v) st is = inr (inr (inr (inr (inr (inl (sym (same_some (Some status.Done) status.Done st refl is)))))))
+outcome_of_file (Raised e) st is = inr (inr (inr (inr (inr (inr (sym (same_some (Some status.Raised) status.Raised st refl is)))))))
 outcome_of_file Cancelled st is = let no : None ≡ Some st = is in absurd (cc no)
 
 -- the outcome of what stands there
-history_gives : (L : Language) (s : Scene) (new : World) (it : Said) → IsLineOf s (λ c. executes c ≡ true) → SaysHistory L new it → (image : List ℕ) → new.may_leave image → Gives L s image it.status it.text.items
-history_gives L s new it line says image may =
-    subst (λ t. Gives L s image it.status t) (sym says.says.text)
-    (end.ended says.standing.config.outcome it.status (line, (says.standing, subst (λ f. history L (records f) ≡ Ok says.standing) (sym (says.settled image may)) says.history, refl)) says.says.status)
+history_gives : (L : Language) (s : Scene) (new : World) (D done : List Deed) (it : Said) → IsLineOf s (λ c. executes c ≡ true) → polls D ≡ 0 → SaysHistory L new done it → (image : List ℕ) → new.may_leave image → Gives L s image (D ++ done) it.status it.text.items
+history_gives L s new D done it line unpolled says image may =
+    let here : HasOutcome L s image says.standing.config.outcome = (line, (says.standing, subst (λ f. history L (records f) ≡ Ok says.standing) (sym (says.settled image may)) says.history, refl)) in
+    ⊎_elim (λ that. subst (λ t. Gives L s image (D ++ done) it.status t) (sym that.text) (end.ended says.standing.config.outcome it.status here that.status))
+    (λ (active, none, that).
+    let few : polls (D ++ done) ≡ 0 = (let all = polls_both D done in omega (arith, all, unpolled, none)) in
+    gives_line L s image (D ++ done) status.Suspended (line_end (codes "suspended")) it (end.suspended (subst (λ o. HasOutcome L s image o) active here, few)) refl that)
+    says.says
 
-module _ (s : Scene) (command : kept.Command) (old mid new : World) (e : Engine) (r : Result Said Silence) (line : IsLineOf s (λ c. executes c ≡ true)) (taken : IsTaken s) (which : IsLineOf s (λ c. c ≡ Resume) → command ≡ kept.Resume) (found : old.seen ≡ s.found)
-    (counts : CountsNow mid) (counts_new : CountsNow new) (o : Opening command s old mid (Ok e)) (g : Going the_language command (memory e) o.little.done mid new r) (deeds : new.deeds ≡ mid.deeds) where
-  given : (L : Language) (q : Result Said Silence) → IfOk q (SaysHistory L new) → IfOk q (λ it. (image : List ℕ) → new.may_leave image → Gives L s image it.status it.text.items)
-  given L (Ok it) says = history_gives L s new it line says
+module _ (O : Outside) (s : Scene) (command : kept.Command) (old mid new : World) (e : Engine) (r : Result Said Silence) (line : IsLineOf s (λ c. executes c ≡ true)) (taken : IsTaken s) (which : IsLineOf s (λ c. c ≡ Resume) → command ≡ kept.Resume) (found : old.seen ≡ s.found)
+    (counts : CountsNow mid) (counts_new : CountsNow new) (o : Opening O command s old mid (Ok e)) (g : Going the_language O command (memory e) o.silently.done mid new r) where
+  -- the deeds of the opening and those of the session
+  abbrev all : List Deed
+  all = o.silently.done ++ g.silently.done
+
+  all_done : new.deeds ≡ old.deeds ++ all
+  all_done = g.silently.deeds ∙ ap (λ l. l ++ g.silently.done) o.silently.deeds ∙ append_assoc old.deeds o.silently.done g.silently.done
+
+  given : (L : Language) (q : Result Said Silence) → IfOk q (SaysHistory L new g.silently.done) → IfOk q (λ it. (image : List ℕ) → new.may_leave image → Gives L s image all it.status it.text.items)
+  given L (Ok it) says = history_gives L s new o.silently.done g.silently.done it line o.opened.unpolled says
   given L (Err x) says = tt
 
-  late_now : (q : Result Said Silence) → IfOk q (λ it. IsBehindSync s it.status → LateNow the_language s old new)
-  late_now (Ok it) = λ behind fit O image may. late_going the_language O s command old mid o.little.done e image new.deeds o.opened o.little.deeds o.little.silent (g.moments.each image new.deeds (counts_new mid.moment image g.moments.later may))
+  -- a crash leaves just what was read, so the command may end with it
+  may_end : (q : Result Said Silence) → IfOk q (SaysHistory the_language new g.silently.done) → IfOk q (λ it. MayEnd the_language O (session_of command false (memory e) (records new.seen) all) (status_code it.status)) → IfOk q (λ it. MayEndNow the_language O s old new it.status)
+  may_end (Ok it) says ends = λ image may. (
+    all,
+    all_done,
+    subst (λ f. MayEnd the_language O (session the_language O the_reports s None f all) (status_code it.status)) (sym (says.settled image may))
+        (subst (λ k. MayEnd the_language O (of_command (records new.seen) (next_session (journal the_language (records s.found))) all k None) (status_code it.status)) (sym o.opened.is_of)
+        (subst (λ n. MayEnd the_language O (of_command (records new.seen) n all command None) (status_code it.status)) o.opened.number ends)),
+  )
+  may_end (Err x) says ends = tt
+
+  late_now : (q : Result Said Silence) → IfOk q (λ it. IsBehindSync s it.status → LateNow the_language O s old new)
+  late_now (Ok it) = λ behind fit image may. late_going the_language O s command old mid o.silently.done e image new.deeds o.opened o.silently.deeds o.silently.silent (g.moments.each image new.deeds (counts_new mid.moment image g.moments.later may))
   late_now (Err x) = tt
 
   no_cause : HasOtherMagic s ⊎ IsStarted s ⊎ IsNotStarted s ⊎ ((n : ℕ) × IsNoHistory the_language s n) → ⊥
@@ -248,26 +322,28 @@ module _ (s : Scene) (command : kept.Command) (old mid new : World) (e : Engine)
     second.1 ∙ first.1,
   )
 
-  pub worked_going : Worked s old new r
+  pub worked_going : Worked O s old new r
   worked_going = record {
-    little = record { done = o.little.done; deeds = deeds ∙ o.little.deeds; small = o.little.small; silent = o.little.silent };
-    safe = λ fit O.
-        joined old mid new (SafeAt the_language O the_reports s None old) (Moment mid (KeptAt the_language command (memory e) (records mid.seen) o.little.done)) (o.safe fit O) g.moments
-        (λ c d now. safe_late the_language O s old c d (late_going the_language O s command old mid o.little.done e c d o.opened o.little.deeds o.little.silent now));
+    silently = record { done = all; deeds = all_done; silent = printed_both o.silently.done g.silently.done ∙ ap (λ l. l ++ printed g.silently.done) o.silently.silent ∙ g.silently.silent };
+    safe = λ fit.
+        joined old mid new (SafeAt the_language O the_reports s None old) (Moment mid (KeptAt the_language O command false (memory e) (records mid.seen) o.silently.done)) (o.safe fit) g.moments
+        (λ c d now. safe_late the_language O s old c d (late_going the_language O s command old mid o.silently.done e c d o.opened o.silently.deeds o.silently.silent now));
     gives = given the_language r g.said;
+    ends = may_end r g.said g.ends;
     late = late_now r;
     finished = λ st line2 is ended.
         let stays = o.resumed (which line2) in
-        (both_unwritten stays (g.finished (had_outcome st is ended stays)), deeds ∙ o.finished st line2 is ended);
+        let over = g.finished (had_outcome st is ended stays) in
+        (both_unwritten stays over.0, over.1 ∙ o.finished st line2 is ended);
     refused = λ why. absurd (no_cause why);
     writes = inr (line, taken);
     idle = λ none. absurd (⊎_elim (executing s line) taken.argument none);
   }
 
 pub end_going : (s : Scene) (old new : World) (a b : ℕ) (f g h : Faults) (r : Result Said Silence) → SaysResult g h r → IsLineOf s (λ c. executes c ≡ true) → IsTaken s
-    → Told old (HasNoCauseInFile the_language s × IfOk r (λ it. Gives the_language s new.seen it.status it.text.items)) → (Rose g.disk h.disk → Rose f.disk h.disk) → IsEnd s old new a b f h r
-end_going s old new a b f g h (Ok it) (o, result, says) line taken gives rose =
-    of_file it.status it.text.items (outcome_of_file o it.status says.status) line taken (λ told. let x = gives told in (x.1, passed_all the_language s it.status x.0))
+    → Told old (HasNoCauseInFile the_language s × IfOk r (λ it. Since old new.deeds (λ D. Gives the_language s new.seen D it.status it.text.items))) → (Rose g.disk h.disk → Rose f.disk h.disk) → IsEnd s old new a b f h r
+end_going s old new a b f g h (Ok it) says line taken gives rose =
+    of_file it.status it.text.items (⊎_elim (λ (o, result, that). outcome_of_file o it.status that.status) (λ that. inr (inr (inr (inr (inl that.status))))) says) line taken (λ told. let x = gives told in (x.1, passed_all the_language s it.status x.0))
 end_going s old new a b f g h (Err silence.Unread) says line taken gives rose = absurd says
 end_going s old new a b f g h (Err silence.DiskFault) says line taken gives rose = (line, taken, rose says)
 end_going s old new a b f g h (Err silence.OutOfMemory) says line taken gives rose = tt
@@ -276,24 +352,21 @@ end_going s old new a b f g h (Err silence.OutOfMemory) says line taken gives ro
 abbrev pub OnlyNow : World → Type 0
 OnlyNow w = (c : List ℕ) (d : List Deed) → w.left_since w.moment c d → w.may_leave c × (d ≡ w.deeds)
 
-little_still : (w : World) → DidLittle w w
-little_still w = record { done = []; deeds = sym (append-nil w.deeds); small = tt; silent = refl }
-
 lack_end : (s : Scene) (w : World) (a b : ℕ) (f g : Faults) (e : Silence) → e ≡ silence.OutOfMemory → IsEnd s w w a b f g (Err e)
 lack_end s w a b f g e is = subst (λ x. IsEnd s w w a b f g (Err x)) (sym is) tt
 
-lack_worked : (s : Scene) (w : World) (e : Silence) → OnlyNow w → Worked s w w (Err e)
-lack_worked s w e only = worked_nothing s w (Err e) (little_still w) only tt tt
+lack_worked : (O : Outside) (s : Scene) (w : World) (e : Silence) → OnlyNow w → Worked O s w w (Err e)
+lack_worked O s w e only = worked_nothing O s w (Err e) only tt tt
 
 -- a report
 pub report_end : (s : Scene) (w : World) (a b : ℕ) (f g : Faults) (text : List ℕ) (r : Result Said Silence) → Reported s text → ReadsBack s text → SaysReport text r → IsEnd s w w a b f g r
 report_end s w a b f g text (Ok it) report back says = end_report s w w a b f g text it report back says
 report_end s w a b f g text (Err e) report back says = lack_end s w a b f g e says
 
-pub report_worked : (s : Scene) (w : World) (text : List ℕ) (r : Result Said Silence) → Reported s text → SaysReport text r → OnlyNow w → Worked s w w r
-report_worked s w text (Ok it) report says only =
-    worked_nothing s w (Ok it) (little_still w) only (gives_report the_language s text it report says) (λ behind. executing s (subst (IsBehindSync s) says.0 behind) (reported_line s text report))
-report_worked s w text (Err e) report says only = lack_worked s w e only
+pub report_worked : (O : Outside) (s : Scene) (w : World) (text : List ℕ) (r : Result Said Silence) → Reported s text → SaysReport text r → OnlyNow w → Worked O s w w r
+report_worked O s w text (Ok it) report says only =
+    worked_nothing O s w (Ok it) only (gives_report the_language s text it report says) (λ behind. executing s (subst (IsBehindSync s) says.0 behind) (reported_line s text report))
+report_worked O s w text (Err e) report says only = lack_worked O s w e only
 
 -- words that are no line
 pub bad_line_end : (s : Scene) (w : World) (a b : ℕ) (f g : Faults) (why : LineFault) (r : Result Said Silence) → SaysBadLine why r → ((n : ℕ) → why ≡ words.BadLine n → IsBadLine s n) → IsEnd s w w a b f g r
@@ -301,10 +374,10 @@ bad_line_end s w a b f g (words.BadLine n) (Ok it) says bad = end_bad_line s w w
 bad_line_end s w a b f g (words.BadLine n) (Err e) says bad = lack_end s w a b f g e says
 bad_line_end s w a b f g words.OutOfMemory r says bad = subst (λ q. IsEnd s w w a b f g q) (sym says) tt
 
-pub bad_line_worked : (s : Scene) (w : World) (why : LineFault) (r : Result Said Silence) → SaysBadLine why r → ((n : ℕ) → why ≡ words.BadLine n → IsBadLine s n) → OnlyNow w → Worked s w w r
-bad_line_worked s w (words.BadLine n) (Ok it) says bad only = worked_nothing s w (Ok it) (little_still w) only (gives_bad_line the_language s n (Ok it) (bad n refl) says) (λ behind. subst (IsBehindSync s) says.status behind)
-bad_line_worked s w (words.BadLine n) (Err e) says bad only = lack_worked s w e only
-bad_line_worked s w words.OutOfMemory r says bad only = subst (λ q. Worked s w w q) (sym says) (lack_worked s w silence.OutOfMemory only)
+pub bad_line_worked : (O : Outside) (s : Scene) (w : World) (why : LineFault) (r : Result Said Silence) → SaysBadLine why r → ((n : ℕ) → why ≡ words.BadLine n → IsBadLine s n) → OnlyNow w → Worked O s w w r
+bad_line_worked O s w (words.BadLine n) (Ok it) says bad only = worked_nothing O s w (Ok it) only (gives_bad_line the_language s n (Ok it) (bad n refl) says) (λ behind. subst (IsBehindSync s) says.status behind)
+bad_line_worked O s w (words.BadLine n) (Err e) says bad only = lack_worked O s w e only
+bad_line_worked O s w words.OutOfMemory r says bad only = subst (λ q. Worked O s w w q) (sym says) (lack_worked O s w silence.OutOfMemory only)
 
 -- an argument that isn't taken
 pub argument_end : (s : Scene) (w : World) (a b : ℕ) (f g : Faults) (why : ArgumentFault) (r : Result Said Silence) → SaysArgument why r → (why ≡ argument.Bad → IsBadArgument s) → IsEnd s w w a b f g r
@@ -312,18 +385,18 @@ argument_end s w a b f g argument.Bad (Ok it) says bad = end_bad_argument s w w 
 argument_end s w a b f g argument.Bad (Err e) says bad = lack_end s w a b f g e says
 argument_end s w a b f g argument.OutOfMemory r says bad = subst (λ q. IsEnd s w w a b f g q) (sym says) tt
 
-pub argument_worked : (s : Scene) (w : World) (why : ArgumentFault) (r : Result Said Silence) → SaysArgument why r → (why ≡ argument.Bad → IsBadArgument s) → OnlyNow w → Worked s w w r
-argument_worked s w argument.Bad (Ok it) says bad only =
-    worked_nothing s w (Ok it) (little_still w) only (gives_bad_argument the_language s it (bad refl) says) (λ behind. subst (IsBehindSync s) says.status behind)
-argument_worked s w argument.Bad (Err e) says bad only = lack_worked s w e only
-argument_worked s w argument.OutOfMemory r says bad only = subst (λ q. Worked s w w q) (sym says) (lack_worked s w silence.OutOfMemory only)
+pub argument_worked : (O : Outside) (s : Scene) (w : World) (why : ArgumentFault) (r : Result Said Silence) → SaysArgument why r → (why ≡ argument.Bad → IsBadArgument s) → OnlyNow w → Worked O s w w r
+argument_worked O s w argument.Bad (Ok it) says bad only =
+    worked_nothing O s w (Ok it) only (gives_bad_argument the_language s it (bad refl) says) (λ behind. subst (IsBehindSync s) says.status behind)
+argument_worked O s w argument.Bad (Err e) says bad only = lack_worked O s w e only
+argument_worked O s w argument.OutOfMemory r says bad only = subst (λ q. Worked O s w w q) (sym says) (lack_worked O s w silence.OutOfMemory only)
 
 -- a source that is refused, and one that isn't read
-pub refused_worked : (s : Scene) (w : World) (why : Refusal) (it : Said) → IsRefused s why → SaysStatus (status.Refused why) it → OnlyNow w → Worked s w w (Ok it)
-refused_worked s w why it is says only = worked_nothing s w (Ok it) (little_still w) only (gives_refused the_language s why it is says) (λ behind. subst (IsBehindSync s) says.status behind)
+pub refused_worked : (O : Outside) (s : Scene) (w : World) (why : Refusal) (it : Said) → IsRefused s why → SaysStatus (status.Refused why) it → OnlyNow w → Worked O s w w (Ok it)
+refused_worked O s w why it is says only = worked_nothing O s w (Ok it) only (gives_refused the_language s why it is says) (λ behind. subst (IsBehindSync s) says.status behind)
 
-pub silent_worked : (s : Scene) (w : World) (e : Silence) → OnlyNow w → Worked s w w (Err e)
-silent_worked s w e only = lack_worked s w e only
+pub silent_worked : (O : Outside) (s : Scene) (w : World) (e : Silence) → OnlyNow w → Worked O s w w (Err e)
+silent_worked O s w e only = lack_worked O s w e only
 
 -- a command that takes just programs
 abbrev pub TakesPrograms : Command → Type 0
@@ -363,18 +436,19 @@ resume_taken s line = record {
 }
 
 -- what is said of each file that a crash may leave is said of the one that reads
-pub given_seen : (L : Language) (s : Scene) (new : World) (r : Result Said Silence) → IfOk r (λ it. (image : List ℕ) → new.may_leave image → Gives L s image it.status it.text.items) → new.may_leave new.seen → IfOk r (λ it. Gives L s new.seen it.status it.text.items)
-given_seen L s new (Ok it) gives may = gives new.seen may
-given_seen L s new (Err e) gives may = tt
+pub given_seen : (L : Language) (s : Scene) (old new : World) (r : Result Said Silence) (did : DoneSilently old new) → IfOk r (λ it. (image : List ℕ) → new.may_leave image → Gives L s image did.done it.status it.text.items) → new.may_leave new.seen
+    → IfOk r (λ it. Since old new.deeds (λ D. Gives L s new.seen D it.status it.text.items))
+given_seen L s old new (Ok it) did gives may = (did.done, did.deeds, gives new.seen may)
+given_seen L s old new (Err e) did gives may = tt
 
 pub no_said : (r : Result Said Silence) (P : Said → Type 0) → IsErr r → IfOk r P
 no_said (Ok it) P is = absurd (cc is)
 no_said (Err e) P is = tt
 
 -- a failure for want of memory
-pub lacks_engine : (command : kept.Command) (s : Scene) (old new : World) (r : Result Engine EngineFault) → IsErr r × IsErrAnd r (λ f. f ≡ engine.OutOfMemory) → ((f : EngineFault) → f ≡ engine.OutOfMemory → Opening command s old new (Err f)) → Opening command s old new r
-lacks_engine command s old new (Ok e) is all = let no : false ≡ true = is.0 in absurd (cc no)
-lacks_engine command s old new (Err f) is all = all f is.1
+pub lacks_engine : (O : Outside) (command : kept.Command) (s : Scene) (old new : World) (r : Result Engine EngineFault) → IsErr r × IsErrAnd r (λ f. f ≡ engine.OutOfMemory) → ((f : EngineFault) → f ≡ engine.OutOfMemory → Opening O command s old new (Err f)) → Opening O command s old new r
+lacks_engine O command s old new (Ok e) is all = let no : false ≡ true = is.0 in absurd (cc no)
+lacks_engine O command s old new (Err f) is all = all f is.1
 
 -- what is said of a source that isn't taken
 pub source_end : (s : Scene) (l : PlainLine) (w : World) (a b : ℕ) (f g : Faults) (bytes : List ℕ) (fault : SourceFault) (r : Result Said Silence) → end.Reads s l bytes → TakesPrograms l.command → ¬ IsBadArgument s → TellsOf (IsRefusalOf bytes) fault → SaysSource fault r
@@ -383,11 +457,11 @@ source_end s l w a b f g bytes (source_fault.Refused why) (Ok it) reads takes fi
 source_end s l w a b f g bytes (source_fault.Refused why) (Err e) reads takes fine tells says = lack_end s w a b f g e says
 source_end s l w a b f g bytes source_fault.OutOfMemory r reads takes fine tells says = subst (λ q. IsEnd s w w a b f g q) (sym says) tt
 
-pub source_worked : (s : Scene) (l : PlainLine) (w : World) (bytes : List ℕ) (fault : SourceFault) (r : Result Said Silence) → end.Reads s l bytes → TakesPrograms l.command → TellsOf (IsRefusalOf bytes) fault → SaysSource fault r
-    → OnlyNow w → Worked s w w r
-source_worked s l w bytes (source_fault.Refused why) (Ok it) reads takes tells says only = refused_worked s w why it (is_refused s l bytes why reads takes tells) says only
-source_worked s l w bytes (source_fault.Refused why) (Err e) reads takes tells says only = lack_worked s w e only
-source_worked s l w bytes source_fault.OutOfMemory r reads takes tells says only = subst (λ q. Worked s w w q) (sym says) (lack_worked s w silence.OutOfMemory only)
+pub source_worked : (O : Outside) (s : Scene) (l : PlainLine) (w : World) (bytes : List ℕ) (fault : SourceFault) (r : Result Said Silence) → end.Reads s l bytes → TakesPrograms l.command → TellsOf (IsRefusalOf bytes) fault → SaysSource fault r
+    → OnlyNow w → Worked O s w w r
+source_worked O s l w bytes (source_fault.Refused why) (Ok it) reads takes tells says only = refused_worked O s w why it (is_refused s l bytes why reads takes tells) says only
+source_worked O s l w bytes (source_fault.Refused why) (Err e) reads takes tells says only = lack_worked O s w e only
+source_worked O s l w bytes source_fault.OutOfMemory r reads takes tells says only = subst (λ q. Worked O s w w q) (sym says) (lack_worked O s w silence.OutOfMemory only)
 
 -- a command that lays out a source
 abbrev pub lays_out : Command → Bool
@@ -424,11 +498,11 @@ checked_end s l w a b f g (Err silence.Unread) is command rose = ((l, is, ap use
 checked_end s l w a b f g (Err silence.DiskFault) is command never = absurd never
 checked_end s l w a b f g (Err silence.OutOfMemory) is command lacks = tt
 
-pub checked_worked : (s : Scene) (l : PlainLine) (w : World) (a b : ℕ) (r : Result Said Silence) → line_of s.words ≡ Ok l → l.command ≡ Check → SaysChecked s.source a b r → OnlyNow w → Worked s w w r
-checked_worked s l w a b (Ok it) is command (bytes, first, says) only =
-    ⊎_elim (λ (checked, that). report_worked s w accepted_text (Ok it) (end.accepted checked) that only) (λ (why, refuses, that). refused_worked s w why it refuses that only)
+pub checked_worked : (O : Outside) (s : Scene) (l : PlainLine) (w : World) (a b : ℕ) (r : Result Said Silence) → line_of s.words ≡ Ok l → l.command ≡ Check → SaysChecked s.source a b r → OnlyNow w → Worked O s w w r
+checked_worked O s l w a b (Ok it) is command (bytes, first, says) only =
+    ⊎_elim (λ (checked, that). report_worked O s w accepted_text (Ok it) (end.accepted checked) that only) (λ (why, refuses, that). refused_worked O s w why it refuses that only)
     (verdict_said s l bytes it (is, ap uses_source command, first) command says)
-checked_worked s l w a b (Err e) is command says only = silent_worked s w e only
+checked_worked O s l w a b (Err e) is command says only = silent_worked O s w e only
 
 -- ## The layout of a source
 -- what is said of a tree is a report from which the tree is read back, and what is said of a refusal a refusal
@@ -447,11 +521,11 @@ layout_end s l w a b f g (Err silence.Unread) is command rose = ((l, is, ap uses
 layout_end s l w a b f g (Err silence.DiskFault) is command never = absurd never
 layout_end s l w a b f g (Err silence.OutOfMemory) is command lacks = tt
 
-pub layout_worked : (s : Scene) (l : PlainLine) (w : World) (a b : ℕ) (r : Result Said Silence) → line_of s.words ≡ Ok l → l.command ≡ Format → SaysLayout s.source a b r → OnlyNow w → Worked s w w r
-layout_worked s l w a b (Ok it) is command (bytes, first, says) only =
-    ⊎_elim (λ (text, report, back, that). report_worked s w text (Ok it) report that only) (λ (why, refuses, that). refused_worked s w why it refuses that only)
+pub layout_worked : (O : Outside) (s : Scene) (l : PlainLine) (w : World) (a b : ℕ) (r : Result Said Silence) → line_of s.words ≡ Ok l → l.command ≡ Format → SaysLayout s.source a b r → OnlyNow w → Worked O s w w r
+layout_worked O s l w a b (Ok it) is command (bytes, first, says) only =
+    ⊎_elim (λ (text, report, back, that). report_worked O s w text (Ok it) report that only) (λ (why, refuses, that). refused_worked O s w why it refuses that only)
     (tree_said s l bytes (read_tree bytes) it (is, ap uses_source command, first) command refl says)
-layout_worked s l w a b (Err e) is command says only = silent_worked s w e only
+layout_worked O s l w a b (Err e) is command says only = silent_worked O s w e only
 
 -- a line that asks for a text of the program
 pub help_reported : (s : Scene) (l : PlainLine) (text : List ℕ) → line_of s.words ≡ Ok l → l.command ≡ Help → text ≡ help → Reported s text

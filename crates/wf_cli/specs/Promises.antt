@@ -1,5 +1,5 @@
 -- What the top call promises of a call: each row by its name.
-use Rattle.wf_cli.specs.Top.{Call, Ends, BadLineRow, BadArgumentRow, ReadFaultRow, RefusedRow, DiskFaultRow, NotAJournalRow, AlreadyStartedRow, NotStartedRow, NotAHistoryRow, OutcomeRow, DoneRow, AcceptedRow, ComesBackRow, PrintFaultRow, OnlyThese, Completes, FinishedStays, RefusedStays, ReportsStay, SilentStays, SafeThroughout, SafeAtEnd, LateAtEnd}
+use Rattle.wf_cli.specs.Top.{Call, Ends, BadLineRow, BadArgumentRow, ReadFaultRow, RefusedRow, DiskFaultRow, NotAJournalRow, AlreadyStartedRow, NotStartedRow, NotAHistoryRow, SuspendedRow, OutcomeRow, DoneRow, AcceptedRow, ComesBackRow, PrintFaultRow, OnlyThese, Completes, FinishedStays, RefusedStays, ReportsStay, SilentStays, SafeThroughout, SafeAtEnd, LateAtEnd}
 use Rattle.wf_engine.specs.TheLanguage.{the_language}
 use Rattle.wf_host.specs.World.{Told}
 
@@ -25,6 +25,8 @@ pub record Promised (x : Call) : Type 0 where
   pub not_started : Told x.old (NotStartedRow x)
   -- `resume` finds records that are no history
   pub not_a_history : Told x.old (NotAHistoryRow the_language x)
+  -- at the end the journal has no outcome, and the call has polled as often as it may
+  pub suspended : Told x.old (SuspendedRow the_language x)
   -- Done and Raised of a command that executes: the outcome that the journal has at the end
   pub outcome : Told x.old (OutcomeRow the_language x)
   -- Done of another command: its report
@@ -37,7 +39,7 @@ pub record Promised (x : Call) : Type 0 where
   pub print_fault : PrintFaultRow x
   -- a status of another part never comes
   pub only : OnlyThese x
-  -- where no cause holds, the command does its work, or there is no memory
+  -- where no cause holds, the command does its work, or is suspended, or there is no memory
   pub completes : Told x.old (Completes the_language x)
   -- ## What isn't written
   -- a journal with an outcome

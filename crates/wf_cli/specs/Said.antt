@@ -9,14 +9,16 @@ use Rattle.wf_cli.specs.declared.argument.ArgumentFault.TheVariants as argument
 use Rattle.wf_cli.specs.declared.end.Said.{Said}
 use Rattle.wf_cli.specs.declared.end.Silence.{Silence}
 use Rattle.wf_cli.specs.declared.end.Silence.TheVariants as silence
-use Rattle.wf_deeds.specs.Clauses.{IsOfSession}
-use Rattle.wf_deeds.specs.Deeds.{printed, nows, IsSmall}
-use Rattle.wf_engine.specs.Engine.{Memory, memory, StandsFor, KeptAt}
+use Rattle.wf_deeds.specs.Clauses.{IsOfSession, KeptAt}
+use Rattle.wf_deeds.specs.Deeds.{polls, printed, nows}
 use Rattle.wf_deeds.specs.Kept as kept
+use Rattle.wf_deeds.specs.Memory.{Memory, StandsFor, session as session_of}
 use Rattle.wf_deeds.specs.Outside.{Outside}
+use Rattle.wf_deeds.specs.Rules.{MayEnd}
+use Rattle.wf_engine.specs.Engine.{memory}
 use Rattle.wf_engine.specs.Printed as end
 use Rattle.wf_engine.specs.Printed.{Scene, uses_source, executes, status_of, outcome_text, accepted_text}
-use Rattle.wf_engine.specs.Safe.{IsFit, SafeAt, LateAt, command_by}
+use Rattle.wf_engine.specs.Safe.{IsFit, Since, SafeAt, LateAt, command_by, session}
 use Rattle.wf_engine.specs.Starts.{start_of}
 use Rattle.wf_engine.specs.TheLanguage.{the_language}
 use Rattle.wf_engine.specs.declared.engine.Engine.{Engine}
@@ -41,7 +43,7 @@ use Rattle.wf_host.specs.Printing.{PrintsFront, PrintsWhole, LeavesSome, TookNot
 use Rattle.wf_journal_laws.specs.At.{journal, next_session}
 use Rattle.wf_journal_laws.specs.History.{Standing, history}
 use Rattle.wf_journal_laws.specs.Language.{Language}
-use Rattle.wf_status.specs.Statuses.{status_text}
+use Rattle.wf_status.specs.Statuses.{status_code, status_text}
 use Rattle.wf_source.specs.Programs.{IsRefusalOf, IsSourceOf}
 use Rattle.wf_source.specs.Sources.{read_tree}
 use Rattle.wf_source.specs.declared.fault.SourceFault.{SourceFault}
@@ -131,6 +133,7 @@ SaysFault engine.NotAJournal r = SaysOrLacks status.NotAJournal r
 SaysFault (engine.NotAHistory n) r = SaysOrLacks (status.NotAHistory n) r
 SaysFault engine.AlreadyStarted r = SaysOrLacks status.AlreadyStarted r
 SaysFault engine.NotStarted r = SaysOrLacks status.NotStarted r
+SaysFault engine.Suspended r = SaysOrLacks status.Suspended r
 SaysFault engine.Closed r = r ≡ Err silence.OutOfMemory
 SaysFault engine.OutOfMemory r = r ≡ Err silence.OutOfMemory
 
@@ -139,20 +142,23 @@ SaysFault engine.OutOfMemory r = r ≡ Err silence.OutOfMemory
 abbrev pub Unwritten : World → World → Type 0
 Unwritten old new = LeavesOnly old new (λ c d. old.may_leave c) × (new.seen ≡ old.seen)
 
--- its deeds are small, and it has printed nothing
-pub record DidLittle (old new : World) : Type 0 where
+-- its deeds have printed nothing
+pub record DoneSilently (old new : World) : Type 0 where
   pub done : List Deed
   pub deeds : new.deeds ≡ old.deeds ++ done
-  pub small : AllByRecursion IsSmall done
   pub silent : printed done ≡ []
 
 -- what a crash at any moment by now may leave is safe
-abbrev pub SafeSince : Language → Scene → World → World → Type 0
-SafeSince L s old new = IsFit L s.found → (O : Outside) → LeavesOnly old new (SafeAt L O the_reports s None old)
+abbrev pub SafeSince : Language → Outside → Scene → World → World → Type 0
+SafeSince L O s old new = IsFit L s.found → LeavesOnly old new (SafeAt L O the_reports s None old)
 
 -- what a crash leaves now is safe as it is behind the opening's sync
-abbrev pub LateNow : Language → Scene → World → World → Type 0
-LateNow L s old new = IsFit L s.found → (O : Outside) (image : List ℕ) → new.may_leave image → LateAt L O the_reports s None old image new.deeds
+abbrev pub LateNow : Language → Outside → Scene → World → World → Type 0
+LateNow L O s old new = IsFit L s.found → (image : List ℕ) → new.may_leave image → LateAt L O the_reports s None old image new.deeds
+
+-- the command may end now with this status, whatever a crash leaves
+abbrev pub MayEndNow : Language → Outside → Scene → World → World → Status → Type 0
+MayEndNow L O s old new st = (image : List ℕ) → new.may_leave image → Since old new.deeds (λ D. MayEnd L O (session L O the_reports s None image D) (status_code st))
 
 -- where none was found, the records are the start of the line, of the source that was read and of the clock
 abbrev pub HasStartOfLine : Scene → List Deed → List (List ℕ) → Type 0
@@ -160,8 +166,9 @@ HasStartOfLine s done J = records s.found ≡ [] → (l : PlainLine) × (bytes :
     × ((t : ℕ) × Contains (nows done) t × (J ≡ record_bytes (Started (start_of l bytes t)) ∷ []))
 
 -- an engine that stands for what was found, and for the start of the line where it was begun
-pub record IsOpened (L : Language) (command : kept.Command) (s : Scene) (done : List Deed) (new : World) (e : Engine) : Type 0 where
-  pub stands : StandsFor L command (memory e) (records new.seen) done
+pub record IsOpened (L : Language) (O : Outside) (command : kept.Command) (s : Scene) (done : List Deed) (new : World) (e : Engine) : Type 0 where
+  pub stands : StandsFor L O command false (memory e) (records new.seen) done
+  pub unpolled : polls done ≡ 0
   pub number : (memory e).session ≡ next_session (journal L (records s.found))
   pub added : List (List ℕ)
   pub keeps : records new.seen ≡ records s.found ++ added
@@ -177,42 +184,48 @@ FaultHolds L s engine.NotAJournal = HasOtherMagic s × IsPassed L s status.NotAJ
 FaultHolds L s (engine.NotAHistory n) = IsNoHistory L s n × IsPassed L s (status.NotAHistory n)
 FaultHolds L s engine.AlreadyStarted = IsStarted s × IsPassed L s status.AlreadyStarted
 FaultHolds L s engine.NotStarted = IsNotStarted s × IsPassed L s status.NotStarted
+FaultHolds L s engine.Suspended = ⊥
 FaultHolds L s engine.Closed = Unit {0}
 FaultHolds L s engine.OutOfMemory = Unit {0}
 
 -- the opening of a file, where the host tells
-pub record Opening (command : kept.Command) (s : Scene) (old new : World) (r : Result Engine EngineFault) : Type 0 where
-  pub little : DidLittle old new
-  pub safe : SafeSince the_language s old new
-  pub opened : IfOk r (IsOpened the_language command s little.done new)
+pub record Opening (O : Outside) (command : kept.Command) (s : Scene) (old new : World) (r : Result Engine EngineFault) : Type 0 where
+  pub silently : DoneSilently old new
+  pub safe : SafeSince the_language O s old new
+  pub opened : IfOk r (IsOpened the_language O command s silently.done new)
   pub fault : IfErr r (FaultHolds the_language s)
-  pub late : IfErr r (λ f. (f ≡ engine.AlreadyStarted) ⊎ (f ≡ engine.NotStarted) → LateNow the_language s old new)
+  pub late : IfErr r (λ f. (f ≡ engine.AlreadyStarted) ⊎ (f ≡ engine.NotStarted) → LateNow the_language O s old new)
   -- what is refused or only gone on with isn't written by this
   pub refused : HasOtherMagic s ⊎ IsStarted s ⊎ IsNotStarted s ⊎ ((n : ℕ) × IsNoHistory the_language s n) → Unwritten old new
   pub resumed : command ≡ kept.Resume → Unwritten old new
   pub finished : (st : Standing) → IsLineOf s (λ c. c ≡ Resume) → history the_language (records s.found) ≡ Ok st → st.config.outcome ≢ Active → new.deeds ≡ old.deeds
 
 -- ## Going on to the outcome
--- an outcome is said, or the disk failed, or there was no memory
+-- an outcome is said, or that there is none yet, or the disk failed, or there was no memory
 abbrev pub SaysResult : Faults → Faults → Result Said Silence → Type 0
-SaysResult faults faults2 (Ok said) = (o : Outcome) × IsResult o × SaysOutcome said o
+SaysResult faults faults2 (Ok said) = ((o : Outcome) × IsResult o × SaysOutcome said o) ⊎ SaysStatus status.Suspended said
 SaysResult faults faults2 (Err silence.Unread) = ⊥
 SaysResult faults faults2 (Err silence.DiskFault) = Rose faults.disk faults2.disk
 SaysResult faults faults2 (Err silence.OutOfMemory) = Unit {0}
 
--- what is said is the outcome of the history of the file, and a crash leaves just this
-pub record SaysHistory (L : Language) (new : World) (said : Said) : Type 0 where
+-- an outcome is said, or there is none, and the command waits no more: it never polls yet
+abbrev pub SaysStanding : Said → Outcome → List Deed → Type 0
+SaysStanding said o done = SaysOutcome said o ⊎ ((o ≡ Active) × (polls done ≡ 0) × SaysStatus status.Suspended said)
+
+-- what is said is what the history of the file comes to, and a crash leaves just this
+pub record SaysHistory (L : Language) (new : World) (done : List Deed) (said : Said) : Type 0 where
   pub standing : Standing
   pub history : history L (records new.seen) ≡ Ok standing
-  pub says : SaysOutcome said standing.config.outcome
+  pub says : SaysStanding said standing.config.outcome done
   pub settled : Only new.seen new.may_leave
 
 -- an execution that goes on to its outcome, where the host tells
-pub record Going (L : Language) (command : kept.Command) (m : Memory) (D : List Deed) (old new : World) (r : Result Said Silence) : Type 0 where
-  pub moments : LeavesOnly old new (Moment old (KeptAt L command m (records old.seen) D))
-  pub deeds : new.deeds ≡ old.deeds
-  pub said : IfOk r (SaysHistory L new)
-  pub finished : m.config.outcome ≢ Active → Unwritten old new
+pub record Going (L : Language) (O : Outside) (command : kept.Command) (m : Memory) (D : List Deed) (old new : World) (r : Result Said Silence) : Type 0 where
+  pub moments : LeavesOnly old new (Moment old (KeptAt L O command false m (records old.seen) D))
+  pub silently : DoneSilently old new
+  pub said : IfOk r (SaysHistory L new silently.done)
+  pub ends : IfOk r (λ said. MayEnd L O (session_of command false m (records new.seen) (D ++ silently.done)) (status_code said.status))
+  pub finished : m.config.outcome ≢ Active → Unwritten old new × (new.deeds ≡ old.deeds)
 
 -- ## What a command has done before it prints
 -- a text with its cause, or why there is none
@@ -227,12 +240,13 @@ abbrev pub MayWrite : Scene → Type 0
 MayWrite s = IsLineOf s (λ c. executes c ≡ true) × IsTaken s
 
 -- The work of a command, where the host tells: what a crash by then may leave is safe, the text is given for each file that one may leave now,
--- and where nothing is to be written nothing was.
-pub record Worked (s : Scene) (old new : World) (r : Result Said Silence) : Type 0 where
-  pub little : DidLittle old new
-  pub safe : SafeSince the_language s old new
-  pub gives : IfOk r (λ said. (image : List ℕ) → new.may_leave image → Gives the_language s image said.status said.text.items)
-  pub late : IfOk r (λ said. IsBehindSync s said.status → LateNow the_language s old new)
+-- the command may end with the status, and where nothing is to be written nothing was.
+pub record Worked (O : Outside) (s : Scene) (old new : World) (r : Result Said Silence) : Type 0 where
+  pub silently : DoneSilently old new
+  pub safe : SafeSince the_language O s old new
+  pub gives : IfOk r (λ said. (image : List ℕ) → new.may_leave image → Gives the_language s image silently.done said.status said.text.items)
+  pub ends : IfOk r (λ said. MayEndNow the_language O s old new said.status)
+  pub late : IfOk r (λ said. IsBehindSync s said.status → LateNow the_language O s old new)
   pub finished : (st : Standing) → IsLineOf s (λ c. c ≡ Resume) → history the_language (records s.found) ≡ Ok st → st.config.outcome ≢ Active → Unwritten old new × (new.deeds ≡ old.deeds)
   pub refused : HasOtherMagic s ⊎ IsStarted s ⊎ IsNotStarted s ⊎ ((n : ℕ) × IsNoHistory the_language s n) → Unwritten old new
   pub writes : Unwritten old new ⊎ MayWrite s

@@ -5,12 +5,12 @@ use Rattle.std.specs.Prelude.{◌≡◌, ◌≢◌, ◌⊎◌, ◌<◌, ℕ, tru
 use Rattle.std.specs.List.{AllByRecursion}
 use Rattle.wf_cli.specs.Reports.{the_reports}
 use Rattle.wf_deeds.specs.Deeds.{printed}
-use Rattle.wf_deeds.specs.Outside.{Outside}
 use Rattle.wf_engine.specs.Printed as end
 use Rattle.wf_engine.specs.Printed.{Scene, uses_source, executes, status_of, outcome_text, accepted_text}
 pub use Rattle.wf_engine.specs.Printed.{IsLine, IsBadLine, IsBadArgument, IsLineOf, IsRefused, IsChecked, HasOtherMagic, IsStarted, IsNotStarted}
-use Rattle.wf_engine.specs.Safe.{IsFit, SafeAt, LateAt}
+use Rattle.wf_engine.specs.Safe.{IsFit, Since, SafeAt, LateAt}
 use Rattle.wf_engine.specs.TheLanguage.{the_language}
+use Rattle.wf_engine.specs.TheOutside.{InTheOutside}
 use Rattle.wf_host.specs.Source.{IsFirst, WhereTold}
 use Rattle.wf_host.specs.World.{World, Faults, Told, LeavesOnly, Rose}
 use Rattle.wf_host.specs.declared.data.Deed.{Deed}
@@ -52,8 +52,11 @@ HasOutcome L s image o = end.HasOutcome L the_reports s image o
 abbrev pub Reported : Scene → List ℕ → Type 0
 Reported s text = end.Reported the_reports s text
 
-abbrev pub Gives : Language → Scene → List ℕ → Status → List ℕ → Type 0
-Gives L s image st text = end.Gives L the_reports s image st text
+abbrev pub IsSuspended : Language → Scene → List ℕ → List Deed → Type 0
+IsSuspended L s image D = end.IsSuspended L the_reports s image D
+
+abbrev pub Gives : Language → Scene → List ℕ → List Deed → Status → List ℕ → Type 0
+Gives L s image D st text = end.Gives L the_reports s image D st text
 
 -- a deed that prints
 abbrev pub IsPrint : Deed → Type 0
@@ -84,7 +87,7 @@ ReadsBack s text = IsLineOf s (λ c. c ≡ Format) → (t : Tree) × ComesBack s
 -- ## What a command has to say
 -- a status that the file decides
 abbrev pub IsOfFile : Status → Type 0
-IsOfFile st = (st ≡ status.NotAJournal) ⊎ (st ≡ status.AlreadyStarted) ⊎ (st ≡ status.NotStarted) ⊎ ((n : ℕ) × (st ≡ status.NotAHistory n)) ⊎ (st ≡ status.Done) ⊎ (st ≡ status.Raised)
+IsOfFile st = (st ≡ status.NotAJournal) ⊎ (st ≡ status.AlreadyStarted) ⊎ (st ≡ status.NotStarted) ⊎ ((n : ℕ) × (st ≡ status.NotAHistory n)) ⊎ (st ≡ status.Suspended) ⊎ (st ≡ status.Done) ⊎ (st ≡ status.Raised)
 
 -- the causes of the file that are looked at before this status didn't come
 pub record IsPassed (L : Language) (s : Scene) (st : Status) : Type 0 where
@@ -100,13 +103,13 @@ pub record HasNoCauseInFile (L : Language) (s : Scene) : Type 0 where
   pub not_started : ¬ IsNotStarted s
   pub history : (n : ℕ) → ¬ IsNoHistory L s n
 
--- a status and its text; one that the file decides is told in the language, of the file that the call leaves
+-- a status and its text; one that the file decides is told in the language, of the file that the call leaves and of its deeds
 pub data Says (s : Scene) (old new : World) : Status → List ℕ → Type 0 where
   bad_line : (n : ℕ) → IsBadLine s n → Says s old new (status.BadLine n) (line_end (codes "bad line at word " ++ decimal n))
   bad_argument : IsBadArgument s → Says s old new status.BadArgument (line_end (codes "bad argument"))
   refused : (r : Refusal) → IsRefused s r → ¬ IsBadArgument s → Says s old new (status.Refused r) (line_end (refusal_text r))
   reported : (text : List ℕ) → Reported s text → ReadsBack s text → Says s old new status.Done text
-  of_file : (st : Status) (text : List ℕ) → IsOfFile st → IsLineOf s (λ c. executes c ≡ true) → IsTaken s → Told old (Gives the_language s new.seen st text × IsPassed the_language s st) → Says s old new st text
+  of_file : (st : Status) (text : List ℕ) → IsOfFile st → IsLineOf s (λ c. executes c ≡ true) → IsTaken s → Told old (Since old new.deeds (λ D. Gives the_language s new.seen D st text) × IsPassed the_language s st) → Says s old new st text
 
 -- what the status tells was read behind the opening's sync
 abbrev pub IsBehindSync : Scene → Status → Type 0
@@ -115,6 +118,7 @@ IsBehindSync s status.Raised = IsLineOf s (λ c. executes c ≡ true)
 IsBehindSync s status.AlreadyStarted = Unit {0}
 IsBehindSync s status.NotStarted = Unit {0}
 IsBehindSync s (status.NotAHistory n) = Unit {0}
+IsBehindSync s status.Suspended = Unit {0}
 IsBehindSync s st = ⊥
 
 -- ## How the call ends
@@ -183,6 +187,13 @@ module _ (L : Language) (x : Call) where
   abbrev pub NotAHistoryRow : Type 0
   NotAHistoryRow = (n : ℕ) → Exactly x (status.NotAHistory n) (IsNoHistory L x.scene n) (line_end (codes "not a history at record " ++ decimal n))
 
+  -- at the end the journal has no outcome, and the call has polled as often as it may
+  abbrev pub WaitsNoMore : Type 0
+  WaitsNoMore = Deeds x (λ D. IsSuspended L x.scene x.new.seen D)
+
+  abbrev pub SuspendedRow : Type 0
+  SuspendedRow = Exactly x status.Suspended WaitsNoMore (line_end (codes "suspended"))
+
   -- of a command that executes: the outcome that the journal has at the end
   pub record OutcomeRow : Type 0 where
     pub comes : IsLineOf x.scene (λ c. executes c ≡ true) → (x.status ≡ status.Done) ⊎ (x.status ≡ status.Raised)
@@ -209,11 +220,11 @@ module _ (x : Call) where
 
   -- a status of another part never comes
   abbrev pub OnlyThese : Type 0
-  OnlyThese = (x.status ≢ status.PollFault) × (x.status ≢ status.Suspended)
+  OnlyThese = x.status ≢ status.PollFault
 
 -- ## Completeness
 module _ (L : Language) (x : Call) where
-  -- no status has a cause but Done, Raised and OutOfMemory
+  -- no status has a cause but Suspended, Done, Raised and OutOfMemory
   pub record HasNoCause : Type 0 where
     -- the words are a line
     pub line : (l : PlainLine) × IsLine x.scene l
@@ -230,7 +241,9 @@ module _ (L : Language) (x : Call) where
 
   -- then the command does its work, or there is no memory
   pub record Completes : Type 0 where
-    pub any : HasNoCause → (x.status ≡ status.Done) ⊎ (x.status ≡ status.Raised) ⊎ (x.status ≡ status.OutOfMemory)
+    -- and it may be suspended, but not where the journal has an outcome at the end
+    pub any : HasNoCause → (x.status ≡ status.Done) ⊎ (x.status ≡ status.Raised) ⊎ (x.status ≡ status.Suspended) ⊎ (x.status ≡ status.OutOfMemory)
+    pub outcome : HasNoCause → ¬ WaitsNoMore L x → (x.status ≡ status.Done) ⊎ (x.status ≡ status.Raised) ⊎ (x.status ≡ status.OutOfMemory)
     pub report : HasNoCause → IsLineOf x.scene (λ c. executes c ≡ false) → (x.status ≡ status.Done) ⊎ (x.status ≡ status.OutOfMemory)
 
 module _ (x : Call) where
@@ -260,15 +273,15 @@ module _ (L : Language) (x : Call) where
   RefusedStays = (HasOtherMagic x.scene ⊎ IsStarted x.scene ⊎ IsNotStarted x.scene ⊎ ((n : ℕ) × IsNoHistory L x.scene n)) → WritesNothing x
 
   -- ## Crashes
-  -- a crash at any moment leaves a file that is safe with what was done by then, whatever heard bytes come to
+  -- a crash at any moment leaves a file that is safe with what was done by then
   abbrev pub SafeThroughout : Type 0
-  SafeThroughout = IsFit L x.scene.found → (O : Outside) → LeavesOnly x.old x.new (SafeAt L O the_reports x.scene None x.old)
+  SafeThroughout = IsFit L x.scene.found → InTheOutside (λ O. LeavesOnly x.old x.new (SafeAt L O the_reports x.scene None x.old))
 
   -- and so does one behind its end
   abbrev pub SafeAtEnd : Type 0
-  SafeAtEnd = IsFit L x.scene.found → (O : Outside) (image : List ℕ) → x.new.may_leave image → SafeAt L O the_reports x.scene (Some x.status) x.old image x.new.deeds
+  SafeAtEnd = IsFit L x.scene.found → InTheOutside (λ O. (image : List ℕ) → x.new.may_leave image → SafeAt L O the_reports x.scene (Some x.status) x.old image x.new.deeds)
 
   -- one of these statuses comes behind the opening's sync, and what is safe then is safe as from then on
   abbrev pub LateAtEnd : Type 0
-  LateAtEnd = IsBehindSync x.scene x.status → IsFit L x.scene.found → (O : Outside) (image : List ℕ) → x.new.may_leave image
-      → LateAt L O the_reports x.scene (Some x.status) x.old image x.new.deeds
+  LateAtEnd = IsBehindSync x.scene x.status → IsFit L x.scene.found
+      → InTheOutside (λ O. (image : List ℕ) → x.new.may_leave image → LateAt L O the_reports x.scene (Some x.status) x.old image x.new.deeds)

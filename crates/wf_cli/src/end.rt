@@ -152,6 +152,7 @@ impl Said {
             EngineFault::NotAHistory(number) => Status::NotAHistory(number),
             EngineFault::AlreadyStarted => Status::AlreadyStarted,
             EngineFault::NotStarted => Status::NotStarted,
+            EngineFault::Suspended => Status::Suspended,
             EngineFault::Closed | EngineFault::OutOfMemory => return Err(Silence::OutOfMemory),
         };
         Ok(Said::line(alloc, status)?)

@@ -3,16 +3,18 @@ ghost use Rattle.std.specs.Prelude.{◌≡◌, ◌≤◌, ◌<◌, ◌∷◌, fa
 ghost use Rattle.wf_check.specs.Seen.{program_of};
 ghost use Rattle.wf_cli.specs.Said.{Going, IsEnd, Opening, SaysResult, Worked};
 ghost use Rattle.wf_cli.specs.Top.{IsLineOf};
-ghost use Rattle.wf_engine.specs.Engine.{memory, is_closed, Holds, StandsFor};
 ghost use Rattle.wf_deeds.specs.Kept as kept;
+ghost use Rattle.wf_deeds.specs.Memory.{StandsFor};
+ghost use Rattle.wf_engine.specs.Engine.{memory, is_closed, Holds};
 ghost use Rattle.wf_engine.specs.Safe.{scene};
 ghost use Rattle.wf_engine.specs.Starts.{HasArgument, argument_text, start_of};
 ghost use Rattle.wf_engine.specs.TheLanguage.{the_language};
+ghost use Rattle.wf_engine.specs.TheOutside.{InTheOutside};
 ghost use Rattle.wf_events.specs.Records.{Started};
 ghost use Rattle.wf_events.specs.Spelling.{record_bytes, HasSpelling};
 ghost use Rattle.wf_events.specs.View.{start_view};
 ghost use Rattle.wf_host.specs.Source.{Rest, IsFirst};
-ghost use Rattle.wf_host.specs.Calls.{DiskFailed, DoesNoDeed, NoCountFalls, TellsAsBefore};
+ghost use Rattle.wf_host.specs.Calls.{DiskFailed, NoCountFalls, TellsAsBefore};
 ghost use Rattle.wf_host.specs.World.{Told};
 ghost use Rattle.wf_host.specs.declared.data.Deed.{Deed};
 ghost use Rattle.wf_journal.specs.Records.{records};
@@ -29,7 +31,7 @@ use std::marker::Brand;
 use std::sync::ledger::{Blank, Ledger};
 use wf_args::Line;
 use wf_check::Checked;
-use wf_deeds::laws_of_rules;
+use wf_deeds::{laws_of_rules, laws_of_steps};
 use wf_engine::{Engine, EngineFault, laws_of_starts};
 use wf_events::{Start, one_spelling};
 use wf_host::{Host, Routes, Source, read_up_to};
@@ -104,10 +106,10 @@ fn begin<H: Host>(
     requires text { argument ≡ argument_text (plain_line line.now) }
     requires has { HasArgument (plain_line line.now) }
     requires program { IsSourceOf source.now (program_of program) }
-    ensures opening { Told (H.world host.old) ((words : List (List ℕ)) (rest : Rest)
-        → line_of words ≡ Ok (plain_line line.now) → IsFirst 131073 rest source.now
-        → Opening kept.Run (scene words rest (H.world host.old)) (H.world host.old)
-        (H.world host.new) result) }
+    ensures opening { InTheOutside (λ O. Told (H.world host.old) ((words : List (List ℕ))
+        (rest : Rest) → line_of words ≡ Ok (plain_line line.now) → IsFirst 131073 rest source.now
+        → Opening O kept.Run (scene words rest (H.world host.old)) (H.world host.old)
+        (H.world host.new) result)) }
     ensures holds { Told (H.world host.old) (IfOk result (λ e. Holds e (H.world host.new))) }
     ensures open { IfOk result (λ e. is_closed e ≡ false) }
     ensures disk_fault { IsErrOf result EngineFault.DiskFault
@@ -126,19 +128,20 @@ fn begin<H: Host>(
     Engine::begin(alloc, host, &start, program)
 }
 
-/// Goes on to the outcome, and tells it.
+/// Goes on to the outcome, and tells it, or that there is none yet.
 fn to_outcome<H: Host>(alloc: Global, engine: Engine, host: &mut H) -> Result<Said, Silence>
     requires open { is_closed engine ≡ false }
     requires holds { Told (H.world host.old) (Holds engine (H.world host.old)) }
     ensures says { SaysResult (H.faults host.old) (H.faults host.new) result }
-    ensures going { Told (H.world host.old) ((command : kept.Command) (D : List Deed)
-        → StandsFor the_language command (memory engine) (records (H.world host.old).seen) D
-        → Going the_language command (memory engine) D (H.world host.old) (H.world host.new)
-        result) }
-    ensures deeds { DoesNoDeed H.world host.old host.new }
+    ensures going { InTheOutside (λ O. Told (H.world host.old) ((command : kept.Command)
+        (D : List Deed)
+        → StandsFor the_language O command false (memory engine) (records (H.world host.old).seen) D
+        → Going the_language O command (memory engine) D (H.world host.old) (H.world host.new)
+        result)) }
     ensures tells { TellsAsBefore H.world host.old host.new }
     ensures counts { NoCountFalls H.faults host.old host.new }
 {
+    laws_of_steps();
     let mut engine = engine;
     match engine.session(host) {
         Ok(()) => Ok(Said::outcome(alloc, engine.machine().outcome())?),
@@ -163,10 +166,10 @@ fn run_program<H: Host>(
         → line_of words ≡ Ok (plain_line line.now) → IsFirst 131073 rest source.now
         → IsEnd (scene words rest (H.world host.old)) (H.world host.old) (H.world host.new) reads
         reads2 (H.faults host.old) (H.faults host.new) result }
-    ensures worked { Told (H.world host.old) ((words : List (List ℕ)) (rest : Rest)
-        → line_of words ≡ Ok (plain_line line.now) → IsFirst 131073 rest source.now
-        → Worked (scene words rest (H.world host.old)) (H.world host.old) (H.world host.new)
-        result) }
+    ensures worked { InTheOutside (λ O. Told (H.world host.old) ((words : List (List ℕ))
+        (rest : Rest) → line_of words ≡ Ok (plain_line line.now) → IsFirst 131073 rest source.now
+        → Worked O (scene words rest (H.world host.old)) (H.world host.old) (H.world host.new)
+        result)) }
     ensures tells { TellsAsBefore H.world host.old host.new }
     ensures counts { NoCountFalls H.faults host.old host.new }
 {
@@ -192,10 +195,10 @@ fn run_source<S: Source, H: Host>(
         → IsEnd (scene words (S.left source.old) (H.world host.old)) (H.world host.old)
         (H.world host.new) (S.faults source.old) (S.faults source.new) (H.faults host.old)
         (H.faults host.new) result }
-    ensures worked { Told (H.world host.old) ((words : List (List ℕ))
+    ensures worked { InTheOutside (λ O. Told (H.world host.old) ((words : List (List ℕ))
         → line_of words ≡ Ok (plain_line line.now)
-        → Worked (scene words (S.left source.old) (H.world host.old)) (H.world host.old)
-        (H.world host.new) result) }
+        → Worked O (scene words (S.left source.old) (H.world host.old)) (H.world host.old)
+        (H.world host.new) result)) }
     ensures tells { TellsAsBefore H.world host.old host.new }
     ensures reads { S.faults source.old ≤ S.faults source.new }
     ensures counts { NoCountFalls H.faults host.old host.new }
@@ -219,10 +222,10 @@ pub(crate) fn run<S: Source, H: Host>(
         → IsEnd (scene words (S.left source.old) (H.world host.old)) (H.world host.old)
         (H.world host.new) (S.faults source.old) (S.faults source.new) (H.faults host.old)
         (H.faults host.new) result }
-    ensures worked { Told (H.world host.old) ((words : List (List ℕ))
+    ensures worked { InTheOutside (λ O. Told (H.world host.old) ((words : List (List ℕ))
         → line_of words ≡ Ok (plain_line line.now)
-        → Worked (scene words (S.left source.old) (H.world host.old)) (H.world host.old)
-        (H.world host.new) result) }
+        → Worked O (scene words (S.left source.old) (H.world host.old)) (H.world host.old)
+        (H.world host.new) result)) }
     ensures tells { TellsAsBefore H.world host.old host.new }
     ensures reads { S.faults source.old ≤ S.faults source.new }
     ensures counts { NoCountFalls H.faults host.old host.new }
@@ -239,10 +242,10 @@ pub(crate) fn resume<H: Host>(alloc: Global, host: &mut H) -> Result<Said, Silen
         → IsLineOf (scene words rest (H.world host.old)) (λ c. c ≡ Resume)
         → IsEnd (scene words rest (H.world host.old)) (H.world host.old) (H.world host.new) reads
         reads2 (H.faults host.old) (H.faults host.new) result }
-    ensures worked { Told (H.world host.old) ((words : List (List ℕ)) (rest : Rest)
-        → IsLineOf (scene words rest (H.world host.old)) (λ c. c ≡ Resume)
-        → Worked (scene words rest (H.world host.old)) (H.world host.old) (H.world host.new)
-        result) }
+    ensures worked { InTheOutside (λ O. Told (H.world host.old) ((words : List (List ℕ))
+        (rest : Rest) → IsLineOf (scene words rest (H.world host.old)) (λ c. c ≡ Resume)
+        → Worked O (scene words rest (H.world host.old)) (H.world host.old) (H.world host.new)
+        result)) }
     ensures tells { TellsAsBefore H.world host.old host.new }
     ensures counts { NoCountFalls H.faults host.old host.new }
 {
@@ -262,10 +265,10 @@ fn resume_from_blank<H: Host, L: Ledger>(
         → IsLineOf (scene words rest (H.world host.old)) (λ c. c ≡ Resume)
         → IsEnd (scene words rest (H.world host.old)) (H.world host.old) (H.world host.new) reads
         reads2 (H.faults host.old) (H.faults host.new) result }
-    ensures worked { Told (H.world host.old) ((words : List (List ℕ)) (rest : Rest)
-        → IsLineOf (scene words rest (H.world host.old)) (λ c. c ≡ Resume)
-        → Worked (scene words rest (H.world host.old)) (H.world host.old) (H.world host.new)
-        result) }
+    ensures worked { InTheOutside (λ O. Told (H.world host.old) ((words : List (List ℕ))
+        (rest : Rest) → IsLineOf (scene words rest (H.world host.old)) (λ c. c ≡ Resume)
+        → Worked O (scene words rest (H.world host.old)) (H.world host.old) (H.world host.new)
+        result)) }
     ensures tells { TellsAsBefore H.world host.old host.new }
     ensures counts { NoCountFalls H.faults host.old host.new }
 {
@@ -282,10 +285,10 @@ fn resume_counted<H: Host, L: Ledger>(
         → IsLineOf (scene words rest (H.world host.old)) (λ c. c ≡ Resume)
         → IsEnd (scene words rest (H.world host.old)) (H.world host.old) (H.world host.new) reads
         reads2 (H.faults host.old) (H.faults host.new) result }
-    ensures worked { Told (H.world host.old) ((words : List (List ℕ)) (rest : Rest)
-        → IsLineOf (scene words rest (H.world host.old)) (λ c. c ≡ Resume)
-        → Worked (scene words rest (H.world host.old)) (H.world host.old) (H.world host.new)
-        result) }
+    ensures worked { InTheOutside (λ O. Told (H.world host.old) ((words : List (List ℕ))
+        (rest : Rest) → IsLineOf (scene words rest (H.world host.old)) (λ c. c ≡ Resume)
+        → Worked O (scene words rest (H.world host.old)) (H.world host.old) (H.world host.new)
+        result)) }
     ensures tells { TellsAsBefore H.world host.old host.new }
     ensures counts { NoCountFalls H.faults host.old host.new }
 {

@@ -4,6 +4,7 @@ ghost use Rattle.wf_cli.specs.Calls.{called};
 ghost use Rattle.wf_cli.specs.Promises.{Promised};
 ghost use Rattle.wf_cli.specs.Said.{IsEnd, Printing, SaysBadLine, SaysReport, Tells, Worked, text_of};
 ghost use Rattle.wf_engine.specs.Safe.{scene};
+ghost use Rattle.wf_engine.specs.TheOutside.{InTheOutside};
 ghost use Rattle.wf_host.specs.Calls.{NoCountFalls, TellsAsBefore};
 ghost use Rattle.wf_host.specs.World.{Told};
 ghost use Rattle.wf_args.specs.Lines.{line_of, words_view};
@@ -15,7 +16,7 @@ use crate::execution::{resume, run};
 use crate::formatting::format;
 use std::alloc::Global;
 use wf_args::{Command, Line, LineFault, help_text, read_line, version_text};
-use wf_deeds::laws_of_rules;
+use wf_deeds::laws_of_deeds;
 use wf_host::{Host, Source, print_all};
 use wf_source::laws_of_sources;
 use wf_status::Status;
@@ -71,10 +72,10 @@ fn execute<S: Source, H: Host>(
         → IsEnd (scene words (S.left source.old) (H.world host.old)) (H.world host.old)
         (H.world host.new) (S.faults source.old) (S.faults source.new) (H.faults host.old)
         (H.faults host.new) result }
-    ensures worked { Told (H.world host.old) ((words : List (List ℕ))
+    ensures worked { InTheOutside (λ O. Told (H.world host.old) ((words : List (List ℕ))
         → line_of words ≡ Ok (plain_line line.now)
-        → Worked (scene words (S.left source.old) (H.world host.old)) (H.world host.old)
-        (H.world host.new) result) }
+        → Worked O (scene words (S.left source.old) (H.world host.old)) (H.world host.old)
+        (H.world host.new) result)) }
     ensures tells { TellsAsBefore H.world host.old host.new }
     ensures reads { S.faults source.old ≤ S.faults source.new }
     ensures counts { NoCountFalls H.faults host.old host.new }
@@ -104,7 +105,7 @@ pub fn perform<S: Source, H: Host>(
     ensures reads { S.faults source.old ≤ S.faults source.new }
     ensures counts { NoCountFalls H.faults host.old host.new }
 {
-    laws_of_rules();
+    laws_of_deeds();
     laws_of_sources();
     let said = execute(alloc, line, source, host);
     tell(host, said)
@@ -128,6 +129,7 @@ pub fn perform<S: Source, H: Host>(
 /// - [`Status::NotAJournal`]: the file has at least 5 bytes and doesn't begin with `WFJ1`.
 /// - [`Status::AlreadyStarted`]: `run` finds a first record. [`Status::NotStarted`]: `resume` finds none.
 /// - [`Status::NotAHistory`]: `resume` finds records that are no history.
+/// - [`Status::Suspended`]: there is no outcome yet, nothing can move, and the command waits no more.
 /// - [`Status::PrintFault`]: a print failed or took nothing. [`Status::OutOfMemory`]: memory ran out.
 ///
 /// It may be killed at any moment, also in the middle of a write: what stands in the file then is one run that the language's meaning
@@ -146,7 +148,7 @@ pub fn run_line<S: Source, H: Host>(
     ensures reads { S.faults source.old ≤ S.faults source.new }
     ensures counts { NoCountFalls H.faults host.old host.new }
 {
-    laws_of_rules();
+    laws_of_deeds();
     laws_of_sources();
     match read_line(alloc, words) {
         Ok(line) => perform(alloc, &line, source, host),

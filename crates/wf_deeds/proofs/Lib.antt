@@ -1,6 +1,4 @@
-mod Moves
 mod Quiet
-mod Readings
 mod Splits
 mod Lists
 mod Carried

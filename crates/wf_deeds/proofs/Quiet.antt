@@ -1,12 +1,10 @@
--- Sessions in which nothing was sent or awaited.
+-- Sessions in which nothing was sent or awaited, and that have no turn yet.
 use Rattle.std.specs.Prelude.{◌≡◌, ◌≢◌, List, [], ◌∷◌, ◌++◌, Some}
 use Rattle.std.specs.List.{AllByRecursion}
 use Rattle.std.proofs.Common.{subst}
-use Rattle.wf_deeds.proofs.Moves.{HasMoves, own_moves}
 use Rattle.wf_deeds.specs.Deeds.{IsSmall}
 use Rattle.wf_deeds.specs.Kept.{Session, Place, Kept, own, ReadingsAreOfTheClock}
 use Rattle.wf_deeds.specs.Outside.{Outside}
-use Rattle.wf_events.specs.Spelling.{IsMove}
 use Rattle.wf_host.specs.declared.data.Deed.{Deed}
 use Rattle.wf_host.specs.declared.data.Deed.TheVariants.{Start, Poll, Reply, Drop}
 use Rattle.wf_journal_laws.specs.Language.{Language}
@@ -21,30 +19,30 @@ all_at P (y ∷ before) x behind all = all_at P before x behind all.1
 deed_at : (ds before behind : List Deed) (d : Deed) → AllByRecursion IsSmall ds → ds ≡ before ++ d ∷ behind → IsSmall d
 deed_at ds before behind d small is = all_at IsSmall before d behind (subst (λ l. AllByRecursion IsSmall l) is small)
 
--- an event of a turn of the session
-event_at : (ts : List Turn) (t : Turn) (e : Event) → AllByRecursion HasMoves ts → Place ts t e → IsMove e
-event_at ts t e all p =
-    let of_turn : HasMoves t = all_at HasMoves p.earlier t p.later (subst (λ l. AllByRecursion HasMoves l) p.turn all) in
-    all_at IsMove p.front e p.back (subst (λ l. AllByRecursion IsMove l) p.event of_turn)
+not_nil : {A : Type 0} (xs ys : List A) (y : A) → [] ≡ xs ++ y ∷ ys → ⊥
+not_nil [] ys y is = cc is
+not_nil (x ∷ xs) ys y is = cc is
 
-pub only_readings : (L : Language) (O : Outside) (x : Session) → AllByRecursion IsSmall x.deeds → x.end ≢ Some 13 → ReadingsAreOfTheClock L O x → Kept L O x
-only_readings L O x small not_suspended readings =
-    let moves = own_moves L x.payloads x.number in
-    record {
-      calls = λ before behind k to bytes comes. absurd (deed_at x.deeds before behind (Start k to bytes) small comes);
-      waits = record {
-        polls_wait = λ before behind until h comes. absurd (deed_at x.deeds before behind (Poll until h) small comes);
-        drops_closed = λ before behind k c comes. absurd (deed_at x.deeds before behind (Drop k) small comes);
-        at_end = λ is. absurd (not_suspended is);
-      };
-      answers = record {
-        only = λ t k r a p. absurd (event_at (own L O x) t (Answer k r a) moves p);
-        taken = λ before behind until h k a c comes. absurd (deed_at x.deeds before behind (Poll until h) small comes);
-      };
-      readings = readings;
-      visits = record {
-        replies = λ before behind n bytes comes. absurd (deed_at x.deeds before behind (Reply n bytes) small comes);
-        replied = λ before behind until h d v comes. absurd (deed_at x.deeds before behind (Poll until h) small comes);
-        only = λ t n r v p. absurd (event_at (own L O x) t (Arrive n r v) moves p);
-      };
-    }
+-- no event stands where there is no turn
+no_place : (ts : List Turn) (t : Turn) (e : Event) → ts ≡ [] → Place ts t e → ⊥
+no_place ts t e none p = not_nil p.earlier p.later t (subst (λ l. l ≡ p.earlier ++ t ∷ p.later) none p.turn)
+
+pub only_readings : (L : Language) (O : Outside) (x : Session) → AllByRecursion IsSmall x.deeds → own L O x ≡ [] → x.end ≢ Some 13 → ReadingsAreOfTheClock L O x → Kept L O x
+only_readings L O x small none not_suspended readings = record {
+  calls = λ before behind k to bytes comes. absurd (deed_at x.deeds before behind (Start k to bytes) small comes);
+  waits = record {
+    polls_wait = λ before behind until h comes. absurd (deed_at x.deeds before behind (Poll until h) small comes);
+    drops_closed = λ before behind k c comes. absurd (deed_at x.deeds before behind (Drop k) small comes);
+    at_end = λ is. absurd (not_suspended is);
+  };
+  answers = record {
+    only = λ t k r a p. absurd (no_place (own L O x) t (Answer k r a) none p);
+    taken = λ before behind until h k a c comes. absurd (deed_at x.deeds before behind (Poll until h) small comes);
+  };
+  readings = readings;
+  visits = record {
+    replies = λ before behind n bytes comes. absurd (deed_at x.deeds before behind (Reply n bytes) small comes);
+    replied = λ before behind until h d v comes. absurd (deed_at x.deeds before behind (Poll until h) small comes);
+    only = λ t n r v p. absurd (no_place (own L O x) t (Arrive n r v) none p);
+  };
+}

@@ -1,4 +1,4 @@
--- What an engine stands for with a call started or dropped, or a reply made.
+-- What an engine stands for with a call started or dropped, a reply made, or a text printed.
 use Rattle.std.specs.Prelude.{◌≡◌, ◌⊎◌, ◌≤◌, ◌<◌, ◌||◌, ℕ, zero, suc, Bool, true, false, IsTrue, nat_eq, if◌then◌else◌, List, [], ◌∷◌, ◌++◌, length, slice_get, Some, None, option_map}
 use Rattle.std.proofs.Common.{inl, inr, ⊎_elim, refl, sym, ◌∙◌, ap, subst, arith}
 use Rattle.std.proofs.lemmas.Bool.{eq-eqb, eqb-true}
@@ -12,7 +12,7 @@ use Rattle.wf_deeds.specs.Kept.{Command, Session, IsOpen, IsQuietAt, reading, la
 use Rattle.wf_deeds.specs.Memory.{Memory, IsSettled, StandsFor, session, forgotten}
 use Rattle.wf_deeds.specs.Outside.{Outside, code_of}
 use Rattle.wf_deeds.specs.Rules.{AnswersStand, RepliesAreMade, IsSent, DeedKeepsRules, with_deed}
-use Rattle.wf_deeds.specs.Steps.{StartGoesOn, DropGoesOn, ReplyGoesOn, with_calls}
+use Rattle.wf_deeds.specs.Steps.{StartGoesOn, DropGoesOn, ReplyGoesOn, PrintGoesOn, with_calls}
 use Rattle.wf_events.specs.View.{address_view}
 use Rattle.wf_host.specs.declared.data.Deed.{Deed}
 use Rattle.wf_host.specs.declared.data.Deed.TheVariants.{Start, Poll, Now, Reply, Drop, Print}
@@ -273,6 +273,48 @@ reply_goes_on there rules L O command handed m J D o s untaken waiting =
     }
   where
     sent_too : (e : Deed) → IsSent L O (with_deed (session command handed m J D) (Reply o.visit (reply_bytes (code_of o.verdict)))) e → IsSent L O (session command handed m J D) e
+    sent_too (Start k to b) is = tt
+    sent_too (Drop k) is = tt
+    sent_too (Poll until h) is = absurd is
+    sent_too (Now t) is = absurd is
+    sent_too (Reply n b) is = absurd is
+    sent_too (Print b) is = absurd is
+
+-- ## A text is printed
+pub print_goes_on : DeedKeepsRules → PrintGoesOn
+print_goes_on rules L O command handed m J D text s untaken unowed =
+    let x = session command handed m J D in
+    let d = Print text in
+    let E = D ++ d ∷ [] in
+    let old_told : (j : ℕ) → m.started j ≡ true → told_of j E ≡ told_of j D = λ j was. told_of_stays j D d tt (sym (s.started j) ∙ was) in
+    let answers = answers_with L O x d tt (s.answers untaken) in
+    let replies = replies_with L O x d tt (s.replies unowed) in
+    record {
+      kept = rules L O x d s.kept refl tt;
+      leads = record { standing = s.leads.standing; history = s.leads.history; program = s.leads.program; config = s.leads.config; by_now = s.leads.by_now; first = s.leads.first; numbered = s.leads.numbered };
+      waits = s.waits ∙ sym (still_polls L O command handed m J D s d tt refl);
+      reading = still_reading L O command handed m J D s d tt refl;
+      last = s.last;
+      clock = λ go. ap length (still_nows L O command handed m J D s d tt refl) ∙ s.clock go;
+      started = λ j. s.started j ∙ sym (or-none (was_started j D)) ∙ sym (was_started-append j D (d ∷ []));
+      dropped = λ j. s.dropped j ∙ sym (or-none (was_dropped j D)) ∙ sym (was_dropped-append j D (d ∷ []));
+      issued = s.issued;
+      told = λ j still was. s.told j still was ∙ sym (old_told j was);
+      unanswered = λ go j still was. ⊎_elim (λ to_it. inl to_it) (λ none. inr (ap (λ (t : Told). O.answer_of t.bytes t.close) (old_told j was) ∙ none)) (s.unanswered go j still was);
+      settled = λ before behind e comes sent at. elim (split_of_more D d before e behind comes) [
+        | inl t ↦ s.settled before t.rest e t.is (sent_too e sent) (at ∙ still_polls L O command handed m J D s d tt refl)
+        | inr t ↦ absurd (subst (λ g. IsSent L O (with_deed x d) g) t.last sent)
+      ];
+      visit = still_visit L O command handed m J D s d tt refl;
+      undecided = still_undecided L O command handed m J D s d tt refl;
+      answers = λ none. answers;
+      taken = λ e has. absurd (let f : None ≡ Some e = sym untaken ∙ has in cc f);
+      replies = λ none. replies;
+      owed = λ o has. absurd (let f : None ≡ Some o = sym unowed ∙ has in cc f);
+      arrival = λ o e v has. absurd (let f : None ≡ Some o = sym unowed ∙ has in cc f);
+    }
+  where
+    sent_too : (e : Deed) → IsSent L O (with_deed (session command handed m J D) (Print text)) e → IsSent L O (session command handed m J D) e
     sent_too (Start k to b) is = tt
     sent_too (Drop k) is = tt
     sent_too (Poll until h) is = absurd is

@@ -1,4 +1,5 @@
--- What an engine stands for after each of its steps: a call is started or dropped, something is heard, a turn is added, a reply is made.
+-- What an engine stands for after each of its steps: a call is started or dropped, something is heard, a turn is added, a reply is made,
+-- a text is printed.
 use Rattle.std.specs.Prelude.{◌≡◌, ◌≢◌, ◌⊎◌, ◌≤◌, ◌||◌, ℕ, suc, max, ◌+◌, Bool, true, false, IsTrue, is_some, nat_eq, if◌then◌else◌, List, [], ◌∷◌, ◌++◌, length, Option, Some, None}
 use Rattle.std.specs.List.{AllByRecursion}
 use Rattle.wf_ast.specs.Tree.{Program}
@@ -13,7 +14,7 @@ use Rattle.wf_events.specs.Records.{Turned}
 use Rattle.wf_events.specs.View.{address_view}
 use Rattle.wf_host.specs.declared.data.Address.{Address}
 use Rattle.wf_host.specs.declared.data.Deed.{Deed}
-use Rattle.wf_host.specs.declared.data.Deed.TheVariants.{Start, Poll, Reply, Drop}
+use Rattle.wf_host.specs.declared.data.Deed.TheVariants.{Start, Poll, Reply, Drop, Print}
 use Rattle.wf_host.specs.declared.data.Heard.{Heard}
 use Rattle.wf_model.specs.Config.{TimedOut, Config, Active, To}
 use Rattle.wf_model.specs.Ready.{call, least_due, quiet, request_of}
@@ -67,6 +68,12 @@ abbrev pub ReplyGoesOn : Type 0
 ReplyGoesOn = (L : Language) (O : Outside) (command : Command) (handed : Bool) (m : Memory) (J : List (List ℕ)) (D : List Deed) (o : Owed)
     → StandsFor L O command handed m J D → m.taken ≡ None → m.owed ≡ Some o
     → StandsFor L O command handed (replied m) J (D ++ Reply o.visit (reply_bytes (code_of o.verdict)) ∷ [])
+
+-- ## Prints
+-- where nothing waits for a turn or a reply, a print changes nothing
+abbrev pub PrintGoesOn : Type 0
+PrintGoesOn = (L : Language) (O : Outside) (command : Command) (handed : Bool) (m : Memory) (J : List (List ℕ)) (D : List Deed) (text : List ℕ)
+    → StandsFor L O command handed m J D → m.taken ≡ None → m.owed ≡ None → StandsFor L O command handed m J (D ++ Print text ∷ [])
 
 -- ## Hearing
 abbrev pub weight : Option Visit → ℕ

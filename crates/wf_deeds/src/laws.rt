@@ -1,20 +1,17 @@
 // Laws of the rules on deeds.
 ghost use Rattle.wf_deeds.specs.Clauses.{StandsIsKept};
 ghost use Rattle.wf_deeds.specs.Rules.{DeedKeepsRules, EndKeepsRules, HandedKeepsRules, TurnKeepsRules};
-ghost use Rattle.wf_deeds.specs.Steps.{DropGoesOn, EndIsKept, FreshStands, HandedStands, HearingGoesOn, PollIsKept, ReplyGoesOn, StartGoesOn, TurnGoesOn, TurnIsChosen};
-ghost use Rattle.wf_deeds.specs.Laws.{OnlyReadings, TurnKeepsReadings};
+ghost use Rattle.wf_deeds.specs.Steps.{DropGoesOn, EndIsKept, FreshStands, HandedStands, HearingGoesOn, PollIsKept, PrintGoesOn, ReplyGoesOn, StartGoesOn, TurnGoesOn, TurnIsChosen};
+ghost use Rattle.wf_deeds.specs.Laws.{OnlyReadings};
 
 use wf_journal_laws::{laws_of_histories, laws_of_moments};
 use wf_model::{laws_of_calls, laws_of_choice, laws_of_readings, laws_of_runs};
 
-/// Carries laws: where nothing was sent or awaited, only the rule on readings asks something; and a turn more with the readings that
-/// were read keeps that rule.
+/// Carries the law of the beginning of a session: where nothing was sent or awaited, and no turn of the session stands yet, only the rule
+/// on readings asks something.
 pub fn laws_of_rules()
     ensures only_readings { OnlyReadings }
-    ensures turn_keeps_readings { TurnKeepsReadings }
-{
-    laws_of_moments();
-}
+{}
 
 /// Carries laws of the rules: they are kept with one deed more, one turn more, and an end.
 pub fn laws_of_deeds()
@@ -27,7 +24,7 @@ pub fn laws_of_deeds()
 }
 
 /// Carries laws of what an engine stands for: at first, with a call started or dropped, with what was heard, with a turn, with a reply,
-/// and at an end.
+/// with a print, and at an end.
 pub fn laws_of_steps()
     ensures fresh { FreshStands }
     ensures start { StartGoesOn }
@@ -37,6 +34,7 @@ pub fn laws_of_steps()
     ensures turn { TurnGoesOn }
     ensures chosen { TurnIsChosen }
     ensures reply { ReplyGoesOn }
+    ensures print { PrintGoesOn }
     ensures end { EndIsKept }
     ensures handed { HandedStands }
     ensures moment { StandsIsKept }

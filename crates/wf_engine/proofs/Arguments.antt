@@ -2,9 +2,9 @@
 use Rattle.std.proofs.Common.{◌≡◌, ◌≤◌, ◌<◌, ℕ, List, length, Option, None, Some, refl, sym, ap, subst, arith}
 use Rattle.std.specs.Prelude.{unwrap_or}
 use Rattle.std.specs.Option.{option_map_or}
-use Rattle.wf_args.specs.Lines.{PlainLine, word_of}
+use Rattle.wf_args.specs.Lines.{word_of}
 use Rattle.wf_args.specs.declared.option.OptionName.TheVariants.{Args}
-use Rattle.wf_engine.specs.Starts.{ArgumentComesBack, ArgumentIsSpelled, HasArgument, argument_text}
+use Rattle.wf_engine.specs.Starts.{ArgumentComesBack, ArgumentIsSpelled, argument_text}
 use Rattle.wf_events.specs.Spelling.{IsArgument}
 use Rattle.wf_json_laws.specs.Back.{JustTheseAreSaid, ReadIsComeBack, SaidComesBack, TextsAreShort, ValuesComeBack}
 use Rattle.wf_value.proofs.JsonCases.{found_value, value_found}

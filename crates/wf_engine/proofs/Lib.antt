@@ -13,4 +13,5 @@ mod Reopened
 mod Sessions
 mod StillOpen
 mod Turning
+mod TurnsAdded
 pub mod RowsHold

@@ -5,7 +5,7 @@ use Rattle.wf_deeds.specs.Deeds.{printed}
 use Rattle.wf_deeds.specs.Outside.{Outside}
 use Rattle.wf_engine.proofs.LivesKept.{stay_at}
 use Rattle.wf_engine.specs.Lives.{PairsAreStays, PrintsByACause, PrintsOneLine, PrintsOther, PrintsOutcome, OneLine, Stay, IsStay, stay_scene}
-use Rattle.wf_engine.specs.Printed.{Reports, Gives, bad_line, bad_argument, refused, not_a_journal, already_started, not_started, not_a_history, ended, done, status_of, outcome_text}
+use Rattle.wf_engine.specs.Printed.{Reports, Gives, bad_line, bad_argument, refused, not_a_journal, already_started, not_started, not_a_history, suspended, ended, done, status_of, outcome_text}
 use Rattle.wf_engine.specs.Safe.{IsPrefix, PrintedIsOutcome}
 use Rattle.wf_host.specs.World.{World}
 use Rattle.wf_model.specs.Config.{Outcome, Active}
@@ -23,7 +23,7 @@ has_ended : (o : Outcome) (st : Status) → status_of o ≡ Some st → o ≢ Ac
 has_ended o st is = λ active. let no : None ≡ Some st = ap status_of (sym active) ∙ is in cc no
 
 module _ (L : Language) (R : Reports) (x : Stay) where
-  by_cause : (st : Status) (text : List ℕ) → Gives L R (stay_scene x) x.left st text → IsPrefix (printed x.deeds) text → PrintsOutcome L R x ⊎ PrintsOther L R x
+  by_cause : (st : Status) (text : List ℕ) → Gives L R (stay_scene x) x.left x.deeds st text → IsPrefix (printed x.deeds) text → PrintsOutcome L R x ⊎ PrintsOther L R x
   by_cause st text (bad_line n is) front = inr (_, _, bad_line n is, front, inl refl)
   by_cause st text (bad_argument is) front = inr (_, _, bad_argument is, front, inl refl)
   by_cause st text (refused r is) front = inr (_, _, refused r is, front, inl refl)
@@ -31,6 +31,7 @@ module _ (L : Language) (R : Reports) (x : Stay) where
   by_cause st text (already_started is) front = inr (_, _, already_started is, front, inl refl)
   by_cause st text (not_started is) front = inr (_, _, not_started is, front, inl refl)
   by_cause st text (not_a_history n is) front = inr (_, _, not_a_history n is, front, inl refl)
+  by_cause st text (suspended is) front = inr (_, _, suspended is, front, inl refl)
   by_cause st text (ended o s has is) front = inl (outcome_text o, (o, has, has_ended o s is, refl), front)
   by_cause st text (done t report) front = inr (_, _, done t report, front, inr report)
 

@@ -6,9 +6,10 @@ use Rattle.std.proofs.lemmas.Bool.{lt-ltb, or_left}
 use Rattle.std.proofs.lemmas.List.Elements.{All-nil}
 use Rattle.wf_ast.specs.Tree.{Program}
 use Rattle.wf_deeds.specs.Deeds.{nows, polls, reading_by, starts_or_polls, IsSmall}
-use Rattle.wf_engine.specs.Engine.{Memory, StandsFor, session}
 use Rattle.wf_deeds.specs.Kept.{Run, Resume, Session, Place, own, last_of, ReadingsAreOfTheClock}
 use Rattle.wf_deeds.specs.Laws.{OnlyReadings}
+use Rattle.wf_deeds.specs.Memory.{StandsFor, session}
+use Rattle.wf_deeds.specs.Steps.{FreshStands, fresh}
 use Rattle.wf_engine.specs.Openings.{Clocked}
 use Rattle.wf_deeds.specs.Outside.{Outside}
 use Rattle.wf_events.specs.Reading.{meaning}
@@ -76,37 +77,34 @@ module _ (L : Language) (O : Outside) (x : Session) where
   }
 
 -- ## A start
-module _ (L : Language) (only : OnlyReadings) (start : StartIsAHistory) (bounded : RunsAreBounded) (payload : List ℕ) (s : Start) (p : Program) (c : Config) where
+module _ (L : Language) (O : Outside) (handed : Bool) (only : OnlyReadings) (stands : FreshStands) (start : StartIsAHistory) (bounded : RunsAreBounded) (payload : List ℕ) (s : Start) (p : Program) (c : Config) where
   journal_of_start : meaning payload ≡ Some (Started s) → L.source s.source ≡ Some p → journal L (payload ∷ []) ≡ Some (record { start = s; program = p; turns = [] })
   journal_of_start means accepted =
       ap (λ o. begins L o []) means ∙ ap (λ o. option_map (λ q. record { start = s; program = q; turns = [] }) o) accepted
 
-  pub stands_begun : (r : ℕ) → meaning payload ≡ Some (Started s) → L.source s.source ≡ Some p → initial p s ≡ To c → r ≡ c.last
-      → StandsFor L Run (record { program = p; config = c; session = 1; reading = r }) (payload ∷ []) (Now s.reading ∷ [])
+  pub stands_begun : (r : ℕ) → meaning payload ≡ Some (Started s) → L.source s.source ≡ Some p → initial p s ≡ To c → r ≡ c.last → StandsFor L O Run handed (fresh p c 1 r) (payload ∷ []) (Now s.reading ∷ [])
   stands_begun r means accepted begins_at is =
       let found = journal_of_start means accepted in
+      let J : List (List ℕ) = payload ∷ [] in
       let D : List Deed = Now s.reading ∷ [] in
-      let m : Memory = record { program = p; config = c; session = 1; reading = r } in
+      let x : Session = session Run handed (fresh p c 1 r) J D in
       let one : OneReading D = inr (s.reading, refl) in
-      let before : config_before (journal L (payload ∷ [])) 1 ≡ Some c = ap (λ o. config_before o 1) found ∙ ap reached begins_at in
+      let none : own L O x ≡ [] = ap (λ o. session_turns o 1) found in
+      let before : config_before (journal L J) 1 ≡ Some c = ap (λ o. config_before o 1) found ∙ ap reached begins_at in
       let bound = (bounded p s [] c begins_at).readings in
-      record {
-        kept = λ O. only L O (session Run m (payload ∷ []) D) (all_small D one) (λ no. cc no)
-            (reads_well L O (session Run m (payload ∷ []) D) (ap (λ o. session_turns o 1) found) one (λ d resumes was ended. absurd (let no : Run ≡ Resume = resumes in cc no)));
-        small = all_small D one;
-        leads = record {
-          standing = record { program = p; config = c; number = 1; session = 0; waits = 0 };
-          history = start L payload s p c means accepted begins_at;
-          program = refl;
-          config = refl;
-          by_now = refl;
-          first = omega arith;
-          numbered = omega arith;
-        };
-        reading = (let own_is : r ≡ reading_by c.last D 0 = omega (arith, is, bound) in own_is) ∙ ap (λ o. reading_by (last_of o) D 0) (sym before);
-        last = omega (arith, is);
-        clock = λ active. refl;
-      }
+      stands L O Run handed p c 1 r J D
+      (only L O x (all_small D one) none (λ no. cc no) (reads_well L O x none one (λ d resumes was ended. absurd (let no : Run ≡ Resume = resumes in cc no))))
+      (all_small D one)
+      (record {
+        standing = record { program = p; config = c; number = 1; session = 0; waits = 0 };
+        history = start L payload s p c means accepted begins_at;
+        program = refl;
+        config = refl;
+        by_now = refl;
+        first = omega arith;
+        numbered = omega arith;
+      })
+      ((let own_is : r ≡ reading_by c.last D 0 = omega (arith, is, bound) in own_is) ∙ ap (λ o. reading_by (last_of o) D 0) (sym before)) (omega (arith, is)) (λ active. refl)
 
 -- ## A history
 one_reading : (c : Config) (D : List Deed) → Clocked c D → OneReading D
@@ -127,29 +125,23 @@ at_least last r D is = omega (arith, is)
 by_next : (n : ℕ) (s : Standing) → s.session < n → IsTrue (nat_lt s.session n || (nat_eq s.session n && nat_le s.waits 0))
 by_next n s less = or_left (nat_lt s.session n) (nat_eq s.session n && nat_le s.waits 0) (lt-ltb s.session n less)
 
-module _ (L : Language) (only : OnlyReadings) (stands_before : HistoryStandsBefore) (no_turns : NoTurnsBehind) (numbered : SessionIsNumbered) (J : List (List ℕ)) (s : Standing) where
-  pub stands_opened : (p : Program) (c : Config) (n r : ℕ) (D : List Deed) → history L J ≡ Ok s → s.program ≡ p → s.config ≡ c → n ≡ suc s.session → r ≡ reading_by c.last D 0 → Clocked c D
-      → StandsFor L Resume (record { program = p; config = c; session = n; reading = r }) J D
+module _ (L : Language) (O : Outside) (handed : Bool) (only : OnlyReadings) (stands : FreshStands) (stands_before : HistoryStandsBefore) (no_turns : NoTurnsBehind) (numbered : SessionIsNumbered) (J : List (List ℕ)) (s : Standing) where
+  pub stands_opened : (p : Program) (c : Config) (n r : ℕ) (D : List Deed) → history L J ≡ Ok s → s.program ≡ p → s.config ≡ c → n ≡ suc s.session → r ≡ reading_by c.last D 0 → Clocked c D → StandsFor L O Resume handed (fresh p c n r) J D
   stands_opened p c n r D is program config next read clocked =
       let behind : s.session < n = omega (arith, next) in
-      let m : Memory = record { program = p; config = c; session = n; reading = r } in
+      let x : Session = session Resume handed (fresh p c n r) J D in
       let one = one_reading c D clocked in
+      let none : own L O x ≡ [] = no_turns L J s n is behind in
       let before : config_before (journal L J) n ≡ Some c = stands_before L J s n is behind ∙ ap Some config in
       let number = numbered L J s is in
-      record {
-        kept = λ O. only L O (session Resume m J D) (all_small D one) (λ no. cc no)
-            (reads_well L O (session Resume m J D) (no_turns L J s n is behind) one (λ d resumes was ended. no_reading c d D clocked (sym before ∙ was) ended));
-        small = all_small D one;
-        leads = record {
-          standing = s;
-          history = is;
-          program = program;
-          config = config;
-          by_now = by_next n s behind;
-          first = omega (arith, next);
-          numbered = omega (arith, next, number);
-        };
-        reading = read ∙ ap (λ o. reading_by (last_of o) D 0) (sym before);
-        last = at_least c.last r D read;
-        clock = read_once c D clocked;
-      }
+      stands L O Resume handed p c n r J D (only L O x (all_small D one) none (λ no. cc no) (reads_well L O x none one (λ d resumes was ended. no_reading c d D clocked (sym before ∙ was) ended))) (all_small D one)
+      (record {
+        standing = s;
+        history = is;
+        program = program;
+        config = config;
+        by_now = by_next n s behind;
+        first = omega (arith, next);
+        numbered = omega (arith, next, number);
+      })
+      (read ∙ ap (λ o. reading_by (last_of o) D 0) (sym before)) (at_least c.last r D read) (read_once c D clocked)

@@ -2,8 +2,10 @@
 use Rattle.std.specs.Prelude.{◌≡◌, ◌≢◌, ◌⊎◌, ◌≤◌, ◌+◌, min, ℕ, zero, suc, Bool, true, false, if◌then◌else◌, List, [], ◌∷◌, ◌++◌, length, take, drop, Option, Some, None, Result, Ok, Err, IfErr, IsErr, IsErrAnd, unwrap_or}
 use Rattle.std.proofs.Common.{inl, inr, refl, sym, ◌∙◌, ap, arith, length-drop}
 use Rattle.wf_engine.proofs.NewSessions.{stands_opened}
-use Rattle.wf_engine.specs.Engine.{Opened}
+use Rattle.wf_deeds.specs.Clauses.{Opened}
 use Rattle.wf_deeds.specs.Laws.{OnlyReadings}
+use Rattle.wf_deeds.specs.Outside.{Outside}
+use Rattle.wf_deeds.specs.Steps.{FreshStands, fresh}
 use Rattle.wf_engine.specs.Openings.{ReadsClock}
 use Rattle.wf_engine.specs.declared.fault.EngineFault.{EngineFault}
 use Rattle.wf_engine.specs.declared.fault.EngineFault.TheVariants.{NotAHistory}
@@ -72,13 +74,13 @@ next_number L count numbered image h m n last_one is fits found next =
     omega (arith, few_records image, fits, count L (records image) s is, numbered L (records image) s is, one, next)
 
 -- ## What was opened
-module _ (L : Language) (only : OnlyReadings) (stands_before : HistoryStandsBefore) (no_turns : NoTurnsBehind) (numbered : SessionIsNumbered) where
+module _ (L : Language) (O : Outside) (only : OnlyReadings) (stands : FreshStands) (stands_before : HistoryStandsBefore) (no_turns : NoTurnsBehind) (numbered : SessionIsNumbered) where
   pub opened : (old mid new : World) (h : History) (m : Machine) (n r : ℕ) → history L (records old.seen) ≡ Ok (standing h m) → new.seen ≡ old.seen → mid.deeds ≡ old.deeds → n ≡ suc (standing h m).session
-      → ReadsClock (state_of m).config r mid new → Opened L (record { program = (state_of m).program; config = (state_of m).config; session = n; reading = r }) old new
+      → ReadsClock (state_of m).config r mid new → Opened L O (fresh (state_of m).program (state_of m).config n r) old new
   opened old mid new h m n r is seen deeds next read = record {
     done = read.done;
     deeds = read.deeds ∙ ap (λ l. l ++ read.done) deeds;
-    stands = stands_opened L only stands_before no_turns numbered (records new.seen) (standing h m) (state_of m).program (state_of m).config n r read.done
+    stands = λ handed. stands_opened L O handed only stands stands_before no_turns numbered (records new.seen) (standing h m) (state_of m).program (state_of m).config n r read.done
         (ap (λ l. history L (records l)) seen ∙ is) (program_at h.place (last h) m) (config_at h.place (last h) m) next read.greatest read.clock;
     clock = read.clock;
   }

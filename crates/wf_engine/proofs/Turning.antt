@@ -1,21 +1,27 @@
 -- What is known of the events of a turn, one after another.
-use Rattle.std.specs.Prelude.{◌≡◌, ◌≢◌, ◌⊎◌, ◌≤◌, ◌<◌, ◌+◌, max, unwrap_or, ℕ, suc, List, [], ◌∷◌, ◌++◌, length, Option, Some, None}
+use Rattle.std.specs.Prelude.{◌≡◌, ◌≢◌, ◌⊎◌, ◌≤◌, ◌<◌, ◌+◌, ◌*◌, max, unwrap_or, ℕ, suc, List, [], ◌∷◌, ◌++◌, length, Option, Some, None}
 use Rattle.std.specs.List.{AllByRecursion}
-use Rattle.std.proofs.Common.{inl, inr, ⊎_elim, refl, sym, ◌∙◌, ap, subst, arith, length-append}
+use Rattle.std.proofs.Common.{inl, inr, ⊎_elim, refl, sym, ◌∙◌, ap, subst, arith}
+use Rattle.std.proofs.Math.Bridge.{le_prop}
+use Rattle.std.proofs.Math.Logic.{∥∥₁_elim}
 use Rattle.wf_ast.specs.Tree.{Program}
 use Rattle.wf_engine.proofs.Chosen.{Turning}
 use Rattle.wf_deeds.specs.Kept.{reading_of}
 use Rattle.wf_deeds.specs.Turns.{chosen, turn_of, TakeReading}
+use Rattle.wf_engine.specs.Engine.{spent}
 use Rattle.wf_engine.specs.Turn.{IsTurn, Rests}
 use Rattle.wf_events.specs.Spelling.{IsOld}
 use Rattle.wf_machine.specs.Counts.{counts, counts_of}
-use Rattle.wf_machine.specs.Laws.{OnlyMoves}
 use Rattle.wf_machine.specs.State.{State}
 use Rattle.wf_model.specs.ChoiceLaws as choice
 use Rattle.wf_model.specs.ChoiceLaws.{ChoiceTakesTheReading, NothingIsChosenBehindAnOutcome, NothingIsChosenWhenQuiet}
 use Rattle.wf_model.specs.Choose.{choose}
 use Rattle.wf_model.specs.Config.{Outcome, Active, Returned, Raised, Cancelled, Config, To}
+use Rattle.wf_model.specs.CountLaws.{EventsAreCounted, weigh}
+use Rattle.wf_model.specs.ReadingLaws.{ChosenIsFromInside, IsFromInside}
+use Rattle.wf_model.specs.Run.{run_on}
 use Rattle.wf_model.specs.Step.{next}
+use Rattle.wf_model.specs.WaitLaws.{Sound}
 use Rattle.wf_shared.specs.Events.{Event, Move, MoveAt, Begin, Issue, Answer, Due, Arrive, Cancel}
 
 -- ## Lists
@@ -68,6 +74,7 @@ pub record Telling (first now : State) (reading : ℕ) (es : List Event) : Type 
   pub turning : Turning first now reading es
   pub counted : now.config.moves ≡ first.config.moves + counts_of es
   pub most : now.config.moves ≤ 100000
+  pub inside : AllByRecursion IsFromInside es
   pub spelled : AllByRecursion IsOld es
   pub readings : first.config.last ≤ reading → AllByRecursion (Takes reading) es
   pub last : first.config.last ≤ reading → now.config.last ≤ reading
@@ -77,17 +84,19 @@ tells_at_first first reading es turning most none = record {
   turning = turning;
   counted = omega (arith, ap counts_of none);
   most = most;
+  inside = subst (AllByRecursion IsFromInside) (sym none) tt;
   spelled = subst (AllByRecursion IsOld) (sym none) tt;
   readings = λ le. subst (AllByRecursion (Takes reading)) (sym none) tt;
   last = λ le. le;
 }
 
-pub tells_on : ChoiceTakesTheReading → (first mid new : State) (reading : ℕ) (es fs : List Event) (e : Event) → Telling first mid reading es → Turning first new reading fs → choose mid.program mid.config reading ≡ Some e
+pub tells_on : ChoiceTakesTheReading → ChosenIsFromInside → (first mid new : State) (reading : ℕ) (es fs : List Event) (e : Event) → Telling first mid reading es → Turning first new reading fs → choose mid.program mid.config reading ≡ Some e
     → IsOld e → new.config.moves ≡ mid.config.moves + counts e → new.config.moves ≤ 100000 → new.config.last ≡ unwrap_or (choice.reading_of e) mid.config.last → fs ≡ es ++ e ∷ [] → Telling first new reading fs
-tells_on law first mid new reading es fs e t turning is old more most last added = record {
+tells_on law from first mid new reading es fs e t turning is old more most last added = record {
   turning = turning;
   counted = omega (arith, more, t.counted, ap counts_of added, counts_more es e);
   most = most;
+  inside = subst (AllByRecursion IsFromInside) (sym added) (all_more IsFromInside es e t.inside (from mid.program mid.config reading e is));
   spelled = subst (AllByRecursion IsOld) (sym added) (all_more IsOld es e t.spelled old);
   readings = λ le. subst (AllByRecursion (Takes reading)) (sym added) (all_more (Takes reading) es e (t.readings le) (takes reading mid.config.last e (t.last le) (law mid.program mid.config reading e is)));
   last = λ le. still_last reading mid.config.last new.config.last e (t.last le) (law mid.program mid.config reading e is) last;
@@ -109,35 +118,44 @@ over Cancelled = inr (λ is. cc is)
 pub rests : NothingIsChosenWhenQuiet → (p : Program) (c : Config) (reading : ℕ) → choose p c reading ≡ None → Rests c reading
 rests law p c reading none = ⊎_elim (λ active. inr ((law p c reading active).0 none)) inl (over c.outcome)
 
--- a machine that only moves counts on with each turn
-pub counts_on : NothingIsChosenWhenQuiet → (s : State) (reading : ℕ) → OnlyMoves s → s.config.outcome ≡ Active → 1 ≤ counts_of (turn_of s.program s.config reading None)
-unfolding chosen
-counts_on law s reading only active =
-    at_choice (choose s.program s.config reading) refl
-  where
-    rest : Event → List Event
-    rest e = chosen 4095 s.program (next s.program s.config e) reading
+-- ## What may still come
+-- each event takes something of it
+less_each : EventsAreCounted → (p : Program) (b c : Config) (es : List Event) → b.moves ≤ 100000 → c.moves ≤ 100000 → AllByRecursion IsFromInside es → run_on p (To b) es ≡ To c → Sound b → length es + spent c ≤ spent b
+less_each law p b c es before after inside leads sound =
+    let counted : weigh c.tasks + length es + 3 * b.moves ≤ weigh b.tasks + 3 * c.moves = law p b c es sound inside leads in
+    omega (arith, counted, before, after)
 
-    at_choice : (o : Option Event) → choose s.program s.config reading ≡ o → 1 ≤ counts_of (turn_of s.program s.config reading None)
-    at_choice None is = absurd (only.busy active reading ((law s.program s.config reading active).0 is))
-    at_choice (Some e) is =
-        let first : turn_of s.program s.config reading None ≡ e ∷ rest e = ap (λ (o : Option Event). elim o [ None ↦ [] | Some e ↦ e ∷ chosen 4095 s.program (next s.program s.config e) reading ]) is in
-        omega (arith, ap counts_of first, only.counted reading e is)
+falls : EventsAreCounted → (p : Program) (b c : Config) (es : List Event) → b.moves ≤ 100000 → c.moves ≤ 100000 → AllByRecursion IsFromInside es → run_on p (To b) es ≡ To c → (b.outcome ≡ Active → ∥ Sound b ∥₁) → (b.outcome ≢ Active → es ≡ [])
+    → length es + spent c ≤ spent b
+falls law p b c es before after inside leads sound none =
+    ⊎_elim
+    (λ active. ∥∥₁_elim (sound active) (λ x y. le_prop x y) (less_each law p b c es before after inside leads))
+    (λ over. still (none over))
+    (over b.outcome)
+  where
+    still : es ≡ [] → length es + spent c ≤ spent b
+    still nil =
+        let same : b ≡ c = cc (ap (λ l. run_on p (To b) l) (sym nil) ∙ leads) in
+        omega (arith, ap length nil, ap spent same)
 
 -- where the turn is whole
-pub is_turn : NothingIsChosenBehindAnOutcome → (first now : State) (reading : ℕ) (es : List Event) → Telling first now reading es → es ≡ turn_of first.program first.config reading None
-    → (length es < 4096 → Rests now.config reading) → IsTurn first now reading es
-is_turn law first now reading es t whole ended = record {
-  turn = whole;
-  leads = t.turning.so_far.leads;
-  short = t.turning.so_far.short;
-  ended = ended;
-  active = λ over. none_behind law first.program first.config reading 4095 es whole over;
-  counted = t.counted;
-  most = t.most;
-  spelled = t.spelled;
-  readings = λ le. take_reading reading es (t.readings le);
-  last = t.last;
-  program = t.turning.program;
-  whole = t.turning.whole;
-}
+pub is_turn : NothingIsChosenBehindAnOutcome → EventsAreCounted → (first now : State) (reading : ℕ) (es : List Event) → first.config.moves ≤ 100000 → (first.config.outcome ≡ Active → ∥ Sound first.config ∥₁)
+    → Telling first now reading es → es ≡ turn_of first.program first.config reading None → (length es < 4096 → Rests now.config reading) → IsTurn first now reading es
+is_turn law counts first now reading es few sound t whole ended =
+    let none : first.config.outcome ≢ Active → es ≡ [] = λ over. none_behind law first.program first.config reading 4095 es whole over in
+    record {
+      turn = whole;
+      leads = t.turning.so_far.leads;
+      short = t.turning.so_far.short;
+      ended = ended;
+      active = none;
+      counted = t.counted;
+      most = t.most;
+      falls = falls counts first.program first.config now.config es few t.most t.inside t.turning.so_far.leads sound none;
+      inside = t.inside;
+      spelled = t.spelled;
+      readings = λ le. take_reading reading es (t.readings le);
+      last = t.last;
+      program = t.turning.program;
+      whole = t.turning.whole;
+    }

@@ -3,6 +3,7 @@ pub mod Printed
 pub mod Safe
 pub mod Lives
 pub mod TheLanguage
+pub mod TheOutside
 pub mod Ready
 pub mod Engine
 pub mod Faults

@@ -66,7 +66,7 @@ PrintsOutcome L R x = (text : List ℕ) × IsOutcomeText L R x text × IsPrefix 
 
 -- or a front of another text that has its cause: that of a status, or the report of a command that executes nothing
 abbrev pub PrintsOther : Language → Reports → Stay → Type 0
-PrintsOther L R x = (st : Status) × (text : List ℕ) × Gives L R (stay_scene x) x.left st text × IsPrefix (printed x.deeds) text
+PrintsOther L R x = (st : Status) × (text : List ℕ) × Gives L R (stay_scene x) x.left x.deeds st text × IsPrefix (printed x.deeds) text
     × ((status_text st ≡ Some text) ⊎ Reported R (stay_scene x) text)
 
 -- ## What holds over all commands of a life

@@ -3,7 +3,9 @@
 --     Gives     a status whose cause holds, with its text, for the image and the deeds of a moment
 use Rattle.std.specs.Prelude.{◌≡◌, ◌≢◌, ◌≤◌, ℕ, Bool, true, false, List, [], ◌++◌, length, take, Option, Some, None, Ok, Err, codes, decimal}
 use Rattle.wf_ast.specs.Tree.{Program}
+use Rattle.wf_deeds.specs.Deeds.{polls}
 use Rattle.wf_host.specs.Source.{Rest, IsFirst}
+use Rattle.wf_host.specs.declared.data.Deed.{Deed}
 use Rattle.wf_journal.specs.Records.{magic, records}
 use Rattle.wf_args.specs.Lines.{PlainLine, line_of}
 use Rattle.wf_args.specs.declared.command.Command.{Command}
@@ -130,13 +132,18 @@ module _ (L : Language) (R : Reports) (s : Scene) where
   abbrev pub HasOutcome : List ℕ → Outcome → Type 0
   HasOutcome image o = IsLineOf s (λ c. executes c ≡ true) × ((c : Standing) × (history L (records image) ≡ Ok c) × (c.config.outcome ≡ o))
 
-  pub data Gives (image : List ℕ) : Status → List ℕ → Type 0 where
-    bad_line : (n : ℕ) → IsBadLine s n → Gives image (status.BadLine n) (line_end (codes "bad line at word " ++ decimal n))
-    bad_argument : IsBadArgument s → Gives image status.BadArgument (line_end (codes "bad argument"))
-    refused : (r : Refusal) → IsRefused s r → Gives image (status.Refused r) (line_end (refusal_text r))
-    not_a_journal : HasOtherMagic s → Gives image status.NotAJournal (line_end (codes "not a journal"))
-    already_started : IsStarted s → Gives image status.AlreadyStarted (line_end (codes "already started"))
-    not_started : IsNotStarted s → Gives image status.NotStarted (line_end (codes "not started"))
-    not_a_history : (n : ℕ) → IsNoHistory n → Gives image (status.NotAHistory n) (line_end (codes "not a history at record " ++ decimal n))
-    ended : (o : Outcome) (st : Status) → HasOutcome image o → status_of o ≡ Some st → Gives image st (outcome_text o)
-    done : (text : List ℕ) → Reported R s text → Gives image status.Done text
+  -- they give none, and the command waits no more for what may come: it polled as often as it may, which is never yet
+  abbrev pub IsSuspended : List ℕ → List Deed → Type 0
+  IsSuspended image D = HasOutcome image Active × (polls D ≡ 0)
+
+  pub data Gives (image : List ℕ) (D : List Deed) : Status → List ℕ → Type 0 where
+    bad_line : (n : ℕ) → IsBadLine s n → Gives image D (status.BadLine n) (line_end (codes "bad line at word " ++ decimal n))
+    bad_argument : IsBadArgument s → Gives image D status.BadArgument (line_end (codes "bad argument"))
+    refused : (r : Refusal) → IsRefused s r → Gives image D (status.Refused r) (line_end (refusal_text r))
+    not_a_journal : HasOtherMagic s → Gives image D status.NotAJournal (line_end (codes "not a journal"))
+    already_started : IsStarted s → Gives image D status.AlreadyStarted (line_end (codes "already started"))
+    not_started : IsNotStarted s → Gives image D status.NotStarted (line_end (codes "not started"))
+    not_a_history : (n : ℕ) → IsNoHistory n → Gives image D (status.NotAHistory n) (line_end (codes "not a history at record " ++ decimal n))
+    suspended : IsSuspended image D → Gives image D status.Suspended (line_end (codes "suspended"))
+    ended : (o : Outcome) (st : Status) → HasOutcome image o → status_of o ≡ Some st → Gives image D st (outcome_text o)
+    done : (text : List ℕ) → Reported R s text → Gives image D status.Done text

@@ -71,7 +71,7 @@ module _ (L : Language) (O : Outside) (R : Reports) (s : Scene) (end : Option St
 
   -- what was printed is the front of a text that the command has cause to print
   abbrev pub PrintedIsOutcome : List ℕ → List Deed → Type 0
-  PrintedIsOutcome image D = (printed D ≡ []) ⊎ ((st : Status) × (text : List ℕ) × Gives L R s image st text × IsPrefix (printed D) text)
+  PrintedIsOutcome image D = (printed D ≡ []) ⊎ ((st : Status) × (text : List ℕ) × Gives L R s image D st text × IsPrefix (printed D) text)
 
   -- before the opening's sync: nothing is sent, the clock is read at most once, and the image is one that a crash at entry might leave
   pub record IsEarly (entry : List ℕ → Type 0) (image : List ℕ) (D : List Deed) : Type 0 where

@@ -2,10 +2,12 @@
 use Rattle.std.specs.List.{AllByRecursion}
 use Rattle.std.specs.Prelude.{◌≡◌, ◌≢◌, ◌⊎◌, ◌≤◌, ◌<◌, ◌+◌, ℕ, false, IsTrue, List, [], length, None}
 use Rattle.wf_deeds.specs.Turns.{turn_of, TakeReading}
+use Rattle.wf_engine.specs.Engine.{spent}
 use Rattle.wf_events.specs.Spelling.{IsOld}
 use Rattle.wf_machine.specs.Counts.{counts_of}
 use Rattle.wf_machine.specs.State.{State}
 use Rattle.wf_model.specs.Config.{Active, Config, To}
+use Rattle.wf_model.specs.ReadingLaws.{IsFromInside}
 use Rattle.wf_model.specs.Ready.{quiet}
 use Rattle.wf_model.specs.Run.{run_on}
 use Rattle.wf_shared.specs.Events.{Event}
@@ -24,6 +26,10 @@ pub record IsTurn (old new : State) (reading : ℕ) (es : List Event) : Type 0 w
   pub active : old.config.outcome ≢ Active → es ≡ []
   pub counted : new.config.moves ≡ old.config.moves + counts_of es
   pub most : new.config.moves ≤ 100000
+  -- each takes something of what may still come
+  pub falls : length es + spent new.config ≤ spent old.config
+  -- nothing outside has to bring them, and each has a spelling
+  pub inside : AllByRecursion IsFromInside es
   pub spelled : AllByRecursion IsOld es
   -- each takes the reading, where the last one isn't greater
   pub readings : old.config.last ≤ reading → TakeReading reading es

@@ -8,13 +8,13 @@ use crate::opening::{empty_history, last_machine, session_reading};
 use std::alloc::Global;
 use std::sync::ledger::Ledger;
 use wf_check::Checked;
-use wf_deeds::laws_of_rules;
+use wf_deeds::{laws_of_rules, laws_of_steps};
 use wf_events::{Start, Turn, one_spelling};
 use wf_history::History;
 use wf_host::Host;
 use wf_journal_laws::{laws_of_histories, laws_of_moments};
-use wf_machine::{Machine, Outcome, Steps, only_moves};
-use wf_model::{laws_of_choice, laws_of_runs};
+use wf_machine::{Machine, Outcome, Steps};
+use wf_model::laws_of_runs;
 use wf_source::each_source_is_one;
 
 /// An execution over a journal: what stands in the file, the machine that it leads to, and the session that goes on from there.
@@ -35,12 +35,15 @@ pub struct Engine {
 }
 
 impl Engine {
-    ghost use Rattle.std.specs.Prelude.{◌≢◌, ◌⊎◌, ◌↔◌, ◌≤◌, ◌<◌, ◌+◌, ◌++◌, [], ◌∷◌, true, List, ℕ, length, take, None, Ok, Err, OnOk, OnErr, IfOk, IfErr, IsErrOf};
+    ghost use Rattle.std.specs.Prelude.{◌≢◌, ◌⊎◌, ◌↔◌, ◌≤◌, ◌<◌, ◌+◌, ◌++◌, [], ◌∷◌, true, Bool, ℕ, length, take, None, Ok, Err, OnOk, OnErr, IfOk, IfErr, IsErrOf, IsTrue};
     ghost use Rattle.wf_check.specs.Seen.{program_of};
-    ghost use Rattle.wf_engine.specs.Engine.{memory, is_closed, Holds, StandsFor, KeptAt, Opened, OpeningMoment, turn_records};
-    ghost use Rattle.wf_deeds.specs.Kept.{Command, Run};
-    ghost use Rattle.wf_engine.specs.TheLanguage.{the_language};
+    ghost use Rattle.wf_deeds.specs.Clauses.{AddsTurn, KeptThroughout, Opened, Sessions};
+    ghost use Rattle.wf_deeds.specs.Kept.{Run};
+    ghost use Rattle.wf_deeds.specs.Memory.{IsSettled, StandsFor};
     ghost use Rattle.wf_deeds.specs.Turns.{turn_of};
+    ghost use Rattle.wf_engine.specs.Engine.{memory, is_closed, Holds, OpeningMoment, spent};
+    ghost use Rattle.wf_engine.specs.TheLanguage.{the_language};
+    ghost use Rattle.wf_engine.specs.TheOutside.{InTheOutside};
     ghost use Rattle.wf_events.specs.Records.{Started};
     ghost use Rattle.wf_events.specs.Spelling.{record_bytes, HasSpelling};
     ghost use Rattle.wf_events.specs.View.{start_view};
@@ -48,10 +51,8 @@ impl Engine {
     ghost use Rattle.wf_history.specs.Stands.{HasNoneOrThis};
     ghost use Rattle.wf_host.specs.Calls.{AtAnyMoment, DiskFailed, DoesNoDeed, NoCountFalls, ReadsAsBefore, TellsAsBefore};
     ghost use Rattle.wf_host.specs.World.{Told, LeavesOnly, Only};
-    ghost use Rattle.wf_host.specs.declared.data.Deed.{Deed};
     ghost use Rattle.wf_host.specs.declared.data.Deed.TheVariants.{Now};
     ghost use Rattle.wf_journal.specs.Records.{magic, records};
-    ghost use Rattle.wf_journal.specs.Steps.{Moment};
     ghost use Rattle.wf_machine.specs.Counts.{counts_of};
     ghost use Rattle.wf_machine.specs.Outcome.{IsResult};
     ghost use Rattle.wf_machine.specs.Seen.{state_of};
@@ -76,11 +77,12 @@ impl Engine {
         requires spelled { HasSpelling (Started (start_view start.now)) }
         requires short { length (record_bytes (Started (start_view start.now))) ≤ 16777215 }
         ensures holds { Told (H.world host.old) (IfOk result (λ e. Holds e (H.world host.new))) }
-        ensures stands { Told (H.world host.old)
-            (IfOk result (λ e. StandsFor the_language Run (memory e)
-            (records (H.world host.new).seen) (Now start.now.reading ∷ []))) }
+        ensures stands { InTheOutside (λ O. Told (H.world host.old)
+            (IfOk result (λ e. (handed : Bool) → StandsFor the_language O Run handed (memory e)
+            (records (H.world host.new).seen) (Now start.now.reading ∷ [])))) }
         ensures open { IfOk result (λ e. is_closed e ≡ false) }
         ensures session { IfOk result (λ e. (memory e).session ≡ 1) }
+        ensures waits { IfOk result (λ e. (memory e).waits ≡ 0) }
         ensures started { Told (H.world host.old)
             (OnOk result (records (H.world host.new).seen
             ≡ record_bytes (Started (start_view start.now)) ∷ [])) }
@@ -124,6 +126,7 @@ impl Engine {
         laws_of_histories();
         laws_of_rules();
         laws_of_runs();
+        laws_of_steps();
         one_spelling();
         let machine = Machine::new(alloc, start, program)?;
         let mut history = empty_history(alloc, host)?;
@@ -151,15 +154,16 @@ impl Engine {
         steps: &mut Steps<L>,
     ) -> Result<Engine, EngineFault>
         ensures holds { Told (H.world host.old) (IfOk result (λ e. Holds e (H.world host.new))) }
-        ensures opened { Told (H.world host.old)
-            (IfOk result (λ e. Opened the_language (memory e) (H.world host.old)
-            (H.world host.new))) }
+        ensures opened { InTheOutside (λ O. Told (H.world host.old)
+            (IfOk result (λ e. Opened the_language O (memory e) (H.world host.old)
+            (H.world host.new)))) }
         ensures steps { Told (H.world host.old)
             (OnOk result (steps.new ≡ steps.old + applied_by (records (H.world host.old).seen))) }
         ensures open { IfOk result (λ e. is_closed e ≡ false) }
         ensures session { Told (H.world host.old)
             (IfOk result (λ e. (memory e).session
             ≡ next_session (journal the_language (records (H.world host.old).seen)))) }
+        ensures waits { IfOk result (λ e. (memory e).waits ≡ 0) }
         ensures begins { Told (H.world host.old)
             (OnOk result (take 4 (H.world host.old).seen ≡ magic)) }
         ensures seen { ReadsAsBefore H.world host.old host.new }
@@ -193,6 +197,7 @@ impl Engine {
     {
         laws_of_moments();
         laws_of_rules();
+        laws_of_steps();
         let mut history = History::open(host)?;
         if history.at_end() {
             return Err(EngineFault::NotStarted);
@@ -210,6 +215,26 @@ impl Engine {
         })
     }
 
+    /// Whether it is settled: nothing that was taken waits for a turn, and nothing can move at the session's reading, or there is an outcome.
+    /// A closed engine does nothing more, and counts as settled.
+    pub fn is_settled(&self) -> bool
+        ensures closed { is_closed self.now ≡ true → result ≡ true }
+        ensures settled { is_closed self.now ≡ false
+            → IsTrue result ↔ IsSettled (memory self.now) }
+    {
+        self.closed
+            || self.machine.is_quiet(self.reading)
+            || !matches!(self.machine.outcome(), Outcome::Active)
+    }
+
+    /// How often the session has waited for the outside: never, since nothing is awaited yet.
+    pub fn waited(&self) -> u64
+        ensures { result ≡ (memory self.now).waits }
+    {
+        let _ = self.session;
+        0
+    }
+
     /// Applies what is chosen at the session's reading until nothing can move, there is an outcome, or there are 4,096 events; and adds
     /// the turn, if it has an event.
     ///
@@ -220,29 +245,23 @@ impl Engine {
             → Told (H.world host.old) (Holds self.old (H.world host.old)) }
         ensures holds { is_closed self.new ≡ false
             → Told (H.world host.old) (Holds self.new (H.world host.new)) }
-        ensures stands { Told (H.world host.old)
-            (OnOk result ((command : Command) (D : List Deed)
-            → StandsFor the_language command (memory self.old) (records (H.world host.old).seen) D
-            → StandsFor the_language command (memory self.new) (records (H.world host.new).seen)
-            D)) }
-        ensures turn { Told (H.world host.old)
-            (OnOk result (records (H.world host.new).seen
-            ≡ records (H.world host.old).seen
-            ++ turn_records (memory self.old).session
-            (turn_of (memory self.old).program (memory self.old).config (memory self.old).reading
-            None))) }
-        ensures any_moment { is_closed self.old ≡ false
-            → Told (H.world host.old) ((command : Command) (D : List Deed)
-            → StandsFor the_language command (memory self.old) (records (H.world host.old).seen) D
-            → LeavesOnly (H.world host.old) (H.world host.new)
-            (Moment (H.world host.old)
-            (KeptAt the_language command (memory self.old) (records (H.world host.old).seen) D))) }
+        ensures adds { InTheOutside (λ O. Told (H.world host.old)
+            (OnOk result (AddsTurn the_language O (memory self.old) (memory self.new)
+            (H.world host.old) (H.world host.new)))) }
+        ensures any_moment { InTheOutside (λ O. is_closed self.old ≡ false
+            → Told (H.world host.old) (KeptThroughout the_language O (memory self.old)
+            (H.world host.old) (H.world host.new))) }
+        // It is settled then, or its turns come to an end: what may still come has fallen.
+        ensures goes_on { OnOk result (IsSettled (memory self.new)
+            ⊎ (spent (memory self.new).config < spent (memory self.old).config)) }
         ensures counted { OnOk result ((memory self.new).config.moves
             ≡ (memory self.old).config.moves
             + counts_of (turn_of (memory self.old).program (memory self.old).config
-            (memory self.old).reading None)) }
+            (memory self.old).reading (memory self.old).taken)) }
         ensures most { OnOk result ((memory self.new).config.moves ≤ 100000) }
         ensures session { (memory self.new).session ≡ (memory self.old).session }
+        ensures waits { (memory self.new).waits ≡ (memory self.old).waits }
+        ensures reading { (memory self.new).reading ≡ (memory self.old).reading }
         ensures disk_fault { IsErrOf result EngineFault.DiskFault
             → DiskFailed H.faults host.old host.new }
         ensures closed { IsErrOf result EngineFault.Closed ↔ (is_closed self.old ≡ true) }
@@ -252,16 +271,13 @@ impl Engine {
         ensures open { OnOk result (is_closed self.new ≡ false) }
         ensures only { IfErr result (λ e. (e ≡ EngineFault.DiskFault) ⊎ (e ≡ EngineFault.Closed)
             ⊎ (e ≡ EngineFault.OutOfMemory)) }
-        ensures deeds { DoesNoDeed H.world host.old host.new }
         ensures tells { TellsAsBefore H.world host.old host.new }
         ensures counts { NoCountFalls H.faults host.old host.new }
     {
         if self.closed {
             return Err(EngineFault::Closed);
         }
-        laws_of_histories();
-        laws_of_moments();
-        laws_of_rules();
+        laws_of_steps();
         one_spelling();
         // until the turn has succeeded
         self.closed = true;
@@ -280,49 +296,55 @@ impl Engine {
         Ok(())
     }
 
-    /// Adds turns until there is an outcome. The errors are those of [`Engine::turn`].
+    /// Adds turns until the engine is settled.
+    ///
+    /// The error is `Suspended` where it is settled without an outcome: the engine stays open then, and stands for what was done. The other
+    /// errors are those of [`Engine::turn`].
     pub fn session<H: Host>(&mut self, host: &mut H) -> Result<(), EngineFault>
         requires kept { is_closed self.old ≡ false
             → Told (H.world host.old) (Holds self.old (H.world host.old)) }
         ensures holds { is_closed self.new ≡ false
             → Told (H.world host.old) (Holds self.new (H.world host.new)) }
-        ensures stands { Told (H.world host.old)
-            (OnOk result ((command : Command) (D : List Deed)
-            → StandsFor the_language command (memory self.old) (records (H.world host.old).seen) D
-            → StandsFor the_language command (memory self.new) (records (H.world host.new).seen)
-            D)) }
-        ensures ended { OnOk result (IsResult (memory self.new).config.outcome) }
-        ensures any_moment { is_closed self.old ≡ false
-            → Told (H.world host.old) ((command : Command) (D : List Deed)
-            → StandsFor the_language command (memory self.old) (records (H.world host.old).seen) D
-            → LeavesOnly (H.world host.old) (H.world host.new)
-            (Moment (H.world host.old)
-            (KeptAt the_language command (memory self.old) (records (H.world host.old).seen) D))) }
+        ensures ended { InTheOutside (λ O. Told (H.world host.old)
+            (OnOk result (Sessions the_language O false 0 (memory self.old) (memory self.new)
+            (H.world host.old) (H.world host.new)))) }
+        ensures suspended { InTheOutside (λ O. Told (H.world host.old)
+            (IsErrOf result EngineFault.Suspended
+            → Sessions the_language O true 0 (memory self.old) (memory self.new)
+            (H.world host.old) (H.world host.new))) }
+        ensures result { OnOk result (IsResult (memory self.new).config.outcome) }
+        ensures any_moment { InTheOutside (λ O. is_closed self.old ≡ false
+            → Told (H.world host.old) (KeptThroughout the_language O (memory self.old)
+            (H.world host.old) (H.world host.new))) }
         ensures finished { Told (H.world host.old) ((memory self.old).config.outcome ≢ Active
             → host.new ≡ host.old) }
         ensures session { (memory self.new).session ≡ (memory self.old).session }
         ensures disk_fault { IsErrOf result EngineFault.DiskFault
             → DiskFailed H.faults host.old host.new }
         ensures closed { IsErrOf result EngineFault.Closed ↔ (is_closed self.old ≡ true) }
-        ensures closes { OnErr result (is_closed self.new ≡ true) }
+        ensures closes { OnErr result (IsErrOf result EngineFault.Suspended
+            ⊎ (is_closed self.new ≡ true)) }
         ensures idle { IsErrOf result EngineFault.Closed
             → (self.new ≡ self.old) × (host.new ≡ host.old) }
         ensures open { OnOk result (is_closed self.new ≡ false) }
-        ensures only { IfErr result (λ e. (e ≡ EngineFault.DiskFault) ⊎ (e ≡ EngineFault.Closed)
+        ensures still_open { IsErrOf result EngineFault.Suspended → is_closed self.new ≡ false }
+        ensures only { IfErr result (λ e. (e ≡ EngineFault.DiskFault)
+            ⊎ (e ≡ EngineFault.Suspended) ⊎ (e ≡ EngineFault.Closed)
             ⊎ (e ≡ EngineFault.OutOfMemory)) }
-        ensures deeds { DoesNoDeed H.world host.old host.new }
         ensures tells { TellsAsBefore H.world host.old host.new }
         ensures counts { NoCountFalls H.faults host.old host.new }
     {
         if self.closed {
             return Err(EngineFault::Closed);
         }
-        laws_of_choice();
-        while let Outcome::Active = self.machine.outcome() {
-            only_moves(&self.machine);
+        laws_of_steps();
+        while !self.is_settled() {
             self.turn(host)?;
         }
-        Ok(())
+        match self.machine.outcome() {
+            Outcome::Active => Err(EngineFault::Suspended),
+            _ => Ok(()),
+        }
     }
 
     /// The machine, as it stands behind the last turn. After an error of a call it is of no use.

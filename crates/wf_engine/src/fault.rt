@@ -27,6 +27,9 @@ pub enum EngineFault {
     /// The file has no record.
     #[error("the journal has no execution")]
     NotStarted,
+    /// Nothing can move before something comes from outside, and the session waits no more.
+    #[error("suspended")]
+    Suspended,
     /// An earlier call on the engine has failed.
     #[error("the engine is closed after a fault")]
     Closed,

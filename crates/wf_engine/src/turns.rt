@@ -2,28 +2,31 @@
 ghost use Rattle.std.specs.List.{AllByRecursion};
 ghost use Rattle.std.specs.Prelude.{◌≡◌, ◌≢◌, ◌≤◌, ◌<◌, ◌+◌, [], false, length, None, IfOk, OnOk};
 ghost use Rattle.wf_deeds.specs.Turns.{turn_of, TakeReading};
+ghost use Rattle.wf_engine.specs.Engine.{spent};
 ghost use Rattle.wf_engine.specs.Turn.{IsTurn, Rests};
 ghost use Rattle.wf_events.specs.Spelling.{IsOld};
 ghost use Rattle.wf_events.specs.View.{event_view, events_view};
 ghost use Rattle.wf_machine.specs.Counts.{counts_of};
 ghost use Rattle.wf_machine.specs.Seen.{state_of};
 ghost use Rattle.wf_model.specs.Config.{Active, To};
+ghost use Rattle.wf_model.specs.ReadingLaws.{IsFromInside};
 ghost use Rattle.wf_model.specs.Run.{run_on};
 
 use std::alloc::Global;
 use std::marker::Brand;
 use std::sync::ledger::{Blank, Ledger};
 use wf_events::{Event, Events};
-use wf_machine::{ApplyFault, Machine, Steps};
-use wf_model::laws_of_choice;
+use wf_machine::{ApplyFault, Machine, Steps, is_sound};
+use wf_model::{laws_of_choice, laws_of_counts, laws_of_readings};
 use wf_value::OutOfMemory;
 
 /// A turn has no more events.
 const MOST_EVENTS: usize = 4096;
 
 /// Applies what the machine chooses at a reading of the clock, in milliseconds since 1970, until nothing can move, there is an outcome,
-/// or there are 4,096 events. Gives the events, in order: fewer only where there is an outcome or nothing can move. Each has a spelling,
-/// and takes the reading where that isn't below the machine's last one. Without memory the machine isn't to be used further.
+/// or there are 4,096 events. Gives the events, in order: fewer only where there is an outcome or nothing can move. None of them has to be
+/// brought from outside. Each has a spelling, takes something of what may still come, and takes the reading where that isn't below the
+/// machine's last one. Without memory the machine isn't to be used further.
 pub fn choose_turn(
     alloc: Global,
     machine: &mut Machine,
@@ -43,6 +46,9 @@ pub fn choose_turn(
     ensures counted { IfOk result (λ events. (state_of machine.new).config.moves
         ≡ (state_of machine.old).config.moves + counts_of (events_view events)) }
     ensures most { OnOk result ((state_of machine.new).config.moves ≤ 100000) }
+    ensures falls { IfOk result (λ events. length (events_view events)
+        + spent (state_of machine.new).config ≤ spent (state_of machine.old).config) }
+    ensures inside { IfOk result (λ events. AllByRecursion IsFromInside (events_view events)) }
     ensures spelled { IfOk result (λ events. AllByRecursion IsOld (events_view events)) }
     ensures readings { IfOk result (λ events. (state_of machine.old).config.last ≤ reading
         → TakeReading reading (events_view events)) }
@@ -86,6 +92,9 @@ fn choose_counted<L: Ledger>(
     ensures steps { IfOk result (λ events. steps.new ≡ steps.old + length (events_view events)) }
 {
     laws_of_choice();
+    laws_of_counts();
+    laws_of_readings();
+    is_sound(machine);
     let mut events = Events::new(alloc);
     while events.items().len() < MOST_EVENTS {
         let Some(event) = machine.choose(reading) else {
@@ -103,11 +112,16 @@ fn choose_counted<L: Ledger>(
 
 /// The same event, whose numbers fit its spelling.
 fn spelled(event: Event) -> Event
+    requires inside { IsFromInside (event_view event) }
     ensures same { event_view result ≡ event_view event }
     ensures old { IsOld (event_view event) }
 {
     match event {
         Event::Move(task) => Event::Move(task),
         Event::MoveAt(task, reading) => Event::MoveAt(task, reading),
+        Event::Begin(task) => Event::Begin(task),
+        Event::Issue(task, reading) => Event::Issue(task, reading),
+        Event::Due(task, reading) => Event::Due(task, reading),
+        Event::Answer(..) | Event::Arrive(..) => unreachable!(),
     }
 }

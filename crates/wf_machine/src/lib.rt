@@ -24,6 +24,6 @@ mod steps;
 mod targets;
 mod task;
 
-pub use laws::only_moves;
+pub use laws::{is_sound, only_moves};
 pub use machine::{ApplyFault, Machine, Outcome};
 pub use steps::Steps;

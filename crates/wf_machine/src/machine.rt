@@ -345,6 +345,7 @@ impl Machine {
             (by_itself (state_of self.now).program 0 r.now task_move)) }
         ensures last { IfSome result (λ r. r.last
             ≡ unwrap_or (reading_of (event_view event.now)) self.now.last) }
+        ensures counted { IsSome result → counts (event_view event.now) ≡ 1 }
         ensures never { IsNone result → (d : Config)
             → next (state_of self.now).program (state_of self.now).config (event_view event.now)
             ≡ To d → ⊥ }
@@ -356,9 +357,9 @@ impl Machine {
             return None;
         };
         let reads = self.reads_clock(task);
-        match *event {
+        match event {
             Event::Move(number) => {
-                if number != 0 || reads {
+                if *number != 0 || reads {
                     return None;
                 }
                 Some(Readings {
@@ -367,14 +368,19 @@ impl Machine {
                 })
             }
             Event::MoveAt(number, reading) => {
-                if number != 0 || !reads || reading < self.last {
+                if *number != 0 || !reads || *reading < self.last {
                     return None;
                 }
                 Some(Readings {
-                    now: reading,
-                    last: reading,
+                    now: *reading,
+                    last: *reading,
                 })
             }
+            Event::Begin(_)
+            | Event::Issue(..)
+            | Event::Answer(..)
+            | Event::Due(..)
+            | Event::Arrive(..) => None,
         }
     }
 

@@ -28,9 +28,10 @@ past m n e es took same =
     ∙ ap (λ p. run_on p (To (state_of n).config) (map event_view es)) (sym same)
 
 -- the same of an event in a list
-pub past_in : (m n : Machine) (es : List Event) (i : ℕ) (d : Event) → i < length es → next (state_of m).program (state_of m).config (event_view (get_or es i d)) ≡ To (state_of n).config
+pub past_in : (m n : Machine) (es : List Event) (i : ℕ) (e : Event) → i < length es → e ≡ get_or es i e → next (state_of m).program (state_of m).config (event_view e) ≡ To (state_of n).config
     → (state_of n).program ≡ (state_of m).program → leads m (drop i es) ≡ leads n (drop (i + 1) es)
-past_in m n es i d within took same = ap (λ l. leads m l) (drop_more es i d within) ∙ past m n (get_or es i d) (drop (i + 1) es) took same
+past_in m n es i e within is took same =
+    ap (λ l. leads m l) (drop_more es i e within) ∙ ap (λ x. leads m (x ∷ drop (i + 1) es)) (sym is) ∙ past m n e (drop (i + 1) es) took same
 
 -- nothing comes behind an event that can't come
 from_nowhere : (p : Program) (es : List plain.Event) (c : Config) → run_on p NotNow es ≡ To c → ⊥
@@ -43,12 +44,12 @@ never_from p (Wrong k) [] never c is = never c is
 never_from p (Wrong k) (e ∷ es) never c is = absurd cc
 never_from p NotNow es never c is = from_nowhere p es c is
 
-pub never_past : (m : Machine) (es : List Event) (i : ℕ) (d : Event) → i < length es → ((b : Config) → next (state_of m).program (state_of m).config (event_view (get_or es i d)) ≡ To b → ⊥)
+pub never_past : (m : Machine) (es : List Event) (i : ℕ) (e : Event) → i < length es → e ≡ get_or es i e → ((b : Config) → next (state_of m).program (state_of m).config (event_view e) ≡ To b → ⊥)
     → (c : Config) → leads m (drop i es) ≡ To c → ⊥
 unfolding leads
-never_past m es i d within never c is =
-    never_from (state_of m).program (next (state_of m).program (state_of m).config (event_view (get_or es i d))) (map event_view (drop (i + 1) es)) never c
-    (sym (ap (λ l. leads m l) (drop_more es i d within)) ∙ is)
+never_past m es i e within at never c is =
+    never_from (state_of m).program (next (state_of m).program (state_of m).config (event_view e)) (map event_view (drop (i + 1) es)) never c
+    (sym (ap (λ l. leads m l) (drop_more es i e within) ∙ ap (λ x. leads m (x ∷ drop (i + 1) es)) (sym at)) ∙ is)
 
 -- where no event is left, they led to where the machine stands
 pub ends : (m n : Machine) (es : List Event) (i : ℕ) (view : List plain.Event) → map event_view es ≡ view → length es ≤ i → leads m es ≡ leads n (drop i es) → run_on (state_of m).program (To (state_of m).config) view ≡ To (state_of n).config

@@ -12,9 +12,9 @@ returns-in-Err-clause-end g c = λ words is.
     (λ why. (plain_line c.args.line.now, is, c.requires.command, c.read_argument.ensures.bad (c.in-Err.is ∙ ap Err why)))
 
 pub returns-in-Err-clause-worked : goal.returns-in-Err-clause-worked
-returns-in-Err-clause-worked g c = λ told words is.
+returns-in-Err-clause-worked g c = λ O told words is.
     let old = g.H.Host.world c.args.host.now in
     let s = scene words (g.S.Source.left c.args.source.now) old in
-    argument_worked s old c.in-Err.fault c.of_argument.result c.of_argument.ensures
+    argument_worked O s old c.in-Err.fault c.of_argument.result c.of_argument.ensures
     (λ why. (plain_line c.args.line.now, is, c.requires.command, c.read_argument.ensures.bad (c.in-Err.is ∙ ap Err why)))
     (λ i d left. g.met.H.Host.only_now c.args.host.now i d told left)

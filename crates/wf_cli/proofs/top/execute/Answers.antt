@@ -11,9 +11,9 @@ returns-in-Check-clause-end g c = λ words is.
     is (sym c.in-Check.ensures.command) c.check.ensures.says
 
 pub returns-in-Check-clause-worked : goal.returns-in-Check-clause-worked
-returns-in-Check-clause-worked g c = λ told words is.
+returns-in-Check-clause-worked g c = λ O told words is.
     let old = g.H.Host.world c.args.host.now in
-    checked_worked (scene words (g.S.Source.left c.args.source.now) old) (plain_line c.args.line.now) old (g.S.Source.faults c.args.source.now) (g.S.Source.faults c.check.new.source) c.check.result
+    checked_worked O (scene words (g.S.Source.left c.args.source.now) old) (plain_line c.args.line.now) old (g.S.Source.faults c.args.source.now) (g.S.Source.faults c.check.new.source) c.check.result
     is (sym c.in-Check.ensures.command) c.check.ensures.says (λ i d left. g.met.H.Host.only_now c.args.host.now i d told left)
 
 pub returns-in-Format-clause-end : goal.returns-in-Format-clause-end
@@ -23,16 +23,16 @@ returns-in-Format-clause-end g c = λ words is.
     is (sym c.in-Format.ensures.command) c.format.ensures.says
 
 pub returns-in-Format-clause-worked : goal.returns-in-Format-clause-worked
-returns-in-Format-clause-worked g c = λ told words is.
+returns-in-Format-clause-worked g c = λ O told words is.
     let old = g.H.Host.world c.args.host.now in
-    layout_worked (scene words (g.S.Source.left c.args.source.now) old) (plain_line c.args.line.now) old (g.S.Source.faults c.args.source.now) (g.S.Source.faults c.format.new.source) c.format.result
+    layout_worked O (scene words (g.S.Source.left c.args.source.now) old) (plain_line c.args.line.now) old (g.S.Source.faults c.args.source.now) (g.S.Source.faults c.format.new.source) c.format.result
     is (sym c.in-Format.ensures.command) c.format.ensures.says (λ i d left. g.met.H.Host.only_now c.args.host.now i d told left)
 
 pub returns-in-Resume-clause-end : goal.returns-in-Resume-clause-end
 returns-in-Resume-clause-end g c = λ words is. c.resume.ensures.end words (g.S.Source.left c.args.source.now) (g.S.Source.faults c.args.source.now) (g.S.Source.faults c.args.source.now) (plain_line c.args.line.now, is, sym c.in-Resume.ensures.command)
 
 pub returns-in-Resume-clause-worked : goal.returns-in-Resume-clause-worked
-returns-in-Resume-clause-worked g c = λ told words is. c.resume.ensures.worked told words (g.S.Source.left c.args.source.now) (plain_line c.args.line.now, is, sym c.in-Resume.ensures.command)
+returns-in-Resume-clause-worked g c = λ O told words is. c.resume.ensures.worked O told words (g.S.Source.left c.args.source.now) (plain_line c.args.line.now, is, sym c.in-Resume.ensures.command)
 
 pub returns-in-Help-clause-end : goal.returns-in-Help-clause-end
 returns-in-Help-clause-end g c = λ words is.
@@ -41,9 +41,9 @@ returns-in-Help-clause-end g c = λ words is.
     (help_reported (scene words (g.S.Source.left c.args.source.now) old) (plain_line c.args.line.now) c.help_text.result.now is (sym c.in-Help.ensures.command) c.help_text.ensures.text) (no_layout (scene words (g.S.Source.left c.args.source.now) old) (plain_line c.args.line.now) c.help_text.result.now is (ap lays_out (sym c.in-Help.ensures.command))) c.report.ensures
 
 pub returns-in-Help-clause-worked : goal.returns-in-Help-clause-worked
-returns-in-Help-clause-worked g c = λ told words is.
+returns-in-Help-clause-worked g c = λ O told words is.
     let old = g.H.Host.world c.args.host.now in
-    report_worked (scene words (g.S.Source.left c.args.source.now) old) old c.help_text.result.now c.report.result
+    report_worked O (scene words (g.S.Source.left c.args.source.now) old) old c.help_text.result.now c.report.result
     (help_reported (scene words (g.S.Source.left c.args.source.now) old) (plain_line c.args.line.now) c.help_text.result.now is (sym c.in-Help.ensures.command) c.help_text.ensures.text) c.report.ensures
     (λ i d left. g.met.H.Host.only_now c.args.host.now i d told left)
 
@@ -54,8 +54,8 @@ returns-in-Version-clause-end g c = λ words is.
     (version_reported (scene words (g.S.Source.left c.args.source.now) old) (plain_line c.args.line.now) c.version_text.result.now is (sym c.in-Version.ensures.command) c.version_text.ensures) (no_layout (scene words (g.S.Source.left c.args.source.now) old) (plain_line c.args.line.now) c.version_text.result.now is (ap lays_out (sym c.in-Version.ensures.command))) c.report-in-Version.ensures
 
 pub returns-in-Version-clause-worked : goal.returns-in-Version-clause-worked
-returns-in-Version-clause-worked g c = λ told words is.
+returns-in-Version-clause-worked g c = λ O told words is.
     let old = g.H.Host.world c.args.host.now in
-    report_worked (scene words (g.S.Source.left c.args.source.now) old) old c.version_text.result.now c.report-in-Version.result
+    report_worked O (scene words (g.S.Source.left c.args.source.now) old) old c.version_text.result.now c.report-in-Version.result
     (version_reported (scene words (g.S.Source.left c.args.source.now) old) (plain_line c.args.line.now) c.version_text.result.now is (sym c.in-Version.ensures.command) c.version_text.ensures) c.report-in-Version.ensures
     (λ i d left. g.met.H.Host.only_now c.args.host.now i d told left)

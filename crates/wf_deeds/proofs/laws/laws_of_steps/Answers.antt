@@ -48,6 +48,9 @@ returns-clause-chosen c = choosing.turn_is_chosen (record {
 pub returns-clause-reply : goal.returns-clause-reply
 returns-clause-reply c = sending.reply_goes_on c.laws_of_moments.ensures.history_stands_there c.laws_of_deeds.ensures.deed
 
+pub returns-clause-print : goal.returns-clause-print
+returns-clause-print c = sending.print_goes_on c.laws_of_deeds.ensures.deed
+
 pub returns-clause-end : goal.returns-clause-end
 returns-clause-end c = ends.end_is_kept c.laws_of_moments.ensures.history_stands_there c.laws_of_deeds.ensures.end
 

@@ -5,8 +5,9 @@ use Rattle.wf_engine.proofs.Language.{of_program}
 use Rattle.wf_engine.proofs.NewSessions.{stands_begun}
 use Rattle.wf_engine.proofs.StillOpen.{tells_still}
 use Rattle.wf_engine.proofs.engine.Engine.begin.Goals as goal
-use Rattle.wf_engine.specs.Engine.{StandsFor}
 use Rattle.wf_deeds.specs.Kept.{Run}
+use Rattle.wf_deeds.specs.Memory.{StandsFor}
+use Rattle.wf_deeds.specs.Steps.{fresh}
 use Rattle.wf_engine.specs.TheLanguage.{the_language}
 use Rattle.wf_events.specs.Records.{Started}
 use Rattle.wf_events.specs.Spelling.{record_bytes}
@@ -17,13 +18,13 @@ use Rattle.wf_model.specs.Config.{To}
 use Rattle.wf_model.specs.Run.{initial}
 
 pub returns-clause-stands : goal.returns-clause-stands
-returns-clause-stands g c = λ told.
+returns-clause-stands g c = λ O told handed.
     let mid = g.H.Host.world c.empty_history.new.host in
     let s = start_view c.args.start.now in
     let m = c.in_ok-machine.machine in
-    subst (λ J. StandsFor the_language Run (record { program = (state_of m).program; config = (state_of m).config; session = 1; reading = c.last_reading-reading.result }) J (Now c.args.start.now.reading ∷ []))
+    subst (λ J. StandsFor the_language O Run handed (fresh (state_of m).program (state_of m).config 1 c.last_reading-reading.result) J (Now c.args.start.now.reading ∷ []))
     (sym (c.in_ok-begin.ensures.added (tells_still (g.H.Host.world c.args.host.now) mid c.empty_history.ensures.tells told)))
-    (stands_begun the_language c.laws_of_rules.ensures.only_readings c.laws_of_histories.ensures.start c.laws_of_runs.ensures.runs_are_bounded (record_bytes (Started s)) s (state_of m).program (state_of m).config
+    (stands_begun the_language O handed c.laws_of_rules.ensures.only_readings c.laws_of_steps.ensures.fresh c.laws_of_histories.ensures.start c.laws_of_runs.ensures.runs_are_bounded (record_bytes (Started s)) s (state_of m).program (state_of m).config
     c.last_reading-reading.result (c.one_spelling.ensures.again (Started s) c.requires.spelled tt) (of_program c.each_source_is_one.ensures s.source (program_of c.args.program) c.requires.accepted ∙ ap (λ p. Some p) (sym c.in_ok-machine.ensures.program))
     (subst (λ p. initial p s ≡ To (state_of m).config) (sym c.in_ok-machine.ensures.program) c.in_ok-machine.ensures.initial) c.last_reading-reading.ensures)
 

@@ -104,7 +104,7 @@ returns-clause-holds g c = λ told.
     )
 
 pub returns-clause-opened : goal.returns-clause-opened
-returns-clause-opened g c = λ told.
+returns-clause-opened g c = λ O told.
     let w = g.H.Host.world c.args.host.now in
     let mid = g.H.Host.world c.open.new.host in
     let late = g.H.Host.world c.last_machine.new.host in
@@ -120,7 +120,7 @@ returns-clause-opened g c = λ told.
     let next = next_number the_language c.laws_of_moments.ensures.number_is_count c.laws_of_moments.ensures.session_is_numbered w.seen h m c.saturating_add.result c.unwrap_or-last.result.0 led (g.met.H.Host.fits c.args.host.now told)
     (ap (λ (p : ℕ × ℕ). p.0) (c.unwrap_or-last.ensures ∙ ap (λ o. unwrap_or o (0, 0)) c.last.ensures)) c.saturating_add.ensures in
     let laws = c.laws_of_moments.ensures in
-    opened the_language c.laws_of_rules.ensures.only_readings laws.stands_before laws.no_turns_behind laws.session_is_numbered w late new h m c.saturating_add.result c.in_ok-reading.reading led (c.session_reading.ensures.seen told_late ∙ seen) deeds next
+    opened the_language O c.laws_of_rules.ensures.only_readings c.laws_of_steps.ensures.fresh laws.stands_before laws.no_turns_behind laws.session_is_numbered w late new h m c.saturating_add.result c.in_ok-reading.reading led (c.session_reading.ensures.seen told_late ∙ seen) deeds next
     (c.in_ok-reading.ensures.clock told_late)
 
 pub returns-clause-session : goal.returns-clause-session

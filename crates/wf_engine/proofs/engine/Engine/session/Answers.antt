@@ -1,6 +1,6 @@
-use Rattle.std.proofs.Common.{inl, inr, ⊎_elim, refl, sym, ◌∙◌, ap, arith}
-use Rattle.wf_engine.proofs.Sessions.{at_first, ends, falls_none, goes_far, lent_active, moments_on, none_fell, not_both, passed_on, rose_later, told_on}
-use Rattle.wf_engine.proofs.Turning.{counts_on}
+use Rattle.std.proofs.Common.{inl, inr, ⊎_elim, refl, sym, ◌∙◌, ap}
+use Rattle.std.proofs.lemmas.List.{append-nil}
+use Rattle.wf_engine.proofs.Sessions.{at_first, busy_active, ends, falls_none, first_of, goes_far, has_ended, is_busy, is_settled_now, is_suspended, lent_active, moments_on, none_fell, not_both, passed_on, result_is_over, rose_later, told_on, turn_takes}
 use Rattle.wf_engine.proofs.engine.Engine.session.Goals as goal
 use Rattle.wf_engine.specs.Engine.{is_closed, memory}
 use Rattle.wf_engine.specs.TheLanguage.{the_language}
@@ -12,9 +12,12 @@ loop-self-init g c = record {
   not_closed = c.if-self.false;
   holds = λ told. c.requires.kept c.if-self.false told;
   number = refl;
-  so_far = λ told command D s.
-      at_first the_language c.args.self.now.history (g.H.Host.world c.args.host.now) command (memory c.args.self.now) D (λ i d left. g.met.H.Host.only_now c.args.host.now i d told left) (c.requires.kept c.if-self.false told).0 (c.args.self.now.ready c.if-self.false).begun s;
-  deeds = λ told. refl;
+  so_far = λ O told. (
+    refl,
+    λ command handed D s.
+        at_first c.laws_of_steps.ensures.moment the_language O c.args.self.now.history (g.H.Host.world c.args.host.now) command handed (memory c.args.self.now) D (λ i d left. g.met.H.Host.only_now c.args.host.now i d told left) (c.requires.kept c.if-self.false told).0
+        (c.args.self.now.ready c.if-self.false).begun s,
+  );
   tells = refl;
   counts = falls_none (g.H.Host.faults c.args.host.now);
   rest = inl (refl, refl);
@@ -26,14 +29,12 @@ turn-requires g c = record {
       c.loop-self.invariant.holds (told_on (g.H.Host.world c.loop-self.host) (g.H.Host.world c.args.host.now) (sym c.loop-self.invariant.tells) told);
 }
 
-pub only_moves-requires : goal.only_moves-requires
-only_moves-requires g c = (c.loop-self.self.ready c.loop-self.invariant.not_closed).whole
-
 pub loop-self-smaller : goal.loop-self-smaller
 loop-self-smaller g c =
-    let active = lent_active c.outcome.result (memory c.loop-self.self).config.outcome c.outcome.ensures.outcome c.in-Active.is in
-    let state = state_of c.loop-self.self.machine in
-    omega (arith, c.in_ok-turn.ensures.counted, c.in_ok-turn.ensures.most, counts_on c.laws_of_choice.ensures.nothing_is_chosen_when_quiet state c.loop-self.self.reading c.only_moves.ensures active)
+    let before = state_of c.loop-self.self.machine in
+    let behind = state_of c.turn.new.self.machine in
+    turn_takes before.program behind.program before.config behind.config c.loop-self.self.session c.turn.new.self.session c.loop-self.self.reading c.turn.new.self.reading
+    (is_busy c.loop-self.self c.is_settled.result c.loop-self.invariant.not_closed c.is_settled.ensures.settled c.loop-self-test.true) c.in_ok-turn.ensures.goes_on
 
 pub loop-self-preserved : goal.loop-self-preserved
 loop-self-preserved g c =
@@ -41,35 +42,38 @@ loop-self-preserved g c =
     let mid = g.H.Host.world c.loop-self.host in
     let new = g.H.Host.world c.turn.new.host in
     let so = c.loop-self.invariant in
-    let active = lent_active c.outcome.result (memory c.loop-self.self).config.outcome c.outcome.ensures.outcome c.in-Active.is in
+    let active = busy_active (memory c.loop-self.self).config (memory c.loop-self.self).reading (is_busy c.loop-self.self c.is_settled.result so.not_closed c.is_settled.ensures.settled c.loop-self-test.true) in
     record {
       not_closed = c.in_ok-turn.ensures.open;
       holds = λ told. c.turn.ensures.holds c.in_ok-turn.ensures.open (told_on w mid so.tells told);
       number = c.turn.ensures.session ∙ so.number;
-      so_far = λ told command D s.
+      so_far = λ O told.
           let told1 = told_on w mid so.tells told in
-          let far = so.so_far told command D s in
-          goes_far the_language c.turn.new.self.history command (memory c.args.self.now) (memory c.loop-self.self) (memory c.turn.new.self) w mid new D far so.number
-          (c.turn.ensures.any_moment so.not_closed told1 command D far.stands) (λ t i le now. g.met.H.Host.counts_now c.turn.new.host t i (told_on mid new c.turn.ensures.tells told1) le now)
-          (g.met.H.Host.reads_back c.turn.new.host (told_on mid new c.turn.ensures.tells told1)) (c.in_ok-turn.ensures.stands told1 command D far.stands) (c.turn.ensures.deeds told1)
-          (c.turn.ensures.holds c.in_ok-turn.ensures.open told1).0 (c.turn.new.self.ready c.in_ok-turn.ensures.open).begun;
-      deeds = λ told. c.turn.ensures.deeds (told_on w mid so.tells told) ∙ so.deeds told;
+          let adds = c.in_ok-turn.ensures.adds O told1 in (
+            adds.went.deeds ∙ append-nil mid.deeds ∙ (so.so_far O told).0,
+            λ command handed D s.
+                let far = (so.so_far O told).1 command handed D s in
+                goes_far the_language O command handed (memory c.args.self.now) (memory c.loop-self.self) w mid D far so.number c.turn.new.self.history (memory c.turn.new.self) new
+                (c.turn.ensures.any_moment O so.not_closed told1 command handed D far.stands) (λ t i le now. g.met.H.Host.counts_now c.turn.new.host t i (told_on mid new c.turn.ensures.tells told1) le now)
+                (g.met.H.Host.reads_back c.turn.new.host (told_on mid new c.turn.ensures.tells told1)) (adds.went.stands command handed D far.stands) adds.went.deeds
+                (c.turn.ensures.holds c.in_ok-turn.ensures.open told1).0 (c.turn.new.self.ready c.in_ok-turn.ensures.open).begun,
+          );
       tells = c.turn.ensures.tells ∙ so.tells;
       counts = none_fell (g.H.Host.faults c.args.host.now) (g.H.Host.faults c.loop-self.host) (g.H.Host.faults c.turn.new.host) so.counts c.turn.ensures.counts;
       rest = ⊎_elim (λ same. inr (ap (λ d. d.outcome) (sym same.1) ∙ active)) (λ was. inr was) so.rest;
     }
 
 pub returns-in_err-turn-clause-any_moment : goal.returns-in_err-turn-clause-any_moment
-returns-in_err-turn-clause-any_moment g c = λ open_now told command D s.
+returns-in_err-turn-clause-any_moment g c = λ O open_now told command handed D s.
     let w = g.H.Host.world c.args.host.now in
     let mid = g.H.Host.world c.loop-self.host in
     let so = c.loop-self.invariant in
-    let far = so.so_far told command D s in
-    moments_on the_language command (memory c.args.self.now) (memory c.loop-self.self) w mid (g.H.Host.world c.turn.new.host) D far so.number (c.turn.ensures.any_moment so.not_closed (told_on w mid so.tells told) command D far.stands)
+    let far = (so.so_far O told).1 command handed D s in
+    moments_on the_language O command handed (memory c.args.self.now) (memory c.loop-self.self) w mid D far so.number (g.H.Host.world c.turn.new.host) (c.turn.ensures.any_moment O so.not_closed (told_on w mid so.tells told) command handed D far.stands)
 
 pub returns-in_err-turn-clause-finished : goal.returns-in_err-turn-clause-finished
 returns-in_err-turn-clause-finished g c = λ told ended.
-    let active = lent_active c.outcome.result (memory c.loop-self.self).config.outcome c.outcome.ensures.outcome c.in-Active.is in
+    let active = busy_active (memory c.loop-self.self).config (memory c.loop-self.self).reading (is_busy c.loop-self.self c.is_settled.result c.loop-self.invariant.not_closed c.is_settled.ensures.settled c.loop-self-test.true) in
     absurd (ended (⊎_elim (λ same. ap (λ d. d.outcome) (sym same.1) ∙ active) (λ was. was) c.loop-self.invariant.rest))
 
 pub returns-in_err-turn-clause-session : goal.returns-in_err-turn-clause-session
@@ -89,33 +93,57 @@ returns-in_err-turn-clause-closed g c = (
 pub returns-in_err-turn-clause-idle : goal.returns-in_err-turn-clause-idle
 returns-in_err-turn-clause-idle g c = λ is. absurd (not_both (is_closed c.loop-self.self) c.loop-self.invariant.not_closed (c.in_err-turn.ensures.closed.0 (passed_on c.from_residual.result c.in_err-turn.field-0.0 fault.Closed c.from_residual.ensures is)))
 
-pub returns-in_err-turn-clause-deeds : goal.returns-in_err-turn-clause-deeds
-returns-in_err-turn-clause-deeds g c = λ told.
-    c.turn.ensures.deeds (told_on (g.H.Host.world c.args.host.now) (g.H.Host.world c.loop-self.host) c.loop-self.invariant.tells told) ∙ c.loop-self.invariant.deeds told
-
 pub returns-in_err-turn-clause-tells : goal.returns-in_err-turn-clause-tells
 returns-in_err-turn-clause-tells g c = c.turn.ensures.tells ∙ c.loop-self.invariant.tells
 
 pub returns-in_err-turn-clause-counts : goal.returns-in_err-turn-clause-counts
 returns-in_err-turn-clause-counts g c = none_fell (g.H.Host.faults c.args.host.now) (g.H.Host.faults c.loop-self.host) (g.H.Host.faults c.turn.new.host) c.loop-self.invariant.counts c.turn.ensures.counts
 
-pub returns : goal.returns
-returns g c =
+-- nothing can move, and there is no outcome
+pub returns-in-Active : goal.returns-in-Active
+returns-in-Active g c =
     let so = c.loop-self.invariant in
+    let active = lent_active c.outcome.result (memory c.loop-self.self).config.outcome c.outcome.ensures.outcome c.in-Active.is in
+    let settled = is_settled_now c.loop-self.self c.is_settled.result so.not_closed c.is_settled.ensures.settled c.loop-self-test.false in
     record {
       holds = λ open_now told. so.holds told;
-      stands = λ told command D s. (so.so_far told command D s).stands;
-      ended = ends c.outcome.result (memory c.loop-self.self).config.outcome c.outcome.ensures.outcome (λ is. c.in_default.not-Active is);
-      any_moment = λ open_now told command D s. (so.so_far told command D s).begun.moments;
-      finished = λ told ended. ⊎_elim (λ same. same.0) (λ was. absurd (ended was)) so.rest;
+      ended = λ O told. tt;
+      suspended = λ O told _. is_suspended O (memory c.args.self.now) (memory c.loop-self.self) (g.H.Host.world c.args.host.now) (g.H.Host.world c.loop-self.host) (so.so_far O told) settled active;
+      result = tt;
+      any_moment = λ O open_now told command handed D s. ((so.so_far O told).1 command handed D s).begun.moments;
+      finished = λ told ended. first_of so.rest (λ was. ended was);
+      session = so.number;
+      disk_fault = λ is. absurd (cc is);
+      closed = (λ is. absurd (cc is), λ shut. absurd (not_both (is_closed c.args.self.now) c.if-self.false shut));
+      closes = inl refl;
+      idle = λ is. absurd (cc is);
+      «open» = tt;
+      still_open = λ is. so.not_closed;
+      only = inr (inl refl);
+      tells = so.tells;
+      counts = so.counts;
+    }
+
+pub returns-in_default : goal.returns-in_default
+returns-in_default g c =
+    let so = c.loop-self.invariant in
+    let result = ends c.outcome.result (memory c.loop-self.self).config.outcome c.outcome.ensures.outcome (λ is. c.in_default.not-Active is) in
+    let settled = is_settled_now c.loop-self.self c.is_settled.result so.not_closed c.is_settled.ensures.settled c.loop-self-test.false in
+    record {
+      holds = λ open_now told. so.holds told;
+      ended = λ O told. has_ended O (memory c.args.self.now) (memory c.loop-self.self) (g.H.Host.world c.args.host.now) (g.H.Host.world c.loop-self.host) (so.so_far O told) settled (result_is_over (memory c.loop-self.self).config.outcome result);
+      suspended = λ O told is. absurd (cc is);
+      result = result;
+      any_moment = λ O open_now told command handed D s. ((so.so_far O told).1 command handed D s).begun.moments;
+      finished = λ told ended. first_of so.rest (λ was. ended was);
       session = so.number;
       disk_fault = λ is. absurd (cc is);
       closed = (λ is. absurd (cc is), λ shut. absurd (not_both (is_closed c.args.self.now) c.if-self.false shut));
       closes = tt;
       idle = λ is. absurd (cc is);
       «open» = so.not_closed;
+      still_open = λ is. absurd (cc is);
       only = tt;
-      deeds = λ told. so.deeds told;
       tells = so.tells;
       counts = so.counts;
     }

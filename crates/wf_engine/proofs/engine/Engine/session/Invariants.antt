@@ -1,5 +1,5 @@
-use Rattle.std.proofs.Common.{◌≡◌, ◌⊎◌, ◌-◌}
-use Rattle.wf_engine.proofs.Sessions.{Going}
+use Rattle.std.proofs.Common.{◌≡◌, ◌⊎◌}
+use Rattle.wf_engine.proofs.Sessions.{Going, left}
 use Rattle.wf_engine.proofs.engine.Engine.session.Given as goal
 use Rattle.wf_engine.specs.Engine.{memory}
 use Rattle.wf_model.specs.Config.{Active}
@@ -11,4 +11,4 @@ invariant-loop-self g l =
     (((l.host ≡ l.fn.host) × ((memory l.self).config ≡ (memory l.fn.self).config)) ⊎ ((memory l.fn.self).config.outcome ≡ Active))
 
 abbrev pub decreases-loop-self : goal.decreases-loop-self
-decreases-loop-self g l = 100000 - (memory l.self).config.moves
+decreases-loop-self g l = left (memory l.self)
