@@ -10,13 +10,13 @@
 //!   stands, the variable, and the places below it), of a text of a source; or its fault.
 //! - `has_expressions` [source ..]: whether a text of a source has expressions.
 //! - `values`, `texts` [source, names, now, made]: the value of an expression, of a text of a source.
-//! - `facts` [source, names, now, pairs, id]: the same, with the environment.
+//! - `facts` [source, names, now, pairs, id]: the same, with the environment and the id.
 //! - `templates` [value, names]: the value of a value of a source.
 //! - `evaluations`, `fillings` [tree, names, now, made]: the value of the tree of an expression, of a template.
 //!
 //! `now` is the clock's reading in milliseconds, `made` a list of further names (see `names.rt`); both may be absent.
-//! Values are told as JSON, those over 100,000 in size by it; errors by their tag. `not built` is told of
-//! what calls a function of the library that isn't built yet. Trees are told in prefix form (see `trees.rt`).
+//! Values are told as JSON, those over 100,000 in size by it; errors by their tag. Trees are told in prefix form (see
+//! `trees.rt`).
 #![tactic(auto)]
 
 mod answers;

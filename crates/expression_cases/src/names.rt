@@ -1,22 +1,27 @@
-// Visible names with their values.
+// Visible names with their values, and the environment.
 //
 // Beside those that stand in a case as a map there may be a list of further ones, each `[name, kind, ..]`: `bytes` and
 // their hex; `text` and its pieces; `nested` and how many lists stand in each other, with null in the innermost.
+ghost use Rattle.std.specs.Prelude.{◌≡◌, option_map};
+ghost use Rattle.wf_ast.specs.Apply.{env_in};
+
 use std::alloc::Global;
 use wf_cases::{Case, CaseFault, bytes_of, text_of};
 use wf_eval::Look;
-use wf_value::{Bytes, List, Map, Text, Value};
+use wf_value::{Bytes, List, Map, Pairs, Text, Value};
 
-/// Names with their values.
+/// Names with their values, the pairs of the environment, and the id.
 #[derive(Drop)]
 pub(crate) struct Names {
     map: Map,
+    pairs: Pairs,
+    id: Text,
 }
 
 impl Look for Names {
     ghost use Rattle.std.specs.Prelude.{[]};
 
-    ghost sight = { λ n. record { names = n.map; env = []; id = []; base = [] } };
+    ghost sight = { λ n. record { names = n.map; env = n.pairs; id = n.id; base = [] } };
 
     fn look(&self, name: &str) -> Option<&Value> {
         self.map.get(name)
@@ -24,20 +29,62 @@ impl Look for Names {
 
     fn env(&self, key: &str) -> Option<&str> {
         if key == "GOOGLE_CLOUD_WORKFLOW_EXECUTION_ID" {
-            Some("")
-        } else {
-            None
+            return Some(self.id.as_str());
         }
+        find(self.pairs.items(), key)
     }
 }
 
-/// The names of a case: its second item, and its fourth where that has further ones.
+// The value of a key, in the first pair that has it.
+fn find<'a>(pairs: &'a [(Text, Text)], key: &str) -> Option<&'a str>
+    ensures { option_map (λ t. t.now) result ≡ env_in pairs.now key.now }
+{
+    for (name, value) in pairs {
+        if name.as_str() == key {
+            return Some(value.as_str());
+        }
+    }
+    None
+}
+
+/// The names of a case: its second item, and its fourth where that has further ones. A case of facts has the pairs of
+/// the environment and the id there.
 pub(crate) fn names_of(alloc: Global, case: &Case<'_>) -> Result<Names, CaseFault> {
     let mut map = copied(alloc, case.item(1)?)?;
-    if case.table != "facts" && case.items().len() > 3 {
+    if case.table == "facts" {
+        let pairs = pairs_of(alloc, case.item(3)?)?;
+        let id = Text::new(alloc, case.text(4)?)?;
+        return Ok(Names { map, pairs, id });
+    }
+    if case.items().len() > 3 {
         add_made(alloc, &mut map, case.item(3)?)?;
     }
-    Ok(Names { map })
+    let pairs = Pairs::new(alloc);
+    let id = Text::new(alloc, "")?;
+    Ok(Names { map, pairs, id })
+}
+
+/// A list of pairs of texts.
+fn pairs_of(alloc: Global, told: &Value) -> Result<Pairs, CaseFault> {
+    let Value::List(told) = told else {
+        return Err(CaseFault::NoCase);
+    };
+    let mut pairs = Pairs::new(alloc);
+    for pair in told.items() {
+        let (key, value) = pair_of(pair)?;
+        pairs.push(key, value)?;
+    }
+    Ok(pairs)
+}
+
+fn pair_of(told: &Value) -> Result<(Text, Text), CaseFault> {
+    let Value::List(told) = told else {
+        return Err(CaseFault::NoCase);
+    };
+    match told.items() {
+        [Value::Text(key), Value::Text(value)] => Ok((key.copy()?, value.copy()?)),
+        _ => Err(CaseFault::NoCase),
+    }
 }
 
 /// A map with the pairs of this one.

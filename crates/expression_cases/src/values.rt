@@ -5,7 +5,7 @@ use crate::trees::{DEEPEST, expression, template};
 use std::alloc::Global;
 use wf_ast::{Expr, NamedTemplate, NamedTemplates, Template, Templates};
 use wf_cases::{Case, CaseFault};
-use wf_eval::{are_calls_built, eval, fill, is_template_built};
+use wf_eval::{eval, fill};
 use wf_expr::parse;
 use wf_postfix::{Postfix, compile};
 use wf_template::parse_template;
@@ -30,9 +30,6 @@ fn evaluated(alloc: Global, case: &Case<'_>, e: &Expr) -> Result<String, CaseFau
 
 // What a compiled expression comes to.
 fn run(alloc: Global, case: &Case<'_>, code: &Postfix) -> Result<String, CaseFault> {
-    if !are_calls_built(code) {
-        return Ok(String::from_str(alloc, "not built")?);
-    }
     let now = reading(case)?;
     let names = names_of(alloc, case)?;
     outcome(alloc, eval(alloc, code, &names, now))
@@ -40,9 +37,6 @@ fn run(alloc: Global, case: &Case<'_>, code: &Postfix) -> Result<String, CaseFau
 
 // What a template comes to.
 fn filled(alloc: Global, case: &Case<'_>, t: &Template) -> Result<String, CaseFault> {
-    if !is_template_built(t) {
-        return Ok(String::from_str(alloc, "not built")?);
-    }
     let now = reading(case)?;
     let names = names_of(alloc, case)?;
     outcome(alloc, fill(alloc, t, &names, now))

@@ -1,7 +1,7 @@
 // The functions without a point in their name. No crate has them as calls: an expression that calls one is evaluated.
 use std::alloc::Global;
 use wf_cases::CaseFault;
-use wf_eval::{Look, are_calls_built, eval};
+use wf_eval::{Look, eval};
 use wf_expr::parse;
 use wf_postfix::compile;
 use wf_value::{Map, Raise, Text, Value};
@@ -46,9 +46,6 @@ pub(crate) fn called(
         return Err(CaseFault::NoCase);
     };
     let code = compile(alloc, &expression)?;
-    if !are_calls_built(&code) {
-        return Err(CaseFault::NoCase);
-    }
     let names = named(alloc, args)?;
     Ok(eval(alloc, &code, &names, 0))
 }

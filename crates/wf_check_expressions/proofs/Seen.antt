@@ -1,4 +1,4 @@
--- What is read, and which functions are called, of calls as the code holds them.
+-- What is read of calls as the code holds them.
 use Rattle.std.proofs.Common.{◌≡◌, ◌&&◌, List, sym, ◌∙◌, ap}
 use Rattle.std.proofs.Common as seq
 use Rattle.std.specs.List.{list_all}
@@ -12,12 +12,7 @@ use Rattle.wf_ast.specs.declared.expr.Expr.{Expr}
 use Rattle.wf_ast.specs.declared.expr.Expr.TheViews as e
 use Rattle.wf_ast.specs.declared.expr.Exprs.{Exprs}
 use Rattle.wf_ast.specs.declared.expr.Func.{Func}
-use Rattle.wf_check_expressions.specs.Forms.{are_exprs_built, is_built, is_expr_built}
 use Rattle.wf_value.specs.Pairs.{Text}
-
--- a call's functions
-pub call_built : (x : Expr) (f : Func) (es : Exprs) (xs : List Expr) → x ≡ e.Call f es → xs ≡ expr_list es → (is_built f && are_exprs_built (exprs (seq.map expr_view xs))) ≡ is_expr_built (expr_view x)
-call_built x f es xs is listed = ap (λ l. is_built f && are_exprs_built (exprs (seq.map expr_view l))) listed ∙ sym (ap (λ y. is_expr_built (expr_view y)) is ∙ ap is_expr_built (view_call f es))
 
 module _ (ls : List Names) where
   -- each of these is visible

@@ -1,7 +1,6 @@
 // The forms that aren't built yet: one line a form, so that it goes when its form comes.
 ghost use Rattle.std.specs.Prelude.{◌≡◌, map, option_map};
 ghost use Rattle.wf_ast.specs.Func.{func_named};
-ghost use Rattle.wf_ast.specs.Nodes.{part_body};
 ghost use Rattle.wf_ast.specs.View.{body_view, flow_view};
 ghost use Rattle.wf_diagnostics.specs.Answers.{Tells};
 ghost use Rattle.wf_check_expressions.specs.Forms as forms;
@@ -9,21 +8,19 @@ ghost use Rattle.wf_diagnostics.specs.Parts.{part_view};
 ghost use Rattle.wf_diagnostics.specs.Said.{as_said};
 ghost use Rattle.wf_diagnostics.specs.declared.kind.CheckKind.TheVariants as kinds;
 
-use crate::built::is_built;
-use crate::expressions::unbuilt;
 use std::alloc::Global;
 use wf_ast::{Body, Flow};
 use wf_check_calls::flow_named;
 use wf_diagnostics::{CheckKind, Part, Stop, speak_at};
 use wf_library::function_named;
 
-// The key of a call that names no workflow, where its function isn't built.
+// The key of a call that names no workflow and no function that expressions may call.
 fn uncalled(name: &str) -> Option<&'static str>
     ensures { option_map (λ k. k.now) result ≡ forms.uncalled (func_named name.now) }
 {
     match function_named(name) {
-        Some(function) if is_built(function.func) => None,
-        _ => Some("call"),
+        Some(_) => None,
+        None => Some("call"),
     }
 }
 
@@ -57,10 +54,10 @@ fn form_of(alloc: Global, body: &Body, flows: &[Flow]) -> Result<(), Stop>
     }
 }
 
-// Such a body.
-fn form(alloc: Global, part: &Part, flows: &[Flow]) -> Result<(), Stop>
+/// A form that isn't built yet is used.
+pub fn not_yet(alloc: Global, part: &Part, flows: &[Flow]) -> Result<(), Stop>
     ensures { Tells result (λ path. as_said kinds.NotYet
-        (forms.form (map flow_view flows.now) (part_body (part_view part.now)) path)) }
+        (forms.not_yet (map flow_view flows.now) (part_view part.now) path)) }
 {
     match part {
         Part::Flow(_) => Ok(()),
@@ -70,13 +67,4 @@ fn form(alloc: Global, part: &Part, flows: &[Flow]) -> Result<(), Stop>
         Part::Entry(_) => Ok(()),
         Part::Branch(_, _) => Ok(()),
     }
-}
-
-/// A form that isn't built yet is used.
-pub fn not_yet(alloc: Global, part: &Part, flows: &[Flow]) -> Result<(), Stop>
-    ensures { Tells result (λ path. as_said kinds.NotYet
-        (forms.not_yet (map flow_view flows.now) (part_view part.now) path)) }
-{
-    form(alloc, part, flows)?;
-    unbuilt(alloc, part)
 }

@@ -1,7 +1,6 @@
 //! The rule of names that are read, and the table of the forms that aren't built yet.
 #![tactic(auto)]
 
-mod built;
 mod expressions;
 mod forms;
 mod reads;

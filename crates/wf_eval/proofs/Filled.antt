@@ -1,7 +1,6 @@
 -- Lists and maps that are filled member by member.
 use Rattle.std.proofs.Common.{◌≡◌, ℕ, ◌+◌, ◌<◌, ◌≤◌, List, [], ◌∷◌, ◌++◌, Bool, true, Result, Ok, Err, refl, sym, ap, ◌∙◌, subst, length, get_or, drop, suc, add-one, drop-cons, max, zero, arith}
 use Rattle.std.proofs.Common as seq
-use Rattle.std.proofs.lemmas.Bool.{and_parts}
 use Rattle.std.proofs.lemmas.List.{drop_all}
 use Rattle.wf_ast.specs.Apply.{View}
 use Rattle.wf_ast.specs.Eval.{fill, fill_all, fill_fields}
@@ -23,7 +22,6 @@ use Rattle.wf_value.specs.declared.errors.Raise.{Raise}
 use Rattle.wf_value.specs.declared.errors.Raise.TheVariants.{Error, OutOfMemory}
 use Rattle.wf_value.specs.declared.errors.Tag.{Tag}
 use Rattle.wf_eval.specs.Answers.{Answers, Gives, GivesText, kept_list, kept_map, put_all}
-use Rattle.wf_eval.specs.Built.{IsTemplateBuilt, is_template_built, are_templates_built, are_fields_built}
 
 -- items behind some others
 abbrev pub onto : List Data → Items → Items
@@ -68,12 +66,6 @@ next xs i x h is = drop-cons xs i x h ∙ ap (λ y. y ∷ drop (suc i) xs) (sym 
 list_is : (x : Template) (ts : Templates) (xs : List Template) → x ≡ template.List ts → xs ≡ template_list ts → template_view x ≡ t.Listed (templates (seq.map template_view xs))
 list_is x ts xs is seen = ap template_view is ∙ view_list ts ∙ ap (λ l. t.Listed (templates (seq.map template_view l))) (sym seen)
 
-pub list_told : (x : Template) (ts : Templates) (xs : List Template) → x ≡ template.List ts → xs ≡ template_list ts → are_templates_built (templates (seq.map template_view xs)) ≡ is_template_built (template_view x)
-list_told x ts xs is seen = sym (ap is_template_built (list_is x ts xs is seen))
-
-pub list_built : (x : Template) (ts : Templates) (xs : List Template) → x ≡ template.List ts → xs ≡ template_list ts → IsTemplateBuilt (template_view x) → are_templates_built (templates (seq.map template_view xs)) ≡ true
-list_built x ts xs is seen h = list_told x ts xs is seen ∙ h
-
 pub list_filled : (s : View) (r : Result Value Raise) (made : Result (List Data) Raise) (x : Template) (ts : Templates) (xs : List Template) → x ≡ template.List ts → xs ≡ template_list ts → Answers items_of made (fill_all (templates (seq.map template_view xs)) s) → ((d : Answer Items) → Answers items_of made d → Gives r (kept_list d)) → Gives r (fill (template_view x) s)
 list_filled s r made x ts xs is seen h keeps = subst (λ (y : t.Template). Gives r (fill y s)) (sym (list_is x ts xs is seen)) (keeps _ h)
 
@@ -99,27 +91,12 @@ module _ (s : View) (xs : List Template) where
     pub list_stops : (e : Raise) → Answers plain (Err e) (fill (template_view x) s) → all_of xs ≡ (all_of (drop i xs) >>= λ vs. Ok (onto old vs)) → Answers items_of (Err e) (all_of xs)
     list_stops e h seen = stops items_of plain e (fill (template_view x) s) (λ v. all_of (drop (i + 1) xs) >>= λ vs. Ok (item v vs)) (λ vs. onto old vs) (all_of xs) h (list_next seen)
 
-    list_parts : are_templates_built (templates (seq.map template_view (drop i xs))) ≡ true → (is_template_built (template_view x) ≡ true) × (are_templates_built (templates (seq.map template_view (drop (i + 1) xs))) ≡ true)
-    list_parts built = and_parts (is_template_built (template_view x)) (are_templates_built (templates (seq.map template_view (drop (i + 1) xs)))) (sym (ap (λ l. are_templates_built (templates (seq.map template_view l))) (next xs i x within is)) ∙ built)
-
-    pub list_next_built : are_templates_built (templates (seq.map template_view (drop i xs))) ≡ true → are_templates_built (templates (seq.map template_view (drop (i + 1) xs))) ≡ true
-    list_next_built built = (list_parts built).1
-
-    pub list_item_built : are_templates_built (templates (seq.map template_view (drop i xs))) ≡ true → IsTemplateBuilt (template_view x)
-    list_item_built built = (list_parts built).0
-
   pub list_done : (i : ℕ) (l : List Data) → length xs ≤ i → all_of xs ≡ (all_of (drop i xs) >>= λ vs. Ok (onto l vs)) → Answers items_of (Ok l) (all_of xs)
   list_done i l past seen = gives items_of l (all_of xs) (seen ∙ ap (λ r. all_of r >>= λ vs. Ok (onto l vs)) (drop_all i xs past) ∙ ap Ok (onto_none l))
 
 -- ## A map
 map_is : (x : Template) (ns : NamedTemplates) (xs : List NamedTemplate) → x ≡ Map ns → xs ≡ field_list ns → template_view x ≡ t.Mapped (fields (seq.map field_view xs))
 map_is x ns xs is seen = ap template_view is ∙ view_map ns ∙ ap (λ l. t.Mapped (fields (seq.map field_view l))) (sym seen)
-
-pub map_told : (x : Template) (ns : NamedTemplates) (xs : List NamedTemplate) → x ≡ Map ns → xs ≡ field_list ns → are_fields_built (fields (seq.map field_view xs)) ≡ is_template_built (template_view x)
-map_told x ns xs is seen = sym (ap is_template_built (map_is x ns xs is seen))
-
-pub map_built : (x : Template) (ns : NamedTemplates) (xs : List NamedTemplate) → x ≡ Map ns → xs ≡ field_list ns → IsTemplateBuilt (template_view x) → are_fields_built (fields (seq.map field_view xs)) ≡ true
-map_built x ns xs is seen h = map_told x ns xs is seen ∙ h
 
 pub map_filled : {A : Type 0} (s : View) (r : Result Value Raise) (f : A → Pairs) (made : Result A Raise) (x : Template) (ns : NamedTemplates) (xs : List NamedTemplate) → x ≡ Map ns → xs ≡ field_list ns → Answers f made (fill_fields (fields (seq.map field_view xs)) s) → ((d : Answer Pairs) → Answers f made d → Gives r (kept_map d)) → Gives r (fill (template_view x) s)
 map_filled s r f made x ns xs is seen h keeps = subst (λ (y : t.Template). Gives r (fill y s)) (sym (map_is x ns xs is seen)) (keeps _ h)
@@ -143,15 +120,6 @@ module _ (s : View) (xs : List NamedTemplate) where
         map_next seen ∙ ap (λ m. (m >>= λ d. fields_of (drop (i + 1) xs) >>= λ ps. Ok (put x.name d ps)) >>= λ ps. Ok (put_all old ps)) (answered plain v (fill (template_view x.template) s) h)
         ∙ ap (λ name. (fields_of (drop (i + 1) xs) >>= λ ps. Ok (put name (plain v) ps)) >>= λ ps. Ok (put_all old ps)) (sym named)
         ∙ pair_put (fields_of (drop (i + 1) xs)) k v old new n
-
-    map_parts : are_fields_built (fields (seq.map field_view (drop i xs))) ≡ true → (is_template_built (template_view x.template) ≡ true) × (are_fields_built (fields (seq.map field_view (drop (i + 1) xs))) ≡ true)
-    map_parts built = and_parts (is_template_built (template_view x.template)) (are_fields_built (fields (seq.map field_view (drop (i + 1) xs)))) (sym (ap (λ l. are_fields_built (fields (seq.map field_view l))) (next xs i x within is)) ∙ built)
-
-    pub map_next_built : are_fields_built (fields (seq.map field_view (drop i xs))) ≡ true → are_fields_built (fields (seq.map field_view (drop (i + 1) xs))) ≡ true
-    map_next_built built = (map_parts built).1
-
-    pub map_item_built : are_fields_built (fields (seq.map field_view (drop i xs))) ≡ true → IsTemplateBuilt (template_view x.template)
-    map_item_built built = (map_parts built).0
 
 -- ## The map of some pairs
 pub popped : (ps qs : List (Text × Value)) (k : Text) (v : Value) (made after all : Pairs) → ps ≡ qs ++ (k, v) ∷ [] → after ≡ put k (plain v) made → put_all ps made ≡ all → put_all qs after ≡ all

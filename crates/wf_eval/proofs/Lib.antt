@@ -4,4 +4,4 @@ pub mod Entries
 pub mod Digits
 pub mod Arguments
 pub mod Filled
-pub mod Calls
+pub mod Library

@@ -1,4 +1,3 @@
 pub mod Sight
 pub mod Answers
-pub mod Built
 pub mod Steps

@@ -1,6 +1,5 @@
 //! The values of templates.
-ghost use Rattle.std.specs.Prelude.{◌≡◌, true, map, Ok};
-ghost use Rattle.std.specs.List.{list_all};
+ghost use Rattle.std.specs.Prelude.{map, Ok};
 ghost use Rattle.wf_value.specs.Data.{Items, Pairs, items_of, pairs_of, no_pairs};
 ghost use Rattle.wf_value.specs.Errors.{Answer};
 ghost use Rattle.wf_value.specs.Pairs.{put};
@@ -9,7 +8,6 @@ ghost use Rattle.wf_ast.specs.Eval as meaning;
 ghost use Rattle.wf_ast.specs.Tree.{templates, fields};
 ghost use Rattle.wf_ast.specs.View.{expr_view, field_view, part_view, template_view};
 ghost use Rattle.wf_eval.specs.Answers.{Answers, Gives, GivesText, kept_list, kept_map, put_all};
-ghost use Rattle.wf_eval.specs.Built.{IsTemplateBuilt, are_fields_built, are_templates_built, is_expr_built, is_part_built};
 ghost use Rattle.wf_eval.specs.Sight.{seen};
 
 use crate::answers::{copied, keep, owned};
@@ -22,10 +20,9 @@ use wf_postfix::compile;
 use wf_value::{List, Map, Raise, Text, Value};
 
 /// The value of a template, or its first error: members of lists in their order, members of maps
-/// in the order of the keys. The template calls only functions that are built.
+/// in the order of the keys.
 #[cycle(fill)]
 pub fn fill<K: Look>(alloc: Global, t: &Template, look: &K, now: u64) -> Result<Value, Raise>
-    requires { IsTemplateBuilt (template_view t.now) }
     ensures { Gives result (meaning.fill (template_view t.now) (seen (K.sight look.now) now)) }
 {
     match t {
@@ -39,7 +36,6 @@ pub fn fill<K: Look>(alloc: Global, t: &Template, look: &K, now: u64) -> Result<
 
 // The value of an expression.
 fn evaluate<K: Look>(alloc: Global, e: &Expr, look: &K, now: u64) -> Result<Value, Raise>
-    requires { is_expr_built (expr_view e.now) ≡ true }
     ensures { Gives result (meaning.eval (expr_view e.now) (seen (K.sight look.now) now)) }
 {
     match compile(alloc, e) {
@@ -50,7 +46,6 @@ fn evaluate<K: Look>(alloc: Global, e: &Expr, look: &K, now: u64) -> Result<Valu
 
 // The texts of the parts in a row.
 fn joined<K: Look>(alloc: Global, parts: &[Part], look: &K, now: u64) -> Result<Text, Raise>
-    requires { list_all is_part_built (map part_view parts.now) ≡ true }
     ensures { GivesText result (meaning.joined (seen (K.sight look.now) now)
         (map part_view parts.now)) }
 {
@@ -66,7 +61,6 @@ fn joined<K: Look>(alloc: Global, parts: &[Part], look: &K, now: u64) -> Result<
 
 // The text of a part.
 fn part_text<K: Look>(alloc: Global, part: &Part, look: &K, now: u64) -> Result<Text, Raise>
-    requires { is_part_built (part_view part.now) ≡ true }
     ensures { GivesText result (meaning.part_text (seen (K.sight look.now) now)
         (part_view part.now)) }
 {
@@ -82,7 +76,6 @@ fn part_text<K: Look>(alloc: Global, part: &Part, look: &K, now: u64) -> Result<
 // The values of the members of a list.
 #[cycle(fill)]
 fn fill_all<K: Look>(alloc: Global, ts: &[Template], look: &K, now: u64) -> Result<List, Raise>
-    requires { are_templates_built (templates (map template_view ts.now)) ≡ true }
     ensures { Answers (λ l. items_of l) result
         (meaning.fill_all (templates (map template_view ts.now)) (seen (K.sight look.now) now)) }
 {
@@ -106,7 +99,6 @@ fn fill_fields<K: Look>(
     look: &K,
     now: u64,
 ) -> Result<Vec<(Text, Value)>, Raise>
-    requires { are_fields_built (fields (map field_view fs.now)) ≡ true }
     ensures { Answers (λ ps. put_all ps.items no_pairs) result
         (meaning.fill_fields (fields (map field_view fs.now)) (seen (K.sight look.now) now)) }
 {

@@ -1,78 +1,18 @@
-//! The functions that are built.
-ghost use Rattle.std.specs.Prelude.{◌≡◌, [], true, Ok, length, pos, chars, suc};
+//! The functions whose names have no point.
+ghost use Rattle.std.specs.Prelude.{◌≡◌, Ok, length, pos, chars, suc};
 ghost use Rattle.wf_ast.specs.declared.expr.Func.TheVariants as func;
-ghost use Rattle.wf_ast.specs.Apply.{View, apply, apply_one, apply_two, apply_three, as_int, as_string, chosen_by, count, key_texts, kind_name, or_default, shown};
+ghost use Rattle.wf_ast.specs.Apply.{apply_one, as_int, as_string, chosen_by, count, key_texts, kind_name, or_default, shown};
 ghost use Rattle.wf_value.specs.Data.{integer, pairs_of, text};
 ghost use Rattle.wf_value.specs.Pairs.{keys};
-ghost use Rattle.wf_value.specs.Plain.{plain, plain_items};
+ghost use Rattle.wf_value.specs.Plain.{plain};
 ghost use Rattle.wf_eval.specs.Answers.{Answers, Gives, GivesText};
-ghost use Rattle.wf_eval.specs.Built.{is_built};
 
 use crate::answers::{copied, owned, text};
 use std::alloc::Global;
-use wf_ast::Func;
 use wf_value::{List, Map, Raise, Tag, Text, Value};
 
-/// What a function answers to its arguments.
-pub fn apply(alloc: Global, f: Func, args: &[Value], now: u64) -> Result<Value, Raise>
-    requires { is_built f ≡ true }
-    ensures { (s : View) → s.now ≡ now → Gives result (apply s f (plain_items args.now)) }
-{
-    match args {
-        [] => apply_none(f, now),
-        [v] => apply_one(alloc, f, v),
-        [v, w] => apply_two(alloc, f, v, w),
-        [c, v, w] => apply_three(alloc, f, c, v, w),
-        _ => Err(Raise::Error(Tag::TypeError)),
-    }
-}
-
-fn apply_none(f: Func, now: u64) -> Result<Value, Raise>
-    requires { is_built f ≡ true }
-    ensures { (s : View) → s.now ≡ now → Gives result (apply s f []) }
-{
-    match f {
-        Func::SysNow => Ok(Value::Int((now / 1000) as i64)),
-        _ => Err(Raise::Error(Tag::TypeError)),
-    }
-}
-
-fn apply_one(alloc: Global, f: Func, v: &Value) -> Result<Value, Raise>
-    requires { is_built f ≡ true }
-    ensures { Gives result (apply_one f (plain v.now)) }
-{
-    match f {
-        Func::Keys => keys(alloc, v),
-        Func::Len => len(v),
-        Func::GetType => text(alloc, kind_name(v)),
-        Func::Int => int(v),
-        Func::String => string(alloc, v),
-        _ => Err(Raise::Error(Tag::TypeError)),
-    }
-}
-
-fn apply_two(alloc: Global, f: Func, v: &Value, w: &Value) -> Result<Value, Raise>
-    requires { is_built f ≡ true }
-    ensures { Gives result (apply_two f (plain v.now) (plain w.now)) }
-{
-    match f {
-        Func::Default => or_default(alloc, v, w),
-        _ => Err(Raise::Error(Tag::TypeError)),
-    }
-}
-
-fn apply_three(alloc: Global, f: Func, c: &Value, v: &Value, w: &Value) -> Result<Value, Raise>
-    requires { is_built f ≡ true }
-    ensures { Gives result (apply_three f (plain c.now) (plain v.now) (plain w.now)) }
-{
-    match f {
-        Func::If => chosen_by(alloc, c, v, w),
-        _ => Err(Raise::Error(Tag::TypeError)),
-    }
-}
-
-// `default`
-fn or_default(alloc: Global, v: &Value, w: &Value) -> Result<Value, Raise>
+/// `default`
+pub(crate) fn or_default(alloc: Global, v: &Value, w: &Value) -> Result<Value, Raise>
     ensures { Gives result (Ok (or_default (plain v.now) (plain w.now))) }
 {
     match v {
@@ -81,8 +21,8 @@ fn or_default(alloc: Global, v: &Value, w: &Value) -> Result<Value, Raise>
     }
 }
 
-// `if`
-fn chosen_by(alloc: Global, c: &Value, v: &Value, w: &Value) -> Result<Value, Raise>
+/// `if`
+pub(crate) fn chosen_by(alloc: Global, c: &Value, v: &Value, w: &Value) -> Result<Value, Raise>
     ensures { Gives result (chosen_by (plain c.now) (plain v.now) (plain w.now)) }
 {
     match c {
@@ -92,8 +32,8 @@ fn chosen_by(alloc: Global, c: &Value, v: &Value, w: &Value) -> Result<Value, Ra
     }
 }
 
-// `keys`
-fn keys(alloc: Global, v: &Value) -> Result<Value, Raise>
+/// `keys`
+pub(crate) fn keys(alloc: Global, v: &Value) -> Result<Value, Raise>
     ensures { Gives result (apply_one func.Keys (plain v.now)) }
 {
     match v {
@@ -118,8 +58,8 @@ fn key_list(alloc: Global, m: &Map) -> Result<List, Raise>
     Ok(list)
 }
 
-// `len`
-fn len(v: &Value) -> Result<Value, Raise>
+/// `len`
+pub(crate) fn len(v: &Value) -> Result<Value, Raise>
     ensures { Gives result (count (plain v.now)) }
 {
     match v {
@@ -166,8 +106,8 @@ fn next(i: usize) -> Result<usize, Raise>
     }
 }
 
-// `get_type`
-fn kind_name(v: &Value) -> &'static str
+/// `get_type`
+pub(crate) fn kind_name(v: &Value) -> &'static str
     ensures { result.now ≡ kind_name (plain v.now) }
 {
     match v {
@@ -181,8 +121,8 @@ fn kind_name(v: &Value) -> &'static str
     }
 }
 
-// `int`
-fn int(v: &Value) -> Result<Value, Raise>
+/// `int`
+pub(crate) fn int(v: &Value) -> Result<Value, Raise>
     ensures { Gives result (as_int (plain v.now)) }
 {
     match v {
@@ -205,8 +145,8 @@ fn read_whole(s: &str) -> Result<Value, Raise>
     }
 }
 
-// `string`
-fn string(alloc: Global, v: &Value) -> Result<Value, Raise>
+/// `string`
+pub(crate) fn string(alloc: Global, v: &Value) -> Result<Value, Raise>
     ensures { Gives result (as_string (plain v.now)) }
 {
     Ok(Value::Text(shown(alloc, v)?))

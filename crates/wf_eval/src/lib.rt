@@ -2,7 +2,7 @@
 #![tactic(auto)]
 
 mod answers;
-mod built;
+mod calling;
 mod filling;
 mod functions;
 mod look;
@@ -11,8 +11,8 @@ mod members;
 mod operators;
 
 pub use answers::{copied, keep, owned};
-pub use built::{are_calls_built, is_built, is_template_built};
+pub use calling::apply;
 pub use filling::{fill, map_of};
-pub use functions::{apply, shown};
+pub use functions::shown;
 pub use look::Look;
 pub use machine::eval;

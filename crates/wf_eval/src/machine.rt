@@ -12,12 +12,11 @@ ghost use Rattle.wf_postfix.specs.Instrs.{instr, instrs};
 ghost use Rattle.wf_postfix.specs.Machine as m;
 ghost use Rattle.wf_postfix.specs.Machine.{code};
 ghost use Rattle.wf_eval.specs.Answers.{Gives};
-ghost use Rattle.wf_eval.specs.Built.{IsBuilt, calls_built, is_built};
 ghost use Rattle.wf_eval.specs.Sight.{seen};
 ghost use Rattle.wf_eval.specs.Steps.{Leads, Pops, Pushes, Steps, settled, tops};
 
 use crate::answers::{copied, keep, number, truth, whole};
-use crate::functions::apply;
+use crate::calling::apply;
 use crate::look::Look;
 use crate::members::{at_index, at_key};
 use crate::operators::operate;
@@ -26,10 +25,8 @@ use wf_ast::{Func, Op};
 use wf_postfix::{Instr, Postfix, code_means};
 use wf_value::{Raise, Tag, Value, neg};
 
-/// The value of the expression whose code this is, or its first error. The code calls only
-/// functions that are built: the seven whose names have no point, and `sys.now`.
+/// The value of the expression whose code this is, or its first error.
 pub fn eval<K: Look>(alloc: Global, e: &Postfix, look: &K, now: u64) -> Result<Value, Raise>
-    requires { IsBuilt (instrs e.now) }
     ensures { (x : t.Expr) → instrs e.now ≡ code x
         → Gives result (meaning.eval x (seen (K.sight look.now) now)) }
 {
@@ -54,7 +51,6 @@ fn step<K: Look>(
     look: &K,
     now: u64,
 ) -> Result<usize, Raise>
-    requires { calls_built (instr i.now) ≡ true }
     ensures { Steps (seen (K.sight look.now) now) (instr i.now) (tops stack.old.items) result
         (tops stack.new.items) }
 {
@@ -66,7 +62,7 @@ fn step<K: Look>(
         Instr::Combine(op) => combine(alloc, stack, *op),
         Instr::Member(k) => member(alloc, stack, k.as_str()),
         Instr::Index => index(alloc, stack),
-        Instr::Call(f, count) => call(alloc, stack, *f, *count, now),
+        Instr::Call(f, count) => call(alloc, stack, *f, *count, look, now),
         Instr::AndSkip(count) => and_skip(stack, *count),
         Instr::OrSkip(count) => or_skip(stack, *count),
         Instr::Check => check(stack),
@@ -182,16 +178,16 @@ fn pop(stack: &mut Vec<Value>) -> Result<Value, Raise>
 }
 
 // The function on so many topmost values, the topmost last.
-fn call(
+fn call<K: Look>(
     alloc: Global,
     stack: &mut Vec<Value>,
     f: Func,
     count: usize,
+    look: &K,
     now: u64,
 ) -> Result<usize, Raise>
-    requires { is_built f ≡ true }
-    ensures { (s : View) → s.now ≡ now
-        → Steps s (m.call f count) (tops stack.old.items) result (tops stack.new.items) }
+    ensures { Steps (seen (K.sight look.now) now) (m.call f count) (tops stack.old.items) result
+        (tops stack.new.items) }
 {
     let Some(below) = stack.len().checked_sub(count) else {
         return Err(Raise::Error(Tag::TypeError));
@@ -199,5 +195,5 @@ fn call(
     let Ok(args) = stack.split_off(below) else {
         return Err(Raise::OutOfMemory);
     };
-    settle(stack, apply(alloc, f, args.as_slice(), now))
+    settle(stack, apply(alloc, f, args.as_slice(), look, now))
 }

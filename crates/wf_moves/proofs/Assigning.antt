@@ -24,7 +24,6 @@ use Rattle.wf_value.specs.Data.{Data, depth}
 use Rattle.wf_value.specs.Errors.{Answer, ◌>>=◌, error_map}
 use Rattle.wf_value.specs.Pairs.{Text}
 use Rattle.wf_value.specs.Plain.{plain}
-use Rattle.wf_shapes.specs.Built.{are_built, is_code_built}
 use Rattle.wf_nodes.specs.Shapes.{Compiled}
 use Rattle.wf_value.specs.declared.Raise.{Raise}
 use Rattle.wf_value.specs.declared.Raise.TheVariants.{Error, OutOfMemory}
@@ -100,13 +99,6 @@ module _ (s : Scene) (e : Entry) (k : List Item) (l : Local) (v : View) (same : 
   pub entry_failed : (t : Tag) (w : Went) (m : Local) → Answers values_of (Err (Error t)) (entry_values e v) → IsMove (raises s k l (error_map t)) w m → IsMove (assigns s e k l) w m
   entry_failed t w m g h =
       subst (λ y. IsMove y w m) (sym (assigns_by ∙ ap (λ r. on {A = Data × List Data} s k l r (λ p. on_assigned s k l (assign s e.target.name p.1 p.0 l))) (failed values_of t (entry_values e v) g))) h
-
--- ## The first codes
-pub take_built : (n : ℕ) (cs : Compiled) → are_built cs ≡ true → are_built (take n cs) ≡ true
-take_built zero [] b = refl
-take_built zero (c ∷ cs) b = refl
-take_built (suc n) [] b = refl
-take_built (suc n) (c ∷ cs) b = let two = and_parts (is_code_built c) (are_built cs) b in ap (λ t. t && are_built (take n cs)) two.0 ∙ take_built n cs two.1
 
 -- ## The value, and then the places
 pub both_given : (a : declared.Assigned) (d : Answer Data) (ds : Answer (List Data)) → Answers plain (Ok a.value) d → Answers (λ vs. map plain vs.items) (Ok a.places) ds → Answers values_of (Ok a) (d >>= λ x. ds >>= λ ys. Ok (x, ys))

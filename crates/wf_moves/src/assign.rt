@@ -11,7 +11,6 @@ ghost use Rattle.wf_model.specs.Move as move;
 ghost use Rattle.wf_moves.specs.Assigned.{entry_values, values_of};
 ghost use Rattle.wf_steps.specs.Built.{Tells};
 ghost use Rattle.wf_moves.specs.Moved.{IsLeft, MovesBy, SeesBy};
-ghost use Rattle.wf_shapes.specs.Built.{are_built};
 ghost use Rattle.wf_nodes.specs.Kinds.{entry_by};
 ghost use Rattle.wf_nodes.specs.Spots.{part_at, part_entry};
 ghost use Rattle.wf_value.specs.Errors.{error_map};
@@ -45,7 +44,6 @@ fn evaluate<K: Look>(
     look: &K,
     now: u64,
 ) -> Result<Assigned, Raise>
-    requires { are_built codes.now ≡ true }
     ensures { Answers values_of result (entry_values (entry_by codes.now entry.now)
         (seen (K.sight look.now) now)) }
 {

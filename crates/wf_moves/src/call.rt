@@ -25,7 +25,7 @@ use crate::start::params;
 use crate::unwind::raises_tag;
 use std::alloc::Global;
 use wf_ast::Param;
-use wf_frames::{Bindings, Facts, Frame, Frames, enter_call};
+use wf_frames::{Bindings, Facts, Frame, Frames, enter_call, seen};
 use wf_library::Function;
 use wf_nodes::Node;
 use wf_scope::Scopes;
@@ -154,7 +154,8 @@ fn evaluates(
     ensures stands { OnOk result (Stands around nodes.now frames.new scopes.new) }
     ensures left { IfOk result (λ w. IsLeft nodes.now w (inner frames.new)) }
 {
-    match call_function(alloc, function, args, facts.now) {
+    let look = seen(frames, scopes, facts);
+    match call_function(alloc, function, args, &look, facts.now) {
         Ok(value) => give(alloc, nodes, Some(n), value, frames, scopes),
         Err(raise) => fails(alloc, nodes, raise, frames, scopes),
     }

@@ -1,6 +1,5 @@
 -- Compiled expressions by their code.
 use Rattle.std.proofs.Common.{◌≡◌, ℕ, ◌+◌, ◌<◌, ◌≤◌, zero, suc, true, List, [], ◌∷◌, ◌++◌, Ok, Err, Some, refl, sym, ap, subst, ◌∙◌, length, get_or, drop, slice_get, add-one, drop-cons, map}
-use Rattle.std.proofs.lemmas.Bool.{and_parts}
 use Rattle.std.proofs.lemmas.List.{append-nil, drop_all}
 use Rattle.wf_ast.specs.Apply.{View}
 use Rattle.wf_ast.specs.Eval.{eval, eval_all}
@@ -9,7 +8,6 @@ use Rattle.wf_eval.specs.Answers.{Answers, Gives}
 use Rattle.wf_postfix.specs.Instrs.{instrs}
 use Rattle.wf_postfix.specs.Machine.{code}
 use Rattle.wf_postfix.specs.declared.code.Instr.{Instr}
-use Rattle.wf_shapes.specs.Built.{are_built, is_code_built}
 use Rattle.wf_nodes.proofs.Decoding.{decoded_code}
 use Rattle.wf_nodes.specs.Decoded.{decode}
 use Rattle.wf_nodes.specs.Shapes.{Compiled, decoded, expr_of, hole_by}
@@ -38,17 +36,9 @@ coded is e h = h ∙ ap code (sym (decoded_code e) ∙ ap decode (sym h))
 pub hole_is : (cs : Compiled) (n : ℕ) (is : List Instr) → slice_get cs n ≡ Some is → decoded is ≡ hole_by cs n
 hole_is cs n is h = sym (ap expr_of h)
 
-pub hole_built : (cs : Compiled) (n : ℕ) (is : List Instr) → are_built cs ≡ true → slice_get cs n ≡ Some is → is_code_built is ≡ true
-hole_built [] n is b h = cc
-hole_built (c ∷ cs) zero is b h = let e : c ≡ is = cc in ap is_code_built (sym e) ∙ (and_parts (is_code_built c) (are_built cs) b).0
-hole_built (c ∷ cs) (suc n) is b h = hole_built cs n is (and_parts (is_code_built c) (are_built cs) b).1 h
-
 -- ## Some expressions
 pub next : {X : Type 0} (xs : List X) (i : ℕ) (x : X) → i < length xs → x ≡ get_or xs i x → drop i xs ≡ x ∷ drop (i + 1) xs
 next xs i x h is = drop-cons xs i x h ∙ ap (λ y. y ∷ drop (suc i) xs) (sym is) ∙ ap (λ j. x ∷ drop j xs) (sym (add-one i))
-
-pub next_built : (cs : Compiled) (i : ℕ) (is : List Instr) → i < length cs → is ≡ get_or cs i is → are_built (drop i cs) ≡ true → (is_code_built is ≡ true) × (are_built (drop (i + 1) cs) ≡ true)
-next_built cs i is h e b = and_parts (is_code_built is) (are_built (drop (i + 1) cs)) (sym (ap are_built (next cs i is h e)) ∙ b)
 
 module _ (s : View) (cs : Compiled) where
   -- what some of them give

@@ -1,10 +1,9 @@
 //! The values of compiled expressions.
-ghost use Rattle.std.specs.Prelude.{◌≡◌, true, map};
+ghost use Rattle.std.specs.Prelude.{map};
 ghost use Rattle.wf_ast.specs.Eval as meaning;
 ghost use Rattle.wf_ast.specs.Tree.{exprs};
 ghost use Rattle.wf_eval.specs.Answers.{Answers, Gives};
 ghost use Rattle.wf_eval.specs.Sight.{seen};
-ghost use Rattle.wf_shapes.specs.Built.{are_built, is_code_built};
 ghost use Rattle.wf_nodes.specs.Shapes.{decoded, hole_by};
 ghost use Rattle.wf_value.specs.Plain.{plain};
 
@@ -21,7 +20,6 @@ pub fn value_at<K: Look>(
     look: &K,
     now: u64,
 ) -> Result<Value, Raise>
-    requires { are_built codes.now ≡ true }
     ensures { Gives result (meaning.eval (hole_by codes.now place) (seen (K.sight look.now) now)) }
 {
     match codes.get(place as usize) {
@@ -32,7 +30,6 @@ pub fn value_at<K: Look>(
 
 // The value of a compiled expression.
 fn value<K: Look>(alloc: Global, code: &Postfix, look: &K, now: u64) -> Result<Value, Raise>
-    requires { is_code_built code.now ≡ true }
     ensures { Gives result (meaning.eval (decoded code.now) (seen (K.sight look.now) now)) }
 {
     let _instrs = code.items();
@@ -46,7 +43,6 @@ pub fn values<K: Look>(
     look: &K,
     now: u64,
 ) -> Result<Vec<Value>, Raise>
-    requires { are_built codes.now ≡ true }
     ensures { Answers (λ vs. map plain vs.items) result
         (meaning.eval_all (exprs (map decoded codes.now)) (seen (K.sight look.now) now)) }
 {

@@ -1,5 +1,5 @@
 //! The values of shapes.
-ghost use Rattle.std.specs.Prelude.{◌≡◌, true, map, Ok};
+ghost use Rattle.std.specs.Prelude.{map, Ok};
 ghost use Rattle.wf_value.specs.Data.{Items, Pairs, items_of, pairs_of, no_pairs};
 ghost use Rattle.wf_value.specs.Errors.{Answer};
 ghost use Rattle.wf_value.specs.Pairs.{put};
@@ -8,7 +8,6 @@ ghost use Rattle.wf_ast.specs.Eval as meaning;
 ghost use Rattle.wf_ast.specs.Tree.{templates, fields};
 ghost use Rattle.wf_eval.specs.Answers.{Answers, Gives, GivesText, kept_list, kept_map, put_all};
 ghost use Rattle.wf_eval.specs.Sight.{seen};
-ghost use Rattle.wf_shapes.specs.Built.{are_built};
 ghost use Rattle.wf_nodes.specs.Shapes.{fields_by, named_by, piece_by, shape_by};
 
 use crate::codes::value_at;
@@ -28,7 +27,6 @@ pub fn fill_shape<K: Look>(
     look: &K,
     now: u64,
 ) -> Result<Value, Raise>
-    requires { are_built codes.now ≡ true }
     ensures { Gives result
         (meaning.fill (shape_by codes.now shape.now) (seen (K.sight look.now) now)) }
 {
@@ -49,7 +47,6 @@ fn joined<K: Look>(
     look: &K,
     now: u64,
 ) -> Result<Text, Raise>
-    requires { are_built codes.now ≡ true }
     ensures { GivesText result
         (meaning.joined (seen (K.sight look.now) now) (map (piece_by codes.now) pieces.now)) }
 {
@@ -71,7 +68,6 @@ fn piece_text<K: Look>(
     look: &K,
     now: u64,
 ) -> Result<Text, Raise>
-    requires { are_built codes.now ≡ true }
     ensures { GivesText result
         (meaning.part_text (seen (K.sight look.now) now) (piece_by codes.now piece.now)) }
 {
@@ -93,7 +89,6 @@ fn fill_all<K: Look>(
     look: &K,
     now: u64,
 ) -> Result<List, Raise>
-    requires { are_built codes.now ≡ true }
     ensures { Answers (λ l. items_of l) result
         (meaning.fill_all (templates (map (shape_by codes.now) shapes.now))
         (seen (K.sight look.now) now)) }
@@ -119,7 +114,6 @@ fn fill_named<K: Look>(
     look: &K,
     now: u64,
 ) -> Result<Vec<(Text, Value)>, Raise>
-    requires { are_built codes.now ≡ true }
     ensures { Answers (λ ps. put_all ps.items no_pairs) result
         (meaning.fill_fields (fields (map (named_by codes.now) named.now))
         (seen (K.sight look.now) now)) }
@@ -150,7 +144,6 @@ pub fn fill_args<K: Look>(
     look: &K,
     now: u64,
 ) -> Result<Map, Raise>
-    requires { are_built codes.now ≡ true }
     ensures { Answers (λ m. pairs_of m) result
         (meaning.fill_fields (fields (fields_by codes.now named.now)) (seen (K.sight look.now) now)) }
 {

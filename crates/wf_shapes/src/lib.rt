@@ -1,13 +1,11 @@
 //! The values of shapes, and of compiled expressions, and what functions answer.
 #![tactic(auto)]
 
-mod built;
 mod calling;
 mod clock;
 mod codes;
 mod filling;
 
-pub use built::are_codes_built;
 pub use calling::call_function;
 pub use clock::{is_clock_among, is_clock_in, is_clock_named};
 pub use codes::{value_at, values};

@@ -10,7 +10,6 @@ use Rattle.wf_ast.specs.View.{policy_option_view}
 use Rattle.wf_frames.specs.Fits.{IsCall, IsLoop, IsTry, entries_at, has_next, kind_entries, list_at, outside_at, view_at, view_entries, view_outside}
 use Rattle.wf_frames.specs.Frames.{body_entries}
 use Rattle.wf_steps.specs.Built.{is_node_built, is_table_built, kind_built}
-use Rattle.wf_shapes.specs.Built.{are_built}
 use Rattle.wf_nodes.specs.Kinds as view
 use Rattle.wf_nodes.specs.Kinds.{Handler, Kind, Listed, Repeated, Side, View, block_view, handler_view, kind_by, node_view}
 use Rattle.wf_nodes.specs.Shapes.{Compiled}
@@ -99,34 +98,14 @@ built_in all (y ∷ ys) (suc n) x b h = built_in all ys n x (and_parts (is_node_
 pub node_built : (nodes : List Node) (n : ℕ) (x : Node) → is_table_built nodes ≡ true → slice_get nodes n ≡ Some x → is_node_built nodes x ≡ true
 node_built nodes n x b h = built_in nodes nodes n x b h
 
-codes_in : (nodes : List Node) (k : NodeKind) (b : Bool) → kind_built nodes k b ≡ true → b ≡ true
-codes_in nodes (kind.Try t) b h = (and_parts b (is_none t.policy && not (has_next (view_at nodes t.body))) h).0
-codes_in nodes (kind.Parallel p) b h = absurd (cc h)
-codes_in nodes (kind.Call f) b h = h
-codes_in nodes (kind.Flow f) b h = h
-codes_in nodes kind.Nothing b h = h
-codes_in nodes (kind.Assign v) b h = h
-codes_in nodes (kind.Switch v) b h = h
-codes_in nodes (kind.For l) b h = h
-codes_in nodes (kind.Block d) b h = h
-codes_in nodes (kind.Raise s) b h = h
-codes_in nodes (kind.Return s) b h = h
-codes_in nodes (kind.Arm s) b h = h
-codes_in nodes (kind.Entry e) b h = h
-codes_in nodes (kind.Branch d) b h = h
-
-pub codes_built : (nodes : List Node) (n : ℕ) (x : Node) → is_table_built nodes ≡ true → slice_get nodes n ≡ Some x → are_built x.codes.items.items ≡ true
-codes_built nodes n x b h = codes_in nodes x.kind (are_built x.codes.items.items) (node_built nodes n x b h)
-
 pub never_parallel : (nodes : List Node) (n : ℕ) (x : Node) (p : ParallelNode) → is_table_built nodes ≡ true → slice_get nodes n ≡ Some x → x.kind ≡ kind.Parallel p → ⊥
-never_parallel nodes n x p b h e = let t : false ≡ true = sym (ap (λ (k : NodeKind). kind_built nodes k (are_built x.codes.items.items)) e) ∙ node_built nodes n x b h in cc t
+never_parallel nodes n x p b h e = let t : false ≡ true = sym (ap (kind_built nodes) e) ∙ node_built nodes n x b h in cc t
 
 -- a `try` has no policy, and its body says nothing of what is next
 pub try_built : (nodes : List Node) (n : ℕ) (x : Node) (t : TryNode) → is_table_built nodes ≡ true → slice_get nodes n ≡ Some x → x.kind ≡ kind.Try t → (is_none t.policy ≡ true) × (has_next (view_at nodes t.body) ≡ false)
 try_built nodes n x t b h e =
-    let all = sym (ap (λ (k : NodeKind). kind_built nodes k (are_built x.codes.items.items)) e) ∙ node_built nodes n x b h in
-    let two = and_parts (are_built x.codes.items.items) (is_none t.policy && not (has_next (view_at nodes t.body))) all in
-    let rest = and_parts (is_none t.policy) (not (has_next (view_at nodes t.body))) two.1 in
+    let all = sym (ap (kind_built nodes) e) ∙ node_built nodes n x b h in
+    let rest = and_parts (is_none t.policy) (not (has_next (view_at nodes t.body))) all in
     (rest.0, not_true (has_next (view_at nodes t.body)) rest.1)
   where
     not_true : (c : Bool) → not c ≡ true → c ≡ false

@@ -1,7 +1,7 @@
 -- Tables whose steps are built.
---     is_table_built     none is parallel or retries, and none calls a function that isn't built
+--     is_table_built     none is parallel or retries
 --     Tells              such a table tells of a program's parts
---     AreTargets         what its calls name: workflows, functions that are built, and calls of HTTP
+--     AreTargets         what its calls name: workflows, functions, and calls of HTTP
 use Rattle.std.specs.Prelude.{◌≡◌, ℕ, Bool, true, false, ◌&&◌, not, List, map, option_map, slice_get, is_none, is_some, Some, None, Option}
 use Rattle.std.specs.List.{list_all}
 use Rattle.wf_ast.specs.Flows.{flow}
@@ -10,7 +10,6 @@ use Rattle.wf_ast.specs.Tree.{Flow}
 use Rattle.wf_ast.specs.declared.Func.{Func}
 use Rattle.wf_callbacks.specs.Plain.{plain_method}
 use Rattle.wf_callbacks.specs.declared.method.Method.{Method}
-use Rattle.wf_eval.specs.Built.{is_built}
 use Rattle.wf_frames.specs.Fits.{has_next, view_at}
 use Rattle.wf_library.specs.declared.functions.Function.{Function}
 use Rattle.wf_model.specs.Calls.{http_method}
@@ -20,20 +19,19 @@ use Rattle.wf_nodes.specs.declared.node.CallNode.{CallNode}
 use Rattle.wf_nodes.specs.declared.node.Node.{Node}
 use Rattle.wf_nodes.specs.declared.node.NodeKind.{NodeKind}
 use Rattle.wf_nodes.specs.declared.node.NodeKind.TheVariants as kind
-use Rattle.wf_shapes.specs.Built.{are_built}
 use Rattle.wf_steps.specs.declared.target.Target.{Target}
 use Rattle.wf_steps.specs.declared.target.Target.TheVariants as target
 use Rattle.wf_value.specs.Pairs.{Text}
 
 -- ## Nodes
 -- the body of a `try` says nothing of what is next
-abbrev pub kind_built : List Node → NodeKind → Bool → Bool
-kind_built nodes (kind.Try t) b = b && (is_none t.policy && not (has_next (view_at nodes t.body)))
-kind_built nodes (kind.Parallel p) b = false
-kind_built nodes k b = b
+abbrev pub kind_built : List Node → NodeKind → Bool
+kind_built nodes (kind.Try t) = is_none t.policy && not (has_next (view_at nodes t.body))
+kind_built nodes (kind.Parallel p) = false
+kind_built nodes k = true
 
 abbrev pub is_node_built : List Node → Node → Bool
-is_node_built nodes x = kind_built nodes x.kind (are_built x.codes.items.items)
+is_node_built nodes x = kind_built nodes x.kind
 
 abbrev pub is_table_built : List Node → Bool
 is_table_built nodes = list_all (is_node_built nodes) nodes
@@ -56,11 +54,10 @@ listed e = (e.func, (e.signature.needs, e.signature.may))
 abbrev pub function_parts : Function → Func × (List Text × List Text)
 function_parts g = (g.func, (map (λ n. n.now) g.arguments.needs.now, map (λ n. n.now) g.arguments.may.now))
 
--- no workflow that may be called has this name, but a function that is built
+-- no workflow that may be called has this name, but a function
 pub record IsFunction (fs : List Flow) (g : Function) (x : Text) : Type 0 where
   pub free : is_some (flow fs x) ≡ false
   pub named : option_map listed (func_named x) ≡ Some (function_parts g)
-  pub built : is_built g.func ≡ true
 
 -- a workflow of this name may be called, and the number is that of its node
 pub record IsWorkflow (fs : List Flow) (ns : List Spot) (n : ℕ) (x : Text) : Type 0 where

@@ -1,16 +1,15 @@
 // Nodes by their numbers.
 ghost use Rattle.std.specs.Prelude.{◌≡◌, Some, is_some, take, true};
 ghost use Rattle.wf_frames.specs.Fits.{IsLoop, IsTry, entries_at, has_next, list_at, view_at};
-ghost use Rattle.wf_steps.specs.Built.{is_node_built, is_table_built, kind_built};
+ghost use Rattle.wf_steps.specs.Built.{is_node_built, is_table_built};
 ghost use Rattle.wf_nodes.specs.Kinds.{block_view};
 ghost use Rattle.wf_nodes.specs.declared.node.LoopNode as loop_node;
 ghost use Rattle.wf_nodes.specs.declared.node.TryNode as try_node;
 
 use wf_nodes::{Block, LoopNode, Node, NodeKind, TryNode};
 use wf_postfix::Postfix;
-use wf_shapes::are_codes_built;
 
-/// Whether the steps of this table are built: none is parallel, no `try` has a policy, and only functions that are built are called.
+/// Whether the steps of this table are built: none is parallel, and no `try` has a policy.
 pub fn are_built(nodes: &[Node]) -> bool
     ensures { result ≡ is_table_built nodes.now }
 {
@@ -25,20 +24,12 @@ pub fn are_built(nodes: &[Node]) -> bool
 fn is_built(nodes: &[Node], node: &Node) -> bool
     ensures { result ≡ is_node_built nodes.now node.now }
 {
-    let codes = are_codes_built(node.codes.items());
-    is_kind_built(nodes, &node.kind, codes)
-}
-
-// Whether a node of this kind is built, if its codes are or aren't.
-fn is_kind_built(nodes: &[Node], kind: &NodeKind, codes: bool) -> bool
-    ensures { result ≡ kind_built nodes.now kind.now codes }
-{
-    match kind {
+    match &node.kind {
         NodeKind::Parallel(_) => false,
-        NodeKind::Try(tried) => codes && tried.policy.is_none() && !has_next(nodes, tried.body),
-        NodeKind::Flow(_) | NodeKind::Branch(_) | NodeKind::Block(_) | NodeKind::For(_) => codes,
-        NodeKind::Nothing | NodeKind::Assign(_) | NodeKind::Switch(_) | NodeKind::Raise(_) => codes,
-        NodeKind::Return(_) | NodeKind::Arm(_) | NodeKind::Entry(_) | NodeKind::Call(_) => codes,
+        NodeKind::Try(tried) => tried.policy.is_none() && !has_next(nodes, tried.body),
+        NodeKind::Flow(_) | NodeKind::Branch(_) | NodeKind::Block(_) | NodeKind::For(_) => true,
+        NodeKind::Nothing | NodeKind::Assign(_) | NodeKind::Switch(_) | NodeKind::Raise(_) => true,
+        NodeKind::Return(_) | NodeKind::Arm(_) | NodeKind::Entry(_) | NodeKind::Call(_) => true,
     }
 }
 

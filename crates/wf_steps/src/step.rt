@@ -12,7 +12,6 @@ ghost use Rattle.wf_model.specs.Move as move;
 ghost use Rattle.wf_model.specs.Move.{entered};
 ghost use Rattle.wf_steps.specs.Built.{Tells};
 ghost use Rattle.wf_steps.specs.Steps.{AsksWith, CallsWith, CarriesCall, CarriesOut, Fails, Holds, IsDone, IsNoCall, IsOf, IsReady, Performs, PerformsCall, RaisesValue, ReturnsValue, Within, arm_in, ends, is_idle, is_idle_kind};
-ghost use Rattle.wf_shapes.specs.Built.{are_built};
 ghost use Rattle.wf_frames.specs.declared.frames.Frame.{Frame};
 ghost use Rattle.wf_nodes.specs.Kinds.{call_by, over_by};
 ghost use Rattle.wf_nodes.specs.Shapes.{shape_by};
@@ -82,7 +81,6 @@ fn returns<K: Look>(
     look: &K,
     now: u64,
 ) -> Result<Step, OutOfMemory>
-    requires { are_built codes.now ≡ true }
     ensures value { IfOk result
         (ReturnsValue (shape_by codes.now shape.now) (seen (K.sight look.now) now)) }
     ensures done { IfOk result IsDone }
@@ -101,7 +99,6 @@ fn raises<K: Look>(
     look: &K,
     now: u64,
 ) -> Result<Step, OutOfMemory>
-    requires { are_built codes.now ≡ true }
     ensures value { IfOk result
         (RaisesValue (shape_by codes.now shape.now) (seen (K.sight look.now) now)) }
     ensures done { IfOk result IsDone }
@@ -182,7 +179,6 @@ fn left_of<K: Look>(
     look: &K,
     now: u64,
 ) -> Result<Left, Raise>
-    requires { are_built codes.now ≡ true }
     ensures { Answers left_view result
         (move.over (seen (K.sight look.now) now) (over_by codes.now over.now)) }
 {
@@ -287,7 +283,6 @@ fn begin_loop<K: Look>(
     now: u64,
 ) -> Result<Step, OutOfMemory>
     ghost ns: { List Spot }
-    requires { are_built codes.now ≡ true }
     ensures begun { (value : Text) (index : Option Text) (ss : Steps) → part_body (part_at ns n)
         ≡ Body.For (loop value index (over_by codes.now over.now) ss)
         → IfOk result (Performs ns (part_body (part_at ns n)) (seen (K.sight look.now) now)
@@ -315,7 +310,6 @@ fn calls<K: Look>(
     look: &K,
     now: u64,
 ) -> Result<Step, OutOfMemory>
-    requires { are_built codes.now ≡ true }
     ensures called { IfOk result (CallsWith n (call_by codes.now call.now)
         (seen (K.sight look.now) now)) }
     ensures asked { IfOk result (AsksWith n (call_by codes.now call.now)

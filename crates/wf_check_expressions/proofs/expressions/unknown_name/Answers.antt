@@ -12,6 +12,6 @@ use Rattle.wf_diagnostics.specs.declared.kind.CheckKind.TheVariants as kinds
 pub returns : goal.returns
 returns c =
     let part = part_view c.args.part.now in
-    tells_as c.unseen.result _ _
+    tells_as c.part_failing.result _ _
     (λ path. ap (as_said kinds.UnknownName) (part_seen (map layer_view c.as_slice.result.now) part path ∙ ap (λ l. first_unseen (map layer_view l) (part_reads part path)) c.as_slice.ensures.value))
-    c.unseen.ensures
+    c.part_failing.ensures

@@ -1,8 +1,7 @@
 use Rattle.std.proofs.Common.{Ok, Err, ap, sym, subst, ◌∙◌}
 use Rattle.wf_moves.proofs.Assigning.{entry_failed, entry_given}
 use Rattle.wf_steps.proofs.Clocked.{entry_there}
-use Rattle.wf_steps.proofs.Parts.{codes_built, node_at}
-use Rattle.wf_shapes.specs.Built.{are_built}
+use Rattle.wf_steps.proofs.Parts.{node_at}
 use Rattle.wf_eval.specs.Answers.{Answers}
 use Rattle.wf_eval.specs.Sight.{seen}
 use Rattle.wf_frames.specs.Owned.{beside, control_of, local_of}
@@ -13,11 +12,6 @@ use Rattle.wf_moves.specs.Assigned.{entry_values, values_of}
 use Rattle.wf_moves.specs.Moved.{IsMove}
 use Rattle.wf_nodes.specs.Kinds.{entry_by}
 use Rattle.wf_moves.proofs.assign.assign.Goals as goal
-
-pub evaluate-requires : goal.evaluate-requires
-evaluate-requires g c =
-    let there = node_at c.args.nodes.now c.args.n c.index-nodes-n.result c.requires.1.1 c.index-nodes-n.is in
-    ap are_built c.items.ensures ∙ codes_built c.args.nodes.now c.args.n c.index-nodes-n.result c.requires.0.built there
 
 pub returns-in-Ok-clause-moved : goal.returns-in-Ok-clause-moved
 returns-in-Ok-clause-moved g c =

@@ -3,14 +3,10 @@ use Rattle.wf_ast.specs.Eval.{eval_all, fill}
 use Rattle.wf_ast.specs.Tree.{exprs}
 use Rattle.wf_eval.specs.Answers.{Answers}
 use Rattle.wf_eval.specs.Sight.{seen}
-use Rattle.wf_moves.proofs.Assigning.{both_given, take_built}
+use Rattle.wf_moves.proofs.Assigning.{both_given}
 use Rattle.wf_nodes.specs.Shapes.{Compiled, decoded, shape_by}
-use Rattle.wf_shapes.specs.Built.{are_built}
 use Rattle.wf_value.specs.Plain.{plain}
 use Rattle.wf_moves.proofs.assign.evaluate.Goals as goal
-
-pub values-requires : goal.values-requires
-values-requires g c = ap are_built c.first_of.ensures ∙ take_built c.args.entry.now.places c.args.codes.now c.requires
 
 pub returns : goal.returns
 returns g c =

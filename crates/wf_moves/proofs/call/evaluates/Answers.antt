@@ -1,5 +1,6 @@
-use Rattle.std.proofs.Common.{Err, ap, sym, subst, ◌∙◌}
+use Rattle.std.proofs.Common.{Ok, Err, ap, sym, subst, ◌∙◌}
 use Rattle.std.specs.Prelude.{is_some}
+use Rattle.wf_ast.specs.Apply.{View}
 use Rattle.wf_ast.specs.Flows.{flow}
 use Rattle.wf_frames.specs.Frames.{body_result}
 use Rattle.wf_frames.specs.Owned.{beside, control_of, local_of}
@@ -30,7 +31,7 @@ returns-in-Ok-clause-moved g c =
     let m = local_of g.around c.give.new.frames c.give.new.scopes in
     subst (λ b. IsMove (calls_by s b args k l) w m) (sym body)
     (function_gave s f.0.result f.0.name args c.args.function.now k l w m (ap (λ fs. is_some (flow fs f.0.name)) agrees.2 ∙ f.2.free) f.2.named
-    c.in-Ok.value (c.in-Ok.ensures (view s l) sees.now)
+    c.in-Ok.value (subst (λ (v : View). Gives (Ok c.in-Ok.value) (answer_of v c.args.function.now args)) (sym (c.seen-look.ensures s sees)) c.in-Ok.ensures)
     (subst (λ b. IsMove (gives s (body_result b) (plain c.in-Ok.value) k l) w m) body (h s d agrees))))
     c.give.ensures.moved
 
@@ -46,5 +47,5 @@ returns-in-Err-clause-moved g c =
     let m = local_of g.around c.fails.new.frames c.fails.new.scopes in
     subst (λ b. IsMove (calls_by s b args k l) w m) (sym body)
     (function_failed s f.0.result f.0.name args c.args.function.now k l w m (ap (λ fs. is_some (flow fs f.0.name)) agrees.2 ∙ f.2.free) f.2.named
-    t.0 (subst (λ r. Gives (Err r) (answer_of (view s l) c.args.function.now args)) t.1 (c.in-Err.ensures (view s l) sees.now)) (h t.0 t.1 s d agrees)))
+    t.0 (subst (λ r. Gives (Err r) (answer_of (view s l) c.args.function.now args)) t.1 (subst (λ (v : View). Gives (Err c.in-Err.raise) (answer_of v c.args.function.now args)) (sym (c.seen-look.ensures s sees)) c.in-Err.ensures)) (h t.0 t.1 s d agrees)))
     c.fails.ensures.moved c.fails.ensures.error

@@ -11,19 +11,19 @@ use Rattle.wf_shapes.proofs.filling.+fill.Goals as goal
 
 pub fill_shape-fill_all-requires : goal.fill_shape-fill_all-requires
 fill_shape-fill_all-requires g t c κs within =
-    (omega (arith, c.decreases, list_falls c.args.codes.now c.args.shape.now c.in-List.shapes c.items-in-List.result.now c.in-List.is c.items-in-List.ensures), (within, c.requires))
+    (omega (arith, c.decreases, list_falls c.args.codes.now c.args.shape.now c.in-List.shapes c.items-in-List.result.now c.in-List.is c.items-in-List.ensures), within)
 
 pub fill_shape-fill_named-requires : goal.fill_shape-fill_named-requires
 fill_shape-fill_named-requires g t c κs within =
-    (omega (arith, c.decreases, map_falls c.args.codes.now c.args.shape.now c.in-Map.named c.items-in-Map.result.now c.in-Map.is c.items-in-Map.ensures), (within, c.requires))
+    (omega (arith, c.decreases, map_falls c.args.codes.now c.args.shape.now c.in-Map.named c.items-in-Map.result.now c.in-Map.is c.items-in-Map.ensures), within)
 
 pub fill_all-fill_shape-requires : goal.fill_all-fill_shape-requires
 fill_all-fill_shape-requires g t c κs within =
-    (omega (arith, c.decreases, item_falls c.args.codes.now c.args.shapes.now c.loop-shape.shape-index c.shape-item.result c.loop-shape-test.true c.shape-item.is), (within, c.requires))
+    (omega (arith, c.decreases, item_falls c.args.codes.now c.args.shapes.now c.loop-shape.shape-index c.shape-item.result c.loop-shape-test.true c.shape-item.is), within)
 
 pub fill_named-fill_shape-requires : goal.fill_named-fill_shape-requires
 fill_named-fill_shape-requires g t c κs within =
-    (omega (arith, c.decreases, field_falls c.args.codes.now c.args.named.now c.loop-member.member-index c.member-item.result c.loop-member-test.true c.member-item.is), (within, c.requires))
+    (omega (arith, c.decreases, field_falls c.args.codes.now c.args.named.now c.loop-member.member-index c.member-item.result c.loop-member-test.true c.member-item.is), within)
 
 pub fill_shape-returns-in-List : goal.fill_shape-returns-in-List
 fill_shape-returns-in-List g t c =

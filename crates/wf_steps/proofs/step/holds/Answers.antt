@@ -1,20 +1,14 @@
 use Rattle.std.proofs.Common.{ap, sym, ◌∙◌}
-use Rattle.wf_shapes.specs.Built.{are_built}
 use Rattle.wf_nodes.specs.Shapes.{shape_by}
 use Rattle.wf_eval.specs.Sight.{seen}
 use Rattle.wf_steps.proofs.Choices.{no_condition, condition_is, null_holds, truth_holds, error_holds}
-use Rattle.wf_steps.proofs.Parts.{codes_built, node_at}
+use Rattle.wf_steps.proofs.Parts.{node_at}
 use Rattle.wf_steps.proofs.step.holds.Goals as goal
 
 pub returns-in_default : goal.returns-in_default
 returns-in_default g c =
     let there = node_at c.args.nodes.now c.args.n c.index-nodes-n.result c.requires.1.1 c.index-nodes-n.is in
     null_holds g.ns c.args.n (seen (g.K.Look.sight c.args.look.now) c.args.now) (no_condition g.ns c.args.nodes.now c.args.n c.index-nodes-n.result c.requires.1.0.resolves there c.in_default.not-Arm)
-
-pub fill_shape-requires : goal.fill_shape-requires
-fill_shape-requires g c =
-    let there = node_at c.args.nodes.now c.args.n c.index-nodes-n.result c.requires.1.1 c.index-nodes-n.is in
-    ap are_built c.items.ensures ∙ codes_built c.args.nodes.now c.args.n c.index-nodes-n.result c.requires.1.0.built there
 
 pub returns-in-Ok : goal.returns-in-Ok
 returns-in-Ok g c =

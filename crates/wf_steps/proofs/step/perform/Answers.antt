@@ -1,22 +1,15 @@
 use Rattle.std.proofs.Common.{sym, ap, ◌∙◌}
-use Rattle.std.specs.Prelude.{slice_get, Some}
 use Rattle.wf_ast.specs.Tree.{Body}
 use Rattle.wf_eval.specs.Sight.{seen}
 use Rattle.wf_frames.specs.Frames.{inner}
 use Rattle.wf_nodes.specs.Kinds.{call_by}
 use Rattle.wf_nodes.specs.Spots.{part_at, part_body}
 use Rattle.wf_nodes.specs.declared.node.NodeKind.TheVariants as kind
-use Rattle.wf_shapes.specs.Built.{are_built}
 use Rattle.wf_steps.proofs.Asking.{no_call_of, performs_asked, plain_performs}
-use Rattle.wf_steps.proofs.Parts.{as_part, codes_built, node_at, other_node}
+use Rattle.wf_steps.proofs.Parts.{as_part, node_at, other_node}
 use Rattle.wf_steps.proofs.Performed.{performs_call, with_ok}
 use Rattle.wf_steps.specs.Steps.{AsksWith, CallsWith, IsNoCall, IsOf, Performs, PerformsCall}
 use Rattle.wf_steps.proofs.step.perform.Goals as goal
-
-pub calls-requires : goal.calls-requires
-calls-requires g c =
-    let there = node_at c.args.nodes.now c.args.n c.index-nodes-n.result c.requires.1.1.0 c.index-nodes-n.is in
-    ap are_built c.items.ensures ∙ codes_built c.args.nodes.now c.args.n c.index-nodes-n.result c.requires.1.0.built there
 
 pub returns-in-Call-clause-performed : goal.returns-in-Call-clause-performed
 returns-in-Call-clause-performed g c =

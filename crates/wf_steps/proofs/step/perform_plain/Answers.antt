@@ -5,10 +5,9 @@ use Rattle.wf_eval.specs.Sight.{seen}
 use Rattle.wf_frames.specs.Fits.{reach}
 use Rattle.wf_frames.specs.Frames.{inner}
 use Rattle.wf_steps.proofs.Fitting.{block_fits, entries_fits, entry_ready}
-use Rattle.wf_steps.proofs.Parts.{as_part, codes_built, never_parallel, node_at}
+use Rattle.wf_steps.proofs.Parts.{as_part, never_parallel, node_at}
 use Rattle.wf_steps.proofs.Performed.{nothing_done, default_body, loop_body, none_left, one_left, with_ok, block_put, none_assigned, first_assigned, performs_return, performs_raise}
 use Rattle.wf_steps.specs.Steps.{Performs, ReturnsValue, RaisesValue}
-use Rattle.wf_shapes.specs.Built.{are_built}
 use Rattle.wf_nodes.specs.Kinds.{kind_by}
 use Rattle.wf_nodes.specs.Shapes.{shape_by}
 use Rattle.wf_nodes.specs.Spots.{arms_by, entries_by, steps_by, owners_at, part_at, part_body}
@@ -23,21 +22,6 @@ switch-requires g c κs within =
     let stand = subst (λ k. PartsStand g.ns (length c.args.nodes.now) (owners_at g.ns c.args.n) (kind_by x.codes.items.items k)) c.in-Switch.is (c.requires.1.0.resolves.each c.args.n x there).parts in
     let here = subst (λ (os : List ℕ). ArmsStandIn g.ns (length c.args.nodes.now) os c.in-Switch.arms.items) c.requires.1.1.1.1.1 stand in
     (within, (c.requires.1.0, (subst (ArmsStandIn g.ns (length c.args.nodes.now) (reach (inner c.args.frames.now))) (sym c.as_slice-in-Switch.ensures.value) here, (c.requires.1.1.1.1.0, refl))))
-
-pub begin_loop-requires : goal.begin_loop-requires
-begin_loop-requires g c κs within =
-    let there = node_at c.args.nodes.now c.args.n c.index-nodes-n.result c.requires.1.1.0 c.index-nodes-n.is in
-    (within, ap are_built c.items-codes.ensures ∙ codes_built c.args.nodes.now c.args.n c.index-nodes-n.result c.requires.1.0.built there)
-
-pub raises-requires : goal.raises-requires
-raises-requires g c =
-    let there = node_at c.args.nodes.now c.args.n c.index-nodes-n.result c.requires.1.1.0 c.index-nodes-n.is in
-    ap are_built c.items-codes.ensures ∙ codes_built c.args.nodes.now c.args.n c.index-nodes-n.result c.requires.1.0.built there
-
-pub returns-requires : goal.returns-requires
-returns-requires g c =
-    let there = node_at c.args.nodes.now c.args.n c.index-nodes-n.result c.requires.1.1.0 c.index-nodes-n.is in
-    ap are_built c.items-codes.ensures ∙ codes_built c.args.nodes.now c.args.n c.index-nodes-n.result c.requires.1.0.built there
 
 pub returns-in-empty-clause-performed : goal.returns-in-empty-clause-performed
 returns-in-empty-clause-performed g c =
