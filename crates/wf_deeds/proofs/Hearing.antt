@@ -12,9 +12,9 @@ use Rattle.wf_deeds.proofs.Splits.{split_of_more}
 use Rattle.wf_deeds.proofs.Telling.{told_of_new, told_of_started, visits_on-append}
 use Rattle.wf_deeds.proofs.TurnMore.{both_true}
 use Rattle.wf_deeds.proofs.Visits.{bool_case, decision_is, find_put, undecided_put, weight_of, piece, piece_by, heard_is, piece_number}
-use Rattle.wf_deeds.specs.Deeds.{polls, nows, poll_readings, greatest, reading_by, was_started, was_dropped, was_replied, before_poll, Told, tells, told_of, answer_told, call_of, Visit, Decision, decision, visit_of, visits_after, hears_visit, put_visit, find_visit, undecided as undecided_in, poll_at}
+use Rattle.wf_deeds.specs.Deeds.{polls, nows, poll_readings, greatest, reading_by, was_started, was_dropped, was_replied, before_poll, Told, tells, told_of, IsAnswered, ComesTo, call_of, Visit, Decision, decision, visit_of, visits_after, hears_visit, put_visit, find_visit, undecided as undecided_in, poll_at}
 use Rattle.wf_deeds.specs.Kept.{IsOpen, Decides, own, reading_of, last_of}
-use Rattle.wf_deeds.specs.Memory.{Owed, Memory, IsAnswerTo, IsOfOutside, session, forgotten, answer_by, decided_by, owes_by, arrival_by, taken_of, visit_by, decision_by}
+use Rattle.wf_deeds.specs.Memory.{Owed, Memory, IsAnswerTo, IsOfOutside, session, forgotten, awaits, ComesNow, IsAnswerBy, Brings, decided_by, owes_by, arrival_by, visit_by, decision_by}
 use Rattle.wf_deeds.specs.Outside.{Outside, Verdict, Arrives, Refuses}
 use Rattle.wf_deeds.specs.Rules.{IsSent, IsBrought, NoTurnYet, DeedKeepsRules, with_deed}
 use Rattle.wf_deeds.specs.Steps.{weight, VisitsAre, PollIsKept, HearingGoesOn}
@@ -23,6 +23,7 @@ use Rattle.wf_host.specs.declared.data.Deed.TheVariants.{Poll}
 use Rattle.wf_host.specs.declared.data.Heard.{Heard}
 use Rattle.wf_host.specs.declared.data.What.{What}
 use Rattle.wf_host.specs.declared.data.What.TheVariants as what
+use Rattle.wf_http_in.specs.AnswerOf.{HasOneAnswer, NoneAtFirst}
 use Rattle.wf_model.specs.Ready.{request_of}
 use Rattle.wf_journal_laws.specs.At.{journal, config_at, config_before}
 use Rattle.wf_journal_laws.specs.History.{Standing}
@@ -93,35 +94,38 @@ later_by session waits s is = ⊎_elim
     (one_of (nat_lt s.session session) (nat_eq s.session session && nat_le s.waits waits) is)
 
 -- ## What was brought
-record Gave (O : Outside) (m : Memory) (k : ℕ) (h : Heard) (e : Event) : Type 0 where
+record Gave (m : Memory) (k : ℕ) (h : Heard) (e : Event) : Type 0 where
   still : IsOpen m.config k
   was : m.started k ≡ true
   reply : plain.Reply
-  answer : O.answer_of (tells k h.what (m.told k)).bytes (tells k h.what (m.told k)).close ≡ Some reply
+  answer : IsAnswered (tells k h.what (m.told k)) (Some reply)
   is : e ≡ plain.Answer k (max m.reading h.reading) reply
-
-if_some : {A B : Type 0} → (b : Bool) (o : Option A) (f : A → B) (e : B) → (if b then option_map f o else None) ≡ Some e → (b ≡ true) × ((a : A) × (o ≡ Some a) × (e ≡ f a))
-if_some true (Some a) f e is = (refl, (a, refl, let same : f a ≡ e = cc is in sym same))
-if_some true None f e is = absurd (let f : None ≡ Some e = is in cc f)
-if_some false o f e is = absurd (let f : None ≡ Some e = is in cc f)
 
 some_request : (o : Option Request) → is_some o ≡ true → (q : Request) × (o ≡ Some q)
 some_request (Some q) is = (q, refl)
 some_request None is = absurd (let f : false ≡ true = is in cc f)
 
-gave : (O : Outside) (m : Memory) (k : ℕ) (h : Heard) (e : Event) → answer_by O m k h ≡ Some e → Gave O m k h e
-gave O m k h e is =
-    let parts = if_some (is_some (request_of m.config k) && m.started k) (O.answer_of (tells k h.what (m.told k)).bytes (tells k h.what (m.told k)).close) (plain.Answer k (max m.reading h.reading)) e is in
-    let both = both_true (is_some (request_of m.config k)) (m.started k) parts.0 in
-    record { still = some_request (request_of m.config k) both.0; was = both.1; reply = parts.1.0; answer = parts.1.1; is = parts.1.2 }
+gave : (m : Memory) (k : ℕ) (h : Heard) (o : Option Event) (e : Event) → IsAnswerBy m k h o → o ≡ Some e → Gave m k h e
+gave m k h o e (inl none) is = absurd (let f : None ≡ Some e = sym none.1 ∙ is in cc f)
+gave m k h o e (inr comes) is =
+    let both = both_true (is_some (request_of m.config k)) (m.started k) comes.awaited in
+    by comes.answer comes.answered (sym comes.event ∙ is) (some_request (request_of m.config k) both.0) both.1
+  where
+    by : (a : Option plain.Reply) → IsAnswered (tells k h.what (m.told k)) a → option_map (plain.Answer k (max m.reading h.reading)) a ≡ Some e → IsOpen m.config k → m.started k ≡ true → Gave m k h e
+    by None answered event still was = absurd (let f : None ≡ Some e = event in cc f)
+    by (Some reply) answered event still was = record { still = still; was = was; reply = reply; answer = answered; is = let same : plain.Answer k (max m.reading h.reading) reply ≡ e = cc event in sym same }
+
+-- of an open call that was started: the answer, if any, is taken
+comes_now : (m : Memory) (k : ℕ) (h : Heard) (o : Option Event) → IsOpen m.config k → m.started k ≡ true → IsAnswerBy m k h o → ComesNow m k h o
+comes_now m k h o (q, asks) was (inl none) = absurd (let awaited : true ≡ false = sym (ap (λ r. is_some r && m.started k) asks ∙ was) ∙ none.0 in cc awaited)
+comes_now m k h o still was (inr comes) = comes
 
 -- an answer to an open call that was started is taken
-gives : (O : Outside) (m : Memory) (k : ℕ) (h : Heard) (a : plain.Reply) → IsOpen m.config k → m.started k ≡ true
-    → O.answer_of (tells k h.what (m.told k)).bytes (tells k h.what (m.told k)).close ≡ Some a → answer_by O m k h ≡ Some (plain.Answer k (max m.reading h.reading) a)
-gives O m k h a (q, asks) was answer =
-    ap (λ o. if is_some o && m.started k then option_map (plain.Answer k (max m.reading h.reading)) (O.answer_of (tells k h.what (m.told k)).bytes (tells k h.what (m.told k)).close) else None) asks
-    ∙ ap (λ b. if b then option_map (plain.Answer k (max m.reading h.reading)) (O.answer_of (tells k h.what (m.told k)).bytes (tells k h.what (m.told k)).close) else None) was
-    ∙ ap (option_map (plain.Answer k (max m.reading h.reading))) answer
+gives : HasOneAnswer → (m : Memory) (k : ℕ) (h : Heard) (o : Option Event) (a : plain.Reply) → IsOpen m.config k → m.started k ≡ true
+    → IsAnswered (tells k h.what (m.told k)) (Some a) → IsAnswerBy m k h o → o ≡ Some (plain.Answer k (max m.reading h.reading) a)
+gives one m k h o a still was answered by =
+    let comes = comes_now m k h o still was by in
+    comes.event ∙ ap (option_map (plain.Answer k (max m.reading h.reading))) (one (tells k h.what (m.told k)).bytes (tells k h.what (m.told k)).close comes.answer (Some a) comes.answered answered)
 
 -- a visit that waits for its reply was decided
 owed_of : (O : Outside) (m : Memory) (d : Option Decision) (o : Owed) → owes_by O m d ≡ Some o
@@ -207,8 +211,13 @@ poll_is_kept there rules L O command handed m J D until h s settled active may =
       s.clock active,
     )
 
-pub hearing_goes_on : HistoryStandsThere → DeedKeepsRules → HearingGoesOn
-hearing_goes_on there rules L O command handed m J D until h told visit undecided taken owed s settled active may hears =
+-- what bytes come to
+pub record Answers : Type 0 where
+  pub one : HasOneAnswer
+  pub nothing : NoneAtFirst
+
+pub hearing_goes_on : Answers → HistoryStandsThere → DeedKeepsRules → HearingGoesOn
+hearing_goes_on of there rules L O command handed m J D until h told visit undecided taken owed s settled active may hears =
     let x = session command handed m J D in
     let d = Poll until h in
     let E = D ++ d ∷ [] in
@@ -223,11 +232,11 @@ hearing_goes_on there rules L O command handed m J D until h told visit undecide
     let decided : decision O vs w ≡ decided_by O m h = decided_is O m h visit undecided vs s.visit s.undecided in
     let last : poll_at (polls E) E ≡ Some (split_at D until h []) = last_split E D [] until h refl refl in
     let no_turn : NoTurnYet L O y = All-weaker (λ (t : Turn). t.waits ≤ polls D) (λ (t : Turn). t.waits ≢ polls E) (λ t le is. omega (arith, le, is, count)) (own L O x) s.kept.readings.waits in
-    let unanswered : (k : ℕ) → IsOpen m.config k → m.started k ≡ true → answer_told O k D ≡ None = λ k still was.
+    let unanswered : (k : ℕ) → IsOpen m.config k → m.started k ≡ true → ComesTo k D None = λ k still was.
     ⊎_elim (λ to_it. absurd (subst (IsAnswerTo k) settled.taken to_it)) (λ none. none) (s.unanswered active k still was) in
-    let answer_now : (k : ℕ) → IsOpen m.config k → m.started k ≡ true → answer_told O k E ≡ O.answer_of (tells k w (m.told k)).bytes (tells k w (m.told k)).close = λ k still was.
-    ap (λ (t : Told). O.answer_of t.bytes t.close) (sym (now_told k still was)) in
-    let of_call : (k : ℕ) → call_of w ≡ Some k → taken ≡ answer_by O m k h = λ k is. hears.taken_is ∙ ap (taken_of O m h) is in
+    let answer_now : (k : ℕ) → IsOpen m.config k → m.started k ≡ true → (a : Option plain.Reply) → IsAnswered (tells k w (m.told k)) a → ComesTo k E a = λ k still was a.
+    subst (λ (t : Told). IsAnswered t a) (now_told k still was) in
+    let of_call : (k : ℕ) → call_of w ≡ Some k → IsAnswerBy m k h taken = λ k is. subst (Brings O m h taken) is hears.taken_is in
     record {
       kept = poll_is_kept there rules L O command handed m J D until h s settled active may;
       leads = record { standing = s.leads.standing; history = s.leads.history; program = s.leads.program; config = s.leads.config; by_now = later_by m.session m.waits s.leads.standing s.leads.by_now; first = s.leads.first; numbered = s.leads.numbered };
@@ -240,11 +249,13 @@ hearing_goes_on there rules L O command handed m J D until h told visit undecide
       issued = s.issued;
       told = λ k still was. hears.told_is k still was ∙ now_told k still was;
       unanswered = λ go k still was. ⊎_elim
-          (λ of_it. opt_case (λ o. O.answer_of (tells k w (m.told k)).bytes (tells k w (m.told k)).close ≡ o → IsAnswerTo k taken ⊎ (answer_told O k E ≡ None)) (O.answer_of (tells k w (m.told k)).bytes (tells k w (m.told k)).close)
-          (λ _ none. inr (answer_now k still was ∙ none))
-          (λ a _ some. inl (subst (IsAnswerTo k) (sym (of_call k of_it ∙ gives O m k h a still was some)) refl))
+          (λ of_it.
+          let comes = comes_now m k h taken still was (of_call k of_it) in
+          opt_case (λ a. comes.answer ≡ a → IsAnswerTo k taken ⊎ ComesTo k E None) comes.answer
+          (λ _ none. inr (answer_now k still was None (subst (IsAnswered (tells k w (m.told k))) none comes.answered)))
+          (λ a _ some. inl (subst (IsAnswerTo k) (sym (comes.event ∙ ap (option_map (plain.Answer k (max m.reading h.reading))) some)) refl))
           refl)
-          (λ not_of_it. inr (ap (λ (t : Told). O.answer_of t.bytes t.close) (now k was ∙ not_of_it (told_of k D)) ∙ unanswered k still was))
+          (λ not_of_it. inr (subst (λ (t : Told). IsAnswered t None) (sym (now k was ∙ not_of_it (told_of k D))) (unanswered k still was)))
           (tells_of w k);
       settled = λ before behind e comes sent at. elim (split_of_more D d before e behind comes) [
         | inl t ↦ absurd (let le = front_polls D before t.rest e t.is in omega (arith, le, at, count))
@@ -258,24 +269,24 @@ hearing_goes_on there rules L O command handed m J D until h told visit undecide
             let heard : g ≡ h = heard_of u until g h t.last in
             let of_it : call_of w ≡ Some k = ap (λ (i : Heard). call_of i.what) (sym heard) ∙ ans.of_call in
             let deeds : before ++ Poll u g ∷ [] ≡ E = ap (λ l. l ++ Poll u g ∷ []) t.all ∙ ap (λ e. D ++ e ∷ []) t.last in
-            let answer : answer_told O k E ≡ Some a = ap (answer_told O k) (sym deeds) ∙ ans.now in
-            let before_it : answer_told O k D ≡ None = ap (answer_told O k) (sym t.all) ∙ ans.not_yet in
+            let answer : ComesTo k E (Some a) = subst (λ l. ComesTo k l (Some a)) deeds ans.now in
+            let before_it : ComesTo k D None = subst (λ l. ComesTo k l None) t.all ans.not_yet in
             let here : Some m.config ≡ Some c = sym (stands_at there L O command handed m J D s) ∙ ap (λ l. config_at (journal L J) m.session (polls l)) (sym t.all) ∙ at in
             let one : m.config ≡ c = cc here in
             let still_here : IsOpen m.config k = subst (λ b. IsOpen b k) (sym one) still in
             bool_case (λ b. m.started k ≡ b → ⊥) (m.started k)
             (λ _ was.
-            let some : taken ≡ Some (plain.Answer k (max m.reading h.reading) a) = of_call k of_it ∙ gives O m k h a still_here was (sym (answer_now k still_here was) ∙ answer) in
+            let some : taken ≡ Some (plain.Answer k (max m.reading h.reading) a) = gives of.one m k h taken a still_here was (subst (λ (i : Told). IsAnswered i (Some a)) (sym (now_told k still_here was)) answer) (of_call k of_it) in
             let f : None ≡ Some (plain.Answer k (max m.reading h.reading) a) = sym none ∙ some in cc f)
             (λ _ was_not.
             let unstarted : was_started k D ≡ false = sym (s.started k) ∙ was_not in
             let nothing : told_of k E ≡ told_of k D = told_of_new k D (d ∷ []) unstarted ∙ sym (told_of_new k D [] unstarted) ∙ ap (told_of k) (append-nil D) in
-            let f : Some a ≡ None = sym answer ∙ ap (λ (t : Told). O.answer_of t.bytes t.close) nothing ∙ before_it in cc f)
+            let f : Some a ≡ None = of.one (told_of k D).bytes (told_of k D).close (Some a) None (subst (λ (i : Told). IsAnswered i (Some a)) nothing answer) before_it in cc f)
             refl)
       ];
-      taken = λ e has. opt_case (λ c. taken_of O m h c ≡ Some e → call_of w ≡ c → IsBrought L O y e × IsOfOutside e × (reading_of e ≡ Some (max m.reading h.reading))) (call_of w)
-          (λ _ is _.
-          let (o, owes, arrives) = brought_by (owes_by O m (decided_by O m h)) (max m.reading h.reading) e is in
+      taken = λ e has. opt_case (λ c. Brings O m h taken c → call_of w ≡ c → IsBrought L O y e × IsOfOutside e × (reading_of e ≡ Some (max m.reading h.reading))) (call_of w)
+          (λ _ brings _.
+          let (o, owes, arrives) = brought_by (owes_by O m (decided_by O m h)) (max m.reading h.reading) e (sym brings ∙ has) in
           let (choice, chosen, same) = owed_of O m (decided_by O m h) o owes in
           let (n, v, verdict, event) = arrived o.verdict (max m.reading h.reading) e arrives in
           let by : Decides L O y D w choice (Arrives n v) = record {
@@ -286,21 +297,21 @@ hearing_goes_on there rules L O command handed m J D until h told visit undecide
           } in
           subst (λ f. IsBrought L O y f × IsOfOutside f × (reading_of f ≡ Some (max m.reading h.reading))) (sym event)
           (((choice, record { split = split_at D until h []; poll = last; decides = by }), no_turn), tt, refl))
-          (λ k _ is of_it.
-          let g = gave O m k h e is in
+          (λ k _ brings of_it.
+          let g = gave m k h taken e brings has in
           subst (λ f. IsBrought L O y f × IsOfOutside f × (reading_of f ≡ Some (max m.reading h.reading))) (sym g.is) (
             (
               record {
                 split = split_at D until h [];
                 poll = last;
-                answers = record { of_call = of_it; now = answer_now k g.still g.was ∙ g.answer; not_yet = unanswered k g.still g.was };
+                answers = record { of_call = of_it; now = answer_now k g.still g.was (Some g.reply) g.answer; not_yet = unanswered k g.still g.was };
               },
               no_turn,
             ),
             tt,
             refl,
           ))
-          (sym hears.taken_is ∙ has) refl;
+          hears.taken_is refl;
       replies = λ none before behind u g choice v comes dec. elim (split_of_more D d before (Poll u g) behind comes) [
         | inl t ↦ subst (λ l. was_replied choice.visit (before_poll l) ≡ true) (sym t.follows)
             (was_replied_more choice.visit t.rest (d ∷ []) (s.replies settled.owed before t.rest u g choice v t.is (decides_carried L O y x before g.what choice v refl dec)))
@@ -325,7 +336,7 @@ hearing_goes_on there rules L O command handed m J D until h told visit undecide
           let of_visit = visit_there (visit_of w) (λ i. decision_by O m.undecided i w (m.visit i)) choice chosen in (
             max m.reading h.reading,
             inl (
-                hears.taken_is ∙ ap (taken_of O m h) (no_call w of_visit.0 of_visit.1)
+                subst (Brings O m h taken) (no_call w of_visit.0 of_visit.1) hears.taken_is
                 ∙ ap (option_and_then (λ (p : Owed). arrival_by p.verdict (max m.reading h.reading))) owes
                 ∙ ap (λ u. arrival_by u (max m.reading h.reading)) arrives),
           );

@@ -7,7 +7,7 @@ use Rattle.wf_deeds.proofs.Carried.{decides_carried, answers_carried}
 use Rattle.wf_deeds.proofs.Lists.{IsNoPoll, polls-append, nows-append, was_started-append, was_dropped-append, was_replied-append, was_replied_more, reading_stays, split_at, poll_behind}
 use Rattle.wf_deeds.proofs.Splits.{split_of_more}
 use Rattle.wf_deeds.proofs.Telling.{told_of_new, told_of_stays, visits_stay, no_polls, all_before_poll}
-use Rattle.wf_deeds.specs.Deeds.{polls, nows, reading_by, was_started, was_dropped, was_replied, before_poll, Split, Told, nothing_told, told_of, answer_told, Decision, decision, visits_after, find_visit, undecided, poll_at}
+use Rattle.wf_deeds.specs.Deeds.{polls, nows, reading_by, was_started, was_dropped, was_replied, before_poll, Split, Told, nothing_told, told_of, IsAnswered, ComesTo, Decision, decision, visits_after, find_visit, undecided, poll_at}
 use Rattle.wf_deeds.specs.Kept.{Command, Session, IsOpen, IsQuietAt, reading, last_of}
 use Rattle.wf_deeds.specs.Memory.{Memory, IsSettled, StandsFor, session, forgotten}
 use Rattle.wf_deeds.specs.Outside.{Outside, code_of}
@@ -17,6 +17,7 @@ use Rattle.wf_events.specs.View.{address_view}
 use Rattle.wf_host.specs.declared.data.Deed.{Deed}
 use Rattle.wf_host.specs.declared.data.Deed.TheVariants.{Start, Poll, Now, Reply, Drop, Print}
 use Rattle.wf_host.specs.declared.data.Heard.{Heard}
+use Rattle.wf_http_in.specs.AnswerOf.{NoneAtFirst}
 use Rattle.wf_model.specs.Config.{TimedOut, Call, Answered, Config, Active}
 use Rattle.wf_model.specs.Ready.{call, quiet, request_in, request_of}
 use Rattle.wf_journal_laws.specs.At.{journal, config_at, config_before}
@@ -109,8 +110,8 @@ pub or-none : (a : Bool) → a || false ≡ a
 or-none true = refl
 or-none false = refl
 
-pub start_goes_on : HistoryStandsThere → DeedKeepsRules → StartGoesOn
-start_goes_on there rules L O command handed m J D k to bytes started told s settled active asks new hears is =
+pub start_goes_on : NoneAtFirst → HistoryStandsThere → DeedKeepsRules → StartGoesOn
+start_goes_on hears there rules L O command handed m J D k to bytes started told s settled active asks new is =
     let x = session command handed m J D in
     let d = Start k to bytes in
     let E = D ++ d ∷ [] in
@@ -148,8 +149,8 @@ start_goes_on there rules L O command handed m J D k to bytes started told s set
           (λ old. is.others j old ∙ s.told j still old ∙ sym (old_told j old))
           (either k j (m.started j) (sym (is.is j) ∙ was));
       unanswered = λ go j still was. ⊎_elim
-          (λ same. inr (subst (λ i. answer_told O i E ≡ None) (sym same) (ap (λ (t : Told). O.answer_of t.bytes t.close) new_told ∙ hears)))
-          (λ old. ⊎_elim (λ to_it. inl to_it) (λ none. inr (ap (λ (t : Told). O.answer_of t.bytes t.close) (old_told j old) ∙ none)) (s.unanswered go j still old))
+          (λ same. inr (subst (λ i. ComesTo i E None) (sym same) (subst (λ (t : Told). IsAnswered t None) (sym new_told) hears)))
+          (λ old. ⊎_elim (λ to_it. inl to_it) (λ none. inr (subst (λ (t : Told). IsAnswered t None) (sym (old_told j old)) none)) (s.unanswered go j still old))
           (either k j (m.started j) (sym (is.is j) ∙ was));
       settled = λ before behind e comes sent at. record { taken = settled.taken; owed = settled.owed; still = settled.still };
       visit = still_visit L O command handed m J D s d tt refl;
@@ -183,7 +184,7 @@ drop_goes_on there rules L O command handed m J D k dropped s settled timed is =
           ∙ ap (λ b. was_dropped j D || b) (sym (or-none (nat_eq k j))) ∙ sym (was_dropped-append j D (d ∷ []));
       issued = s.issued;
       told = λ j still was. s.told j still was ∙ sym (old_told j was);
-      unanswered = λ go j still was. ⊎_elim (λ to_it. inl to_it) (λ none. inr (ap (λ (t : Told). O.answer_of t.bytes t.close) (old_told j was) ∙ none)) (s.unanswered go j still was);
+      unanswered = λ go j still was. ⊎_elim (λ to_it. inl to_it) (λ none. inr (subst (λ (t : Told). IsAnswered t None) (sym (old_told j was)) none)) (s.unanswered go j still was);
       settled = λ before behind e comes sent at. record { taken = settled.taken; owed = settled.owed; still = settled.still };
       visit = still_visit L O command handed m J D s d tt refl;
       undecided = still_undecided L O command handed m J D s d tt refl;
@@ -256,7 +257,7 @@ reply_goes_on there rules L O command handed m J D o s untaken waiting =
       dropped = λ j. s.dropped j ∙ sym (or-none (was_dropped j D)) ∙ sym (was_dropped-append j D (d ∷ []));
       issued = s.issued;
       told = λ j still was. s.told j still was ∙ sym (old_told j was);
-      unanswered = λ go j still was. ⊎_elim (λ to_it. inl to_it) (λ none. inr (ap (λ (t : Told). O.answer_of t.bytes t.close) (old_told j was) ∙ none)) (s.unanswered go j still was);
+      unanswered = λ go j still was. ⊎_elim (λ to_it. inl to_it) (λ none. inr (subst (λ (t : Told). IsAnswered t None) (sym (old_told j was)) none)) (s.unanswered go j still was);
       settled = λ before behind e comes sent at. elim (split_of_more D d before e behind comes) [
         | inl t ↦ absurd (
             let old = s.settled before t.rest e t.is (sent_too e sent) (at ∙ still_polls L O command handed m J D s d tt refl) in
@@ -300,7 +301,7 @@ print_goes_on rules L O command handed m J D text s untaken unowed =
       dropped = λ j. s.dropped j ∙ sym (or-none (was_dropped j D)) ∙ sym (was_dropped-append j D (d ∷ []));
       issued = s.issued;
       told = λ j still was. s.told j still was ∙ sym (old_told j was);
-      unanswered = λ go j still was. ⊎_elim (λ to_it. inl to_it) (λ none. inr (ap (λ (t : Told). O.answer_of t.bytes t.close) (old_told j was) ∙ none)) (s.unanswered go j still was);
+      unanswered = λ go j still was. ⊎_elim (λ to_it. inl to_it) (λ none. inr (subst (λ (t : Told). IsAnswered t None) (sym (old_told j was)) none)) (s.unanswered go j still was);
       settled = λ before behind e comes sent at. elim (split_of_more D d before e behind comes) [
         | inl t ↦ s.settled before t.rest e t.is (sent_too e sent) (at ∙ still_polls L O command handed m J D s d tt refl)
         | inr t ↦ absurd (subst (λ g. IsSent L O (with_deed x d) g) t.last sent)

@@ -11,7 +11,7 @@ use Rattle.wf_deeds.proofs.Lists.{polls-append, poll_found, split_at}
 use Rattle.wf_deeds.proofs.Sending.{reads_at, last_split}
 use Rattle.wf_deeds.proofs.TurnMore.{Journals, own_more, before_stays, config_stays, first_stays}
 use Rattle.wf_deeds.proofs.Visits.{bool_case}
-use Rattle.wf_deeds.specs.Deeds.{polls, reading_by, starts_or_polls, Split, answer_told, call_of, visit_of, Decision, decision, decision_of, find_visit, visits_after}
+use Rattle.wf_deeds.specs.Deeds.{polls, reading_by, starts_or_polls, Split, Told, told_of, IsAnswered, call_of, visit_of, Decision, decision, decision_of, find_visit, visits_after}
 use Rattle.wf_deeds.specs.Kept.{Session, StandsFirst, IsOpen, Answers, AnsweredAt, DecidedAt, own, config, reading_of, last_of}
 use Rattle.wf_deeds.specs.Memory.{Memory, IsAnswerTo, IsOfOutside, session}
 use Rattle.wf_deeds.specs.Outside.{Outside, Verdict, Arrives}
@@ -21,6 +21,7 @@ use Rattle.wf_events.specs.Reading.{meaning}
 use Rattle.wf_host.specs.declared.data.Deed.{Deed}
 use Rattle.wf_host.specs.declared.data.Deed.TheVariants.{Start, Poll, Now, Reply, Drop, Print}
 use Rattle.wf_host.specs.declared.data.Heard.{Heard}
+use Rattle.wf_http_in.specs.AnswerOf.{HasOneAnswer}
 use Rattle.wf_model.specs.CallLaws.{CallsGoOn, AnswersClose}
 use Rattle.wf_model.specs.Config.{Active, Returned, Raised, Cancelled, Outcome, Config, After, To, Wrong, NotNow}
 use Rattle.wf_model.specs.Ready.{request_of}
@@ -36,6 +37,7 @@ use Rattle.wf_shared.specs.Events as plain
 use Rattle.wf_shared.specs.Events.{Event, Turn}
 
 pub record Laws : Type 0 where
+  pub one : HasOneAnswer
   pub journals : Journals
   pub there : HistoryStandsThere
   pub goes_on : RecordGoesOn
@@ -137,14 +139,17 @@ below a b le differ = bool_case (λ v. nat_eq a b ≡ v → a < b) (nat_eq a b) 
 
 -- ## The answer or the arrival that was taken
 -- the last poll answers one call, with one answer
-one_answer : (L : Language) (O : Outside) (x y : Session) (before behind : List Deed) (until : ℕ) (h : Heard) (k i : ℕ) (a b : plain.Reply) → x.deeds ≡ before ++ Poll until h ∷ behind → polls behind ≡ 0
+same_answer : HasOneAnswer → (L : Language) (O : Outside) (x y : Session) (before behind : List Deed) (until : ℕ) (h : Heard) (k i : ℕ) (a b : plain.Reply) → x.deeds ≡ before ++ Poll until h ∷ behind → polls behind ≡ 0
     → Answers L O y before (Poll until h) h.what k a → AnsweredAt L O x (polls x.deeds) i b → (i ≡ k) × (b ≡ a)
-one_answer L O x y before behind until h k i a b comes none ans at =
+same_answer one L O x y before behind until h k i a b comes none ans at =
     let two : Some at.split ≡ Some (split_at before until h behind) = sym at.poll ∙ last_split x.deeds before behind until h comes none in
     let same : at.split ≡ split_at before until h behind = cc two in
     let calls : Some i ≡ Some k = sym at.answers.of_call ∙ ap (λ (s : Split). call_of s.what) same ∙ ans.of_call in
     let call : i ≡ k = cc calls in
-    let told : Some b ≡ Some a = sym at.answers.now ∙ ap (λ (s : Split). answer_told O i (s.before ++ s.deed ∷ [])) same ∙ ap (λ n. answer_told O n (before ++ Poll until h ∷ [])) call ∙ ans.now in
+    let deeds : told_of i (at.split.before ++ at.split.deed ∷ []) ≡ told_of k (before ++ Poll until h ∷ []) =
+    ap (λ (s : Split). told_of i (s.before ++ s.deed ∷ [])) same ∙ ap (λ n. told_of n (before ++ Poll until h ∷ [])) call in
+    let here : IsAnswered (told_of k (before ++ Poll until h ∷ [])) (Some b) = subst (λ (t : Told). IsAnswered t (Some b)) deeds at.answers.now in
+    let told : Some b ≡ Some a = one (told_of k (before ++ Poll until h ∷ [])).bytes (told_of k (before ++ Poll until h ∷ [])).close (Some b) (Some a) here ans.now in
     let reply : b ≡ a = cc told in
     (call, reply)
 
@@ -159,20 +164,20 @@ no_answer L O x y before behind until h k a d v comes none ans at =
     let f : None ≡ Some k = sym (no_call h.what n of_visit) ∙ ans.of_call in cc f
 
 -- what was taken stands first where the last poll answers
-of_taken : (L : Language) (O : Outside) (x y : Session) (before behind : List Deed) (until : ℕ) (h : Heard) (k : ℕ) (a : plain.Reply) (w now : ℕ) (e : Event) → x.deeds ≡ before ++ Poll until h ∷ behind → polls behind ≡ 0
+of_taken : HasOneAnswer → (L : Language) (O : Outside) (x y : Session) (before behind : List Deed) (until : ℕ) (h : Heard) (k : ℕ) (a : plain.Reply) (w now : ℕ) (e : Event) → x.deeds ≡ before ++ Poll until h ∷ behind → polls behind ≡ 0
     → Answers L O y before (Poll until h) h.what k a → w ≡ suc (polls before) → (NoTurnYet L O x → StandsFirst (own L O y) w e) → IsBrought L O x e × IsOfOutside e × (reading_of e ≡ Some now)
     → (r : ℕ) × StandsFirst (own L O y) (suc (polls before)) (plain.Answer k r a)
-of_taken L O x y before behind until h k a w now (plain.Answer i r b) comes none ans count first took =
-    let same = one_answer L O x y before behind until h k i a b comes none ans took.0.0 in
+of_taken one L O x y before behind until h k a w now (plain.Answer i r b) comes none ans count first took =
+    let same = same_answer one L O x y before behind until h k i a b comes none ans took.0.0 in
     (r, subst (λ n. StandsFirst (own L O y) n (plain.Answer k r a)) count (subst (λ n. StandsFirst (own L O y) w (plain.Answer n r a)) same.0 (subst (λ z. StandsFirst (own L O y) w (plain.Answer i r z)) same.1 (first took.0.1))))
-of_taken L O x y before behind until h k a w now (plain.Arrive n r v) comes none ans count first took =
+of_taken one L O x y before behind until h k a w now (plain.Arrive n r v) comes none ans count first took =
     absurd (no_answer L O x y before behind until h k a took.0.0.0 (Arrives n v) comes none ans took.0.0.1)
-of_taken L O x y before behind until h k a w now (plain.Move b) comes none ans count first took = absurd took.1
-of_taken L O x y before behind until h k a w now (plain.MoveAt b r) comes none ans count first took = absurd took.1
-of_taken L O x y before behind until h k a w now (plain.Begin b) comes none ans count first took = absurd took.1
-of_taken L O x y before behind until h k a w now (plain.Issue b r) comes none ans count first took = absurd took.1
-of_taken L O x y before behind until h k a w now (plain.Due b r) comes none ans count first took = absurd took.1
-of_taken L O x y before behind until h k a w now (plain.Cancel r) comes none ans count first took = absurd took.1
+of_taken one L O x y before behind until h k a w now (plain.Move b) comes none ans count first took = absurd took.1
+of_taken one L O x y before behind until h k a w now (plain.MoveAt b r) comes none ans count first took = absurd took.1
+of_taken one L O x y before behind until h k a w now (plain.Begin b) comes none ans count first took = absurd took.1
+of_taken one L O x y before behind until h k a w now (plain.Issue b r) comes none ans count first took = absurd took.1
+of_taken one L O x y before behind until h k a w now (plain.Due b r) comes none ans count first took = absurd took.1
+of_taken one L O x y before behind until h k a w now (plain.Cancel r) comes none ans count first took = absurd took.1
 
 -- a call that was answered isn't open behind its answer
 answered_open : (laws : Laws) (m : Memory) (es : List Event) (c : Config) (k : ℕ) (rest : List Event) (o : Option Event) → IsAnswerTo k o → IsOpen c k → c.outcome ≡ Active → run_on m.program (To m.config) (with_taken o rest) ≡ To c → ⊥
@@ -270,7 +275,7 @@ turn_goes_on laws L O command handed m J D payload es c s chosen some means =
           (λ _ untaken.
           let (r, first) = s.answers untaken before after until h k a d comes (answers_carried L O y x before (Poll until h) h.what k a ans) (sym (config_is (polls before) (ahead before after until h comes)) ∙ at) still in
           (r, stand (suc (polls before)) (plain.Answer k r a) first))
-          (λ e _ has. of_taken L O x y before after until h k a (polls D) m.reading e comes none ans count (λ yet. new_first e has yet) (s.taken e has))
+          (λ e _ has. of_taken laws.one L O x y before after until h k a (polls D) m.reading e comes none ans count (λ yet. new_first e has yet) (s.taken e has))
           refl)
           refl;
       taken = λ e has. absurd (let f : None ≡ Some e = has in cc f);

@@ -1,6 +1,6 @@
 -- Reading a list of deeds: what was started, asked and told.
 --     polls, nows, reading_by         counts and readings
---     told_of, answer_told            what was told of a call since its start, and the answer that it comes to
+--     told_of, ComesTo                what was told of a call since its start, and the answer that it comes to
 --     visits_after, decision          the visits so far, and the visit that a poll decides
 use Rattle.std.specs.Prelude.{ℕ, zero, suc, max, Bool, true, false, ◌||◌, nat_eq, nat_le, if◌then◌else◌, is_some, List, [], ◌∷◌, ◌++◌, take, Option, Some, None, option_and_then}
 use Rattle.wf_deeds.specs.Outside.{Outside}
@@ -8,6 +8,7 @@ use Rattle.wf_host.specs.declared.data.Deed.{Deed}
 use Rattle.wf_host.specs.declared.data.Deed.TheVariants.{Start, Poll, Now, Reply, Drop, Print}
 use Rattle.wf_host.specs.declared.data.What.{What}
 use Rattle.wf_host.specs.declared.data.What.TheVariants as what
+use Rattle.wf_http_in.specs.AnswerOf.{AnswerOf}
 use Rattle.wf_shared.specs.Events as plain
 use Rattle.wf_shared.specs.HttpBody.{Close, Open, Ended, Broke}
 
@@ -114,9 +115,12 @@ told_of k [] = nothing_told
 told_of k (Start j to b ∷ ds) = if nat_eq j k then told_on k nothing_told ds else told_of k ds
 told_of k (d ∷ ds) = told_of k ds
 
--- the answer that it comes to
-abbrev pub answer_told : Outside → ℕ → List Deed → Option plain.Reply
-answer_told O k ds = O.answer_of (told_of k ds).bytes (told_of k ds).close
+-- it comes to this answer, or to none while more may have to come
+abbrev pub IsAnswered : Told → Option plain.Reply → Type 0
+IsAnswered t a = AnswerOf t.bytes t.close a
+
+abbrev pub ComesTo : ℕ → List Deed → Option plain.Reply → Type 0
+ComesTo k ds a = IsAnswered (told_of k ds) a
 
 -- the call of which something was told
 abbrev pub call_of : What → Option ℕ

@@ -2,7 +2,7 @@
 --     Session     the records, the number of the session, the deeds begun by then, the command, and its end if it has ended
 --     Kept        the rules: on calls, waits, answers, readings and visits
 use Rattle.std.specs.Prelude.{◌≡◌, ◌≢◌, ◌⊎◌, ◌≤◌, ℕ, suc, Bool, true, false, IsTrue, List, [], ◌∷◌, ◌++◌, length, All, Option, Some, None}
-use Rattle.wf_deeds.specs.Deeds.{polls, nows, reading_by, was_started, was_dropped, was_replied, starts_or_polls, before_poll, Split, poll_at, answer_told, call_of, Decision, decision, visits_after}
+use Rattle.wf_deeds.specs.Deeds.{polls, nows, reading_by, was_started, was_dropped, was_replied, starts_or_polls, before_poll, Split, poll_at, ComesTo, call_of, Decision, decision, visits_after}
 use Rattle.wf_deeds.specs.Outside.{Outside, Verdict, Arrives, code_of}
 use Rattle.wf_events.specs.View.{address_view}
 use Rattle.wf_host.specs.declared.data.Address.{Address}
@@ -128,8 +128,8 @@ module _ (L : Language) (O : Outside) (x : Session) where
   -- a poll behind these deeds answers the call: it is of the call, what was told since its start comes to the answer, and before it to none
   pub record Answers (before : List Deed) (poll : Deed) (heard : What) (k : ℕ) (a : plain.Reply) : Type 0 where
     pub of_call : call_of heard ≡ Some k
-    pub now : answer_told O k (before ++ poll ∷ []) ≡ Some a
-    pub not_yet : answer_told O k before ≡ None
+    pub now : ComesTo k (before ++ poll ∷ []) (Some a)
+    pub not_yet : ComesTo k before None
 
   -- poll w answers the call
   pub record AnsweredAt (w k : ℕ) (a : plain.Reply) : Type 0 where

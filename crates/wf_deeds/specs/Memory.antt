@@ -3,7 +3,7 @@
 --     StandsFor   the deeds of the session so far, over the records of the file
 use Rattle.std.specs.Prelude.{◌≡◌, ◌≢◌, ◌⊎◌, ◌≤◌, ◌&&◌, ◌||◌, ℕ, max, Bool, true, false, IsTrue, is_some, nat_le, if◌then◌else◌, List, ◌∷◌, ◌++◌, length, Option, Some, None, option_map, option_and_then, Ok}
 use Rattle.wf_ast.specs.Tree.{Program}
-use Rattle.wf_deeds.specs.Deeds.{polls, nows, reading_by, was_started, was_dropped, was_replied, poll_at, Split, Told, nothing_told, tells, told_of, answer_told, call_of, Visit, Decision, visit_of, tells_visit, find_visit, undecided, visits_after, once_asked}
+use Rattle.wf_deeds.specs.Deeds.{polls, nows, reading_by, was_started, was_dropped, was_replied, poll_at, Split, Told, nothing_told, tells, told_of, IsAnswered, ComesTo, call_of, Visit, Decision, visit_of, tells_visit, find_visit, undecided, visits_after, once_asked}
 use Rattle.wf_deeds.specs.Kept.{Command, Session, Kept, StandsFirst, IsOpen, own, last_of, reading_of, Decides}
 use Rattle.wf_deeds.specs.Outside.{Outside, Verdict, Arrives, Refuses}
 use Rattle.wf_deeds.specs.Rules.{AnswersStand, RepliesAreMade, IsSent, IsBrought}
@@ -110,7 +110,7 @@ pub record StandsFor (L : Language) (O : Outside) (command : Command) (handed : 
   pub issued : (k : ℕ) → m.started k ≡ true → k ≤ length m.config.calls
   -- of those that are open: what was told, which is no answer but for the one that was taken
   pub told : (k : ℕ) → IsOpen m.config k → m.started k ≡ true → m.told k ≡ told_of k D
-  pub unanswered : m.config.outcome ≡ Active → (k : ℕ) → IsOpen m.config k → m.started k ≡ true → IsAnswerTo k m.taken ⊎ (answer_told O k D ≡ None)
+  pub unanswered : m.config.outcome ≡ Active → (k : ℕ) → IsOpen m.config k → m.started k ≡ true → IsAnswerTo k m.taken ⊎ ComesTo k D None
   -- since the last poll nothing was sent before it was settled
   pub settled : (before behind : List Deed) (d : Deed) → D ≡ before ++ d ∷ behind → IsSent L O (session command handed m J D) d → polls before ≡ polls D → IsSettled m
   -- the visits of the session
@@ -126,12 +126,20 @@ pub record StandsFor (L : Language) (O : Outside) (command : Command) (handed : 
       → (t : ℕ) × ((m.taken ≡ Some (plain.Arrive n t v)) ⊎ StandsFirst (own L O (session command handed m J D)) (polls D) (plain.Arrive n t v))
 
 -- ## What is heard
+-- whether a call is open and was started
+abbrev pub awaits : Memory → ℕ → Bool
+awaits m k = is_some (request_of m.config k) && m.started k
+
+-- the answer, if any, to which it comes with what is told now
+pub record ComesNow (m : Memory) (k : ℕ) (h : Heard) (e : Option Event) : Type 0 where
+  pub awaited : awaits m k ≡ true
+  pub answer : Option plain.Reply
+  pub answered : IsAnswered (tells k h.what (m.told k)) answer
+  pub event : e ≡ option_map (plain.Answer k (max m.reading h.reading)) answer
+
 -- the answer that this gives to a call that is open and was started
-abbrev pub answer_by : Outside → Memory → ℕ → Heard → Option Event
-answer_by O m k h =
-    if is_some (request_of m.config k) && m.started k
-    then option_map (plain.Answer k (max m.reading h.reading)) (O.answer_of (tells k h.what (m.told k)).bytes (tells k h.what (m.told k)).close)
-    else None
+abbrev pub IsAnswerBy : Memory → ℕ → Heard → Option Event → Type 0
+IsAnswerBy m k h e = ((awaits m k ≡ false) × (e ≡ None)) ⊎ ComesNow m k h e
 
 -- the visit that it decides
 abbrev pub decision_by : Outside → ℕ → ℕ → What → Option Visit → Option Decision
@@ -149,12 +157,9 @@ arrival_by (Arrives n v) r = Some (plain.Arrive n r v)
 arrival_by (Refuses code) r = None
 
 -- what it brings: an answer, or an arrival
-abbrev pub taken_of : Outside → Memory → Heard → Option ℕ → Option Event
-taken_of O m h (Some k) = answer_by O m k h
-taken_of O m h None = option_and_then (λ (o : Owed). arrival_by o.verdict (max m.reading h.reading)) (owes_by O m (decided_by O m h))
-
-abbrev pub taken_by : Outside → Memory → Heard → Option Event
-taken_by O m h = taken_of O m h (call_of h.what)
+abbrev pub Brings : Outside → Memory → Heard → Option Event → Option ℕ → Type 0
+Brings O m h e (Some k) = IsAnswerBy m k h e
+Brings O m h e None = e ≡ option_and_then (λ (o : Owed). arrival_by o.verdict (max m.reading h.reading)) (owes_by O m (decided_by O m h))
 
 -- the visit of which it tells, from then on
 abbrev pub visit_by : What → ℕ → Option Visit → Bool → Visit

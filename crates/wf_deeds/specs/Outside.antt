@@ -1,7 +1,7 @@
--- What bytes that were heard come to. The rules on calls and visits are told over any such meaning.
-use Rattle.std.specs.Prelude.{ℕ, Bool, List, Option}
+-- What the bytes of a visit come to. The rules on visits are told over any such meaning; what the bytes of an answer come to is `AnswerOf`.
+use Rattle.std.specs.Prelude.{ℕ, Bool, List}
 use Rattle.wf_model.specs.Config.{Config}
-use Rattle.wf_shared.specs.Events.{Reply, Visitor}
+use Rattle.wf_shared.specs.Events.{Visitor}
 use Rattle.wf_shared.specs.HttpBody.{Close}
 use Rattle.wf_shared.specs.HttpText.{ReplyCode, Accepted}
 
@@ -15,8 +15,6 @@ code_of (Arrives n v) = Accepted
 code_of (Refuses code) = code
 
 pub record Outside : Type 0 where
-  -- the answer to a call, none while more may have to come
-  pub answer_of : List ℕ → Close → Option Reply
   -- whether it is known what a visit asks
   pub is_asked : List ℕ → Close → Bool
   -- the verdict on a visit, which may have come to a crowd

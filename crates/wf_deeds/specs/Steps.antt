@@ -3,9 +3,9 @@
 use Rattle.std.specs.Prelude.{◌≡◌, ◌≢◌, ◌⊎◌, ◌≤◌, ◌||◌, ℕ, suc, max, ◌+◌, Bool, true, false, IsTrue, is_some, nat_eq, if◌then◌else◌, List, [], ◌∷◌, ◌++◌, length, Option, Some, None}
 use Rattle.std.specs.List.{AllByRecursion}
 use Rattle.wf_ast.specs.Tree.{Program}
-use Rattle.wf_deeds.specs.Deeds.{nows, reading_by, Told, nothing_told, tells, Visit, visit_of, IsSmall}
+use Rattle.wf_deeds.specs.Deeds.{nows, reading_by, Told, nothing_told, tells, call_of, Visit, visit_of, IsSmall}
 use Rattle.wf_deeds.specs.Kept.{Command, Session, Kept, IsOpen, last_of}
-use Rattle.wf_deeds.specs.Memory.{Owed, Memory, session, LeadsTo, IsSettled, AllIsSent, StandsFor, taken_by, owes_by, decided_by, visit_by}
+use Rattle.wf_deeds.specs.Memory.{Owed, Memory, session, LeadsTo, IsSettled, AllIsSent, StandsFor, Brings, owes_by, decided_by, visit_by}
 use Rattle.wf_deeds.specs.Outside.{Outside, code_of}
 use Rattle.wf_deeds.specs.Rules.{IsOwn, with_end}
 use Rattle.wf_deeds.specs.Turns.{TakeReading, turn_of}
@@ -22,7 +22,6 @@ use Rattle.wf_model.specs.Run.{run_on}
 use Rattle.wf_journal_laws.specs.At.{journal, config_before}
 use Rattle.wf_journal_laws.specs.Language.{Language}
 use Rattle.wf_shared.specs.Events.{Event, Turn}
-use Rattle.wf_shared.specs.HttpBody.{Open}
 use Rattle.wf_shared.specs.HttpText.{reply_bytes}
 
 -- ## Memories
@@ -49,13 +48,9 @@ pub record Starts (m : Memory) (k : ℕ) (started : ℕ → Bool) (told : ℕ �
   pub first : told k ≡ nothing_told
   pub others : (j : ℕ) → m.started j ≡ true → told j ≡ m.told j
 
--- nothing heard is no answer
-abbrev pub WaitsToHear : Outside → Type 0
-WaitsToHear O = O.answer_of [] Open ≡ None
-
 abbrev pub StartGoesOn : Type 0
 StartGoesOn = (L : Language) (O : Outside) (command : Command) (handed : Bool) (m : Memory) (J : List (List ℕ)) (D : List Deed) (k : ℕ) (to : Address) (bytes : List ℕ) (started : ℕ → Bool) (told : ℕ → Told)
-    → StandsFor L O command handed m J D → IsSettled m → m.config.outcome ≡ Active → request_of m.config k ≡ Some (record { address = address_view to; bytes = bytes }) → m.started k ≡ false → WaitsToHear O → Starts m k started told
+    → StandsFor L O command handed m J D → IsSettled m → m.config.outcome ≡ Active → request_of m.config k ≡ Some (record { address = address_view to; bytes = bytes }) → m.started k ≡ false → Starts m k started told
     → StandsFor L O command handed (with_calls m started m.dropped told) J (D ++ Start k to bytes ∷ [])
 
 abbrev pub DropGoesOn : Type 0
@@ -90,7 +85,7 @@ VisitsAre O m h seen crowd (Some n) = ((j : ℕ) → seen j ≡ (if nat_eq n j t
 pub record Hears (O : Outside) (m : Memory) (h : Heard) (told : ℕ → Told) (visit : ℕ → Option Visit) (undecided : ℕ) (taken : Option Event) (owed : Option Owed) : Type 0 where
   pub told_is : (k : ℕ) → IsOpen m.config k → m.started k ≡ true → told k ≡ tells k h.what (m.told k)
   pub visits_are : VisitsAre O m h visit undecided (visit_of h.what)
-  pub taken_is : taken ≡ taken_by O m h
+  pub taken_is : Brings O m h taken (call_of h.what)
   pub owed_is : owed ≡ owes_by O m (decided_by O m h)
 
 -- before a poll by itself all is sent, and it waits until the least due moment
@@ -140,26 +135,19 @@ TurnIsChosen = (L : Language) (O : Outside) (command : Command) (handed : Bool) 
 
 -- ## The beginning
 -- a session that did nothing yet but read the clock
-abbrev pub fresh : Program → Config → ℕ → ℕ → Memory
-fresh p c number reading = record {
-  program = p;
-  config = c;
-  session = number;
-  reading = reading;
-  waits = 0;
-  started = λ k. false;
-  dropped = λ k. false;
-  told = λ k. nothing_told;
-  visit = λ n. None;
-  undecided = 0;
-  taken = None;
-  owed = None;
-}
+pub record IsFresh (m : Memory) : Type 0 where
+  pub waits : m.waits ≡ 0
+  pub started : (k : ℕ) → m.started k ≡ false
+  pub dropped : (k : ℕ) → m.dropped k ≡ false
+  pub visit : (n : ℕ) → m.visit n ≡ None
+  pub undecided : m.undecided ≡ 0
+  pub taken : m.taken ≡ None
+  pub owed : m.owed ≡ None
 
 abbrev pub FreshStands : Type 0
-FreshStands = (L : Language) (O : Outside) (command : Command) (handed : Bool) (p : Program) (c : Config) (number reading : ℕ) (J : List (List ℕ)) (D : List Deed)
-    → Kept L O (session command handed (fresh p c number reading) J D) → AllByRecursion IsSmall D → LeadsTo L J (fresh p c number reading) → reading ≡ reading_by (last_of (config_before (journal L J) number)) D 0 → c.last ≤ reading
-    → (c.outcome ≡ Active → length (nows D) ≡ 1) → StandsFor L O command handed (fresh p c number reading) J D
+FreshStands = (L : Language) (O : Outside) (command : Command) (handed : Bool) (m : Memory) (J : List (List ℕ)) (D : List Deed)
+    → IsFresh m → Kept L O (session command handed m J D) → AllByRecursion IsSmall D → LeadsTo L J m → m.reading ≡ reading_by (last_of (config_before (journal L J) m.session)) D m.waits → m.config.last ≤ m.reading
+    → (m.config.outcome ≡ Active → length (nows D) ≡ 1) → StandsFor L O command handed m J D
 
 -- ## The end
 -- an end with a value, an error or a pause comes where nothing that was taken or decided waits, and a pause where nothing can move

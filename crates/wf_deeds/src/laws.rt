@@ -4,6 +4,7 @@ ghost use Rattle.wf_deeds.specs.Rules.{DeedKeepsRules, EndKeepsRules, HandedKeep
 ghost use Rattle.wf_deeds.specs.Steps.{DropGoesOn, EndIsKept, FreshStands, HandedStands, HearingGoesOn, PollIsKept, PrintGoesOn, ReplyGoesOn, StartGoesOn, TurnGoesOn, TurnIsChosen};
 ghost use Rattle.wf_deeds.specs.Laws.{OnlyReadings};
 
+use wf_http_in::{none_at_first, one_answer};
 use wf_journal_laws::{laws_of_histories, laws_of_moments};
 use wf_model::{laws_of_calls, laws_of_choice, laws_of_readings, laws_of_runs};
 
@@ -39,6 +40,8 @@ pub fn laws_of_steps()
     ensures handed { HandedStands }
     ensures moment { StandsIsKept }
 {
+    none_at_first();
+    one_answer();
     laws_of_deeds();
     laws_of_moments();
     laws_of_histories();

@@ -282,6 +282,18 @@ fresh unread content c none empty is_fresh = (
   is_fresh,
 )
 
+-- no byte is a whole head, and each head may still come
+pub none_yet : AnswerOf [] Open None
+none_yet = (
+  refl,
+  inr (
+      [],
+      [],
+      record { heads = All-nil IsResponseHead; codes = All-nil _; small = All-nil IsSmallResponse; bytes = refl },
+      record { none = nothing_is_no_head; possible = may_begin; short = omega arith },
+  ),
+)
+
 -- ## Finding heads
 -- more of a piece was added to heads
 pub passed_stay : (begun more : List ℕ) (n : ℕ) → n ≤ length begun → IsPassed begun n → IsPassed (begun ++ more) n

@@ -1,7 +1,8 @@
 -- The answer to a call, of all bytes heard of it and of how the connection stands.
 --     AnswerOf        none yet, a response, a broken connection, or a body that is too long
 --     HasOneAnswer    the same bytes have one answer
-use Rattle.std.specs.Prelude.{◌≡◌, ◌≢◌, ◌⊎◌, ℕ, List, Some, None, Option}
+--     NoneAtFirst     before anything is heard there is none
+use Rattle.std.specs.Prelude.{◌≡◌, ◌≢◌, ◌⊎◌, ℕ, List, [], Some, None, Option}
 use Rattle.httparse.specs.Grammar.{ResponseHead, status_code}
 use Rattle.wf_shared.specs.Events.{Reply, Response, Broken, TooLong}
 use Rattle.wf_shared.specs.HttpBody.{Close, Open, BodyState, Complete, Waiting, Malformed, Oversize, Framing, headers_of}
@@ -33,3 +34,6 @@ AnswerOf heard close None = (close ≡ Open) × (HasSomeBody heard close Waiting
 
 abbrev pub HasOneAnswer : Type 0
 HasOneAnswer = (heard : List ℕ) (close : Close) (a b : Option Reply) → AnswerOf heard close a → AnswerOf heard close b → a ≡ b
+
+abbrev pub NoneAtFirst : Type 0
+NoneAtFirst = AnswerOf [] Open None

@@ -1,9 +1,14 @@
 // What the definitions come to.
-ghost use Rattle.wf_http_in.specs.AnswerOf.{HasOneAnswer};
+ghost use Rattle.wf_http_in.specs.AnswerOf.{HasOneAnswer, NoneAtFirst};
 
 /// Carries a law: the same bytes have one answer, by how the connection stands. So two readings that
 /// have heard the same bytes tell the same, however these were cut. The function does nothing; the
 /// check carries its clause out.
 pub fn one_answer()
     ensures { HasOneAnswer }
+{}
+
+/// Carries a law: there is no answer before anything is heard, while the connection is open.
+pub fn none_at_first()
+    ensures { NoneAtFirst }
 {}
