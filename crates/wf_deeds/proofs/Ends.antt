@@ -8,7 +8,7 @@ use Rattle.wf_deeds.specs.Kept.{Session}
 use Rattle.wf_deeds.specs.Memory.{session, forgotten}
 use Rattle.wf_deeds.specs.Outside.{Outside}
 use Rattle.wf_deeds.specs.Rules.{EndKeepsRules, IsSent}
-use Rattle.wf_deeds.specs.Steps.{FreshStands, EndIsKept}
+use Rattle.wf_deeds.specs.Steps.{FreshStands, EndIsKept, fresh}
 use Rattle.wf_host.specs.declared.data.Deed.{Deed}
 use Rattle.wf_host.specs.declared.data.Deed.TheVariants.{Start, Poll, Now, Reply, Drop, Print}
 use Rattle.wf_model.specs.Ready.{quiet}
@@ -68,29 +68,29 @@ not_sent L O x (Drop k) small sent = small
 not_sent L O x (Print b) small sent = sent
 
 pub fresh_stands : FreshStands
-fresh_stands L O command handed m J D f kept small leads is last clock =
-    let x = session command handed m J D in
+fresh_stands L O command handed p c number reading J D kept small leads is last clock =
+    let x = session command handed (fresh p c number reading) J D in
     let none : visits_after O D ≡ [] = none_visited O [] D small in
     record {
       kept = kept;
       leads = leads;
-      waits = f.waits ∙ sym (no_polls D small);
+      waits = sym (no_polls D small);
       reading = is;
       last = last;
       clock = clock;
-      started = λ k. f.started k ∙ sym (none_started k D small);
-      dropped = λ k. f.dropped k ∙ sym (none_dropped k D small);
-      issued = λ k was. absurd (let g : false ≡ true = sym (f.started k) ∙ was in cc g);
-      told = λ k still was. absurd (let g : false ≡ true = sym (f.started k) ∙ was in cc g);
-      unanswered = λ go k still was. absurd (let g : false ≡ true = sym (f.started k) ∙ was in cc g);
+      started = λ k. sym (none_started k D small);
+      dropped = λ k. sym (none_dropped k D small);
+      issued = λ k was. absurd (let f : false ≡ true = was in cc f);
+      told = λ k still was. absurd (let f : false ≡ true = was in cc f);
+      unanswered = λ go k still was. absurd (let f : false ≡ true = was in cc f);
       settled = λ before behind d comes sent at. absurd (not_sent L O x d (small_at D before behind d small comes) sent);
-      visit = λ n. f.visit n ∙ ap (λ vs. option_map forgotten (find_visit n vs)) (sym none);
-      undecided = f.undecided ∙ ap undecided (sym none);
+      visit = λ n. ap (λ vs. option_map forgotten (find_visit n vs)) (sym none);
+      undecided = ap undecided (sym none);
       answers = λ _ before behind until h k a b comes. absurd (small_at D before behind (Poll until h) small comes);
-      taken = λ e has. absurd (let g : None ≡ Some e = sym f.taken ∙ has in cc g);
+      taken = λ e has. absurd (let f : None ≡ Some e = has in cc f);
       replies = λ _ before behind until h choice v comes. absurd (small_at D before behind (Poll until h) small comes);
-      owed = λ o has. absurd (let g : None ≡ Some o = sym f.owed ∙ has in cc g);
-      arrival = λ o n v has. absurd (let g : None ≡ Some o = sym f.owed ∙ has in cc g);
+      owed = λ o has. absurd (let f : None ≡ Some o = has in cc f);
+      arrival = λ o n v has. absurd (let f : None ≡ Some o = has in cc f);
     }
 
 -- ## Ends

@@ -135,19 +135,26 @@ TurnIsChosen = (L : Language) (O : Outside) (command : Command) (handed : Bool) 
 
 -- ## The beginning
 -- a session that did nothing yet but read the clock
-pub record IsFresh (m : Memory) : Type 0 where
-  pub waits : m.waits ≡ 0
-  pub started : (k : ℕ) → m.started k ≡ false
-  pub dropped : (k : ℕ) → m.dropped k ≡ false
-  pub visit : (n : ℕ) → m.visit n ≡ None
-  pub undecided : m.undecided ≡ 0
-  pub taken : m.taken ≡ None
-  pub owed : m.owed ≡ None
+abbrev pub fresh : Program → Config → ℕ → ℕ → Memory
+fresh p c number reading = record {
+  program = p;
+  config = c;
+  session = number;
+  reading = reading;
+  waits = 0;
+  started = λ k. false;
+  dropped = λ k. false;
+  told = λ k. nothing_told;
+  visit = λ n. None;
+  undecided = 0;
+  taken = None;
+  owed = None;
+}
 
 abbrev pub FreshStands : Type 0
-FreshStands = (L : Language) (O : Outside) (command : Command) (handed : Bool) (m : Memory) (J : List (List ℕ)) (D : List Deed)
-    → IsFresh m → Kept L O (session command handed m J D) → AllByRecursion IsSmall D → LeadsTo L J m → m.reading ≡ reading_by (last_of (config_before (journal L J) m.session)) D m.waits → m.config.last ≤ m.reading
-    → (m.config.outcome ≡ Active → length (nows D) ≡ 1) → StandsFor L O command handed m J D
+FreshStands = (L : Language) (O : Outside) (command : Command) (handed : Bool) (p : Program) (c : Config) (number reading : ℕ) (J : List (List ℕ)) (D : List Deed)
+    → Kept L O (session command handed (fresh p c number reading) J D) → AllByRecursion IsSmall D → LeadsTo L J (fresh p c number reading) → reading ≡ reading_by (last_of (config_before (journal L J) number)) D 0 → c.last ≤ reading
+    → (c.outcome ≡ Active → length (nows D) ≡ 1) → StandsFor L O command handed (fresh p c number reading) J D
 
 -- ## The end
 -- an end with a value, an error or a pause comes where nothing that was taken or decided waits, and a pause where nothing can move
