@@ -1,10 +1,10 @@
 // One call.
 ghost use Rattle.std.specs.Option.{option_copied};
-ghost use Rattle.std.specs.Prelude.{◌≡◌, option_map};
+ghost use Rattle.std.specs.Prelude.{◌≡◌, ◌↔◌, IsTrue, option_map};
 ghost use Rattle.wf_calls.specs.Numbers.{call_task, is_open};
 ghost use Rattle.wf_calls.specs.View.{closed_view};
 ghost use Rattle.wf_http_ask.specs.View.{request_view};
-ghost use Rattle.wf_model.specs.Config.{Open as OpenCall};
+ghost use Rattle.wf_model.specs.Config.{Open as OpenCall, TimedOut};
 ghost use Rattle.wf_model.specs.Ready.{call_due, request_in};
 
 use crate::Closed;
@@ -69,6 +69,13 @@ impl Call {
             State::Open(_) => true,
             State::Closed(_) => false,
         }
+    }
+
+    // Whether its due moment came before its answer.
+    pub(crate) fn has_timed_out(&self) -> bool
+        ensures { IsTrue result ↔ (self.now ≡ TimedOut) }
+    {
+        matches!(&self.state, State::Closed(Closed::TimedOut))
     }
 
     // The task that waits for its answer, of an open one.

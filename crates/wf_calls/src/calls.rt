@@ -1,11 +1,11 @@
 // The calls of an execution.
 ghost use Rattle.std.specs.Option.{option_copied};
-ghost use Rattle.std.specs.Prelude.{◌≡◌, ◌<◌, ◌+◌, ◌^◌, [], ◌∷◌, ◌++◌, IfNone, IfSome, OnErr, OnOk, length, option_map, unwrap_or};
+ghost use Rattle.std.specs.Prelude.{◌≡◌, ◌↔◌, ◌<◌, ◌+◌, ◌^◌, [], ◌∷◌, ◌++◌, IfNone, IfSome, IsTrue, OnErr, OnOk, length, option_map, unwrap_or};
 ghost use Rattle.wf_calls.specs.NextOpen.{IsNextOpen, NoneOpen, next_open};
 ghost use Rattle.wf_calls.specs.Numbers.{call_in, call_task, closed_at};
 ghost use Rattle.wf_calls.specs.View.{closed_view};
 ghost use Rattle.wf_http_ask.specs.View.{request_view};
-ghost use Rattle.wf_model.specs.Config.{Answered, Open};
+ghost use Rattle.wf_model.specs.Config.{Answered, Open, TimedOut};
 ghost use Rattle.wf_model.specs.Ready.{call_due, request_in};
 
 use crate::Closed;
@@ -92,6 +92,16 @@ impl Calls {
             ≡ request_in (call_in self.now number) }
     {
         self.find(number)?.request()
+    }
+
+    /// Whether call `number` was closed since its due moment came first.
+    pub fn has_timed_out(&self, number: u64) -> bool
+        ensures { IsTrue result ↔ (call_in self.now number ≡ TimedOut) }
+    {
+        match self.find(number) {
+            Some(call) => call.has_timed_out(),
+            None => false,
+        }
     }
 
     /// The least number above `after` of an open call; none where there is none.

@@ -2,11 +2,13 @@
 --     memory      what the rules on deeds know of it
 --     Holds       the file is as it left it
 --     spent       what its execution may still do by itself
-use Rattle.std.specs.Prelude.{◌≡◌, ◌≢◌, ◌⊎◌, ◌+◌, ◌*◌, ◌-◌, ℕ, Bool, List, [], ◌∷◌, ◌++◌}
+use Rattle.std.specs.Prelude.{◌≡◌, ◌≢◌, ◌⊎◌, ◌+◌, ◌*◌, ◌-◌, ℕ, Bool, List, [], ◌∷◌, ◌++◌, None}
+use Rattle.wf_connections.specs.Lines.{is_started, is_dropped, told}
 use Rattle.wf_deeds.specs.Memory.{Memory}
-use Rattle.wf_deeds.specs.Steps.{fresh}
+use Rattle.wf_engine.specs.Taken.{taken_event}
 use Rattle.wf_engine.specs.declared.engine.Engine.{Engine}
 use Rattle.wf_history.specs.Stands as history
+use Rattle.wf_history.specs.declared.history.History.{History}
 use Rattle.wf_host.specs.World.{World}
 use Rattle.wf_host.specs.declared.data.Deed.{Deed}
 use Rattle.wf_host.specs.declared.data.Deed.TheVariants.{Now}
@@ -15,9 +17,26 @@ use Rattle.wf_machine.specs.Seen.{state_of}
 use Rattle.wf_model.specs.Config.{Config}
 use Rattle.wf_model.specs.CountLaws.{weigh}
 
--- it has started and heard nothing, and waits for nothing
+-- no visit is heard yet
 abbrev pub memory : Engine → Memory
-memory e = fresh (state_of e.machine).program (state_of e.machine).config e.session e.reading
+memory e = record {
+  program = (state_of e.machine).program;
+  config = (state_of e.machine).config;
+  session = e.session;
+  reading = e.reading;
+  waits = e.waits;
+  started = is_started e.connections;
+  dropped = is_dropped e.connections;
+  told = told e.connections;
+  visit = λ n. None;
+  undecided = 0;
+  taken = taken_event e.reading e.taken;
+  owed = None;
+}
+
+-- the history that it adds to
+abbrev pub held : Engine → History
+held e = e.history
 
 -- whether an earlier call has failed
 abbrev pub is_closed : Engine → Bool

@@ -9,4 +9,6 @@ pub mod Engine
 pub mod Faults
 pub mod Openings
 pub mod Rows
+pub mod Hearing
+pub mod Taken
 pub mod Turn

@@ -5,16 +5,18 @@ ghost use Rattle.wf_engine.specs.Ready.{IsReady};
 use crate::choose_turn;
 use crate::fault::EngineFault;
 use crate::opening::{empty_history, last_machine, session_reading};
+use crate::taken::Taken;
 use std::alloc::Global;
 use std::sync::ledger::Ledger;
 use wf_check::Checked;
+use wf_connections::Connections;
 use wf_deeds::{laws_of_rules, laws_of_steps};
 use wf_events::{Start, Turn, one_spelling};
 use wf_history::History;
 use wf_host::Host;
 use wf_journal_laws::{laws_of_histories, laws_of_moments};
 use wf_machine::{Machine, Outcome, Steps};
-use wf_model::laws_of_runs;
+use wf_model::{laws_of_calls, laws_of_runs};
 use wf_source::each_source_is_one;
 
 /// An execution over a journal: what stands in the file, the machine that it leads to, and the session that goes on from there.
@@ -23,15 +25,21 @@ use wf_source::each_source_is_one;
 /// can be opened again.
 #[derive(Drop)]
 pub struct Engine {
-    alloc: Global,
-    history: History,
-    machine: Machine,
+    pub(crate) alloc: Global,
+    pub(crate) history: History,
+    pub(crate) machine: Machine,
     /// The number of the session, from 1 on.
-    session: u64,
+    pub(crate) session: u64,
     /// The session's greatest reading of the clock, in milliseconds since 1970.
-    reading: u64,
-    closed: bool,
-    ghost ready: { closed ≡ false → IsReady history machine },
+    pub(crate) reading: u64,
+    /// How often it has polled, or was handed something.
+    pub(crate) waits: u64,
+    /// The calls that it has started.
+    pub(crate) connections: Connections,
+    /// An answer that waits for its turn.
+    pub(crate) taken: Option<Taken>,
+    pub(crate) closed: bool,
+    ghost ready: { closed ≡ false → IsReady history machine reading connections taken },
 }
 
 impl Engine {
@@ -138,6 +146,9 @@ impl Engine {
             machine,
             session: 1,
             reading,
+            waits: 0,
+            connections: Connections::new(alloc),
+            taken: None,
             closed: false,
         })
     }
@@ -211,6 +222,9 @@ impl Engine {
             machine,
             session: last.saturating_add(1),
             reading,
+            waits: 0,
+            connections: Connections::new(alloc),
+            taken: None,
             closed: false,
         })
     }
@@ -223,20 +237,20 @@ impl Engine {
             → IsTrue result ↔ IsSettled (memory self.now) }
     {
         self.closed
-            || self.machine.is_quiet(self.reading)
-            || !matches!(self.machine.outcome(), Outcome::Active)
+            || (self.taken.is_none()
+                && (self.machine.is_quiet(self.reading)
+                    || !matches!(self.machine.outcome(), Outcome::Active)))
     }
 
-    /// How often the session has waited for the outside: never, since nothing is awaited yet.
+    /// How often the session has polled, or was handed something.
     pub fn waited(&self) -> u64
         ensures { result ≡ (memory self.now).waits }
     {
-        let _ = self.session;
-        0
+        self.waits
     }
 
-    /// Applies what is chosen at the session's reading until nothing can move, there is an outcome, or there are 4,096 events; and adds
-    /// the turn, if it has an event.
+    /// Applies what was taken, and then what is chosen at the session's reading until nothing can move, there is an outcome, or there are
+    /// 4,096 events; and adds the turn, if it has an event.
     ///
     /// The error is `DiskFault` where a disk call failed; `OutOfMemory`; or `Closed` exactly where an earlier call has failed. After an
     /// error the engine is closed, and the file has the records before, or these and the turn.
@@ -277,74 +291,25 @@ impl Engine {
         if self.closed {
             return Err(EngineFault::Closed);
         }
+        laws_of_calls();
         laws_of_steps();
         one_spelling();
         // until the turn has succeeded
         self.closed = true;
-        let events = choose_turn(self.alloc, &mut self.machine, self.reading)?;
+        let taken = self.taken.take();
+        let events = choose_turn(self.alloc, &mut self.machine, self.reading, taken)?;
         if events.items().is_empty() {
             self.closed = false;
             return Ok(());
         }
         let turn = Turn {
             session: self.session,
-            waits: 0,
+            waits: self.waits,
             events,
         };
         self.history.add(self.alloc, host, &turn)?;
         self.closed = false;
         Ok(())
-    }
-
-    /// Adds turns until the engine is settled.
-    ///
-    /// The error is `Suspended` where it is settled without an outcome: the engine stays open then, and stands for what was done. The other
-    /// errors are those of [`Engine::turn`].
-    pub fn session<H: Host>(&mut self, host: &mut H) -> Result<(), EngineFault>
-        requires kept { is_closed self.old ≡ false
-            → Told (H.world host.old) (Holds self.old (H.world host.old)) }
-        ensures holds { is_closed self.new ≡ false
-            → Told (H.world host.old) (Holds self.new (H.world host.new)) }
-        ensures ended { InTheOutside (λ O. Told (H.world host.old)
-            (OnOk result (Sessions the_language O false 0 (memory self.old) (memory self.new)
-            (H.world host.old) (H.world host.new)))) }
-        ensures suspended { InTheOutside (λ O. Told (H.world host.old)
-            (IsErrOf result EngineFault.Suspended
-            → Sessions the_language O true 0 (memory self.old) (memory self.new)
-            (H.world host.old) (H.world host.new))) }
-        ensures result { OnOk result (IsResult (memory self.new).config.outcome) }
-        ensures any_moment { InTheOutside (λ O. is_closed self.old ≡ false
-            → Told (H.world host.old) (KeptThroughout the_language O (memory self.old)
-            (H.world host.old) (H.world host.new))) }
-        ensures finished { Told (H.world host.old) ((memory self.old).config.outcome ≢ Active
-            → host.new ≡ host.old) }
-        ensures session { (memory self.new).session ≡ (memory self.old).session }
-        ensures disk_fault { IsErrOf result EngineFault.DiskFault
-            → DiskFailed H.faults host.old host.new }
-        ensures closed { IsErrOf result EngineFault.Closed ↔ (is_closed self.old ≡ true) }
-        ensures closes { OnErr result (IsErrOf result EngineFault.Suspended
-            ⊎ (is_closed self.new ≡ true)) }
-        ensures idle { IsErrOf result EngineFault.Closed
-            → (self.new ≡ self.old) × (host.new ≡ host.old) }
-        ensures open { OnOk result (is_closed self.new ≡ false) }
-        ensures still_open { IsErrOf result EngineFault.Suspended → is_closed self.new ≡ false }
-        ensures only { IfErr result (λ e. (e ≡ EngineFault.DiskFault)
-            ⊎ (e ≡ EngineFault.Suspended) ⊎ (e ≡ EngineFault.Closed)
-            ⊎ (e ≡ EngineFault.OutOfMemory)) }
-        ensures tells { TellsAsBefore H.world host.old host.new }
-        ensures counts { NoCountFalls H.faults host.old host.new }
-    {
-        if self.closed {
-            return Err(EngineFault::Closed);
-        }
-        laws_of_steps();
-        while !self.is_settled() {
-            self.turn(host)?;
-        }
-        match self.machine.outcome() {
-            Outcome::Active => Err(EngineFault::Suspended),
-            _ => Ok(()),
-        }
     }
 
     /// The machine, as it stands behind the last turn. After an error of a call it is of no use.

@@ -6,7 +6,11 @@ mod fault;
 mod lives;
 mod opening;
 mod rows;
+mod sending;
+mod sessions;
 mod starts;
+mod taken;
+mod taking;
 mod turns;
 
 pub use engine::Engine;
@@ -14,4 +18,5 @@ pub use fault::EngineFault;
 pub use lives::{law_of_lives, law_of_stays};
 pub use rows::worked_histories;
 pub use starts::laws_of_starts;
+pub use taken::Taken;
 pub use turns::choose_turn;

@@ -1,40 +1,48 @@
 // The events of one turn.
-ghost use Rattle.std.specs.List.{AllByRecursion};
-ghost use Rattle.std.specs.Prelude.{◌≡◌, ◌≢◌, ◌≤◌, ◌<◌, ◌+◌, [], false, length, None, IfOk, OnOk};
+ghost use Rattle.std.specs.List.{AllByRecursion, flat_map};
+ghost use Rattle.std.specs.Prelude.{◌≡◌, ◌≢◌, ◌≤◌, ◌<◌, ◌+◌, ◌-◌, ◌*◌, ◌×◌, ◌++◌, [], List, false, length, None, IfOk, OnOk};
 ghost use Rattle.wf_deeds.specs.Turns.{turn_of, TakeReading};
 ghost use Rattle.wf_engine.specs.Engine.{spent};
-ghost use Rattle.wf_engine.specs.Turn.{IsTurn, Rests};
-ghost use Rattle.wf_events.specs.Spelling.{IsOld};
+ghost use Rattle.wf_engine.specs.Taken.{AreTakable, IsTakable, longest_taken, taken_event};
+ghost use Rattle.wf_engine.specs.Turn.{AreChosen, IsBrought, IsTurn, Rests, brought};
+ghost use Rattle.wf_events.specs.Spelling.{event as event_bytes, IsOld};
 ghost use Rattle.wf_events.specs.View.{event_view, events_view};
 ghost use Rattle.wf_machine.specs.Counts.{counts_of};
 ghost use Rattle.wf_machine.specs.Seen.{state_of};
 ghost use Rattle.wf_model.specs.Config.{Active, To};
 ghost use Rattle.wf_model.specs.ReadingLaws.{IsFromInside};
 ghost use Rattle.wf_model.specs.Run.{run_on};
+ghost use Rattle.wf_shared.specs.Events.{Event as Plain};
 
+use crate::taken::Taken;
 use std::alloc::Global;
 use std::marker::Brand;
 use std::sync::ledger::{Blank, Ledger};
 use wf_events::{Event, Events};
-use wf_machine::{ApplyFault, Machine, Steps, is_sound};
+use wf_machine::{ApplyFault, Machine, Steps, answers_lead, is_sound};
 use wf_model::{laws_of_choice, laws_of_counts, laws_of_readings};
 use wf_value::OutOfMemory;
 
 /// A turn has no more events.
 const MOST_EVENTS: usize = 4096;
 
-/// Applies what the machine chooses at a reading of the clock, in milliseconds since 1970, until nothing can move, there is an outcome,
-/// or there are 4,096 events. Gives the events, in order: fewer only where there is an outcome or nothing can move. None of them has to be
-/// brought from outside. Each has a spelling, takes something of what may still come, and takes the reading where that isn't below the
-/// machine's last one. Without memory the machine isn't to be used further.
+/// Applies what was taken, if anything, and then what the machine chooses at a reading of the clock, in milliseconds since 1970, until
+/// nothing can move, there is an outcome, or there are 4,096 events. Gives the events, in order: fewer only where there is an outcome or
+/// nothing can move. Nothing but what was taken has to be brought from outside. Each has a spelling, and takes the reading where that isn't
+/// below the machine's last one; each that is chosen takes something of what may still come. Without memory the machine isn't to be used
+/// further.
 pub fn choose_turn(
     alloc: Global,
     machine: &mut Machine,
     reading: u64,
+    taken: Option<Taken>,
 ) -> Result<Events, OutOfMemory>
     requires whole { (state_of machine.old).broken ≡ false }
+    requires takable { AreTakable (state_of machine.old).config taken }
+    requires last { (state_of machine.old).config.last ≤ reading }
     ensures turn { IfOk result (λ events. events_view events
-        ≡ turn_of (state_of machine.old).program (state_of machine.old).config reading None) }
+        ≡ turn_of (state_of machine.old).program (state_of machine.old).config reading
+        (taken_event reading taken)) }
     ensures leads { IfOk result (λ events. run_on (state_of machine.old).program
         (To (state_of machine.old).config) (events_view events)
         ≡ To (state_of machine.new).config) }
@@ -47,18 +55,20 @@ pub fn choose_turn(
         ≡ (state_of machine.old).config.moves + counts_of (events_view events)) }
     ensures most { OnOk result ((state_of machine.new).config.moves ≤ 100000) }
     ensures falls { IfOk result (λ events. length (events_view events)
-        + spent (state_of machine.new).config ≤ spent (state_of machine.old).config) }
-    ensures inside { IfOk result (λ events. AllByRecursion IsFromInside (events_view events)) }
+        + spent (state_of machine.new).config
+        ≤ brought (taken_event reading taken) + spent (state_of machine.old).config) }
+    ensures inside { IfOk result (λ events. taken_event reading taken ≡ None
+        → AllByRecursion IsFromInside (events_view events)) }
     ensures spelled { IfOk result (λ events. AllByRecursion IsOld (events_view events)) }
-    ensures readings { IfOk result (λ events. (state_of machine.old).config.last ≤ reading
-        → TakeReading reading (events_view events)) }
-    ensures last { OnOk result ((state_of machine.old).config.last ≤ reading
-        → (state_of machine.new).config.last ≤ reading) }
+    ensures bytes { IfOk result (λ events. length (flat_map event_bytes (events_view events))
+        ≤ longest_taken + 13 * length (events_view events)) }
+    ensures readings { IfOk result (λ events. TakeReading reading (events_view events)) }
+    ensures last { OnOk result ((state_of machine.new).config.last ≤ reading) }
     ensures program { OnOk result ((state_of machine.new).program
         ≡ (state_of machine.old).program) }
     ensures whole { OnOk result ((state_of machine.new).broken ≡ false) }
 {
-    let events = choose_from_blank::<Brand>(alloc, machine, reading, Blank::new(1))?;
+    let events = choose_from_blank::<Brand>(alloc, machine, reading, taken, Blank::new(1))?;
     Ok(events)
 }
 
@@ -67,16 +77,19 @@ fn choose_from_blank<L: Ledger>(
     alloc: Global,
     machine: &mut Machine,
     reading: u64,
+    taken: Option<Taken>,
     blank: Blank,
 ) -> Result<Events, OutOfMemory>
     requires whole { (state_of machine.old).broken ≡ false }
+    requires takable { AreTakable (state_of machine.old).config taken }
+    requires last { (state_of machine.old).config.last ≤ reading }
     requires name { blank.name ≡ L.name }
     requires parts { blank.parts ≡ L.parts }
     requires some { 0 < blank.parts }
     ensures { IfOk result (λ events. IsTurn (state_of machine.old) (state_of machine.new) reading
-        (events_view events)) }
+        (taken_event reading taken) (events_view events)) }
 {
-    choose_counted(alloc, machine, reading, &mut Steps::<L>::new(blank))
+    choose_counted(alloc, machine, reading, taken, &mut Steps::<L>::new(blank))
 }
 
 /// The same, counting as many events as the turn has.
@@ -84,18 +97,71 @@ fn choose_counted<L: Ledger>(
     alloc: Global,
     machine: &mut Machine,
     reading: u64,
+    taken: Option<Taken>,
     steps: &mut Steps<L>,
 ) -> Result<Events, OutOfMemory>
     requires whole { (state_of machine.old).broken ≡ false }
+    requires takable { AreTakable (state_of machine.old).config taken }
+    requires last { (state_of machine.old).config.last ≤ reading }
     ensures turn { IfOk result (λ events. IsTurn (state_of machine.old) (state_of machine.new)
-        reading (events_view events)) }
+        reading (taken_event reading taken) (events_view events)) }
     ensures steps { IfOk result (λ events. steps.new ≡ steps.old + length (events_view events)) }
+{
+    laws_of_choice();
+    laws_of_counts();
+    is_sound(machine);
+    let mut events = Events::new(alloc);
+    if let Some(taken) = taken {
+        let event = bring(machine, reading, taken, steps)?;
+        events.push(event)?;
+    }
+    choose_rest(machine, reading, events, steps)
+}
+
+/// Applies what was taken, and gives its event.
+fn bring<L: Ledger>(
+    machine: &mut Machine,
+    reading: u64,
+    taken: Taken,
+    steps: &mut Steps<L>,
+) -> Result<Event, OutOfMemory>
+    requires whole { (state_of machine.old).broken ≡ false }
+    requires takable { IsTakable (state_of machine.old).config taken }
+    requires last { (state_of machine.old).config.last ≤ reading }
+    ensures brought { IfOk result (λ event. IsBrought (state_of machine.old) (state_of machine.new) reading
+        taken (event_view event)) }
+    ensures steps { OnOk result (steps.new ≡ steps.old + 1) }
+{
+    answers_lead(machine);
+    let event = taken.event(reading);
+    match machine.apply(&event, steps) {
+        Ok(()) => Ok(event),
+        Err(ApplyFault::OutOfMemory) => Err(OutOfMemory),
+        Err(ApplyFault::NotEnabled) => unreachable!(),
+    }
+}
+
+/// Applies what is chosen until nothing can move, there is an outcome, or there are 4,096 events with those that came before, and adds
+/// these events behind them.
+fn choose_rest<L: Ledger>(
+    machine: &mut Machine,
+    reading: u64,
+    mut events: Events,
+    steps: &mut Steps<L>,
+) -> Result<Events, OutOfMemory>
+    requires whole { (state_of machine.old).broken ≡ false }
+    requires room { length (events_view events) ≤ 4096 }
+    ensures chosen { IfOk result (λ all. (es : List Plain)
+        × (events_view all ≡ events_view events ++ es)
+        × AreChosen (4096 - length (events_view events)) (state_of machine.old)
+        (state_of machine.new) reading es) }
+    ensures steps { IfOk result (λ all. steps.new + length (events_view events)
+        ≡ steps.old + length (events_view all)) }
 {
     laws_of_choice();
     laws_of_counts();
     laws_of_readings();
     is_sound(machine);
-    let mut events = Events::new(alloc);
     while events.items().len() < MOST_EVENTS {
         let Some(event) = machine.choose(reading) else {
             return Ok(events);

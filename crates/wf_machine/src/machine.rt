@@ -86,15 +86,15 @@ impl Drop for Machine {
 
 impl Machine {
     ghost use Rattle.std.specs.Option.{option_copied};
-    ghost use Rattle.std.specs.Prelude.{ℕ, IfNone, IfSome, IsSome, IsTrue, length, option_map};
+    ghost use Rattle.std.specs.Prelude.{ℕ, ◌↔◌, IfNone, IfSome, IsSome, IsTrue, length, option_map};
     ghost use Rattle.wf_calls.specs.NextOpen.{IsNextOpen, NoneOpen, next_open};
     ghost use Rattle.wf_events.specs.View.{start_view};
     ghost use Rattle.wf_http_ask.specs.View.{request_view};
     ghost use Rattle.wf_machine.specs.Lent.{outcome_view};
     ghost use Rattle.wf_machine.specs.Outcome.{IsShallow};
     ghost use Rattle.wf_machine.specs.Seen.{state_of};
-    ghost use Rattle.wf_model.specs.Config.{Active, To};
-    ghost use Rattle.wf_model.specs.Ready.{least_due, quiet, request_of};
+    ghost use Rattle.wf_model.specs.Config.{Active, TimedOut, To};
+    ghost use Rattle.wf_model.specs.Ready.{call as call_of, least_due, quiet, request_of};
     ghost use Rattle.wf_model.specs.Run.{initial};
 
     /// Begins an execution: it stands before the first step of `main`, or has returned null where `main` has no steps. The parameter of
@@ -222,5 +222,13 @@ impl Machine {
     {
         numbers_are_those_of_steps();
         self.calls.request(call)
+    }
+
+    /// Whether a call was closed since its due moment came before its answer.
+    pub fn has_timed_out(&self, call: u64) -> bool
+        ensures { IsTrue result ↔ (call_of (state_of self.now).config call ≡ TimedOut) }
+    {
+        numbers_are_those_of_steps();
+        self.calls.has_timed_out(call)
     }
 }

@@ -1,0 +1,74 @@
+// What is heard.
+use crate::engine::Engine;
+use crate::fault::EngineFault;
+use crate::taken::Taken;
+use wf_deeds::laws_of_steps;
+use wf_host::{Heard, What};
+use wf_value::OutOfMemory;
+
+impl Engine {
+    ghost use Rattle.std.specs.Prelude.{◌≡◌, ◌⊎◌, ◌↔◌, ◌+◌, ◌<◌, ◌^◌, ℕ, None, is_some, max, true, false, IfErr, IfOk, IsErrOf, OnErr, OnOk};
+    ghost use Rattle.wf_connections.specs.Lines.{is_started, listens};
+    ghost use Rattle.wf_deeds.specs.Clauses.{Takes};
+    ghost use Rattle.wf_deeds.specs.Deeds.{visit_of};
+    ghost use Rattle.wf_deeds.specs.Memory.{IsSettled};
+    ghost use Rattle.wf_engine.specs.Engine.{held, is_closed, memory};
+    ghost use Rattle.wf_engine.specs.Hearing.{Finds, SameBut};
+    ghost use Rattle.wf_engine.specs.TheLanguage.{the_language};
+    ghost use Rattle.wf_engine.specs.TheOutside.{InTheOutside};
+    ghost use Rattle.wf_model.specs.Config.{Active};
+    ghost use Rattle.wf_model.specs.Ready.{request_of};
+
+    /// Hears what a poll has heard, or what was handed over in its place. An answer that it makes whole waits for the next turn.
+    ///
+    /// The error is `OutOfMemory`, and the engine is closed then; or `Closed` exactly where an earlier call has failed.
+    pub fn take(&mut self, heard: Heard) -> Result<(), EngineFault>
+        requires settled { is_closed self.old ≡ false → IsSettled (memory self.old) }
+        requires active { is_closed self.old ≡ false
+            → (memory self.old).config.outcome ≡ Active }
+        requires room { (memory self.old).waits + 1 < 2 ^ 64 }
+        // No visit is heard yet.
+        requires of_calls { visit_of heard.what ≡ None }
+        ensures takes { InTheOutside (λ O. OnOk result (Takes the_language O (memory self.old)
+            (memory self.new) heard)) }
+        ensures reading { OnOk result ((memory self.new).reading
+            ≡ max (memory self.old).reading heard.reading) }
+        ensures same { OnOk result (SameBut (memory self.old) (memory self.new)) }
+        ensures holds { held self.new ≡ held self.old }
+        ensures closed { IsErrOf result EngineFault.Closed ↔ (is_closed self.old ≡ true) }
+        ensures closes { OnErr result (is_closed self.new ≡ true) }
+        ensures idle { IsErrOf result EngineFault.Closed → self.new ≡ self.old }
+        ensures open { OnOk result (is_closed self.new ≡ false) }
+        ensures only { IfErr result (λ e. (e ≡ EngineFault.Closed)
+            ⊎ (e ≡ EngineFault.OutOfMemory)) }
+    {
+        if self.closed {
+            return Err(EngineFault::Closed);
+        }
+        laws_of_steps();
+        // until it is heard
+        self.closed = true;
+        self.connections.hear(&heard.what)?;
+        self.taken = self.answer_to(&heard.what)?;
+        self.reading = self.reading.max(heard.reading);
+        self.waits += 1;
+        self.closed = false;
+        Ok(())
+    }
+
+    /// The answer to an open call that was started, where this has made it whole.
+    fn answer_to(&self, what: &What) -> Result<Option<Taken>, OutOfMemory>
+        requires listens { (k : ℕ) → is_some (request_of (memory self.now).config k) ≡ true
+            → is_started self.now.connections k ≡ true → listens self.now.connections k ≡ true }
+        ensures { IfOk result (λ taken. Finds (memory self.now) what.now taken) }
+    {
+        let (What::Bytes(call, _) | What::End(call) | What::Broken(call)) = what else {
+            return Ok(None);
+        };
+        if self.machine.request(*call).is_none() || !self.connections.is_started(*call) {
+            return Ok(None);
+        }
+        let answer = self.connections.answer(self.alloc, *call)?;
+        Ok(answer.map(|reply| Taken { call: *call, reply }))
+    }
+}
