@@ -71,6 +71,10 @@ pub record AddsTurn (L : Language) (O : Outside) (m n : Memory) (old new : World
   pub taken : n.taken ≡ None
   pub owed : n.owed ≡ None
 
+-- turn after turn, without a deed
+abbrev pub AddsTurns : Language → Outside → Memory → Memory → World → World → Type 0
+AddsTurns L O m n old new = Went L O m n old new []
+
 -- ## Sending
 abbrev pub is_timed_out : Call → Bool
 is_timed_out TimedOut = true
@@ -111,6 +115,13 @@ pub record Takes (L : Language) (O : Outside) (m n : Memory) (heard : Heard) : T
   pub stands : (command : Command) (handed : Bool) (J : List (List ℕ)) (D : List Deed) (until : ℕ) → StandsFor L O command handed m J D → MayWait handed m until
       → StandsFor L O command handed n J (D ++ Poll until heard ∷ [])
   pub waits : n.waits ≡ suc m.waits
+
+-- what is open is sent, and then one poll is made
+pub record Waits (L : Language) (O : Outside) (m n : Memory) (old new : World) : Type 0 where
+  pub done : List Deed
+  pub went : Went L O m n old new done
+  pub once : polls done ≡ 1
+  pub silent : printed done ≡ []
 
 -- ## Sessions
 -- it ended with an outcome, or it is suspended: its polls reached the bound, and nothing can move

@@ -1,8 +1,10 @@
--- The faults of an engine, by those of its history and of replaying.
+-- The faults of an engine, by those of its history, of replaying and of polls.
 use Rattle.wf_engine.specs.declared.fault.EngineFault.{EngineFault}
 use Rattle.wf_engine.specs.declared.fault.EngineFault.TheVariants as engine
 use Rattle.wf_history.specs.declared.fault.HistoryFault.{HistoryFault}
 use Rattle.wf_history.specs.declared.fault.HistoryFault.TheVariants as history
+use Rattle.wf_host.specs.declared.data.PollError.{PollError}
+use Rattle.wf_host.specs.declared.data.PollError.TheVariants as poll
 use Rattle.wf_replay.specs.declared.fault.ReplayFault.{ReplayFault}
 use Rattle.wf_replay.specs.declared.fault.ReplayFault.TheVariants as replay
 
@@ -20,3 +22,8 @@ replay_fault replay.DiskFault = engine.DiskFault
 replay_fault (replay.BadEvent n) = engine.NotAHistory n
 replay_fault replay.Closed = engine.Closed
 replay_fault replay.OutOfMemory = engine.OutOfMemory
+
+-- a poll that failed
+abbrev pub poll_fault : PollError → EngineFault
+poll_fault poll.Failed = engine.PollFault
+poll_fault poll.OutOfMemory = engine.OutOfMemory

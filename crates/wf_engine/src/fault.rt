@@ -1,10 +1,11 @@
 // What can keep an engine from its work.
 ghost use Rattle.std.specs.Prelude.{◌≡◌};
-ghost use Rattle.wf_engine.specs.Faults.{fault_of, replay_fault};
+ghost use Rattle.wf_engine.specs.Faults.{fault_of, poll_fault, replay_fault};
 ghost use Rattle.wf_engine.specs.declared.fault.EngineFault.TheVariants as variant;
 
 use thiserror::Error;
 use wf_history::HistoryFault;
+use wf_host::PollError;
 use wf_replay::ReplayFault;
 use wf_value::OutOfMemory;
 
@@ -14,6 +15,9 @@ pub enum EngineFault {
     /// The disk failed, and its count of faults rose.
     #[error("the disk failed")]
     DiskFault,
+    /// A poll failed, and its count of faults rose.
+    #[error("the sockets failed")]
+    PollFault,
     /// The file has at least 5 bytes and doesn't begin with `WFJ1`.
     #[error("the file is not a journal")]
     NotAJournal,
@@ -43,6 +47,17 @@ impl From<OutOfMemory> for EngineFault {
 
     fn from(_: OutOfMemory) -> Self {
         EngineFault::OutOfMemory
+    }
+}
+
+impl From<PollError> for EngineFault {
+    ghost from_gives = { λ cause e. e ≡ poll_fault cause };
+
+    fn from(error: PollError) -> Self {
+        match error {
+            PollError::Failed => EngineFault::PollFault,
+            PollError::OutOfMemory => EngineFault::OutOfMemory,
+        }
     }
 }
 

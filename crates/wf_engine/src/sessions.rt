@@ -1,0 +1,149 @@
+// A session: turns, what is sent, and waits.
+use crate::engine::Engine;
+use crate::fault::EngineFault;
+use wf_deeds::laws_of_steps;
+use wf_host::Host;
+use wf_machine::Outcome;
+
+impl Engine {
+    ghost use Rattle.std.specs.Prelude.{◌≡◌, ◌≢◌, ◌⊎◌, ◌×◌, ◌↔◌, ◌+◌, ◌<◌, ◌^◌, true, false, IfErr, IsErrOf, IsTrue, OnErr, OnOk};
+    ghost use Rattle.wf_deeds.specs.Clauses.{AddsTurns, KeptThroughout, Sessions, Waits};
+    ghost use Rattle.wf_deeds.specs.Memory.{IsSettled};
+    ghost use Rattle.wf_engine.specs.Engine.{Holds, is_closed, memory};
+    ghost use Rattle.wf_engine.specs.TheLanguage.{the_language};
+    ghost use Rattle.wf_engine.specs.TheOutside.{InTheOutside};
+    ghost use Rattle.wf_host.specs.Calls.{DiskFailed, NoCountFalls, PollFailed, TellsAsBefore};
+    ghost use Rattle.wf_host.specs.World.{Told};
+    ghost use Rattle.wf_machine.specs.Outcome.{IsResult};
+    ghost use Rattle.wf_model.specs.Config.{Active};
+
+    /// Adds turns, sends what is open and polls until the least due moment, again and again, until there is an outcome. It polls at most
+    /// `waits` times.
+    ///
+    /// The error is `Suspended` exactly where it has polled so often, and there is no outcome: the engine stays open then, and stands for
+    /// what was done. It is `PollFault` where a poll failed. The other errors are those of [`Engine::turn`].
+    pub fn session<H: Host>(&mut self, host: &mut H, waits: u32) -> Result<(), EngineFault>
+        requires kept { is_closed self.old ≡ false
+            → Told (H.world host.old) (Holds self.old (H.world host.old)) }
+        requires room { (memory self.old).waits + waits < 2 ^ 64 }
+        ensures holds { is_closed self.new ≡ false
+            → Told (H.world host.old) (Holds self.new (H.world host.new)) }
+        ensures ended { InTheOutside (λ O. Told (H.world host.old)
+            (OnOk result (Sessions the_language O false waits (memory self.old) (memory self.new)
+            (H.world host.old) (H.world host.new)))) }
+        ensures suspended { InTheOutside (λ O. Told (H.world host.old)
+            (IsErrOf result EngineFault.Suspended
+            → Sessions the_language O true waits (memory self.old) (memory self.new)
+            (H.world host.old) (H.world host.new))) }
+        ensures result { OnOk result (IsResult (memory self.new).config.outcome) }
+        ensures any_moment { InTheOutside (λ O. is_closed self.old ≡ false
+            → Told (H.world host.old) (KeptThroughout the_language O (memory self.old)
+            (H.world host.old) (H.world host.new))) }
+        ensures finished { Told (H.world host.old) ((memory self.old).config.outcome ≢ Active
+            → host.new ≡ host.old) }
+        ensures session { (memory self.new).session ≡ (memory self.old).session }
+        ensures disk_fault { IsErrOf result EngineFault.DiskFault
+            → DiskFailed H.faults host.old host.new }
+        ensures poll_fault { IsErrOf result EngineFault.PollFault
+            → PollFailed H.faults host.old host.new }
+        ensures closed { IsErrOf result EngineFault.Closed ↔ (is_closed self.old ≡ true) }
+        ensures closes { OnErr result (IsErrOf result EngineFault.Suspended
+            ⊎ (is_closed self.new ≡ true)) }
+        ensures idle { IsErrOf result EngineFault.Closed
+            → (self.new ≡ self.old) × (host.new ≡ host.old) }
+        ensures open { OnOk result (is_closed self.new ≡ false) }
+        ensures still_open { IsErrOf result EngineFault.Suspended → is_closed self.new ≡ false }
+        ensures only { IfErr result (λ e. (e ≡ EngineFault.DiskFault)
+            ⊎ (e ≡ EngineFault.PollFault) ⊎ (e ≡ EngineFault.Suspended) ⊎ (e ≡ EngineFault.Closed)
+            ⊎ (e ≡ EngineFault.OutOfMemory)) }
+        ensures tells { TellsAsBefore H.world host.old host.new }
+        ensures counts { NoCountFalls H.faults host.old host.new }
+    {
+        if self.closed {
+            return Err(EngineFault::Closed);
+        }
+        laws_of_steps();
+        self.settle(host)?;
+        let mut left = waits;
+        while matches!(self.machine.outcome(), Outcome::Active) {
+            if left == 0 {
+                return Err(EngineFault::Suspended);
+            }
+            left -= 1;
+            self.wait(host)?;
+            self.settle(host)?;
+        }
+        Ok(())
+    }
+
+    /// Adds turns until it is settled.
+    fn settle<H: Host>(&mut self, host: &mut H) -> Result<(), EngineFault>
+        requires open { is_closed self.old ≡ false }
+        requires kept { Told (H.world host.old) (Holds self.old (H.world host.old)) }
+        ensures holds { OnOk result (Told (H.world host.old) (Holds self.new (H.world host.new))) }
+        ensures adds { InTheOutside (λ O. Told (H.world host.old)
+            (OnOk result (AddsTurns the_language O (memory self.old) (memory self.new)
+            (H.world host.old) (H.world host.new)))) }
+        ensures settled { OnOk result (IsSettled (memory self.new)) }
+        ensures any_moment { InTheOutside (λ O. Told (H.world host.old)
+            (KeptThroughout the_language O (memory self.old) (H.world host.old)
+            (H.world host.new))) }
+        ensures finished { IsSettled (memory self.old)
+            → (self.new ≡ self.old) × (host.new ≡ host.old) }
+        ensures session { (memory self.new).session ≡ (memory self.old).session }
+        ensures waits { (memory self.new).waits ≡ (memory self.old).waits }
+        ensures disk_fault { IsErrOf result EngineFault.DiskFault
+            → DiskFailed H.faults host.old host.new }
+        ensures closes { OnErr result (is_closed self.new ≡ true) }
+        ensures open { OnOk result (is_closed self.new ≡ false) }
+        ensures only { IfErr result (λ e. (e ≡ EngineFault.DiskFault)
+            ⊎ (e ≡ EngineFault.OutOfMemory)) }
+        ensures tells { TellsAsBefore H.world host.old host.new }
+        ensures counts { NoCountFalls H.faults host.old host.new }
+    {
+        laws_of_steps();
+        while !self.is_settled() {
+            self.turn(host)?;
+        }
+        Ok(())
+    }
+
+    /// Sends what is open, and hears one thing, at most until the least due moment.
+    fn wait<H: Host>(&mut self, host: &mut H) -> Result<(), EngineFault>
+        requires open { is_closed self.old ≡ false }
+        requires kept { Told (H.world host.old) (Holds self.old (H.world host.old)) }
+        requires settled { IsSettled (memory self.old) }
+        requires active { (memory self.old).config.outcome ≡ Active }
+        requires room { (memory self.old).waits + 1 < 2 ^ 64 }
+        ensures holds { OnOk result (Told (H.world host.old) (Holds self.new (H.world host.new))) }
+        ensures waits { InTheOutside (λ O. Told (H.world host.old)
+            (OnOk result (Waits the_language O (memory self.old) (memory self.new)
+            (H.world host.old) (H.world host.new)))) }
+        ensures any_moment { InTheOutside (λ O. Told (H.world host.old)
+            (KeptThroughout the_language O (memory self.old) (H.world host.old)
+            (H.world host.new))) }
+        ensures session { (memory self.new).session ≡ (memory self.old).session }
+        ensures one { OnOk result ((memory self.new).waits ≡ (memory self.old).waits + 1) }
+        ensures poll_fault { IsErrOf result EngineFault.PollFault
+            → PollFailed H.faults host.old host.new }
+        ensures closes { OnErr result (is_closed self.new ≡ true) }
+        ensures open { OnOk result (is_closed self.new ≡ false) }
+        ensures only { IfErr result (λ e. (e ≡ EngineFault.PollFault)
+            ⊎ (e ≡ EngineFault.OutOfMemory)) }
+        ensures tells { TellsAsBefore H.world host.old host.new }
+        ensures counts { NoCountFalls H.faults host.old host.new }
+    {
+        laws_of_steps();
+        self.send_open(host)?;
+        let Some(until) = self.machine.least_due() else {
+            unreachable!();
+        };
+        match host.poll(until) {
+            Ok(heard) => self.take(heard),
+            Err(error) => {
+                self.closed = true;
+                Err(error.into())
+            }
+        }
+    }
+}
