@@ -12,8 +12,8 @@ impl Engine {
     ghost use Rattle.wf_engine.specs.Engine.{Holds, is_closed, memory};
     ghost use Rattle.wf_engine.specs.TheLanguage.{the_language};
     ghost use Rattle.wf_engine.specs.TheOutside.{InTheOutside};
-    ghost use Rattle.wf_host.specs.Calls.{DiskFailed, NoCountFalls, PollFailed, TellsAsBefore};
-    ghost use Rattle.wf_host.specs.World.{Told};
+    ghost use Rattle.wf_host.specs.Calls.{DiskFailed, NoCountFalls, TellsAsBefore};
+    ghost use Rattle.wf_host.specs.World.{Rose, Told};
     ghost use Rattle.wf_machine.specs.Outcome.{IsResult};
     ghost use Rattle.wf_model.specs.Config.{Active};
 
@@ -45,7 +45,7 @@ impl Engine {
         ensures disk_fault { IsErrOf result EngineFault.DiskFault
             → DiskFailed H.faults host.old host.new }
         ensures poll_fault { IsErrOf result EngineFault.PollFault
-            → PollFailed H.faults host.old host.new }
+            → Rose (H.faults host.old).poll (H.faults host.new).poll }
         ensures closed { IsErrOf result EngineFault.Closed ↔ (is_closed self.old ≡ true) }
         ensures closes { OnErr result (IsErrOf result EngineFault.Suspended
             ⊎ (is_closed self.new ≡ true)) }
@@ -125,7 +125,7 @@ impl Engine {
         ensures session { (memory self.new).session ≡ (memory self.old).session }
         ensures one { OnOk result ((memory self.new).waits ≡ (memory self.old).waits + 1) }
         ensures poll_fault { IsErrOf result EngineFault.PollFault
-            → PollFailed H.faults host.old host.new }
+            → Rose (H.faults host.old).poll (H.faults host.new).poll }
         ensures closes { OnErr result (is_closed self.new ≡ true) }
         ensures open { OnOk result (is_closed self.new ≡ false) }
         ensures only { IfErr result (λ e. (e ≡ EngineFault.PollFault)
