@@ -8,7 +8,7 @@ use Rattle.wf_deeds.specs.Kept.{Command, Kept}
 use Rattle.wf_deeds.specs.Memory.{IsSettled, Memory, StandsFor}
 use Rattle.wf_deeds.specs.Outside.{Outside}
 use Rattle.wf_deeds.specs.Steps.{fresh}
-use Rattle.wf_engine.proofs.Added.{Choice, Laws, kept_now, kept_with, one_turn_more, payload_by, turn_by, turn_is_own}
+use Rattle.wf_engine.proofs.OneTurn.{OnlyNow, turn_begun}
 use Rattle.wf_engine.specs.Engine.{Holds, is_closed, memory, spent}
 use Rattle.wf_engine.specs.TheLanguage.{the_language}
 use Rattle.wf_engine.specs.TheOutside.{InTheOutside}
@@ -33,29 +33,6 @@ use Rattle.wf_model.specs.Config.{Active, Config}
 use Rattle.wf_model.specs.Ready.{quiet}
 use Rattle.wf_journal_laws.specs.Language.{Language}
 use Rattle.wf_shared.specs.Events.{Event}
-
--- the host's law of the present moment
-abbrev OnlyNow : World → Type 0
-OnlyNow w = (c : List ℕ) (d : List Deed) → w.left_since w.moment c d → w.may_leave c × (d ≡ w.deeds)
-
--- ## One turn
-module _ (L : Language) (O : Outside) (h : History) (w : World) (command : Command) (handed : Bool) (D : List Deed) (only : OnlyNow w) (stands : history.Stands h w) (old : history.is_new h ≡ false) where
-  -- before it
-  pub turn_begun : StandsIsKept → (m : Memory) → StandsFor L O command handed m (records w.seen) D → Begun w w (KeptAt L O command handed m (records w.seen) D) []
-  turn_begun moment m s =
-      begun_over h.journal w (KeptAt L O command handed m (records w.seen) D) only stands.journal old (kept_now moment L O command handed m m D (records w.seen) s refl)
-
-  -- while it is added
-  pub turn_adds : Laws → (new : World) (p : Program) (b c : Config) (number reading : ℕ) (es : List Event) → StandsFor L O command handed (fresh p b number reading) (records w.seen) D → Choice (fresh p b number reading) es c → es ≢ [] → HasSpelling (Turned (turn_by number es))
-      → LeavesOnly w new (IsBeforeOrAfter w (payload_by number es)) → LeavesOnly w new (Moment w (KeptAt L O command handed (fresh p b number reading) (records w.seen) D))
-  turn_adds laws new p b c number reading es s chosen some spelled more =
-      let J = records w.seen in
-      let m : Memory = fresh p b number reading in
-      let n : Memory = fresh p c number reading in
-      let payload = payload_by number es in
-      record_goes_on w w new (KeptAt L O command handed m J D) [] payload (turn_begun laws.moment m s) more
-      (kept_now laws.moment L O command handed m m D J s refl)
-      (kept_with laws.moment L O command handed m n D J (payload ∷ []) (one_turn_more L O command handed p b number reading J D laws es c s chosen some spelled) refl (turn_is_own laws.again number es spelled, tt))
 
 -- ## Turn after turn
 pub record SoFar (L : Language) (O : Outside) (command : Command) (handed : Bool) (m n : Memory) (first now : World) (D : List Deed) : Type 0 where

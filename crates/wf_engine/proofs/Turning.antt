@@ -1,15 +1,16 @@
 -- What is known of the events of a turn, one after another.
-use Rattle.std.specs.Prelude.{◌≡◌, ◌≢◌, ◌⊎◌, ◌≤◌, ◌<◌, ◌+◌, ◌*◌, max, unwrap_or, ℕ, suc, List, [], ◌∷◌, ◌++◌, length, Option, Some, None}
+use Rattle.std.specs.Prelude.{◌≡◌, ◌≢◌, ◌⊎◌, ◌≤◌, ◌<◌, ◌+◌, ◌*◌, ◌-◌, false, max, unwrap_or, ℕ, suc, List, [], ◌∷◌, ◌++◌, length, Option, Some, None}
 use Rattle.std.specs.List.{AllByRecursion}
-use Rattle.std.proofs.Common.{inl, inr, ⊎_elim, refl, sym, ◌∙◌, ap, subst, arith}
+use Rattle.std.proofs.Common.{inl, inr, ⊎_elim, refl, sym, ◌∙◌, ap, subst, arith, append_assoc, length-append}
+use Rattle.std.proofs.lemmas.List.{append-nil}
 use Rattle.std.proofs.Math.Bridge.{le_prop}
 use Rattle.std.proofs.Math.Logic.{∥∥₁_elim}
 use Rattle.wf_ast.specs.Tree.{Program}
-use Rattle.wf_engine.proofs.Chosen.{Turning}
+use Rattle.wf_engine.proofs.Chosen.{Turning, chosen_none, turn_ends, turn_is_full, turns_at_first, turns_on}
 use Rattle.wf_deeds.specs.Kept.{reading_of}
-use Rattle.wf_deeds.specs.Turns.{chosen, turn_of, TakeReading}
+use Rattle.wf_deeds.specs.Turns.{chosen, TakeReading}
 use Rattle.wf_engine.specs.Engine.{spent}
-use Rattle.wf_engine.specs.Turn.{IsTurn, Rests}
+use Rattle.wf_engine.specs.Turn.{AreChosen, Rests}
 use Rattle.wf_events.specs.Spelling.{IsOld}
 use Rattle.wf_machine.specs.Counts.{counts, counts_of}
 use Rattle.wf_machine.specs.State.{State}
@@ -70,8 +71,9 @@ counts_more : (es : List Event) (e : Event) → counts_of (es ++ e ∷ []) ≡ c
 counts_more [] e = omega arith
 counts_more (d ∷ es) e = omega (arith, counts_more es e)
 
-pub record Telling (first now : State) (reading : ℕ) (es : List Event) : Type 0 where
-  pub turning : Turning first now reading es
+-- so many events may come
+pub record Telling (n : ℕ) (first now : State) (reading : ℕ) (es : List Event) : Type 0 where
+  pub turning : Turning n first now reading es
   pub counted : now.config.moves ≡ first.config.moves + counts_of es
   pub most : now.config.moves ≤ 100000
   pub inside : AllByRecursion IsFromInside es
@@ -79,33 +81,28 @@ pub record Telling (first now : State) (reading : ℕ) (es : List Event) : Type 
   pub readings : first.config.last ≤ reading → AllByRecursion (Takes reading) es
   pub last : first.config.last ≤ reading → now.config.last ≤ reading
 
-pub tells_at_first : (first : State) (reading : ℕ) (es : List Event) → Turning first first reading es → first.config.moves ≤ 100000 → es ≡ [] → Telling first first reading es
-tells_at_first first reading es turning most none = record {
-  turning = turning;
-  counted = omega (arith, ap counts_of none);
+pub tells_at_first : (n : ℕ) (first : State) (reading : ℕ) → first.broken ≡ false → first.config.moves ≤ 100000 → Telling n first first reading []
+tells_at_first n first reading whole most = record {
+  turning = turns_at_first n first reading whole;
+  counted = omega arith;
   most = most;
-  inside = subst (AllByRecursion IsFromInside) (sym none) tt;
-  spelled = subst (AllByRecursion IsOld) (sym none) tt;
-  readings = λ le. subst (AllByRecursion (Takes reading)) (sym none) tt;
+  inside = tt;
+  spelled = tt;
+  readings = λ le. tt;
   last = λ le. le;
 }
 
-pub tells_on : ChoiceTakesTheReading → ChosenIsFromInside → (first mid new : State) (reading : ℕ) (es fs : List Event) (e : Event) → Telling first mid reading es → Turning first new reading fs → choose mid.program mid.config reading ≡ Some e
-    → IsOld e → new.config.moves ≡ mid.config.moves + counts e → new.config.moves ≤ 100000 → new.config.last ≡ unwrap_or (choice.reading_of e) mid.config.last → fs ≡ es ++ e ∷ [] → Telling first new reading fs
-tells_on law from first mid new reading es fs e t turning is old more most last added = record {
+pub tells_on : ChoiceTakesTheReading → ChosenIsFromInside → (n : ℕ) (first mid new : State) (reading : ℕ) (es : List Event) (e : Event) → Telling n first mid reading es → Turning n first new reading (es ++ e ∷ []) → choose mid.program mid.config reading ≡ Some e
+    → IsOld e → new.config.moves ≡ mid.config.moves + counts e → new.config.moves ≤ 100000 → new.config.last ≡ unwrap_or (choice.reading_of e) mid.config.last → Telling n first new reading (es ++ e ∷ [])
+tells_on law from n first mid new reading es e t turning is old more most last = record {
   turning = turning;
-  counted = omega (arith, more, t.counted, ap counts_of added, counts_more es e);
+  counted = omega (arith, more, t.counted, counts_more es e);
   most = most;
-  inside = subst (AllByRecursion IsFromInside) (sym added) (all_more IsFromInside es e t.inside (from mid.program mid.config reading e is));
-  spelled = subst (AllByRecursion IsOld) (sym added) (all_more IsOld es e t.spelled old);
-  readings = λ le. subst (AllByRecursion (Takes reading)) (sym added) (all_more (Takes reading) es e (t.readings le) (takes reading mid.config.last e (t.last le) (law mid.program mid.config reading e is)));
+  inside = all_more IsFromInside es e t.inside (from mid.program mid.config reading e is);
+  spelled = all_more IsOld es e t.spelled old;
+  readings = λ le. all_more (Takes reading) es e (t.readings le) (takes reading mid.config.last e (t.last le) (law mid.program mid.config reading e is));
   last = λ le. still_last reading mid.config.last new.config.last e (t.last le) (law mid.program mid.config reading e is) last;
 }
-
--- behind an outcome there are none
-pub none_behind : NothingIsChosenBehindAnOutcome → (p : Program) (c : Config) (reading n : ℕ) (es : List Event) → es ≡ chosen (suc n) p (To c) reading → c.outcome ≢ Active → es ≡ []
-unfolding chosen
-none_behind law p c reading n es is ended = is ∙ ap (λ (o : Option Event). elim o [ None ↦ [] | Some e ↦ e ∷ chosen n p (next p c e) reading ]) (law p c reading ended)
 
 -- an outcome, or none
 over : (o : Outcome) → (o ≡ Active) ⊎ (o ≢ Active)
@@ -138,11 +135,11 @@ falls law p b c es before after inside leads sound none =
         let same : b ≡ c = cc (ap (λ l. run_on p (To b) l) (sym nil) ∙ leads) in
         omega (arith, ap length nil, ap spent same)
 
--- where the turn is whole
-pub is_turn : NothingIsChosenBehindAnOutcome → EventsAreCounted → (first now : State) (reading : ℕ) (es : List Event) → first.config.moves ≤ 100000 → (first.config.outcome ≡ Active → ∥ Sound first.config ∥₁)
-    → Telling first now reading es → es ≡ turn_of first.program first.config reading None → (length es < 4096 → Rests now.config reading) → IsTurn first now reading es
-is_turn law counts first now reading es few sound t whole ended =
-    let none : first.config.outcome ≢ Active → es ≡ [] = λ over. none_behind law first.program first.config reading 4095 es whole over in
+-- where nothing more comes
+pub are_chosen : NothingIsChosenBehindAnOutcome → EventsAreCounted → (n : ℕ) (first now : State) (reading : ℕ) (es : List Event) → first.config.moves ≤ 100000 → (first.config.outcome ≡ Active → ∥ Sound first.config ∥₁)
+    → Telling n first now reading es → es ≡ chosen n first.program (To first.config) reading → (length es < n → Rests now.config reading) → AreChosen n first now reading es
+are_chosen law counts n first now reading es few sound t whole ended =
+    let none : first.config.outcome ≢ Active → es ≡ [] = λ over. whole ∙ chosen_none n first.program first.config reading (law first.program first.config reading over) in
     record {
       turn = whole;
       leads = t.turning.so_far.leads;
@@ -159,3 +156,53 @@ is_turn law counts first now reading es few sound t whole ended =
       program = t.turning.program;
       whole = t.turning.whole;
     }
+
+-- ## Behind other events
+-- of 4,096 events with those before them
+pub record Gone (first now : State) (reading : ℕ) (before all : List Event) : Type 0 where
+  pub added : List Event
+  pub longer : all ≡ before ++ added
+  pub telling : Telling (4096 - length before) first now reading added
+
+pub gone_first : (first : State) (reading : ℕ) (before : List Event) → first.broken ≡ false → first.config.moves ≤ 100000 → Gone first first reading before before
+gone_first first reading before whole most = record {
+  added = [];
+  longer = sym (append-nil before);
+  telling = tells_at_first (4096 - length before) first reading whole most;
+}
+
+module _ (first mid : State) (reading : ℕ) (before es : List Event) (g : Gone first mid reading before es) where
+  counted_all : length es ≡ length before + length g.added
+  counted_all = ap length g.longer ∙ length-append before g.added
+
+  room : length es < 4096 → length g.added < 4096 - length before
+  room less = omega (arith, less, counted_all)
+
+  pub gone_on : ChoiceTakesTheReading → ChosenIsFromInside → (new : State) (e : Event) (fs : List Event) → length es < 4096 → choose mid.program mid.config reading ≡ Some e → next mid.program mid.config e ≡ To new.config → new.broken ≡ false
+      → new.program ≡ mid.program → IsOld e → new.config.moves ≡ mid.config.moves + counts e → new.config.moves ≤ 100000 → new.config.last ≡ unwrap_or (choice.reading_of e) mid.config.last → fs ≡ es ++ e ∷ [] → Gone first new reading before fs
+  gone_on law from new e fs less is step whole same old more most last pushed = record {
+    added = g.added ++ e ∷ [];
+    longer = pushed ∙ ap (λ l. l ++ e ∷ []) g.longer ∙ append_assoc before g.added (e ∷ []);
+    telling = tells_on law from (4096 - length before) first mid new reading g.added e g.telling
+        (turns_on (4096 - length before) first mid new reading g.added e g.telling.turning (room less) is step whole same) is old more most last;
+  }
+
+  -- where nothing is chosen
+  pub gone_ends : NothingIsChosenBehindAnOutcome → NothingIsChosenWhenQuiet → EventsAreCounted → first.config.moves ≤ 100000 → (first.config.outcome ≡ Active → ∥ Sound first.config ∥₁) → choose mid.program mid.config reading ≡ None
+      → (fs : List Event) × (es ≡ before ++ fs) × AreChosen (4096 - length before) first mid reading fs
+  gone_ends law quiet counts few sound none = (
+    g.added,
+    g.longer,
+    are_chosen law counts (4096 - length before) first mid reading g.added few sound g.telling (turn_ends (4096 - length before) first mid reading g.added g.telling.turning none) (λ _. rests quiet mid.program mid.config reading none),
+  )
+
+  -- where there are as many as there may be
+  pub gone_full : NothingIsChosenBehindAnOutcome → EventsAreCounted → first.config.moves ≤ 100000 → (first.config.outcome ≡ Active → ∥ Sound first.config ∥₁) → 4096 ≤ length es
+      → (fs : List Event) × (es ≡ before ++ fs) × AreChosen (4096 - length before) first mid reading fs
+  gone_full law counts few sound most =
+      let all : 4096 - length before ≤ length g.added = omega (arith, most, counted_all) in (
+        g.added,
+        g.longer,
+        are_chosen law counts (4096 - length before) first mid reading g.added few sound g.telling (turn_is_full (4096 - length before) first mid reading g.added g.telling.turning all)
+            (λ less. let no : ⊥ = omega (arith, all, less) in absurd no),
+      )

@@ -7,6 +7,7 @@ pub mod TheOutside
 pub mod Ready
 pub mod Engine
 pub mod Faults
+pub mod Fits
 pub mod Openings
 pub mod Rows
 pub mod Hearing

@@ -1,15 +1,11 @@
 -- What was taken and waits for its turn.
 --     taken_event    the event that brings it
 --     IsTakable      the execution goes on, and the call is open
---     FitsRecords    it can stand in a record
-use Rattle.std.specs.Prelude.{◌≡◌, ◌≤◌, ℕ, true, is_some, length, Option, Some, None}
+use Rattle.std.specs.Prelude.{◌≡◌, ℕ, true, is_some, Option, Some, None}
 use Rattle.wf_engine.specs.declared.taken.Taken.{Taken}
-use Rattle.wf_events.specs.Spelling.{event}
 use Rattle.wf_model.specs.Config.{Active, Config}
 use Rattle.wf_model.specs.Ready.{request_of}
-use Rattle.wf_record_parts.specs.Spelling.{IsReply, reply}
 use Rattle.wf_record_parts.specs.View.{reply_view}
-use Rattle.wf_shared.specs.Events as plain
 use Rattle.wf_shared.specs.Events.{Event, Answer}
 
 -- at a reading of the clock
@@ -23,14 +19,3 @@ pub record IsTakable (c : Config) (t : Taken) : Type 0 where
 
 abbrev pub AreTakable : Config → Option Taken → Type 0
 AreTakable c o = (t : Taken) → o ≡ Some t → IsTakable c t
-
--- the most bytes that the spelling of a reply takes, and of its event
-abbrev pub longest_reply : ℕ
-longest_reply = 2200000
-
-abbrev pub longest_taken : ℕ
-longest_taken = 2200017
-
-pub record FitsRecords (a : plain.Reply) : Type 0 where
-  pub spelled : IsReply a
-  pub short : length (reply a) ≤ longest_reply

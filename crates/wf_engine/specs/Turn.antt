@@ -3,7 +3,7 @@ use Rattle.std.specs.List.{AllByRecursion, flat_map}
 use Rattle.std.specs.Prelude.{◌≡◌, ◌≢◌, ◌⊎◌, ◌≤◌, ◌<◌, ◌+◌, ◌*◌, ℕ, false, IsTrue, List, [], ◌∷◌, ◌++◌, length, Option, Some, None}
 use Rattle.wf_deeds.specs.Turns.{chosen, turn_of, TakeReading}
 use Rattle.wf_engine.specs.Engine.{spent}
-use Rattle.wf_engine.specs.Taken.{longest_taken}
+use Rattle.wf_engine.specs.Fits.{longest_taken}
 use Rattle.wf_engine.specs.declared.taken.Taken.{Taken}
 use Rattle.wf_events.specs.Spelling.{event, IsOld}
 use Rattle.wf_machine.specs.Counts.{counts_of}

@@ -1,6 +1,7 @@
 // The engine: an execution over a journal.
 ghost use Rattle.std.specs.Prelude.{◌≡◌, false};
-ghost use Rattle.wf_engine.specs.Ready.{IsReady};
+ghost use Rattle.std.specs.Coded.{→_prop};
+ghost use Rattle.wf_engine.specs.Ready.{IsReady, IsReady-prop};
 
 use crate::choose_turn;
 use crate::fault::EngineFault;
@@ -39,7 +40,8 @@ pub struct Engine {
     /// An answer that waits for its turn.
     pub(crate) taken: Option<Taken>,
     pub(crate) closed: bool,
-    ghost ready: { closed ≡ false → IsReady history machine reading connections taken },
+    ghost ready: { closed ≡ false → IsReady history machine reading connections taken }
+        by { →_prop (IsReady-prop _ _ _ _ _) },
 }
 
 impl Engine {
@@ -140,6 +142,7 @@ impl Engine {
         let mut history = empty_history(alloc, host)?;
         history.begin(alloc, host, start)?;
         let reading = machine.last_reading();
+        let connections = Connections::new(alloc);
         Ok(Engine {
             alloc,
             history,
@@ -147,7 +150,7 @@ impl Engine {
             session: 1,
             reading,
             waits: 0,
-            connections: Connections::new(alloc),
+            connections,
             taken: None,
             closed: false,
         })
@@ -216,6 +219,7 @@ impl Engine {
         let machine = last_machine(alloc, &mut history, host, steps)?;
         let (last, _) = history.last().unwrap_or((0, 0));
         let reading = session_reading(&machine, host)?;
+        let connections = Connections::new(alloc);
         Ok(Engine {
             alloc,
             history,
@@ -223,7 +227,7 @@ impl Engine {
             session: last.saturating_add(1),
             reading,
             waits: 0,
-            connections: Connections::new(alloc),
+            connections,
             taken: None,
             closed: false,
         })

@@ -1,9 +1,10 @@
 // The events of one turn.
 ghost use Rattle.std.specs.List.{AllByRecursion, flat_map};
-ghost use Rattle.std.specs.Prelude.{◌≡◌, ◌≢◌, ◌≤◌, ◌<◌, ◌+◌, ◌-◌, ◌*◌, ◌×◌, ◌++◌, [], List, false, length, None, IfOk, OnOk};
+ghost use Rattle.std.specs.Prelude.{◌≡◌, ◌≢◌, ◌≤◌, ◌<◌, ◌+◌, ◌-◌, ◌*◌, ◌×◌, ◌++◌, [], List, false, length, None, Some, IfOk, OnOk};
 ghost use Rattle.wf_deeds.specs.Turns.{turn_of, TakeReading};
 ghost use Rattle.wf_engine.specs.Engine.{spent};
-ghost use Rattle.wf_engine.specs.Taken.{AreTakable, IsTakable, longest_taken, taken_event};
+ghost use Rattle.wf_engine.specs.Fits.{longest_taken};
+ghost use Rattle.wf_engine.specs.Taken.{AreTakable, IsTakable, taken_event};
 ghost use Rattle.wf_engine.specs.Turn.{AreChosen, IsBrought, IsTurn, Rests, brought};
 ghost use Rattle.wf_events.specs.Spelling.{event as event_bytes, IsOld};
 ghost use Rattle.wf_events.specs.View.{event_view, events_view};
@@ -107,14 +108,32 @@ fn choose_counted<L: Ledger>(
         reading (taken_event reading taken) (events_view events)) }
     ensures steps { IfOk result (λ events. steps.new ≡ steps.old + length (events_view events)) }
 {
-    laws_of_choice();
+    match taken {
+        None => choose_rest(machine, reading, Events::new(alloc), steps),
+        Some(taken) => choose_behind(alloc, machine, reading, taken, steps),
+    }
+}
+
+/// The same, where something was taken.
+fn choose_behind<L: Ledger>(
+    alloc: Global,
+    machine: &mut Machine,
+    reading: u64,
+    taken: Taken,
+    steps: &mut Steps<L>,
+) -> Result<Events, OutOfMemory>
+    requires whole { (state_of machine.old).broken ≡ false }
+    requires takable { IsTakable (state_of machine.old).config taken }
+    requires last { (state_of machine.old).config.last ≤ reading }
+    ensures turn { IfOk result (λ events. IsTurn (state_of machine.old) (state_of machine.new)
+        reading (taken_event reading (Some taken)) (events_view events)) }
+    ensures steps { IfOk result (λ events. steps.new ≡ steps.old + length (events_view events)) }
+{
     laws_of_counts();
     is_sound(machine);
+    let event = bring(machine, reading, taken, steps)?;
     let mut events = Events::new(alloc);
-    if let Some(taken) = taken {
-        let event = bring(machine, reading, taken, steps)?;
-        events.push(event)?;
-    }
+    events.push(event)?;
     choose_rest(machine, reading, events, steps)
 }
 

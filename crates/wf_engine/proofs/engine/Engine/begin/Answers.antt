@@ -1,6 +1,8 @@
 use Rattle.std.proofs.Common.{◌≡◌, ◌∙◌, ap, sym, subst, [], ◌∷◌, Some}
 use Rattle.wf_check.specs.Seen.{program_of}
+use Rattle.wf_connections.specs.Calls.{is_dropped, is_started, told}
 use Rattle.wf_engine.proofs.Beginning.{then_begins}
+use Rattle.wf_engine.proofs.FreshEngine.{stands_as_fresh}
 use Rattle.wf_engine.proofs.Language.{of_program}
 use Rattle.wf_engine.proofs.NewSessions.{stands_begun}
 use Rattle.wf_engine.proofs.StillOpen.{tells_still}
@@ -12,21 +14,25 @@ use Rattle.wf_engine.specs.TheLanguage.{the_language}
 use Rattle.wf_events.specs.Records.{Started}
 use Rattle.wf_events.specs.Spelling.{record_bytes}
 use Rattle.wf_events.specs.View.{start_view}
+use Rattle.wf_journal.specs.Records.{records}
 use Rattle.wf_host.specs.declared.data.Deed.TheVariants.{Now}
 use Rattle.wf_machine.specs.Seen.{state_of}
 use Rattle.wf_model.specs.Config.{To}
 use Rattle.wf_model.specs.Run.{initial}
 
 pub returns-clause-stands : goal.returns-clause-stands
-returns-clause-stands g c = λ O told handed.
+returns-clause-stands g c = λ O here handed.
     let mid = g.H.Host.world c.empty_history.new.host in
     let s = start_view c.args.start.now in
     let m = c.in_ok-machine.machine in
-    subst (λ J. StandsFor the_language O Run handed (fresh (state_of m).program (state_of m).config 1 c.last_reading-reading.result) J (Now c.args.start.now.reading ∷ []))
-    (sym (c.in_ok-begin.ensures.added (tells_still (g.H.Host.world c.args.host.now) mid c.empty_history.ensures.tells told)))
+    let a = c.new-connections.result in
+    let none = c.new-connections.ensures in
+    stands_as_fresh (state_of m).program (state_of m).config 1 c.last_reading-reading.result (is_started a) (is_dropped a) (told a) none.started none.dropped the_language O Run handed (records (g.H.Host.world c.begin.new.host).seen) (Now c.args.start.now.reading ∷ [])
+    (subst (λ J. StandsFor the_language O Run handed (fresh (state_of m).program (state_of m).config 1 c.last_reading-reading.result) J (Now c.args.start.now.reading ∷ []))
+    (sym (c.in_ok-begin.ensures.added (tells_still (g.H.Host.world c.args.host.now) mid c.empty_history.ensures.tells here)))
     (stands_begun the_language O handed c.laws_of_rules.ensures.only_readings c.laws_of_steps.ensures.fresh c.laws_of_histories.ensures.start c.laws_of_runs.ensures.runs_are_bounded (record_bytes (Started s)) s (state_of m).program (state_of m).config
     c.last_reading-reading.result (c.one_spelling.ensures.again (Started s) c.requires.spelled tt) (of_program c.each_source_is_one.ensures s.source (program_of c.args.program) c.requires.accepted ∙ ap (λ p. Some p) (sym c.in_ok-machine.ensures.program))
-    (subst (λ p. initial p s ≡ To (state_of m).config) (sym c.in_ok-machine.ensures.program) c.in_ok-machine.ensures.initial) c.last_reading-reading.ensures)
+    (subst (λ p. initial p s ≡ To (state_of m).config) (sym c.in_ok-machine.ensures.program) c.in_ok-machine.ensures.initial) c.last_reading-reading.ensures))
 
 pub returns-clause-any_moment : goal.returns-clause-any_moment
 returns-clause-any_moment g c = λ told.

@@ -1,6 +1,9 @@
 use Rattle.std.proofs.Common.{◌≡◌, ◌∙◌, ◌+◌, ap, inl, sym, subst, ℕ, length, ◌≤◌, Ok}
 use Rattle.std.specs.Prelude.{unwrap_or}
+use Rattle.wf_connections.specs.Calls as calls
+use Rattle.wf_connections.specs.Calls.{is_dropped, is_started}
 use Rattle.wf_engine.proofs.Beginning.{opens_quietly, quiet_stays, settled_behind, then_reads}
+use Rattle.wf_engine.proofs.FreshEngine.{opened_as_fresh}
 use Rattle.wf_engine.proofs.Reopened.{deeds_on, has_ended, next_number, no_history_told, opened, still_stands}
 use Rattle.wf_engine.proofs.StillOpen.{tells_still}
 use Rattle.wf_engine.proofs.engine.Engine.open.Goals as goal
@@ -10,6 +13,7 @@ use Rattle.wf_journal.specs.Records.{records}
 use Rattle.wf_journal.specs.Standing.{new_none}
 use Rattle.wf_journal_laws.specs.At.{applied_by}
 use Rattle.wf_journal_laws.specs.History.{history}
+use Rattle.wf_machine.specs.Seen.{state_of}
 use Rattle.wf_replay.specs.Standing.{standing}
 
 pub returns-then-at_end-clause-not_started : goal.returns-then-at_end-clause-not_started
@@ -120,8 +124,11 @@ returns-clause-opened g c = λ O told.
     let next = next_number the_language c.laws_of_moments.ensures.number_is_count c.laws_of_moments.ensures.session_is_numbered w.seen h m c.saturating_add.result c.unwrap_or-last.result.0 led (g.met.H.Host.fits c.args.host.now told)
     (ap (λ (p : ℕ × ℕ). p.0) (c.unwrap_or-last.ensures ∙ ap (λ o. unwrap_or o (0, 0)) c.last.ensures)) c.saturating_add.ensures in
     let laws = c.laws_of_moments.ensures in
-    opened the_language O c.laws_of_rules.ensures.only_readings c.laws_of_steps.ensures.fresh laws.stands_before laws.no_turns_behind laws.session_is_numbered w late new h m c.saturating_add.result c.in_ok-reading.reading led (c.session_reading.ensures.seen told_late ∙ seen) deeds next
-    (c.in_ok-reading.ensures.clock told_late)
+    let a = c.new-connections.result in
+    let none = c.new-connections.ensures in
+    opened_as_fresh (state_of m).program (state_of m).config c.saturating_add.result c.in_ok-reading.reading (is_started a) (is_dropped a) (calls.told a) none.started none.dropped the_language O w new
+    (opened the_language O c.laws_of_rules.ensures.only_readings c.laws_of_steps.ensures.fresh laws.stands_before laws.no_turns_behind laws.session_is_numbered w late new h m c.saturating_add.result c.in_ok-reading.reading led (c.session_reading.ensures.seen told_late ∙ seen) deeds next
+    (c.in_ok-reading.ensures.clock told_late))
 
 pub returns-clause-session : goal.returns-clause-session
 returns-clause-session g c = λ told.

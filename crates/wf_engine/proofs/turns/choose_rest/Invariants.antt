@@ -1,11 +1,13 @@
 use Rattle.std.proofs.Common.{◌≡◌, ◌+◌, ◌-◌, length}
-use Rattle.wf_engine.proofs.Turning.{Telling}
-use Rattle.wf_engine.proofs.turns.choose_counted.Given as goal
+use Rattle.wf_engine.proofs.Turning.{Gone}
+use Rattle.wf_engine.proofs.turns.choose_rest.Given as goal
 use Rattle.wf_events.specs.View.{events_view}
 use Rattle.wf_machine.specs.Seen.{state_of}
 
 abbrev pub invariant-loop-machine : goal.invariant-loop-machine
-invariant-loop-machine g l = Telling (state_of l.fn.machine) (state_of l.machine) l.fn.reading (events_view l.events) × (l.steps ≡ l.fn.steps + length (events_view l.events))
+invariant-loop-machine g l =
+    Gone (state_of l.fn.machine) (state_of l.machine) l.fn.reading (events_view l.fn.events) (events_view l.events)
+    × (l.steps + length (events_view l.fn.events) ≡ l.fn.steps + length (events_view l.events))
 
 abbrev pub decreases-loop-machine : goal.decreases-loop-machine
 decreases-loop-machine g l = 4096 - length (events_view l.events)
