@@ -40,9 +40,6 @@ off : (b : Bool) → b ≡ false → b ≡ true → ⊥
 off b is on = let no : false ≡ true = sym is ∙ on in cc no
 
 module _ (p : Program) (c : Config) (number reading : ℕ) (started dropped : ℕ → Bool) (told : ℕ → Told) (none_started : (k : ℕ) → started k ≡ false) (none_dropped : (k : ℕ) → dropped k ≡ false) where
-  abbrev as_begun : Memory
-  as_begun = begun p c number reading started dropped told
-
   as_settled : IsSettled (fresh p c number reading) → IsSettled (begun p c number reading started dropped told)
   as_settled s = record { taken = s.taken; owed = s.owed; still = s.still }
 
