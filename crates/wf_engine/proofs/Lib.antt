@@ -9,9 +9,12 @@ mod LivesKept
 mod LivesPrinted
 mod LivesRuns
 mod NewSessions
+mod Parts
 mod Reopened
 mod Sessions
+mod Settling
 mod StillOpen
 mod Turning
 mod TurnsAdded
+mod Waiting
 pub mod RowsHold
