@@ -4,6 +4,7 @@ mod Beginning
 mod Chosen
 mod Clock
 mod FirstRecords
+mod Heard
 pub mod Language
 mod LivesKept
 mod LivesPrinted
