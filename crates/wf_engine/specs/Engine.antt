@@ -3,7 +3,7 @@
 --     Holds       the file is as it left it
 --     spent       what its execution may still do by itself
 use Rattle.std.specs.Prelude.{◌≡◌, ◌≢◌, ◌⊎◌, ◌+◌, ◌*◌, ◌-◌, ℕ, Bool, List, [], ◌∷◌, ◌++◌, None}
-use Rattle.wf_connections.specs.Lines.{is_started, is_dropped, told}
+use Rattle.wf_connections.specs.Calls.{is_started, is_dropped, told}
 use Rattle.wf_deeds.specs.Memory.{Memory}
 use Rattle.wf_engine.specs.Taken.{taken_event}
 use Rattle.wf_engine.specs.declared.engine.Engine.{Engine}

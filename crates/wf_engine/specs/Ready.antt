@@ -1,6 +1,6 @@
 -- When an engine can go on.
 use Rattle.std.specs.Prelude.{◌≡◌, ◌≤◌, ℕ, true, false, is_some, length, Option}
-use Rattle.wf_connections.specs.Lines.{is_started, listens}
+use Rattle.wf_connections.specs.Calls.{is_started, listens}
 use Rattle.wf_connections.specs.declared.connections.Connections.{Connections}
 use Rattle.wf_engine.specs.Taken.{AreTakable}
 use Rattle.wf_engine.specs.declared.taken.Taken.{Taken}
