@@ -1,5 +1,5 @@
 -- What the top call promises of a call: each row by its name.
-use Rattle.wf_cli.specs.Top.{Call, Ends, BadLineRow, BadArgumentRow, ReadFaultRow, RefusedRow, DiskFaultRow, NotAJournalRow, AlreadyStartedRow, NotStartedRow, NotAHistoryRow, SuspendedRow, OutcomeRow, DoneRow, AcceptedRow, ComesBackRow, PrintFaultRow, OnlyThese, Completes, FinishedStays, RefusedStays, ReportsStay, SilentStays, SafeThroughout, SafeAtEnd, LateAtEnd}
+use Rattle.wf_cli.specs.Top.{Call, Ends, BadLineRow, BadArgumentRow, ReadFaultRow, RefusedRow, DiskFaultRow, NotAJournalRow, AlreadyStartedRow, NotStartedRow, NotAHistoryRow, SuspendedRow, OutcomeRow, DoneRow, AcceptedRow, ComesBackRow, PrintFaultRow, PollFaultRow, Completes, FinishedStays, RefusedStays, ReportsStay, SilentStays, SafeThroughout, SafeAtEnd, LateAtEnd}
 use Rattle.wf_engine.specs.TheLanguage.{the_language}
 use Rattle.wf_host.specs.World.{Told}
 
@@ -17,6 +17,8 @@ pub record Promised (x : Call) : Type 0 where
   pub refused : RefusedRow x
   -- only where the count of failed disk calls rose
   pub disk_fault : DiskFaultRow x
+  -- only where the count of failed polls rose
+  pub poll_fault : PollFaultRow x
   -- the file has another magic
   pub not_a_journal : Told x.old (NotAJournalRow x)
   -- `run` finds a first record
@@ -37,8 +39,6 @@ pub record Promised (x : Call) : Type 0 where
   pub comes_back : ComesBackRow x
   -- only where the count of failed prints rose or a print took no byte
   pub print_fault : PrintFaultRow x
-  -- a status of another part never comes
-  pub only : OnlyThese x
   -- where no cause holds, the command does its work, or is suspended, or there is no memory
   pub completes : Told x.old (Completes the_language x)
   -- ## What isn't written

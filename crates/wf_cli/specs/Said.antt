@@ -97,6 +97,7 @@ abbrev pub SaysChecked : Rest → ℕ → ℕ → Result Said Silence → Type 0
 SaysChecked left reads reads2 (Ok said) = (bytes : List ℕ) × IsFirst 131073 left bytes × SaysVerdict bytes said
 SaysChecked left reads reads2 (Err silence.Unread) = Rose reads reads2
 SaysChecked left reads reads2 (Err silence.DiskFault) = ⊥
+SaysChecked left reads reads2 (Err silence.PollFault) = ⊥
 SaysChecked left reads reads2 (Err silence.OutOfMemory) = Unit {0}
 
 -- what is said of a source that is to be laid out: the layout of its tree, from which the tree is read back, or why it is refused
@@ -109,6 +110,7 @@ abbrev pub SaysLayout : Rest → ℕ → ℕ → Result Said Silence → Type 0
 SaysLayout left reads reads2 (Ok said) = (bytes : List ℕ) × IsFirst 131073 left bytes × SaysTree (read_tree bytes) said
 SaysLayout left reads reads2 (Err silence.Unread) = Rose reads reads2
 SaysLayout left reads reads2 (Err silence.DiskFault) = ⊥
+SaysLayout left reads reads2 (Err silence.PollFault) = ⊥
 SaysLayout left reads reads2 (Err silence.OutOfMemory) = Unit {0}
 
 -- what is said of words that are no line
@@ -129,6 +131,7 @@ argument_fault e = argument.Bad
 -- what is said of a fault of the engine
 abbrev pub SaysFault : EngineFault → Result Said Silence → Type 0
 SaysFault engine.DiskFault r = r ≡ Err silence.DiskFault
+SaysFault engine.PollFault r = r ≡ Err silence.PollFault
 SaysFault engine.NotAJournal r = SaysOrLacks status.NotAJournal r
 SaysFault (engine.NotAHistory n) r = SaysOrLacks (status.NotAHistory n) r
 SaysFault engine.AlreadyStarted r = SaysOrLacks status.AlreadyStarted r
@@ -180,6 +183,7 @@ pub record IsOpened (L : Language) (O : Outside) (command : kept.Command) (s : S
 -- why a file isn't opened
 abbrev pub FaultHolds : Language → Scene → EngineFault → Type 0
 FaultHolds L s engine.DiskFault = Unit {0}
+FaultHolds L s engine.PollFault = ⊥
 FaultHolds L s engine.NotAJournal = HasOtherMagic s × IsPassed L s status.NotAJournal
 FaultHolds L s (engine.NotAHistory n) = IsNoHistory L s n × IsPassed L s (status.NotAHistory n)
 FaultHolds L s engine.AlreadyStarted = IsStarted s × IsPassed L s status.AlreadyStarted
@@ -206,24 +210,25 @@ abbrev pub SaysResult : Faults → Faults → Result Said Silence → Type 0
 SaysResult faults faults2 (Ok said) = ((o : Outcome) × IsResult o × SaysOutcome said o) ⊎ SaysStatus status.Suspended said
 SaysResult faults faults2 (Err silence.Unread) = ⊥
 SaysResult faults faults2 (Err silence.DiskFault) = Rose faults.disk faults2.disk
+SaysResult faults faults2 (Err silence.PollFault) = Rose faults.poll faults2.poll
 SaysResult faults faults2 (Err silence.OutOfMemory) = Unit {0}
 
--- an outcome is said, or there is none, and the command waits no more: it never polls yet
-abbrev pub SaysStanding : Said → Outcome → List Deed → Type 0
-SaysStanding said o done = SaysOutcome said o ⊎ ((o ≡ Active) × (polls done ≡ 0) × SaysStatus status.Suspended said)
+-- an outcome is said, or there is none, and the command waits no more: it polled as often as it may
+abbrev pub SaysStanding : ℕ → Said → Outcome → List Deed → Type 0
+SaysStanding waits said o done = SaysOutcome said o ⊎ ((o ≡ Active) × (polls done ≡ waits) × SaysStatus status.Suspended said)
 
 -- what is said is what the history of the file comes to, and a crash leaves just this
-pub record SaysHistory (L : Language) (new : World) (done : List Deed) (said : Said) : Type 0 where
+pub record SaysHistory (L : Language) (waits : ℕ) (new : World) (done : List Deed) (said : Said) : Type 0 where
   pub standing : Standing
   pub history : history L (records new.seen) ≡ Ok standing
-  pub says : SaysStanding said standing.config.outcome done
+  pub says : SaysStanding waits said standing.config.outcome done
   pub settled : Only new.seen new.may_leave
 
--- an execution that goes on to its outcome, where the host tells
-pub record Going (L : Language) (O : Outside) (command : kept.Command) (m : Memory) (D : List Deed) (old new : World) (r : Result Said Silence) : Type 0 where
+-- an execution that goes on to its outcome, and polls at most so often, where the host tells
+pub record Going (L : Language) (O : Outside) (command : kept.Command) (m : Memory) (waits : ℕ) (D : List Deed) (old new : World) (r : Result Said Silence) : Type 0 where
   pub moments : LeavesOnly old new (Moment old (KeptAt L O command false m (records old.seen) D))
   pub silently : DoneSilently old new
-  pub said : IfOk r (SaysHistory L new silently.done)
+  pub said : IfOk r (SaysHistory L waits new silently.done)
   pub ends : IfOk r (λ said. MayEnd L O (session_of command false m (records new.seen) (D ++ silently.done)) (status_code said.status))
   pub finished : m.config.outcome ≢ Active → Unwritten old new × (new.deeds ≡ old.deeds)
 
@@ -233,6 +238,7 @@ abbrev pub IsEnd : Scene → World → World → ℕ → ℕ → Faults → Faul
 IsEnd s old new reads reads2 faults faults2 (Ok said) = Says s old new said.status said.text.items
 IsEnd s old new reads reads2 faults faults2 (Err silence.Unread) = IsLineOf s (λ c. uses_source c ≡ true) × ¬ IsBadArgument s × Rose reads reads2
 IsEnd s old new reads reads2 faults faults2 (Err silence.DiskFault) = IsLineOf s (λ c. executes c ≡ true) × IsTaken s × Rose faults.disk faults2.disk
+IsEnd s old new reads reads2 faults faults2 (Err silence.PollFault) = IsLineOf s (λ c. executes c ≡ true) × IsTaken s × Rose faults.poll faults2.poll
 IsEnd s old new reads reads2 faults faults2 (Err silence.OutOfMemory) = Unit {0}
 
 -- the line executes, and neither its argument nor its source is refused
@@ -262,6 +268,7 @@ text_of (Err s) = []
 abbrev pub silent_status : Silence → Status
 silent_status silence.Unread = status.ReadFault
 silent_status silence.DiskFault = status.DiskFault
+silent_status silence.PollFault = status.PollFault
 silent_status silence.OutOfMemory = status.OutOfMemory
 
 -- the text was printed whole, or some of it is left, or nothing was done

@@ -139,13 +139,15 @@ module _ (x : Call) where
   abbrev pub TookNothing : Type 0
   TookNothing = Told x.old (Deeds (λ D. Contains D (Print [])))
 
-  -- The call ends in one of five ways: with a status and its text printed whole; with a text of which some is left, since a print failed or
-  -- took nothing; without a source, since a read failed; without the file, since the disk failed; or without memory.
+  -- The call ends in one of six ways: with a status and its text printed whole; with a text of which some is left, since a print failed or
+  -- took nothing; without a source, since a read failed; without the file, since the disk failed; without hearing, since a poll failed; or
+  -- without memory.
   pub data Ends : Type 0 where
     said : (text : List ℕ) → Says x.scene x.old x.new x.status text → Prints text → Ends
     cut : (st : Status) (text : List ℕ) → x.status ≡ status.PrintFault → Says x.scene x.old x.new st text → Rose x.faults_old.print x.faults_new.print ⊎ TookNothing → PrintsSome text → Ends
     unread : x.status ≡ status.ReadFault → IsLineOf x.scene (λ c. uses_source c ≡ true) → ¬ IsBadArgument x.scene → Rose x.reads_old x.reads_new → Prints [] → Ends
     failed : x.status ≡ status.DiskFault → IsLineOf x.scene (λ c. executes c ≡ true) → IsTaken x.scene → Rose x.faults_old.disk x.faults_new.disk → Prints [] → Ends
+    unheard : x.status ≡ status.PollFault → IsLineOf x.scene (λ c. executes c ≡ true) → IsTaken x.scene → Rose x.faults_old.poll x.faults_new.poll → Prints [] → Ends
     no_memory : x.status ≡ status.OutOfMemory → Prints [] → Ends
 
   -- it is this status, or an earlier cause came, or the text wasn't printed whole, or memory ran out
@@ -173,6 +175,9 @@ module _ (x : Call) where
 
   abbrev pub DiskFaultRow : Type 0
   DiskFaultRow = x.status ≡ status.DiskFault → Rose x.faults_old.disk x.faults_new.disk
+
+  abbrev pub PollFaultRow : Type 0
+  PollFaultRow = x.status ≡ status.PollFault → Rose x.faults_old.poll x.faults_new.poll
 
   abbrev pub NotAJournalRow : Type 0
   NotAJournalRow = Exactly status.NotAJournal (HasOtherMagic x.scene) (line_end (codes "not a journal"))
@@ -218,10 +223,6 @@ module _ (x : Call) where
   abbrev pub PrintFaultRow : Type 0
   PrintFaultRow = x.status ≡ status.PrintFault → Rose x.faults_old.print x.faults_new.print ⊎ TookNothing x
 
-  -- a status of another part never comes
-  abbrev pub OnlyThese : Type 0
-  OnlyThese = x.status ≢ status.PollFault
-
 -- ## Completeness
 module _ (L : Language) (x : Call) where
   -- no status has a cause but Suspended, Done, Raised and OutOfMemory
@@ -231,6 +232,7 @@ module _ (L : Language) (x : Call) where
     -- no call of the source or of the host failed, and no print took nothing
     pub reads : ¬ Rose x.reads_old x.reads_new
     pub disk : ¬ Rose x.faults_old.disk x.faults_new.disk
+    pub polls : ¬ Rose x.faults_old.poll x.faults_new.poll
     pub prints : ¬ Rose x.faults_old.print x.faults_new.print
     pub took : ¬ TookNothing x
     -- `run` has no argument, or one that isn't refused

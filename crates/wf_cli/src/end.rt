@@ -31,6 +31,8 @@ pub(crate) enum Silence {
     Unread,
     /// The journal could not be read, written or synced.
     DiskFault,
+    /// A poll failed.
+    PollFault,
     /// There is no memory.
     OutOfMemory,
 }
@@ -148,6 +150,7 @@ impl Said {
     {
         let status = match fault {
             EngineFault::DiskFault => return Err(Silence::DiskFault),
+            EngineFault::PollFault => return Err(Silence::PollFault),
             EngineFault::NotAJournal => Status::NotAJournal,
             EngineFault::NotAHistory(number) => Status::NotAHistory(number),
             EngineFault::AlreadyStarted => Status::AlreadyStarted,

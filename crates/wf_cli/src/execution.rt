@@ -128,22 +128,28 @@ fn begin<H: Host>(
     Engine::begin(alloc, host, &start, program)
 }
 
-/// Goes on to the outcome, and tells it, or that there is none yet.
-fn to_outcome<H: Host>(alloc: Global, engine: Engine, host: &mut H) -> Result<Said, Silence>
+/// Goes on to the outcome, and tells it, or that there is none yet. It polls at most `waits` times.
+fn to_outcome<H: Host>(
+    alloc: Global,
+    engine: Engine,
+    waits: u32,
+    host: &mut H,
+) -> Result<Said, Silence>
+    requires fresh { (memory engine).waits ≡ 0 }
     requires open { is_closed engine ≡ false }
     requires holds { Told (H.world host.old) (Holds engine (H.world host.old)) }
     ensures says { SaysResult (H.faults host.old) (H.faults host.new) result }
     ensures going { InTheOutside (λ O. Told (H.world host.old) ((command : kept.Command)
         (D : List Deed)
         → StandsFor the_language O command false (memory engine) (records (H.world host.old).seen) D
-        → Going the_language O command (memory engine) D (H.world host.old) (H.world host.new)
-        result)) }
+        → Going the_language O command (memory engine) waits D (H.world host.old)
+        (H.world host.new) result)) }
     ensures tells { TellsAsBefore H.world host.old host.new }
     ensures counts { NoCountFalls H.faults host.old host.new }
 {
     laws_of_steps();
     let mut engine = engine;
-    match engine.session(host) {
+    match engine.session(host, waits) {
         Ok(()) => Ok(Said::outcome(alloc, engine.machine().outcome())?),
         Err(fault) => Said::of_fault(alloc, fault),
     }
@@ -175,7 +181,7 @@ fn run_program<H: Host>(
 {
     laws_of_sources();
     match begin(alloc, line, argument, source, program, host) {
-        Ok(engine) => to_outcome(alloc, engine, host),
+        Ok(engine) => to_outcome(alloc, engine, line.waits(), host),
         Err(fault) => Said::of_fault(alloc, fault),
     }
 }
@@ -237,56 +243,65 @@ pub(crate) fn run<S: Source, H: Host>(
 }
 
 /// Goes on with the execution of the journal to its outcome.
-pub(crate) fn resume<H: Host>(alloc: Global, host: &mut H) -> Result<Said, Silence>
+pub(crate) fn resume<H: Host>(
+    alloc: Global,
+    line: &Line<'_>,
+    host: &mut H,
+) -> Result<Said, Silence>
+    requires command { (plain_line line.now).command ≡ Resume }
     ensures end { (words : List (List ℕ)) (rest : Rest) (reads reads2 : ℕ)
-        → IsLineOf (scene words rest (H.world host.old)) (λ c. c ≡ Resume)
+        → line_of words ≡ Ok (plain_line line.now)
         → IsEnd (scene words rest (H.world host.old)) (H.world host.old) (H.world host.new) reads
         reads2 (H.faults host.old) (H.faults host.new) result }
     ensures worked { InTheOutside (λ O. Told (H.world host.old) ((words : List (List ℕ))
-        (rest : Rest) → IsLineOf (scene words rest (H.world host.old)) (λ c. c ≡ Resume)
+        (rest : Rest) → line_of words ≡ Ok (plain_line line.now)
         → Worked O (scene words rest (H.world host.old)) (H.world host.old) (H.world host.new)
         result)) }
     ensures tells { TellsAsBefore H.world host.old host.new }
     ensures counts { NoCountFalls H.faults host.old host.new }
 {
-    resume_from_blank::<H, Brand>(alloc, host, Blank::new(1))
+    resume_from_blank::<H, Brand>(alloc, line, host, Blank::new(1))
 }
 
 /// The same, counting the events of the journal on a ledger of its own.
 fn resume_from_blank<H: Host, L: Ledger>(
     alloc: Global,
+    line: &Line<'_>,
     host: &mut H,
     blank: Blank,
 ) -> Result<Said, Silence>
+    requires command { (plain_line line.now).command ≡ Resume }
     requires name { blank.name ≡ L.name }
     requires parts { blank.parts ≡ L.parts }
     requires some { 0 < blank.parts }
     ensures end { (words : List (List ℕ)) (rest : Rest) (reads reads2 : ℕ)
-        → IsLineOf (scene words rest (H.world host.old)) (λ c. c ≡ Resume)
+        → line_of words ≡ Ok (plain_line line.now)
         → IsEnd (scene words rest (H.world host.old)) (H.world host.old) (H.world host.new) reads
         reads2 (H.faults host.old) (H.faults host.new) result }
     ensures worked { InTheOutside (λ O. Told (H.world host.old) ((words : List (List ℕ))
-        (rest : Rest) → IsLineOf (scene words rest (H.world host.old)) (λ c. c ≡ Resume)
+        (rest : Rest) → line_of words ≡ Ok (plain_line line.now)
         → Worked O (scene words rest (H.world host.old)) (H.world host.old) (H.world host.new)
         result)) }
     ensures tells { TellsAsBefore H.world host.old host.new }
     ensures counts { NoCountFalls H.faults host.old host.new }
 {
-    resume_counted(alloc, host, &mut Steps::<L>::new(blank))
+    resume_counted(alloc, line, host, &mut Steps::<L>::new(blank))
 }
 
 /// The same, counting the events of the journal.
 fn resume_counted<H: Host, L: Ledger>(
     alloc: Global,
+    line: &Line<'_>,
     host: &mut H,
     steps: &mut Steps<L>,
 ) -> Result<Said, Silence>
+    requires command { (plain_line line.now).command ≡ Resume }
     ensures end { (words : List (List ℕ)) (rest : Rest) (reads reads2 : ℕ)
-        → IsLineOf (scene words rest (H.world host.old)) (λ c. c ≡ Resume)
+        → line_of words ≡ Ok (plain_line line.now)
         → IsEnd (scene words rest (H.world host.old)) (H.world host.old) (H.world host.new) reads
         reads2 (H.faults host.old) (H.faults host.new) result }
     ensures worked { InTheOutside (λ O. Told (H.world host.old) ((words : List (List ℕ))
-        (rest : Rest) → IsLineOf (scene words rest (H.world host.old)) (λ c. c ≡ Resume)
+        (rest : Rest) → line_of words ≡ Ok (plain_line line.now)
         → Worked O (scene words rest (H.world host.old)) (H.world host.old) (H.world host.new)
         result)) }
     ensures tells { TellsAsBefore H.world host.old host.new }
@@ -294,7 +309,7 @@ fn resume_counted<H: Host, L: Ledger>(
 {
     laws_of_rules();
     match Engine::open(alloc, host, steps) {
-        Ok(engine) => to_outcome(alloc, engine, host),
+        Ok(engine) => to_outcome(alloc, engine, line.waits(), host),
         Err(fault) => Said::of_fault(alloc, fault),
     }
 }

@@ -40,6 +40,7 @@ fn tell<H: Host>(host: &mut H, said: Result<Said, Silence>) -> Status
         }
         Err(Silence::Unread) => Status::ReadFault,
         Err(Silence::DiskFault) => Status::DiskFault,
+        Err(Silence::PollFault) => Status::PollFault,
         Err(Silence::OutOfMemory) => Status::OutOfMemory,
     }
 }
@@ -84,7 +85,7 @@ fn execute<S: Source, H: Host>(
         Command::Check => check(alloc, source),
         Command::Format => format(alloc, source),
         Command::Run => run(alloc, line, source, host),
-        Command::Resume => resume(alloc, host),
+        Command::Resume => resume(alloc, line, host),
         Command::Help => report(alloc, help_text()),
         Command::Version => report(alloc, version_text()),
     }
@@ -129,7 +130,9 @@ pub fn perform<S: Source, H: Host>(
 /// - [`Status::NotAJournal`]: the file has at least 5 bytes and doesn't begin with `WFJ1`.
 /// - [`Status::AlreadyStarted`]: `run` finds a first record. [`Status::NotStarted`]: `resume` finds none.
 /// - [`Status::NotAHistory`]: `resume` finds records that are no history.
-/// - [`Status::Suspended`]: there is no outcome yet, nothing can move, and the command waits no more.
+/// - [`Status::PollFault`]: a poll failed.
+/// - [`Status::Suspended`]: there is no outcome yet, nothing can move, and the command has polled as often as `--waits` says, or 1,000,000
+///   times.
 /// - [`Status::PrintFault`]: a print failed or took nothing. [`Status::OutOfMemory`]: memory ran out.
 ///
 /// It may be killed at any moment, also in the middle of a write: what stands in the file then is one run that the language's meaning

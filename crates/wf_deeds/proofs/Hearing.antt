@@ -4,6 +4,7 @@ use Rattle.std.proofs.Common.{inl, inr, ⊎_elim, refl, sym, ◌∙◌, ap, subs
 use Rattle.std.proofs.lemmas.Bool.{and_from, eq-eqb, eqb-true, le-leb, leb-true, or_left, or_right}
 use Rattle.std.proofs.lemmas.List.{append-nil, take_all}
 use Rattle.std.proofs.lemmas.List.Elements.{All-weaker}
+use Rattle.wf_deeds.proofs.Answered.{OneAnswered}
 use Rattle.wf_deeds.proofs.Carried.{decides_carried, answers_carried}
 use Rattle.wf_deeds.proofs.DeedMore.{front_polls, one_of}
 use Rattle.wf_deeds.proofs.Lists.{polls-append, nows-append, poll_readings-append, readings_of_polls, was_started-append, was_dropped-append, was_replied_more, split_at}
@@ -23,7 +24,6 @@ use Rattle.wf_host.specs.declared.data.Deed.TheVariants.{Poll}
 use Rattle.wf_host.specs.declared.data.Heard.{Heard}
 use Rattle.wf_host.specs.declared.data.What.{What}
 use Rattle.wf_host.specs.declared.data.What.TheVariants as what
-use Rattle.wf_http_in.specs.AnswerOf.{HasOneAnswer, NoneAtFirst}
 use Rattle.wf_model.specs.Ready.{request_of}
 use Rattle.wf_journal_laws.specs.At.{journal, config_at, config_before}
 use Rattle.wf_journal_laws.specs.History.{Standing}
@@ -121,11 +121,11 @@ comes_now m k h o (q, asks) was (inl none) = absurd (let awaited : true ≡ fals
 comes_now m k h o still was (inr comes) = comes
 
 -- an answer to an open call that was started is taken
-gives : HasOneAnswer → (m : Memory) (k : ℕ) (h : Heard) (o : Option Event) (a : plain.Reply) → IsOpen m.config k → m.started k ≡ true
+gives : OneAnswered → (m : Memory) (k : ℕ) (h : Heard) (o : Option Event) (a : plain.Reply) → IsOpen m.config k → m.started k ≡ true
     → IsAnswered (tells k h.what (m.told k)) (Some a) → IsAnswerBy m k h o → o ≡ Some (plain.Answer k (max m.reading h.reading) a)
 gives one m k h o a still was answered by =
     let comes = comes_now m k h o still was by in
-    comes.event ∙ ap (option_map (plain.Answer k (max m.reading h.reading))) (one (tells k h.what (m.told k)).bytes (tells k h.what (m.told k)).close comes.answer (Some a) comes.answered answered)
+    comes.event ∙ ap (option_map (plain.Answer k (max m.reading h.reading))) (one (tells k h.what (m.told k)) comes.answer (Some a) comes.answered answered)
 
 -- a visit that waits for its reply was decided
 owed_of : (O : Outside) (m : Memory) (d : Option Decision) (o : Owed) → owes_by O m d ≡ Some o
@@ -211,13 +211,8 @@ poll_is_kept there rules L O command handed m J D until h s settled active may =
       s.clock active,
     )
 
--- what bytes come to
-pub record Answers : Type 0 where
-  pub one : HasOneAnswer
-  pub nothing : NoneAtFirst
-
-pub hearing_goes_on : Answers → HistoryStandsThere → DeedKeepsRules → HearingGoesOn
-hearing_goes_on of there rules L O command handed m J D until h told visit undecided taken owed s settled active may hears =
+pub hearing_goes_on : OneAnswered → HistoryStandsThere → DeedKeepsRules → HearingGoesOn
+hearing_goes_on one_answer there rules L O command handed m J D until h told visit undecided taken owed s settled active may hears =
     let x = session command handed m J D in
     let d = Poll until h in
     let E = D ++ d ∷ [] in
@@ -276,12 +271,12 @@ hearing_goes_on of there rules L O command handed m J D until h told visit undec
             let still_here : IsOpen m.config k = subst (λ b. IsOpen b k) (sym one) still in
             bool_case (λ b. m.started k ≡ b → ⊥) (m.started k)
             (λ _ was.
-            let some : taken ≡ Some (plain.Answer k (max m.reading h.reading) a) = gives of.one m k h taken a still_here was (subst (λ (i : Told). IsAnswered i (Some a)) (sym (now_told k still_here was)) answer) (of_call k of_it) in
+            let some : taken ≡ Some (plain.Answer k (max m.reading h.reading) a) = gives one_answer m k h taken a still_here was (subst (λ (i : Told). IsAnswered i (Some a)) (sym (now_told k still_here was)) answer) (of_call k of_it) in
             let f : None ≡ Some (plain.Answer k (max m.reading h.reading) a) = sym none ∙ some in cc f)
             (λ _ was_not.
             let unstarted : was_started k D ≡ false = sym (s.started k) ∙ was_not in
             let nothing : told_of k E ≡ told_of k D = told_of_new k D (d ∷ []) unstarted ∙ sym (told_of_new k D [] unstarted) ∙ ap (told_of k) (append-nil D) in
-            let f : Some a ≡ None = of.one (told_of k D).bytes (told_of k D).close (Some a) None (subst (λ (i : Told). IsAnswered i (Some a)) nothing answer) before_it in cc f)
+            let f : Some a ≡ None = one_answer (told_of k D) (Some a) None (subst (λ (i : Told). IsAnswered i (Some a)) nothing answer) before_it in cc f)
             refl)
       ];
       taken = λ e has. opt_case (λ c. Brings O m h taken c → call_of w ≡ c → IsBrought L O y e × IsOfOutside e × (reading_of e ≡ Some (max m.reading h.reading))) (call_of w)

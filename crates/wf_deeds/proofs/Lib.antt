@@ -1,3 +1,4 @@
+mod Answered
 mod Quiet
 mod Splits
 mod Lists

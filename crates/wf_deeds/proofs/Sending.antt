@@ -17,7 +17,6 @@ use Rattle.wf_events.specs.View.{address_view}
 use Rattle.wf_host.specs.declared.data.Deed.{Deed}
 use Rattle.wf_host.specs.declared.data.Deed.TheVariants.{Start, Poll, Now, Reply, Drop, Print}
 use Rattle.wf_host.specs.declared.data.Heard.{Heard}
-use Rattle.wf_http_in.specs.AnswerOf.{NoneAtFirst}
 use Rattle.wf_model.specs.Config.{TimedOut, Call, Answered, Config, Active}
 use Rattle.wf_model.specs.Ready.{call, quiet, request_in, request_of}
 use Rattle.wf_journal_laws.specs.At.{journal, config_at, config_before}
@@ -110,7 +109,7 @@ pub or-none : (a : Bool) → a || false ≡ a
 or-none true = refl
 or-none false = refl
 
-pub start_goes_on : NoneAtFirst → HistoryStandsThere → DeedKeepsRules → StartGoesOn
+pub start_goes_on : IsAnswered nothing_told None → HistoryStandsThere → DeedKeepsRules → StartGoesOn
 start_goes_on hears there rules L O command handed m J D k to bytes started told s settled active asks new is =
     let x = session command handed m J D in
     let d = Start k to bytes in

@@ -4,6 +4,7 @@ use Rattle.std.specs.List.{AllByRecursion}
 use Rattle.std.proofs.Common.{inl, inr, ⊎_elim, refl, sym, ◌∙◌, ap, subst, arith}
 use Rattle.std.proofs.lemmas.Bool.{and_from, eq-eqb, eqb-true, le-leb, or_right}
 use Rattle.wf_ast.specs.Tree.{Program}
+use Rattle.wf_deeds.proofs.Answered.{OneAnswered}
 use Rattle.wf_deeds.proofs.Carried.{decides_carried, answers_carried}
 use Rattle.wf_deeds.proofs.DeedMore.{front_polls}
 use Rattle.wf_deeds.proofs.Hearing.{opt_case, no_call, visit_there}
@@ -21,7 +22,6 @@ use Rattle.wf_events.specs.Reading.{meaning}
 use Rattle.wf_host.specs.declared.data.Deed.{Deed}
 use Rattle.wf_host.specs.declared.data.Deed.TheVariants.{Start, Poll, Now, Reply, Drop, Print}
 use Rattle.wf_host.specs.declared.data.Heard.{Heard}
-use Rattle.wf_http_in.specs.AnswerOf.{HasOneAnswer}
 use Rattle.wf_model.specs.CallLaws.{CallsGoOn, AnswersClose}
 use Rattle.wf_model.specs.Config.{Active, Returned, Raised, Cancelled, Outcome, Config, After, To, Wrong, NotNow}
 use Rattle.wf_model.specs.Ready.{request_of}
@@ -37,7 +37,7 @@ use Rattle.wf_shared.specs.Events as plain
 use Rattle.wf_shared.specs.Events.{Event, Turn}
 
 pub record Laws : Type 0 where
-  pub one : HasOneAnswer
+  pub one : OneAnswered
   pub journals : Journals
   pub there : HistoryStandsThere
   pub goes_on : RecordGoesOn
@@ -139,7 +139,7 @@ below a b le differ = bool_case (λ v. nat_eq a b ≡ v → a < b) (nat_eq a b) 
 
 -- ## The answer or the arrival that was taken
 -- the last poll answers one call, with one answer
-same_answer : HasOneAnswer → (L : Language) (O : Outside) (x y : Session) (before behind : List Deed) (until : ℕ) (h : Heard) (k i : ℕ) (a b : plain.Reply) → x.deeds ≡ before ++ Poll until h ∷ behind → polls behind ≡ 0
+same_answer : OneAnswered → (L : Language) (O : Outside) (x y : Session) (before behind : List Deed) (until : ℕ) (h : Heard) (k i : ℕ) (a b : plain.Reply) → x.deeds ≡ before ++ Poll until h ∷ behind → polls behind ≡ 0
     → Answers L O y before (Poll until h) h.what k a → AnsweredAt L O x (polls x.deeds) i b → (i ≡ k) × (b ≡ a)
 same_answer one L O x y before behind until h k i a b comes none ans at =
     let two : Some at.split ≡ Some (split_at before until h behind) = sym at.poll ∙ last_split x.deeds before behind until h comes none in
@@ -149,7 +149,7 @@ same_answer one L O x y before behind until h k i a b comes none ans at =
     let deeds : told_of i (at.split.before ++ at.split.deed ∷ []) ≡ told_of k (before ++ Poll until h ∷ []) =
     ap (λ (s : Split). told_of i (s.before ++ s.deed ∷ [])) same ∙ ap (λ n. told_of n (before ++ Poll until h ∷ [])) call in
     let here : IsAnswered (told_of k (before ++ Poll until h ∷ [])) (Some b) = subst (λ (t : Told). IsAnswered t (Some b)) deeds at.answers.now in
-    let told : Some b ≡ Some a = one (told_of k (before ++ Poll until h ∷ [])).bytes (told_of k (before ++ Poll until h ∷ [])).close (Some b) (Some a) here ans.now in
+    let told : Some b ≡ Some a = one (told_of k (before ++ Poll until h ∷ [])) (Some b) (Some a) here ans.now in
     let reply : b ≡ a = cc told in
     (call, reply)
 
@@ -164,7 +164,7 @@ no_answer L O x y before behind until h k a d v comes none ans at =
     let f : None ≡ Some k = sym (no_call h.what n of_visit) ∙ ans.of_call in cc f
 
 -- what was taken stands first where the last poll answers
-of_taken : HasOneAnswer → (L : Language) (O : Outside) (x y : Session) (before behind : List Deed) (until : ℕ) (h : Heard) (k : ℕ) (a : plain.Reply) (w now : ℕ) (e : Event) → x.deeds ≡ before ++ Poll until h ∷ behind → polls behind ≡ 0
+of_taken : OneAnswered → (L : Language) (O : Outside) (x y : Session) (before behind : List Deed) (until : ℕ) (h : Heard) (k : ℕ) (a : plain.Reply) (w now : ℕ) (e : Event) → x.deeds ≡ before ++ Poll until h ∷ behind → polls behind ≡ 0
     → Answers L O y before (Poll until h) h.what k a → w ≡ suc (polls before) → (NoTurnYet L O x → StandsFirst (own L O y) w e) → IsBrought L O x e × IsOfOutside e × (reading_of e ≡ Some now)
     → (r : ℕ) × StandsFirst (own L O y) (suc (polls before)) (plain.Answer k r a)
 of_taken one L O x y before behind until h k a w now (plain.Answer i r b) comes none ans count first took =

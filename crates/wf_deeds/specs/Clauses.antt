@@ -121,7 +121,6 @@ pub record Waits (L : Language) (O : Outside) (m n : Memory) (old new : World) :
   pub done : List Deed
   pub went : Went L O m n old new done
   pub once : polls done ≡ 1
-  pub silent : printed done ≡ []
 
 -- ## Sessions
 -- it ended with an outcome, or it is suspended: its polls reached the bound, and nothing can move

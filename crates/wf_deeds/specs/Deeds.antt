@@ -115,9 +115,9 @@ told_of k [] = nothing_told
 told_of k (Start j to b ∷ ds) = if nat_eq j k then told_on k nothing_told ds else told_of k ds
 told_of k (d ∷ ds) = told_of k ds
 
--- it comes to this answer, or to none while more may have to come
+-- it comes to this answer, or to none while more may have to come: that it does, and not by which reading of the bytes
 abbrev pub IsAnswered : Told → Option plain.Reply → Type 0
-IsAnswered t a = AnswerOf t.bytes t.close a
+IsAnswered t a = ∥ AnswerOf t.bytes t.close a ∥₁
 
 abbrev pub ComesTo : ℕ → List Deed → Option plain.Reply → Type 0
 ComesTo k ds a = IsAnswered (told_of k ds) a

@@ -7,7 +7,7 @@ use Rattle.wf_deeds.specs.Deeds.{polls}
 use Rattle.wf_host.specs.Source.{Rest, IsFirst}
 use Rattle.wf_host.specs.declared.data.Deed.{Deed}
 use Rattle.wf_journal.specs.Records.{magic, records}
-use Rattle.wf_args.specs.Lines.{PlainLine, line_of}
+use Rattle.wf_args.specs.Lines.{PlainLine, line_of, waits_of}
 use Rattle.wf_args.specs.declared.command.Command.{Command}
 use Rattle.wf_args.specs.declared.command.Command.TheVariants.{Check, Format, Run, Resume, Help, Version}
 use Rattle.wf_model.specs.Config.{Outcome, Active, Returned, Raised, Cancelled}
@@ -123,6 +123,10 @@ pub data Reported (R : Reports) (s : Scene) : List ℕ → Type 0 where
   helped : IsLineOf s (λ c. c ≡ Help) → Reported R s R.help
   versioned : IsLineOf s (λ c. c ≡ Version) → Reported R s R.version
 
+-- the command has polled as often as its line says
+abbrev pub HasPolled : Scene → List Deed → Type 0
+HasPolled s D = (l : PlainLine) × IsLine s l × (polls D ≡ waits_of l)
+
 -- ## In a language
 module _ (L : Language) (R : Reports) (s : Scene) where
   abbrev pub IsNoHistory : ℕ → Type 0
@@ -132,9 +136,9 @@ module _ (L : Language) (R : Reports) (s : Scene) where
   abbrev pub HasOutcome : List ℕ → Outcome → Type 0
   HasOutcome image o = IsLineOf s (λ c. executes c ≡ true) × ((c : Standing) × (history L (records image) ≡ Ok c) × (c.config.outcome ≡ o))
 
-  -- they give none, and the command waits no more for what may come: it polled as often as it may, which is never yet
+  -- they give none, and the command waits no more for what may come: it polled as often as its line says
   abbrev pub IsSuspended : List ℕ → List Deed → Type 0
-  IsSuspended image D = HasOutcome image Active × (polls D ≡ 0)
+  IsSuspended image D = HasOutcome image Active × HasPolled s D
 
   pub data Gives (image : List ℕ) (D : List Deed) : Status → List ℕ → Type 0 where
     bad_line : (n : ℕ) → IsBadLine s n → Gives image D (status.BadLine n) (line_end (codes "bad line at word " ++ decimal n))

@@ -8,7 +8,7 @@ use wf_value::OutOfMemory;
 
 impl Engine {
     ghost use Rattle.std.specs.Prelude.{◌≡◌, ◌⊎◌, ◌↔◌, ◌+◌, ◌<◌, ◌^◌, ℕ, None, is_some, max, true, false, IfErr, IfOk, IsErrOf, OnErr, OnOk};
-    ghost use Rattle.wf_connections.specs.Lines.{is_started, listens};
+    ghost use Rattle.wf_connections.specs.Calls.{is_started, listens};
     ghost use Rattle.wf_deeds.specs.Clauses.{Takes};
     ghost use Rattle.wf_deeds.specs.Deeds.{visit_of};
     ghost use Rattle.wf_deeds.specs.Memory.{IsSettled};

@@ -6,3 +6,4 @@ pub mod Lasting
 pub mod Names
 pub mod OneAnswer
 pub mod Sizes
+pub mod Small

@@ -2,10 +2,12 @@
 --     AnswerOf        none yet, a response, a broken connection, or a body that is too long
 --     HasOneAnswer    the same bytes have one answer
 --     NoneAtFirst     before anything is heard there is none
-use Rattle.std.specs.Prelude.{◌≡◌, ◌≢◌, ◌⊎◌, ℕ, List, [], Some, None, Option}
+--     AnswersAreSmall    each answer is within the limits on heads and bodies
+use Rattle.std.specs.Prelude.{⊤, ◌≡◌, ◌≢◌, ◌⊎◌, ◌≤◌, ◌+◌, ℕ, List, [], length, Some, None, Option}
+use Rattle.std.specs.List.{sum_by}
 use Rattle.httparse.specs.Grammar.{ResponseHead, status_code}
-use Rattle.wf_shared.specs.Events.{Reply, Response, Broken, TooLong}
-use Rattle.wf_shared.specs.HttpBody.{Close, Open, BodyState, Complete, Waiting, Malformed, Oversize, Framing, headers_of}
+use Rattle.wf_shared.specs.Events.{Headers, Reply, Response, Broken, TooLong}
+use Rattle.wf_shared.specs.HttpBody.{Close, Open, BodyState, Complete, Waiting, Malformed, Oversize, Framing, headers_of, field_limit, head_limit}
 use Rattle.wf_http_in.specs.Bodies.{answer_limit, framing_of, IsBody}
 use Rattle.wf_http_in.specs.Heads.{HasHead, BehindInterim, IsBadHead, IsHeadless}
 
@@ -37,3 +39,22 @@ HasOneAnswer = (heard : List ℕ) (close : Close) (a b : Option Reply) → Answe
 
 abbrev pub NoneAtFirst : Type 0
 NoneAtFirst = AnswerOf [] Open None
+
+-- the bytes of the names and values of fields
+abbrev pub fields_size : Headers → ℕ
+fields_size fields = sum_by (λ f. length f.0 + length f.1) fields
+
+-- within the limits
+pub record IsSmallResponse (code : ℕ) (fields : Headers) (body : List ℕ) : Type 0 where
+  pub code_most : code ≤ 999
+  pub few : length fields ≤ field_limit
+  pub short : fields_size fields ≤ head_limit
+  pub body_most : length body ≤ answer_limit
+
+abbrev pub IsSmall : Reply → Type 0
+IsSmall (Response code fields body) = IsSmallResponse code fields body
+IsSmall Broken = ⊤
+IsSmall TooLong = ⊤
+
+abbrev pub AnswersAreSmall : Type 0
+AnswersAreSmall = (heard : List ℕ) (close : Close) (a : Reply) → AnswerOf heard close (Some a) → IsSmall a

@@ -13,5 +13,5 @@ mod stage;
 
 pub use answer::Answer;
 pub use head::Head;
-pub use laws::{none_at_first, one_answer};
+pub use laws::{answers_are_small, none_at_first, one_answer};
 pub use reading::Reading;

@@ -1,4 +1,5 @@
 -- Each law by its lemma.
+use Rattle.wf_deeds.proofs.Answered.{none_answered, one_answered}
 use Rattle.wf_deeds.proofs.Choosing as choosing
 use Rattle.wf_deeds.proofs.Ends as ends
 use Rattle.wf_deeds.proofs.Hearing as hearing
@@ -12,17 +13,17 @@ pub returns-clause-fresh : goal.returns-clause-fresh
 returns-clause-fresh c = ends.fresh_stands
 
 pub returns-clause-start : goal.returns-clause-start
-returns-clause-start c = sending.start_goes_on c.none_at_first.ensures c.laws_of_moments.ensures.history_stands_there c.laws_of_deeds.ensures.deed
+returns-clause-start c = sending.start_goes_on (none_answered c.none_at_first.ensures) c.laws_of_moments.ensures.history_stands_there c.laws_of_deeds.ensures.deed
 
 pub returns-clause-drop : goal.returns-clause-drop
 returns-clause-drop c = sending.drop_goes_on c.laws_of_moments.ensures.history_stands_there c.laws_of_deeds.ensures.deed
 
 pub returns-clause-hearing : goal.returns-clause-hearing
-returns-clause-hearing c = hearing.hearing_goes_on (record { one = c.one_answer.ensures; nothing = c.none_at_first.ensures }) c.laws_of_moments.ensures.history_stands_there c.laws_of_deeds.ensures.deed
+returns-clause-hearing c = hearing.hearing_goes_on (one_answered c.one_answer.ensures) c.laws_of_moments.ensures.history_stands_there c.laws_of_deeds.ensures.deed
 
 pub returns-clause-turn : goal.returns-clause-turn
 returns-clause-turn c = turned.turn_goes_on (record {
-  one = c.one_answer.ensures;
+  one = one_answered c.one_answer.ensures;
   journals = record {
     added = c.laws_of_moments.ensures.turn_is_added;
     before = c.laws_of_moments.ensures.session_before_stays;

@@ -1,0 +1,52 @@
+-- What is told of one call more.
+use Rattle.std.proofs.Common.{◌≡◌, ◌≢◌, ◌⊎◌, ℕ, Bool, true, false, List, [], ◌∷◌, ◌++◌, Option, Some, None, refl, sym, ap, ◌∙◌, subst, inl, inr}
+use Rattle.std.specs.Prelude.{nat_eq, if◌then◌else◌}
+use Rattle.std.proofs.lemmas.Bool.Decides.{eqb_tells}
+use Rattle.std.proofs.lemmas.List.Sums.{fold-append}
+use Rattle.wf_connections.specs.Lines.{Heard, told_by}
+use Rattle.wf_deeds.specs.Deeds.{Told, nothing_told, tells, call_of}
+use Rattle.wf_host.specs.declared.data.What.{What}
+use Rattle.wf_host.specs.declared.data.What.TheVariants as what
+use Rattle.wf_shared.specs.HttpBody.{Ended, Broke}
+
+pub told_more : (k : ℕ) (heard : Heard) (w : What) → told_by k (heard ++ (w, tt) ∷ []) ≡ tells k w (told_by k heard)
+told_more k heard w = fold-append (λ (t : Told) (h : What × Unit {0}). tells k h.0 t) nothing_told heard ((w, tt) ∷ [])
+
+-- told of no call, or of another one
+pub tells_none : (w : What) (k : ℕ) (t : Told) → call_of w ≡ None → tells k w t ≡ t
+tells_none (what.Bytes j b) k t is = absurd (let f : Some j ≡ None = is in cc f)
+tells_none (what.End j) k t is = absurd (let f : Some j ≡ None = is in cc f)
+tells_none (what.Broken j) k t is = absurd (let f : Some j ≡ None = is in cc f)
+tells_none what.Nothing k t is = refl
+tells_none (what.Visit n b) k t is = refl
+tells_none (what.VisitEnd n) k t is = refl
+
+unless_same : {A : Type 0} (j k : ℕ) (x y : A) → j ≢ k → (if nat_eq j k then x else y) ≡ y
+unless_same j k x y other = elim (eqb_tells j k) [
+  | inl yes ↦ absurd (other yes.1)
+  | inr no ↦ ap (λ b. if b then x else y) no.0
+]
+
+pub tells_other : (w : What) (j k : ℕ) (t : Told) → call_of w ≡ Some j → k ≢ j → tells k w t ≡ t
+tells_other (what.Bytes i b) j k t is other = unless_same i k _ _ (λ same. other (sym same ∙ (let here : i ≡ j = cc is in here)))
+tells_other (what.End i) j k t is other = unless_same i k _ _ (λ same. other (sym same ∙ (let here : i ≡ j = cc is in here)))
+tells_other (what.Broken i) j k t is other = unless_same i k _ _ (λ same. other (sym same ∙ (let here : i ≡ j = cc is in here)))
+tells_other what.Nothing j k t is other = refl
+tells_other (what.Visit n b) j k t is other = refl
+tells_other (what.VisitEnd n) j k t is other = refl
+
+-- told of the call itself
+where_same : {A : Type 0} (j k : ℕ) (x y : A) → j ≡ k → (if nat_eq j k then x else y) ≡ x
+where_same j k x y same = elim (eqb_tells j k) [
+  | inl yes ↦ ap (λ b. if b then x else y) yes.0
+  | inr no ↦ absurd (no.1 same)
+]
+
+pub tells_bytes : (j k : ℕ) (b : List ℕ) (t : Told) → Some j ≡ Some k → tells k (what.Bytes j b) t ≡ record { bytes = t.bytes ++ b; close = t.close }
+tells_bytes j k b t is = where_same j k _ _ (cc is)
+
+pub tells_end : (j k : ℕ) (t : Told) → Some j ≡ Some k → tells k (what.End j) t ≡ record { bytes = t.bytes; close = Ended }
+tells_end j k t is = where_same j k _ _ (cc is)
+
+pub tells_broken : (j k : ℕ) (t : Told) → Some j ≡ Some k → tells k (what.Broken j) t ≡ record { bytes = t.bytes; close = Broke }
+tells_broken j k t is = where_same j k _ _ (cc is)

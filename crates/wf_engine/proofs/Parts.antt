@@ -1,0 +1,223 @@
+-- A session, part after part: turns, deeds, and what is heard.
+use Rattle.std.specs.Prelude.{◌≡◌, ◌≢◌, ◌⊎◌, ◌≤◌, ◌+◌, ℕ, suc, Bool, true, false, List, [], ◌∷◌, ◌++◌, Some, None}
+use Rattle.std.specs.List.{AllByRecursion}
+use Rattle.std.proofs.Common.{inl, inr, ⊎_elim, refl, sym, ◌∙◌, ap, subst, arith, append_assoc}
+use Rattle.std.proofs.lemmas.List.{append-nil, append_cancel_left}
+use Rattle.wf_deeds.proofs.Lists.{polls-append}
+use Rattle.wf_deeds.specs.Clauses.{IsOfSession, IsSending, KeptAt, KeptThroughout, Takes, Went, drop, none, start}
+use Rattle.wf_deeds.specs.Deeds.{polls, printed}
+use Rattle.wf_deeds.specs.Kept.{Command, Kept}
+use Rattle.wf_deeds.specs.Memory.{AllIsSent, IsSettled, Memory, StandsFor, session}
+use Rattle.wf_deeds.specs.Outside.{Outside}
+use Rattle.wf_deeds.specs.Steps.{PollIsKept}
+use Rattle.wf_history.specs.Stands as history
+use Rattle.wf_history.specs.declared.history.History.{History}
+use Rattle.wf_host.specs.Moments.{CountsNow}
+use Rattle.wf_host.specs.World.{World, Same, Elapses, LeavesOnly}
+use Rattle.wf_host.specs.declared.data.Deed.{Deed}
+use Rattle.wf_host.specs.declared.data.Deed.TheVariants.{Start, Poll, Now, Reply, Drop, Print}
+use Rattle.wf_host.specs.declared.data.Heard.{Heard}
+use Rattle.wf_journal.specs.Records.{records}
+use Rattle.wf_journal.specs.Steps.{Begun, Moment, begun_over, deed_goes_on, nothing_goes_on, part_goes_on, still_begun}
+use Rattle.wf_journal_laws.specs.Language.{Language}
+use Rattle.wf_model.specs.Config.{Active}
+use Rattle.wf_model.specs.Ready.{least_due}
+
+-- ## Lists
+pub printed-append : (D E : List Deed) → printed (D ++ E) ≡ printed D ++ printed E
+printed-append [] E = refl
+printed-append (Print b ∷ ds) E = ap (λ l. b ++ l) (printed-append ds E) ∙ sym (append_assoc b (printed ds) (printed E))
+printed-append (Start k to b ∷ ds) E = printed-append ds E
+printed-append (Poll until h ∷ ds) E = printed-append ds E
+printed-append (Now t ∷ ds) E = printed-append ds E
+printed-append (Reply n b ∷ ds) E = printed-append ds E
+printed-append (Drop k ∷ ds) E = printed-append ds E
+
+-- with nothing printed by either
+silent_both : (D E : List Deed) → printed D ≡ [] → printed E ≡ [] → printed (D ++ E) ≡ []
+silent_both D E one two = printed-append D E ∙ ap (λ l. l ++ printed E) one ∙ two
+
+all_both : {A : Type 0} (P : A → Type 0) (xs ys : List A) → AllByRecursion P xs → AllByRecursion P ys → AllByRecursion P (xs ++ ys)
+all_both P [] ys all more = more
+all_both P (x ∷ xs) ys all more = (all.0, all_both P xs ys all.1 more)
+
+-- turns of the session, and then more of them
+own_both : (n m : Memory) (added more : List (List ℕ)) → n.session ≡ m.session → AllByRecursion (IsOfSession m.session) added → AllByRecursion (IsOfSession n.session) more → AllByRecursion (IsOfSession m.session) (added ++ more)
+own_both n m added more number own next = all_both (IsOfSession m.session) added more own (subst (λ i. AllByRecursion (IsOfSession i) more) number next)
+
+-- ## So far
+-- the host's law of the present moment
+abbrev pub OnlyNow : World → Type 0
+OnlyNow w = (c : List ℕ) (d : List Deed) → w.left_since w.moment c d → w.may_leave c × (d ≡ w.deeds)
+
+-- for one list for which the engine stood at first: turns of the session, and deeds that print nothing
+pub record SoFar (L : Language) (O : Outside) (command : Command) (handed : Bool) (m n : Memory) (first now : World) (D done : List Deed) : Type 0 where
+  pub added : List (List ℕ)
+  pub longer : records now.seen ≡ records first.seen ++ added
+  pub own : AllByRecursion (IsOfSession m.session) added
+  pub silent : printed done ≡ []
+  pub stands : StandsFor L O command handed n (records now.seen) (D ++ done)
+  pub begun : Begun first now (KeptAt L O command handed m (records first.seen) D) done
+
+-- what an engine stands for is kept now
+kept_here : (L : Language) (O : Outside) (command : Command) (handed : Bool) (m : Memory) (J : List (List ℕ)) (D : List Deed) → StandsFor L O command handed m J D → KeptAt L O command handed m J D J []
+kept_here L O command handed m J D s = record {
+  added = [];
+  records = sym (append-nil J);
+  own = tt;
+  history = (s.leads.standing, s.leads.history);
+  kept = subst (λ E. Kept L O (session command handed m J E)) (sym (append-nil D)) s.kept;
+  silent = refl;
+}
+
+-- and with a deed more that keeps the rules
+kept_more : (L : Language) (O : Outside) (command : Command) (handed : Bool) (m : Memory) (J : List (List ℕ)) (D : List Deed) (d : Deed) → StandsFor L O command handed m J D → Kept L O (session command handed m J (D ++ d ∷ [])) → printed (d ∷ []) ≡ []
+    → KeptAt L O command handed m J D J (d ∷ [])
+kept_more L O command handed m J D d s kept silent = record {
+  added = [];
+  records = sym (append-nil J);
+  own = tt;
+  history = (s.leads.standing, s.leads.history);
+  kept = kept;
+  silent = silent;
+}
+
+pub at_first : (L : Language) (O : Outside) (h : History) (w : World) (command : Command) (handed : Bool) (m : Memory) (D : List Deed) → OnlyNow w → history.Stands h w → history.is_new h ≡ false → StandsFor L O command handed m (records w.seen) D
+    → SoFar L O command handed m m w w D []
+at_first L O h w command handed m D only stands old s = record {
+  added = [];
+  longer = sym (append-nil (records w.seen));
+  own = tt;
+  silent = refl;
+  stands = subst (λ E. StandsFor L O command handed m (records w.seen) E) (sym (append-nil D)) s;
+  begun = begun_over h.journal w (KeptAt L O command handed m (records w.seen) D) only stands.journal old (kept_here L O command handed m (records w.seen) D s);
+}
+
+module _ (L : Language) (O : Outside) (command : Command) (handed : Bool) (m n : Memory) (first mid : World) (D done : List Deed) (s : SoFar L O command handed m n first mid D done) (number : n.session ≡ m.session) where
+  -- what a part keeps is kept by the session
+  within : (K : List (List ℕ)) (E : List Deed) → KeptAt L O command handed n (records mid.seen) (D ++ done) K E → KeptAt L O command handed m (records first.seen) D K (done ++ E)
+  within K E k = record {
+    added = s.added ++ k.added;
+    records = k.records ∙ ap (λ l. l ++ k.added) s.longer ∙ append_assoc (records first.seen) s.added k.added;
+    own = own_both n m s.added k.added number s.own k.own;
+    history = k.history;
+    kept = subst (λ l. Kept L O (session command handed m K l)) (append_assoc D done E)
+        (subst (λ i. Kept L O (record { payloads = K; number = i; deeds = (D ++ done) ++ E; command = command; end = None; handed = handed })) number k.kept);
+    silent = silent_both done E s.silent k.silent;
+  }
+
+  -- ## A part of its own
+  pub moments_on : (new : World) → LeavesOnly mid new (Moment mid (KeptAt L O command handed n (records mid.seen) (D ++ done))) → LeavesOnly first new (Moment first (KeptAt L O command handed m (records first.seen) D))
+  moments_on new more = part_goes_on first mid new (KeptAt L O command handed m (records first.seen) D) (KeptAt L O command handed n (records mid.seen) (D ++ done)) done s.begun more within
+
+  -- behind it
+  pub goes_far : (h : History) (o : Memory) (new : World) (e : List Deed) → LeavesOnly mid new (Moment mid (KeptAt L O command handed n (records mid.seen) (D ++ done))) → CountsNow new → new.may_leave new.seen
+      → StandsFor L O command handed o (records new.seen) ((D ++ done) ++ e) → new.deeds ≡ mid.deeds ++ e → history.Stands h new → history.is_new h ≡ false → SoFar L O command handed m o first new D (done ++ e)
+  goes_far h o new e moments counts reads stands deeds holds old =
+      let (E, is, begins, k) = moments.each new.seen new.deeds (counts mid.moment new.seen moments.later reads) in
+      let same : E ≡ e = append_cancel_left mid.deeds E e (sym is ∙ deeds) in record {
+        added = s.added ++ k.added;
+        longer = k.records ∙ ap (λ l. l ++ k.added) s.longer ∙ append_assoc (records first.seen) s.added k.added;
+        own = own_both n m s.added k.added number s.own k.own;
+        silent = silent_both done e s.silent (subst (λ l. printed l ≡ []) same k.silent);
+        stands = subst (λ l. StandsFor L O command handed o (records new.seen) l) (append_assoc D done e) stands;
+        begun = still_begun h.journal first mid new (KeptAt L O command handed m (records first.seen) D) done e s.begun (moments_on new moments) deeds holds.journal old;
+      }
+
+  -- ## A deed
+  -- while it is done, where the rules are kept with it
+  pub deed_moments : (new : World) (d : Deed) → Elapses Same (d ∷ []) mid new → Kept L O (session command handed n (records mid.seen) ((D ++ done) ++ d ∷ [])) → printed (d ∷ []) ≡ [] → LeavesOnly first new (Moment first (KeptAt L O command handed m (records first.seen) D))
+  deed_moments new d time kept silent =
+      deed_goes_on first mid new (KeptAt L O command handed m (records first.seen) D) done d s.begun time
+      (subst (λ l. KeptAt L O command handed m (records first.seen) D (records mid.seen) l) (append-nil done)
+      (within (records mid.seen) [] (kept_here L O command handed n (records mid.seen) (D ++ done) s.stands)))
+      (within (records mid.seen) (d ∷ []) (kept_more L O command handed n (records mid.seen) (D ++ done) d s.stands kept silent))
+
+  -- behind it
+  pub deed_far : (h : History) (o : Memory) (new : World) (d : Deed) → Elapses Same (d ∷ []) mid new → Kept L O (session command handed n (records mid.seen) ((D ++ done) ++ d ∷ [])) → printed (d ∷ []) ≡ [] → new.seen ≡ mid.seen
+      → StandsFor L O command handed o (records mid.seen) ((D ++ done) ++ d ∷ []) → history.Stands h new → history.is_new h ≡ false → SoFar L O command handed m o first new D (done ++ d ∷ [])
+  deed_far h o new d time kept silent seen stands holds old = record {
+    added = s.added;
+    longer = ap records seen ∙ s.longer;
+    own = s.own;
+    silent = silent_both done (d ∷ []) s.silent silent;
+    stands = subst (λ l. StandsFor L O command handed o (records new.seen) l) (append_assoc D done (d ∷ [])) (subst (λ c. StandsFor L O command handed o (records c) ((D ++ done) ++ d ∷ [])) (sym seen) stands);
+    begun = still_begun h.journal first mid new (KeptAt L O command handed m (records first.seen) D) done (d ∷ []) s.begun (deed_moments new d time kept silent) time.deeds holds.journal old;
+  }
+
+  -- a call without a deed
+  pub nothing_moments : (new : World) → CountsNow mid → Elapses Same [] mid new → LeavesOnly first new (Moment first (KeptAt L O command handed m (records first.seen) D))
+  nothing_moments new counts time = nothing_goes_on first mid new (KeptAt L O command handed m (records first.seen) D) done s.begun counts time
+
+-- ## Of an engine
+-- these deeds were done, and turn after turn was added
+pub record Far (L : Language) (O : Outside) (m n : Memory) (first now : World) (done : List Deed) : Type 0 where
+  pub deeds : now.deeds ≡ first.deeds ++ done
+  pub each : (command : Command) (handed : Bool) (D : List Deed) → StandsFor L O command handed m (records first.seen) D → SoFar L O command handed m n first now D done
+
+module _ (L : Language) (O : Outside) where
+  pub far_at_first : (h : History) (w : World) (m : Memory) → OnlyNow w → history.Stands h w → history.is_new h ≡ false → Far L O m m w w []
+  far_at_first h w m only stands old = record {
+    deeds = sym (append-nil w.deeds);
+    each = λ command handed D s. at_first L O h w command handed m D only stands old s;
+  }
+
+  pub far_moments : (m n : Memory) (first mid new : World) (done : List Deed) → Far L O m n first mid done → n.session ≡ m.session → KeptThroughout L O n mid new → KeptThroughout L O m first new
+  far_moments m n first mid new done far number more command handed D s =
+      let so = far.each command handed D s in
+      moments_on L O command handed m n first mid D done so number new (more command handed (D ++ done) so.stands)
+
+  pub far_kept : (m n : Memory) (first mid : World) (done : List Deed) → Far L O m n first mid done → KeptThroughout L O m first mid
+  far_kept m n first mid done far command handed D s = (far.each command handed D s).begun.moments
+
+  pub far_on : (m n o : Memory) (first mid new : World) (done e : List Deed) → Far L O m n first mid done → n.session ≡ m.session → KeptThroughout L O n mid new → Went L O n o mid new e → (h : History) → CountsNow new → new.may_leave new.seen
+      → history.Stands h new → history.is_new h ≡ false → Far L O m o first new (done ++ e)
+  far_on m n o first mid new done e far number more went h counts reads stands old = record {
+    deeds = went.deeds ∙ ap (λ l. l ++ e) far.deeds ∙ append_assoc first.deeds done e;
+    each = λ command handed D s.
+        let so = far.each command handed D s in
+        goes_far L O command handed m n first mid D done so number h o new e (more command handed (D ++ done) so.stands) counts reads (went.stands command handed (D ++ done) so.stands) went.deeds stands old;
+  }
+
+  pub far_went : (m n : Memory) (first now : World) (done : List Deed) → Far L O m n first now done → Went L O m n first now done
+  far_went m n first now done far = record { deeds = far.deeds; stands = λ command handed D s. (far.each command handed D s).stands }
+
+  -- ## A poll
+  -- it may be made where nothing can move, all is sent, and it waits until the least due moment
+  pub record MayPollNow (n : Memory) (until : ℕ) : Type 0 where
+    pub settled : IsSettled n
+    pub active : n.config.outcome ≡ Active
+    pub sent : AllIsSent n
+    pub due : least_due n.config ≡ Some until
+
+  pub poll_moments : PollIsKept → (m n : Memory) (first mid new : World) (done : List Deed) (until : ℕ) (h : Heard) → Far L O m n first mid done → n.session ≡ m.session → MayPollNow n until → Elapses Same (Poll until h ∷ []) mid new → KeptThroughout L O m first new
+  poll_moments law m n first mid new done until h far number may time command handed D s =
+      let so = far.each command handed D s in
+      deed_moments L O command handed m n first mid D done so number new (Poll until h) time
+      (law L O command handed n (records mid.seen) (D ++ done) until h so.stands may.settled may.active (λ by_itself. (may.sent, may.due))) refl
+
+  pub far_poll : PollIsKept → (m n o : Memory) (first mid new : World) (done : List Deed) (until : ℕ) (h : Heard) → Far L O m n first mid done → n.session ≡ m.session → MayPollNow n until → Elapses Same (Poll until h ∷ []) mid new → new.seen ≡ mid.seen
+      → Takes L O n o h → (j : History) → history.Stands j new → history.is_new j ≡ false → Far L O m o first new (done ++ Poll until h ∷ [])
+  far_poll law m n o first mid new done until h far number may time seen takes j stands old = record {
+    deeds = time.deeds ∙ ap (λ l. l ++ Poll until h ∷ []) far.deeds ∙ append_assoc first.deeds done (Poll until h ∷ []);
+    each = λ command handed D s.
+        let so = far.each command handed D s in
+        deed_far L O command handed m n first mid D done so number j o new (Poll until h) time
+        (law L O command handed n (records mid.seen) (D ++ done) until h so.stands may.settled may.active (λ by_itself. (may.sent, may.due))) refl seen
+        (takes.stands command handed (records mid.seen) (D ++ done) until so.stands (λ by_itself. (may.sent, may.due))) stands old;
+  }
+
+  -- no poll was made
+  pub silence_moments : (m n : Memory) (first mid new : World) (done : List Deed) → Far L O m n first mid done → n.session ≡ m.session → CountsNow mid → Elapses Same [] mid new → KeptThroughout L O m first new
+  silence_moments m n first mid new done far number counts time command handed D s =
+      let so = far.each command handed D s in
+      nothing_moments L O command handed m n first mid D done so number new counts time
+
+-- what is sent is no poll
+pub sending_polls : {js ks : List ℕ} {ds : List Deed} → IsSending js ks ds → polls ds ≡ 0
+sending_polls none = refl
+sending_polls (start k to bytes rest) = sending_polls rest
+sending_polls (drop j rest) = sending_polls rest
+
+pub polls_once : (ds : List Deed) (until : ℕ) (h : Heard) → polls ds ≡ 0 → polls (ds ++ Poll until h ∷ []) ≡ 1
+polls_once ds until h none = omega (arith, polls-append ds (Poll until h ∷ []), none)
