@@ -22,7 +22,7 @@ use wf_machine::{Machine, Steps};
 use wf_source::read_source;
 use wf_value::Value;
 
-/// Writes the events of a machine's turn at a reading.
+/// Writes the events of a machine's turn at a reading, or at the last one, whichever is greater.
 fn write_turn(
     out: &mut String,
     alloc: Global,
@@ -32,7 +32,8 @@ fn write_turn(
     requires { (state_of machine.old).broken ≡ false }
     ensures { OnOk result ((state_of machine.new).broken ≡ false) }
 {
-    let events = choose_turn(alloc, machine, reading)?;
+    let reading = reading.max(machine.last_reading());
+    let events = choose_turn(alloc, machine, reading, None)?;
     write_events(out, &events)
 }
 
