@@ -186,6 +186,7 @@ pub(crate) fn session_reading<H: Host>(machine: &Machine, host: &mut H) -> Resul
     ensures clock { Told (H.world host.old)
         (IfOk result (λ reading. ReadsClock (state_of machine.now).config reading (H.world host.old)
         (H.world host.new))) }
+    ensures last { IfOk result (λ reading. (state_of machine.now).config.last ≤ reading) }
     ensures settled { Told (H.world host.old)
         (Only (H.world host.old).seen (H.world host.old).may_leave
         → Only (H.world host.new).seen (H.world host.new).may_leave) }

@@ -9,14 +9,14 @@ use Rattle.wf_machine.specs.declared.ApplyFault.TheVariants as fault
 use Rattle.wf_model.specs.ChoiceLaws.{reading_of}
 use Rattle.wf_model.specs.Step.{next}
 use Rattle.wf_record_parts.specs.View.{reply_view}
-use Rattle.std.specs.Prelude.{unwrap_or}
+use Rattle.std.specs.Prelude.{Err, unwrap_or}
 
 pub unreachable-requires : goal.unreachable-requires
 unreachable-requires g c =
     let s = state_of c.args.machine.now in
     let t = c.args.taken in
     let (d, leads) = answer_leads s c.answers_lead.ensures c.requires.takable.active t.call c.args.reading (reply_view t.reply) c.requires.takable.opened c.requires.last in
-    c.apply.ensures.not_enabled c.in-Err-NotEnabled.is d (ap (λ e. next s.program s.config e) c.event-event.ensures.event ∙ leads)
+    c.in-Err-NotEnabled.ensures.not_enabled (ap Err c.in-Err-NotEnabled.field-0-is) d (ap (λ e. next s.program s.config e) c.event-event.ensures.event ∙ leads)
 
 pub returns-in-Ok-clause-brought : goal.returns-in-Ok-clause-brought
 returns-in-Ok-clause-brought g c =

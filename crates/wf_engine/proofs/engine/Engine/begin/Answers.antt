@@ -1,8 +1,8 @@
-use Rattle.std.proofs.Common.{◌≡◌, ◌∙◌, ap, sym, subst, [], ◌∷◌, Some}
+use Rattle.std.proofs.Common.{◌≡◌, ◌∙◌, ap, arith, refl, sym, subst, [], ◌∷◌, None, Some}
 use Rattle.wf_check.specs.Seen.{program_of}
 use Rattle.wf_connections.specs.Calls.{is_dropped, is_started, told}
 use Rattle.wf_engine.proofs.Beginning.{then_begins}
-use Rattle.wf_engine.proofs.FreshEngine.{stands_as_fresh}
+use Rattle.wf_engine.proofs.FreshEngine.{none_of_it, nothing_taken, stands_as_fresh}
 use Rattle.wf_engine.proofs.Language.{of_program}
 use Rattle.wf_engine.proofs.NewSessions.{stands_begun}
 use Rattle.wf_engine.proofs.StillOpen.{tells_still}
@@ -40,3 +40,15 @@ returns-clause-any_moment g c = λ told.
     let mid = g.H.Host.world c.empty_history.new.host in
     then_begins w mid (g.H.Host.world c.begin.new.host) (record_bytes (Started (start_view c.args.start.now))) (c.empty_history.ensures.any_moment told)
     (c.begin.ensures.any_moment c.in_ok-history.ensures.open (tells_still w mid c.empty_history.ensures.tells told)) (c.in_ok-history.ensures.none told) (c.empty_history.ensures.deeds told)
+
+pub invariant_of-result-clause-ready : goal.invariant_of-result-clause-ready
+invariant_of-result-clause-ready g c = λ open_now.
+    let now = state_of c.in_ok-machine.machine in record {
+      not_closed = c.in_ok-begin.ensures.open;
+      begun = c.in_ok-begin.ensures.begun;
+      ended = c.in_ok-begin.ensures.still_ended;
+      whole = c.in_ok-machine.ensures.whole;
+      last = omega (arith, c.last_reading-reading.ensures);
+      calls = none_of_it c.new-connections.result now.config c.new-connections.ensures.started;
+      takable = nothing_taken now.config None refl;
+    }

@@ -4,7 +4,8 @@ use Rattle.wf_deeds.specs.Memory.{Memory}
 use Rattle.wf_deeds.specs.Turns.{turn_of}
 use Rattle.wf_engine.proofs.Added.{Choice, Laws, is_short, is_spelled, none_of, not_none, some_of}
 use Rattle.wf_engine.proofs.OneTurn.{turn_adds, turn_begun}
-use Rattle.wf_engine.proofs.TurnsAdded.{added, goes_on, idle}
+use Rattle.wf_engine.proofs.FreshEngine.{nothing_taken}
+use Rattle.wf_engine.proofs.TurnsAdded.{added, goes_on, idle, still_of}
 use Rattle.wf_engine.proofs.engine.Engine.turn.Goals as goal
 use Rattle.wf_engine.specs.Engine.{memory}
 use Rattle.wf_engine.specs.Taken.{taken_event}
@@ -114,3 +115,32 @@ returns-clause-counted g c =
     let m = memory c.args.self.now in
     let chosen = λ (o : Option Taken). turn_of m.program m.config m.reading (taken_event m.reading o) in
     c.in_ok-events.ensures.counted ∙ ap (λ l. m.config.moves + counts_of l) (c.in_ok-events.ensures.turn ∙ ap chosen c.take-taken.ensures.value)
+
+-- it can go on
+pub invariant_of-self-then-is_empty-clause-ready : goal.invariant_of-self-then-is_empty-clause-ready
+invariant_of-self-then-is_empty-clause-ready g c = λ open_now.
+    let was = c.args.self.now.ready c.if-closed.false in
+    let old = state_of c.args.self.now.machine in
+    let now = state_of c.choose_turn.new.machine in record {
+      not_closed = was.not_closed;
+      begun = was.begun;
+      ended = was.ended;
+      whole = c.in_ok-events.ensures.whole;
+      last = c.in_ok-events.ensures.last;
+      calls = still_of c.laws_of_calls.ensures.calls_go_on c.args.self.now.connections old.program old.config now.config (events_view c.in_ok-events.events) was.calls c.in_ok-events.ensures.leads;
+      takable = nothing_taken now.config c.take-taken.new.self c.take-taken.ensures.after;
+    }
+
+pub invariant_of-self-clause-ready : goal.invariant_of-self-clause-ready
+invariant_of-self-clause-ready g c = λ open_now.
+    let was = c.args.self.now.ready c.if-closed.false in
+    let old = state_of c.args.self.now.machine in
+    let now = state_of c.choose_turn.new.machine in record {
+      not_closed = c.in_ok-add.ensures.open;
+      begun = c.add.ensures.still_begun;
+      ended = c.add.ensures.still_ended;
+      whole = c.in_ok-events.ensures.whole;
+      last = c.in_ok-events.ensures.last;
+      calls = still_of c.laws_of_calls.ensures.calls_go_on c.args.self.now.connections old.program old.config now.config (events_view c.in_ok-events.events) was.calls c.in_ok-events.ensures.leads;
+      takable = nothing_taken now.config c.take-taken.new.self c.take-taken.ensures.after;
+    }
