@@ -63,9 +63,6 @@ one_at_most : (o : Option Event) → brought o ≤ 1
 one_at_most None = omega arith
 one_at_most (Some e) = omega arith
 
-
-
-
 pub goes_on : (m : Memory) (p : Program) (c : Config) (taken was : Option Event) (n : ℕ) → taken ≡ None → m.owed ≡ None → (n < 4096 → Rests c m.reading) → n + spent c ≤ brought was + spent m.config → IsSettled (behind m p c taken) ⊎ (spent c < spent m.config)
 goes_on m p c taken was n empty owed few falls =
     ⊎_elim (λ less. inl (record { taken = empty; owed = owed; still = ⊎_elim inr inl (few less) })) (λ all. inr (omega (arith, all, falls, one_at_most was))) (cases_lt n 4096)

@@ -40,8 +40,7 @@ pub struct Engine {
     /// An answer that waits for its turn.
     pub(crate) taken: Option<Taken>,
     pub(crate) closed: bool,
-    ghost ready: { closed ≡ false → IsReady history machine reading connections taken }
-        by { →_prop (IsReady-prop _ _ _ _ _) },
+    ghost ready: { closed ≡ false → IsReady history machine reading connections taken } by { →_prop (IsReady-prop _ _ _ _ _) },
 }
 
 impl Engine {
