@@ -1,5 +1,6 @@
 mod Added
 mod Arguments
+mod AtRest
 mod Beginning
 mod Bringing
 mod Chosen

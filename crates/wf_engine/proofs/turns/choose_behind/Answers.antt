@@ -28,3 +28,6 @@ returns-clause-steps g c =
     let first = length-append (events_view c.new-events.result) (event_view c.in_ok-event.event ∷ []) in
     if_ok (λ all. c.choose_rest.new.steps + length (events_view c.push.new.self) ≡ c.bring.new.steps + length (events_view all)) (λ all. c.choose_rest.new.steps ≡ c.args.steps.now + length (events_view all)) c.choose_rest.result
     (λ all is. omega (arith, is, ap length c.in_ok-push.ensures.ok, ap length c.new-events.ensures, first, c.in_ok-event.ensures.steps)) c.choose_rest.ensures.steps
+
+pub choose_rest-requires-clause-whole : goal.choose_rest-requires-clause-whole
+choose_rest-requires-clause-whole g c = c.in_ok-event.ensures.brought.whole

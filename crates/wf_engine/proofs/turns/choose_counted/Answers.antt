@@ -1,4 +1,4 @@
-use Rattle.std.proofs.Common.{subst, sym, ap, arith, length, ◌≡◌, ◌+◌}
+use Rattle.std.proofs.Common.{subst, sym, ap, arith, length, ◌≡◌, ◌≤◌, ◌+◌}
 use Rattle.std.specs.Prelude.{IfOk}
 use Rattle.wf_engine.proofs.Bringing.{Behind, if_ok, turn_alone}
 use Rattle.wf_engine.proofs.turns.choose_counted.Goals as goal
@@ -29,3 +29,6 @@ returns-in-Some-clause-turn g c =
 
 pub choose_behind-requires-clause-takable : goal.choose_behind-requires-clause-takable
 choose_behind-requires-clause-takable g c = c.requires.takable c.in-Some.taken c.in-Some.is
+
+pub choose_rest-requires-clause-room : goal.choose_rest-requires-clause-room
+choose_rest-requires-clause-room g c = omega (arith, ap length c.new.ensures)
