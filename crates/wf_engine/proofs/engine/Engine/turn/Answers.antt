@@ -17,7 +17,7 @@ use Rattle.wf_machine.specs.Seen.{state_of}
 
 -- what was taken waits still
 pub choose_turn-requires-clause-takable : goal.choose_turn-requires-clause-takable
-choose_turn-requires-clause-takable g c = λ t is. (c.args.self.now.ready c.if-closed.false).takable t (sym c.take-taken.ensures.value ∙ is)
+choose_turn-requires-clause-takable g c = λ t is. (c.args.self.now.ready c.if-self.false).takable t (sym c.take-taken.ensures.value ∙ is)
 
 -- while it is chosen
 pub returns-in_err-events-clause-any_moment : goal.returns-in_err-events-clause-any_moment
@@ -119,7 +119,7 @@ returns-clause-counted g c =
 -- it can go on
 pub invariant_of-self-then-is_empty-clause-ready : goal.invariant_of-self-then-is_empty-clause-ready
 invariant_of-self-then-is_empty-clause-ready g c = λ open_now.
-    let was = c.args.self.now.ready c.if-closed.false in
+    let was = c.args.self.now.ready c.if-self.false in
     let old = state_of c.args.self.now.machine in
     let now = state_of c.choose_turn.new.machine in record {
       not_closed = was.not_closed;
@@ -133,7 +133,7 @@ invariant_of-self-then-is_empty-clause-ready g c = λ open_now.
 
 pub invariant_of-self-clause-ready : goal.invariant_of-self-clause-ready
 invariant_of-self-clause-ready g c = λ open_now.
-    let was = c.args.self.now.ready c.if-closed.false in
+    let was = c.args.self.now.ready c.if-self.false in
     let old = state_of c.args.self.now.machine in
     let now = state_of c.choose_turn.new.machine in record {
       not_closed = c.in_ok-add.ensures.open;
