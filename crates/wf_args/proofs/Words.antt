@@ -1,15 +1,18 @@
 -- Numbers and routes, and the words that spell them.
-use Rattle.std.proofs.Common.{◌≡◌, ◌+◌, ◌<◌, ◌≤◌, ◌^◌, ℕ, suc, Bool, true, false, cond, List, [], ◌∷◌, ◌++◌, length, take, drop, get_or, Option, Some, None, refl, sym, ap, ◌∙◌, subst, arith, length-drop, length-take, length-append}
+use Rattle.std.proofs.Common.{◌≡◌, ◌+◌, ◌-◌, ◌*◌, ◌<◌, ◌≤◌, ◌^◌, ℕ, suc, Bool, true, false, cond, List, [], ◌∷◌, ◌++◌, length, take, drop, get_or, Option, Some, None, Result, Ok, refl, sym, ap, ◌∙◌, subst, arith, length-drop, length-take, length-append}
 use Rattle.std.specs.Prelude.{not, ◌&&◌, ◌==◌, nat_lt, nat_le, if◌then◌else◌, codes, decimal, slice_index, ◌↔◌}
-use Rattle.std.specs.List.{list_all, before_first, after_first, position_or_len, prefix_len}
+use Rattle.std.specs.Char.{digit_value, is_ascii_digit}
+use Rattle.std.specs.List.{list_all, before_first, after_first, position_or_len, prefix_len, take_while}
 use Rattle.std.specs.Option.{option_map}
+use Rattle.std.specs.Result.{OkIff}
 use Rattle.std.specs.Str.{all_ascii_digits}
-use Rattle.std.specs.Str.Parse.{digits_value}
+use Rattle.std.specs.Str.Parse.{ParsesUnsigned, digits_value}
 use Rattle.std.proofs.Math.Seq.{take-append_seam, drop-append-add}
-use Rattle.std.proofs.lemmas.Bool.{and_from, and_parts, eq-eqb, eqb-true, le-leb, leb-true, lt-ltb, ltb-true, not-true, not_from_false, not_from_true}
+use Rattle.std.proofs.lemmas.Bool.{and_from, and_parts, and_right, eq-eqb, eqb-false, eqb-true, le-leb, leb-true, lt-leb, lt-ltb, ltb-true, not-true, not_from_false, not_from_true}
+use Rattle.std.proofs.lemmas.Bool.Decides.{nat_tests}
 use Rattle.std.proofs.lemmas.Fmt.{decimal-digits_value, digits_decimal, digits_value-decimal, first_decimal}
-use Rattle.std.proofs.lemmas.List.Sums.{passes_at_first, prefix_len-le-length, split_at_first}
-use Rattle.std.proofs.lemmas.Str.Parse.{IsNumeralModel, digits_value-take-le, numerals_by_value, tells_all_ascii_digits}
+use Rattle.std.proofs.lemmas.List.Sums.{passes_at_first, split_at_first, take_while-cons}
+use Rattle.std.proofs.lemmas.Str.Parse.{IsNumeralModel, digits_value-take-le, numerals_by_value, parse_plain, tells_all_ascii_digits}
 use Rattle.wf_args.specs.Laws.{IsRoute, NumbersAreSpelled, RoutesAreSpelled, has_no, route_word}
 use Rattle.wf_args.specs.Lines.{PlainRoute, has_names, host_in, is_colon, is_equals, longest_word, name_in, number_to, port_in, route_in}
 
@@ -41,15 +44,15 @@ pub record IsNumber (greatest : ℕ) (word : List ℕ) (n : ℕ) : Type 0 where
   pub small : n ≤ greatest
 
 -- a first digit that isn't 0 makes the number one
+first_is_one : (b : ℕ) → is_ascii_digit b ≡ true → 48 < b → 1 ≤ digit_value b
+first_is_one b is first = grind (arith, nat_tests)
+
 at_least_one : (word : List ℕ) → all_ascii_digits word ≡ true → 48 < slice_index word 0 → 1 ≤ digits_value 10 word
 at_least_one [] digits first = absurd (omega (arith, first))
 at_least_one (b ∷ word) digits first =
-    let front = digits_value-take-le 10 (b ∷ word) 1 (omega arith) in
-    let one : 1 ≤ digits_value 10 (b ∷ []) = digit b (and_parts _ _ digits).0 first in
+    let front : 0 * 10 + digit_value b ≤ digits_value 10 (b ∷ word) = digits_value-take-le 10 (b ∷ word) 1 (omega arith) in
+    let one = first_is_one b (and_parts (is_ascii_digit b) (all_ascii_digits word) digits).0 first in
     omega (arith, front, one)
-  where
-    digit : (b : ℕ) → nat_le 48 b && nat_le b 57 ≡ true → 48 < b → 1 ≤ digits_value 10 (b ∷ [])
-    digit b is first = grind (arith, and_parts (nat_le 48 b) (nat_le b 57) is, first)
 
 pub number_tells : (greatest : ℕ) (word : List ℕ) (n : ℕ) → number_to greatest word ≡ Some n → IsNumber greatest word n
 number_tells greatest word n is =
@@ -83,6 +86,30 @@ number_read greatest n few some small =
     let value : digits_value 10 (decimal n) ≡ n = digits_value-decimal own n below in
     number_yes greatest (decimal n) (digits_decimal own n below) (first_decimal n (omega (arith, some)) below) (omega (arith, value, small)) ∙ ap Some value
 
+-- what `parse` reads of a text without a sign
+first_is_more : (word : List ℕ) → all_ascii_digits word ≡ true → 0 < length word → (slice_index word 0 == 48) ≡ false → 48 < slice_index word 0
+first_is_more [] digits some other = absurd (omega (arith, some))
+first_is_more (b ∷ word) digits some other = more b (and_parts (is_ascii_digit b) (all_ascii_digits word) digits).0 other
+  where
+    more : (b : ℕ) → is_ascii_digit b ≡ true → (b == 48) ≡ false → 48 < b
+    more b is other = grind (arith, nat_tests)
+
+pub parsed_number : {E : Type 0} (word : List ℕ) (r : Result ℕ E) (n : ℕ) → ParsesUnsigned 32 10 word r → (slice_index word 0 == 43) ≡ false → (slice_index word 0 == 48) ≡ false → r ≡ Ok n
+    → (all_ascii_digits word ≡ true) × (48 < slice_index word 0) × (n ≡ digits_value 10 word)
+parsed_number word r n parses no_plus no_zero is =
+    let told = subst (λ r. OkIff r ((all_ascii_digits word ≡ true) × (0 < length word) × (digits_value 10 word < 2 ^ 32)) (digits_value 10 word)) is
+    (parse_plain own 32 word r parses (λ plus. eqb-false (slice_index word 0) 43 no_plus plus)) in
+    (told.0.0, first_is_more word told.0.0 told.0.1.0 no_zero, told.1)
+
+pub number_within : (greatest : ℕ) (word : List ℕ) (n : ℕ) → (all_ascii_digits word ≡ true) × (48 < slice_index word 0) × (n ≡ digits_value 10 word) → n ≤ greatest → Some n ≡ number_to greatest word
+number_within greatest word n (digits, first, value) small =
+    ap Some value ∙ sym (number_yes greatest word digits first (subst (λ k. k ≤ greatest) value small))
+
+pub number_past : (greatest : ℕ) (word : List ℕ) (n : ℕ) → n ≡ digits_value 10 word → greatest < n → None ≡ number_to greatest word
+number_past greatest word n value past =
+    kept_back (passes_to greatest word) (digits_value 10 word)
+    (and_right (all_ascii_digits word && nat_lt 48 (slice_index word 0)) (nat_le (digits_value 10 word) greatest) (lt-leb (digits_value 10 word) greatest (subst (λ k. greatest < k) value past)))
+
 pub numbers_are_spelled : NumbersAreSpelled
 numbers_are_spelled greatest few word n = (
   (λ is. let t = number_tells greatest word n is in (number_written greatest word n few t, t.some, t.small)),
@@ -94,7 +121,8 @@ place_is : (c : ℕ) (front rest : List ℕ) → has_no c front ≡ true → pos
 place_is c [] rest none = ap (λ (t : Bool). cond (not t) (1 + prefix_len (λ b. not (b == c)) rest) 0) (eq-eqb c c refl)
 place_is c (b ∷ front) rest none =
     let parts = and_parts (not (b == c)) (has_no c front) none in
-    ap (λ (t : Bool). cond t (1 + prefix_len (λ b. not (b == c)) (front ++ c ∷ rest)) 0) parts.0 ∙ ap suc (place_is c front rest parts.1)
+    let before = place_is c front rest parts.1 in
+    ap (λ (t : Bool). cond t (1 + prefix_len (λ b. not (b == c)) (front ++ c ∷ rest)) 0) parts.0 ∙ (let one : 1 + position_or_len (λ b. b == c) (front ++ c ∷ rest) ≡ length (b ∷ front) = omega (arith, before) in one)
 
 pub before_is : (c : ℕ) (front rest : List ℕ) → has_no c front ≡ true → before_first (λ b. b == c) (front ++ c ∷ rest) ≡ front
 before_is c front rest none = ap (λ k. take k (front ++ c ∷ rest)) (place_is c front rest none) ∙ take-append_seam front (c ∷ rest)
@@ -103,17 +131,20 @@ pub after_is : (c : ℕ) (front rest : List ℕ) → has_no c front ≡ true →
 after_is c front rest none = ap (λ k. drop (k + 1) (front ++ c ∷ rest)) (place_is c front rest none) ∙ drop-append-add front (c ∷ rest) 1
 
 -- the front has none of it
+none_on : (t : Bool) (c b : ℕ) (front : List ℕ) → not (b == c) ≡ t → has_no c front ≡ true → has_no c (cond t (b ∷ front) []) ≡ true
+none_on true c b front is rest = and_from (not (b == c)) (has_no c front) is rest
+none_on false c b front is rest = refl
+
 none_before : (c : ℕ) (word : List ℕ) → has_no c (before_first (λ b. b == c) word) ≡ true
 none_before c [] = refl
-none_before c (b ∷ word) = by (not (b == c)) refl
-  where
-    by : (t : Bool) → not (b == c) ≡ t → has_no c (take (cond t (1 + prefix_len (λ b. not (b == c)) word) 0) (b ∷ word)) ≡ true
-    by true is = and_from _ _ is (none_before c word)
-    by false is = refl
+none_before c (b ∷ word) =
+    ap (has_no c) (take_while-cons (λ b. not (b == c)) b word) ∙ none_on (not (b == c)) c b (take_while (λ b. not (b == c)) word) refl (none_before c word)
 
 -- where something is behind it, it is there
 is_there : (c : ℕ) (word : List ℕ) → 0 < length (after_first (λ b. b == c) word) → position_or_len (λ b. b == c) word < length word
-is_there c word some = grind (arith, length-drop (position_or_len (λ b. b == c) word + 1) word, some)
+is_there c word some =
+    let long : length (after_first (λ b. b == c) word) ≡ length word - (position_or_len (λ b. b == c) word + 1) = length-drop (position_or_len (λ b. b == c) word + 1) word in
+    omega (arith, long, some)
 
 pub cut : (c : ℕ) (word : List ℕ) → 0 < length (after_first (λ b. b == c) word) → word ≡ before_first (λ b. b == c) word ++ c ∷ after_first (λ b. b == c) word
 cut c word some =
