@@ -8,7 +8,7 @@ use Rattle.std.specs.Result.{OkIff}
 use Rattle.std.specs.Str.{all_ascii_digits}
 use Rattle.std.specs.Str.Parse.{ParsesUnsigned, digits_value}
 use Rattle.std.proofs.Math.Seq.{take-append_seam, drop-append-add}
-use Rattle.std.proofs.lemmas.Bool.{and_from, and_parts, and_right, eq-eqb, eqb-false, eqb-true, le-leb, leb-true, lt-leb, lt-ltb, ltb-true, not-true, not_from_false, not_from_true}
+use Rattle.std.proofs.lemmas.Bool.{and_from, and_parts, eq-eqb, eqb-false, eqb-true, le-leb, leb-true, lt-ltb, ltb-true}
 use Rattle.std.proofs.lemmas.Bool.Decides.{nat_tests}
 use Rattle.std.proofs.lemmas.Fmt.{decimal-digits_value, digits_decimal, digits_value-decimal, first_decimal}
 use Rattle.std.proofs.lemmas.List.Sums.{passes_at_first, split_at_first, take_while-cons}
@@ -24,9 +24,6 @@ own = numerals_by_value _ tells_all_ascii_digits
 pub let_through : {X : Type 0} (b : Bool) (x y : X) → (if b then Some x else None) ≡ Some y → (b ≡ true) × (x ≡ y)
 let_through true x y is = (refl, grind (arith, is))
 let_through false x y is = absurd (grind (arith, is))
-
-pub kept_back : {X : Type 0} (b : Bool) (x : X) → b ≡ false → None ≡ (if b then Some x else None)
-kept_back b x is = ap (λ (t : Bool). if t then Some x else None) (sym is)
 
 abbrev pub passes_to : ℕ → List ℕ → Bool
 passes_to greatest word = all_ascii_digits word && nat_lt 48 (slice_index word 0) && nat_le (digits_value 10 word) greatest
@@ -101,14 +98,10 @@ parsed_number word r n parses no_plus no_zero is =
     (parse_plain own 32 word r parses (λ plus. eqb-false (slice_index word 0) 43 no_plus plus)) in
     (told.0.0, first_is_more word told.0.0 told.0.1.0 no_zero, told.1)
 
-pub number_within : (greatest : ℕ) (word : List ℕ) (n : ℕ) → (all_ascii_digits word ≡ true) × (48 < slice_index word 0) × (n ≡ digits_value 10 word) → n ≤ greatest → Some n ≡ number_to greatest word
-number_within greatest word n (digits, first, value) small =
-    ap Some value ∙ sym (number_yes greatest word digits first (subst (λ k. k ≤ greatest) value small))
-
-pub number_past : (greatest : ℕ) (word : List ℕ) (n : ℕ) → n ≡ digits_value 10 word → greatest < n → None ≡ number_to greatest word
-number_past greatest word n value past =
-    kept_back (passes_to greatest word) (digits_value 10 word)
-    (and_right (all_ascii_digits word && nat_lt 48 (slice_index word 0)) (nat_le (digits_value 10 word) greatest) (lt-leb (digits_value 10 word) greatest (subst (λ k. greatest < k) value past)))
+pub number_parsed : (greatest : ℕ) (word : List ℕ) (n : ℕ) → (all_ascii_digits word ≡ true) × (48 < slice_index word 0) × (n ≡ digits_value 10 word) → (if nat_le n greatest then Some n else None) ≡ number_to greatest word
+number_parsed greatest word n (digits, first, value) =
+    (λ i. if nat_le (value i) greatest then Some (value i) else None)
+    ∙ ap (λ (t : Bool). if t && nat_le (digits_value 10 word) greatest then Some (digits_value 10 word) else None) (sym (and_from (all_ascii_digits word) (nat_lt 48 (slice_index word 0)) digits (lt-ltb 48 (slice_index word 0) first)))
 
 pub numbers_are_spelled : NumbersAreSpelled
 numbers_are_spelled greatest few word n = (
@@ -191,30 +184,35 @@ names_yes : (long : ℕ) (host name : List ℕ) → Names long host name → nam
 names_yes long host name n =
     and_from _ _ (le-leb long longest_word n.short) (and_from _ _ (and_from _ _ (lt-ltb 0 (length host) n.host) (lt-ltb 0 (length name) n.name)) n.no_equals)
 
+abbrev to_in : List ℕ → List ℕ
+to_in word = after_first is_equals word
+
 pub route_tells : (word : List ℕ) (r : PlainRoute) → route_in word ≡ Some r → (word ≡ route_word r) × IsRoute r × (length word ≤ longest_word)
 route_tells word r is =
     let through = through_option (names_pass (length word) (host_in word) (name_in word)) (λ port. record { host = host_in word; name = name_in word; port = port }) (number_to 65535 (port_in word)) r is in
     let port = through.1.0 in
     let names = names_tell (length word) (host_in word) (name_in word) through.0 in
     let number = number_tells 65535 (port_in word) port through.1.1.0 in
-    let rest = after_first is_equals word in
-    let name_some = names.name in
-    let name_short = before_short 58 rest in
-    let behind : word ≡ host_in word ++ 61 ∷ rest = cut 61 word (omega (arith, name_some, name_short)) in
+    let name_some : 0 < length (name_in word) = names.name in
+    let name_short : length (name_in word) ≤ length (to_in word) = before_short 58 (to_in word) in
+    let to_some : 0 < length (to_in word) = omega (arith, name_some, name_short) in
+    let behind : word ≡ host_in word ++ 61 ∷ to_in word = cut 61 word to_some in
+    let port_some : 0 < length (port_in word) = some_bytes (port_in word) number.first in
+    let ends : to_in word ≡ name_in word ++ 58 ∷ port_in word = cut 58 (to_in word) port_some in
     let digits : port_in word ≡ decimal port = number_written 65535 (port_in word) port (omega arith) number in
-    let ends : rest ≡ name_in word ++ 58 ∷ decimal port = cut 58 rest (some_bytes (port_in word) number.first) ∙ ap (λ ds. name_in word ++ 58 ∷ ds) digits in
-    let spelled : word ≡ host_in word ++ 61 ∷ name_in word ++ 58 ∷ decimal port = behind ∙ ap (λ s. host_in word ++ 61 ∷ s) ends in
-    let long = ap length spelled ∙ length-append (host_in word) (61 ∷ name_in word ++ 58 ∷ decimal port) in
-    let long_name = length-append (name_in word) (58 ∷ decimal port) in
-    let short = names.short in
+    let spelled : word ≡ host_in word ++ 61 ∷ name_in word ++ 58 ∷ decimal port = behind ∙ ap (λ s. host_in word ++ 61 ∷ s) (ends ∙ ap (λ ds. name_in word ++ 58 ∷ ds) digits) in
+    let long : length word ≡ length (host_in word) + suc (length (name_in word ++ 58 ∷ decimal port)) = ap length spelled ∙ length-append (host_in word) (61 ∷ name_in word ++ 58 ∷ decimal port) in
+    let long_name : length (name_in word ++ 58 ∷ decimal port) ≡ length (name_in word) + suc (length (decimal port)) = length-append (name_in word) (58 ∷ decimal port) in
+    let within : length word ≤ longest_word = names.short in
+    let both : length (host_in word) + length (name_in word) < longest_word = omega (arith, long, long_name, within) in
     let made_of : IsRoute (record { host = host_in word; name = name_in word; port = port }) =
     record {
       host = (names.host, none_before 61 word);
-      name = (names.name, names.no_equals, none_before 58 rest);
+      name = (names.name, names.no_equals, none_before 58 (to_in word));
       port = (number.some, number.small);
-      short = omega (arith, long, long_name, short);
+      short = both;
     } in
-    subst (λ r. (word ≡ route_word r) × IsRoute r × (length word ≤ longest_word)) through.1.1.1 (spelled, made_of, names.short)
+    subst (λ r. (word ≡ route_word r) × IsRoute r × (length word ≤ longest_word)) through.1.1.1 (spelled, made_of, within)
 
 pub route_read : (r : PlainRoute) → IsRoute r → length (route_word r) ≤ longest_word → route_in (route_word r) ≡ Some r
 route_read r is short =

@@ -1,5 +1,5 @@
 // The words of numbers.
-ghost use Rattle.std.specs.Prelude.{◌≡◌};
+ghost use Rattle.std.specs.Prelude.{◌≡◌, if◌then◌else◌, nat_le, None, Some};
 ghost use Rattle.wf_args.specs.Lines.{number_to, waits_in};
 
 /// The number that decimal digits write, of which the first isn't 0, where it is at most so large.
@@ -10,8 +10,19 @@ pub(crate) fn number_to(greatest: u32, word: &str) -> Option<u32>
         return None;
     }
     match word.parse::<u32>() {
-        Ok(number) if number <= greatest => Some(number),
-        Ok(_) | Err(_) => None,
+        Ok(number) => at_most(greatest, number),
+        Err(_) => None,
+    }
+}
+
+// The number, where it is at most so large.
+fn at_most(greatest: u32, number: u32) -> Option<u32>
+    ensures { result ≡ (if nat_le number greatest then Some number else None) }
+{
+    if number <= greatest {
+        Some(number)
+    } else {
+        None
     }
 }
 
