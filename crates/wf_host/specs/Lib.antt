@@ -6,6 +6,7 @@ pub mod Source
 pub mod MemSource
 pub mod FileSource
 pub mod Ahead
+pub mod Hearing
 pub mod Stage
 pub mod Memory
 pub mod Recorded

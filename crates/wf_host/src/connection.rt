@@ -1,5 +1,5 @@
 // A connection over which a call is sent and answered.
-ghost use Rattle.std.specs.Prelude.{◌≡◌, ◌≤◌, length};
+ghost use Rattle.std.specs.Prelude.{length};
 ghost use Rattle.wf_host.specs.Sockets.{IsPieceWithin};
 
 use mio::net::TcpStream;
