@@ -4,7 +4,6 @@ pub mod Moments
 pub mod Printing
 pub mod Source
 pub mod MemSource
-pub mod FileSource
 pub mod Ahead
 pub mod Hearing
 pub mod Stage
@@ -14,6 +13,3 @@ pub mod CallRecord
 pub mod Outlook
 pub mod MemHost
 pub mod MemLaws
-pub mod Untold
-pub mod FileHost
-pub mod Sockets
