@@ -6,7 +6,8 @@ use std::io::{Print, Read, Write};
 use std::net::{Net, TcpListener, TcpStream};
 use std::time::Clock;
 use wf_cases::{Case, CaseFault, bytes_of};
-use wf_host::{Address, FileHost, Host, PollError};
+use wf_file_host::FileHost;
+use wf_host::{Address, Host, PollError};
 use wf_host_cases::{gap, items_of, number_of, write_bytes};
 use wf_value::{Text, Value};
 

@@ -2,11 +2,9 @@
 ghost use Rattle.std.specs.Prelude.{◌≤◌, ◌+◌, length, IfOk, OnOk};
 ghost use Rattle.wf_host.specs.World.{longest};
 
-use crate::Failed;
-use crate::host::LONGEST;
 use crate::journal_file::JournalFile;
-use crate::moves::{copy_from, put_in};
 use std::fs::{File, Files};
+use wf_host::{Failed, LONGEST, copy_from, put_in};
 
 /// A journal.
 pub(crate) enum Disk {

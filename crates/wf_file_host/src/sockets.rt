@@ -3,12 +3,12 @@ ghost use Rattle.std.specs.Prelude.{◌≡◌, ◌≤◌, length, IfOk, None};
 ghost use Rattle.wf_host.specs.World.{piece_len, visit_of};
 
 use crate::connection::{Connection, Step};
-use crate::{Address, PollError, What};
 use mio::{Events, Poll, Token};
 use std::alloc::Global;
 use std::io;
 use std::net::{Net, SocketAddr, ToSocketAddrs};
 use std::time::Duration;
+use wf_host::{Address, PollError, What};
 use wf_value::{Bytes, OutOfMemory};
 
 /// How many bytes are heard at once, at most.

@@ -1,6 +1,6 @@
 -- What the real host stands for: its counts of faults alone.
 use Rattle.std.specs.Prelude.{ℕ}
-use Rattle.wf_host.specs.declared.file_host.FileHost.{FileHost}
+use Rattle.wf_file_host.specs.declared.file_host.FileHost.{FileHost}
 use Rattle.wf_host.specs.World.{Faults}
 
 -- how often each part failed

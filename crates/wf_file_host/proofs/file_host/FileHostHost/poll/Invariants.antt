@@ -1,6 +1,6 @@
 use Rattle.std.proofs.Common.{◌≡◌, ◌≤◌}
-use Rattle.wf_host.specs.FileHost.{file_host_faults, last_reading}
-use Rattle.wf_host.proofs.file_host.FileHostHost.poll.Given as goal
+use Rattle.wf_file_host.specs.FileHost.{file_host_faults, last_reading}
+use Rattle.wf_file_host.proofs.file_host.FileHostHost.poll.Given as goal
 
 -- nothing failed, and the clock didn't go back
 abbrev pub invariant-loop : goal.invariant-loop

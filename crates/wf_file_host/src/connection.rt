@@ -1,6 +1,6 @@
 // A connection over which a call is sent and answered.
-ghost use Rattle.std.specs.Prelude.{◌≡◌, ◌≤◌, length};
-ghost use Rattle.wf_host.specs.Sockets.{IsPieceWithin};
+ghost use Rattle.std.specs.Prelude.{length};
+ghost use Rattle.wf_file_host.specs.Sockets.{IsPieceWithin};
 
 use mio::net::TcpStream;
 use mio::{Interest, Registry, Token};

@@ -1,8 +1,8 @@
 // Sockets that are opened late.
-use crate::PollError;
 use crate::sockets::Sockets;
 use std::alloc::Global;
 use std::net::Net;
+use wf_host::PollError;
 
 /// Sockets, which are opened at the first call or wait. Where the system has none to give, each wait fails from then on, since a call
 /// that was started then would never be heard.

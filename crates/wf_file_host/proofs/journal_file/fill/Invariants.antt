@@ -1,5 +1,5 @@
 use Rattle.std.proofs.Common.{◌≤◌, length}
-use Rattle.wf_host.proofs.journal_file.fill.Given as goal
+use Rattle.wf_file_host.proofs.journal_file.fill.Given as goal
 
 -- no more than the room was filled
 abbrev pub invariant-loop : goal.invariant-loop

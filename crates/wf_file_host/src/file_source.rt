@@ -1,13 +1,14 @@
 // A source that std reads.
 ghost use Rattle.std.specs.Prelude.{◌≡◌, ◌≤◌, length, None, IfOk, OnOk, OnErr};
 ghost use Rattle.wf_host.specs.World.{Rose, next_count};
-ghost use Rattle.wf_host.specs.FileSource.{file_source_faults};
+ghost use Rattle.wf_file_host.specs.FileSource.{file_source_faults};
 
-use crate::{Failed, LateFile, Source};
+use crate::LateFile;
 use std::alloc::Global;
 use std::fs::{File, Files};
 use std::io;
 use std::io::Read;
+use wf_host::{Failed, Source};
 use wf_value::OutOfMemory;
 
 /// A file or standard input. It tells nothing of what it has left, but counts its faults.

@@ -2,19 +2,19 @@
 ghost use Rattle.std.specs.Prelude.{◌≡◌, ◌≤◌, ◌+◌, length, IfOk, IsOk, OnOk, OnErr, IsErrOf, None};
 ghost use Rattle.wf_host.specs.World.{longest, piece_len, visit_of, Rose, NoneFell, no_faults, disk_failed, poll_failed, print_failed};
 ghost use Rattle.wf_host.specs.declared.data.What.TheVariants.{Nothing};
-ghost use Rattle.wf_host.specs.Untold.{untold};
-ghost use Rattle.wf_host.specs.FileHost.{file_host_faults, last_reading};
+ghost use Rattle.wf_file_host.specs.Untold.{untold};
+ghost use Rattle.wf_file_host.specs.FileHost.{file_host_faults, last_reading};
 
 use crate::disk::Disk;
 use crate::journal_file::JournalFile;
 use crate::late_sockets::LateSockets;
-use crate::{Address, Failed, Heard, Host, PollError, What};
 use std::alloc::Global;
 use std::fs::{File, Files};
 use std::io;
 use std::io::Print;
 use std::net::Net;
 use std::time::{Clock, SystemTime};
+use wf_host::{Address, Failed, Heard, Host, PollError, What};
 use wf_value::OutOfMemory;
 
 /// A journal file, sockets, the system's clock and standard output. It tells nothing of what they hold, but counts its faults.
@@ -124,7 +124,7 @@ impl<R: Files<File = File> + Clock + Print + Net + Drop> FileHost<R> {
 }
 
 impl<R: Files<File = File> + Clock + Print + Net + Drop> Host for FileHost<R> {
-    ghost use Rattle.wf_host.specs.Untold.{untold_counts, untold_only, untold_back, untold_fits};
+    ghost use Rattle.wf_file_host.specs.Untold.{untold_counts, untold_only, untold_back, untold_fits};
 
     ghost world = { λ h. untold };
 

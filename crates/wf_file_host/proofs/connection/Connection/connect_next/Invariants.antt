@@ -1,5 +1,5 @@
 use Rattle.std.proofs.Common.{length}
-use Rattle.wf_host.proofs.connection.Connection.connect_next.Given as goal
+use Rattle.wf_file_host.proofs.connection.Connection.connect_next.Given as goal
 
 -- an address is tried once
 abbrev pub decreases-loop-to : goal.decreases-loop-to

@@ -1,10 +1,10 @@
 // A journal in a file.
 ghost use Rattle.std.specs.Prelude.{◌≤◌, length, IfOk};
 
-use crate::Failed;
 use std::fs::{self, File, Files, OpenFile, OpenOptions, TryLockError};
 use std::io;
 use std::os::unix::fs::FileExt;
+use wf_host::Failed;
 
 /// The journal at a path. It is opened at the first call and made at the first write, so a command that touches no journal leaves none
 /// behind. From its opening on it is locked, so that no two processes write into one journal.
