@@ -2,7 +2,7 @@
 --     not_yet     where a node uses one of them
 use Rattle.std.specs.Prelude.{Bool, true, false, ◌&&◌, List, codes, Option, Some, None, if◌then◌else◌}
 use Rattle.wf_ast.specs.Flows.{flow}
-use Rattle.wf_ast.specs.Func.{Listing, func_named}
+use Rattle.wf_ast.specs.Func.{HttpCall, Listing, Special, SpecialListing, func_named, special_named}
 use Rattle.wf_ast.specs.Nodes.{Path, NodePart, part_body, below}
 use Rattle.wf_ast.specs.Tree.{Expr, Exprs, no_exprs, expr, Body, Flow, try}
 use Rattle.wf_ast.specs.declared.expr.Func.{Func}
@@ -24,15 +24,25 @@ is_built func.If = true
 is_built func.SysNow = true
 is_built f = false
 
+-- the function of call steps alone is built: a call of HTTP
+abbrev pub is_special_built : Special → Bool
+is_special_built (HttpCall m) = true
+is_special_built s = false
+
+-- there is such a one
+abbrev pub is_special : Option SpecialListing → Bool
+is_special None = false
+is_special (Some e) = is_special_built e.special
+
 -- ## Steps
 -- the key of a call that names no workflow, where its function isn't built
-abbrev pub uncalled : Option Listing → Option Text
-uncalled (Some e) = if is_built e.func then None else Some (codes "call")
-uncalled None = Some (codes "call")
+abbrev pub uncalled : Option Listing → Option SpecialListing → Option Text
+uncalled (Some e) g = if is_built e.func then None else Some (codes "call")
+uncalled None g = if is_special g then None else Some (codes "call")
 
 -- the key of a body whose form isn't built: a call of no workflow and of no function that is built, what runs in parallel, a retry
 abbrev pub form_key : List Flow → Body → Option Text
-form_key fs (Body.Call f) = elim (flow fs f.name) [ None ↦ uncalled (func_named f.name) | Some g ↦ None ]
+form_key fs (Body.Call f) = elim (flow fs f.name) [ None ↦ uncalled (func_named f.name) (special_named f.name) | Some g ↦ None ]
 form_key fs (Body.Parallel p) = Some (codes "parallel")
 form_key fs (Body.Try (try body (Some policy) x)) = Some (codes "retry")
 form_key fs body = None

@@ -1,6 +1,6 @@
 // The forms that aren't built yet: one line a form, so that it goes when its form comes.
 ghost use Rattle.std.specs.Prelude.{◌≡◌, map, option_map};
-ghost use Rattle.wf_ast.specs.Func.{func_named};
+ghost use Rattle.wf_ast.specs.Func.{func_named, special_named};
 ghost use Rattle.wf_ast.specs.Nodes.{part_body};
 ghost use Rattle.wf_ast.specs.View.{body_view, flow_view};
 ghost use Rattle.wf_diagnostics.specs.Answers.{Tells};
@@ -19,12 +19,24 @@ use wf_library::function_named;
 
 // The key of a call that names no workflow, where its function isn't built.
 fn uncalled(name: &str) -> Option<&'static str>
-    ensures { option_map (λ k. k.now) result ≡ forms.uncalled (func_named name.now) }
+    ensures { option_map (λ k. k.now) result
+        ≡ forms.uncalled (func_named name.now) (special_named name.now) }
 {
     match function_named(name) {
         Some(function) if is_built(function.func) => None,
+        None if is_http(name) => None,
         _ => Some("call"),
     }
+}
+
+// Whether the name is that of a call of HTTP.
+fn is_http(name: &str) -> bool
+    ensures { result ≡ forms.is_special (special_named name.now) }
+{
+    matches!(
+        name,
+        "http.get" | "http.post" | "http.put" | "http.patch" | "http.delete" | "http.request"
+    )
 }
 
 // The key of a body whose form isn't built.
