@@ -8,7 +8,7 @@ ghost use Rattle.wf_record_parts.specs.View.{reply_view};
 ghost use Rattle.wf_shared.specs.Events.{Event as AnyEvent};
 
 use crate::events::ApplyFault;
-use crate::machine::{Machine, Tally};
+use crate::machine::Machine;
 use crate::reply::{reply_length, reply_result};
 use crate::task::{Cause, Heard};
 use wf_alone::laws_of_waiting;
