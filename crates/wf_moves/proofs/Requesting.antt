@@ -1,5 +1,5 @@
 -- The requests of calls of HTTP.
-use Rattle.std.proofs.Common.{◌≡◌, ◌∷◌, ℕ, List, Ok, Err, Some, refl, sym, ap, subst, ◌∙◌}
+use Rattle.std.proofs.Common.{◌≡◌, ℕ, List, Ok, Err, Some, refl, sym, ap, subst, ◌∙◌}
 use Rattle.std.specs.Prelude.{◌*◌, suc, Option, option_map}
 use Rattle.wf_ast.specs.Func.{special_named}
 use Rattle.wf_ast.specs.Tree.{Body, CallBody}
@@ -11,14 +11,7 @@ use Rattle.wf_frames.specs.Held.{Held, standing}
 use Rattle.wf_frames.specs.Owned.{Around}
 use Rattle.wf_frames.specs.Sights.{Sees}
 use Rattle.wf_frames.specs.declared.facts.Facts.{Facts}
-use Rattle.wf_host.specs.declared.data.Address.{Address}
-use Rattle.wf_http_ask.specs.Answers as ask
-use Rattle.wf_http_ask.specs.View.{request_view}
-use Rattle.wf_http_ask.specs.declared.request.Request as declared
-use Rattle.wf_http_out.specs.Asked.{asked_view}
-use Rattle.wf_http_out.specs.View.{routes_view}
-use Rattle.wf_http_out.specs.declared.asked.Asked as declared_asked
-use Rattle.wf_model.specs.Calls.{http_method, requests}
+use Rattle.wf_model.specs.Calls.{http_method}
 use Rattle.wf_model.specs.Config.{Calling, Item}
 use Rattle.wf_model.specs.Leave.{on, raises}
 use Rattle.wf_model.specs.Local.{Does, Local, Moved, Scene, Sends, waits}
@@ -36,8 +29,7 @@ use Rattle.wf_steps.specs.Steps.{asks_by, asks_with}
 use Rattle.wf_value.specs.Data.{Pairs}
 use Rattle.wf_value.specs.Errors.{Answer, ◌>>=◌, error_map, later}
 use Rattle.wf_value.specs.Pairs.{Text}
-use Rattle.wf_value.specs.declared.Raise.{Raise}
-use Rattle.wf_value.specs.declared.Raise.TheVariants.{Error, OutOfMemory}
+use Rattle.wf_value.specs.declared.Raise.TheVariants.{Error}
 use Rattle.wf_value.specs.declared.Tag.{Tag}
 
 -- two steps, and then what comes of both

@@ -1,13 +1,10 @@
 -- The move of a task, or its request.
-use Rattle.std.proofs.Common.{◌≡◌, ◌∷◌, inl, inr, ℕ, Bool, true, false, List, [], Some, refl, sym, ap, subst, ◌∙◌}
-use Rattle.std.specs.Prelude.{Option, is_some, option_map}
+use Rattle.std.proofs.Common.{◌≡◌, ◌∷◌, inl, inr, ℕ, Bool, true, false, List, [], refl, sym, ap, subst, ◌∙◌}
+use Rattle.std.specs.Prelude.{Option}
 use Rattle.wf_ast.specs.Apply.{View}
-use Rattle.wf_ast.specs.Flows.{flow}
-use Rattle.wf_ast.specs.Func.{special_named}
-use Rattle.wf_ast.specs.Tree.{Body, CallBody, Flow, Program}
-use Rattle.wf_callbacks.specs.Plain.{plain_method}
+use Rattle.wf_ast.specs.Tree.{Body, CallBody, Flow}
 use Rattle.wf_callbacks.specs.declared.method.Method.{Method}
-use Rattle.wf_frames.specs.Frames.{control, inner}
+use Rattle.wf_frames.specs.Frames.{control}
 use Rattle.wf_frames.specs.Held.{standing}
 use Rattle.wf_frames.specs.Owned.{Around, held_of}
 use Rattle.wf_frames.specs.declared.frames.Frame.{Frame}
@@ -15,16 +12,15 @@ use Rattle.wf_frames.specs.declared.frames.Frame.TheVariants as frame
 use Rattle.wf_frames.specs.declared.frames.Left.{Left}
 use Rattle.wf_library.specs.declared.functions.Function.{Function}
 use Rattle.wf_model.specs.Config.{Item}
-use Rattle.wf_model.specs.Kinds.{NextKind, Plainly, ByClock, ByCall, body_kind, by_clock, fields_now, is_now, next_kind}
+use Rattle.wf_model.specs.Kinds.{NextKind, Plainly, ByClock, ByCall, body_kind, by_clock, fields_now, next_kind}
 use Rattle.wf_model.specs.Layers.{view}
-use Rattle.wf_model.specs.Local.{Local, Moved, Scene, Breaks}
+use Rattle.wf_model.specs.Local.{Local, Moved, Scene}
 use Rattle.wf_model.specs.Move.{issues, moves}
 use Rattle.wf_moves.specs.Moved.{IsMove, is_at_back}
 use Rattle.wf_moves.specs.Stepped.{by_kind, leads, leads_with, stepped_at}
 use Rattle.wf_moves.specs.Tasks.{IsDone}
 use Rattle.wf_moves.specs.declared.finish.Done.{Done}
 use Rattle.wf_moves.specs.declared.finish.Done.TheVariants as done
-use Rattle.wf_moves.specs.declared.finish.Went.{Went}
 use Rattle.wf_nodes.specs.Spots.{Spot, part_at, part_body}
 use Rattle.wf_scope.specs.Tasks.{Own}
 use Rattle.wf_scope.specs.declared.layer.Layer.{Layer}

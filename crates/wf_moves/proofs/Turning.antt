@@ -1,7 +1,6 @@
 -- The turns of a loop.
 use Rattle.std.proofs.Common.{◌≡◌, ℕ, ◌+◌, ◌<◌, false, List, [], ◌∷◌, drop, length, get_or, Some, None, refl, sym, ap, subst, ◌∙◌, arith, add-one}
 use Rattle.std.specs.Prelude.{zero, suc, pos, Option, slice_get}
-use Rattle.wf_ast.specs.Apply.{View}
 use Rattle.wf_ast.specs.Tree.{Body, LoopBody, loop}
 use Rattle.wf_frames.specs.Fits.{Fits, HasNode, IsLoop, list_at, outside_at, view_outside}
 use Rattle.wf_frames.specs.Frames.{body_loop, control, left_view, own, owned}
@@ -12,14 +11,12 @@ use Rattle.wf_frames.specs.declared.frames.Frame.{Frame}
 use Rattle.wf_frames.specs.declared.frames.Frame.TheVariants as frame
 use Rattle.wf_frames.specs.declared.frames.Left as declared
 use Rattle.wf_model.specs.Config.{Item, Do, Loop, Mark, OfList, next_of}
-use Rattle.wf_model.specs.Layers.{opened, view}
+use Rattle.wf_model.specs.Layers.{opened}
 use Rattle.wf_model.specs.Leave.{on, raises}
 use Rattle.wf_model.specs.Local.{Local, Scene, goes}
 use Rattle.wf_model.specs.Move.{loop_names, moves, turns}
 use Rattle.wf_steps.proofs.Parts.{as_part, list_of, view_is}
 use Rattle.wf_moves.specs.Moved.{IsMove}
-use Rattle.wf_steps.specs.Steps.{Moves, come}
-use Rattle.wf_steps.specs.declared.step.Step.{Step}
 use Rattle.wf_scope.specs.Tasks.{Own}
 use Rattle.wf_scope.specs.declared.layer.Layer.{Layer}
 use Rattle.wf_moves.specs.declared.finish.Went.{Went}
@@ -107,9 +104,3 @@ module _ (a : Around) (s : Scene) (os ps : List Own) (ls : List Layer) (same : o
   pub moved_same : (d : List Item) (fs gs : List Frame) (w : Went) (l : Local) → fs ≡ gs → IsMove (moves s (control a.spots gs) (standing d (held_of a.keys ps ls))) w l → IsMove (moves s (control a.spots fs) (standing d (held_of a.keys os ls))) w l
   moved_same d fs gs w l e m =
       subst (λ qs. IsMove (moves s (control a.spots fs) (standing d (held_of a.keys qs ls))) w l) (sym same) (subst (λ hs. IsMove (moves s (control a.spots hs) (standing d (held_of a.keys ps ls))) w l) (sym e) m)
-
-  -- the frames' half of a step, and then the other half
-  pub moved_on : (d : List Item) (fs gs : List Frame) (st : Step) (v : View) (w : Went) (l : Local) → Moves a.spots fs v gs st → view s (standing d (held_of a.keys os ls)) ≡ v
-      → IsMove (come a.spots st s (control a.spots gs) (standing d (held_of a.keys ps ls))) w l → IsMove (moves s (control a.spots fs) (standing d (held_of a.keys os ls))) w l
-  moved_on d fs gs st v w l moves_so seen m =
-      subst (λ y. IsMove y w l) (sym (moves_so s (standing d (held_of a.keys os ls)) seen)) (subst (λ qs. IsMove (come a.spots st s (control a.spots gs) (standing d (held_of a.keys qs ls))) w l) (sym same) m)

@@ -1,20 +1,16 @@
 -- Tasks that wait.
-use Rattle.std.proofs.Common.{◌≡◌, ◌∷◌, ℕ, true, false, List, [], Ok, Err, Some, None, refl, sym, ap, subst, ◌∙◌}
-use Rattle.std.specs.Prelude.{Option, is_some, slice_get}
-use Rattle.wf_frames.specs.Fits.{IsCall, IsCallOf}
+use Rattle.std.proofs.Common.{◌≡◌, ℕ, true, List, Some, None, refl, sym, ap, subst}
+use Rattle.std.specs.Prelude.{Option, slice_get}
+use Rattle.wf_frames.specs.Fits.{IsCall}
 use Rattle.wf_frames.specs.Frames.{inner}
 use Rattle.wf_frames.specs.Owned.{Around, control_of, local_of}
-use Rattle.wf_frames.specs.declared.frames.Frame.{Frame}
 use Rattle.wf_frames.specs.declared.frames.Frames.{Frames}
-use Rattle.wf_model.specs.Config as model
 use Rattle.wf_model.specs.Local.{Local, Moved, Scene}
-use Rattle.wf_moves.proofs.Going.{going, is_going}
-use Rattle.wf_moves.specs.Moved.{IsGoing, IsLeft, IsMove}
+use Rattle.wf_moves.proofs.Going.{going}
+use Rattle.wf_moves.specs.Moved.{IsLeft, IsMove}
 use Rattle.wf_moves.specs.Stepped.{stepped, stepped_at}
-use Rattle.wf_moves.specs.Tasks.{IsRequest, MovesSo, Stays, is_sent, move_of}
-use Rattle.wf_moves.specs.Waits.{CanGoOn, GoesFrom, call_in, is_call_at, is_call_kind, is_call_node, wait_view}
-use Rattle.wf_moves.specs.declared.finish.Done.{Done}
-use Rattle.wf_moves.specs.declared.finish.Done.TheVariants as done
+use Rattle.wf_moves.specs.Tasks.{IsRequest, MovesSo, Stays, move_of}
+use Rattle.wf_moves.specs.Waits.{GoesFrom, call_in, is_call_at, is_call_kind, is_call_node, wait_view}
 use Rattle.wf_moves.specs.declared.finish.Went.{Went}
 use Rattle.wf_moves.specs.declared.finish.Went.TheVariants as went
 use Rattle.wf_moves.specs.declared.sending.Sent.{Sent}
@@ -52,22 +48,10 @@ call_there nodes n h = by (slice_get nodes n) refl h
     by None at t = absurd (cc t)
     by (Some x) at t = by_kind x x.kind refl at t
 
-pub there_call : (nodes : List Node) (n : ℕ) (f : CallNode) → IsCall nodes n f → is_call_at nodes n ≡ true
-there_call nodes n f h = ap is_call_node h.at ∙ ap is_call_kind h.is
-
 -- ## Waits
 pub is_awake : (w : Wait) → call_in w ≡ None → w ≡ wait.Awake
 is_awake wait.Awake e = refl
 is_awake (wait.Calling c n) e = absurd (cc e)
-
--- one that waits isn't awake
-pub not_awake : (w : Wait) → is_some (call_in w) ≡ true → w ≡ wait.Awake → ⊥
-not_awake wait.Awake e q = cc e
-not_awake (wait.Calling c n) e q = cc q
-
-pub awake_goes : (nodes : List Node) (w : Wait) (fs : List Frame) → call_in w ≡ None → GoesFrom nodes w fs → IsGoing nodes fs
-awake_goes nodes wait.Awake fs e h = is_going nodes fs h
-awake_goes nodes (wait.Calling c n) fs e h = absurd (cc e)
 
 -- ## What is left behind a move
 pub went_left : (nodes : List Node) (w : Went) (t : Task) → call_in t.wait ≡ None → IsLeft nodes w (inner t.frames) → Stays nodes (move_of w) t
@@ -77,10 +61,6 @@ went_left nodes (went.Ended x) t e h = h
 pub went_so : (m : Moved) (w : Went) (l : Local) → IsMove m w l → MovesSo m (move_of w) l
 went_so m went.Goes l h = h
 went_so m (went.Ended e) l h = h
-
-pub went_unsent : (w : Went) → is_sent (move_of w) ≡ false
-went_unsent went.Goes = refl
-went_unsent (went.Ended e) = refl
 
 -- ## By itself
 module _ (a : Around) (s : Scene) (w : Wait) (old new : Frames) (xs ys : Scopes) where

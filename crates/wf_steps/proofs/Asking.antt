@@ -1,6 +1,6 @@
 -- Steps that make a request.
-use Rattle.std.proofs.Common.{◌≡◌, ◌⊎◌, inl, inr, ℕ, ◌+◌, ◌<◌, Bool, true, false, List, [], ◌∷◌, length, get_or, Ok, Err, Some, None, refl, sym, ap, subst, ◌∙◌, add-one}
-use Rattle.std.specs.Prelude.{Option, Result, IfOk, drop, if◌then◌else◌, option_map, slice_get, suc, unwrap_or}
+use Rattle.std.proofs.Common.{◌≡◌, inl, inr, ℕ, ◌+◌, ◌<◌, Bool, true, false, List, [], ◌∷◌, length, get_or, Ok, Err, Some, None, refl, sym, ap, subst, ◌∙◌, add-one}
+use Rattle.std.specs.Prelude.{Option, drop, if◌then◌else◌, slice_get, suc, unwrap_or}
 use Rattle.wf_ast.specs.Accept.{BadArgument}
 use Rattle.wf_ast.specs.Apply.{View}
 use Rattle.wf_ast.specs.Eval.{fill_fields}
@@ -8,7 +8,7 @@ use Rattle.wf_ast.specs.Flows.{flow}
 use Rattle.wf_ast.specs.Func.{HttpCall, Listing, Special, SpecialListing, SysLog, SysSleep, SysSleepUntil, CreateEndpoint, AwaitCallback, func_named, special_named}
 use Rattle.wf_ast.specs.Tree.{Body, CallBody, Entry, Flow, Program, loop, more, no_steps, parallel, OfBranches, OfLoop, step as step_so, Steps}
 use Rattle.wf_eval.specs.Answers.{Answers}
-use Rattle.wf_frames.specs.Fits.{IsCall, list_at}
+use Rattle.wf_frames.specs.Fits.{list_at}
 use Rattle.wf_frames.specs.Frames.{body_entries, control}
 use Rattle.wf_frames.specs.declared.frames.Frame.{Frame}
 use Rattle.wf_frames.specs.declared.frames.Frame.TheVariants as frame
@@ -31,13 +31,12 @@ use Rattle.wf_shared.specs.Events.{Method}
 use Rattle.wf_steps.proofs.Advancing.{from_next}
 use Rattle.wf_steps.proofs.Evaluated.{failed, gave}
 use Rattle.wf_steps.proofs.Parts.{list_is, part_is}
-use Rattle.wf_steps.specs.Steps.{AsksWith, CarriesCall, Fails, IsDone, IsNoCall, IsOf, IsOrBreaks, Issues, PerformsCall, WantsSame, asks, asks_by, asks_with, issues_body}
+use Rattle.wf_steps.specs.Steps.{AsksWith, CarriesCall, Fails, IsNoCall, IsOf, IsOrBreaks, Issues, PerformsCall, WantsSame, asks, asks_by, asks_with, issues_body}
 use Rattle.wf_steps.specs.declared.step.Step.{Step}
 use Rattle.wf_steps.specs.declared.step.Step.TheVariants as step
 use Rattle.wf_value.specs.Data.{Pairs, pairs_of}
-use Rattle.wf_value.specs.Errors.{Answer, error_map}
+use Rattle.wf_value.specs.Errors.{Answer}
 use Rattle.wf_value.specs.Pairs.{Text}
-use Rattle.wf_value.specs.Plain.{plain}
 use Rattle.wf_value.specs.declared.Raise.{Raise}
 use Rattle.wf_value.specs.declared.Raise.TheVariants.{Error, OutOfMemory}
 use Rattle.wf_value.specs.declared.value.Map.{Map}
@@ -128,20 +127,6 @@ module _ (n : ℕ) (f : CallBody) (v : View) where
   ask_fails OutOfMemory st a h = absurd h
   ask_fails (Error t) st a h =
       asked_by (Err t) st (failed pairs_of t (fill_fields f.args v) a) (λ ns s k l o body named. ap (raises s k l) (sym h.2) ∙ ap (λ x. asks ns x s k l) (sym h.1))
-
--- an error is no call
-pub fails_of : (n : ℕ) (r : Raise) (st : Step) → Fails r st → IsOf n st
-fails_of n OutOfMemory st h = absurd h
-fails_of n (Error t) st h = subst (IsOf n) (sym h.1) tt
-
--- what is done is no call
-pub done_no_call : (st : Step) → IsDone st → IsNoCall st
-done_no_call step.Goes h = tt
-done_no_call (step.Raises v) h = tt
-done_no_call (step.Returns v) h = tt
-done_no_call (step.Jumps n) h = tt
-done_no_call (step.Assigns n) h = tt
-done_no_call (step.Calls n m) h = h
 
 pub no_call_of : (n : ℕ) (st : Step) → IsNoCall st → IsOf n st
 no_call_of n step.Goes h = tt

@@ -124,11 +124,14 @@ CarriesOut ns body next v old new st = (s : Scene) (l : Local) → view s l ≡ 
 
 -- the same of a body and of a step that make a request
 abbrev pub PerformsCall : List Spot → Body → View → List Frame → List Frame → Step → Type 0
-PerformsCall ns body v old new st = (s : Scene) (l : Local) → view s l ≡ v → body_kind s.program body ≡ ByCall → IsOrBreaks (issues_body s body (control ns old) l) (asks ns st s (control ns new) l)
+PerformsCall ns body v old new st =
+    (s : Scene) (l : Local) → view s l ≡ v → body_kind s.program body ≡ ByCall
+    → IsOrBreaks (issues_body s body (control ns old) l) (asks ns st s (control ns new) l)
 
 abbrev pub CarriesCall : List Spot → Body → Option Text → View → List Frame → List Frame → Step → Type 0
 CarriesCall ns body next v old new st =
-    (s : Scene) (l : Local) → view s l ≡ v → body_kind s.program body ≡ ByCall → IsOrBreaks (issues_body s body (then_item next (control ns old)) l) (asks ns st s (control ns new) l)
+    (s : Scene) (l : Local) → view s l ≡ v → body_kind s.program body ≡ ByCall
+    → IsOrBreaks (issues_body s body (then_item next (control ns old)) l) (asks ns st s (control ns new) l)
 
 -- a call that is left is that of the node with this number
 abbrev pub IsOf : ℕ → Step → Type 0
@@ -188,7 +191,9 @@ Moves ns old v new st = (s : Scene) (l : Local) → view s l ≡ v → moves s (
 
 -- a request of the task, in the same way
 abbrev pub Issues : List Spot → List Frame → View → List Frame → Step → Type 0
-Issues ns old v new st = (s : Scene) (l : Local) → view s l ≡ v → next_kind s.program (control ns old) ≡ ByCall → IsOrBreaks (issues s (control ns old) l) (asks ns st s (control ns new) l)
+Issues ns old v new st =
+    (s : Scene) (l : Local) → view s l ≡ v → next_kind s.program (control ns old) ≡ ByCall
+    → IsOrBreaks (issues s (control ns old) l) (asks ns st s (control ns new) l)
 
 -- the body of a call that is left wants the event that the frames want
 abbrev pub WantsSame : List Spot → List Frame → Step → Type 0

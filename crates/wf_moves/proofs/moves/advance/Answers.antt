@@ -1,16 +1,11 @@
-use Rattle.std.proofs.Common.{◌≡◌, ◌∷◌, sym, subst, ap, ◌∙◌}
-use Rattle.wf_eval.specs.Sight.{seen}
+use Rattle.std.proofs.Common.{◌∷◌, sym, subst, ap, ◌∙◌}
 use Rattle.wf_frames.proofs.Owning.{own_pushed}
 use Rattle.wf_frames.specs.Fits.{Fits}
 use Rattle.wf_frames.specs.Frames.{inner}
-use Rattle.wf_frames.specs.Held.{standing}
 use Rattle.wf_model.specs.Local.{Moved}
 use Rattle.wf_moves.proofs.Returning.{moves_back}
 use Rattle.wf_moves.specs.Moved.{IsMove}
-use Rattle.wf_frames.specs.Owned.{IsLinked, beside, held_of, local_of, own_of}
-use Rattle.wf_model.specs.Layers.{view}
-use Rattle.wf_steps.specs.Steps.{Moves}
-use Rattle.wf_frames.specs.Sights.{sight_of}
+use Rattle.wf_frames.specs.Owned.{IsLinked, beside, local_of, own_of}
 use Rattle.wf_frames.specs.declared.frames.Frame.TheVariants as frame
 use Rattle.wf_moves.proofs.Leaving.{going_has, going_plain, going_step, no_back}
 use Rattle.wf_moves.proofs.Stepping.{back_stepped, loop_stepped, stepped_same}

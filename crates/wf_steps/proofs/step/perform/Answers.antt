@@ -1,5 +1,4 @@
 use Rattle.std.proofs.Common.{sym, ap, ◌∙◌}
-use Rattle.std.specs.Prelude.{slice_get, Some}
 use Rattle.wf_ast.specs.Tree.{Body}
 use Rattle.wf_eval.specs.Sight.{seen}
 use Rattle.wf_frames.specs.Frames.{inner}

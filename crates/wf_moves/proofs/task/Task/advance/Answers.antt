@@ -1,6 +1,6 @@
 use Rattle.std.proofs.Common.{sym, subst}
 use Rattle.wf_frames.specs.Frames.{inner}
-use Rattle.wf_frames.specs.Owned.{control_of, held_by, local_of}
+use Rattle.wf_frames.specs.Owned.{control_of, local_of}
 use Rattle.wf_moves.proofs.Waiting.{sent_on, went_left, went_on}
 use Rattle.wf_moves.specs.Stepped.{stepped_at}
 use Rattle.wf_moves.specs.Tasks.{IsDone, IsLeftSo, Stays}
