@@ -83,16 +83,17 @@ MainCanStep =
 abbrev pub MainMatches : Type 0
 MainMatches = (p : Program) (x : Rest) (k : List Item) (ls : List Layer) (w : Wait) → IsReached p (main_at x k ls w) → Matches x w
 
--- and so is each configuration of a run sound
+-- and each configuration of a run is sound
 abbrev pub ReachedIsSound : Type 0
 ReachedIsSound = (p : Program) (c : Config) → IsReached p c → Sound c
 
--- the due moment of the call is the only one; it is quiet before, and from then on the due moment is chosen
+-- d is the only due moment: it is quiet before it, and from then on its event is chosen
 pub record StandsWaiting (p : Program) (c : Config) (last d : ℕ) : Type 0 where
   pub due : least_due c ≡ Some d
   pub still : (r : ℕ) → quiet c r ≡ not (nat_le d r)
   pub chosen : (r : ℕ) → choose p c r ≡ (if nat_le d r then Some (Event.Due 0 (max r last)) else None)
 
+-- so stands `main` that waits, by its call's due moment
 abbrev pub MainWaits : Type 0
 MainWaits =
     (p : Program) (x : Rest) (k : List Item) (ls : List Layer) (n : ℕ) (v : Option Text) (d : ℕ)
@@ -158,10 +159,12 @@ pub record Merges (x : Rest) (k : List Item) (ls : List Layer) (w : Wait) : Type
   pub sends : (q : Request) (due : ℕ) (l : Local) → l.outer ≡ [] → merged 0 None (Does (Sends q due) (Goes l)) (main_at x k ls w) ≡ To (main_at (sent q due x) l.control l.layers l.wait)
   pub ends : (e : End) (l : Local) → l.outer ≡ [] → merged 0 None (Ends e l) (main_at x k ls w) ≡ To (config_by x [] (outcome_of e))
 
+-- so it is wherever `main` stands
 abbrev pub MainMerges : Type 0
 MainMerges = (x : Rest) (k : List Item) (ls : List Layer) (w : Wait) → Merges x k ls w
 
 -- ## What can't come
+-- an event that is off leads nowhere
 abbrev pub OffNever : Type 0
 OffNever =
     (p : Program) (x : Rest) (k : List Item) (ls : List Layer) (w : Wait) (e : Event)
