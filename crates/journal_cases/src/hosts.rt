@@ -9,9 +9,7 @@ use std::net::Net;
 use std::time::Clock;
 use wf_cases::{Case, CaseFault, bytes_of};
 use wf_file_host::{FileHost, FileSource};
-use wf_host::{
-    Deed, Host, LONGEST, MemHost, MemSource, ReadFault, Source, print_all, read_up_to,
-};
+use wf_host::{Deed, Host, LONGEST, MemHost, MemSource, ReadFault, Source, print_all, read_up_to};
 use wf_host_cases::{gap, host_of, items_of, number_of, numbers_of, write_bytes, write_left};
 use wf_value::Value;
 
