@@ -2,6 +2,7 @@
 #![tactic(auto)]
 
 mod planned;
+mod service;
 mod sockets;
 
 use anyhow::Result;

@@ -1,87 +1,25 @@
 // Calls of the real host to a service of this program's own, on one thread.
 use crate::planned::write_what;
+use crate::service::{CLOSED, Service, Step};
 use std::alloc::Global;
 use std::fs::{File, Files};
-use std::io::{Print, Read, Write};
+use std::io::Print;
 use std::net::{Net, TcpListener, TcpStream};
 use std::time::Clock;
 use wf_cases::{Case, CaseFault, bytes_of};
-use wf_host::{Address, FileHost, Host, PollError};
+use wf_file_host::FileHost;
+use wf_host::{Address, Host, PollError, What};
 use wf_host_cases::{gap, items_of, number_of, write_bytes};
 use wf_value::{Text, Value};
 
-/// The side that answers.
-#[derive(Drop)]
-struct Service {
-    listener: TcpListener,
-    port: u16,
-    /// A port on which nobody listens.
-    closed: u16,
-    streams: Vec<Option<TcpStream>>,
-}
+/// How many turns the two sides take at most, until one has what it waits for. A turn of the host ends by itself within a millisecond.
+const TURNS: u64 = 20_000;
 
-impl Service {
-    fn new<R>(alloc: Global, rt: &R) -> Result<Service, CaseFault>
-    where
-        R: Net<Listener = TcpListener, Stream = TcpStream>,
-    {
-        let (listener, port) = listen(rt)?;
-        let (_, closed) = listen(rt)?;
-        Ok(Service {
-            listener,
-            port,
-            closed,
-            streams: Vec::new(alloc),
-        })
-    }
-
-    /// Takes the next connection.
-    fn accept(&mut self) -> Result<(), CaseFault> {
-        let Ok((stream, _)) = self.listener.accept() else {
-            return Err(CaseFault::NoCase);
-        };
-        match self.streams.push(Some(stream)) {
-            Ok(()) => Ok(()),
-            Err(_) => Err(CaseFault::OutOfMemory),
-        }
-    }
-
-    /// The connection of this number, from 0.
-    fn stream(&mut self, number: u64) -> Result<&mut TcpStream, CaseFault> {
-        match self.streams.get_mut(number as usize) {
-            Some(Some(stream)) => Ok(stream),
-            _ => Err(CaseFault::NoCase),
-        }
-    }
-
-    fn close(&mut self, number: u64) -> Result<(), CaseFault> {
-        match self.streams.get_mut(number as usize) {
-            Some(stream) => {
-                *stream = None;
-                Ok(())
-            }
-            None => Err(CaseFault::NoCase),
-        }
-    }
-}
-
-/// A listener on a port that is free.
-fn listen<R>(rt: &R) -> Result<(TcpListener, u16), CaseFault>
-where
-    R: Net<Listener = TcpListener, Stream = TcpStream>,
-{
-    let Ok(listener) = TcpListener::bind(rt, "127.0.0.1:0") else {
-        return Err(CaseFault::NoCase);
-    };
-    match listener.local_addr() {
-        Ok(at) => Ok((listener, at.port())),
-        Err(_) => Err(CaseFault::NoCase),
-    }
-}
-
-/// What comes of the steps of a case: those of the host are `["start", number, name, bytes]`, `["refused", number, name, bytes]` to a port
-/// on which nobody listens, `["poll", millis]` and `["drop", number]`, those of the service `"accept"`, `["hear", connection]`,
-/// `["say", connection, bytes]` and `["close", connection]`.
+/// What comes of the steps of a case. Those of the host are `["start", number, name, bytes]`, `["refused", number, name, bytes]` to a port
+/// on which nobody listens, `["poll", millis]`, `["late", times]`, which polls so many times at most until a moment that has passed, and
+/// `["drop", number]`. Those of the service are `"accept"`, `["hear", connection, count]` for so many bytes or the end,
+/// `["say", connection, bytes]`, `["tell", connection, bytes]`, after which the host has heard as many bytes, and `["close", connection]`.
+/// While the service waits, the host polls.
 pub fn calls<R>(rt: R, case: &Case<'_>) -> Result<String, CaseFault>
 where
     R: Files<File = File>
@@ -110,56 +48,64 @@ fn take<H: Host>(
     alloc: Global,
     out: &mut String,
 ) -> Result<(), CaseFault> {
-    match step {
-        Value::Text(word) if word.as_str() == "accept" => {
-            service.accept()?;
-            Ok(out.push('+')?)
-        }
-        _ => match items_of(step)? {
-            [Value::Text(word), number] => one(
-                host,
-                service,
-                word.as_str(),
-                number_of(number)?,
-                alloc,
-                out,
-            ),
-            [Value::Text(word), number, bytes] if word.as_str() == "say" => {
-                let bytes = bytes_of(alloc, bytes)?;
-                say(service.stream(number_of(number)?)?, &bytes, out)
-            }
-            [Value::Text(word), number, Value::Text(name), bytes] => {
-                let port = match word.as_str() {
-                    "start" => service.port,
-                    "refused" => service.closed,
-                    _ => return Err(CaseFault::NoCase),
-                };
-                let bytes = bytes_of(alloc, bytes)?;
-                start(host, number_of(number)?, name, port, &bytes, out)
-            }
+    if let Value::Text(word) = step {
+        return match word.as_str() {
+            "accept" => accept(host, service, alloc, out),
             _ => Err(CaseFault::NoCase),
-        },
+        };
+    }
+    match items_of(step)? {
+        [Value::Text(word), number] => {
+            let number = number_of(number)?;
+            match word.as_str() {
+                "close" => {
+                    service.close(number)?;
+                    Ok(out.push('+')?)
+                }
+                word => one(host, word, number, alloc, out),
+            }
+        }
+        [Value::Text(word), number, what] => {
+            let number = number_of(number)?;
+            let bytes = match word.as_str() {
+                "hear" => return hear(host, service, number, number_of(what)?, alloc, out),
+                _ => bytes_of(alloc, what)?,
+            };
+            match word.as_str() {
+                "say" => say(service, number, &bytes, out),
+                "tell" => tell(host, service, number, &bytes, alloc, out),
+                _ => Err(CaseFault::NoCase),
+            }
+        }
+        [Value::Text(word), number, Value::Text(name), bytes] => {
+            let port = match word.as_str() {
+                "start" => service.port,
+                "refused" => CLOSED,
+                _ => return Err(CaseFault::NoCase),
+            };
+            let bytes = bytes_of(alloc, bytes)?;
+            start(host, number_of(number)?, name, port, &bytes, out)
+        }
+        _ => Err(CaseFault::NoCase),
     }
 }
 
-/// A step of a word and a number.
+/// A step of the host that is a word and a number.
 fn one<H: Host>(
     host: &mut H,
-    service: &mut Service,
     word: &str,
     number: u64,
     alloc: Global,
     out: &mut String,
 ) -> Result<(), CaseFault> {
     match word {
-        "poll" => poll(host, number, alloc, out),
+        "poll" => {
+            let heard = poll(host, number)?;
+            write_what(out, alloc, &heard)
+        }
+        "late" => late(host, number, alloc, out),
         "drop" => {
             host.drop_call(number)?;
-            Ok(out.push('+')?)
-        }
-        "hear" => hear(service.stream(number)?, alloc, out),
-        "close" => {
-            service.close(number)?;
             Ok(out.push('+')?)
         }
         _ => Err(CaseFault::NoCase),
@@ -182,32 +128,128 @@ fn start<H: Host>(
     Ok(out.push('+')?)
 }
 
-/// Polls for at most so many milliseconds, and writes what was heard.
-fn poll<H: Host>(
-    host: &mut H,
-    millis: u64,
-    alloc: Global,
-    out: &mut String,
-) -> Result<(), CaseFault> {
-    let until = host.now()?.saturating_add(millis);
+/// What is heard until a moment.
+fn poll_until<H: Host>(host: &mut H, until: u64) -> Result<What, CaseFault> {
     match host.poll(until) {
-        Ok(heard) => write_what(out, alloc, &heard.what),
-        Err(PollError::Failed) => Ok(out.push('-')?),
+        Ok(heard) => Ok(heard.what),
+        Err(PollError::Failed) => Err(CaseFault::NoCase),
         Err(PollError::OutOfMemory) => Err(CaseFault::OutOfMemory),
     }
 }
 
-/// Writes what the service reads at once, or `end`.
-fn hear(stream: &mut TcpStream, alloc: Global, out: &mut String) -> Result<(), CaseFault> {
-    let mut room = [0u8; 64];
-    match stream.read(&mut room) {
-        Ok(0) => Ok(out.push_str("end")?),
-        Ok(count) => write_bytes(out, alloc, &room[..count]),
-        Err(_) => Ok(out.push('-')?),
-    }
+/// What is heard within so many milliseconds.
+fn poll<H: Host>(host: &mut H, millis: u64) -> Result<What, CaseFault> {
+    let now = host.now()?;
+    poll_until(host, now.saturating_add(millis))
 }
 
-fn say(stream: &mut TcpStream, bytes: &[u8], out: &mut String) -> Result<(), CaseFault> {
-    let is_said = stream.write_all(bytes).is_ok();
+/// Polls until a moment that has passed, so many times at most, until something is heard, and writes that.
+fn late<H: Host>(
+    host: &mut H,
+    times: u64,
+    alloc: Global,
+    out: &mut String,
+) -> Result<(), CaseFault> {
+    let mut heard = What::Nothing;
+    for _ in 0..times {
+        heard = poll_until(host, 0)?;
+        if !matches!(heard, What::Nothing) {
+            break;
+        }
+    }
+    write_what(out, alloc, &heard)
+}
+
+/// The service takes the next connection.
+fn accept<H: Host>(
+    host: &mut H,
+    service: &mut Service,
+    alloc: Global,
+    out: &mut String,
+) -> Result<(), CaseFault> {
+    for _ in 0..TURNS {
+        if service.accept()? {
+            return Ok(out.push('+')?);
+        }
+        let heard = poll(host, 1)?;
+        if !matches!(heard, What::Nothing) {
+            return write_what(out, alloc, &heard);
+        }
+    }
+    Ok(out.push('-')?)
+}
+
+/// Writes what the service reads, up to so many bytes or the end.
+fn hear<H: Host>(
+    host: &mut H,
+    service: &mut Service,
+    number: u64,
+    count: u64,
+    alloc: Global,
+    out: &mut String,
+) -> Result<(), CaseFault> {
+    let mut bytes: Vec<u8> = Vec::new(alloc);
+    let mut room = Vec::from_elem(alloc, 0u8, 65_536)?;
+    for _ in 0..TURNS {
+        let left = count.saturating_sub(bytes.len() as u64);
+        if left == 0 {
+            break;
+        }
+        let most = left.min(room.len() as u64) as usize;
+        match service.read(number, &mut room[..most])? {
+            Step::Nothing => {
+                let heard = poll(host, 1)?;
+                if !matches!(heard, What::Nothing) {
+                    return write_what(out, alloc, &heard);
+                }
+            }
+            Step::Got(got) => bytes.extend_from_slice(&room[..got.min(most)])?,
+            Step::End if bytes.is_empty() => return Ok(out.push_str("end")?),
+            Step::End => break,
+            Step::Broken => return Ok(out.push_str("broken")?),
+        }
+    }
+    write_bytes(out, alloc, &bytes)
+}
+
+/// The service says few bytes, which are taken at once.
+fn say(
+    service: &mut Service,
+    number: u64,
+    bytes: &[u8],
+    out: &mut String,
+) -> Result<(), CaseFault> {
+    let is_said = matches!(service.write(number, bytes)?, Step::Got(count) if count == bytes.len());
     Ok(out.push(if is_said { '+' } else { '-' })?)
+}
+
+/// The service says many bytes, and how many the host hears of them is written.
+fn tell<H: Host>(
+    host: &mut H,
+    service: &mut Service,
+    number: u64,
+    bytes: &[u8],
+    alloc: Global,
+    out: &mut String,
+) -> Result<(), CaseFault> {
+    let mut rest = bytes;
+    let mut heard = 0usize;
+    for _ in 0..TURNS {
+        if !rest.is_empty() {
+            match service.write(number, rest)? {
+                Step::Nothing => {}
+                Step::Got(count) => rest = &rest[count.min(rest.len())..],
+                Step::End | Step::Broken => return Ok(out.push_str("broken")?),
+            }
+        }
+        match poll(host, 1)? {
+            What::Nothing => {}
+            What::Bytes(_, piece) => heard = heard.saturating_add(piece.as_slice().len()),
+            what => return write_what(out, alloc, &what),
+        }
+        if heard >= bytes.len() {
+            break;
+        }
+    }
+    Ok(write!(out, "{heard}")?)
 }

@@ -8,14 +8,10 @@ use std::io::Print;
 use std::net::Net;
 use std::time::Clock;
 use wf_cases::{Case, CaseFault, bytes_of};
-use wf_host::{
-    Deed, FileHost, FileSource, Host, MemHost, MemSource, ReadFault, Source, print_all, read_up_to,
-};
+use wf_file_host::{FileHost, FileSource};
+use wf_host::{Deed, Host, LONGEST, MemHost, MemSource, ReadFault, Source, print_all, read_up_to};
 use wf_host_cases::{gap, host_of, items_of, number_of, numbers_of, write_bytes, write_left};
 use wf_value::Value;
-
-/// No file is longer.
-const LONGEST: u64 = 9_223_372_036_854_775_807;
 
 /// A call of a host.
 enum Call {

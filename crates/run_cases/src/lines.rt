@@ -1,7 +1,8 @@
 // Command lines.
 //
 // The tables `lines` and `options` have words as their cases. A line's answer is its command and then each option that it has, as its name
-// and its word as a JSON text; or `BadLine` with the number of the word. The answer to `options` is what the look-ups find, of the journal,
+// and its word as a JSON text; a route as its host and name as JSON texts, and its port; the waits as their number, where that isn't the
+// one without the option. Or it is `BadLine` with the number of the word. The answer to `options` is what the look-ups find, of the journal,
 // the source and the address for callbacks: a JSON text, or `none`.
 use crate::command::words_of;
 use crate::ended::json_of;
@@ -9,6 +10,12 @@ use std::alloc::Global;
 use wf_args::{Line, LineFault, OptionName, journal_of, listen_of, read_line, source_of};
 use wf_cases::CaseFault;
 use wf_value::Value;
+
+/// The most routes of a line, and one more.
+const MOST_ROUTES: usize = 21;
+
+/// How often a command may wait without the option.
+const DEFAULT_WAITS: u32 = 1_000_000;
 
 /// What line the words are.
 pub fn line(alloc: Global, items: &[Value]) -> Result<String, CaseFault> {
@@ -26,7 +33,28 @@ fn told(alloc: Global, line: Line<'_>) -> Result<String, CaseFault> {
     push_option(alloc, &mut told, OptionName::Journal, line.journal())?;
     push_option(alloc, &mut told, OptionName::Args, line.args())?;
     push_option(alloc, &mut told, OptionName::Id, line.id())?;
+    push_routes(alloc, &mut told, line)?;
+    push_waits(&mut told, line.waits())?;
     Ok(told)
+}
+
+fn push_routes(alloc: Global, told: &mut String, line: Line<'_>) -> Result<(), CaseFault> {
+    for index in 0..MOST_ROUTES {
+        if let Some(route) = line.route(index) {
+            let host = json_of(alloc, route.host)?;
+            let name = json_of(alloc, route.name)?;
+            let port = route.port;
+            write!(told, " --route {} {} {port}", host.as_str(), name.as_str())?;
+        }
+    }
+    Ok(())
+}
+
+fn push_waits(told: &mut String, waits: u32) -> Result<(), CaseFault> {
+    if waits != DEFAULT_WAITS {
+        write!(told, " --waits {waits}")?;
+    }
+    Ok(())
 }
 
 fn push_option(

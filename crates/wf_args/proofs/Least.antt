@@ -7,7 +7,7 @@ use Rattle.std.proofs.lemmas.Bool.{ltb-true, ltb-false, lt-ltb}
 use Rattle.wf_args.specs.declared.command.Command.{Command}
 use Rattle.wf_args.specs.declared.command.Command.TheVariants.{Run}
 use Rattle.wf_args.specs.declared.option.OptionName.{OptionName}
-use Rattle.wf_args.specs.declared.option.OptionName.TheVariants.{Source, Journal, Args, Id}
+use Rattle.wf_args.specs.declared.option.OptionName.TheVariants.{Source, Journal, Args, Id, Route, Waits}
 use Rattle.wf_args.specs.Lines.{PlainLine, command_of, name_word, options_of, required, most, is_word, same_name, count, may_stand, is_complete, next_name, options_at, line_of}
 use Rattle.wf_args.specs.Laws.{Reads, reads, Begins, IsLeastBadWord}
 use Rattle.wf_args.proofs.Names.{name_of_word, same_name-refl, count_more}
@@ -25,6 +25,8 @@ BeginsAt c n options words = (more : List (List ℕ)) × Reads (options_at c n o
 
 -- a word that an option may have
 example : OptionName → List ℕ
+example Route = codes "a=b:1"
+example Waits = codes "1"
 example n = codes "a"
 
 example_fits : (n : OptionName) → is_word n (example n) ≡ true
@@ -33,6 +35,8 @@ example_fits Source = refl
 example_fits Journal = refl
 example_fits Args = refl
 example_fits Id = refl
+example_fits Route = refl
+example_fits Waits = refl
 
 -- a command takes the options that it requires
 takes_one : Command → OptionName → Bool

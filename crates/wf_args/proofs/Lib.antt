@@ -5,3 +5,5 @@ pub mod Steps
 pub mod Lookups
 pub mod Least
 pub mod Spelled
+pub mod Words
+pub mod Routes

@@ -29,17 +29,19 @@ line text = text ++ codes "\n"
 unfoldable pub help : List ℕ
 help =
     line (codes "workflow COMMAND [--OPTION WORD ..]")
-    ++ line (codes "check      tells whether a program is accepted: --source PATH")
-    ++ line (codes "format     prints the tree of a source: --source PATH")
-    ++ line (codes "run        runs a program: --source PATH, --journal PATH, --args JSON, --id ID")
-    ++ line (codes "resume     goes on with an execution: --journal PATH")
+    ++ line (codes "check      tells whether a program is accepted: --source")
+    ++ line (codes "format     prints the tree of a source: --source")
+    ++ line (codes "run        runs a program: --source, --journal, --args, --id, --route, --waits")
+    ++ line (codes "resume     goes on with an execution: --journal, --waits")
     ++ line (codes "--help     prints this text")
     ++ line (codes "--version  prints the program's name and version")
-    ++ line (codes "Options follow their command in any order, each once.")
-    ++ line (codes "Without --source the source is read from standard input.")
-    ++ line (codes "Without --journal the journal is kept in memory.")
-    ++ line (codes "The JSON of --args is the argument of main; without it that is null.")
-    ++ line (codes "An ID is 1 to 64 letters, digits, dots, underscores and hyphens.")
+    ++ line (codes "Options follow their command in any order, each once; --route up to 20 times.")
+    ++ line (codes "--source PATH: the file of the source; without it standard input is read.")
+    ++ line (codes "--journal PATH: the file of the journal; without it that is kept in memory.")
+    ++ line (codes "--args JSON: the argument of main; without it that is null.")
+    ++ line (codes "--id ID: 1 to 64 letters, digits, dots, underscores and hyphens.")
+    ++ line (codes "--route HOST=NAME:PORT: calls for HOST are sent to NAME and PORT.")
+    ++ line (codes "--waits N: the command waits at most N times, 1 to 1000000000; else 1000000.")
 
 unfoldable pub version : List ℕ
 version = codes "workflow 0.1.0\n"

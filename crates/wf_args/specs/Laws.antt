@@ -1,8 +1,8 @@
 -- Laws of command lines.
-use Rattle.std.specs.Prelude.{◌≡◌, ◌<◌, ◌≤◌, ◌⊎◌, ◌↔◌, ℕ, suc, List, [], ◌∷◌, ◌++◌, length, take, flat_map, IsTrue, Result, Ok, Err}
+use Rattle.std.specs.Prelude.{◌≡◌, ◌<◌, ◌≤◌, ◌+◌, ◌⊎◌, ◌↔◌, ℕ, suc, not, ◌==◌, List, [], ◌∷◌, ◌++◌, length, take, flat_map, IsTrue, Some, Result, Ok, Err, codes, decimal, ◌^◌}
 use Rattle.std.specs.List.{list_all, list_any}
 use Rattle.wf_args.specs.declared.option.OptionName.{OptionName}
-use Rattle.wf_args.specs.Lines.{PlainLine, line_of, command_word, name_word, options_of, most, is_word, same_name, count, is_complete, word_of, word_behind}
+use Rattle.wf_args.specs.Lines.{PlainLine, PlainRoute, line_of, command_word, name_word, options_of, most, is_word, same_name, count, is_complete, word_of, word_behind, longest_word, number_to, route_in}
 
 -- the words are a line
 pub data Reads : Result PlainLine ℕ → Type 0 where
@@ -24,6 +24,10 @@ OptionsAreFound =
     (words : List (List ℕ)) (l : PlainLine) (n : OptionName) → line_of words ≡ Ok l
     → word_behind (name_word n) words ≡ word_of n l
 
+-- none of the bytes is this one
+abbrev pub has_no : ℕ → List ℕ → Bool
+has_no c bytes = list_all (λ b. not (b == c)) bytes
+
 -- a line as words: its command, and of each option the name and the word
 abbrev pub spelling : PlainLine → List (List ℕ)
 spelling l = command_word l.command ∷ flat_map (λ o. name_word o.0 ∷ o.1 ∷ []) l.options
@@ -38,3 +42,25 @@ pub record IsLine (l : PlainLine) : Type 0 where
 -- words are read as a line exactly where they spell it and it is one
 abbrev pub LinesAreSpelled : Type 0
 LinesAreSpelled = (words : List (List ℕ)) (l : PlainLine) → (line_of words ≡ Ok l) ↔ ((words ≡ spelling l) × IsLine l)
+
+-- a route of a line: HOST and NAME aren't empty and have no `=`, NAME has no `:`, PORT is 1 to 65,535, and both fit into a word
+pub record IsRoute (r : PlainRoute) : Type 0 where
+  pub host : (0 < length r.host) × IsTrue (has_no 61 r.host)
+  pub name : (0 < length r.name) × IsTrue (has_no 61 r.name) × IsTrue (has_no 58 r.name)
+  pub port : (1 ≤ r.port) × (r.port ≤ 65535)
+  pub short : length r.host + length r.name < longest_word
+
+-- a word is read as a number exactly where it is this number in decimal
+abbrev pub NumbersAreSpelled : Type 0
+NumbersAreSpelled =
+    (greatest : ℕ) → greatest < 2 ^ 32 → (word : List ℕ) (n : ℕ)
+    → (number_to greatest word ≡ Some n) ↔ ((word ≡ decimal n) × (1 ≤ n) × (n ≤ greatest))
+
+-- and as a route exactly where it spells it, and it is one
+abbrev pub route_word : PlainRoute → List ℕ
+route_word r = r.host ++ codes "=" ++ r.name ++ codes ":" ++ decimal r.port
+
+abbrev pub RoutesAreSpelled : Type 0
+RoutesAreSpelled =
+    (word : List ℕ) (r : PlainRoute)
+    → (route_in word ≡ Some r) ↔ ((word ≡ route_word r) × IsRoute r × (length word ≤ longest_word))

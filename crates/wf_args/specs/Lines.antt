@@ -1,12 +1,14 @@
 -- Command lines: the line that some words are, and the number of the word at which they begin none.
-use Rattle.std.specs.Prelude.{ℕ, suc, Bool, true, ◌&&◌, ◌||◌, nat_lt, nat_le, ◌==◌, if◌then◌else◌, List, [], ◌∷◌, ◌++◌, length, map, find, count_by, Option, Some, None, Result, Ok, Err, codes, option_and_then, String, string_bytes, bytes_eq}
-use Rattle.std.specs.List.{list_all, list_any, cons_option}
-use Rattle.std.specs.Option.{option_map_or}
+use Rattle.std.specs.Prelude.{ℕ, suc, Bool, true, not, ◌&&◌, ◌||◌, nat_lt, nat_le, ◌==◌, if◌then◌else◌, List, [], ◌∷◌, ◌++◌, length, map, find, count_by, Option, Some, None, is_some, unwrap_or, Result, Ok, Err, codes, option_and_then, String, string_bytes, bytes_eq, slice_index}
+use Rattle.std.specs.List.{list_all, list_any, cons_option, filter_map, before_first, after_first}
+use Rattle.std.specs.Option.{option_map, option_map_or}
+use Rattle.std.specs.Str.{all_ascii_digits}
+use Rattle.std.specs.Str.Parse.{digits_value}
 use Rattle.std.specs.declared.alloc.Global.{Global}
 use Rattle.wf_args.specs.declared.command.Command.{Command}
 use Rattle.wf_args.specs.declared.command.Command.TheVariants.{Check, Format, Run, Resume, Help, Version}
 use Rattle.wf_args.specs.declared.option.OptionName.{OptionName}
-use Rattle.wf_args.specs.declared.option.OptionName.TheVariants.{Source, Journal, Args, Id}
+use Rattle.wf_args.specs.declared.option.OptionName.TheVariants.{Source, Journal, Args, Id, Route, Waits}
 
 -- words as their bytes
 abbrev pub words_view : List (String Global) → List (List ℕ)
@@ -33,20 +35,22 @@ command_word Version = codes "--version"
 
 -- the options, and the name of each
 abbrev pub names : List OptionName
-names = Source ∷ Journal ∷ Args ∷ Id ∷ []
+names = Source ∷ Journal ∷ Args ∷ Id ∷ Route ∷ Waits ∷ []
 
 abbrev pub name_word : OptionName → List ℕ
 name_word Source = codes "--source"
 name_word Journal = codes "--journal"
 name_word Args = codes "--args"
 name_word Id = codes "--id"
+name_word Route = codes "--route"
+name_word Waits = codes "--waits"
 
 -- the options that a command takes
 abbrev pub options_of : Command → List OptionName
 options_of Check = Source ∷ []
 options_of Format = Source ∷ []
-options_of Run = Source ∷ Journal ∷ Args ∷ Id ∷ []
-options_of Resume = Journal ∷ []
+options_of Run = Source ∷ Journal ∷ Args ∷ Id ∷ Route ∷ Waits ∷ []
+options_of Resume = Journal ∷ Waits ∷ []
 options_of Help = []
 options_of Version = []
 
@@ -56,19 +60,61 @@ required c = []
 
 -- how often an option may stand
 abbrev pub most : OptionName → ℕ
+most Route = 20
 most n = 1
 
 -- a letter, a digit, `.`, `_` or `-`
 abbrev pub is_id_byte : ℕ → Bool
 is_id_byte b = (nat_le 48 b && nat_le b 57) || (nat_le 65 b && nat_le b 90) || (nat_le 97 b && nat_le b 122) || b == 46 || b == 95 || b == 45
 
--- the most bytes of a path
-abbrev pub longest_path : ℕ
-longest_path = 65536
+-- the most bytes of a path, and of the word of a route
+abbrev pub longest_word : ℕ
+longest_word = 65536
 
 -- a path
 abbrev pub is_path : List ℕ → Bool
-is_path word = nat_lt 0 (length word) && nat_le (length word) longest_path
+is_path word = nat_lt 0 (length word) && nat_le (length word) longest_word
+
+-- the number that decimal digits write, of which the first isn't 0, where it is at most so large
+abbrev pub number_to : ℕ → List ℕ → Option ℕ
+number_to greatest word =
+    if all_ascii_digits word && nat_lt 48 (slice_index word 0) && nat_le (digits_value 10 word) greatest then Some (digits_value 10 word) else None
+
+-- the number that the word of `--waits` says: 1 to 1,000,000,000
+abbrev pub waits_in : List ℕ → Option ℕ
+waits_in word = number_to 1000000000 word
+
+-- a route: calls for this host are sent to this name and port
+pub record PlainRoute : Type 0 where
+  pub host : List ℕ
+  pub name : List ℕ
+  pub port : ℕ
+
+-- the parts of HOST=NAME:PORT: HOST goes up to the first `=`, NAME from there up to the next `:`, and the rest is PORT
+abbrev pub is_equals : ℕ → Bool
+is_equals b = b == 61
+
+abbrev pub is_colon : ℕ → Bool
+is_colon b = b == 58
+
+abbrev pub host_in : List ℕ → List ℕ
+host_in word = before_first is_equals word
+
+abbrev pub name_in : List ℕ → List ℕ
+name_in word = before_first is_colon (after_first is_equals word)
+
+abbrev pub port_in : List ℕ → List ℕ
+port_in word = after_first is_colon (after_first is_equals word)
+
+-- neither HOST nor NAME is empty, and NAME has no `=`
+abbrev pub has_names : List ℕ → Bool
+has_names word = nat_lt 0 (length (host_in word)) && nat_lt 0 (length (name_in word)) && list_all (λ b. not (is_equals b)) (name_in word)
+
+-- the route that the word of `--route` says: such a HOST and NAME, and 1 to 65,535 as PORT
+abbrev pub route_in : List ℕ → Option PlainRoute
+route_in word =
+    if nat_le (length word) longest_word && has_names word
+    then option_map (λ port. record { host = host_in word; name = name_in word; port = port }) (number_to 65535 (port_in word)) else None
 
 -- the words that may stand behind an option's name
 abbrev pub is_word : OptionName → List ℕ → Bool
@@ -76,6 +122,8 @@ is_word Source word = is_path word
 is_word Journal word = is_path word
 is_word Args word = true
 is_word Id word = nat_lt 0 (length word) && nat_le (length word) 64 && list_all is_id_byte word
+is_word Route word = is_some (route_in word)
+is_word Waits word = is_some (waits_in word)
 
 -- ## Reading
 
@@ -126,11 +174,29 @@ first_word n options = option_and_then (λ o. Some o.1) (find (λ o. same_name o
 abbrev pub word_of : OptionName → PlainLine → Option (List ℕ)
 word_of n l = first_word n l.options
 
+-- all words of the options of this name, in order
+abbrev pub all_words : OptionName → List (OptionName × List ℕ) → List (List ℕ)
+all_words n options = filter_map (λ o. if same_name o.0 n then Some o.1 else None) options
+
+-- the routes of a line, in order
+abbrev pub routes_of : PlainLine → List PlainRoute
+routes_of l = filter_map route_in (all_words Route l.options)
+
+-- how often a command may wait: as often as `--waits` says, or else 1,000,000 times
+abbrev pub waits_of : PlainLine → ℕ
+waits_of l = unwrap_or (option_and_then waits_in (word_of Waits l)) 1000000
+
 -- the options of words that stand in pairs, a name and its word
 abbrev pub options_in : List (List ℕ) → List (OptionName × List ℕ)
 options_in [] = []
 options_in (name ∷ []) = []
 options_in (name ∷ word ∷ words) = cons_option (option_and_then (λ n. Some (n, word)) (name_of name)) (options_in words)
+
+-- of words that stand in pairs, the second of each pair whose first word is this one
+abbrev pub words_after : List ℕ → List (List ℕ) → List (List ℕ)
+words_after name [] = []
+words_after name (option ∷ []) = []
+words_after name (option ∷ word ∷ words) = if bytes_eq option name then word ∷ words_after name words else words_after name words
 
 -- of words that stand in pairs, the second of the first pair whose first word is this one
 abbrev pub word_after : List ℕ → List (List ℕ) → Option (List ℕ)

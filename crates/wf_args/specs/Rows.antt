@@ -1,10 +1,10 @@
 -- Lines carried out by the check.
-use Rattle.std.specs.Prelude.{◌≡◌, ℕ, List, [], ◌∷◌, Ok, Err, codes}
+use Rattle.std.specs.Prelude.{◌≡◌, ℕ, List, [], ◌∷◌, Ok, Err, Some, None, codes}
 use Rattle.wf_args.specs.declared.command.Command.{Command}
 use Rattle.wf_args.specs.declared.command.Command.TheVariants.{Check, Run, Resume, Help}
 use Rattle.wf_args.specs.declared.option.OptionName.{OptionName}
-use Rattle.wf_args.specs.declared.option.OptionName.TheVariants.{Source, Journal, Args}
-use Rattle.wf_args.specs.Lines.{line_of}
+use Rattle.wf_args.specs.declared.option.OptionName.TheVariants.{Source, Journal, Args, Route, Waits}
+use Rattle.wf_args.specs.Lines.{line_of, route_in, waits_in}
 
 -- the words are this line
 abbrev pub IsLineOf : List (List ℕ) → Command → List (OptionName × List ℕ) → Type 0
@@ -35,3 +35,38 @@ pub record WorkedLines : Type 0 where
   pub no_command : IsBadAt (codes "go" ∷ []) 0
   pub help_with_more : IsBadAt (codes "--help" ∷ codes "run" ∷ []) 1
   pub help_is_no_option : IsBadAt (codes "run" ∷ codes "--help" ∷ []) 1
+  pub waits : IsLineOf (codes "resume" ∷ codes "--waits" ∷ codes "3" ∷ []) Resume ((Waits, codes "3") ∷ [])
+  pub most_waits : IsLineOf (codes "run" ∷ codes "--waits" ∷ codes "1000000000" ∷ []) Run ((Waits, codes "1000000000") ∷ [])
+  pub no_waits : IsBadAt (codes "run" ∷ codes "--waits" ∷ codes "0" ∷ []) 2
+  pub too_many_waits : IsBadAt (codes "run" ∷ codes "--waits" ∷ codes "1000000001" ∷ []) 2
+  pub waits_with_a_zero_in_front : IsBadAt (codes "run" ∷ codes "--waits" ∷ codes "03" ∷ []) 2
+  pub waits_alone : IsBadAt (codes "run" ∷ codes "--waits" ∷ []) 2
+  pub waits_twice : IsBadAt (codes "run" ∷ codes "--waits" ∷ codes "3" ∷ codes "--waits" ∷ codes "3" ∷ []) 3
+  pub two_routes : IsLineOf (codes "run" ∷ codes "--route" ∷ codes "a=b:1" ∷ codes "--route" ∷ codes "a=b:1" ∷ []) Run ((Route, codes "a=b:1") ∷ (Route, codes "a=b:1") ∷ [])
+  pub route_without_a_port : IsBadAt (codes "run" ∷ codes "--route" ∷ codes "a=b" ∷ []) 2
+  pub route_of_resume : IsBadAt (codes "resume" ∷ codes "--route" ∷ codes "a=b:1" ∷ []) 1
+
+-- the word is this route
+abbrev pub IsRouteOf : List ℕ → List ℕ → List ℕ → ℕ → Type 0
+IsRouteOf word host name port = route_in word ≡ Some (record { host = host; name = name; port = port })
+
+abbrev pub IsNoRoute : List ℕ → Type 0
+IsNoRoute word = route_in word ≡ None
+
+pub record WorkedWords : Type 0 where
+  pub to_numbers : IsRouteOf (codes "api.test=127.0.0.1:9000") (codes "api.test") (codes "127.0.0.1") 9000
+  pub host_with_a_port : IsRouteOf (codes "a:80=b:65535") (codes "a:80") (codes "b") 65535
+  pub no_host : IsNoRoute (codes "=b:1")
+  pub no_name : IsNoRoute (codes "a=:1")
+  pub no_port : IsNoRoute (codes "a=b:")
+  pub no_equals : IsNoRoute (codes "a:1")
+  pub second_equals : IsNoRoute (codes "a=b=c:1")
+  pub in_brackets : IsNoRoute (codes "a=[::1]:80")
+  pub port_0 : IsNoRoute (codes "a=b:0")
+  pub port_65536 : IsNoRoute (codes "a=b:65536")
+  pub zero_in_front : IsNoRoute (codes "a=b:080")
+  pub plus_in_front : IsNoRoute (codes "a=b:+80")
+  pub one_wait : waits_in (codes "1") ≡ Some 1
+  pub most_waits : waits_in (codes "1000000000") ≡ Some 1000000000
+  pub signed_waits : waits_in (codes "+1") ≡ None
+  pub waits_without_digits : waits_in [] ≡ None

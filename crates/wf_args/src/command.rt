@@ -46,9 +46,14 @@ impl Command {
             Command::Check | Command::Format => matches!(name, OptionName::Source),
             Command::Run => matches!(
                 name,
-                OptionName::Source | OptionName::Journal | OptionName::Args | OptionName::Id
+                OptionName::Source
+                    | OptionName::Journal
+                    | OptionName::Args
+                    | OptionName::Id
+                    | OptionName::Route
+                    | OptionName::Waits
             ),
-            Command::Resume => matches!(name, OptionName::Journal),
+            Command::Resume => matches!(name, OptionName::Journal | OptionName::Waits),
             Command::Help | Command::Version => false,
         }
     }

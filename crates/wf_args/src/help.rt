@@ -9,17 +9,19 @@ pub fn help_text() -> &'static str
     ensures lists { IsHelp result.now }
 {
     "workflow COMMAND [--OPTION WORD ..]\n\
-     check      tells whether a program is accepted: --source PATH\n\
-     format     prints the tree of a source: --source PATH\n\
-     run        runs a program: --source PATH, --journal PATH, --args JSON, --id ID\n\
-     resume     goes on with an execution: --journal PATH\n\
+     check      tells whether a program is accepted: --source\n\
+     format     prints the tree of a source: --source\n\
+     run        runs a program: --source, --journal, --args, --id, --route, --waits\n\
+     resume     goes on with an execution: --journal, --waits\n\
      --help     prints this text\n\
      --version  prints the program's name and version\n\
-     Options follow their command in any order, each once.\n\
-     Without --source the source is read from standard input.\n\
-     Without --journal the journal is kept in memory.\n\
-     The JSON of --args is the argument of main; without it that is null.\n\
-     An ID is 1 to 64 letters, digits, dots, underscores and hyphens.\n"
+     Options follow their command in any order, each once; --route up to 20 times.\n\
+     --source PATH: the file of the source; without it standard input is read.\n\
+     --journal PATH: the file of the journal; without it that is kept in memory.\n\
+     --args JSON: the argument of main; without it that is null.\n\
+     --id ID: 1 to 64 letters, digits, dots, underscores and hyphens.\n\
+     --route HOST=NAME:PORT: calls for HOST are sent to NAME and PORT.\n\
+     --waits N: the command waits at most N times, 1 to 1000000000; else 1000000.\n"
 }
 
 /// The program's name and version, and a line end.

@@ -1,5 +1,5 @@
 // Laws of command lines.
-ghost use Rattle.wf_args.specs.Laws.{IsLeastBadWord, LinesAreSpelled, OptionsAreFound};
+ghost use Rattle.wf_args.specs.Laws.{IsLeastBadWord, LinesAreSpelled, NumbersAreSpelled, OptionsAreFound, RoutesAreSpelled};
 
 /// Carries a law: the number of a bad line is the least index such that the words up to it begin
 /// no line, or the count of the words where these begin a line and are none.
@@ -19,4 +19,11 @@ pub fn options_are_found()
 /// and none that is required missing.
 pub fn lines_are_spelled()
     ensures { LinesAreSpelled }
+{}
+
+/// Carries laws of single words: one is read as a number exactly where it is this number in decimal,
+/// and as a route exactly where it is its HOST, `=`, its NAME, `:` and its PORT in decimal.
+pub fn words_are_spelled()
+    ensures numbers { NumbersAreSpelled }
+    ensures routes { RoutesAreSpelled }
 {}

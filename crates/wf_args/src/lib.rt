@@ -9,13 +9,16 @@ mod line_words;
 mod lookup;
 mod option;
 mod read;
+mod route;
 mod rows;
+mod waits;
 
 pub use command::Command;
 pub use help::{help_text, version_text};
-pub use laws::{bad_words_are_least, lines_are_spelled, options_are_found};
+pub use laws::{bad_words_are_least, lines_are_spelled, options_are_found, words_are_spelled};
 pub use line::Line;
 pub use lookup::{journal_of, listen_of, source_of};
 pub use option::OptionName;
 pub use read::{LineFault, read_line};
-pub use rows::worked_lines;
+pub use route::RouteParts;
+pub use rows::{worked_lines, worked_words};

@@ -1,15 +1,20 @@
 // What a command line says.
-ghost use Rattle.std.specs.Prelude.{◌≡◌, IfSome, IsTrue};
-ghost use Rattle.std.specs.Option.{option_copied};
-ghost use Rattle.wf_args.specs.Lines.{word_of, is_word};
-ghost use Rattle.wf_args.specs.Laws.{IsLine};
-ghost use Rattle.wf_args.specs.Plain.{plain_line};
+ghost use Rattle.std.specs.Prelude.{◌≡◌, ◌≤◌, IfSome, IsTrue, length, slice_get};
+ghost use Rattle.std.specs.Option.{option_copied, option_map};
+ghost use Rattle.wf_args.specs.Lines.{word_of, is_word, routes_of, waits_of};
+ghost use Rattle.wf_args.specs.Laws.{IsLine, IsRoute};
+ghost use Rattle.wf_args.specs.Plain.{plain_line, plain_route};
 ghost use Rattle.wf_args.specs.declared.option.OptionName.TheVariants.{Source, Journal, Args, Id};
 
 use crate::command::Command;
 use crate::line::Line;
-use crate::lookup::find_in;
+use crate::lookup::{find_in, find_nth};
 use crate::option::OptionName;
+use crate::route::{RouteParts, route_in};
+use crate::waits::waits_in;
+
+/// How often a command may wait where the line doesn't say it.
+const DEFAULT_WAITS: u32 = 1_000_000;
 
 impl<'w> Line<'w> {
     /// The command. A clause here says that the line is one: what its options are.
@@ -50,5 +55,29 @@ impl<'w> Line<'w> {
         ensures proper { IfSome result (λ w. IsTrue (is_word Id w.now)) }
     {
         find_in(OptionName::Id, self.options)
+    }
+
+    /// The route with this index among those of the options `--route`, in their order.
+    pub fn route(&self, index: usize) -> Option<RouteParts<'w>>
+        ensures route { option_map plain_route result
+            ≡ slice_get (routes_of (plain_line self.now)) index }
+        ensures proper { IfSome result (λ r. IsRoute (plain_route r)) }
+        ensures few { length (routes_of (plain_line self.now)) ≤ 20 }
+    {
+        match find_nth(OptionName::Route, index, self.options) {
+            Some(word) => route_in(word),
+            None => None,
+        }
+    }
+
+    /// How often the command may wait: as often as the option `--waits` says, or else 1,000,000 times.
+    pub fn waits(&self) -> u32
+        ensures waits { result ≡ waits_of (plain_line self.now) }
+        ensures within { (1 ≤ result) × (result ≤ 1000000000) }
+    {
+        match find_in(OptionName::Waits, self.options) {
+            Some(word) => waits_in(word).unwrap_or(DEFAULT_WAITS),
+            None => DEFAULT_WAITS,
+        }
     }
 }

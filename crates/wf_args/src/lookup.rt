@@ -1,7 +1,7 @@
 // The words of single options, which are found also where the words are no command line.
-ghost use Rattle.std.specs.Prelude.{◌≡◌, Ok, codes};
+ghost use Rattle.std.specs.Prelude.{◌≡◌, Ok, codes, slice_get};
 ghost use Rattle.std.specs.Option.{option_copied};
-ghost use Rattle.wf_args.specs.Lines.{PlainLine, words_view, line_of, word_of, word_behind, word_after, name_word};
+ghost use Rattle.wf_args.specs.Lines.{PlainLine, words_view, line_of, word_of, word_behind, word_after, words_after, name_word};
 ghost use Rattle.wf_args.specs.declared.option.OptionName.TheVariants.{Source, Journal};
 
 use crate::option::OptionName;
@@ -56,6 +56,25 @@ fn find_after<'a>(name: &str, options: &'a [String]) -> Option<&'a str>
     while let [option, word, more @ ..] = rest {
         if option.as_str() == name {
             return Some(word.as_str());
+        }
+        rest = more;
+    }
+    None
+}
+
+/// The word with this index among those of the options of this name.
+pub(crate) fn find_nth<'a>(name: OptionName, index: usize, options: &'a [String]) -> Option<&'a str>
+    ensures { option_copied result
+        ≡ slice_get (words_after (name_word name) (words_view options.now)) index }
+{
+    let mut before = index;
+    let mut rest = options;
+    while let [option, word, more @ ..] = rest {
+        if option.as_str() == name.word() {
+            if before == 0 {
+                return Some(word.as_str());
+            }
+            before -= 1;
         }
         rest = more;
     }

@@ -3,8 +3,8 @@ ghost use Rattle.std.specs.Prelude.{◌≡◌};
 ghost use Rattle.std.specs.List.{list_all};
 ghost use Rattle.wf_args.specs.Lines.{name_of, name_word, most, is_word, is_id_byte};
 
-/// The most bytes of a path.
-const LONGEST_PATH: usize = 65_536;
+use crate::route::{LONGEST_WORD, route_in};
+use crate::waits::waits_in;
 
 /// An option of a command line.
 #[derive(Debug, Clone, Copy, PartialEq, Eq)]
@@ -17,6 +17,10 @@ pub enum OptionName {
     Args,
     /// `--id ID`: the execution's id.
     Id,
+    /// `--route HOST=NAME:PORT`: where calls for a host are sent.
+    Route,
+    /// `--waits N`: how often the command may wait.
+    Waits,
 }
 
 impl OptionName {
@@ -29,6 +33,8 @@ impl OptionName {
             "--journal" => Some(OptionName::Journal),
             "--args" => Some(OptionName::Args),
             "--id" => Some(OptionName::Id),
+            "--route" => Some(OptionName::Route),
+            "--waits" => Some(OptionName::Waits),
             _ => None,
         }
     }
@@ -42,6 +48,8 @@ impl OptionName {
             OptionName::Journal => "--journal",
             OptionName::Args => "--args",
             OptionName::Id => "--id",
+            OptionName::Route => "--route",
+            OptionName::Waits => "--waits",
         }
     }
 
@@ -49,20 +57,30 @@ impl OptionName {
     pub(crate) fn most(self) -> usize
         ensures { result ≡ most self }
     {
-        1
+        match self {
+            OptionName::Route => 20,
+            OptionName::Source
+            | OptionName::Journal
+            | OptionName::Args
+            | OptionName::Id
+            | OptionName::Waits => 1,
+        }
     }
 
     /// Whether a word may stand behind the name: for a path one of 1 to 65,536 bytes, for an argument
-    /// any, also the empty one, and for an id 1 to 64 letters, digits, `.`, `_` and `-`.
+    /// any, also the empty one, for an id 1 to 64 letters, digits, `.`, `_` and `-`, for a route
+    /// `HOST=NAME:PORT`, and for waits a number of 1 to 1,000,000,000.
     pub(crate) fn fits(self, word: &str) -> bool
         ensures { result ≡ is_word self word.now }
     {
         match self {
             OptionName::Source | OptionName::Journal => {
-                !word.is_empty() && word.len() <= LONGEST_PATH
+                !word.is_empty() && word.len() <= LONGEST_WORD
             }
             OptionName::Args => true,
             OptionName::Id => !word.is_empty() && word.len() <= 64 && all_of_ids(word.as_bytes()),
+            OptionName::Route => route_in(word).is_some(),
+            OptionName::Waits => waits_in(word).is_some(),
         }
     }
 }

@@ -1,6 +1,6 @@
 // The forms that aren't built yet: one line a form, so that it goes when its form comes.
 ghost use Rattle.std.specs.Prelude.{◌≡◌, map, option_map};
-ghost use Rattle.wf_ast.specs.Func.{func_named};
+ghost use Rattle.wf_ast.specs.Func.{func_named, special_named};
 ghost use Rattle.wf_ast.specs.View.{body_view, flow_view};
 ghost use Rattle.wf_diagnostics.specs.Answers.{Tells};
 ghost use Rattle.wf_check_expressions.specs.Forms as forms;
@@ -14,14 +14,26 @@ use wf_check_calls::flow_named;
 use wf_diagnostics::{CheckKind, Part, Stop, speak_at};
 use wf_library::function_named;
 
-// The key of a call that names no workflow and no function that expressions may call.
+// The key of a call that names no workflow: none where its function is built.
 fn uncalled(name: &str) -> Option<&'static str>
-    ensures { option_map (λ k. k.now) result ≡ forms.uncalled (func_named name.now) }
+    ensures { option_map (λ k. k.now) result
+        ≡ forms.uncalled (func_named name.now) (special_named name.now) }
 {
     match function_named(name) {
         Some(_) => None,
+        None if is_built(name) => None,
         None => Some("call"),
     }
+}
+
+// Whether a function of this name that only steps may call is built: a call of HTTP.
+fn is_built(name: &str) -> bool
+    ensures { result ≡ forms.is_built (special_named name.now) }
+{
+    matches!(
+        name,
+        "http.get" | "http.post" | "http.put" | "http.patch" | "http.delete" | "http.request"
+    )
 }
 
 // The key of a body whose form isn't built.

@@ -11,6 +11,7 @@ mod Outsides
 mod Promises
 mod Rows
 mod Safe
+mod Routes
 mod Spelled
 mod Together
 mod Works

@@ -5,7 +5,7 @@ use Rattle.std.proofs.lemmas.List.{length-append}
 use Rattle.std.proofs.lemmas.Str.{IsUtf8-from_ascii}
 use Rattle.wf_events.specs.Records.{Started}
 use Rattle.wf_events.specs.Spelling.{record_bytes, HasSpelling, IsArgument, IsRoute, IsPair, route}
-use Rattle.wf_record_parts.specs.Spelling.{IsText, string, eight, four, listed, pair}
+use Rattle.wf_record_parts.specs.Spelling.{Each, IsText, string, eight, four, listed, pair}
 use Rattle.wf_shared.specs.Events.{Start}
 
 -- an argument that may stand in a record, and is short
@@ -23,18 +23,17 @@ seven : (a b c d e f g : List ℕ) → length (a ++ b ++ c ++ d ++ e ++ f ++ g) 
 seven a b c d e f g =
     omega (arith, length-append a b, length-append (a ++ b) c, length-append (a ++ b ++ c) d, length-append (a ++ b ++ c ++ d) e, length-append (a ++ b ++ c ++ d ++ e) f, length-append (a ++ b ++ c ++ d ++ e ++ f) g)
 
--- the spelling of a start without routes and environment
-start_is : (s : Start) → s.routes ≡ [] → s.env ≡ [] → s.base ≡ [] → length (record_bytes (Started s)) ≡ 33 + length s.id + length s.source + length s.argument
+-- the spelling of a start without environment
+start_is : (s : Start) → s.env ≡ [] → s.base ≡ [] → length (record_bytes (Started s)) ≡ 29 + length s.id + length s.source + length s.argument + length (listed route s.routes)
 unfolding record_bytes
-start_is s routes env base =
-    ap (λ r. length (1 ∷ string s.id ++ string s.source ++ string s.argument ++ listed route r ++ listed pair s.env ++ string s.base ++ eight s.reading)) routes
-    ∙ ap (λ e. length (1 ∷ string s.id ++ string s.source ++ string s.argument ++ four 0 ++ listed pair e ++ string s.base ++ eight s.reading)) env
-    ∙ ap (λ b. length (1 ∷ string s.id ++ string s.source ++ string s.argument ++ four 0 ++ four 0 ++ string b ++ eight s.reading)) base
-    ∙ added s.id s.source s.argument s.reading
+start_is s env base =
+    ap (λ e. length (1 ∷ string s.id ++ string s.source ++ string s.argument ++ listed route s.routes ++ listed pair e ++ string s.base ++ eight s.reading)) env
+    ∙ ap (λ b. length (1 ∷ string s.id ++ string s.source ++ string s.argument ++ listed route s.routes ++ four 0 ++ string b ++ eight s.reading)) base
+    ∙ added s.id s.source s.argument (listed route s.routes) s.reading
   where
-    added : (a b c : List ℕ) (n : ℕ) → length (1 ∷ string a ++ string b ++ string c ++ four 0 ++ four 0 ++ four 0 ++ eight n) ≡ 33 + length a + length b + length c
-    added a b c n =
-        let whole = seven (string a) (string b) (string c) (four 0) (four 0) (four 0) (eight n) in omega (arith, whole, string_is a, string_is b, string_is c, eight_is n)
+    added : (a b c r : List ℕ) (n : ℕ) → length (1 ∷ string a ++ string b ++ string c ++ r ++ four 0 ++ four 0 ++ eight n) ≡ 29 + length a + length b + length c + length r
+    added a b c r n =
+        let whole = seven (string a) (string b) (string c) r (four 0) (four 0) (eight n) in omega (arith, whole, string_is a, string_is b, string_is c, eight_is n)
 
 -- what is known of a start of a line
 pub record IsPlainStart (s : Start) : Type 0 where
@@ -43,14 +42,15 @@ pub record IsPlainStart (s : Start) : Type 0 where
   pub short : length s.id ≤ 64
   pub source : length s.source ≤ 131072
   pub argument : IsShortArgument s.argument
-  pub routes : s.routes ≡ []
+  pub routes : Each IsRoute s.routes
+  pub few : length (listed route s.routes) ≤ 1310924
   pub env : s.env ≡ []
   pub base : s.base ≡ []
   pub reading : s.reading < 2 ^ 64
 
 pub plain_fits : (s : Start) → IsPlainStart s → length (record_bytes (Started s)) ≤ 16777215
 plain_fits s p =
-    let whole = start_is s p.routes p.env p.base in omega (arith, whole, p.argument.1, p.short, p.source)
+    let whole = start_is s p.env p.base in omega (arith, whole, p.argument.1, p.short, p.source, p.few)
 
 pub plain_spelled : (s : Start) → IsPlainStart s → HasSpelling (Started s)
 plain_spelled s p = (
@@ -58,7 +58,7 @@ plain_spelled s p = (
     id = (let short = p.short in omega (arith, short), p.id);
     source = let short = p.source in omega (arith, short);
     argument = let short = p.argument.1 in (omega (arith, short), p.argument.0);
-    routes = subst (λ r. (length r < 2 ^ 32) × AllByRecursion IsRoute r) (sym p.routes) (omega arith, tt);
+    routes = p.routes;
     env = subst (λ r. (length r < 2 ^ 32) × AllByRecursion IsPair r) (sym p.env) (omega arith, tt);
     base = subst IsText (sym p.base) (omega arith, IsUtf8-from_ascii [] (λ i. omega arith));
     reading = p.reading;

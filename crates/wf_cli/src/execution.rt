@@ -1,5 +1,5 @@
 // Executions, from their start or from what stands in a journal, to their outcome.
-ghost use Rattle.std.specs.Prelude.{◌≡◌, ◌≤◌, ◌<◌, ◌∷◌, false, ℕ, List, Ok, IfOk, IsErrOf, IsUtf8, codes, decimal, length, unwrap_or};
+ghost use Rattle.std.specs.Prelude.{◌≡◌, ◌≤◌, ◌<◌, ◌∷◌, false, ℕ, List, Ok, IfOk, IsErrOf, IsUtf8, codes, decimal, length, map, unwrap_or};
 ghost use Rattle.wf_check.specs.Seen.{program_of};
 ghost use Rattle.wf_cli.specs.Said.{Going, IsEnd, Opening, SaysResult, Worked};
 ghost use Rattle.wf_cli.specs.Top.{IsLineOf};
@@ -7,12 +7,12 @@ ghost use Rattle.wf_deeds.specs.Kept as kept;
 ghost use Rattle.wf_deeds.specs.Memory.{StandsFor};
 ghost use Rattle.wf_engine.specs.Engine.{memory, is_closed, Holds};
 ghost use Rattle.wf_engine.specs.Safe.{scene};
-ghost use Rattle.wf_engine.specs.Starts.{HasArgument, argument_text, start_of};
+ghost use Rattle.wf_engine.specs.Starts.{HasArgument, argument_text, kept_routes, start_of};
 ghost use Rattle.wf_engine.specs.TheLanguage.{the_language};
 ghost use Rattle.wf_engine.specs.TheOutside.{InTheOutside};
 ghost use Rattle.wf_events.specs.Records.{Started};
-ghost use Rattle.wf_events.specs.Spelling.{record_bytes, HasSpelling};
-ghost use Rattle.wf_events.specs.View.{start_view};
+ghost use Rattle.wf_events.specs.Spelling.{record_bytes, route, HasSpelling, IsRoute};
+ghost use Rattle.wf_events.specs.View.{route_view, start_view};
 ghost use Rattle.wf_host.specs.Source.{Rest, IsFirst};
 ghost use Rattle.wf_host.specs.Calls.{DiskFailed, NoCountFalls, TellsAsBefore};
 ghost use Rattle.wf_host.specs.World.{Told};
@@ -22,6 +22,7 @@ ghost use Rattle.wf_args.specs.Lines.{line_of, word_of};
 ghost use Rattle.wf_args.specs.Plain.{plain_line};
 ghost use Rattle.wf_args.specs.declared.command.Command.TheVariants.{Run, Resume};
 ghost use Rattle.wf_args.specs.declared.option.OptionName.TheVariants.{Id};
+ghost use Rattle.wf_record_parts.specs.Spelling.{Each, listed};
 ghost use Rattle.wf_source.specs.Programs.{IsSourceOf};
 
 use crate::argument::read_argument;
@@ -34,7 +35,7 @@ use wf_check::Checked;
 use wf_deeds::{laws_of_rules, laws_of_steps};
 use wf_engine::{Engine, EngineFault, laws_of_starts};
 use wf_events::{Start, one_spelling};
-use wf_host::{Host, Routes, Source, read_up_to};
+use wf_host::{Address, Host, Routes, Source, read_up_to};
 use wf_journal_laws::{laws_of_histories, laws_of_moments};
 use wf_machine::Steps;
 use wf_source::{SOURCE_LIMIT, each_source_is_one, laws_of_sources, read_source};
@@ -65,6 +66,25 @@ fn id_for(alloc: Global, line: &Line<'_>, reading: u64) -> Result<Text, OutOfMem
     }
 }
 
+/// The routes of the line, in order.
+fn routes_for(alloc: Global, line: &Line<'_>) -> Result<Routes, OutOfMemory>
+    ensures same { IfOk result (λ r. map route_view r ≡ kept_routes (plain_line line.now)) }
+    ensures spelled { IfOk result (λ r. Each IsRoute (map route_view r)) }
+    ensures short { IfOk result (λ r. length (listed route (map route_view r)) ≤ 1310924) }
+{
+    let mut routes = Routes::new(alloc);
+    let mut index = 0;
+    while let Some(parts) = line.route(index) {
+        let to = Address {
+            name: utf8_text(alloc, parts.name)?,
+            port: parts.port,
+        };
+        routes.push(utf8_text(alloc, parts.host)?, to)?;
+        index += 1;
+    }
+    Ok(routes)
+}
+
 /// What an execution of the source is started with, given the text of the line's argument.
 fn start_for(
     alloc: Global,
@@ -86,7 +106,7 @@ fn start_for(
         id: id_for(alloc, line, reading)?,
         source: Bytes::new(alloc, source)?,
         argument,
-        routes: Routes::new(alloc),
+        routes: routes_for(alloc, line)?,
         env: Pairs::new(alloc),
         base: Text::new(alloc, "")?,
         reading,

@@ -40,12 +40,12 @@ at_other of none (x ∷ ls) (suc i) zero l other = refl
 at_other of none (x ∷ ls) (suc i) (suc k) l other = at_other of none ls i k l (λ same. other (ap suc same))
 
 -- one that has the same
-pub at_kept : {A : Type 0} (of : Line → A) (none : A) (ls : List Line) (i k : ℕ) (o l : Line) → slice_get ls i ≡ Some o → of l ≡ of o → at of none (slice_set ls i l) k ≡ at of none ls k
-at_kept of none [] i k o l is same = refl
-at_kept of none (x ∷ ls) zero zero o l is same = same ∙ ap of (let one : o ≡ x = cc is in one)
-at_kept of none (x ∷ ls) zero (suc k) o l is same = refl
-at_kept of none (x ∷ ls) (suc i) zero o l is same = refl
-at_kept of none (x ∷ ls) (suc i) (suc k) o l is same = at_kept of none ls i k o l is same
+pub at_equal : {A : Type 0} (of : Line → A) (none : A) (ls : List Line) (i k : ℕ) (l : Line) → of l ≡ at of none ls i → at of none (slice_set ls i l) k ≡ at of none ls k
+at_equal of none [] i k l same = refl
+at_equal of none (x ∷ ls) zero zero l same = same
+at_equal of none (x ∷ ls) zero (suc k) l same = refl
+at_equal of none (x ∷ ls) (suc i) zero l same = refl
+at_equal of none (x ∷ ls) (suc i) (suc k) l same = at_equal of none ls i k l same
 
 pub at_yes : (of : Line → Bool) (ls : List Line) (i k : ℕ) (l : Line) → i < length ls → of l ≡ true → at of false (slice_set ls i l) k ≡ nat_eq i k || at of false ls k
 at_yes of ls i k l within is = elim (eqb_tells i k) [

@@ -1,6 +1,6 @@
 // The lines to calls, by the calls' numbers.
 ghost use Rattle.std.specs.Prelude.{◌≡◌, ◌<◌, ℕ, length, OnOk};
-ghost use Rattle.wf_connections.specs.Lines.{AreRead, AreSame, HearsAt};
+ghost use Rattle.wf_connections.specs.Lines.{AreRead, AreSame};
 ghost use Rattle.wf_deeds.specs.Deeds.{call_of};
 
 use crate::line::Line;
@@ -14,9 +14,9 @@ pub(crate) fn reach(lines: &mut Vec<Line>, i: usize) -> Result<(), OutOfMemory>
     ensures read { AreRead lines.old.items → AreRead lines.new.items }
 {
     while lines.len() <= i {
-        if lines.push(Line::unused()).is_err() {
+        let Ok(()) = lines.push(Line::unused()) else {
             return Err(OutOfMemory);
-        }
+        };
     }
     Ok(())
 }

@@ -3,4 +3,4 @@ pub mod Printed
 pub mod Printings
 pub mod Foreseen
 pub mod Speakers
-pub mod Alone
+pub mod Owned

@@ -4,8 +4,8 @@ pub mod Moments
 pub mod Printing
 pub mod Source
 pub mod MemSource
-pub mod FileSource
 pub mod Ahead
+pub mod Hearing
 pub mod Stage
 pub mod Memory
 pub mod Recorded
@@ -13,6 +13,3 @@ pub mod CallRecord
 pub mod Outlook
 pub mod MemHost
 pub mod MemLaws
-pub mod Untold
-pub mod FileHost
-pub mod Sockets

@@ -80,6 +80,13 @@ piece_len (Broken k) = 0
 piece_len (Visit n bytes) = length bytes
 piece_len (VisitEnd n) = 0
 
+-- the call of which this is heard
+abbrev pub call_of : What → Option ℕ
+call_of (Bytes k bytes) = Some k
+call_of (End k) = Some k
+call_of (Broken k) = Some k
+call_of w = None
+
 -- the visit of which this is heard
 abbrev pub visit_of : What → Option ℕ
 visit_of (Visit n bytes) = Some n

@@ -8,7 +8,7 @@ use crate::{Address, Failed, Heard, PollError};
 use wf_value::OutOfMemory;
 
 /// No file is longer, in bytes.
-pub(crate) const LONGEST: u64 = 9_223_372_036_854_775_807;
+pub const LONGEST: u64 = 9_223_372_036_854_775_807;
 
 /// A journal file, a clock and an output in one object, so that one order of moments covers them.
 /// Whether a host tells what it stands for never changes. All but the counts of faults holds where it tells.

@@ -10,7 +10,7 @@ use std::alloc::{AllocError, Global};
 use wf_value::Bytes;
 
 /// Fills the room with what stands at an offset, as far as it reaches, and says how much that is.
-pub(crate) fn copy_from(file: &[u8], at: u64, into: &mut [u8]) -> usize
+pub fn copy_from(file: &[u8], at: u64, into: &mut [u8]) -> usize
     ensures count { result ≡ min (length into.old) (length file.now - at) }
     ensures bytes { into.new ≡ take result (drop at file.now) ++ drop result into.old }
 {
@@ -25,7 +25,7 @@ pub(crate) fn copy_from(file: &[u8], at: u64, into: &mut [u8]) -> usize
 
 /// Writes the bytes over what stands at an offset, or at the end where that is earlier, and makes the file longer
 /// where they reach past its end. Without memory for that the file stays as it is.
-pub(crate) fn put_in(file: &mut Vec<u8>, at: usize, bytes: &[u8]) -> Result<(), AllocError>
+pub fn put_in(file: &mut Vec<u8>, at: usize, bytes: &[u8]) -> Result<(), AllocError>
     ensures written { OnOk result (file.new.items ≡ written file.old.items at bytes.now) }
     ensures stays { OnErr result (file.new.items ≡ file.old.items) }
 {

@@ -1,9 +1,9 @@
 // What the services of a plan have still to tell.
-ghost use Rattle.std.specs.Prelude.{◌≡◌, ◌++◌, ◌∷◌, [], ◌-◌, ◌+◌, length, take, drop, if◌then◌else◌, option_copied, option_to_list, IfOk, OnOk, OnErr, MatchResult, Some, false, true};
+ghost use Rattle.std.specs.Prelude.{◌≡◌, ◌++◌, ◌∷◌, [], take, drop, option_copied, option_to_list, IfOk, OnOk, OnErr, MatchResult, Some};
 ghost use Rattle.std.specs.List.{position};
 ghost use Rattle.wf_host.specs.World.{piece_len, Same, Elapses};
 ghost use Rattle.wf_host.specs.CallRecord.{record_world, record_stable};
-ghost use Rattle.wf_host.specs.Ahead.{Line, Ahead, speaks, spoken, first_of, told, next_thing, after_poll, after_drop, at_first, piece_limit, starts_to, answer_at, answer_to, ending, pieces, line_of};
+ghost use Rattle.wf_host.specs.Ahead.{speaks, spoken, first_of, told, next_thing, after_poll, after_drop, at_first, piece_limit, starts_to, answer_at, answer_to, pieces, line_of};
 
 use crate::memory::CallRecord;
 use crate::{Address, Close, Deed, Reply, Service, What};

@@ -287,10 +287,10 @@ pub none_yet : AnswerOf [] Open None
 none_yet = (
   refl,
   inr (
-      [],
-      [],
-      record { heads = All-nil IsResponseHead; codes = All-nil _; small = All-nil IsSmallResponse; bytes = refl },
-      record { none = nothing_is_no_head; possible = may_begin; short = omega arith },
+    [],
+    [],
+    record { heads = All-nil IsResponseHead; codes = All-nil _; small = All-nil IsSmallResponse; bytes = refl },
+    record { none = nothing_is_no_head; possible = may_begin; short = omega arith },
   ),
 )
 

@@ -16,9 +16,9 @@ use Rattle.wf_http_in.proofs.Codes.{three_digits}
 skip_less : (bytes : List ℕ) → length (skip_ows bytes) ≤ length bytes
 skip_less [] = omega arith
 skip_less (b ∷ bytes) = elim (is_ows b) as (λ t. length (if t then skip_ows bytes else b ∷ bytes) ≤ length (b ∷ bytes)) [
-    | true ↦ let less = skip_less bytes in omega arith
-    | false ↦ omega arith
-  ]
+  | true ↦ let less = skip_less bytes in omega arith
+  | false ↦ omega arith
+]
 
 trim_less : (bytes : List ℕ) → length (trim_ows bytes) ≤ length bytes
 unfolding trim_ows
@@ -38,9 +38,9 @@ section_less (f ∷ fs) =
     let here = field_less f in
     let later = section_less fs in
     let size : fields_size (headers_of (f ∷ fs)) ≡ (length f.name + length (field_value f)) + fields_size (headers_of fs) =
-        sum_by-cons (λ g. length g.0 + length g.1) (name_and_value f) (headers_of fs) in
+    sum_by-cons (λ g. length g.0 + length g.1) (name_and_value f) (headers_of fs) in
     let bytes : length (flat_map print_field (f ∷ fs)) ≡ length (print_field f) + length (flat_map print_field fs) =
-        length-append (print_field f) (flat_map print_field fs) in
+    length-append (print_field f) (flat_map print_field fs) in
     omega (arith, here, later, size, bytes)
 
 at_the_end : (a s : List ℕ) → length s ≤ length (a ++ s)
@@ -71,18 +71,18 @@ close_within limit Broke b le = tt
 
 length_within : (limit : ℕ) (close : Close) (b : List ℕ) (n : ℕ) → Within limit (length_state limit close b n)
 length_within limit close b n = elim (cases_lt limit n) [
-    | inl over ↦ rw (lt-ltb limit n over) tt
-    | inr fits ↦ rw (le-ltb limit n fits) (elim (cases_lt (length b) n) [
-        | inl short ↦ rw (lt-leb n (length b) short) (open_within limit close)
-        | inr whole ↦ rw (le-leb n (length b) whole) (let size = length-take n b in omega (arith, size, fits))
-      ])
-  ]
+  | inl over ↦ rw (lt-ltb limit n over) tt
+  | inr fits ↦ rw (le-ltb limit n fits) (elim (cases_lt (length b) n) [
+    | inl short ↦ rw (lt-leb n (length b) short) (open_within limit close)
+    | inr whole ↦ rw (le-leb n (length b) whole) (let size = length-take n b in omega (arith, size, fits))
+  ])
+]
 
 end_within : (limit : ℕ) (close : Close) (b : List ℕ) → Within limit (end_state limit close b)
 end_within limit close b = elim (cases_lt limit (length b)) [
-    | inl over ↦ rw (lt-ltb limit (length b) over) tt
-    | inr fits ↦ rw (le-ltb limit (length b) fits) (close_within limit close b fits)
-  ]
+  | inl over ↦ rw (lt-ltb limit (length b) over) tt
+  | inr fits ↦ rw (le-ltb limit (length b) fits) (close_within limit close b fits)
+]
 
 body_within : (limit : ℕ) (f : Framing) (close : Close) (b body : List ℕ) → IsBody limit f close b (Complete body) → length body ≤ limit
 body_within limit NoBody close b body is = subst (Within limit) (sym is) (omega arith)

@@ -9,7 +9,6 @@ use Rattle.wf_ast.specs.Func.{func_named, special_named}
 use Rattle.wf_ast.specs.Tree.{Flow, Program}
 use Rattle.wf_callbacks.specs.Plain.{plain_method}
 use Rattle.wf_callbacks.specs.declared.method.Method.{Method}
-use Rattle.wf_eval.specs.Built.{is_built}
 use Rattle.wf_frames.specs.Owned.{Around, control_of, own_of}
 use Rattle.wf_frames.specs.Standing.{Standing, Standing-prop}
 use Rattle.wf_http_ask.specs.View.{request_view}
@@ -61,7 +60,6 @@ IsFunction-prop : (fs : List Flow) (f : Function) (x : Text) → IsProp (IsFunct
 IsFunction-prop fs f x = λ g h i. record {
   free = Coded-set coded_bool (is_some (flow fs x)) false g.free h.free i;
   named = Coded-set (hlevel codes) (option_map listed (func_named x)) (Some (function_parts f)) g.named h.named i;
-  built = Coded-set coded_bool (is_built f.func) true g.built h.built i;
 }
 
 IsHttp-prop : (fs : List Flow) (m : Option Method) (x : Text) → IsProp (IsHttp fs m x)

@@ -3,7 +3,6 @@ ghost use Rattle.std.specs.Prelude.{◌≡◌, IfOk, IfSome, List, None, Some, f
 ghost use Rattle.wf_ast.specs.Flows.{flow};
 ghost use Rattle.wf_ast.specs.Tree.{Flow};
 ghost use Rattle.wf_check.specs.Seen.{nodes_of, program_of};
-ghost use Rattle.wf_eval.specs.Built.{is_built};
 ghost use Rattle.wf_machine.specs.Main.{Aims};
 ghost use Rattle.wf_nodes.specs.Spots.{Spot, spots};
 ghost use Rattle.wf_nodes.specs.declared.node.CallNode as call_node;
@@ -12,13 +11,12 @@ ghost use Rattle.wf_steps.specs.Built.{IsTarget, IsWorkflow};
 
 use std::alloc::Global;
 use wf_check::Checked;
-use wf_eval::is_built;
-use wf_library::{Function, function_named};
+use wf_library::function_named;
 use wf_nodes::{Node, NodeKind};
 use wf_steps::{Target, http_named};
 use wf_value::OutOfMemory;
 
-/// What each call names, at the call's own number; none where a call names neither a workflow, nor a function that is built, nor a call
+/// What each call names, at the call's own number; none where a call names neither a workflow, nor a function of expressions, nor a call
 /// of HTTP.
 pub(crate) fn targets_of(
     alloc: Global,
@@ -68,7 +66,7 @@ fn listed(name: &str) -> Option<Target>
         → is_some (flow fs name.now) ≡ false → IsTarget fs ns (Some t) name.now) }
 {
     match function_named(name) {
-        Some(function) => Some(Target::Function(built(function)?)),
+        Some(function) => Some(Target::Function(function)),
         None => Some(Target::Http(http_named(name)?)),
     }
 }
@@ -83,16 +81,5 @@ fn flow(program: &Checked, name: &str) -> Option<u32>
         None
     } else {
         program.flow(name)
-    }
-}
-
-// A function, if it is built.
-fn built(function: Function) -> Option<Function>
-    ensures { IfSome result (λ g. (g ≡ function) × (is_built g.func ≡ true)) }
-{
-    if is_built(function.func) {
-        Some(function)
-    } else {
-        None
     }
 }

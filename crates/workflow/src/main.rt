@@ -16,7 +16,7 @@ use std::rt::Env;
 use std::time::Clock;
 use wf_args::{journal_of, source_of};
 use wf_cli::run_line;
-use wf_host::{FileHost, FileSource};
+use wf_file_host::{FileHost, FileSource};
 
 fn main(rt: HostRuntime) -> ExitCode {
     // held to the end, so that no file of ours gets a standard descriptor

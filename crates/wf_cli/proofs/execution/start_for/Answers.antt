@@ -1,8 +1,7 @@
-use Rattle.std.proofs.Common.{◌≤◌, ◌∙◌, length, refl, ap, subst, sym}
-use Rattle.std.specs.Prelude.{map}
+use Rattle.std.proofs.Common.{◌≤◌, ◌∙◌, length, refl, subst, sym}
 use Rattle.wf_args.specs.Plain.{plain_line}
 use Rattle.wf_cli.proofs.Spelled.{IsPlainStart, IsShortArgument, plain_fits, plain_spelled}
-use Rattle.wf_events.specs.View.{start_view, route_view}
+use Rattle.wf_events.specs.View.{start_view}
 use Rattle.wf_cli.proofs.execution.start_for.Goals as goal
 
 abbrev Plain : goal.In_ok-new-2 → Type 0
@@ -11,8 +10,8 @@ Plain c =
       id = c.in_ok-id_for.field-0;
       source = c.in_ok-new.field-0;
       argument = c.argument.inside.bytes.value.items;
-      routes = c.new-2.result;
-      env = c.new-3.result;
+      routes = c.in_ok-routes_for.field-0;
+      env = c.new-2.result;
       base = c.in_ok-new-2.field-0;
       reading = c.args.reading;
     }))
@@ -24,8 +23,9 @@ is_plain c = record {
   short = c.in_ok-id_for.ensures.short;
   source = subst (λ l. length l ≤ 131072) (sym c.in_ok-new.ensures) c.requires.short;
   argument = subst IsShortArgument (sym c.requires.text ∙ sym c.argument.view_is) (c.laws_of_starts.ensures.spelled (plain_line c.args.line.now) c.requires.has);
-  routes = ap (map route_view) c.new-2.ensures;
-  env = c.new-3.ensures;
+  routes = c.in_ok-routes_for.ensures.spelled;
+  few = c.in_ok-routes_for.ensures.short;
+  env = c.new-2.ensures;
   base = c.in_ok-new-2.ensures;
   reading = c.ranges.reading.fits;
 }

@@ -6,7 +6,7 @@ use Rattle.wf_host.specs.CallRecord.{record_world}
 use Rattle.wf_host.proofs.Printed.{prints_go_on}
 use Rattle.wf_host.specs.Ahead.{Ahead, piece_limit, next_thing}
 use Rattle.wf_host.proofs.Speakers.{small_thing}
-use Rattle.wf_host.proofs.Alone.{heard_alone}
+use Rattle.wf_host.proofs.Owned.{heard_alone}
 use Rattle.wf_host.proofs.Foreseen.{foreseen_goes_on, foreseen_at, same_services_read}
 use Rattle.wf_host.proofs.mem_host.MemHostHost.poll.Goals as goal
 

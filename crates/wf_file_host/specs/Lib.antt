@@ -1,0 +1,4 @@
+pub mod FileSource
+pub mod Untold
+pub mod FileHost
+pub mod Sockets

@@ -1,0 +1,215 @@
+// The connections of all calls, on one thread.
+ghost use Rattle.std.specs.Prelude.{◌≡◌, ◌≤◌, length, IfOk, None};
+ghost use Rattle.wf_host.specs.World.{piece_len, visit_of};
+
+use crate::connection::{Connection, Step};
+use mio::{Events, Poll, Token};
+use std::alloc::Global;
+use std::io;
+use std::net::{Net, SocketAddr, ToSocketAddrs};
+use std::time::Duration;
+use wf_host::{Address, PollError, What};
+use wf_value::{Bytes, OutOfMemory};
+
+/// How many bytes are heard at once, at most.
+const PIECE: usize = 65_536;
+
+/// How many reports are taken at once.
+const REPORTS: usize = 64;
+
+/// No wait is longer, in milliseconds, so that a clock that was set forward is seen soon.
+const LONGEST_WAIT: u64 = 10_000;
+
+/// The connections of the calls that were started and of which something may still be heard.
+#[derive(Drop)]
+pub(crate) struct Sockets {
+    poll: Poll,
+    events: Events,
+    connections: Vec<Connection>,
+    next_token: usize,
+    /// The connection that is read next, so that each has its turn.
+    turn: usize,
+    room: Vec<u8>,
+    /// A piece of a call that was read into the room, and not told for want of memory.
+    kept: Option<(u64, usize)>,
+    ghost within: { length room.items ≤ 65536 },
+}
+
+impl Sockets {
+    /// No connections yet.
+    pub(crate) fn new<N: Net>(alloc: Global, net: &N) -> Result<Sockets, PollError> {
+        let Ok(poll) = Poll::new(net) else {
+            return Err(PollError::Failed);
+        };
+        let Ok(events) = Events::with_capacity(alloc, REPORTS) else {
+            return Err(PollError::OutOfMemory);
+        };
+        let Ok(room) = Vec::from_elem(alloc, 0, PIECE) else {
+            return Err(PollError::OutOfMemory);
+        };
+        Ok(Sockets {
+            poll,
+            events,
+            connections: Vec::new(alloc),
+            next_token: 0,
+            turn: 0,
+            room,
+            kept: None,
+        })
+    }
+
+    /// Begins to send a call. Whatever is in the way but want of memory is heard later.
+    pub(crate) fn start<N: Net>(
+        &mut self,
+        alloc: Global,
+        net: &N,
+        call: u64,
+        to: &Address,
+        bytes: &[u8],
+    ) -> Result<(), OutOfMemory> {
+        let request = Bytes::new(alloc, bytes)?;
+        let addresses = addresses_of(alloc, net, to)?;
+        if self.connections.reserve(1).is_err() {
+            return Err(OutOfMemory);
+        }
+        let token = self.next_token;
+        self.next_token = token.wrapping_add(1);
+        let registry = self.poll.registry();
+        let connection = Connection::new(net, registry, token, call, addresses, request);
+        match self.connections.push(connection) {
+            Ok(()) => Ok(()),
+            Err(_) => Err(OutOfMemory),
+        }
+    }
+
+    /// Waits at most so many milliseconds for a report, then tells what has come of one call.
+    pub(crate) fn hear<N: Net>(
+        &mut self,
+        alloc: Global,
+        net: &N,
+        millis: u64,
+    ) -> Result<What, PollError>
+        ensures piece { IfOk result (λ w. piece_len w ≤ 65536) }
+        ensures calls_alone { IfOk result (λ w. visit_of w ≡ None) }
+    {
+        if let Some((call, count)) = self.kept {
+            return self.tell_piece(alloc, call, count);
+        }
+        if self.look(millis).is_err() {
+            return Err(PollError::Failed);
+        }
+        for connection in self.connections.iter_mut() {
+            connection.advance(net, self.poll.registry());
+        }
+        self.read(alloc)
+    }
+
+    /// Waits at most so many milliseconds for a report, and notes what was reported.
+    fn look(&mut self, millis: u64) -> io::Result<()> {
+        let wait = Duration::from_millis(millis.min(LONGEST_WAIT));
+        self.poll.poll(&mut self.events, Some(wait))?;
+        for event in self.events.iter() {
+            let Token(token) = event.token();
+            for connection in self.connections.iter_mut() {
+                connection.note(token);
+            }
+        }
+        Ok(())
+    }
+
+    /// Reads the connections in turn, until one tells something.
+    fn read(&mut self, alloc: Global) -> Result<What, PollError>
+        ensures piece { IfOk result (λ w. piece_len w ≤ 65536) }
+        ensures calls_alone { IfOk result (λ w. visit_of w ≡ None) }
+    {
+        for _ in 0..self.connections.len() {
+            if self.turn >= self.connections.len() {
+                self.turn = 0;
+            }
+            let Some(connection) = self.connections.get_mut(self.turn) else {
+                break;
+            };
+            let call = connection.call();
+            match connection.read(&mut self.room) {
+                Step::Nothing => self.turn += 1,
+                Step::Piece(count) => {
+                    self.turn += 1;
+                    return self.tell_piece(alloc, call, count);
+                }
+                Step::End => {
+                    self.connections.remove(self.turn);
+                    return Ok(What::End(call));
+                }
+                Step::Broken => {
+                    self.connections.remove(self.turn);
+                    return Ok(What::Broken(call));
+                }
+            }
+        }
+        Ok(What::Nothing)
+    }
+
+    /// Tells a piece that stands in the room. Without memory for it, it is told by the next poll.
+    fn tell_piece(&mut self, alloc: Global, call: u64, count: usize) -> Result<What, PollError>
+        ensures piece { IfOk result (λ w. piece_len w ≤ 65536) }
+        ensures calls_alone { IfOk result (λ w. visit_of w ≡ None) }
+    {
+        let piece = &self.room[..count.min(self.room.len())];
+        match Bytes::new(alloc, piece) {
+            Ok(bytes) => {
+                self.kept = None;
+                Ok(What::Bytes(call, bytes))
+            }
+            Err(OutOfMemory) => {
+                self.kept = Some((call, count));
+                Err(PollError::OutOfMemory)
+            }
+        }
+    }
+
+    /// Forgets a call, and closes its connection.
+    pub(crate) fn drop_call(&mut self, call: u64) {
+        self.connections
+            .retain(|connection| connection.call() != call);
+        if let Some((kept, _)) = self.kept
+            && kept == call
+        {
+            self.kept = None;
+        }
+    }
+}
+
+/// The addresses of a host, the first of them last. A host that isn't found has none.
+fn addresses_of<N: Net>(
+    alloc: Global,
+    net: &N,
+    to: &Address,
+) -> Result<Vec<SocketAddr>, OutOfMemory> {
+    match found_addresses(alloc, net, (bare(to.name.as_str()), to.port)) {
+        Ok(addresses) => Ok(addresses),
+        Err(e) if e.kind() == io::ErrorKind::OutOfMemory => Err(OutOfMemory),
+        Err(_) => Ok(Vec::new(alloc)),
+    }
+}
+
+/// The addresses that are found, the first of them last.
+fn found_addresses<N: Net, A: ToSocketAddrs>(
+    alloc: Global,
+    net: &N,
+    host: A,
+) -> io::Result<Vec<SocketAddr>> {
+    let mut addresses = Vec::new(alloc);
+    for address in host.to_socket_addrs(net)? {
+        addresses.push(address)?;
+    }
+    addresses.reverse();
+    Ok(addresses)
+}
+
+/// A host without the brackets that stand around an address of the sixth version.
+fn bare(host: &str) -> &str {
+    match host.strip_prefix('[') {
+        Some(rest) => rest.strip_suffix(']').unwrap_or(host),
+        None => host,
+    }
+}
