@@ -6,16 +6,17 @@ use wf_host::Host;
 use wf_machine::Outcome;
 
 impl Engine {
-    ghost use Rattle.std.specs.Prelude.{◌≡◌, ◌⊎◌, ◌×◌, ◌↔◌, ◌≢◌, ◌++◌, [], ℕ, suc, true, false, length, Some, IfErr, IsErrOf, OnErr, OnOk};
-    ghost use Rattle.wf_deeds.specs.Clauses.{KeptThroughout, SendsOpen, to_drop, to_start};
-    ghost use Rattle.wf_deeds.specs.Memory.{AllIsSent, IsOpen, IsSettled};
-    ghost use Rattle.wf_engine.specs.Engine.{Holds, held, is_closed, memory};
-    ghost use Rattle.wf_engine.specs.Sending.{Drops, Sends, Starts};
+    ghost use Rattle.std.specs.Prelude.{◌≡◌, ◌≢◌, ◌⊎◌, ◌↔◌, [], true, false, None, IfErr, IsErrOf, OnErr, OnOk};
+    ghost use Rattle.wf_deeds.specs.Clauses.{KeptThroughout, SendsOpen, those, to_drop, to_start};
+    ghost use Rattle.wf_deeds.specs.Memory.{AllIsSent, IsSettled};
+    ghost use Rattle.wf_engine.specs.Engine.{Holds, is_closed, memory};
+    ghost use Rattle.wf_engine.specs.Sending.{DropsAll, DropsOne, SameButSent, Sends, StartsAll, StartsOne, is_to_drop, is_to_start};
     ghost use Rattle.wf_engine.specs.TheLanguage.{the_language};
     ghost use Rattle.wf_engine.specs.TheOutside.{InTheOutside};
     ghost use Rattle.wf_host.specs.Calls.{NoCountFalls, ReadsAsBefore, TellsAsBefore};
     ghost use Rattle.wf_host.specs.World.{Told};
     ghost use Rattle.wf_model.specs.Config.{Active};
+    ghost use Rattle.wf_model.specs.Ready.{request_of};
 
     /// Drops each started call that timed out, and starts each open call that this engine hasn't started, in the order of their numbers.
     /// With an outcome it does nothing.
@@ -37,6 +38,7 @@ impl Engine {
             → AllIsSent (memory self.new)) }
         ensures same { OnOk result (SameButSent (memory self.old) (memory self.new)) }
         ensures settled { OnOk result (IsSettled (memory self.new)) }
+        ensures session { (memory self.new).session ≡ (memory self.old).session }
         ensures seen { ReadsAsBefore H.world host.old host.new }
         ensures closed { IsErrOf result EngineFault.Closed ↔ (is_closed self.old ≡ true) }
         ensures closes { OnErr result (is_closed self.new ≡ true) }
@@ -60,8 +62,31 @@ impl Engine {
     }
 
     /// Drops each started call that timed out, and lets go what was heard of those that aren't open.
-    fn drop_closed<H: Host>(&mut self, host: &mut H) -> Result<(), EngineFault> {
-        for call in 1..=self.machine.calls() {
+    fn drop_closed<H: Host>(&mut self, host: &mut H) -> Result<(), EngineFault>
+        requires not_closed { is_closed self.old ≡ false }
+        requires kept { Told (H.world host.old) (Holds self.old (H.world host.old)) }
+        requires settled { IsSettled (memory self.old) }
+        ensures holds { is_closed self.new ≡ false
+            → Told (H.world host.old) (Holds self.new (H.world host.new)) }
+        ensures sends { InTheOutside (λ O. Told (H.world host.old)
+            (OnOk result (Sends the_language O (memory self.old) (memory self.new)
+            (H.world host.old) (H.world host.new) (to_drop (memory self.old)) []))) }
+        ensures any_moment { InTheOutside (λ O. Told (H.world host.old)
+            (KeptThroughout the_language O (memory self.old) (H.world host.old)
+            (H.world host.new))) }
+        ensures drops { OnOk result (DropsAll (memory self.old) (memory self.new)) }
+        ensures same { OnOk result (SameButSent (memory self.old) (memory self.new)) }
+        ensures session { (memory self.new).session ≡ (memory self.old).session }
+        ensures seen { ReadsAsBefore H.world host.old host.new }
+        ensures closes { OnErr result (is_closed self.new ≡ true) }
+        ensures open { OnOk result (is_closed self.new ≡ false) }
+        ensures only { IfErr result (λ e. e ≡ EngineFault.OutOfMemory) }
+        ensures tells { TellsAsBefore H.world host.old host.new }
+        ensures counts { NoCountFalls H.faults host.old host.new }
+    {
+        laws_of_steps();
+        for place in 0..self.machine.calls() {
+            let call = place + 1;
             if self.machine.request(call).is_none() {
                 self.drop_one(host, call)?;
             }
@@ -69,13 +94,38 @@ impl Engine {
         Ok(())
     }
 
-    /// Drops a call that was started and timed out, and lets go what was heard of it.
-    fn drop_one<H: Host>(&mut self, host: &mut H, call: u64) -> Result<(), EngineFault> {
+    /// Drops a call that isn't open, if it was started and timed out, and lets go what was heard of it.
+    fn drop_one<H: Host>(&mut self, host: &mut H, call: u64) -> Result<(), EngineFault>
+        requires not_closed { is_closed self.old ≡ false }
+        requires kept { Told (H.world host.old) (Holds self.old (H.world host.old)) }
+        requires settled { IsSettled (memory self.old) }
+        requires shut { request_of (memory self.old).config call ≡ None }
+        ensures holds { is_closed self.new ≡ false
+            → Told (H.world host.old) (Holds self.new (H.world host.new)) }
+        ensures sends { InTheOutside (λ O. Told (H.world host.old)
+            (OnOk result (Sends the_language O (memory self.old) (memory self.new)
+            (H.world host.old) (H.world host.new)
+            (those (is_to_drop (memory self.old)) call 1) []))) }
+        ensures any_moment { InTheOutside (λ O. Told (H.world host.old)
+            (KeptThroughout the_language O (memory self.old) (H.world host.old)
+            (H.world host.new))) }
+        ensures drops { OnOk result (DropsOne (memory self.old) (memory self.new) call) }
+        ensures same { OnOk result (SameButSent (memory self.old) (memory self.new)) }
+        ensures session { (memory self.new).session ≡ (memory self.old).session }
+        ensures seen { ReadsAsBefore H.world host.old host.new }
+        ensures closes { OnErr result (is_closed self.new ≡ true) }
+        ensures open { OnOk result (is_closed self.new ≡ false) }
+        ensures only { IfErr result (λ e. e ≡ EngineFault.OutOfMemory) }
+        ensures tells { TellsAsBefore H.world host.old host.new }
+        ensures counts { NoCountFalls H.faults host.old host.new }
+    {
+        laws_of_steps();
         self.connections.forget(call);
         if self.machine.has_timed_out(call)
             && self.connections.is_started(call)
             && !self.connections.is_dropped(call)
         {
+            // until it is dropped
             self.closed = true;
             host.drop_call(call)?;
             self.connections.drop_call(call);
@@ -85,8 +135,32 @@ impl Engine {
     }
 
     /// Starts each open call that wasn't started.
-    fn start_open<H: Host>(&mut self, host: &mut H) -> Result<(), EngineFault> {
-        for call in 1..=self.machine.calls() {
+    fn start_open<H: Host>(&mut self, host: &mut H) -> Result<(), EngineFault>
+        requires not_closed { is_closed self.old ≡ false }
+        requires kept { Told (H.world host.old) (Holds self.old (H.world host.old)) }
+        requires settled { IsSettled (memory self.old) }
+        requires active { (memory self.old).config.outcome ≡ Active }
+        ensures holds { is_closed self.new ≡ false
+            → Told (H.world host.old) (Holds self.new (H.world host.new)) }
+        ensures sends { InTheOutside (λ O. Told (H.world host.old)
+            (OnOk result (Sends the_language O (memory self.old) (memory self.new)
+            (H.world host.old) (H.world host.new) [] (to_start (memory self.old))))) }
+        ensures any_moment { InTheOutside (λ O. Told (H.world host.old)
+            (KeptThroughout the_language O (memory self.old) (H.world host.old)
+            (H.world host.new))) }
+        ensures starts { OnOk result (StartsAll (memory self.old) (memory self.new)) }
+        ensures same { OnOk result (SameButSent (memory self.old) (memory self.new)) }
+        ensures session { (memory self.new).session ≡ (memory self.old).session }
+        ensures seen { ReadsAsBefore H.world host.old host.new }
+        ensures closes { OnErr result (is_closed self.new ≡ true) }
+        ensures open { OnOk result (is_closed self.new ≡ false) }
+        ensures only { IfErr result (λ e. e ≡ EngineFault.OutOfMemory) }
+        ensures tells { TellsAsBefore H.world host.old host.new }
+        ensures counts { NoCountFalls H.faults host.old host.new }
+    {
+        laws_of_steps();
+        for place in 0..self.machine.calls() {
+            let call = place + 1;
             if !self.connections.is_started(call) {
                 self.start_one(host, call)?;
             }
@@ -94,11 +168,36 @@ impl Engine {
         Ok(())
     }
 
-    /// Starts a call, where it is open.
-    fn start_one<H: Host>(&mut self, host: &mut H, call: u64) -> Result<(), EngineFault> {
+    /// Starts a call that wasn't started, where it is open.
+    fn start_one<H: Host>(&mut self, host: &mut H, call: u64) -> Result<(), EngineFault>
+        requires not_closed { is_closed self.old ≡ false }
+        requires kept { Told (H.world host.old) (Holds self.old (H.world host.old)) }
+        requires settled { IsSettled (memory self.old) }
+        requires active { (memory self.old).config.outcome ≡ Active }
+        requires first { (memory self.old).started call ≡ false }
+        ensures holds { is_closed self.new ≡ false
+            → Told (H.world host.old) (Holds self.new (H.world host.new)) }
+        ensures sends { InTheOutside (λ O. Told (H.world host.old)
+            (OnOk result (Sends the_language O (memory self.old) (memory self.new)
+            (H.world host.old) (H.world host.new) []
+            (those (is_to_start (memory self.old)) call 1)))) }
+        ensures any_moment { InTheOutside (λ O. Told (H.world host.old)
+            (KeptThroughout the_language O (memory self.old) (H.world host.old)
+            (H.world host.new))) }
+        ensures starts { OnOk result (StartsOne (memory self.old) (memory self.new) call) }
+        ensures same { OnOk result (SameButSent (memory self.old) (memory self.new)) }
+        ensures session { (memory self.new).session ≡ (memory self.old).session }
+        ensures seen { ReadsAsBefore H.world host.old host.new }
+        ensures closes { OnErr result (is_closed self.new ≡ true) }
+        ensures open { OnOk result (is_closed self.new ≡ false) }
+        ensures only { IfErr result (λ e. e ≡ EngineFault.OutOfMemory) }
+        ensures tells { TellsAsBefore H.world host.old host.new }
+        ensures counts { NoCountFalls H.faults host.old host.new }
+    {
         let Some(request) = self.machine.request(call) else {
             return Ok(());
         };
+        // until it is started
         self.closed = true;
         host.start(call, &request.address, request.bytes.as_slice())?;
         self.connections.start(self.alloc, call)?;
