@@ -12,6 +12,9 @@ mod LivesRuns
 mod NewSessions
 mod Parts
 mod Reopened
+mod Sending
+mod Sent
+mod SentLists
 mod Sessions
 mod Settling
 mod StillOpen

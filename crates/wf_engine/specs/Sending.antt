@@ -12,7 +12,7 @@ use Rattle.wf_host.specs.declared.data.Deed.{Deed}
 use Rattle.wf_journal_laws.specs.Language.{Language}
 use Rattle.wf_model.specs.Ready.{call, request_of}
 
--- the execution and the session stay, and what was told of calls that were started
+-- the execution and the session stay, and what was started and told of it
 pub record SameButSent (m n : Memory) : Type 0 where
   pub program : n.program ≡ m.program
   pub config : n.config ≡ m.config
@@ -20,6 +20,7 @@ pub record SameButSent (m n : Memory) : Type 0 where
   pub reading : n.reading ≡ m.reading
   pub waits : n.waits ≡ m.waits
   pub taken : n.taken ≡ m.taken
+  pub started : (k : ℕ) → m.started k ≡ true → n.started k ≡ true
   pub told : (k : ℕ) → m.started k ≡ true → n.told k ≡ m.told k
 
 -- ## Drops
