@@ -3,6 +3,7 @@ mod Arguments
 mod Beginning
 mod Chosen
 mod Clock
+mod Connected
 mod FirstRecords
 mod Heard
 pub mod Language

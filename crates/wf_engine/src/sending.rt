@@ -120,18 +120,25 @@ impl Engine {
         ensures counts { NoCountFalls H.faults host.old host.new }
     {
         laws_of_steps();
-        self.connections.forget(call);
-        if self.machine.has_timed_out(call)
+        if !self.is_to_drop(call) {
+            self.connections.forget(call);
+            return Ok(());
+        }
+        // until it is dropped
+        self.closed = true;
+        host.drop_call(call)?;
+        self.connections.drop_call(call);
+        self.closed = false;
+        Ok(())
+    }
+
+    /// Whether a call was started and timed out, and isn't dropped yet.
+    fn is_to_drop(&self, call: u64) -> bool
+        ensures { result ≡ is_to_drop (memory self.now) call }
+    {
+        self.machine.has_timed_out(call)
             && self.connections.is_started(call)
             && !self.connections.is_dropped(call)
-        {
-            // until it is dropped
-            self.closed = true;
-            host.drop_call(call)?;
-            self.connections.drop_call(call);
-            self.closed = false;
-        }
-        Ok(())
     }
 
     /// Starts each open call that wasn't started.
