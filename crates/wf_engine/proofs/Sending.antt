@@ -4,20 +4,27 @@ use Rattle.std.proofs.Common.{inl, inr, ⊎_elim, refl, sym, ◌∙◌, ap, subs
 use Rattle.std.proofs.lemmas.Bool.{cases_lt}
 use Rattle.std.proofs.lemmas.List.{append-nil}
 use Rattle.std.proofs.lemmas.Option.{slice_get_past}
-use Rattle.wf_deeds.specs.Clauses.{IsSending, KeptThroughout, StandsIsKept, is_timed_out, none, those, to_drop, to_start}
+use Rattle.wf_deeds.specs.Clauses.{IsSending, KeptThroughout, StandsIsKept, drop, is_timed_out, none, start, those, to_drop, to_start}
 use Rattle.wf_deeds.specs.Kept.{IsOpen}
 use Rattle.wf_deeds.specs.Memory.{AllIsSent, IsSettled, Memory, StandsFor}
 use Rattle.wf_deeds.specs.Outside.{Outside}
-use Rattle.wf_engine.proofs.Sent.{OnlyNow, kept_before, kept_then, went_by, went_on}
-use Rattle.wf_engine.proofs.SentLists.{drops_then, silent_sending, starts_then, those_on, those_same, this_same, not_this}
+use Rattle.wf_engine.proofs.Sent.{Goes, OnlyNow, kept_before, kept_then, went_by, went_on}
+use Rattle.wf_engine.proofs.SentLists.{drops_then, just_this, silent_sending, starts_then, those_on, those_same, this_same, not_this}
 use Rattle.wf_engine.specs.Engine.{Holds, is_closed, memory}
 use Rattle.wf_engine.specs.Sending.{DropsAll, DropsOne, SameButSent, Sends, StartsAll, StartsOne, is_to_drop, is_to_start}
 use Rattle.wf_engine.specs.TheLanguage.{the_language}
 use Rattle.wf_engine.specs.TheOutside.{InTheOutside}
 use Rattle.wf_engine.specs.declared.engine.Engine.{Engine}
-use Rattle.wf_host.specs.World.{World, Faults, NoneFell, Told}
+use Rattle.wf_history.specs.Stands as history
+use Rattle.wf_history.specs.declared.history.History.{History}
+use Rattle.wf_host.specs.Moments.{CountsNow}
+use Rattle.wf_host.specs.World.{World, Elapses, Faults, NoneFell, Same, Told}
+use Rattle.wf_host.specs.declared.data.Address.{Address}
 use Rattle.wf_host.specs.declared.data.Deed.{Deed}
+use Rattle.wf_host.specs.declared.data.Deed.TheVariants.{Drop, Start}
 use Rattle.wf_journal.specs.Records.{records}
+use Rattle.wf_journal.specs.Standing.{stands_after}
+use Rattle.wf_journal_laws.specs.Language.{Language}
 use Rattle.wf_model.specs.Config.{Active, Answered, Call, Config, Open, TimedOut}
 use Rattle.wf_model.specs.Ready.{call, quiet, request_in, request_of}
 use Rattle.wf_shared.specs.HttpRequest.{Request}
@@ -295,3 +302,39 @@ module _ (m n o : Memory) (same : SameButSent m n) (next : SameButSent n o) (dro
       ap (λ k. those (is_to_start n) 1 k) (ap (λ (c : Config). length c.calls) same.config)
       ∙ those_same (is_to_start n) (is_to_start m) 1 (length m.config.calls)
         (λ k. ap (λ (c : Config). is_some (request_of c k) && not (n.started k)) same.config ∙ ap (λ b. is_some (request_of m.config k) && not b) (drops.started k))
+
+-- ## One call
+module _ (L : Language) (O : Outside) (m n : Memory) (w new : World) where
+  -- nothing is sent
+  pub sends_none : (js ks : List ℕ) → Goes L O m n [] → new.deeds ≡ w.deeds → new.seen ≡ w.seen → js ≡ [] → ks ≡ [] → Sends L O m n w new js ks
+  sends_none js ks goes deeds seen no_drop no_start = record {
+    done = [];
+    went = went_by L O m n w new [] goes (deeds ∙ sym (append-nil w.deeds)) seen;
+    sends = subst (λ l. IsSending l ks []) (sym no_drop) (subst (λ l. IsSending [] l []) (sym no_start) none);
+  }
+
+  pub sends_drop : (k : ℕ) → Goes L O m n (Drop k ∷ []) → new.deeds ≡ w.deeds ++ Drop k ∷ [] → new.seen ≡ w.seen → is_to_drop m k ≡ true → Sends L O m n w new (those (is_to_drop m) k 1) []
+  sends_drop k goes deeds seen is = record {
+    done = Drop k ∷ [];
+    went = went_by L O m n w new (Drop k ∷ []) goes deeds seen;
+    sends = subst (λ l. IsSending l [] (Drop k ∷ [])) (sym (just_this (is_to_drop m) k is)) (drop k none);
+  }
+
+  pub sends_start : (k : ℕ) (to : Address) (bytes : List ℕ) → Goes L O m n (Start k to bytes ∷ []) → new.deeds ≡ w.deeds ++ Start k to bytes ∷ [] → new.seen ≡ w.seen → is_to_start m k ≡ true → Sends L O m n w new [] (those (is_to_start m) k 1)
+  sends_start k to bytes goes deeds seen is = record {
+    done = Start k to bytes ∷ [];
+    went = went_by L O m n w new (Start k to bytes ∷ []) goes deeds seen;
+    sends = subst (λ l. IsSending [] l (Start k to bytes ∷ [])) (sym (just_this (is_to_start m) k is)) (start k to bytes none);
+  }
+
+-- the file stays as it was left
+pub holds_later : (h : History) (w new : World) (deed : List Deed) → history.Stands h w × (records w.seen ≢ []) → Elapses Same deed w new → new.seen ≡ w.seen → CountsNow new → history.Stands h new × (records new.seen ≢ [])
+holds_later h w new deed (s, some) time same counts = (
+  record {
+    journal = stands_after h.journal w new deed s.journal time same counts;
+    passed = s.passed;
+    all = ap records same ∙ s.all ∙ ap (λ f. s.passed ++ history.ahead h f) (sym same);
+    counted = s.counted;
+  },
+  λ empty. some (ap records (sym same) ∙ empty),
+)
