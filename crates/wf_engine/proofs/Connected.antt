@@ -1,6 +1,6 @@
 -- What a call that is forgotten, dropped or started changes.
 use Rattle.std.specs.Prelude.{◌≡◌, ◌≢◌, ◌⊎◌, ◌↔◌, ◌≤◌, ◌<◌, ◌&&◌, ◌||◌, ℕ, Bool, true, false, not, IsTrue, is_some, nat_eq, List, [], ◌∷◌, length, Option, Some, None}
-use Rattle.std.proofs.Common.{⊎_elim, refl, sym, ◌∙◌, ap, subst, arith}
+use Rattle.std.proofs.Common.{inl, inr, refl, sym, ◌∙◌, ap, subst, arith}
 use Rattle.std.proofs.lemmas.Bool.{cases_lt, eq-eqb, eqb-true}
 use Rattle.wf_connections.specs.Calls.{Drops, Forgets, Starts, is_dropped, is_started, listens, told}
 use Rattle.wf_connections.specs.declared.connections.Connections.{Connections}
@@ -62,14 +62,10 @@ module _ (m : Memory) (k : ℕ) (is : is_to_drop m k ≡ true) where
 
 -- a call with a request was issued
 was_issued : (c : Config) (k : ℕ) (q : Request) → request_of c k ≡ Some q → k ≤ length c.calls
-was_issued c k q asks = ⊎_elim
-    (λ past. absurd (let no : None ≡ Some q = sym (ap request_in (past_answered c k past)) ∙ asks in cc no))
-    (λ within. within)
-    (cases_lt (length c.calls) k)
-
-some_is : (o : Option Request) → is_some o ≡ true → (q : Request) × (o ≡ Some q)
-some_is (Some q) is = (q, refl)
-some_is None is = absurd (cc is)
+was_issued c k q asks = elim (cases_lt (length c.calls) k) [
+  | inl past ↦ absurd (let no : None ≡ Some q = sym (ap request_in (past_answered c k past)) ∙ asks in cc no)
+  | inr within ↦ within
+]
 
 -- ## Connections of an execution
 module _ (c : Config) (a b : Connections) (k : ℕ) (of : AreOf a c) where

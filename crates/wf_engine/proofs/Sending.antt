@@ -187,7 +187,7 @@ module _ (first mid : World) (f g : Faults) (e d : Engine) (i : ℕ) (so : Dropp
         (ap (λ l. those (is_to_drop (memory e)) 1 i ++ l) (this_same (is_to_drop (memory d)) (is_to_drop (memory e)) (i + 1) same_test) ∙ sym (those_on (is_to_drop (memory e)) i))
         (drops_then was more));
     started = λ k. one.started k ∙ so.started k;
-    below = λ k le. ⊎_elim (λ lt. one.others k (λ is. absurd (omega (arith, lt, is))) ∙ so.below k (omega arith)) (λ ge. here k (omega (arith, ge, le))) (cases_lt k (i + 1));
+    below = λ k le. elim (cases_lt k (i + 1)) [ inl lt ↦ one.others k (λ is. absurd (omega (arith, lt, is))) ∙ so.below k (omega arith) | inr ge ↦ here k (omega (arith, ge, le)) ];
     above = λ k lt. one.others k (λ is. absurd (omega (arith, lt, is))) ∙ so.above k (omega arith);
   }
     where
@@ -201,7 +201,7 @@ module _ (first mid : World) (f g : Faults) (e d : Engine) (i : ℕ) (so : Dropp
     part = subst (λ l. Part first mid f g e d l [])
         (sym (those_on (is_to_drop (memory e)) i ∙ ap (λ l. those (is_to_drop (memory e)) 1 i ++ l) (not_this (is_to_drop (memory e)) (i + 1) no) ∙ append-nil (those (is_to_drop (memory e)) 1 i))) so.part;
     started = so.started;
-    below = λ k le. ⊎_elim (λ lt. so.below k (omega arith)) (λ ge. here k (omega (arith, ge, le))) (cases_lt k (i + 1));
+    below = λ k le. elim (cases_lt k (i + 1)) [ inl lt ↦ so.below k (omega arith) | inr ge ↦ here k (omega (arith, ge, le)) ];
     above = λ k lt. so.above k (omega arith);
   }
     where
@@ -213,7 +213,7 @@ module _ (first mid : World) (f g : Faults) (e d : Engine) (i : ℕ) (so : Dropp
   pub drops_all : i ≡ length (memory e).config.calls → DropsAll (memory e) (memory d)
   drops_all all = record {
     started = so.started;
-    dropped = λ k. ⊎_elim (λ lt. so.above k lt ∙ or_none ((memory e).dropped k) ∙ ap (λ b. (memory e).dropped k || b) (sym (no_drop_past (memory e) k (omega (arith, all, lt))))) (λ ge. so.below k ge) (cases_lt i k);
+    dropped = λ k. elim (cases_lt i k) [ inl lt ↦ so.above k lt ∙ or_none ((memory e).dropped k) ∙ ap (λ b. (memory e).dropped k || b) (sym (no_drop_past (memory e) k (omega (arith, all, lt)))) | inr ge ↦ so.below k ge ];
   }
 
 -- ## The starts
@@ -245,7 +245,7 @@ module _ (first mid : World) (f g : Faults) (e d : Engine) (i : ℕ) (so : Start
         (ap (λ l. those (is_to_start (memory e)) 1 i ++ l) (this_same (is_to_start (memory d)) (is_to_start (memory e)) (i + 1) same_start) ∙ sym (those_on (is_to_start (memory e)) i))
         (starts_then was more));
     dropped = λ k. one.dropped k ∙ so.dropped k;
-    below = λ k le. ⊎_elim (λ lt. one.others k (λ is. absurd (omega (arith, lt, is))) ∙ so.below k (omega arith)) (λ ge. here k (omega (arith, ge, le))) (cases_lt k (i + 1));
+    below = λ k le. elim (cases_lt k (i + 1)) [ inl lt ↦ one.others k (λ is. absurd (omega (arith, lt, is))) ∙ so.below k (omega arith) | inr ge ↦ here k (omega (arith, ge, le)) ];
     above = λ k lt. one.others k (λ is. absurd (omega (arith, lt, is))) ∙ so.above k (omega arith);
   }
     where
@@ -261,7 +261,7 @@ module _ (first mid : World) (f g : Faults) (e d : Engine) (i : ℕ) (so : Start
         part = subst (λ l. Part first mid f g e d [] l)
             (sym (those_on (is_to_start (memory e)) i ∙ ap (λ l. those (is_to_start (memory e)) 1 i ++ l) (not_this (is_to_start (memory e)) (i + 1) no) ∙ append-nil (those (is_to_start (memory e)) 1 i))) so.part;
         dropped = so.dropped;
-        below = λ k le. ⊎_elim (λ lt. so.below k (omega arith)) (λ ge. here no k (omega (arith, ge, le))) (cases_lt k (i + 1));
+        below = λ k le. elim (cases_lt k (i + 1)) [ inl lt ↦ so.below k (omega arith) | inr ge ↦ here no k (omega (arith, ge, le)) ];
         above = λ k lt. so.above k (omega arith);
       }
     where
@@ -273,7 +273,7 @@ module _ (first mid : World) (f g : Faults) (e d : Engine) (i : ℕ) (so : Start
   pub starts_all : i ≡ length (memory e).config.calls → StartsAll (memory e) (memory d)
   starts_all all = record {
     dropped = so.dropped;
-    started = λ k. ⊎_elim (λ lt. so.above k lt ∙ or_none ((memory e).started k) ∙ ap (λ b. (memory e).started k || b) (sym (no_start_past (memory e) k (omega (arith, all, lt))))) (λ ge. so.below k ge) (cases_lt i k);
+    started = λ k. elim (cases_lt i k) [ inl lt ↦ so.above k lt ∙ or_none ((memory e).started k) ∙ ap (λ b. (memory e).started k || b) (sym (no_start_past (memory e) k (omega (arith, all, lt)))) | inr ge ↦ so.below k ge ];
   }
 
 -- ## All
