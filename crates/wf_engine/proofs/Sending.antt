@@ -11,7 +11,7 @@ use Rattle.wf_deeds.specs.Outside.{Outside}
 use Rattle.wf_engine.proofs.Sent.{Goes, OnlyNow, kept_before, kept_then, went_by, went_on}
 use Rattle.wf_engine.proofs.SentLists.{drops_then, just_this, silent_sending, starts_then, those_on, those_same, this_same, not_this}
 use Rattle.wf_engine.specs.Engine.{Holds, is_closed, memory}
-use Rattle.wf_engine.specs.Sending.{DropsAll, DropsOne, SameButSent, Sends, StartsAll, StartsOne, is_to_drop, is_to_start}
+use Rattle.wf_engine.specs.Sending.{DropsAll, DropsOne, SameButSent, Sends, Sent, StartsAll, StartsOne, is_to_drop, is_to_start}
 use Rattle.wf_engine.specs.TheLanguage.{the_language}
 use Rattle.wf_engine.specs.TheOutside.{InTheOutside}
 use Rattle.wf_engine.specs.declared.engine.Engine.{Engine}
@@ -63,19 +63,8 @@ settled_on m n settled same owed = record {
 }
 
 -- ## Parts
--- a part of what is sent has gone well
-pub record Part (first now : World) (f g : Faults) (e d : Engine) (js ks : List ℕ) : Type 0 where
-  pub not_closed : is_closed d ≡ false
-  pub holds : Told first (Holds d now)
-  pub same : SameButSent (memory e) (memory d)
-  pub sends : InTheOutside (λ O. Told first (Sends the_language O (memory e) (memory d) first now js ks))
-  pub moments : InTheOutside (λ O. Told first (KeptThroughout the_language O (memory e) first now))
-  pub seen : Told first (now.seen ≡ first.seen)
-  pub tells : now.tells ≡ first.tells
-  pub counts : NoneFell f g
-
 -- nothing yet
-pub part_first : StandsIsKept → (w : World) (f : Faults) (e : Engine) → Told w (OnlyNow w) → is_closed e ≡ false → Told w (Holds e w) → Part w w f f e e [] []
+pub part_first : StandsIsKept → (w : World) (f : Faults) (e : Engine) → Told w (OnlyNow w) → is_closed e ≡ false → Told w (Holds e w) → Sent w w f f e e [] []
 part_first moment w f e only not_closed holds = record {
   not_closed = not_closed;
   holds = holds;
@@ -91,7 +80,7 @@ part_first moment w f e only not_closed holds = record {
   counts = none_fell f;
 }
 
-module _ (first mid : World) (f g : Faults) (e d : Engine) (js ks : List ℕ) (so : Part first mid f g e d js ks) where
+module _ (first mid : World) (f g : Faults) (e d : Engine) (js ks : List ℕ) (so : Sent first mid f g e d js ks) where
   -- and then more, whether it went well or not
   pub moments_then : (new : World) → InTheOutside (λ O. Told mid (KeptThroughout the_language O (memory d) mid new)) → InTheOutside (λ O. Told first (KeptThroughout the_language O (memory e) first new))
   moments_then new next = λ O told.
@@ -99,7 +88,7 @@ module _ (first mid : World) (f g : Faults) (e d : Engine) (js ks : List ℕ) (s
       kept_then the_language O (memory e) (memory d) first mid a.done a.went (so.seen told) so.same.session (silent_sending a.sends) d.history new
       (so.moments O told) (so.holds told).0 (d.ready so.not_closed).begun (next O (told_then first mid so.tells told))
 
-  pub part_then : (new : World) (h : Faults) (c : Engine) (ls ms is os : List ℕ) → Part mid new g h d c ls ms → ((ds es : List Deed) → IsSending js ks ds → IsSending ls ms es → IsSending is os (ds ++ es)) → Part first new f h e c is os
+  pub part_then : (new : World) (h : Faults) (c : Engine) (ls ms is os : List ℕ) → Sent mid new g h d c ls ms → ((ds es : List Deed) → IsSending js ks ds → IsSending ls ms es → IsSending is os (ds ++ es)) → Sent first new f h e c is os
   part_then new h c ls ms is os next join = record {
     not_closed = next.not_closed;
     holds = λ told. next.holds (told_then first mid so.tells told);
@@ -159,12 +148,12 @@ no_start_past m k past = starts_no_shut m k (ap request_in (past_answered m.conf
 
 -- ## The drops
 pub record Dropping (first now : World) (f g : Faults) (e d : Engine) (i : ℕ) : Type 0 where
-  pub part : Part first now f g e d (those (is_to_drop (memory e)) 1 i) []
+  pub part : Sent first now f g e d (those (is_to_drop (memory e)) 1 i) []
   pub started : (k : ℕ) → (memory d).started k ≡ (memory e).started k
   pub below : (k : ℕ) → k ≤ i → (memory d).dropped k ≡ (memory e).dropped k || is_to_drop (memory e) k
   pub above : (k : ℕ) → i < k → (memory d).dropped k ≡ (memory e).dropped k
 
-pub drops_first : (w : World) (f : Faults) (e : Engine) → Part w w f f e e [] [] → Dropping w w f f e e 0
+pub drops_first : (w : World) (f : Faults) (e : Engine) → Sent w w f f e e [] [] → Dropping w w f f e e 0
 drops_first w f e part = record {
   part = part;
   started = λ k. refl;
@@ -180,7 +169,7 @@ module _ (first mid : World) (f g : Faults) (e d : Engine) (i : ℕ) (so : Dropp
       ∙ ap (λ b. is_timed_out (call (memory e).config (i + 1)) && (memory e).started (i + 1) && not b) (so.above (i + 1) (omega arith))
 
   -- this call is dropped, if it is to be
-  pub drops_on : (new : World) (h : Faults) (c : Engine) → Part mid new g h d c (those (is_to_drop (memory d)) (i + 1) 1) [] → DropsOne (memory d) (memory c) (i + 1) → Dropping first new f h e c (i + 1)
+  pub drops_on : (new : World) (h : Faults) (c : Engine) → Sent mid new g h d c (those (is_to_drop (memory d)) (i + 1) 1) [] → DropsOne (memory d) (memory c) (i + 1) → Dropping first new f h e c (i + 1)
   drops_on new h c next one = record {
     part = part_then first mid f g e d (those (is_to_drop (memory e)) 1 i) [] so.part new h c (those (is_to_drop (memory d)) (i + 1) 1) [] (those (is_to_drop (memory e)) 1 (i + 1)) [] next
         (λ ds es was more. subst (λ l. IsSending l [] (ds ++ es))
@@ -198,7 +187,7 @@ module _ (first mid : World) (f g : Faults) (e d : Engine) (i : ℕ) (so : Dropp
   -- this call is open
   pub drops_pass : is_to_drop (memory e) (i + 1) ≡ false → Dropping first mid f g e d (i + 1)
   drops_pass no = record {
-    part = subst (λ l. Part first mid f g e d l [])
+    part = subst (λ l. Sent first mid f g e d l [])
         (sym (those_on (is_to_drop (memory e)) i ∙ ap (λ l. those (is_to_drop (memory e)) 1 i ++ l) (not_this (is_to_drop (memory e)) (i + 1) no) ∙ append-nil (those (is_to_drop (memory e)) 1 i))) so.part;
     started = so.started;
     below = λ k le. elim (cases_lt k (i + 1)) [ inl lt ↦ so.below k (omega arith) | inr ge ↦ here k (omega (arith, ge, le)) ];
@@ -218,12 +207,12 @@ module _ (first mid : World) (f g : Faults) (e d : Engine) (i : ℕ) (so : Dropp
 
 -- ## The starts
 pub record Starting (first now : World) (f g : Faults) (e d : Engine) (i : ℕ) : Type 0 where
-  pub part : Part first now f g e d [] (those (is_to_start (memory e)) 1 i)
+  pub part : Sent first now f g e d [] (those (is_to_start (memory e)) 1 i)
   pub dropped : (k : ℕ) → (memory d).dropped k ≡ (memory e).dropped k
   pub below : (k : ℕ) → k ≤ i → (memory d).started k ≡ (memory e).started k || is_to_start (memory e) k
   pub above : (k : ℕ) → i < k → (memory d).started k ≡ (memory e).started k
 
-pub starts_first : (w : World) (f : Faults) (e : Engine) → Part w w f f e e [] [] → Starting w w f f e e 0
+pub starts_first : (w : World) (f : Faults) (e : Engine) → Sent w w f f e e [] [] → Starting w w f f e e 0
 starts_first w f e part = record {
   part = part;
   dropped = λ k. refl;
@@ -238,7 +227,7 @@ module _ (first mid : World) (f g : Faults) (e d : Engine) (i : ℕ) (so : Start
       ∙ ap (λ b. is_some (request_of (memory e).config (i + 1)) && not b) (so.above (i + 1) (omega arith))
 
   -- this call is started, if it is to be
-  pub starts_on : (new : World) (h : Faults) (c : Engine) → Part mid new g h d c [] (those (is_to_start (memory d)) (i + 1) 1) → StartsOne (memory d) (memory c) (i + 1) → Starting first new f h e c (i + 1)
+  pub starts_on : (new : World) (h : Faults) (c : Engine) → Sent mid new g h d c [] (those (is_to_start (memory d)) (i + 1) 1) → StartsOne (memory d) (memory c) (i + 1) → Starting first new f h e c (i + 1)
   starts_on new h c next one = record {
     part = part_then first mid f g e d [] (those (is_to_start (memory e)) 1 i) so.part new h c [] (those (is_to_start (memory d)) (i + 1) 1) [] (those (is_to_start (memory e)) 1 (i + 1)) next
         (λ ds es was more. subst (λ l. IsSending [] l (ds ++ es))
@@ -258,7 +247,7 @@ module _ (first mid : World) (f g : Faults) (e d : Engine) (i : ℕ) (so : Start
   starts_pass was =
       let no : is_to_start (memory e) (i + 1) ≡ false = starts_no_old (memory e) (i + 1) (sym (so.above (i + 1) (omega arith)) ∙ was) in
       record {
-        part = subst (λ l. Part first mid f g e d [] l)
+        part = subst (λ l. Sent first mid f g e d [] l)
             (sym (those_on (is_to_start (memory e)) i ∙ ap (λ l. those (is_to_start (memory e)) 1 i ++ l) (not_this (is_to_start (memory e)) (i + 1) no) ∙ append-nil (those (is_to_start (memory e)) 1 i))) so.part;
         dropped = so.dropped;
         below = λ k le. elim (cases_lt k (i + 1)) [ inl lt ↦ so.below k (omega arith) | inr ge ↦ here no k (omega (arith, ge, le)) ];

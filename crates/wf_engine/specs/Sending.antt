@@ -2,12 +2,16 @@
 --     SameButSent           what stays
 --     is_to_drop, DropsOne, DropsAll
 --     is_to_start, StartsOne, StartsAll    of one call, and of all calls
---     Sends                 what it stands for besides
-use Rattle.std.specs.Prelude.{◌≡◌, ◌≢◌, ◌&&◌, ◌||◌, ℕ, Bool, true, not, is_some, List}
-use Rattle.wf_deeds.specs.Clauses.{IsSending, Went, is_timed_out}
+--     Sends, Sent           what it stands for besides, and what a part that went well leaves
+use Rattle.std.specs.Prelude.{◌≡◌, ◌≢◌, ◌&&◌, ◌||◌, ℕ, Bool, true, false, not, is_some, List}
+use Rattle.wf_deeds.specs.Clauses.{IsSending, KeptThroughout, Went, is_timed_out}
 use Rattle.wf_deeds.specs.Memory.{Memory}
 use Rattle.wf_deeds.specs.Outside.{Outside}
-use Rattle.wf_host.specs.World.{World}
+use Rattle.wf_engine.specs.Engine.{Holds, is_closed, memory}
+use Rattle.wf_engine.specs.TheLanguage.{the_language}
+use Rattle.wf_engine.specs.TheOutside.{InTheOutside}
+use Rattle.wf_engine.specs.declared.engine.Engine.{Engine}
+use Rattle.wf_host.specs.World.{World, Faults, NoneFell, Told}
 use Rattle.wf_host.specs.declared.data.Deed.{Deed}
 use Rattle.wf_journal_laws.specs.Language.{Language}
 use Rattle.wf_model.specs.Ready.{call, request_of}
@@ -53,9 +57,20 @@ pub record StartsAll (m n : Memory) : Type 0 where
   pub dropped : (k : ℕ) → n.dropped k ≡ m.dropped k
   pub started : (k : ℕ) → n.started k ≡ m.started k || is_to_start m k
 
--- ## Both
+-- ## Parts
 -- it stands for drops of these calls and then starts of those besides
 pub record Sends (L : Language) (O : Outside) (m n : Memory) (old new : World) (js ks : List ℕ) : Type 0 where
   pub done : List Deed
   pub went : Went L O m n old new done
   pub sends : IsSending js ks done
+
+-- a part of what is sent went well: of an engine and what it is then, over a host and its counts of faults
+pub record Sent (old new : World) (f g : Faults) (e d : Engine) (js ks : List ℕ) : Type 0 where
+  pub not_closed : is_closed d ≡ false
+  pub holds : Told old (Holds d new)
+  pub same : SameButSent (memory e) (memory d)
+  pub sends : InTheOutside (λ O. Told old (Sends the_language O (memory e) (memory d) old new js ks))
+  pub moments : InTheOutside (λ O. Told old (KeptThroughout the_language O (memory e) old new))
+  pub seen : Told old (new.seen ≡ old.seen)
+  pub tells : new.tells ≡ old.tells
+  pub counts : NoneFell f g

@@ -10,7 +10,7 @@ impl Engine {
     ghost use Rattle.wf_deeds.specs.Clauses.{KeptThroughout, SendsOpen, those, to_drop, to_start};
     ghost use Rattle.wf_deeds.specs.Memory.{AllIsSent, IsSettled};
     ghost use Rattle.wf_engine.specs.Engine.{Holds, is_closed, memory};
-    ghost use Rattle.wf_engine.specs.Sending.{DropsAll, DropsOne, SameButSent, Sends, StartsAll, StartsOne, is_to_drop, is_to_start};
+    ghost use Rattle.wf_engine.specs.Sending.{DropsAll, DropsOne, SameButSent, Sent, StartsAll, StartsOne, is_to_drop, is_to_start};
     ghost use Rattle.wf_engine.specs.TheLanguage.{the_language};
     ghost use Rattle.wf_engine.specs.TheOutside.{InTheOutside};
     ghost use Rattle.wf_host.specs.Calls.{NoCountFalls, ReadsAsBefore, TellsAsBefore};
@@ -58,7 +58,8 @@ impl Engine {
             return Ok(());
         }
         self.drop_closed(host)?;
-        self.start_open(host)
+        self.start_open(host)?;
+        Ok(())
     }
 
     /// Drops each started call that timed out, and lets go what was heard of those that aren't open.
@@ -66,20 +67,15 @@ impl Engine {
         requires not_closed { is_closed self.old ≡ false }
         requires kept { Told (H.world host.old) (Holds self.old (H.world host.old)) }
         requires settled { IsSettled (memory self.old) }
-        ensures holds { is_closed self.new ≡ false
-            → Told (H.world host.old) (Holds self.new (H.world host.new)) }
-        ensures sends { InTheOutside (λ O. Told (H.world host.old)
-            (OnOk result (Sends the_language O (memory self.old) (memory self.new)
-            (H.world host.old) (H.world host.new) (to_drop (memory self.old)) []))) }
+        ensures sent { OnOk result (Sent (H.world host.old) (H.world host.new) (H.faults host.old)
+            (H.faults host.new) self.old self.new (to_drop (memory self.old)) []) }
         ensures any_moment { InTheOutside (λ O. Told (H.world host.old)
             (KeptThroughout the_language O (memory self.old) (H.world host.old)
             (H.world host.new))) }
         ensures drops { OnOk result (DropsAll (memory self.old) (memory self.new)) }
-        ensures same { OnOk result (SameButSent (memory self.old) (memory self.new)) }
         ensures session { (memory self.new).session ≡ (memory self.old).session }
         ensures seen { ReadsAsBefore H.world host.old host.new }
         ensures closes { OnErr result (is_closed self.new ≡ true) }
-        ensures open { OnOk result (is_closed self.new ≡ false) }
         ensures only { IfErr result (λ e. e ≡ EngineFault.OutOfMemory) }
         ensures tells { TellsAsBefore H.world host.old host.new }
         ensures counts { NoCountFalls H.faults host.old host.new }
@@ -100,21 +96,15 @@ impl Engine {
         requires kept { Told (H.world host.old) (Holds self.old (H.world host.old)) }
         requires settled { IsSettled (memory self.old) }
         requires shut { request_of (memory self.old).config call ≡ None }
-        ensures holds { is_closed self.new ≡ false
-            → Told (H.world host.old) (Holds self.new (H.world host.new)) }
-        ensures sends { InTheOutside (λ O. Told (H.world host.old)
-            (OnOk result (Sends the_language O (memory self.old) (memory self.new)
-            (H.world host.old) (H.world host.new)
-            (those (is_to_drop (memory self.old)) call 1) []))) }
+        ensures sent { OnOk result (Sent (H.world host.old) (H.world host.new) (H.faults host.old)
+            (H.faults host.new) self.old self.new (those (is_to_drop (memory self.old)) call 1) []) }
         ensures any_moment { InTheOutside (λ O. Told (H.world host.old)
             (KeptThroughout the_language O (memory self.old) (H.world host.old)
             (H.world host.new))) }
         ensures drops { OnOk result (DropsOne (memory self.old) (memory self.new) call) }
-        ensures same { OnOk result (SameButSent (memory self.old) (memory self.new)) }
         ensures session { (memory self.new).session ≡ (memory self.old).session }
         ensures seen { ReadsAsBefore H.world host.old host.new }
         ensures closes { OnErr result (is_closed self.new ≡ true) }
-        ensures open { OnOk result (is_closed self.new ≡ false) }
         ensures only { IfErr result (λ e. e ≡ EngineFault.OutOfMemory) }
         ensures tells { TellsAsBefore H.world host.old host.new }
         ensures counts { NoCountFalls H.faults host.old host.new }
@@ -147,20 +137,15 @@ impl Engine {
         requires kept { Told (H.world host.old) (Holds self.old (H.world host.old)) }
         requires settled { IsSettled (memory self.old) }
         requires active { (memory self.old).config.outcome ≡ Active }
-        ensures holds { is_closed self.new ≡ false
-            → Told (H.world host.old) (Holds self.new (H.world host.new)) }
-        ensures sends { InTheOutside (λ O. Told (H.world host.old)
-            (OnOk result (Sends the_language O (memory self.old) (memory self.new)
-            (H.world host.old) (H.world host.new) [] (to_start (memory self.old))))) }
+        ensures sent { OnOk result (Sent (H.world host.old) (H.world host.new) (H.faults host.old)
+            (H.faults host.new) self.old self.new [] (to_start (memory self.old))) }
         ensures any_moment { InTheOutside (λ O. Told (H.world host.old)
             (KeptThroughout the_language O (memory self.old) (H.world host.old)
             (H.world host.new))) }
         ensures starts { OnOk result (StartsAll (memory self.old) (memory self.new)) }
-        ensures same { OnOk result (SameButSent (memory self.old) (memory self.new)) }
         ensures session { (memory self.new).session ≡ (memory self.old).session }
         ensures seen { ReadsAsBefore H.world host.old host.new }
         ensures closes { OnErr result (is_closed self.new ≡ true) }
-        ensures open { OnOk result (is_closed self.new ≡ false) }
         ensures only { IfErr result (λ e. e ≡ EngineFault.OutOfMemory) }
         ensures tells { TellsAsBefore H.world host.old host.new }
         ensures counts { NoCountFalls H.faults host.old host.new }
@@ -182,25 +167,20 @@ impl Engine {
         requires settled { IsSettled (memory self.old) }
         requires active { (memory self.old).config.outcome ≡ Active }
         requires first { (memory self.old).started call ≡ false }
-        ensures holds { is_closed self.new ≡ false
-            → Told (H.world host.old) (Holds self.new (H.world host.new)) }
-        ensures sends { InTheOutside (λ O. Told (H.world host.old)
-            (OnOk result (Sends the_language O (memory self.old) (memory self.new)
-            (H.world host.old) (H.world host.new) []
-            (those (is_to_start (memory self.old)) call 1)))) }
+        ensures sent { OnOk result (Sent (H.world host.old) (H.world host.new) (H.faults host.old)
+            (H.faults host.new) self.old self.new [] (those (is_to_start (memory self.old)) call 1)) }
         ensures any_moment { InTheOutside (λ O. Told (H.world host.old)
             (KeptThroughout the_language O (memory self.old) (H.world host.old)
             (H.world host.new))) }
         ensures starts { OnOk result (StartsOne (memory self.old) (memory self.new) call) }
-        ensures same { OnOk result (SameButSent (memory self.old) (memory self.new)) }
         ensures session { (memory self.new).session ≡ (memory self.old).session }
         ensures seen { ReadsAsBefore H.world host.old host.new }
         ensures closes { OnErr result (is_closed self.new ≡ true) }
-        ensures open { OnOk result (is_closed self.new ≡ false) }
         ensures only { IfErr result (λ e. e ≡ EngineFault.OutOfMemory) }
         ensures tells { TellsAsBefore H.world host.old host.new }
         ensures counts { NoCountFalls H.faults host.old host.new }
     {
+        laws_of_steps();
         let Some(request) = self.machine.request(call) else {
             return Ok(());
         };
