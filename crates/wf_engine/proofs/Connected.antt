@@ -1,7 +1,8 @@
 -- What a call that is forgotten, dropped or started changes.
-use Rattle.std.specs.Prelude.{◌≡◌, ◌≢◌, ◌⊎◌, ◌↔◌, ◌≤◌, ◌<◌, ◌&&◌, ◌||◌, ℕ, Bool, true, false, not, IsTrue, is_some, nat_eq, List, [], ◌∷◌, length, Option, Some, None}
-use Rattle.std.proofs.Common.{inl, inr, refl, sym, ◌∙◌, ap, subst, arith}
+use Rattle.std.specs.Prelude.{◌≡◌, ◌≢◌, ◌⊎◌, ◌↔◌, ◌≤◌, ◌<◌, ◌&&◌, ◌||◌, ℕ, Bool, true, false, not, IsTrue, is_some, nat_eq, List, [], ◌∷◌, length, Option, Some, None, option_map}
+use Rattle.std.proofs.Common.{Bor, inl, inr, refl, sym, ◌∙◌, ap, subst, arith}
 use Rattle.std.proofs.lemmas.Bool.{cases_lt, eq-eqb, eqb-true}
+use Rattle.std.specs.Option.{option_copied}
 use Rattle.wf_connections.specs.Calls.{Drops, Forgets, Starts, is_dropped, is_started, listens, told}
 use Rattle.wf_connections.specs.declared.connections.Connections.{Connections}
 use Rattle.wf_deeds.specs.Clauses.{is_timed_out}
@@ -15,6 +16,8 @@ use Rattle.wf_engine.specs.Sending.{DropsOne, SameButSent, StartsOne, is_to_drop
 use Rattle.wf_events.specs.View.{address_view}
 use Rattle.wf_host.specs.declared.data.Address.{Address}
 use Rattle.wf_host.specs.declared.data.Deed.TheVariants.{Drop, Start}
+use Rattle.wf_http_ask.specs.View.{request_view}
+use Rattle.wf_http_ask.specs.declared.request.Request as own
 use Rattle.wf_journal_laws.specs.Language.{Language}
 use Rattle.wf_model.specs.Config.{Active, Answered, Call, Config, Open, TimedOut}
 use Rattle.wf_model.specs.Ready.{call, request_in, request_of}
@@ -59,6 +62,15 @@ module _ (m : Memory) (k : ℕ) (is : is_to_drop m k ≡ true) where
 
   pub drops_started : m.started k ≡ true
   drops_started = and_second (is_timed_out (call m.config k)) (m.started k) (not (m.dropped k)) is
+
+-- as a machine lends the request of a call
+pub lent_some : (r : Option (Bor own.Request)) (o : Option Request) → option_map request_view (option_copied r) ≡ o → is_some r ≡ true → (q : Request) × (o ≡ Some q)
+lent_some (Some q) o is some = (request_view q.now, sym is)
+lent_some None o is some = absurd (cc some)
+
+pub lent_none : (r : Option (Bor own.Request)) (o : Option Request) → option_map request_view (option_copied r) ≡ o → is_some r ≡ false → o ≡ None
+lent_none None o is none = sym is
+lent_none (Some q) o is none = absurd (cc none)
 
 -- a call with a request was issued
 was_issued : (c : Config) (k : ℕ) (q : Request) → request_of c k ≡ Some q → k ≤ length c.calls

@@ -9,7 +9,7 @@ use Rattle.wf_deeds.specs.Kept.{IsOpen}
 use Rattle.wf_deeds.specs.Memory.{AllIsSent, IsSettled, Memory, StandsFor}
 use Rattle.wf_deeds.specs.Outside.{Outside}
 use Rattle.wf_engine.proofs.Sent.{Goes, OnlyNow, kept_before, kept_then, went_by, went_on}
-use Rattle.wf_engine.proofs.SentLists.{drops_then, just_this, silent_sending, starts_then, those_on, those_same, this_same, not_this}
+use Rattle.wf_engine.proofs.SentLists.{drops_then, just_this, silent_sending, starts_then, those_on, those_same, this_same}
 use Rattle.wf_engine.specs.Engine.{Holds, is_closed, memory}
 use Rattle.wf_engine.specs.Sending.{DropsAll, DropsOne, SameButSent, Sends, Sent, StartsAll, StartsOne, is_to_drop, is_to_start}
 use Rattle.wf_engine.specs.TheLanguage.{the_language}
@@ -32,10 +32,10 @@ use Rattle.wf_shared.specs.HttpRequest.{Request}
 pub told_then : (w new : World) → new.tells ≡ w.tells → IsTrue w.tells → IsTrue new.tells
 told_then w new same told = subst IsTrue (sym same) told
 
-none_fell : (f : Faults) → NoneFell f f
+pub none_fell : (f : Faults) → NoneFell f f
 none_fell f = record { disk = omega arith; poll = omega arith; print = omega arith }
 
-falls_then : (f g h : Faults) → NoneFell f g → NoneFell g h → NoneFell f h
+pub falls_then : (f g h : Faults) → NoneFell f g → NoneFell g h → NoneFell f h
 falls_then f g h a b = record { disk = omega (arith, a.disk, b.disk); poll = omega (arith, a.poll, b.poll); print = omega (arith, a.print, b.print) }
 
 -- ## Memories
@@ -63,6 +63,9 @@ settled_on m n settled same owed = record {
 }
 
 -- ## Parts
+goes_same : (L : Language) (O : Outside) (m : Memory) → Goes L O m m []
+goes_same L O m = λ command handed J D s. subst (λ E. StandsFor L O command handed m J E) (sym (append-nil D)) s
+
 -- nothing yet
 pub part_first : StandsIsKept → (w : World) (f : Faults) (e : Engine) → Told w (OnlyNow w) → is_closed e ≡ false → Told w (Holds e w) → Sent w w f f e e [] []
 part_first moment w f e only not_closed holds = record {
@@ -71,7 +74,7 @@ part_first moment w f e only not_closed holds = record {
   same = all_same (memory e);
   sends = λ O told. record {
     done = [];
-    went = went_by the_language O (memory e) (memory e) w w [] (λ command handed J D s. subst (λ E. StandsFor the_language O command handed (memory e) J E) (sym (append-nil D)) s) (sym (append-nil w.deeds)) refl;
+    went = went_by the_language O (memory e) (memory e) w w [] (goes_same the_language O (memory e)) (sym (append-nil w.deeds)) refl;
     sends = none;
   };
   moments = λ O told. kept_before moment the_language O (memory e) e.history w (only told) (holds told).0 (e.ready not_closed).begun;
@@ -79,6 +82,11 @@ part_first moment w f e only not_closed holds = record {
   tells = refl;
   counts = none_fell f;
 }
+
+-- where there is nothing to do
+pub part_none : StandsIsKept → (w : World) (f : Faults) (e : Engine) (js ks : List ℕ) → Told w (OnlyNow w) → is_closed e ≡ false → Told w (Holds e w) → js ≡ [] → ks ≡ [] → Sent w w f f e e js ks
+part_none moment w f e js ks only not_closed holds no_drop no_start =
+    subst (λ l. Sent w w f f e e l ks) (sym no_drop) (subst (λ l. Sent w w f f e e [] l) (sym no_start) (part_first moment w f e only not_closed holds))
 
 module _ (first mid : World) (f g : Faults) (e d : Engine) (js ks : List ℕ) (so : Sent first mid f g e d js ks) where
   -- and then more, whether it went well or not
@@ -139,6 +147,13 @@ module _ (m : Memory) (k : ℕ) where
       by false true is = refl
       by a false is = absurd (cc is)
 
+-- so nothing is done
+pub drops_none : (m : Memory) (k : ℕ) → is_to_drop m k ≡ false → DropsOne m m k
+drops_none m k no = record { started = λ j. refl; here = or_none (m.dropped k) ∙ ap (λ b. m.dropped k || b) (sym no); others = λ j other. refl }
+
+pub starts_none : (m : Memory) (k : ℕ) → is_to_start m k ≡ false → StartsOne m m k
+starts_none m k no = record { dropped = λ j. refl; here = or_none (m.started k) ∙ ap (λ b. m.started k || b) (sym no); others = λ j other. refl }
+
 -- past the last call there is nothing to do
 pub no_drop_past : (m : Memory) (k : ℕ) → length m.config.calls < k → is_to_drop m k ≡ false
 no_drop_past m k past = drops_no_other m k Answered (past_answered m.config k past) refl
@@ -184,20 +199,6 @@ module _ (first mid : World) (f g : Faults) (e d : Engine) (i : ℕ) (so : Dropp
       here k is = subst (λ n. (memory c).dropped n ≡ (memory e).dropped n || is_to_drop (memory e) n) (sym is)
           (one.here ∙ ap (λ b. b || is_to_drop (memory d) (i + 1)) (so.above (i + 1) (omega arith)) ∙ ap (λ b. (memory e).dropped (i + 1) || b) same_test)
 
-  -- this call is open
-  pub drops_pass : is_to_drop (memory e) (i + 1) ≡ false → Dropping first mid f g e d (i + 1)
-  drops_pass no = record {
-    part = subst (λ l. Sent first mid f g e d l [])
-        (sym (those_on (is_to_drop (memory e)) i ∙ ap (λ l. those (is_to_drop (memory e)) 1 i ++ l) (not_this (is_to_drop (memory e)) (i + 1) no) ∙ append-nil (those (is_to_drop (memory e)) 1 i))) so.part;
-    started = so.started;
-    below = λ k le. elim (cases_lt k (i + 1)) [ inl lt ↦ so.below k (omega arith) | inr ge ↦ here k (omega (arith, ge, le)) ];
-    above = λ k lt. so.above k (omega arith);
-  }
-    where
-      here : (k : ℕ) → k ≡ i + 1 → (memory d).dropped k ≡ (memory e).dropped k || is_to_drop (memory e) k
-      here k is = subst (λ n. (memory d).dropped n ≡ (memory e).dropped n || is_to_drop (memory e) n) (sym is)
-          (so.above (i + 1) (omega arith) ∙ or_none ((memory e).dropped (i + 1)) ∙ ap (λ b. (memory e).dropped (i + 1) || b) (sym no))
-
   -- all are dropped that are to be
   pub drops_all : i ≡ length (memory e).config.calls → DropsAll (memory e) (memory d)
   drops_all all = record {
@@ -241,22 +242,6 @@ module _ (first mid : World) (f g : Faults) (e d : Engine) (i : ℕ) (so : Start
       here : (k : ℕ) → k ≡ i + 1 → (memory c).started k ≡ (memory e).started k || is_to_start (memory e) k
       here k is = subst (λ n. (memory c).started n ≡ (memory e).started n || is_to_start (memory e) n) (sym is)
           (one.here ∙ ap (λ b. b || is_to_start (memory d) (i + 1)) (so.above (i + 1) (omega arith)) ∙ ap (λ b. (memory e).started (i + 1) || b) same_start)
-
-  -- this call was started before
-  pub starts_pass : (memory d).started (i + 1) ≡ true → Starting first mid f g e d (i + 1)
-  starts_pass was =
-      let no : is_to_start (memory e) (i + 1) ≡ false = starts_no_old (memory e) (i + 1) (sym (so.above (i + 1) (omega arith)) ∙ was) in
-      record {
-        part = subst (λ l. Sent first mid f g e d [] l)
-            (sym (those_on (is_to_start (memory e)) i ∙ ap (λ l. those (is_to_start (memory e)) 1 i ++ l) (not_this (is_to_start (memory e)) (i + 1) no) ∙ append-nil (those (is_to_start (memory e)) 1 i))) so.part;
-        dropped = so.dropped;
-        below = λ k le. elim (cases_lt k (i + 1)) [ inl lt ↦ so.below k (omega arith) | inr ge ↦ here no k (omega (arith, ge, le)) ];
-        above = λ k lt. so.above k (omega arith);
-      }
-    where
-      here : is_to_start (memory e) (i + 1) ≡ false → (k : ℕ) → k ≡ i + 1 → (memory d).started k ≡ (memory e).started k || is_to_start (memory e) k
-      here no k is = subst (λ n. (memory d).started n ≡ (memory e).started n || is_to_start (memory e) n) (sym is)
-          (so.above (i + 1) (omega arith) ∙ or_none ((memory e).started (i + 1)) ∙ ap (λ b. (memory e).started (i + 1) || b) (sym no))
 
   -- all are started that are to be
   pub starts_all : i ≡ length (memory e).config.calls → StartsAll (memory e) (memory d)

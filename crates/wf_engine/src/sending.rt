@@ -6,7 +6,7 @@ use wf_host::Host;
 use wf_machine::Outcome;
 
 impl Engine {
-    ghost use Rattle.std.specs.Prelude.{◌≡◌, ◌≢◌, ◌⊎◌, ◌↔◌, [], true, false, None, IfErr, IsErrOf, OnErr, OnOk};
+    ghost use Rattle.std.specs.Prelude.{◌≡◌, ◌≢◌, ◌⊎◌, ◌↔◌, [], true, false, IfErr, IsErrOf, OnErr, OnOk};
     ghost use Rattle.wf_deeds.specs.Clauses.{KeptThroughout, SendsOpen, those, to_drop, to_start};
     ghost use Rattle.wf_deeds.specs.Memory.{AllIsSent, IsSettled};
     ghost use Rattle.wf_engine.specs.Engine.{Holds, is_closed, memory};
@@ -16,7 +16,6 @@ impl Engine {
     ghost use Rattle.wf_host.specs.Calls.{NoCountFalls, ReadsAsBefore, TellsAsBefore};
     ghost use Rattle.wf_host.specs.World.{Told};
     ghost use Rattle.wf_model.specs.Config.{Active};
-    ghost use Rattle.wf_model.specs.Ready.{request_of};
 
     /// Drops each started call that timed out, and starts each open call that this engine hasn't started, in the order of their numbers.
     /// With an outcome it does nothing.
@@ -82,20 +81,16 @@ impl Engine {
     {
         laws_of_steps();
         for place in 0..self.machine.calls() {
-            let call = place + 1;
-            if self.machine.request(call).is_none() {
-                self.drop_one(host, call)?;
-            }
+            self.drop_one(host, place + 1)?;
         }
         Ok(())
     }
 
-    /// Drops a call that isn't open, if it was started and timed out, and lets go what was heard of it.
+    /// Drops a call, if it was started and timed out. Where it isn't open what was heard of it is let go.
     fn drop_one<H: Host>(&mut self, host: &mut H, call: u64) -> Result<(), EngineFault>
         requires not_closed { is_closed self.old ≡ false }
         requires kept { Told (H.world host.old) (Holds self.old (H.world host.old)) }
         requires settled { IsSettled (memory self.old) }
-        requires shut { request_of (memory self.old).config call ≡ None }
         ensures sent { OnOk result (Sent (H.world host.old) (H.world host.new) (H.faults host.old)
             (H.faults host.new) self.old self.new (those (is_to_drop (memory self.old)) call 1) []) }
         ensures any_moment { InTheOutside (λ O. Told (H.world host.old)
@@ -110,6 +105,9 @@ impl Engine {
         ensures counts { NoCountFalls H.faults host.old host.new }
     {
         laws_of_steps();
+        if self.machine.request(call).is_some() {
+            return Ok(());
+        }
         if !self.is_to_drop(call) {
             self.connections.forget(call);
             return Ok(());
@@ -152,21 +150,17 @@ impl Engine {
     {
         laws_of_steps();
         for place in 0..self.machine.calls() {
-            let call = place + 1;
-            if !self.connections.is_started(call) {
-                self.start_one(host, call)?;
-            }
+            self.start_one(host, place + 1)?;
         }
         Ok(())
     }
 
-    /// Starts a call that wasn't started, where it is open.
+    /// Starts a call, if it is open and wasn't started.
     fn start_one<H: Host>(&mut self, host: &mut H, call: u64) -> Result<(), EngineFault>
         requires not_closed { is_closed self.old ≡ false }
         requires kept { Told (H.world host.old) (Holds self.old (H.world host.old)) }
         requires settled { IsSettled (memory self.old) }
         requires active { (memory self.old).config.outcome ≡ Active }
-        requires first { (memory self.old).started call ≡ false }
         ensures sent { OnOk result (Sent (H.world host.old) (H.world host.new) (H.faults host.old)
             (H.faults host.new) self.old self.new [] (those (is_to_start (memory self.old)) call 1)) }
         ensures any_moment { InTheOutside (λ O. Told (H.world host.old)
@@ -181,6 +175,9 @@ impl Engine {
         ensures counts { NoCountFalls H.faults host.old host.new }
     {
         laws_of_steps();
+        if self.connections.is_started(call) {
+            return Ok(());
+        }
         let Some(request) = self.machine.request(call) else {
             return Ok(());
         };
