@@ -206,6 +206,9 @@ module _ (first mid : World) (f g : Faults) (e d : Engine) (i : ℕ) (so : Dropp
     dropped = λ k. elim (cases_lt i k) [ inl lt ↦ so.above k lt ∙ or_none ((memory e).dropped k) ∙ ap (λ b. (memory e).dropped k || b) (sym (no_drop_past (memory e) k (omega (arith, all, lt)))) | inr ge ↦ so.below k ge ];
   }
 
+  pub drops_sent : i ≡ length (memory e).config.calls → Sent first mid f g e d (to_drop (memory e)) []
+  drops_sent all = subst (λ n. Sent first mid f g e d (those (is_to_drop (memory e)) 1 n) []) all so.part
+
 -- ## The starts
 pub record Starting (first now : World) (f g : Faults) (e d : Engine) (i : ℕ) : Type 0 where
   pub part : Sent first now f g e d [] (those (is_to_start (memory e)) 1 i)
@@ -249,6 +252,9 @@ module _ (first mid : World) (f g : Faults) (e d : Engine) (i : ℕ) (so : Start
     dropped = so.dropped;
     started = λ k. elim (cases_lt i k) [ inl lt ↦ so.above k lt ∙ or_none ((memory e).started k) ∙ ap (λ b. (memory e).started k || b) (sym (no_start_past (memory e) k (omega (arith, all, lt)))) | inr ge ↦ so.below k ge ];
   }
+
+  pub starts_sent : i ≡ length (memory e).config.calls → Sent first mid f g e d [] (to_start (memory e))
+  starts_sent all = subst (λ n. Sent first mid f g e d [] (those (is_to_start (memory e)) 1 n)) all so.part
 
 -- ## All
 either_is : (a : Bool) → a || (true && not a) ≡ true
