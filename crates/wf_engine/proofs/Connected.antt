@@ -19,7 +19,10 @@ use Rattle.wf_host.specs.declared.data.Deed.TheVariants.{Drop, Start}
 use Rattle.wf_http_ask.specs.View.{request_view}
 use Rattle.wf_http_ask.specs.declared.request.Request as own
 use Rattle.wf_journal_laws.specs.Language.{Language}
-use Rattle.wf_model.specs.Config.{Active, Answered, Call, Config, Open, TimedOut}
+use Rattle.wf_machine.specs.Lent.{outcome_view}
+use Rattle.wf_machine.specs.declared.Outcome as lent
+use Rattle.wf_machine.specs.declared.Outcome.TheVariants as outcome
+use Rattle.wf_model.specs.Config.{Active, Answered, Call, Config, Open, Outcome, Raised, Returned, TimedOut}
 use Rattle.wf_model.specs.Ready.{call, request_in, request_of}
 use Rattle.wf_shared.specs.HttpRequest.{Request}
 
@@ -71,6 +74,15 @@ lent_some None o is some = absurd (cc some)
 pub lent_none : (r : Option (Bor own.Request)) (o : Option Request) → option_map request_view (option_copied r) ≡ o → is_some r ≡ false → o ≡ None
 lent_none None o is none = sym is
 lent_none (Some q) o is none = absurd (cc none)
+
+-- as it lends the outcome
+pub lent_over : (o : lent.Outcome) (p : Outcome) → outcome_view o ≡ p → (o ≡ outcome.Active → ⊥) → p ≢ Active
+lent_over outcome.Active p is other = absurd (other refl)
+lent_over (outcome.Returned v) p is other = λ active. let no : Returned _ ≡ Active = is ∙ active in cc no
+lent_over (outcome.Raised v) p is other = λ active. let no : Raised _ ≡ Active = is ∙ active in cc no
+
+pub lent_going : (o : lent.Outcome) (p : Outcome) → outcome_view o ≡ p → o ≡ outcome.Active → p ≡ Active
+lent_going o p is going = sym is ∙ ap outcome_view going
 
 -- a call with a request was issued
 was_issued : (c : Config) (k : ℕ) (q : Request) → request_of c k ≡ Some q → k ≤ length c.calls

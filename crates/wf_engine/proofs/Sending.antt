@@ -4,12 +4,12 @@ use Rattle.std.proofs.Common.{inl, inr, ⊎_elim, refl, sym, ◌∙◌, ap, subs
 use Rattle.std.proofs.lemmas.Bool.{cases_lt}
 use Rattle.std.proofs.lemmas.List.{append-nil}
 use Rattle.std.proofs.lemmas.Option.{slice_get_past}
-use Rattle.wf_deeds.specs.Clauses.{IsSending, KeptThroughout, StandsIsKept, drop, is_timed_out, none, start, those, to_drop, to_start}
+use Rattle.wf_deeds.specs.Clauses.{IsSending, KeptThroughout, SendsOpen, StandsIsKept, drop, is_timed_out, none, start, those, to_drop, to_start}
 use Rattle.wf_deeds.specs.Kept.{IsOpen}
 use Rattle.wf_deeds.specs.Memory.{AllIsSent, IsSettled, Memory, StandsFor}
 use Rattle.wf_deeds.specs.Outside.{Outside}
 use Rattle.wf_engine.proofs.Sent.{Goes, OnlyNow, kept_before, kept_then, went_by, went_on}
-use Rattle.wf_engine.proofs.SentLists.{drops_then, just_this, silent_sending, starts_then, those_on, those_same, this_same}
+use Rattle.wf_engine.proofs.SentLists.{drops_starts, drops_then, just_this, silent_sending, starts_then, those_on, those_same, this_same}
 use Rattle.wf_engine.specs.Engine.{Holds, is_closed, memory}
 use Rattle.wf_engine.specs.Sending.{DropsAll, DropsOne, SameButSent, Sends, Sent, StartsAll, StartsOne, is_to_drop, is_to_start}
 use Rattle.wf_engine.specs.TheLanguage.{the_language}
@@ -318,3 +318,38 @@ holds_later h w new deed (s, some) time same counts = (
   },
   λ empty. some (ap records (sym same) ∙ empty),
 )
+
+-- ## The whole
+-- with an outcome nothing is sent
+pub sends_over : (O : Outside) (m : Memory) (w : World) → m.config.outcome ≢ Active → IsSettled m → SendsOpen the_language O m m w w
+sends_over O m w over settled = record {
+  done = [];
+  went = went_by the_language O m m w w [] (goes_same the_language O m) (sym (append-nil w.deeds)) refl;
+  sends = λ active. absurd (over active);
+  sent = λ active. absurd (over active);
+  ended = λ is. refl;
+  seen = refl;
+  config = refl;
+  reading = refl;
+  settled = settled;
+}
+
+module _ (w mid new : World) (f g h : Faults) (e d c : Engine) (first : Sent w mid f g e d (to_drop (memory e)) []) (next : Sent mid new g h d c [] (to_start (memory d))) (drops : DropsAll (memory e) (memory d)) (starts : StartsAll (memory d) (memory c)) where
+  pub whole : Sent w new f h e c (to_drop (memory e)) (to_start (memory e))
+  whole = part_then w mid f g e d (to_drop (memory e)) [] first new h c [] (to_start (memory d)) (to_drop (memory e)) (to_start (memory e)) next
+      (λ ds es was more. subst (λ l. IsSending (to_drop (memory e)) l (ds ++ es)) (to_start_same (memory e) (memory d) (memory c) first.same next.same drops starts) (drops_starts was more))
+
+  pub sends_whole : IsSettled (memory e) → (memory e).config.outcome ≡ Active → InTheOutside (λ O. Told w (SendsOpen the_language O (memory e) (memory c) w new))
+  sends_whole settled active = λ O told.
+      let all = whole.sends O told in
+      record {
+        done = all.done;
+        went = all.went;
+        sends = λ is. all.sends;
+        sent = λ is. all_is_sent (memory e) (memory d) (memory c) first.same next.same drops starts;
+        ended = λ over. absurd (over active);
+        seen = whole.seen told;
+        config = whole.same.config;
+        reading = whole.same.reading;
+        settled = settled_on (memory e) (memory c) settled whole.same refl;
+      }

@@ -53,9 +53,9 @@ impl Engine {
             return Err(EngineFault::Closed);
         }
         laws_of_steps();
-        if !matches!(self.machine.outcome(), Outcome::Active) {
+        let Outcome::Active = self.machine.outcome() else {
             return Ok(());
-        }
+        };
         self.drop_closed(host)?;
         self.start_open(host)?;
         Ok(())
