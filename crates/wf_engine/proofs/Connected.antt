@@ -11,17 +11,21 @@ use Rattle.wf_deeds.specs.Outside.{Outside}
 use Rattle.wf_deeds.specs.Steps.{DropGoesOn, StartGoesOn, with_calls}
 use Rattle.wf_engine.proofs.Sending.{or_none, past_answered}
 use Rattle.wf_engine.proofs.Sent.{Goes, drop_goes, same_goes, start_goes}
-use Rattle.wf_engine.specs.Ready.{AreOf}
+use Rattle.wf_engine.specs.Ready.{AreOf, IsReady}
 use Rattle.wf_engine.specs.Sending.{DropsOne, SameButSent, StartsOne, is_to_drop, is_to_start}
+use Rattle.wf_engine.specs.declared.taken.Taken.{Taken}
 use Rattle.wf_events.specs.View.{address_view}
+use Rattle.wf_history.specs.declared.history.History.{History}
 use Rattle.wf_host.specs.declared.data.Address.{Address}
 use Rattle.wf_host.specs.declared.data.Deed.TheVariants.{Drop, Start}
 use Rattle.wf_http_ask.specs.View.{request_view}
 use Rattle.wf_http_ask.specs.declared.request.Request as own
 use Rattle.wf_journal_laws.specs.Language.{Language}
 use Rattle.wf_machine.specs.Lent.{outcome_view}
+use Rattle.wf_machine.specs.Seen.{state_of}
 use Rattle.wf_machine.specs.declared.Outcome as lent
 use Rattle.wf_machine.specs.declared.Outcome.TheVariants as outcome
+use Rattle.wf_machine.specs.declared.machine.Machine.{Machine}
 use Rattle.wf_model.specs.Config.{Active, Answered, Call, Config, Open, Outcome, Raised, Returned, TimedOut}
 use Rattle.wf_model.specs.Ready.{call, request_in, request_of}
 use Rattle.wf_shared.specs.HttpRequest.{Request}
@@ -78,8 +82,8 @@ lent_none (Some q) o is none = absurd (cc none)
 -- as it lends the outcome
 pub lent_over : (o : lent.Outcome) (p : Outcome) → outcome_view o ≡ p → (o ≡ outcome.Active → ⊥) → p ≢ Active
 lent_over outcome.Active p is other = absurd (other refl)
-lent_over (outcome.Returned v) p is other = λ active. let no : Returned _ ≡ Active = is ∙ active in cc no
-lent_over (outcome.Raised v) p is other = λ active. let no : Raised _ ≡ Active = is ∙ active in cc no
+lent_over (outcome.Returned v) p is other = λ active. cc (is ∙ active)
+lent_over (outcome.Raised v) p is other = λ active. cc (is ∙ active)
 
 pub lent_going : (o : lent.Outcome) (p : Outcome) → outcome_view o ≡ p → o ≡ outcome.Active → p ≡ Active
 lent_going o p is going = sym is ∙ ap outcome_view going
@@ -120,6 +124,10 @@ module _ (c : Config) (a b : Connections) (k : ℕ) (of : AreOf a c) where
 
 pub starts_this : (m : Memory) (k : ℕ) (q : Request) → request_of m.config k ≡ Some q → m.started k ≡ false → is_to_start m k ≡ true
 starts_this m k q asks new = ap (λ (o : Option Request). is_some o && not (m.started k)) asks ∙ ap not new
+
+-- an engine that can go on still can
+pub still_ready : (h : History) (m : Machine) (reading : ℕ) (a b : Connections) (taken : Option Taken) → IsReady h m reading a taken → AreOf b (state_of m).config → IsReady h m reading b taken
+still_ready h m reading a b taken r of = record { not_closed = r.not_closed; begun = r.begun; ended = r.ended; whole = r.whole; last = r.last; calls = of; takable = r.takable }
 
 -- ## Memories
 module _ (m : Memory) (a b : Connections) (k : ℕ) where

@@ -58,7 +58,7 @@ pub settled_on : (m n : Memory) → IsSettled m → SameButSent m n → n.owed �
 settled_on m n settled same owed = record {
   taken = same.taken ∙ settled.taken;
   owed = owed;
-  still = subst (λ c. IsTrue (quiet c n.reading) ⊎ (c.outcome ≢ Active)) (sym same.config)
+  still = subst (λ (c : Config). IsTrue (quiet c n.reading) ⊎ (c.outcome ≢ Active)) (sym same.config)
       (subst (λ r. IsTrue (quiet m.config r) ⊎ (m.config.outcome ≢ Active)) (sym same.reading) settled.still);
 }
 
@@ -121,7 +121,7 @@ or_none true = refl
 or_none false = refl
 
 past_answered : (c : Config) (k : ℕ) → length c.calls < k → call c k ≡ Answered
-past_answered c zero past = absurd (omega (arith, past))
+past_answered c zero past = refl
 past_answered c (suc k) past = ap (λ (o : Option Call). elim o [ None ↦ Answered | Some x ↦ x ]) (slice_get_past c.calls k (omega arith))
 
 module _ (m : Memory) (k : ℕ) where
