@@ -118,6 +118,7 @@ module _ (c : Config) (a b : Connections) (k : ℕ) (of : AreOf a c) where
       issued : (j : ℕ) (v : Bool) → nat_eq k j ≡ v → v || is_started a j ≡ true → j ≤ length c.calls
       issued j true same is = subst (λ i. i ≤ length c.calls) (eqb-true k j same) (was_issued c k q asks)
       issued j false other is = of.issued j is
+
       heard : (j : ℕ) (v : Bool) → nat_eq k j ≡ v → is_some (request_of c j) ≡ true → v || is_started a j ≡ true → listens b j ≡ true
       heard j true same open_now is = s.listening j ∙ ap (λ v. v || listens a j) same
       heard j false other open_now is = s.listening j ∙ ap (λ v. v || listens a j) other ∙ of.heard j open_now is

@@ -281,7 +281,7 @@ module _ (m n o : Memory) (same : SameButSent m n) (next : SameButSent n o) (dro
   to_start_same =
       ap (λ k. those (is_to_start n) 1 k) (ap (λ (c : Config). length c.calls) same.config)
       ∙ those_same (is_to_start n) (is_to_start m) 1 (length m.config.calls)
-        (λ k. ap (λ (c : Config). is_some (request_of c k) && not (n.started k)) same.config ∙ ap (λ b. is_some (request_of m.config k) && not b) (drops.started k))
+      (λ k. ap (λ (c : Config). is_some (request_of c k) && not (n.started k)) same.config ∙ ap (λ b. is_some (request_of m.config k) && not b) (drops.started k))
 
 -- ## One call
 module _ (L : Language) (O : Outside) (m n : Memory) (w new : World) where
