@@ -92,7 +92,8 @@ impl Engine {
         requires kept { Told (H.world host.old) (Holds self.old (H.world host.old)) }
         requires settled { IsSettled (memory self.old) }
         ensures sent { OnOk result (Sent (H.world host.old) (H.world host.new) (H.faults host.old)
-            (H.faults host.new) self.old self.new (those (is_to_drop (memory self.old)) call 1) []) }
+            (H.faults host.new) self.old self.new
+            (those (is_to_drop (memory self.old)) call 1) []) }
         ensures any_moment { InTheOutside (λ O. Told (H.world host.old)
             (KeptThroughout the_language O (memory self.old) (H.world host.old)
             (H.world host.new))) }
@@ -162,7 +163,8 @@ impl Engine {
         requires settled { IsSettled (memory self.old) }
         requires active { (memory self.old).config.outcome ≡ Active }
         ensures sent { OnOk result (Sent (H.world host.old) (H.world host.new) (H.faults host.old)
-            (H.faults host.new) self.old self.new [] (those (is_to_start (memory self.old)) call 1)) }
+            (H.faults host.new) self.old self.new []
+            (those (is_to_start (memory self.old)) call 1)) }
         ensures any_moment { InTheOutside (λ O. Told (H.world host.old)
             (KeptThroughout the_language O (memory self.old) (H.world host.old)
             (H.world host.new))) }
