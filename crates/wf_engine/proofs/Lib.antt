@@ -5,6 +5,7 @@ mod Beginning
 mod Bringing
 mod Chosen
 mod Clock
+mod Connected
 mod FirstRecords
 mod FreshEngine
 mod Heard
@@ -16,6 +17,9 @@ mod NewSessions
 mod OneTurn
 mod Parts
 mod Reopened
+mod Sending
+mod Sent
+mod SentLists
 mod Sessions
 mod Settling
 mod StillOpen

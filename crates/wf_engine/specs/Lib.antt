@@ -1,6 +1,7 @@
 pub mod Starts
 pub mod Printed
 pub mod Safe
+pub mod Sending
 pub mod Lives
 pub mod TheLanguage
 pub mod TheOutside

@@ -6,11 +6,11 @@ use wf_host::Host;
 use wf_machine::Outcome;
 
 impl Engine {
-    ghost use Rattle.std.specs.Prelude.{◌≡◌, ◌⊎◌, ◌×◌, ◌↔◌, ◌≢◌, ◌++◌, [], ℕ, suc, true, false, length, Some, IfErr, IsErrOf, OnErr, OnOk};
-    ghost use Rattle.wf_deeds.specs.Clauses.{KeptThroughout, SendsOpen, to_drop, to_start};
-    ghost use Rattle.wf_deeds.specs.Memory.{AllIsSent, IsOpen, IsSettled};
-    ghost use Rattle.wf_engine.specs.Engine.{Holds, held, is_closed, memory};
-    ghost use Rattle.wf_engine.specs.Sending.{Drops, Sends, Starts};
+    ghost use Rattle.std.specs.Prelude.{◌≡◌, ◌≢◌, ◌⊎◌, ◌↔◌, [], true, false, IfErr, IsErrOf, OnErr, OnOk};
+    ghost use Rattle.wf_deeds.specs.Clauses.{KeptThroughout, SendsOpen, those, to_drop, to_start};
+    ghost use Rattle.wf_deeds.specs.Memory.{AllIsSent, IsSettled};
+    ghost use Rattle.wf_engine.specs.Engine.{Holds, is_closed, memory};
+    ghost use Rattle.wf_engine.specs.Sending.{DropsAll, DropsOne, SameButSent, Sent, StartsAll, StartsOne, is_to_drop, is_to_start};
     ghost use Rattle.wf_engine.specs.TheLanguage.{the_language};
     ghost use Rattle.wf_engine.specs.TheOutside.{InTheOutside};
     ghost use Rattle.wf_host.specs.Calls.{NoCountFalls, ReadsAsBefore, TellsAsBefore};
@@ -37,6 +37,7 @@ impl Engine {
             → AllIsSent (memory self.new)) }
         ensures same { OnOk result (SameButSent (memory self.old) (memory self.new)) }
         ensures settled { OnOk result (IsSettled (memory self.new)) }
+        ensures session { (memory self.new).session ≡ (memory self.old).session }
         ensures seen { ReadsAsBefore H.world host.old host.new }
         ensures closed { IsErrOf result EngineFault.Closed ↔ (is_closed self.old ≡ true) }
         ensures closes { OnErr result (is_closed self.new ≡ true) }
@@ -52,53 +53,137 @@ impl Engine {
             return Err(EngineFault::Closed);
         }
         laws_of_steps();
-        if !matches!(self.machine.outcome(), Outcome::Active) {
+        let Outcome::Active = self.machine.outcome() else {
             return Ok(());
-        }
+        };
         self.drop_closed(host)?;
-        self.start_open(host)
+        self.start_open(host)?;
+        Ok(())
     }
 
     /// Drops each started call that timed out, and lets go what was heard of those that aren't open.
-    fn drop_closed<H: Host>(&mut self, host: &mut H) -> Result<(), EngineFault> {
-        for call in 1..=self.machine.calls() {
-            if self.machine.request(call).is_none() {
-                self.drop_one(host, call)?;
-            }
+    fn drop_closed<H: Host>(&mut self, host: &mut H) -> Result<(), EngineFault>
+        requires not_closed { is_closed self.old ≡ false }
+        requires kept { Told (H.world host.old) (Holds self.old (H.world host.old)) }
+        requires settled { IsSettled (memory self.old) }
+        ensures sent { OnOk result (Sent (H.world host.old) (H.world host.new) (H.faults host.old)
+            (H.faults host.new) self.old self.new (to_drop (memory self.old)) []) }
+        ensures any_moment { InTheOutside (λ O. Told (H.world host.old)
+            (KeptThroughout the_language O (memory self.old) (H.world host.old)
+            (H.world host.new))) }
+        ensures drops { OnOk result (DropsAll (memory self.old) (memory self.new)) }
+        ensures session { (memory self.new).session ≡ (memory self.old).session }
+        ensures seen { ReadsAsBefore H.world host.old host.new }
+        ensures closes { OnErr result (is_closed self.new ≡ true) }
+        ensures only { IfErr result (λ e. e ≡ EngineFault.OutOfMemory) }
+        ensures tells { TellsAsBefore H.world host.old host.new }
+        ensures counts { NoCountFalls H.faults host.old host.new }
+    {
+        laws_of_steps();
+        for place in 0..self.machine.calls() {
+            self.drop_one(host, place + 1)?;
         }
         Ok(())
     }
 
-    /// Drops a call that was started and timed out, and lets go what was heard of it.
-    fn drop_one<H: Host>(&mut self, host: &mut H, call: u64) -> Result<(), EngineFault> {
-        self.connections.forget(call);
-        if self.machine.has_timed_out(call)
+    /// Drops a call, if it was started and timed out. Where it isn't open what was heard of it is let go.
+    fn drop_one<H: Host>(&mut self, host: &mut H, call: u64) -> Result<(), EngineFault>
+        requires not_closed { is_closed self.old ≡ false }
+        requires kept { Told (H.world host.old) (Holds self.old (H.world host.old)) }
+        requires settled { IsSettled (memory self.old) }
+        ensures sent { OnOk result (Sent (H.world host.old) (H.world host.new) (H.faults host.old)
+            (H.faults host.new) self.old self.new
+            (those (is_to_drop (memory self.old)) call 1) []) }
+        ensures any_moment { InTheOutside (λ O. Told (H.world host.old)
+            (KeptThroughout the_language O (memory self.old) (H.world host.old)
+            (H.world host.new))) }
+        ensures drops { OnOk result (DropsOne (memory self.old) (memory self.new) call) }
+        ensures session { (memory self.new).session ≡ (memory self.old).session }
+        ensures seen { ReadsAsBefore H.world host.old host.new }
+        ensures closes { OnErr result (is_closed self.new ≡ true) }
+        ensures only { IfErr result (λ e. e ≡ EngineFault.OutOfMemory) }
+        ensures tells { TellsAsBefore H.world host.old host.new }
+        ensures counts { NoCountFalls H.faults host.old host.new }
+    {
+        laws_of_steps();
+        if self.machine.request(call).is_some() {
+            return Ok(());
+        }
+        if !self.is_to_drop(call) {
+            self.connections.forget(call);
+            return Ok(());
+        }
+        // until it is dropped
+        self.closed = true;
+        host.drop_call(call)?;
+        self.connections.drop_call(call);
+        self.closed = false;
+        Ok(())
+    }
+
+    /// Whether a call was started and timed out, and isn't dropped yet.
+    fn is_to_drop(&self, call: u64) -> bool
+        ensures { result ≡ is_to_drop (memory self.now) call }
+    {
+        self.machine.has_timed_out(call)
             && self.connections.is_started(call)
             && !self.connections.is_dropped(call)
-        {
-            self.closed = true;
-            host.drop_call(call)?;
-            self.connections.drop_call(call);
-            self.closed = false;
-        }
-        Ok(())
     }
 
     /// Starts each open call that wasn't started.
-    fn start_open<H: Host>(&mut self, host: &mut H) -> Result<(), EngineFault> {
-        for call in 1..=self.machine.calls() {
-            if !self.connections.is_started(call) {
-                self.start_one(host, call)?;
-            }
+    fn start_open<H: Host>(&mut self, host: &mut H) -> Result<(), EngineFault>
+        requires not_closed { is_closed self.old ≡ false }
+        requires kept { Told (H.world host.old) (Holds self.old (H.world host.old)) }
+        requires settled { IsSettled (memory self.old) }
+        requires active { (memory self.old).config.outcome ≡ Active }
+        ensures sent { OnOk result (Sent (H.world host.old) (H.world host.new) (H.faults host.old)
+            (H.faults host.new) self.old self.new [] (to_start (memory self.old))) }
+        ensures any_moment { InTheOutside (λ O. Told (H.world host.old)
+            (KeptThroughout the_language O (memory self.old) (H.world host.old)
+            (H.world host.new))) }
+        ensures starts { OnOk result (StartsAll (memory self.old) (memory self.new)) }
+        ensures session { (memory self.new).session ≡ (memory self.old).session }
+        ensures seen { ReadsAsBefore H.world host.old host.new }
+        ensures closes { OnErr result (is_closed self.new ≡ true) }
+        ensures only { IfErr result (λ e. e ≡ EngineFault.OutOfMemory) }
+        ensures tells { TellsAsBefore H.world host.old host.new }
+        ensures counts { NoCountFalls H.faults host.old host.new }
+    {
+        laws_of_steps();
+        for place in 0..self.machine.calls() {
+            self.start_one(host, place + 1)?;
         }
         Ok(())
     }
 
-    /// Starts a call, where it is open.
-    fn start_one<H: Host>(&mut self, host: &mut H, call: u64) -> Result<(), EngineFault> {
+    /// Starts a call, if it is open and wasn't started.
+    fn start_one<H: Host>(&mut self, host: &mut H, call: u64) -> Result<(), EngineFault>
+        requires not_closed { is_closed self.old ≡ false }
+        requires kept { Told (H.world host.old) (Holds self.old (H.world host.old)) }
+        requires settled { IsSettled (memory self.old) }
+        requires active { (memory self.old).config.outcome ≡ Active }
+        ensures sent { OnOk result (Sent (H.world host.old) (H.world host.new) (H.faults host.old)
+            (H.faults host.new) self.old self.new []
+            (those (is_to_start (memory self.old)) call 1)) }
+        ensures any_moment { InTheOutside (λ O. Told (H.world host.old)
+            (KeptThroughout the_language O (memory self.old) (H.world host.old)
+            (H.world host.new))) }
+        ensures starts { OnOk result (StartsOne (memory self.old) (memory self.new) call) }
+        ensures session { (memory self.new).session ≡ (memory self.old).session }
+        ensures seen { ReadsAsBefore H.world host.old host.new }
+        ensures closes { OnErr result (is_closed self.new ≡ true) }
+        ensures only { IfErr result (λ e. e ≡ EngineFault.OutOfMemory) }
+        ensures tells { TellsAsBefore H.world host.old host.new }
+        ensures counts { NoCountFalls H.faults host.old host.new }
+    {
+        laws_of_steps();
+        if self.connections.is_started(call) {
+            return Ok(());
+        }
         let Some(request) = self.machine.request(call) else {
             return Ok(());
         };
+        // until it is started
         self.closed = true;
         host.start(call, &request.address, request.bytes.as_slice())?;
         self.connections.start(self.alloc, call)?;
