@@ -273,10 +273,10 @@ class Round:
         if said == (6, b"not started\n"):
             assert not any(self.printed), self.printed
             said = self.ended(*self.run)
+        self.look()
         line = line_of(self.ways)
         assert said == (0, line), (self.ways, said, line)
         assert all(line.startswith(it) for it in self.printed), self.printed
-        self.look()
         issued, closed = calls_of(self.journal())
         assert issued == len(self.ways) and closed == set(range(1, issued + 1)), (issued, closed)
         journal = self.journal()
