@@ -1,7 +1,8 @@
 """Kills the built program while it calls an HTTP service of this script's own, and looks at what the service was sent and what the journals come to.
 
 In each round a workflow makes a few calls in a row. The service answers each call by its number, always the same way: at once, late, in pieces, in
-chunks, cut off, with rubbish, with too much, or not at all. The run and some resumptions are killed (signal 9) after a random while. Then:
+chunks, cut off, with rubbish, with too much, or not at all; some calls are refused, or name a host that isn't there. The run and some resumptions
+are killed (signal 9) after a random while. Then:
 
 - the last, undisturbed command ends with 0 and prints what an unstopped run prints, of which all that was printed before is a front;
 - whenever the service hears a request, the journal has the event that made it, and its bytes are those that the workflow says;
@@ -17,6 +18,7 @@ import os
 import random
 import re
 import shutil
+import socket
 import subprocess
 import sys
 import tempfile
@@ -98,7 +100,12 @@ WAYS = {
     "too much by its length": (lambda connection, body: connection.sendall(HEAD + b"Content-Length: 2097153\r\n\r\n"), "ResourceLimitError"),
     "too long": (too_long, "ResourceLimitError"),
     "not at all": (lambda connection, body: wait_for_close(connection), "TimeoutError"),
+    "refused": (None, "ConnectionError"),
+    "no such name": (None, "ConnectionError"),
 }
+
+# Hosts other than that of the service, to which no request comes.
+ELSEWHERE = {"refused": "refused.test", "no such name": "nowhere.test"}
 
 
 def body_of(number):
@@ -117,7 +124,7 @@ def request_of(number):
 
 def step_of(number, way):
     """A call, whose body or error is added to what was got so far. One that may fail stands in a `try`."""
-    args = {"url": f"http://{HOST}/{number}", "headers": {"X-Round": "r"}, "query": {"q": "a b"}}
+    args = {"url": f"http://{ELSEWHERE.get(way, HOST)}/{number}", "headers": {"X-Round": "r"}, "query": {"q": "a b"}}
     if way == "not at all":
         args["timeout"] = 1
     if number % 2 == 0:
@@ -211,8 +218,11 @@ class Round:
         self.service, self.printed = Service(self.answer), []
         self.clear()
         self.write("source", source_of(ways))
-        route = f"{HOST}=127.0.0.1:{self.service.port}"
-        self.run = ["run", "--source", "source", "--journal", "journal", "--id", ID, "--route", route]
+        self.shut = socket.socket()
+        self.shut.bind(("127.0.0.1", 0))
+        addresses = {HOST: f"127.0.0.1:{self.service.port}", "refused.test": f"127.0.0.1:{self.shut.getsockname()[1]}", "nowhere.test": "no name:80"}
+        routes = [word for host, address in addresses.items() for word in ("--route", f"{host}={address}")]
+        self.run = ["run", "--source", "source", "--journal", "journal", "--id", ID, *routes]
         self.resume = ["resume", "--journal", "journal"]
 
     def write(self, name, content):
@@ -222,6 +232,10 @@ class Round:
     def journal(self):
         with open(f"{self.folder}/journal", "rb") as file:
             return file.read()
+
+    def close(self):
+        self.service.close()
+        self.shut.close()
 
     def clear(self):
         """Begins without a journal, and forgets what was sent."""
@@ -293,10 +307,10 @@ def unstopped(program, folder):
         said = tried.ended(*tried.run)
         numbers = tried.look()
         assert said == (0, line_of(tried.ways)), (tried.ways, said)
-        assert numbers == list(range(1, len(tried.ways) + 1)), numbers
+        assert numbers == [number for number, way in enumerate(tried.ways, 1) if way not in ELSEWHERE], numbers
         longest = max(longest, (time.monotonic() - begun) / len(tried.ways))
         tried.finish()
-        tried.service.close()
+        tried.close()
     return min(longest, 0.1)
 
 
@@ -310,7 +324,7 @@ def one_round(program, folder, chance, longest):
     words = [tried.run] + [tried.resume] * chance.randrange(4)
     kills = sum(tried.killed(chance.random() * longest * count, it) for it in words)
     tried.finish()
-    tried.service.close()
+    tried.close()
     return kills
 
 
@@ -331,7 +345,7 @@ def synced_before_sent(program, folder):
     writes = [it for it in before if "write" in it]
     assert re.search(r"(fsync|fdatasync)\(.*= 0$", before[-1]) and len(writes) >= 10, calls
     assert tried.look() == [1]
-    tried.service.close()
+    tried.close()
 
 
 def all_rounds(program):
