@@ -39,11 +39,7 @@ struct Way {
 }
 
 /// What a series comes to, and whether its deeds are told.
-pub fn answer(
-    alloc: Global,
-    commands: &[Value],
-    has_deeds: bool,
-) -> Result<String, CaseFault> {
+pub fn answer(alloc: Global, commands: &[Value], has_deeds: bool) -> Result<String, CaseFault> {
     let mut ways = Vec::new(alloc);
     let first = Way {
         told: String::new(alloc),
