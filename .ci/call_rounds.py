@@ -2,7 +2,7 @@
 
 In each round a workflow makes a few calls in a row. The service answers each call by its number, always the same way: at once, late, in pieces, in
 chunks, cut off, with rubbish, with too much, or not at all; some calls are refused, or name a host that isn't there. The run and some resumptions
-are killed (signal 9) after a random while. Then:
+are killed (signal 9) after a random while, or wait a few times only. Then:
 
 - the last, undisturbed command ends with 0 and prints what an unstopped run prints, of which all that was printed before is a front;
 - whenever the service hears a request, the journal has the event that made it, and its bytes are those that the workflow says;
@@ -276,6 +276,13 @@ class Round:
         self.look()
         return started.returncode == -9
 
+    def suspended(self, waits, words):
+        """Makes a command that waits so many times at most, and returns whether it was suspended."""
+        said = self.ended(*words, "--waits", str(waits))
+        self.look()
+        assert said in ((0, line_of(self.ways)), (6, b"not started\n"), (13, b"suspended\n")), said
+        return said[0] == 13
+
     def ended(self, *words):
         """Runs a command to its end, and returns its status and what it printed."""
         ended = subprocess.run([self.program, *words], cwd=self.folder, stdin=subprocess.DEVNULL, stdout=subprocess.PIPE, timeout=60)
@@ -315,17 +322,22 @@ def unstopped(program, folder):
 
 
 def one_round(program, folder, chance, longest):
-    """Kills a run and some resumptions, goes on to the end, and returns how many were killed."""
+    """Kills or suspends a run and some resumptions, goes on to the end, and returns how many were killed and how many suspended."""
     count = chance.randrange(2, CALLS + 1)
     ways = chance.sample([it for it in WAYS if it != "not at all"], count)
     if chance.randrange(4) == 0:
         ways[chance.randrange(count)] = "not at all"
     tried = Round(program, folder, ways)
-    words = [tried.run] + [tried.resume] * chance.randrange(4)
-    kills = sum(tried.killed(chance.random() * longest * count, it) for it in words)
+    attempts = [tried.run] + [tried.resume] * chance.randrange(4)
+    kills, suspensions = 0, 0
+    for words in attempts:
+        if chance.randrange(4) == 0:
+            suspensions += tried.suspended(chance.randrange(1, 10), words)
+        else:
+            kills += tried.killed(chance.random() * longest * count, words)
     tried.finish()
     tried.close()
-    return kills
+    return kills, suspensions
 
 
 def synced_before_sent(program, folder):
@@ -353,9 +365,10 @@ def all_rounds(program):
     chance = random.Random()
     with tempfile.TemporaryDirectory(prefix="call-rounds-") as folder:
         longest = unstopped(program, folder)
-        kills = sum(one_round(program, folder, chance, longest) for _ in range(ROUNDS))
+        counts = [one_round(program, folder, chance, longest) for _ in range(ROUNDS)]
         synced_before_sent(program, folder)
-    print(f"call_rounds: {kills} kills in {ROUNDS} rounds of calls, and no call was sent too early, too often or otherwise")
+    kills, suspensions = (sum(each) for each in zip(*counts))
+    print(f"call_rounds: {kills} kills and {suspensions} suspensions in {ROUNDS} rounds, and no call was sent too early, too often or otherwise")
 
 
 if __name__ == "__main__":
