@@ -3,19 +3,56 @@
 
 An example is examples/NAME.yaml with what `run` prints in NAME.out and its exit status in NAME.status (0 where there is none). It is run with
 a journal, and then resumed: that prints the same. Its layout by `format` is run too, and gives the same. `check` accepts it.
+
+NAME.args has further words of its command line, one in each line. NAME.service.json is a map of a `host`, and of `calls`: the bytes that are
+`sent` to it and the `answer`, in their order. A service on loopback answers them; a run sends these and no others, and a resumption nothing.
 """
 
 import glob
+import json
 import os
 import re
 import subprocess
 import sys
 import tempfile
 
+sys.dont_write_bytecode = True
+from service import Service
+
 PROGRAM = os.path.abspath(sys.argv[1] if len(sys.argv) > 1 else "crates/workflow/out/workflow")
 PAIR = re.compile(
     r"```(?:yaml|json)\n(?P<bad>.*?)```\n\n    (?P<refusal>refused .*?)\n.*?```(?:yaml|json)\n(?P<good>.*?)```\n\n    (?P<line>.*?)\n", re.S
 )
+
+
+class Answers:
+    """The service of an example, where it has one."""
+
+    def __init__(self, name):
+        self.calls, self.words = [], []
+        if os.path.exists(f"{name}.service.json"):
+            told = json.loads(read(f"{name}.service.json"))
+            self.calls = [(call["sent"].encode(), call["answer"].encode()) for call in told["calls"]]
+            self.service = Service(self.answer)
+            self.words = ["--route", f"{told['host']}=127.0.0.1:{self.service.port}"]
+
+    def answer(self, request, connection):
+        connection.sendall(next(answer for sent, answer in self.calls if sent == request))
+
+    def look(self, runs):
+        """Looks whether so many runs have sent what they should."""
+        if self.calls:
+            sent = self.service.settle()
+            assert sent == [sent for sent, _ in self.calls] * runs, sent
+
+    def close(self):
+        if self.calls:
+            self.service.close()
+
+
+def read(path):
+    with open(path, "rb") as file:
+        return file.read()
 
 
 def call(source, *words):
@@ -24,27 +61,34 @@ def call(source, *words):
     return ended.returncode, ended.stdout
 
 
+def one_example(name, path, journal):
+    """Tries an example."""
+    status = int(read(f"{name}.status")) if os.path.exists(f"{name}.status") else 0
+    printed, source, answers = read(f"{name}.out"), read(path), Answers(name)
+    words = read(f"{name}.args").decode().splitlines() if os.path.exists(f"{name}.args") else []
+    words += answers.words
+    said = call(source, "run", "--source", path, "--journal", journal, *words)
+    answers.look(1)
+    assert said == (status, printed), (path, said)
+    said = call(b"", "resume", "--journal", journal)
+    answers.look(1)
+    assert said == (status, printed), (path, "resumed", said)
+    said = call(b"", "check", "--source", path)
+    assert said == (0, b"accepted\n"), (path, "check", said)
+    laid_out = call(source, "format")
+    assert laid_out[0] == 0, (path, "format", laid_out)
+    said = call(laid_out[1], "run", *words)
+    answers.look(2)
+    assert said == (status, printed), (path, "behind format", said)
+    answers.close()
+
+
 def examples(folder):
     """Tries each example, and returns how many there are."""
     sources = sorted(glob.glob("examples/*.yaml"))
     for path in sources:
         name = path[: -len(".yaml")]
-        with open(f"{name}.out", "rb") as file:
-            printed = file.read()
-        status = int(open(f"{name}.status").read()) if os.path.exists(f"{name}.status") else 0
-        with open(path, "rb") as file:
-            source = file.read()
-        journal = f"{folder}/{os.path.basename(name)}.journal"
-        said = call(source, "run", "--source", path, "--journal", journal)
-        assert said == (status, printed), (path, said)
-        said = call(b"", "resume", "--journal", journal)
-        assert said == (status, printed), (path, "resumed", said)
-        said = call(b"", "check", "--source", path)
-        assert said == (0, b"accepted\n"), (path, "check", said)
-        laid_out = call(source, "format")
-        assert laid_out[0] == 0, (path, "format", laid_out)
-        said = call(laid_out[1], "run")
-        assert said == (status, printed), (path, "behind format", said)
+        one_example(name, path, f"{folder}/{os.path.basename(name)}.journal")
     return len(sources)
 
 

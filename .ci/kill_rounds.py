@@ -6,6 +6,8 @@ Whenever a process was killed, the last, undisturbed command has to end with sta
 a front; resumed again it prints the same line and leaves the file as it is. Nothing here rests on when a kill comes. The rounds are bounded.
 
 It also looks at the rows that need a real file: files that are no journal, that are new, or that are finished.
+
+Then the same with calls to an HTTP service of its own (call_rounds.py).
 """
 
 import os
@@ -14,6 +16,9 @@ import subprocess
 import sys
 import tempfile
 import time
+
+sys.dont_write_bytecode = True
+import call_rounds
 
 ROUNDS = 150
 PROGRAM = os.path.abspath(sys.argv[1] if len(sys.argv) > 1 else "crates/workflow/out/workflow")
@@ -110,6 +115,7 @@ def main():
         longest = 0.8 * (time.monotonic() - begun)
         count = sum(one_round(folder, chance, longest) for _ in range(ROUNDS))
     print(f"kill_rounds: {count} kills in {ROUNDS} rounds, and each journal went on to one outcome")
+    call_rounds.all_rounds(PROGRAM)
 
 
 if __name__ == "__main__":

@@ -1,4 +1,5 @@
 // What a command came to, and how it is told.
+use crate::deeds::all_told;
 use crate::records::Counts;
 use std::alloc::Global;
 use wf_cases::{CaseFault, hex_of};
@@ -15,6 +16,8 @@ pub struct Ended {
     readings: u64,
     /// How many deeds were neither readings nor prints.
     others: u64,
+    /// The deeds that aren't prints.
+    deeds: String,
     /// Whether the journal is the one that was given.
     kept: bool,
     /// The journal left, with all that was written.
@@ -34,6 +37,7 @@ impl Ended {
         let counts = Counts::of(alloc, host.image())?;
         let printed = printed(alloc, host.printed())?;
         let (readings, others) = counted(host.deeds());
+        let deeds = all_told(alloc, host.deeds())?;
         let kept = host.image() == before;
         let journal = Vec::from_slice(alloc, host.image())?;
         let synced = host.crash(alloc, false)?;
@@ -43,6 +47,7 @@ impl Ended {
             counts,
             readings,
             others,
+            deeds,
             kept,
             journal,
             synced,
@@ -77,6 +82,13 @@ impl Ended {
         );
         Ok(full?)
     }
+
+    /// Behind that the deeds that aren't prints, in brackets.
+    pub fn line_with_deeds(&self, alloc: Global) -> Result<String, CaseFault> {
+        let line = self.full_line(alloc)?;
+        let told = format!(in alloc; "{} [{}]", line.as_str(), self.deeds.as_str());
+        Ok(told?)
+    }
 }
 
 /// How many deeds were readings, and how many neither readings nor prints.
@@ -93,8 +105,8 @@ fn counted(deeds: &[Deed]) -> (u64, u64) {
     (readings, others)
 }
 
-/// Printed bytes as a JSON text, or in hex where they are no UTF-8.
-fn printed(alloc: Global, bytes: &[u8]) -> Result<String, CaseFault> {
+/// Bytes as a JSON text, or in hex where they are no UTF-8.
+pub fn printed(alloc: Global, bytes: &[u8]) -> Result<String, CaseFault> {
     match str::from_utf8(bytes) {
         Ok(text) => json_of(alloc, text),
         Err(_) => hex_of(alloc, bytes),

@@ -7,11 +7,13 @@
 //!   prints with a `d`, whether the journal was `kept` or `changed`, and whether what was written of it is `synced` or `unsynced`.
 //! - `journal_left`: the same case, and the journal left in hex.
 //! - `series`: commands that follow each other on one journal (see `series`).
+//! - `calls`: the same, and behind each answer the deeds (see `deeds`).
 //! - `lines` and `options`: words, and what line they are, and where paths and addresses are found in them (see `lines`).
 //! - `statuses`: a status, and its number and text (see `statuses`).
 #![tactic(auto)]
 
 mod command;
+mod deeds;
 mod ended;
 mod lines;
 mod plan;
@@ -51,7 +53,8 @@ fn answer(alloc: Global, case: &Case<'_>) -> Result<String, CaseFault> {
         }
         "commands" => full_line_of(alloc, case),
         "journal_left" => journal_left(alloc, case),
-        "series" => series::answer(alloc, case.items()),
+        "series" => series::answer(alloc, case.items(), false),
+        "calls" => series::answer(alloc, case.items(), true),
         "lines" => lines::line(alloc, case.items()),
         "options" => lines::options(alloc, case.items()),
         "statuses" => statuses::answer(alloc, case),

@@ -2,6 +2,7 @@
 use std::alloc::Global;
 use wf_cases::{CaseFault, bytes_of};
 use wf_host::Plan;
+use wf_host_cases::services_of;
 use wf_value::Value;
 
 /// What is outside a command.
@@ -51,6 +52,7 @@ impl Outside {
             "image" => self.plan.image = bytes_of(alloc, value)?,
             "clock" => self.plan.clock = numbers_of(alloc, value)?,
             "stop" => self.plan.stop = Some(number_of(value)?),
+            "services" => self.plan.services = services_of(alloc, value)?,
             "print_room" => self.plan.print_room = Some(number_of(value)?),
             "failing_read" => push(&mut self.failing_reads, number_of(value)?)?,
             "failing_call" => push(&mut self.plan.fail, number_of(value)?)?,

@@ -1,6 +1,6 @@
 // Series of commands on one journal.
 //
-// A case of the table `series` is a list of commands `[words, source, plan]` or `[words, source, plan, how]`. The first one has the journal of
+// A case of the tables `series` and `calls` is a list of commands `[words, source, plan]` or `[words, source, plan, how]`. The first one has the journal of
 // its plan, each later one that which the one before left. `how` is a map with those of these keys that are wanted:
 //
 // - `stops`: the command is made so many times, stopped after 0 writes and syncs, after 1 and so on.
@@ -8,8 +8,8 @@
 // - `left`: `synced` where it leaves what was synced alone.
 // - `after`: it is made only where the one before had this status.
 //
-// The answer has a part for each way through the commands: what each of them came to as `commands` tells it, with commas between them. There
-// is ` | ` between the parts. Where several in a row are the same, the first stands, with a count behind it as ` x20`.
+// The answer has a part for each way through the commands: what each of them came to as `commands` tells it, with commas between them. In the
+// table `calls` the deeds stand behind that in brackets (see `deeds`). There is ` | ` between the parts. Where several in a row are the same, the first stands, with a count behind it as ` x20`.
 use crate::command::Command;
 use crate::ended::Ended;
 use crate::plan::{number_of, push};
@@ -24,6 +24,8 @@ struct Step<'a> {
     source: &'a Value,
     plan: &'a Value,
     how: Option<&'a Map>,
+    /// Whether the deeds are told.
+    has_deeds: bool,
 }
 
 /// What was done so far.
@@ -36,8 +38,8 @@ struct Way {
     journal: Vec<u8>,
 }
 
-/// What a series comes to.
-pub fn answer(alloc: Global, commands: &[Value]) -> Result<String, CaseFault> {
+/// What a series comes to, and whether its deeds are told.
+pub fn answer(alloc: Global, commands: &[Value], has_deeds: bool) -> Result<String, CaseFault> {
     let mut ways = Vec::new(alloc);
     let first = Way {
         told: String::new(alloc),
@@ -46,13 +48,13 @@ pub fn answer(alloc: Global, commands: &[Value]) -> Result<String, CaseFault> {
     };
     push(&mut ways, first)?;
     for command in commands {
-        ways = Step::new(command)?.all_on(alloc, ways)?;
+        ways = Step::new(command, has_deeds)?.all_on(alloc, ways)?;
     }
     joined(alloc, ways.as_slice())
 }
 
 impl<'a> Step<'a> {
-    fn new(command: &'a Value) -> Result<Step<'a>, CaseFault> {
+    fn new(command: &'a Value, has_deeds: bool) -> Result<Step<'a>, CaseFault> {
         let Value::List(command) = command else {
             return Err(CaseFault::NoCase);
         };
@@ -66,6 +68,7 @@ impl<'a> Step<'a> {
             source,
             plan,
             how,
+            has_deeds,
         })
     }
 
@@ -138,9 +141,18 @@ impl<'a> Step<'a> {
         command.run(alloc)
     }
 
+    /// How it is told what the command came to.
+    fn line_of(&self, alloc: Global, ended: &Ended) -> Result<String, CaseFault> {
+        if self.has_deeds {
+            ended.line_with_deeds(alloc)
+        } else {
+            ended.full_line(alloc)
+        }
+    }
+
     /// The way with a further command, which ended so.
     fn behind(&self, alloc: Global, way: &Way, ended: Ended) -> Result<Way, CaseFault> {
-        let line = ended.full_line(alloc)?;
+        let line = self.line_of(alloc, &ended)?;
         let told = told_behind(alloc, way, line)?;
         let status = Some(ended.status);
         let journal = match self.value("left") {

@@ -98,15 +98,15 @@ module _ (O : Outside) (p : Program) (c : Config) (number reading waits : ℕ) (
   }
 
 -- ## What was taken can be taken
+call_of_answer : (k r : ℕ) (u : Taken) (reply : plain.Reply) → taken_event r (Some u) ≡ Some (plain.Answer k r reply) → u.call ≡ k
+call_of_answer k r u reply same = cc same
+
 takable_of : (m : Memory) (k r : ℕ) (o : Option Taken) (u : Taken) → FindsAnswer m k o → o ≡ Some u → u.call ≡ k
 takable_of m k r o u finds is = by finds.answer (sym (ap (taken_event r) is) ∙ finds.taken r)
   where
     by : (a : Option plain.Reply) → taken_event r (Some u) ≡ option_map (plain.Answer k r) a → u.call ≡ k
     by None event = absurd (let no : taken_event r (Some u) ≡ None = event in cc no)
-    by (Some reply) event = let same : taken_event r (Some u) ≡ Some (plain.Answer k r reply) = event in call_of_answer same
-    where
-      call_of_answer : taken_event r (Some u) ≡ Some (plain.Answer k r reply) → u.call ≡ k
-      call_of_answer same = cc same
+    by (Some reply) event = call_of_answer k r u reply event
 
 -- of an execution that goes on
 pub takable : (m : Memory) (w : Option ℕ) (o : Option Taken) → m.config.outcome ≡ Active → FindsBy m o w → AreTakable m.config o

@@ -7,4 +7,4 @@ mod services;
 
 pub use forms::{gap, items_of, number_of, numbers_of, write_bytes};
 pub use plans::{host_of, write_left};
-pub use services::address_of;
+pub use services::{address_of, services_of};

@@ -75,7 +75,7 @@ fn service_of(alloc: Global, service: &Value) -> Result<Service, CaseFault> {
 }
 
 /// The services of a list.
-pub(crate) fn services_of(alloc: Global, services: &Value) -> Result<Vec<Service>, CaseFault> {
+pub fn services_of(alloc: Global, services: &Value) -> Result<Vec<Service>, CaseFault> {
     let mut all = Vec::new(alloc);
     for service in items_of(services)? {
         if all.push(service_of(alloc, service)?).is_err() {
