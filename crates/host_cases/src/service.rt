@@ -17,6 +17,7 @@ pub struct Service {
 }
 
 /// What a read or a write gave that doesn't wait.
+#[derive(Clone, Copy, Debug, PartialEq, Eq)]
 pub enum Step {
     /// It would have to wait.
     Nothing,
