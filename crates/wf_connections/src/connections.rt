@@ -111,8 +111,9 @@ impl Connections {
         requires { listens self.now call ≡ true }
         ensures answered { IfOk result (λ a.
             IsAnswered (told self.now call) (option_map reply_view a)) }
-        ensures spelled { IfOk result (IfSome (λ r. IsReply (reply_view r))) }
-        ensures short { IfOk result (IfSome (λ r. length (reply (reply_view r)) ≤ 2200000)) }
+        ensures spelled { IfOk result (λ a. IfSome a (λ r. IsReply (reply_view r))) }
+        ensures short { IfOk result (λ a.
+            IfSome a (λ r. length (reply (reply_view r)) ≤ 2200000)) }
     {
         answers_are_small();
         let line = &self.lines[call as usize];
