@@ -1,12 +1,12 @@
 -- One line more, and one line that changes.
-use Rattle.std.proofs.Common.{◌≡◌, ◌≢◌, ◌⊎◌, ℕ, zero, suc, ◌<◌, ◌≤◌, Bool, true, false, ◌||◌, ◌&&◌, not, List, [], ◌∷◌, ◌++◌, length, Option, Some, None, slice_get, slice_set, refl, sym, ap, ◌∙◌, subst, arith, inl, inr}
+use Rattle.std.proofs.Common.{◌≡◌, ◌≢◌, ◌⊎◌, ℕ, zero, suc, ◌<◌, ◌≤◌, Bool, true, false, ◌||◌, ◌&&◌, not, List, [], ◌∷◌, ◌++◌, length, Some, None, slice_get, slice_set, refl, sym, ap, ◌∙◌, subst, arith, inl, inr}
 use Rattle.std.specs.Prelude.{nat_eq, Box}
 use Rattle.std.specs.Global.{Global}
 use Rattle.std.proofs.lemmas.Bool.Decides.{eqb_tells}
 use Rattle.wf_connections.specs.declared.line.Line.{Line}
 use Rattle.wf_connections.specs.declared.line.State.{State}
 use Rattle.wf_connections.specs.declared.line.State.TheVariants as state
-use Rattle.wf_connections.specs.Lines.{at, used_at, dropped_at, heard_at, told_at, told_by, is_used, is_dropped, is_heard, HasRead, IsReadAs, IsRead, AreRead, AreSame}
+use Rattle.wf_connections.specs.Lines.{at, used_at, dropped_at, told_by, is_used, is_dropped, is_heard, HasRead, IsReadAs, IsRead, AreRead, AreSame}
 use Rattle.wf_deeds.specs.Deeds.{Told, nothing_told}
 use Rattle.wf_http_in.specs.declared.reading.Reading.{Reading}
 

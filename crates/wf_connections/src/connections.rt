@@ -14,7 +14,7 @@ use wf_value::OutOfMemory;
 ///
 /// What was heard of a call is read as an answer while it `listens`: from its start until it is dropped or forgotten. Of an answer
 /// that is read its head and its body are kept, and nothing once it isn't wanted any more. A call costs the same time whatever its
-/// number, but a number takes room for all below it, three words each.
+/// number, but a number takes room for all below it, two words each.
 #[derive(Drop)]
 pub struct Connections {
     lines: Vec<Line>,
@@ -89,7 +89,7 @@ impl Connections {
         }
     }
 
-    /// Hears what a poll heard, where that is of a call. Without memory nothing was heard.
+    /// Hears what a poll heard, where that is of a call.
     pub fn hear(&mut self, what: &What) -> Result<(), OutOfMemory>
         ensures heard { OnOk result (Hears self.old self.new what.now) }
         ensures stands { StandsAsBefore self.old self.new }

@@ -1,4 +1,4 @@
-use Rattle.std.proofs.Common.{◌≡◌, ◌++◌, ◌∷◌, [], rules, subst, sym, arith}
+use Rattle.std.proofs.Common.{◌≡◌, ◌++◌, ◌∷◌, [], rules, subst, sym}
 use Rattle.wf_connections.specs.Lines.{AreRead, AreSame}
 use Rattle.wf_connections.proofs.Changes.{read_pushed, same_pushed}
 use Rattle.wf_connections.proofs.lines.reach.Goals as goal

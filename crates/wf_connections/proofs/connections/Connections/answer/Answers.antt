@@ -1,4 +1,4 @@
-use Rattle.std.proofs.Common.{◌≡◌, ◌≤◌, length, Option, true, false, IfOk, IfSome, ap, inl, inr, subst, sym, ◌∙◌, option_map}
+use Rattle.std.proofs.Common.{◌≡◌, ◌≤◌, length, true, false, IfOk, IfSome, ap, inl, inr, subst, sym, ◌∙◌, option_map}
 use Rattle.std.proofs.Math.Logic.{∥∥₁_map}
 use Rattle.std.proofs.lemmas.Result.{IfOk-weaker}
 use Rattle.wf_connections.specs.Calls.{told}
@@ -8,7 +8,6 @@ use Rattle.wf_connections.proofs.Steps.{line_at, listening_line, listening_withi
 use Rattle.wf_deeds.specs.Deeds.{IsAnswered}
 use Rattle.wf_record_parts.specs.Spelling.{IsReply, reply}
 use Rattle.wf_record_parts.specs.View.{reply_view}
-use Rattle.wf_record_parts.specs.declared.reply.Reply.{Reply}
 use Rattle.wf_connections.proofs.connections.Connections.answer.Goals as goal
 
 pub index-line-requires : goal.index-line-requires
