@@ -1,12 +1,14 @@
 -- One line more, and one line that changes.
-use Rattle.std.proofs.Common.{◌≡◌, ◌≢◌, ◌⊎◌, ℕ, zero, suc, ◌<◌, ◌≤◌, Bool, true, false, ◌||◌, ◌&&◌, not, List, [], ◌∷◌, ◌++◌, length, Option, Some, None, slice_get, slice_set, refl, sym, ap, ◌∙◌, subst, arith, inl, inr}
-use Rattle.std.specs.Prelude.{nat_eq}
+use Rattle.std.proofs.Common.{◌≡◌, ◌≢◌, ◌⊎◌, ℕ, zero, suc, ◌<◌, ◌≤◌, Bool, true, false, ◌||◌, ◌&&◌, not, List, [], ◌∷◌, ◌++◌, length, Some, None, slice_get, slice_set, refl, sym, ap, ◌∙◌, subst, arith, inl, inr}
+use Rattle.std.specs.Prelude.{nat_eq, Box}
+use Rattle.std.specs.Global.{Global}
 use Rattle.std.proofs.lemmas.Bool.Decides.{eqb_tells}
 use Rattle.wf_connections.specs.declared.line.Line.{Line}
 use Rattle.wf_connections.specs.declared.line.State.{State}
 use Rattle.wf_connections.specs.declared.line.State.TheVariants as state
-use Rattle.wf_connections.specs.Lines.{at, used_at, dropped_at, heard_at, told_at, told_by, is_used, is_dropped, is_heard, IsReadAs, IsRead, AreRead, AreSame}
+use Rattle.wf_connections.specs.Lines.{at, used_at, dropped_at, told_by, is_used, is_dropped, is_heard, HasRead, IsReadAs, IsRead, AreRead, AreSame}
 use Rattle.wf_deeds.specs.Deeds.{Told, nothing_told}
+use Rattle.wf_http_in.specs.declared.reading.Reading.{Reading}
 
 -- ## What lines have
 pub at_past : {A : Type 0} (of : Line → A) (none : A) (ls : List Line) (i : ℕ) → length ls ≤ i → at of none ls i ≡ none
@@ -49,21 +51,21 @@ at_equal of none (x ∷ ls) (suc i) (suc k) l same = at_equal of none ls i k l s
 
 pub at_yes : (of : Line → Bool) (ls : List Line) (i k : ℕ) (l : Line) → i < length ls → of l ≡ true → at of false (slice_set ls i l) k ≡ nat_eq i k || at of false ls k
 at_yes of ls i k l within is = elim (eqb_tells i k) [
-  | inl yes ↦ ap (at of false (slice_set ls i l)) (sym yes.1) ∙ at_set of false ls i l within ∙ is ∙ sym (ap (λ b. b || at of false ls k) yes.0)
-  | inr no ↦ at_other of false ls i k l (λ same. no.1 (sym same)) ∙ sym (ap (λ b. b || at of false ls k) no.0)
+  | inl same ↦ ap (at of false (slice_set ls i l)) (sym same.1) ∙ at_set of false ls i l within ∙ is ∙ sym (ap (λ b. b || at of false ls k) same.0)
+  | inr apart ↦ at_other of false ls i k l (λ equal. apart.1 (sym equal)) ∙ sym (ap (λ b. b || at of false ls k) apart.0)
 ]
 
 pub at_no : (of : Line → Bool) (ls : List Line) (i k : ℕ) (l : Line) → i < length ls → of l ≡ false → at of false (slice_set ls i l) k ≡ not (nat_eq i k) && at of false ls k
 at_no of ls i k l within is = elim (eqb_tells i k) [
-  | inl yes ↦ ap (at of false (slice_set ls i l)) (sym yes.1) ∙ at_set of false ls i l within ∙ is ∙ sym (ap (λ b. not b && at of false ls k) yes.0)
-  | inr no ↦ at_other of false ls i k l (λ same. no.1 (sym same)) ∙ sym (ap (λ b. not b && at of false ls k) no.0)
+  | inl same ↦ ap (at of false (slice_set ls i l)) (sym same.1) ∙ at_set of false ls i l within ∙ is ∙ sym (ap (λ b. not b && at of false ls k) same.0)
+  | inr apart ↦ at_other of false ls i k l (λ equal. apart.1 (sym equal)) ∙ sym (ap (λ b. not b && at of false ls k) apart.0)
 ]
 
 -- there is no line i
 pub at_none : (of : Line → Bool) (ls : List Line) (i k : ℕ) → length ls ≤ i → at of false ls k ≡ not (nat_eq i k) && at of false ls k
 at_none of ls i k past = elim (eqb_tells i k) [
-  | inl yes ↦ ap (at of false ls) (sym yes.1) ∙ at_past of false ls i past ∙ sym (ap (λ b. not b && at of false ls k) yes.0)
-  | inr no ↦ sym (ap (λ b. not b && at of false ls k) no.0)
+  | inl same ↦ ap (at of false ls) (sym same.1) ∙ at_past of false ls i past ∙ sym (ap (λ b. not b && at of false ls k) same.0)
+  | inr apart ↦ sym (ap (λ b. not b && at of false ls k) apart.0)
 ]
 
 -- ## What is read
@@ -72,6 +74,19 @@ unheard_read (state.Heard r) t is = absurd (let f : true ≡ false = is in cc f)
 unheard_read state.Unused t is = tt
 unheard_read state.Forgotten t is = tt
 unheard_read state.Dropped t is = tt
+
+not_heard : (s : State) → ((b : Box Reading Global) → s ≡ state.Heard b → ⊥) → is_heard s ≡ false
+not_heard (state.Heard r) other = absurd (other r refl)
+not_heard state.Unused other = refl
+not_heard state.Forgotten other = refl
+not_heard state.Dropped other = refl
+
+pub other_read : (s : State) (t : Told) → ((b : Box Reading Global) → s ≡ state.Heard b → ⊥) → IsReadAs s t
+other_read s t other = unheard_read s t (not_heard s other)
+
+-- what is read of a line that is heard
+pub heard_read : (s : State) (b : Box Reading Global) (r : Reading) (t : Told) → s ≡ state.Heard b → r ≡ b.value → IsReadAs s t → HasRead r t
+heard_read s b r t is same was = subst (λ x. HasRead x t) (sym same) (subst (λ x. IsReadAs x t) is was)
 
 pub none_read : (ls : List Line) → ls ≡ [] → AreRead ls
 none_read ls is k l has = absurd (let f : None ≡ Some l = sym (ap (λ (x : List Line). slice_get x k) is) ∙ has in cc f)
