@@ -22,7 +22,7 @@ pub record Polled (O : Outside) (m n : Memory) (first now : World) (bound left :
   pub count : polls done + left ≡ bound
 
 pub polled_first : (O : Outside) (m n : Memory) (first now : World) (bound : ℕ) → Far the_language O m n first now [] → Polled O m n first now bound bound
-polled_first O m n first now bound far = record { done = []; far = far; count = refl }
+polled_first O m n first now bound far = record { done = []; far = far; count = omega arith }
 
 -- ## The loop
 pub record Waiting (first now : World) (f g : Faults) (e d : Engine) (bound left : ℕ) (Rest : Type 0) : Type 0 where

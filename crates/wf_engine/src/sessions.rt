@@ -6,7 +6,7 @@ use wf_host::Host;
 use wf_machine::Outcome;
 
 impl Engine {
-    ghost use Rattle.std.specs.Prelude.{◌≡◌, ◌≢◌, ◌⊎◌, ◌×◌, ◌↔◌, ◌+◌, ◌<◌, ◌^◌, true, false, IfErr, IsErrOf, IsTrue, OnErr, OnOk};
+    ghost use Rattle.std.specs.Prelude.{◌≡◌, ◌≢◌, ◌⊎◌, ◌↔◌, ◌+◌, ◌<◌, ◌^◌, true, false, IfErr, IsErrOf, IsTrue, OnErr, OnOk};
     ghost use Rattle.wf_deeds.specs.Clauses.{AddsTurns, KeptThroughout, Sessions, Waits};
     ghost use Rattle.wf_deeds.specs.Memory.{IsSettled};
     ghost use Rattle.wf_engine.specs.Engine.{Holds, is_closed, memory};
@@ -138,12 +138,11 @@ impl Engine {
         let Some(until) = self.machine.least_due() else {
             unreachable!();
         };
-        match host.poll(until) {
-            Ok(heard) => self.take(heard),
-            Err(error) => {
-                self.closed = true;
-                Err(error.into())
-            }
-        }
+        // until it has heard
+        self.closed = true;
+        let heard = host.poll(until)?;
+        self.closed = false;
+        self.take(heard)?;
+        Ok(())
     }
 }
