@@ -1,7 +1,7 @@
 -- What is sent, and then one poll.
 use Rattle.std.specs.Prelude.{◌≡◌, ◌≢◌, ◌⊎◌, ℕ, Bool, true, false, IsTrue, IsSome, List, [], ◌∷◌, ◌++◌, Option, Some, None}
 use Rattle.std.proofs.Common.{inl, inr, refl, sym, ◌∙◌, ap, subst}
-use Rattle.wf_deeds.specs.Clauses.{IsSending, KeptThroughout, SendsOpen, Waits, to_drop, to_start}
+use Rattle.wf_deeds.specs.Clauses.{IsSending, KeptThroughout, Waits, Went, to_drop, to_start}
 use Rattle.wf_deeds.specs.Deeds.{visit_of}
 use Rattle.wf_deeds.specs.Memory.{IsSettled, Memory}
 use Rattle.wf_deeds.specs.Outside.{Outside}
@@ -33,11 +33,11 @@ no_visit (what.Broken k) none = refl
 no_visit (what.Visit n b) none = none
 no_visit (what.VisitEnd n) none = none
 
--- behind what was sent
-pub sent_far : (O : Outside) (e d : Engine) (first mid : World) → OnlyNow first → CountsNow mid → mid.may_leave mid.seen → is_closed e ≡ false → Holds e first → is_closed d ≡ false → Holds d mid → KeptThroughout the_language O (memory e) first mid
-    → (s : SendsOpen the_language O (memory e) (memory d) first mid) → Far the_language O (memory e) (memory d) first mid s.done
-sent_far O e d first mid only counts reads open_first holds open_then holds_then moments s =
-    far_on the_language O (memory e) (memory e) (memory d) first first mid [] s.done (far_at_first the_language O e.history first (memory e) only holds.0 (e.ready open_first).begun) refl moments s.went d.history counts reads holds_then.0 (d.ready open_then).begun
+-- behind a part
+pub part_far : (O : Outside) (e d : Engine) (first mid : World) (done : List Deed) → OnlyNow first → CountsNow mid → mid.may_leave mid.seen → is_closed e ≡ false → Holds e first → is_closed d ≡ false → Holds d mid → KeptThroughout the_language O (memory e) first mid
+    → Went the_language O (memory e) (memory d) first mid done → Far the_language O (memory e) (memory d) first mid done
+part_far O e d first mid done only counts reads open_first holds open_then holds_then moments went =
+    far_on the_language O (memory e) (memory e) (memory d) first first mid [] done (far_at_first the_language O e.history first (memory e) only holds.0 (e.ready open_first).begun) refl moments went d.history counts reads holds_then.0 (d.ready open_then).begun
 
 -- and then it polled once
 pub has_waited : (O : Outside) (m o : Memory) (first now : World) (done : List Deed) (until : ℕ) (h : Heard) → Far the_language O m o first now (done ++ Poll until h ∷ []) → IsSending (to_drop m) (to_start m) done → Waits the_language O m o first now

@@ -65,7 +65,10 @@ impl Engine {
         laws_of_steps();
         self.settle(host)?;
         let mut left = waits;
-        while matches!(self.machine.outcome(), Outcome::Active) {
+        loop {
+            let Outcome::Active = self.machine.outcome() else {
+                return Ok(());
+            };
             if left == 0 {
                 return Err(EngineFault::Suspended);
             }
@@ -73,7 +76,6 @@ impl Engine {
             self.wait(host)?;
             self.settle(host)?;
         }
-        Ok(())
     }
 
     /// Adds turns until it is settled.
