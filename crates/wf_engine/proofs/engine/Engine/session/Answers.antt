@@ -51,7 +51,13 @@ returns-then-left-eq0-clause-any_moment g c = λ O open_now told.
     let p = c.loop-left.invariant.so_far O told in
     far_kept the_language O (memory c.args.self.now) (memory c.loop-left.self) (g.H.Host.world c.args.host.now) (g.H.Host.world c.loop-left.host) p.done p.far
 
--- a wait failed
+-- a wait
+pub wait-requires-clause-kept : goal.wait-requires-clause-kept
+wait-requires-clause-kept g c = λ told.
+    let so = c.loop-left.invariant in
+    so.holds (told_on (g.H.Host.world c.loop-left.host) (g.H.Host.world c.args.host.now) (sym so.tells) told)
+
+-- which failed
 pub returns-in_err-wait-clause-any_moment : goal.returns-in_err-wait-clause-any_moment
 returns-in_err-wait-clause-any_moment g c = λ O open_now told.
     let w = g.H.Host.world c.args.host.now in
@@ -137,6 +143,9 @@ returns-in_default-clause-ended g c = λ O told.
 
 pub returns-in_default-clause-result : goal.returns-in_default-clause-result
 returns-in_default-clause-result g c = ends c.outcome.result (memory c.loop-left.self).config.outcome c.outcome.ensures.outcome (λ is. c.in_default.not-Active is)
+
+pub returns-in_default-clause-finished : goal.returns-in_default-clause-finished
+returns-in_default-clause-finished g c = λ told over. (c.loop-left.invariant.rest over).0
 
 pub returns-in_default-clause-any_moment : goal.returns-in_default-clause-any_moment
 returns-in_default-clause-any_moment g c = λ O open_now told.
