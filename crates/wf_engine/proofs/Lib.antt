@@ -18,7 +18,7 @@ mod OneTurn
 mod Parts
 mod Polling
 mod Reopened
-mod Sending
+mod CallsSent
 mod Sent
 mod SentLists
 mod Settling

@@ -1,7 +1,7 @@
 use Rattle.std.proofs.Common.{◌≡◌, ◌⊎◌}
 use Rattle.wf_deeds.specs.Memory.{IsSettled}
 use Rattle.wf_engine.proofs.Settling.{Going, left}
-use Rattle.wf_engine.proofs.sessions.Engine.settle.Given as goal
+use Rattle.wf_engine.proofs.engine.Engine.settle.Given as goal
 use Rattle.wf_engine.specs.Engine.{memory}
 
 -- nothing was done yet, or it wasn't settled

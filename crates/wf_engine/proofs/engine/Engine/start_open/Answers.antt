@@ -1,7 +1,7 @@
 use Rattle.std.proofs.Common.{◌≡◌, false, true, List, ℕ, [], ◌∷◌, refl, sym, ◌∙◌, ap, arith, length}
 use Rattle.wf_deeds.specs.Clauses.{those}
-use Rattle.wf_engine.proofs.Sending.{starts_all, starts_first, starts_on, starts_sent, falls_then, moments_then, part_first, settled_on, told_then}
-use Rattle.wf_engine.proofs.sending.Engine.start_open.Goals as goal
+use Rattle.wf_engine.proofs.CallsSent.{starts_all, starts_first, starts_on, starts_sent, falls_then, moments_then, part_first, settled_on, told_then}
+use Rattle.wf_engine.proofs.engine.Engine.start_open.Goals as goal
 use Rattle.wf_engine.specs.Engine.{memory}
 use Rattle.wf_engine.specs.Sending.{is_to_start}
 use Rattle.wf_model.specs.Config.{Config}
@@ -50,7 +50,7 @@ pub returns : goal.returns
 returns g c =
     let e = c.args.self.now in
     let so = c.loop-place.invariant in
-    let all : c.loop-place.place ≡ length (memory e).config.calls = omega (arith, c.calls.ensures) in
+    let all : c.loop-place.place ≡ length (memory e).config.calls = omega (arith, c.calls-place-end.ensures) in
     record {
       sent = starts_sent (g.H.Host.world c.args.host.now) (g.H.Host.world c.loop-place.host) (g.H.Host.faults c.args.host.now) (g.H.Host.faults c.loop-place.host) e c.loop-place.self c.loop-place.place so all;
       any_moment = so.part.moments;

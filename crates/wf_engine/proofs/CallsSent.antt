@@ -116,11 +116,11 @@ module _ (first mid : World) (f g : Faults) (e d : Engine) (js ks : List ℕ) (s
   }
 
 -- ## Tests
-or_none : (a : Bool) → a ≡ a || false
+pub or_none : (a : Bool) → a ≡ a || false
 or_none true = refl
 or_none false = refl
 
-past_answered : (c : Config) (k : ℕ) → length c.calls < k → call c k ≡ Answered
+pub past_answered : (c : Config) (k : ℕ) → length c.calls < k → call c k ≡ Answered
 past_answered c zero past = refl
 past_answered c (suc k) past = ap (λ (o : Option Call). elim o [ None ↦ Answered | Some x ↦ x ]) (slice_get_past c.calls k (omega arith))
 
@@ -149,10 +149,10 @@ module _ (m : Memory) (k : ℕ) where
 
 -- so nothing is done
 pub drops_none : (m : Memory) (k : ℕ) → is_to_drop m k ≡ false → DropsOne m m k
-drops_none m k no = record { started = λ j. refl; here = or_none (m.dropped k) ∙ ap (λ b. m.dropped k || b) (sym no); others = λ j other. refl }
+drops_none m k off = record { started = λ j. refl; here = or_none (m.dropped k) ∙ ap (λ b. m.dropped k || b) (sym off); others = λ j other. refl }
 
 pub starts_none : (m : Memory) (k : ℕ) → is_to_start m k ≡ false → StartsOne m m k
-starts_none m k no = record { dropped = λ j. refl; here = or_none (m.started k) ∙ ap (λ b. m.started k || b) (sym no); others = λ j other. refl }
+starts_none m k off = record { dropped = λ j. refl; here = or_none (m.started k) ∙ ap (λ b. m.started k || b) (sym off); others = λ j other. refl }
 
 -- past the last call there is nothing to do
 pub no_drop_past : (m : Memory) (k : ℕ) → length m.config.calls < k → is_to_drop m k ≡ false

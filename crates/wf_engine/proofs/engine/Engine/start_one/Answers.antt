@@ -1,10 +1,10 @@
 use Rattle.std.proofs.Common.{◌≡◌, false, true, List, ℕ, [], ◌∷◌, refl, sym, ◌∙◌, ap}
 use Rattle.wf_deeds.specs.Clauses.{those}
-use Rattle.wf_engine.proofs.Connected.{behind, starts_goes, starts_one, starts_same, starts_this}
-use Rattle.wf_engine.proofs.Sending.{holds_later, none_fell, part_none, sends_start, starts_no_old, starts_no_shut, starts_none, told_then}
+use Rattle.wf_engine.proofs.Connected.{are_of_starts, behind, lent_request, starts_goes, starts_one, starts_same, starts_this, still_ready}
+use Rattle.wf_engine.proofs.CallsSent.{holds_later, none_fell, part_none, sends_start, starts_no_old, starts_no_shut, starts_none, told_then}
 use Rattle.wf_engine.proofs.Sent.{kept_before, kept_with, kept_without, starting, starting_goes}
 use Rattle.wf_engine.proofs.SentLists.{not_this}
-use Rattle.wf_engine.proofs.sending.Engine.start_one.Goals as goal
+use Rattle.wf_engine.proofs.engine.Engine.start_one.Goals as goal
 use Rattle.wf_engine.specs.Engine.{memory}
 use Rattle.wf_engine.specs.Sending.{is_to_start}
 use Rattle.wf_engine.specs.TheLanguage.{the_language}
@@ -15,7 +15,17 @@ pub returns-then-is_started-clause-sent : goal.returns-then-is_started-clause-se
 returns-then-is_started-clause-sent g c =
     let e = c.args.self.now in
     let was : (memory e).started c.args.call ≡ true = sym c.is_started.ensures ∙ c.if-is_started.true in
-    part_none c.laws_of_steps.ensures.moment (g.H.Host.world c.args.host.now) (g.H.Host.faults c.args.host.now) e [] (those (is_to_start (memory e)) c.args.call 1) (λ told i d left. g.met.H.Host.only_now c.args.host.now i d told left) c.requires.not_closed c.requires.kept refl (not_this (is_to_start (memory e)) c.args.call (starts_no_old (memory e) c.args.call was))
+    let none = part_none c.laws_of_steps.ensures.moment (g.H.Host.world c.args.host.now) (g.H.Host.faults c.args.host.now) e [] (those (is_to_start (memory e)) c.args.call 1) (λ told i d left. g.met.H.Host.only_now c.args.host.now i d told left) c.requires.not_closed c.requires.kept refl (not_this (is_to_start (memory e)) c.args.call (starts_no_old (memory e) c.args.call was)) in
+    record {
+      not_closed = none.not_closed;
+      holds = none.holds;
+      same = none.same;
+      sends = none.sends;
+      moments = none.moments;
+      seen = none.seen;
+      tells = none.tells;
+      counts = none.counts;
+    }
 
 pub returns-then-is_started-clause-starts : goal.returns-then-is_started-clause-starts
 returns-then-is_started-clause-starts g c =
@@ -32,7 +42,17 @@ returns-then-is_started-clause-any_moment g c = λ O told.
 pub returns-in_default-clause-sent : goal.returns-in_default-clause-sent
 returns-in_default-clause-sent g c =
     let e = c.args.self.now in
-    part_none c.laws_of_steps.ensures.moment (g.H.Host.world c.args.host.now) (g.H.Host.faults c.args.host.now) e [] (those (is_to_start (memory e)) c.args.call 1) (λ told i d left. g.met.H.Host.only_now c.args.host.now i d told left) c.requires.not_closed c.requires.kept refl (not_this (is_to_start (memory e)) c.args.call (starts_no_shut (memory e) c.args.call (sym c.in_default.ensures)))
+    let none = part_none c.laws_of_steps.ensures.moment (g.H.Host.world c.args.host.now) (g.H.Host.faults c.args.host.now) e [] (those (is_to_start (memory e)) c.args.call 1) (λ told i d left. g.met.H.Host.only_now c.args.host.now i d told left) c.requires.not_closed c.requires.kept refl (not_this (is_to_start (memory e)) c.args.call (starts_no_shut (memory e) c.args.call (sym c.in_default.ensures))) in
+    record {
+      not_closed = none.not_closed;
+      holds = none.holds;
+      same = none.same;
+      sends = none.sends;
+      moments = none.moments;
+      seen = none.seen;
+      tells = none.tells;
+      counts = none.counts;
+    }
 
 pub returns-in_default-clause-starts : goal.returns-in_default-clause-starts
 returns-in_default-clause-starts g c =
@@ -59,7 +79,7 @@ returns-in_err-start-2-clause-any_moment g c = λ O told.
     let k = c.args.call in
     let to = c.in-Some.request.now.address in
     let bytes = c.as_slice.result.now in
-    let asks = sym c.in-Some.ensures in
+    let asks = lent_request m k c.in-Some.request.now bytes c.in-Some.ensures c.as_slice.ensures in
     let new : (memory e).started k ≡ false = sym c.is_started.ensures ∙ c.if-is_started.false in
     kept_with c.laws_of_steps.ensures.moment the_language O m e.history (g.H.Host.world c.args.host.now) (λ i d left. g.met.H.Host.only_now c.args.host.now i d told left) (c.requires.kept told).0 (e.ready c.requires.not_closed).begun
     (g.H.Host.world c.start.new.self) (starting m k) (Start k to bytes) (c.in_ok-start.ensures.time told) (starting_goes m k the_language O c.laws_of_steps.ensures.start to bytes c.requires.settled c.requires.active asks new) refl refl
@@ -78,7 +98,7 @@ returns-clause-any_moment g c = λ O told.
     let k = c.args.call in
     let to = c.in-Some.request.now.address in
     let bytes = c.as_slice.result.now in
-    let asks = sym c.in-Some.ensures in
+    let asks = lent_request m k c.in-Some.request.now bytes c.in-Some.ensures c.as_slice.ensures in
     let new : (memory e).started k ≡ false = sym c.is_started.ensures ∙ c.if-is_started.false in
     kept_with c.laws_of_steps.ensures.moment the_language O m e.history (g.H.Host.world c.args.host.now) (λ i d left. g.met.H.Host.only_now c.args.host.now i d told left) (c.requires.kept told).0 (e.ready c.requires.not_closed).begun
     (g.H.Host.world c.start.new.self) (starting m k) (Start k to bytes) (c.in_ok-start.ensures.time told) (starting_goes m k the_language O c.laws_of_steps.ensures.start to bytes c.requires.settled c.requires.active asks new) refl refl
@@ -92,7 +112,7 @@ returns-clause-sent g c =
     let b = c.start-2.new.self in
     let to = c.in-Some.request.now.address in
     let bytes = c.as_slice.result.now in
-    let asks = sym c.in-Some.ensures in
+    let asks = lent_request m k c.in-Some.request.now bytes c.in-Some.ensures c.as_slice.ensures in
     let w = g.H.Host.world c.args.host.now in
     let last = g.H.Host.world c.start.new.self in
     let new : (memory e).started k ≡ false = sym c.is_started.ensures ∙ c.if-is_started.false in
@@ -111,4 +131,15 @@ returns-clause-sent g c =
       seen = λ told. c.start.ensures.seen told;
       tells = c.start.ensures.tells;
       counts = c.start.ensures.counts;
+    }
+
+-- it can go on
+pub invariant_of-self-2 : goal.invariant_of-self-2
+invariant_of-self-2 g c =
+    let e = c.args.self.now in
+    let was = e.ready c.requires.not_closed in
+    record {
+      ready = λ open_now.
+          still_ready e.history e.machine e.reading e.connections c.start-2.new.self e.taken was
+          (are_of_starts (memory e).config e.connections c.start-2.new.self c.args.call was.calls _ (sym c.in-Some.ensures) c.in_ok-start-2.ensures);
     }

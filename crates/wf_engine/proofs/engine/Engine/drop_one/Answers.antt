@@ -1,10 +1,10 @@
 use Rattle.std.proofs.Common.{◌≡◌, false, true, List, ℕ, [], ◌∷◌, refl, sym, ◌∙◌, ap}
 use Rattle.wf_deeds.specs.Clauses.{those}
 use Rattle.wf_engine.proofs.Connected.{behind, drops_goes, drops_one, drops_same, forgets_goes, forgets_one, forgets_same, lent_some}
-use Rattle.wf_engine.proofs.Sending.{drops_no_open, drops_none, holds_later, none_fell, part_none, sends_drop, sends_none, told_then}
+use Rattle.wf_engine.proofs.CallsSent.{drops_no_open, drops_none, holds_later, none_fell, part_none, sends_drop, sends_none, told_then}
 use Rattle.wf_engine.proofs.Sent.{kept_before, kept_with, kept_without}
 use Rattle.wf_engine.proofs.SentLists.{not_this}
-use Rattle.wf_engine.proofs.sending.Engine.drop_one.Goals as goal
+use Rattle.wf_engine.proofs.engine.Engine.drop_one.Goals as goal
 use Rattle.wf_engine.specs.Engine.{memory}
 use Rattle.wf_engine.specs.Sending.{is_to_drop}
 use Rattle.wf_engine.specs.TheLanguage.{the_language}
