@@ -79,11 +79,5 @@ module _ (p : Program) (c : Config) (number reading : ℕ) (started dropped : �
   }
 
 -- ## It can go on
-pub none_of_it : (a : Connections) (c : Config) → ((k : ℕ) → is_started a k ≡ false) → AreOf a c
-none_of_it a c none = record {
-  issued = λ k is. absurd (off (is_started a k) (none k) is);
-  heard = λ k opened is. absurd (off (is_started a k) (none k) is);
-}
-
 pub nothing_taken : (c : Config) (o : Option Taken) → o ≡ None → AreTakable c o
 nothing_taken c o none t is = absurd (let no : None ≡ Some t = sym none ∙ is in cc no)
