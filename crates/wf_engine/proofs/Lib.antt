@@ -1,6 +1,5 @@
 mod Added
 mod Arguments
-mod AtRest
 mod Beginning
 mod Bringing
 mod Chosen
