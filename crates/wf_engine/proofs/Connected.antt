@@ -42,42 +42,22 @@ or_all : (a : Bool) → true ≡ a || true
 or_all true = refl
 or_all false = refl
 
--- as a test of a call tells
-pub timed_out_is : (b : Bool) (x : Call) → (IsTrue b ↔ x ≡ TimedOut) → b ≡ is_timed_out x
-timed_out_is true x tells = sym (ap is_timed_out (tells.0 refl))
-timed_out_is false TimedOut tells = absurd (let no : false ≡ true = tells.1 refl in cc no)
-timed_out_is false Answered tells = refl
-timed_out_is false (Open b q due) tells = refl
-
 and_first : (a b c : Bool) → a && b && c ≡ true → a ≡ true
 and_first true b c is = refl
 and_first false b c is = absurd (cc is)
-
-and_second : (a b c : Bool) → a && b && c ≡ true → b ≡ true
-and_second true true c is = refl
-and_second true false c is = absurd (cc is)
-and_second false b c is = absurd (cc is)
 
 timed_out_call : (x : Call) → is_timed_out x ≡ true → x ≡ TimedOut
 timed_out_call TimedOut is = refl
 timed_out_call Answered is = absurd (cc is)
 timed_out_call (Open b q due) is = absurd (cc is)
 
-module _ (m : Memory) (k : ℕ) (is : is_to_drop m k ≡ true) where
-  pub drops_timed_out : call m.config k ≡ TimedOut
-  drops_timed_out = timed_out_call (call m.config k) (and_first (is_timed_out (call m.config k)) (m.started k) (not (m.dropped k)) is)
-
-  pub drops_started : m.started k ≡ true
-  drops_started = and_second (is_timed_out (call m.config k)) (m.started k) (not (m.dropped k)) is
+pub drops_timed_out : (m : Memory) (k : ℕ) → is_to_drop m k ≡ true → call m.config k ≡ TimedOut
+drops_timed_out m k is = timed_out_call (call m.config k) (and_first (is_timed_out (call m.config k)) (m.started k) (not (m.dropped k)) is)
 
 -- as a machine lends the request of a call
 pub lent_some : (r : Option (Bor own.Request)) (o : Option Request) → option_map request_view (option_copied r) ≡ o → is_some r ≡ true → (q : Request) × (o ≡ Some q)
 lent_some (Some q) o is some = (request_view q.now, sym is)
 lent_some None o is some = absurd (cc some)
-
-pub lent_none : (r : Option (Bor own.Request)) (o : Option Request) → option_map request_view (option_copied r) ≡ o → is_some r ≡ false → o ≡ None
-lent_none None o is none = sym is
-lent_none (Some q) o is none = absurd (cc none)
 
 -- with the bytes that are sent
 pub lent_request : (m : Memory) (k : ℕ) (q : own.Request) (bytes : List ℕ) → Some (request_view q) ≡ request_of m.config k → bytes ≡ q.bytes → request_of m.config k ≡ Some (record { address = address_view q.address; bytes = bytes })
@@ -101,21 +81,6 @@ was_issued c k q asks = elim (cases_lt (length c.calls) k) [
 
 -- ## Connections of an execution
 module _ (c : Config) (a b : Connections) (k : ℕ) (of : AreOf a c) where
-  still_heard : request_of c k ≡ None → ((j : ℕ) → is_started b j ≡ is_started a j) → ((j : ℕ) → listens b j ≡ not (nat_eq k j) && listens a j) → AreOf b c
-  still_heard shut starts hears = record {
-    issued = λ j was. of.issued j (sym (starts j) ∙ was);
-    heard = λ j open_now was.
-        hears j ∙ ap (λ v. not v && listens a j)
-        (other_call k j (λ same. let no : false ≡ true = ap is_some (sym shut) ∙ ap (λ i. is_some (request_of c i)) (sym same) ∙ open_now in cc no))
-        ∙ of.heard j open_now (sym (starts j) ∙ was);
-  }
-
-  pub are_of_forgets : request_of c k ≡ None → Forgets a b k → AreOf b c
-  are_of_forgets shut f = still_heard shut f.started f.listening
-
-  pub are_of_drops : request_of c k ≡ None → Drops a b k → AreOf b c
-  are_of_drops shut d = still_heard shut d.started d.listening
-
   pub are_of_starts : (q : Request) → request_of c k ≡ Some q → Starts a b k → AreOf b c
   are_of_starts q asks s = record { issued = λ j was. issued j (nat_eq k j) refl (sym (s.started j) ∙ was); heard = λ j open_now was. heard j (nat_eq k j) refl open_now (sym (s.started j) ∙ was) }
     where

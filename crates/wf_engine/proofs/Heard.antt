@@ -122,31 +122,6 @@ takable m (Some k) o active (inr finds) u is =
     let both = both_true (is_some (request_of m.config k)) (m.started k) finds.awaited in
     record { active = active; opened = ap (λ i. is_some (request_of m.config i)) (takable_of m k 0 o u finds is) ∙ both.0 }
 
--- ## What is found
-pub finds_nothing : (m : Memory) (w : What) → None ≡ call_of w → Finds m w None
-finds_nothing m w is = subst (FindsBy m None) is refl
-
-module _ (m : Memory) (w : What) (k : ℕ) (is : Some k ≡ call_of w) where
-  -- of a call that isn't open, or wasn't started
-  pub finds_shut : is_some (request_of m.config k) ≡ false → Finds m w None
-  finds_shut shut = subst (FindsBy m None) is (inl (ap (λ b. b && m.started k) shut, refl))
-
-  pub finds_old : m.started k ≡ false → Finds m w None
-  finds_old old = subst (FindsBy m None) is (inl (neither (is_some (request_of m.config k)) (m.started k) old, refl))
-    where
-      neither : (a b : Bool) → b ≡ false → a && b ≡ false
-      neither true b off = off
-      neither false b off = refl
-
-  -- of one that is awaited
-  pub finds_answer : is_some (request_of m.config k) ≡ true → m.started k ≡ true → (o : Option Taken) (answer : Option plain.Reply) → IsAnswered (m.told k) answer → ((r : ℕ) → taken_event r o ≡ option_map (plain.Answer k r) answer) → Finds m w o
-  finds_answer opened was o answer answered event = subst (FindsBy m o) is (inr (record {
-    awaited = ap (λ b. b && m.started k) opened ∙ was;
-    answer = answer;
-    answered = answered;
-    taken = event;
-  }))
-
 -- ## It can still go on
 pub heard_ready : (h : History) (m : Machine) (reading r : ℕ) (a b : Connections) (old new : Option Taken) → IsReady h m reading a old → reading ≤ r → StandsAsBefore a b → AreTakable (state_of m).config new → IsReady h m r b new
 heard_ready h m reading r a b old new was le stands takable = record {
