@@ -1,9 +1,9 @@
-use Rattle.std.proofs.Common.{◌≡◌, ◌∙◌, ◌+◌, ap, inl, refl, sym, subst, ℕ, length, ◌≤◌, None, Ok}
+use Rattle.std.proofs.Common.{◌≡◌, ◌∙◌, ◌+◌, ap, inl, sym, subst, ℕ, length, ◌≤◌, Ok}
 use Rattle.std.specs.Prelude.{unwrap_or}
 use Rattle.wf_connections.specs.Calls as calls
 use Rattle.wf_connections.specs.Calls.{is_dropped, is_started}
 use Rattle.wf_engine.proofs.Beginning.{opens_quietly, quiet_stays, settled_behind, then_reads}
-use Rattle.wf_engine.proofs.FreshEngine.{none_of_it, nothing_taken, opened_as_fresh}
+use Rattle.wf_engine.proofs.FreshEngine.{opened_as_fresh}
 use Rattle.wf_engine.proofs.Reopened.{deeds_on, has_ended, next_number, no_history_told, opened, still_stands}
 use Rattle.wf_engine.proofs.StillOpen.{tells_still}
 use Rattle.wf_engine.proofs.engine.Engine.open.Goals as goal
