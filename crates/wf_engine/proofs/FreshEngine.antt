@@ -2,15 +2,12 @@
 use Rattle.std.specs.Prelude.{◌≡◌, ℕ, Bool, true, false, List, Option, None, Some}
 use Rattle.std.proofs.Common.{sym, ◌∙◌}
 use Rattle.wf_ast.specs.Tree.{Program}
-use Rattle.wf_connections.specs.Calls.{is_started}
-use Rattle.wf_connections.specs.declared.connections.Connections.{Connections}
 use Rattle.wf_deeds.specs.Clauses.{Opened}
 use Rattle.wf_deeds.specs.Deeds.{Told}
 use Rattle.wf_deeds.specs.Kept.{Command, Resume}
 use Rattle.wf_deeds.specs.Memory.{IsSettled, LeadsTo, Memory, StandsFor}
 use Rattle.wf_deeds.specs.Outside.{Outside}
 use Rattle.wf_deeds.specs.Steps.{fresh}
-use Rattle.wf_engine.specs.Ready.{AreOf}
 use Rattle.wf_engine.specs.Taken.{AreTakable}
 use Rattle.wf_engine.specs.declared.taken.Taken.{Taken}
 use Rattle.wf_host.specs.World.{World}
@@ -79,11 +76,5 @@ module _ (p : Program) (c : Config) (number reading : ℕ) (started dropped : �
   }
 
 -- ## It can go on
-pub none_of_it : (a : Connections) (c : Config) → ((k : ℕ) → is_started a k ≡ false) → AreOf a c
-none_of_it a c none = record {
-  issued = λ k is. absurd (off (is_started a k) (none k) is);
-  heard = λ k opened is. absurd (off (is_started a k) (none k) is);
-}
-
 pub nothing_taken : (c : Config) (o : Option Taken) → o ≡ None → AreTakable c o
 nothing_taken c o none t is = absurd (let no : None ≡ Some t = sym none ∙ is in cc no)
