@@ -1,5 +1,5 @@
 -- A turn that begins with what was taken.
-use Rattle.std.specs.Prelude.{◌≡◌, ◌≤◌, ◌<◌, ◌+◌, ◌-◌, ◌*◌, ℕ, true, is_some, List, [], ◌∷◌, ◌++◌, length, Option, Some, None, Result, Ok, Err, IfOk}
+use Rattle.std.specs.Prelude.{◌≡◌, ◌≤◌, ◌-◌, ◌*◌, ℕ, true, is_some, List, [], ◌∷◌, ◌++◌, length, Option, Some, None, Result, Ok, Err, IfOk}
 use Rattle.std.specs.List.{AllByRecursion, flat_map}
 use Rattle.std.proofs.Common.{refl, sym, ◌∙◌, ap, subst, arith, length-append}
 use Rattle.std.proofs.Math.Bridge.{le_prop}
@@ -7,8 +7,6 @@ use Rattle.std.proofs.Math.Logic.{∥∥₁_elim}
 use Rattle.std.proofs.lemmas.List.Concat.{flat_map-cons}
 use Rattle.wf_deeds.specs.Kept.{reading_of}
 use Rattle.wf_deeds.specs.Turns.{chosen, turn_of, TakeReading}
-use Rattle.wf_engine.specs.Engine.{spent}
-use Rattle.wf_engine.specs.Fits.{longest_taken}
 use Rattle.wf_engine.specs.Turn.{AreChosen, IsBrought, IsTurn}
 use Rattle.wf_engine.specs.declared.taken.Taken.{Taken}
 use Rattle.wf_events.specs.Spelling.{event}

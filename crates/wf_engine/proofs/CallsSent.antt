@@ -1,11 +1,10 @@
 -- What is sent, call by call.
-use Rattle.std.specs.Prelude.{◌≡◌, ◌≢◌, ◌⊎◌, ◌≤◌, ◌<◌, ◌+◌, ◌&&◌, ◌||◌, ℕ, zero, suc, Bool, true, false, not, IsTrue, is_some, if◌then◌else◌, List, [], ◌∷◌, ◌++◌, length, slice_get, Option, Some, None}
-use Rattle.std.proofs.Common.{inl, inr, ⊎_elim, refl, sym, ◌∙◌, ap, subst, arith}
+use Rattle.std.specs.Prelude.{◌≡◌, ◌≢◌, ◌⊎◌, ◌≤◌, ◌<◌, ◌+◌, ◌&&◌, ◌||◌, ℕ, zero, suc, Bool, true, false, not, IsTrue, is_some, List, [], ◌∷◌, ◌++◌, length, Option, Some, None}
+use Rattle.std.proofs.Common.{inl, inr, refl, sym, ◌∙◌, ap, subst, arith}
 use Rattle.std.proofs.lemmas.Bool.{cases_lt}
 use Rattle.std.proofs.lemmas.List.{append-nil}
 use Rattle.std.proofs.lemmas.Option.{slice_get_past}
 use Rattle.wf_deeds.specs.Clauses.{IsSending, KeptThroughout, SendsOpen, StandsIsKept, drop, is_timed_out, none, start, those, to_drop, to_start}
-use Rattle.wf_deeds.specs.Kept.{IsOpen}
 use Rattle.wf_deeds.specs.Memory.{AllIsSent, IsSettled, Memory, StandsFor}
 use Rattle.wf_deeds.specs.Outside.{Outside}
 use Rattle.wf_engine.proofs.Sent.{Goes, OnlyNow, kept_before, kept_then, went_by, went_on}

@@ -1,6 +1,6 @@
 -- What a call that is forgotten, dropped or started changes.
-use Rattle.std.specs.Prelude.{◌≡◌, ◌≢◌, ◌⊎◌, ◌↔◌, ◌≤◌, ◌<◌, ◌&&◌, ◌||◌, ℕ, Bool, true, false, not, IsTrue, is_some, nat_eq, List, [], ◌∷◌, length, Option, Some, None, option_map}
-use Rattle.std.proofs.Common.{Bor, inl, inr, refl, sym, ◌∙◌, ap, subst, arith}
+use Rattle.std.specs.Prelude.{◌≡◌, ◌≢◌, ◌≤◌, ◌&&◌, ◌||◌, ℕ, Bool, true, false, not, is_some, nat_eq, List, [], ◌∷◌, length, Option, Some, None, option_map}
+use Rattle.std.proofs.Common.{Bor, inl, inr, refl, sym, ◌∙◌, ap, subst}
 use Rattle.std.proofs.lemmas.Bool.{cases_lt, eq-eqb, eqb-true}
 use Rattle.std.specs.Option.{option_copied}
 use Rattle.wf_connections.specs.Calls.{Drops, Forgets, Starts, is_dropped, is_started, listens, told}
@@ -26,7 +26,7 @@ use Rattle.wf_machine.specs.Seen.{state_of}
 use Rattle.wf_machine.specs.declared.Outcome as lent
 use Rattle.wf_machine.specs.declared.Outcome.TheVariants as outcome
 use Rattle.wf_machine.specs.declared.machine.Machine.{Machine}
-use Rattle.wf_model.specs.Config.{Active, Answered, Call, Config, Open, Outcome, Raised, Returned, TimedOut}
+use Rattle.wf_model.specs.Config.{Active, Answered, Call, Config, Open, Outcome, TimedOut}
 use Rattle.wf_model.specs.Ready.{call, request_in, request_of}
 use Rattle.wf_shared.specs.HttpRequest.{Request}
 

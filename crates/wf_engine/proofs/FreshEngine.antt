@@ -1,16 +1,13 @@
 -- What an engine stands for that has sent and heard nothing yet.
-use Rattle.std.specs.Prelude.{◌≡◌, ◌↔◌, ◌⊎◌, ◌≤◌, ℕ, Bool, true, false, IsTrue, List, Option, None, Some}
-use Rattle.std.proofs.Common.{refl, sym, ◌∙◌, ap}
+use Rattle.std.specs.Prelude.{◌≡◌, ℕ, Bool, true, false, List, Option, None, Some}
+use Rattle.std.proofs.Common.{sym, ◌∙◌}
 use Rattle.wf_ast.specs.Tree.{Program}
-use Rattle.wf_connections.specs.Calls.{is_started, listens}
-use Rattle.wf_connections.specs.declared.connections.Connections.{Connections}
 use Rattle.wf_deeds.specs.Clauses.{Opened}
 use Rattle.wf_deeds.specs.Deeds.{Told}
 use Rattle.wf_deeds.specs.Kept.{Command, Resume}
 use Rattle.wf_deeds.specs.Memory.{IsSettled, LeadsTo, Memory, StandsFor}
 use Rattle.wf_deeds.specs.Outside.{Outside}
 use Rattle.wf_deeds.specs.Steps.{fresh}
-use Rattle.wf_engine.specs.Ready.{AreOf}
 use Rattle.wf_engine.specs.Taken.{AreTakable}
 use Rattle.wf_engine.specs.declared.taken.Taken.{Taken}
 use Rattle.wf_host.specs.World.{World}

@@ -1,12 +1,12 @@
 -- What an engine stands for once it took what was heard.
-use Rattle.std.specs.Prelude.{◌≡◌, ◌⊎◌, ◌≤◌, ◌&&◌, ℕ, suc, max, Bool, true, false, is_some, List, [], ◌∷◌, ◌++◌, Option, Some, None, option_map, option_and_then}
-use Rattle.std.proofs.Common.{inl, inr, ⊎_elim, refl, sym, ◌∙◌, ap, subst, arith}
+use Rattle.std.specs.Prelude.{◌≡◌, ◌≤◌, ◌&&◌, ℕ, suc, max, Bool, true, false, is_some, [], ◌∷◌, ◌++◌, Option, Some, None, option_map, option_and_then}
+use Rattle.std.proofs.Common.{inl, inr, refl, sym, ◌∙◌, ap, subst, arith}
 use Rattle.wf_ast.specs.Tree.{Program}
 use Rattle.wf_connections.specs.Calls.{StandsAsBefore}
 use Rattle.wf_connections.specs.declared.connections.Connections.{Connections}
 use Rattle.wf_deeds.specs.Clauses.{Takes}
 use Rattle.wf_deeds.specs.Deeds.{Told, IsAnswered, call_of, tells, visit_of}
-use Rattle.wf_deeds.specs.Memory.{Memory, Owed, IsSettled, StandsFor, IsAnswerBy, Brings, arrival_by, awaits, decision_by, owes_by}
+use Rattle.wf_deeds.specs.Memory.{Memory, Owed, IsSettled, StandsFor, IsAnswerBy, Brings, arrival_by, decision_by, owes_by}
 use Rattle.wf_deeds.specs.Outside.{Outside}
 use Rattle.wf_deeds.specs.Steps.{Hears, HearingGoesOn, VisitsAre, hearing}
 use Rattle.wf_engine.specs.Hearing.{Finds, FindsAnswer, FindsBy}
@@ -16,7 +16,6 @@ use Rattle.wf_engine.specs.declared.taken.Taken.{Taken}
 use Rattle.wf_history.specs.declared.history.History.{History}
 use Rattle.wf_host.specs.declared.data.Deed.TheVariants.{Poll}
 use Rattle.wf_host.specs.declared.data.Heard.{Heard}
-use Rattle.wf_host.specs.declared.data.What.{What}
 use Rattle.wf_journal_laws.specs.Language.{Language}
 use Rattle.wf_machine.specs.Seen.{state_of}
 use Rattle.wf_machine.specs.declared.machine.Machine.{Machine}

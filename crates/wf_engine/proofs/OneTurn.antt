@@ -1,5 +1,5 @@
 -- The moments of one turn.
-use Rattle.std.specs.Prelude.{◌≡◌, ◌≢◌, ℕ, Bool, false, List, [], ◌∷◌, ◌++◌}
+use Rattle.std.specs.Prelude.{◌≡◌, ◌≢◌, ℕ, Bool, false, List, [], ◌∷◌}
 use Rattle.std.proofs.Common.{refl}
 use Rattle.wf_deeds.specs.Clauses.{KeptAt, StandsIsKept}
 use Rattle.wf_deeds.specs.Kept.{Command}

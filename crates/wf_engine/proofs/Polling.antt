@@ -1,9 +1,9 @@
 -- What is sent, and then one poll.
-use Rattle.std.specs.Prelude.{◌≡◌, ◌≢◌, ◌⊎◌, ℕ, Bool, true, false, IsTrue, IsSome, List, [], ◌∷◌, ◌++◌, Option, Some, None}
-use Rattle.std.proofs.Common.{inl, inr, refl, sym, ◌∙◌, ap, subst}
+use Rattle.std.specs.Prelude.{◌≡◌, ◌≢◌, ℕ, false, List, [], ◌∷◌, ◌++◌, None}
+use Rattle.std.proofs.Common.{refl, sym, subst}
 use Rattle.wf_deeds.specs.Clauses.{IsSending, KeptThroughout, Waits, Went, to_drop, to_start}
 use Rattle.wf_deeds.specs.Deeds.{visit_of}
-use Rattle.wf_deeds.specs.Memory.{IsSettled, Memory}
+use Rattle.wf_deeds.specs.Memory.{Memory}
 use Rattle.wf_deeds.specs.Outside.{Outside}
 use Rattle.wf_engine.proofs.CallsSent.{holds_later}
 use Rattle.wf_engine.proofs.Parts.{Far, OnlyNow, far_at_first, far_on, far_went, polls_once, sending_polls}
@@ -21,8 +21,6 @@ use Rattle.wf_host.specs.declared.data.Heard.{Heard}
 use Rattle.wf_host.specs.declared.data.What.{What}
 use Rattle.wf_host.specs.declared.data.What.TheVariants as what
 use Rattle.wf_journal.specs.Records.{records}
-use Rattle.wf_model.specs.Config.{Active}
-use Rattle.wf_model.specs.Ready.{quiet}
 
 -- a host tells of no visit
 pub no_visit : (w : What) → host.visit_of w ≡ None → visit_of w ≡ None

@@ -1,5 +1,5 @@
 -- Going on by what is sent.
-use Rattle.std.specs.Prelude.{◌≡◌, ◌⊎◌, ◌||◌, ℕ, Bool, true, false, if◌then◌else◌, nat_eq, List, [], ◌∷◌, ◌++◌, None, Some}
+use Rattle.std.specs.Prelude.{◌≡◌, ◌||◌, ℕ, Bool, true, false, if◌then◌else◌, nat_eq, List, [], ◌∷◌, ◌++◌, None, Some}
 use Rattle.std.specs.List.{AllByRecursion}
 use Rattle.std.proofs.Common.{refl, sym, ◌∙◌, ap, subst, append_assoc}
 use Rattle.std.proofs.lemmas.Bool.{eq-eqb, eqb-true}
@@ -9,18 +9,18 @@ use Rattle.wf_deeds.specs.Deeds.{Told, nothing_told, printed}
 use Rattle.wf_deeds.specs.Kept.{Command, Kept, IsOpen}
 use Rattle.wf_deeds.specs.Memory.{IsSettled, Memory, StandsFor}
 use Rattle.wf_deeds.specs.Outside.{Outside}
-use Rattle.wf_deeds.specs.Steps.{DropGoesOn, StartGoesOn, Starts, with_calls}
+use Rattle.wf_deeds.specs.Steps.{DropGoesOn, StartGoesOn, with_calls}
 use Rattle.wf_events.specs.View.{address_view}
 use Rattle.wf_history.specs.Stands as history
 use Rattle.wf_history.specs.declared.history.History.{History}
 use Rattle.wf_host.specs.Moments.{CountsNow}
-use Rattle.wf_host.specs.World.{World, Elapses, LeavesOnly, Same}
+use Rattle.wf_host.specs.World.{World, Elapses, Same}
 use Rattle.wf_host.specs.declared.data.Address.{Address}
 use Rattle.wf_host.specs.declared.data.Deed.{Deed}
 use Rattle.wf_host.specs.declared.data.Deed.TheVariants.{Start, Poll, Now, Reply, Drop, Print}
 use Rattle.wf_journal.specs.Records.{records}
 use Rattle.wf_journal.specs.Standing.{has_magic}
-use Rattle.wf_journal.specs.Steps.{Begun, Moment, begun_over, deed_goes_on, nothing_goes_on, part_goes_on}
+use Rattle.wf_journal.specs.Steps.{Begun, begun_over, deed_goes_on, nothing_goes_on, part_goes_on}
 use Rattle.wf_journal_laws.specs.Language.{Language}
 use Rattle.wf_model.specs.Config.{Active, TimedOut}
 use Rattle.wf_model.specs.Ready.{call, request_of}

@@ -1,10 +1,9 @@
 -- What a turn of an engine adds.
-use Rattle.std.specs.Prelude.{◌≡◌, ◌≢◌, ◌⊎◌, ◌≤◌, ◌<◌, ◌+◌, ℕ, zero, suc, true, is_some, List, [], ◌∷◌, ◌++◌, length, Option, Some, None}
+use Rattle.std.specs.Prelude.{◌≡◌, ◌≢◌, ◌⊎◌, ◌≤◌, ◌<◌, ◌+◌, ℕ, true, is_some, List, [], ◌∷◌, ◌++◌, Option, Some, None}
 use Rattle.std.proofs.Common.{inl, inr, ⊎_elim, refl, sym, ◌∙◌, ap, subst, arith}
 use Rattle.std.proofs.lemmas.Bool.{cases_lt}
 use Rattle.std.proofs.lemmas.List.{append-nil}
 use Rattle.wf_ast.specs.Tree.{Program}
-use Rattle.wf_connections.specs.Calls.{is_started}
 use Rattle.wf_connections.specs.declared.connections.Connections.{Connections}
 use Rattle.wf_deeds.specs.Clauses.{AddsTurn, replies_of, turn_records}
 use Rattle.wf_deeds.specs.Memory.{IsSettled, Memory, StandsFor}
@@ -24,7 +23,6 @@ use Rattle.wf_model.specs.Config.{Config, To}
 use Rattle.wf_model.specs.Ready.{request_of}
 use Rattle.wf_model.specs.Run.{run_on}
 use Rattle.wf_shared.specs.Events.{Event}
-use Rattle.wf_shared.specs.HttpRequest.{Request}
 
 -- the program stays, and behind it nothing is taken
 module _ (L : Language) (O : Outside) (m : Memory) (p : Program) (c : Config) (taken : Option Event) (es : List Event) (same : p ≡ m.program) (empty : taken ≡ None) (owed : m.owed ≡ None) (is : Choice m es c) where

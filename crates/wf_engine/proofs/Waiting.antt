@@ -1,6 +1,6 @@
 -- Sessions that wait.
-use Rattle.std.specs.Prelude.{◌≡◌, ◌≢◌, ◌⊎◌, ◌≤◌, ◌+◌, ◌<◌, ◌^◌, ℕ, suc, Bool, true, false, IsTrue, List, [], ◌∷◌, ◌++◌, Option, Some, None}
-use Rattle.std.proofs.Common.{inl, inr, ⊎_elim, refl, sym, ◌∙◌, ap, subst, arith}
+use Rattle.std.specs.Prelude.{◌≡◌, ◌≢◌, ◌+◌, ℕ, true, false, List, [], ◌++◌, Option, Some, None}
+use Rattle.std.proofs.Common.{inr, ⊎_elim, refl, arith}
 use Rattle.wf_deeds.proofs.Lists.{polls-append}
 use Rattle.wf_deeds.specs.Clauses.{KeptThroughout, Sessions, Went, ended, paused}
 use Rattle.wf_deeds.specs.Deeds.{polls}

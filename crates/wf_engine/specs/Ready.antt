@@ -1,6 +1,6 @@
 -- When an engine can go on.
 use Rattle.std.specs.Coded.{Coded-set, le_prop, code_by, coded⊎, coded_bool, Π_prop, →_prop}
-use Rattle.std.specs.Prelude.{◌≡◌, ◌⊎◌, ◌≤◌, ℕ, Bool, true, false, is_some, length, Option, Some}
+use Rattle.std.specs.Prelude.{◌≡◌, ◌⊎◌, ◌≤◌, ℕ, Bool, true, false, is_some, length, Option}
 use Rattle.std.proofs.Common.{inl, inr, refl}
 use Rattle.wf_connections.specs.Calls.{is_started, listens}
 use Rattle.wf_connections.specs.declared.connections.Connections.{Connections}

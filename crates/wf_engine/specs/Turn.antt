@@ -1,6 +1,6 @@
 -- What a machine's turn is.
 use Rattle.std.specs.List.{AllByRecursion, flat_map}
-use Rattle.std.specs.Prelude.{◌≡◌, ◌≢◌, ◌⊎◌, ◌≤◌, ◌<◌, ◌+◌, ◌*◌, ℕ, false, IsTrue, List, [], ◌∷◌, ◌++◌, length, Option, Some, None}
+use Rattle.std.specs.Prelude.{◌≡◌, ◌≢◌, ◌⊎◌, ◌≤◌, ◌<◌, ◌+◌, ◌*◌, ℕ, false, IsTrue, List, [], length, Option, Some, None}
 use Rattle.wf_deeds.specs.Turns.{chosen, turn_of, TakeReading}
 use Rattle.wf_engine.specs.Engine.{spent}
 use Rattle.wf_engine.specs.Fits.{longest_taken}

@@ -1,4 +1,4 @@
-use Rattle.std.proofs.Common.{subst, sym, ap, arith, length, ◌≡◌, ◌≤◌, ◌+◌}
+use Rattle.std.proofs.Common.{subst, sym, ap, arith, length, ◌≡◌, ◌+◌}
 use Rattle.std.specs.Prelude.{IfOk}
 use Rattle.wf_engine.proofs.Bringing.{Behind, if_ok, turn_alone}
 use Rattle.wf_engine.proofs.turns.choose_counted.Goals as goal

@@ -1,10 +1,9 @@
-use Rattle.std.proofs.Common.{◌≡◌, false, true, List, ℕ, [], ◌∷◌, refl, sym, ◌∙◌, ap, arith, length}
+use Rattle.std.proofs.Common.{◌≡◌, [], refl, sym, ◌∙◌, arith, length}
 use Rattle.wf_deeds.specs.Clauses.{those}
 use Rattle.wf_engine.proofs.CallsSent.{drops_all, drops_first, drops_on, drops_sent, falls_then, moments_then, part_first, settled_on, told_then}
 use Rattle.wf_engine.proofs.engine.Engine.drop_closed.Goals as goal
 use Rattle.wf_engine.specs.Engine.{memory}
 use Rattle.wf_engine.specs.Sending.{is_to_drop}
-use Rattle.wf_model.specs.Config.{Config}
 
 pub loop-place-init : goal.loop-place-init
 loop-place-init g c =

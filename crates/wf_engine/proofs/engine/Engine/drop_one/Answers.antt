@@ -1,4 +1,4 @@
-use Rattle.std.proofs.Common.{◌≡◌, false, true, List, ℕ, [], ◌∷◌, refl, sym, ◌∙◌, ap}
+use Rattle.std.proofs.Common.{◌≡◌, false, true, [], ◌∷◌, refl, sym, ◌∙◌}
 use Rattle.wf_deeds.specs.Clauses.{those}
 use Rattle.wf_engine.proofs.Connected.{behind, drops_goes, drops_one, drops_same, forgets_goes, forgets_one, forgets_same, lent_some}
 use Rattle.wf_engine.proofs.CallsSent.{drops_no_open, drops_none, holds_later, none_fell, part_none, sends_drop, sends_none, told_then}

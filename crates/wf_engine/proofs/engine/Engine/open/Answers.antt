@@ -1,4 +1,4 @@
-use Rattle.std.proofs.Common.{◌≡◌, ◌∙◌, ◌+◌, ap, inl, refl, sym, subst, ℕ, length, ◌≤◌, None, Ok}
+use Rattle.std.proofs.Common.{◌≡◌, ◌∙◌, ◌+◌, ap, inl, sym, subst, ℕ, length, ◌≤◌, Ok}
 use Rattle.std.specs.Prelude.{unwrap_or}
 use Rattle.wf_connections.specs.Calls as calls
 use Rattle.wf_connections.specs.Calls.{is_dropped, is_started}

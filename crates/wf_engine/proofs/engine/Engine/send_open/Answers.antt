@@ -1,12 +1,12 @@
-use Rattle.std.proofs.Common.{◌≡◌, false, true, List, ℕ, [], ◌∷◌, refl, sym, ◌∙◌, ap}
-use Rattle.wf_deeds.specs.Clauses.{to_drop, to_start}
+use Rattle.std.proofs.Common.{[], refl, sym, ◌∙◌, ap}
+use Rattle.wf_deeds.specs.Clauses.{to_drop}
 use Rattle.wf_engine.proofs.Connected.{lent_going, lent_over}
-use Rattle.wf_engine.proofs.CallsSent.{all_is_sent, all_same, falls_then, moments_then, sends_over, sends_whole, settled_on, told_then, whole}
+use Rattle.wf_engine.proofs.CallsSent.{all_same, moments_then, sends_over, sends_whole, settled_on, told_then, whole}
 use Rattle.wf_engine.proofs.Sent.{kept_before}
 use Rattle.wf_engine.proofs.engine.Engine.send_open.Goals as goal
 use Rattle.wf_engine.specs.Engine.{memory}
 use Rattle.wf_engine.specs.TheLanguage.{the_language}
-use Rattle.wf_model.specs.Config.{Active, Config}
+use Rattle.wf_model.specs.Config.{Config}
 
 -- there is an outcome
 pub returns-in_default-clause-sends : goal.returns-in_default-clause-sends

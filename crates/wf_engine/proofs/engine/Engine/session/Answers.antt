@@ -1,8 +1,8 @@
-use Rattle.std.proofs.Common.{◌≡◌, ◌≢◌, ◌+◌, ◌-◌, [], refl, sym, ◌∙◌, ap, arith}
+use Rattle.std.proofs.Common.{◌+◌, ◌-◌, [], sym, ◌∙◌, ap, arith}
 use Rattle.wf_engine.proofs.Parts.{far_kept, far_moments}
 use Rattle.wf_engine.proofs.Polling.{part_far}
 use Rattle.wf_engine.proofs.Settling.{ends, lent_active, none_fell, result_is_over, told_on}
-use Rattle.wf_engine.proofs.Waiting.{Polled, has_ended, is_suspended, polled_first, polled_more, settled_over}
+use Rattle.wf_engine.proofs.Waiting.{has_ended, is_suspended, polled_first, polled_more, settled_over}
 use Rattle.wf_engine.proofs.engine.Engine.session.Goals as goal
 use Rattle.wf_engine.specs.Engine.{memory}
 use Rattle.wf_engine.specs.TheLanguage.{the_language}

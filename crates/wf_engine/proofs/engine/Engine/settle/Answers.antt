@@ -1,9 +1,9 @@
-use Rattle.std.proofs.Common.{[], inl, inr, ⊎_elim, refl, sym, ◌∙◌, ap, subst}
+use Rattle.std.proofs.Common.{[], inl, inr, ⊎_elim, refl, sym, ◌∙◌, subst}
 use Rattle.wf_deeds.specs.Memory.{IsSettled}
 use Rattle.wf_engine.proofs.Parts.{far_at_first, far_kept, far_moments, far_on, far_went}
-use Rattle.wf_engine.proofs.Settling.{falls_none, first_of, is_busy, is_settled_now, none_fell, not_both, not_settled, passed_on, rose_later, told_on, turn_takes}
+use Rattle.wf_engine.proofs.Settling.{falls_none, first_of, is_busy, is_settled_now, none_fell, not_settled, passed_on, rose_later, told_on, turn_takes}
 use Rattle.wf_engine.proofs.engine.Engine.settle.Goals as goal
-use Rattle.wf_engine.specs.Engine.{is_closed, memory}
+use Rattle.wf_engine.specs.Engine.{memory}
 use Rattle.wf_engine.specs.TheLanguage.{the_language}
 use Rattle.wf_engine.specs.declared.fault.EngineFault.TheVariants as fault
 

@@ -1,7 +1,7 @@
-use Rattle.std.proofs.Common.{◌≡◌, false, true, List, ℕ, [], ◌∷◌, refl, sym, ◌∙◌, ap}
+use Rattle.std.proofs.Common.{◌≡◌, false, true, [], ◌∷◌, refl, sym, ◌∙◌}
 use Rattle.wf_deeds.specs.Clauses.{those}
 use Rattle.wf_engine.proofs.Connected.{are_of_starts, behind, lent_request, starts_goes, starts_one, starts_same, starts_this, still_ready}
-use Rattle.wf_engine.proofs.CallsSent.{holds_later, none_fell, part_none, sends_start, starts_no_old, starts_no_shut, starts_none, told_then}
+use Rattle.wf_engine.proofs.CallsSent.{holds_later, part_none, sends_start, starts_no_old, starts_no_shut, starts_none, told_then}
 use Rattle.wf_engine.proofs.Sent.{kept_before, kept_with, kept_without, starting, starting_goes}
 use Rattle.wf_engine.proofs.SentLists.{not_this}
 use Rattle.wf_engine.proofs.engine.Engine.start_one.Goals as goal

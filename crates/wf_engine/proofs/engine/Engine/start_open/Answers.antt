@@ -1,4 +1,4 @@
-use Rattle.std.proofs.Common.{◌≡◌, false, true, List, ℕ, [], ◌∷◌, refl, sym, ◌∙◌, ap, arith, length}
+use Rattle.std.proofs.Common.{◌≡◌, [], refl, sym, ◌∙◌, ap, arith, length}
 use Rattle.wf_deeds.specs.Clauses.{those}
 use Rattle.wf_engine.proofs.CallsSent.{starts_all, starts_first, starts_on, starts_sent, falls_then, moments_then, part_first, settled_on, told_then}
 use Rattle.wf_engine.proofs.engine.Engine.start_open.Goals as goal

@@ -1,10 +1,9 @@
-use Rattle.std.proofs.Common.{◌≡◌, false, true, ℕ, suc, ◌+◌, max, refl, sym, ◌∙◌, ap, arith}
+use Rattle.std.proofs.Common.{◌≡◌, suc, ◌+◌, max, arith}
 use Rattle.wf_connections.specs.Calls.{is_dropped, is_started, told}
 use Rattle.wf_deeds.specs.Deeds.{call_of}
 use Rattle.wf_engine.proofs.Heard.{heard_ready, takable, takes}
 use Rattle.wf_engine.proofs.engine.Engine.take.Goals as goal
 use Rattle.wf_engine.specs.Engine.{memory}
-use Rattle.wf_engine.specs.Taken.{taken_event}
 use Rattle.wf_engine.specs.TheLanguage.{the_language}
 
 -- what it stands for then

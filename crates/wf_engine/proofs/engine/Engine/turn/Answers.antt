@@ -1,6 +1,5 @@
 use Rattle.std.proofs.Common.{◌≤◌, ◌<◌, ◌^◌, ◌+◌, length, ap, ◌∙◌, refl, sym, List, [], ◌∷◌, ◌++◌, ◌≡◌}
-use Rattle.std.specs.Prelude.{None, Option}
-use Rattle.wf_deeds.specs.Memory.{Memory}
+use Rattle.std.specs.Prelude.{Option}
 use Rattle.wf_deeds.specs.Turns.{turn_of}
 use Rattle.wf_engine.proofs.Added.{Choice, Laws, is_short, is_spelled, none_of, not_none, some_of}
 use Rattle.wf_engine.proofs.OneTurn.{turn_adds, turn_begun}

@@ -1,4 +1,4 @@
-use Rattle.std.proofs.Common.{◌≡◌, ◌+◌, [], ◌∷◌, ◌++◌, refl, sym, ◌∙◌, ap}
+use Rattle.std.proofs.Common.{◌+◌, [], ◌∷◌, ◌++◌, sym, ◌∙◌, ap}
 use Rattle.wf_engine.proofs.CallsSent.{told_then}
 use Rattle.wf_engine.proofs.Parts.{MayPollNow, far_kept, far_poll, poll_moments, silence_moments}
 use Rattle.wf_engine.proofs.Polling.{has_waited, part_far, still_holds}
