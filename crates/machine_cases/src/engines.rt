@@ -1,6 +1,6 @@
 // Turns and sessions of engines.
 ghost use Rattle.std.specs.Prelude.{◌≡◌, ◌≤◌, ◌<◌, false, length, IfOk, OnOk};
-ghost use Rattle.wf_engine.specs.Engine.{Holds};
+ghost use Rattle.wf_engine.specs.Engine.{Holds, memory};
 ghost use Rattle.wf_events.specs.Records.{Started};
 ghost use Rattle.wf_events.specs.Spelling.{record_bytes, HasSpelling};
 ghost use Rattle.wf_events.specs.View.{start_view};
@@ -21,6 +21,9 @@ use wf_host_cases::{host_of, number_of, write_left};
 use wf_machine::{Machine, Steps};
 use wf_source::read_source;
 use wf_value::Value;
+
+/// A session waits so often at most.
+const MOST_WAITS: u32 = 100;
 
 /// Writes the events of a machine's turn at a reading, or at the last one, whichever is greater.
 fn write_turn(
@@ -73,7 +76,8 @@ fn reopened<L: Ledger>(
     requires name { blank.name ≡ L.name }
     requires parts { blank.parts ≡ L.parts }
     requires some { 0 < blank.parts }
-    ensures { Told (mem_world host.old) (IfOk result (λ e. Holds e (mem_world host.new))) }
+    ensures holds { Told (mem_world host.old) (IfOk result (λ e. Holds e (mem_world host.new))) }
+    ensures waits { IfOk result (λ e. (memory e).waits ≡ 0) }
 {
     Engine::open(alloc, host, &mut Steps::<L>::new(blank))
 }
@@ -118,12 +122,13 @@ fn run(
     host: &mut MemHost,
     opened: Result<Engine, EngineFault>,
 ) -> Result<(), CaseFault>
-    requires { Told (mem_world host.old) (IfOk opened (λ e. Holds e (mem_world host.old))) }
+    requires holds { Told (mem_world host.old) (IfOk opened (λ e. Holds e (mem_world host.old))) }
+    requires fresh { IfOk opened (λ e. (memory e).waits ≡ 0) }
 {
     match opened {
         Ok(engine) => {
             let mut engine = engine;
-            let ran = engine.session(host);
+            let ran = engine.session(host, MOST_WAITS);
             write_session(out, alloc, engine.machine(), ran)
         }
         Err(fault) => Ok(write!(out, "{fault}")?),
