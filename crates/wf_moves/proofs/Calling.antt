@@ -55,6 +55,7 @@ calls_are ns (frame.Loop n w i ∷ fs) = omega (arith, calls_are ns fs)
 calls_are ns (frame.Try n r d ∷ fs) = omega (arith, calls_are ns fs)
 calls_are ns (frame.Mark m ∷ fs) = omega (arith, calls_are ns fs)
 calls_are ns (frame.Back c m ∷ fs) = omega (arith, calls_are ns fs)
+calls_are ns (frame.Judge tried r delay error m ∷ fs) = omega (arith, calls_are ns fs)
 
 -- ## Parameters
 -- the first of some, with those behind it

@@ -35,6 +35,7 @@ stands_on (frame.Loop n w i) c h = refl
 stands_on (frame.Try n r d) c h = refl
 stands_on (frame.Mark m) c h = refl
 stands_on (frame.Back k m) c h = refl
+stands_on (frame.Judge tried r delay error m) c h = refl
 
 pub same_outside : (f : Frame) (h : Held) → (dropped f h).outside ≡ h.outside
 same_outside (frame.Do n at) h = refl
@@ -45,6 +46,7 @@ same_outside (frame.Loop n w i) h = refl
 same_outside (frame.Try n r d) h = refl
 same_outside (frame.Mark m) h = refl
 same_outside (frame.Back k m) h = refl
+same_outside (frame.Judge tried r delay error m) h = refl
 
 -- ## What has ended
 pub do_ended : (ns : List Spot) (n at : ℕ) (xs : List ℕ) → part_list (part_at ns n) ≡ steps_by ns xs → length xs ≤ at → Settled ns true (frame.Do n at)
@@ -144,6 +146,7 @@ going_plain nodes (frame.Loop n w i) h q = refl
 going_plain nodes (frame.Try n r d) h q = absurd h
 going_plain nodes (frame.Mark m) h q = absurd h
 going_plain nodes (frame.Back k m) h q = absurd (cc q)
+going_plain nodes (frame.Judge tried r delay error m) h q = absurd (cc q)
 
 pub going_step : (nodes : List Node) (f : Frame) → HasMove nodes f → is_back f ≡ false → ((n : ℕ) (w : Left) (i : ℕ) → f ≡ frame.Loop n w i → ⊥) → HasStep nodes f
 going_step nodes (frame.Do n at) h q other = h
@@ -154,6 +157,7 @@ going_step nodes (frame.Loop n w i) h q other = absurd (other n w i refl)
 going_step nodes (frame.Try n r d) h q other = absurd h
 going_step nodes (frame.Mark m) h q other = absurd h
 going_step nodes (frame.Back k m) h q other = absurd (cc q)
+going_step nodes (frame.Judge tried r delay error m) h q other = absurd (cc q)
 
 -- the task goes on, or has ended
 pub going_there : (nodes : List Node) (f : Frame) (fs : List Frame) → topped fs ≡ Some f → IsSettled nodes fs → IsGoing nodes fs

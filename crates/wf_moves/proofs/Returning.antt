@@ -2,7 +2,7 @@
 use Rattle.std.proofs.Common.{◌≡◌, ◌≤◌, Bool, true, false, List, [], ◌∷◌, Some, None, refl, sym, ap, subst, ◌∙◌}
 use Rattle.std.specs.Prelude.{Option}
 use Rattle.wf_frames.specs.Fits.{Fits, HasNode, IsCallOf}
-use Rattle.wf_frames.specs.Frames.{control, is_back, item, result_of, topped}
+use Rattle.wf_frames.specs.Frames.{control, is_back, items, result_of, topped}
 use Rattle.wf_frames.specs.Held.{Held, standing}
 use Rattle.wf_frames.specs.Turns.{Leaves, dropped, left_by}
 use Rattle.wf_frames.specs.declared.frames.Frame.{Frame}
@@ -25,7 +25,7 @@ use Rattle.wf_value.specs.Plain.{plain}
 use Rattle.wf_value.specs.declared.Value.{Value}
 
 -- ## To the innermost call
-back_one : (ns : List Spot) (f : Frame) (k : List Item) (l : Local) → is_back f ≡ false → to_back (item ns f ∷ k) l ≡ to_back k (left_by f l)
+back_one : (ns : List Spot) (f : Frame) (k : List Item) (l : Local) → is_back f ≡ false → to_back (items ns f k) l ≡ to_back k (left_by f l)
 back_one ns (frame.Do n at) k l h = refl
 back_one ns (frame.Lone n b) k l h = refl
 back_one ns (frame.Entries n at) k l h = refl
@@ -34,6 +34,7 @@ back_one ns (frame.Loop n w i) k l h = refl
 back_one ns (frame.Try n r d) k l h = refl
 back_one ns (frame.Mark m) k l h = refl
 back_one ns (frame.Back c m) k l h = absurd (cc h)
+back_one ns (frame.Judge tried r delay error m) k l h = absurd (cc h)
 
 pub record BackTurned (old new : List Frame) (h g : Held) : Type 0 where
   pub outside : g.outside ≡ h.outside
@@ -54,6 +55,7 @@ back_turned f true old new h g t other w =
 pub back_here : (ns : List Spot) (f : Frame) (fs : List Frame) (l : Local) → topped fs ≡ Some f → is_back f ≡ true → (to_back (control ns fs) l ≡ back_found ns fs l) × IsBackTop fs
 back_here ns f [] l t h = absurd (cc t)
 back_here ns f (frame.Back c m ∷ fs) l t h = (refl, refl)
+back_here ns f (frame.Judge tried r delay error m ∷ fs) l t h = (refl, refl)
 back_here ns f (frame.Do n at ∷ fs) l t h = let same : frame.Do n at ≡ f = cc t in absurd (cc (ap is_back same ∙ h))
 back_here ns f (frame.Lone n b ∷ fs) l t h = let same : frame.Lone n b ≡ f = cc t in absurd (cc (ap is_back same ∙ h))
 back_here ns f (frame.Entries n at ∷ fs) l t h = let same : frame.Entries n at ≡ f = cc t in absurd (cc (ap is_back same ∙ h))
@@ -78,6 +80,7 @@ plain_given ns s r v (frame.Loop n w i ∷ fs) l = refl
 plain_given ns s r v (frame.Try n q d ∷ fs) l = refl
 plain_given ns s r v (frame.Mark m ∷ fs) l = refl
 plain_given ns s r v (frame.Back c m ∷ fs) l = refl
+plain_given ns s r v (frame.Judge tried r delay error m ∷ fs) l = refl
 
 module _ (ns : List Spot) (s : Scene) (v : Data) where
   pub gives_on : (f : Frame) (b : Bool) (mid new : List Frame) (d : List Item) (k h g : Held) (w : Went) (l : Local) → topped mid ≡ Some f → IsBackTop mid → Leaves b mid h new g
@@ -114,6 +117,7 @@ module _ (ns : List Spot) (s : Scene) (v : Data) where
 -- the node of the call
 pub call_node : (nodes : List Node) (f : Frame) → HasNode nodes f → is_back f ≡ true → IsCallOf nodes (call_of f)
 call_node nodes (frame.Back c k) h e = h
+call_node nodes (frame.Judge tried r delay error k) h e = h
 call_node nodes (frame.Do n at) h e = absurd (cc e)
 call_node nodes (frame.Lone n b) h e = absurd (cc e)
 call_node nodes (frame.Entries n at) h e = absurd (cc e)
@@ -130,6 +134,7 @@ top_back f (g ∷ fs) t h = let same : g ≡ f = cc t in subst (λ y. is_back y 
 pub moves_back : (ns : List Spot) (s : Scene) (fs : List Frame) (l : Local) → is_at_back fs ≡ true → moves s (control ns fs) l ≡ returns s null (control ns fs) l
 moves_back ns s [] l h = absurd (cc h)
 moves_back ns s (frame.Back c k ∷ fs) l h = refl
+moves_back ns s (frame.Judge tried r delay error k ∷ fs) l h = refl
 moves_back ns s (frame.Do n at ∷ fs) l h = absurd (cc h)
 moves_back ns s (frame.Lone n b ∷ fs) l h = absurd (cc h)
 moves_back ns s (frame.Entries n at ∷ fs) l h = absurd (cc h)

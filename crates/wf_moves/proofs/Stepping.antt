@@ -122,6 +122,7 @@ module _ (a : Around) (old new : List Frame) (st : Step) (s : Scene) (l : Local)
 pub back_stepped : (ns : List Spot) (s : Scene) (fs : List Frame) (l : Local) → is_at_back fs ≡ true → stepped_at s (control ns fs) l ≡ moves s (control ns fs) l
 back_stepped ns s [] l h = absurd (cc h)
 back_stepped ns s (frame.Back c k ∷ fs) l h = refl
+back_stepped ns s (frame.Judge tried r delay error k ∷ fs) l h = refl
 back_stepped ns s (frame.Do n at ∷ fs) l h = absurd (cc h)
 back_stepped ns s (frame.Lone n b ∷ fs) l h = absurd (cc h)
 back_stepped ns s (frame.Entries n at ∷ fs) l h = absurd (cc h)

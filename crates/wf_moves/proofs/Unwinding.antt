@@ -55,6 +55,7 @@ module _ (ns : List Spot) (nodes : List Node) (t : Tells ns nodes) where
   passes_one s (frame.Loop n w i) k l e h = refl
   passes_one s (frame.Mark m) k l e h = refl
   passes_one s (frame.Back c m) k l e h = refl
+  passes_one s (frame.Judge tried r delay error m) k l e h = refl
   passes_one s (frame.Try n r d) k l e h =
       let is = try_is n h.tried h.is ∙ ap (λ x. try (part_body (part_at ns h.tried.body)) None (except_of ns (handler_view x))) h.none in
       ap (λ y. unwind s (Try y r d ∷ k) l e) is

@@ -3,7 +3,7 @@
 --     IsMove      a move of the model, by what a call gives and leaves
 use Rattle.std.specs.Prelude.{◌≡◌, ◌≤◌, ℕ, Bool, true, false, List, [], ◌∷◌, nat_eq, slice_get, if◌then◌else◌, Some, None, Option}
 use Rattle.wf_frames.specs.Fits.{IsTry, list_at}
-use Rattle.wf_frames.specs.Frames.{body_try, control, is_back, item}
+use Rattle.wf_frames.specs.Frames.{body_try, control, is_back, items}
 use Rattle.wf_frames.specs.Held.{Held, standing}
 use Rattle.wf_frames.specs.Owned.{Around, local_of}
 use Rattle.wf_frames.specs.Sights.{Sees}
@@ -36,19 +36,21 @@ use Rattle.wf_value.specs.declared.Value.{Value}
 -- ## Frames that have ended
 -- a frame that has ended is left by settling, and another one isn't
 abbrev pub Settled : List Spot → Bool → Frame → Type 0
-Settled ns true f = (k : List Item) (l : Local) → settle (item ns f ∷ k) l ≡ settle k (left_by f l)
-Settled ns false f = (k : List Item) (l : Local) → settle (item ns f ∷ k) l ≡ record l { control = item ns f ∷ k }
+Settled ns true f = (k : List Item) (l : Local) → settle (items ns f k) l ≡ settle k (left_by f l)
+Settled ns false f = (k : List Item) (l : Local) → settle (items ns f k) l ≡ record l { control = items ns f k }
 
 -- a frame at which the way outward of a `break` or `continue` ends: a loop, or a call, in which there is none
 abbrev pub is_loop : Frame → Bool
 is_loop (frame.Loop n l i) = true
 is_loop (frame.Back call number) = true
+is_loop (frame.Judge n tries delay e number) = true
 is_loop f = false
 
 -- a frame from which a move is made
 abbrev pub HasMove : List Node → Frame → Type 0
 HasMove nodes (frame.Loop n l i) = Unit {0}
 HasMove nodes (frame.Back call number) = Unit {0}
+HasMove nodes (frame.Judge n tries delay e number) = Unit {0}
 HasMove nodes f = HasStep nodes f
 
 -- the innermost one is such a frame, if any frame is left
@@ -88,6 +90,7 @@ IsLeft nodes (went.Ended e) fs = fs ≡ []
 abbrev pub loop_found : List Spot → List Frame → Local → Found
 loop_found ns [] l = AtEnd
 loop_found ns (frame.Back call number ∷ fs) l = NotFound
+loop_found ns (frame.Judge n tries delay e number ∷ fs) l = NotFound
 loop_found ns (f ∷ fs) l = Stands (control ns (f ∷ fs)) l
 
 -- the innermost frame is a loop or a call, if any frame is left
