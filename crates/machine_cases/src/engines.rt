@@ -123,7 +123,7 @@ fn run(
     match opened {
         Ok(engine) => {
             let mut engine = engine;
-            let ran = engine.session(host);
+            let ran = engine.session(host, 0);
             write_session(out, alloc, engine.machine(), ran)
         }
         Err(fault) => Ok(write!(out, "{fault}")?),

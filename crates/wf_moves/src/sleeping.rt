@@ -1,0 +1,112 @@
+// Sleeps.
+ghost use Rattle.std.specs.Prelude.{◌≡◌, ◌*◌, ℕ, IfOk, Ok, OnOk, codes, pos};
+ghost use Rattle.wf_eval.specs.Answers.{Answers};
+ghost use Rattle.wf_frames.specs.Frames.{inner};
+ghost use Rattle.wf_frames.specs.Owned.{Around, control_of, held_by};
+ghost use Rattle.wf_frames.specs.Stands.{Stands};
+ghost use Rattle.wf_model.specs.Calls as calls;
+ghost use Rattle.wf_moves.specs.Naps.{nap_due};
+ghost use Rattle.wf_moves.specs.Tasks.{IsLeftSo, Names, SleepsBy};
+ghost use Rattle.wf_nodes.specs.Spots.{part_at, part_body};
+ghost use Rattle.wf_steps.specs.Built.{IsNap, Tells};
+ghost use Rattle.wf_steps.specs.Steps.{calls_by};
+ghost use Rattle.wf_value.specs.Data.{pairs_of};
+ghost use Rattle.wf_value.specs.Pairs.{get};
+
+use crate::finish::Done;
+use crate::raising::fails;
+use crate::sending::due_of;
+use crate::wait::Wait;
+use std::alloc::Global;
+use wf_frames::{Facts, Frames};
+use wf_lib_time::time_parse;
+use wf_nodes::Node;
+use wf_scope::Scopes;
+use wf_steps::Nap;
+use wf_value::{Map, OutOfMemory, Raise, Tag, Value};
+
+/// The longest sleep, in seconds.
+const LONGEST_SLEEP: i64 = 31_536_000;
+
+// When a sleep of some seconds ends that begins at a reading.
+fn sleep_due(args: &Map, now: u64) -> Result<u64, Raise>
+    ensures { Answers (λ n. n) result (calls.sleep_due now (pairs_of args.now)) }
+{
+    let Some(value) = args.get("seconds") else {
+        return Err(Raise::Error(Tag::TypeError));
+    };
+    let Value::Int(seconds) = value else {
+        return Err(Raise::Error(Tag::TypeError));
+    };
+    if (0..=LONGEST_SLEEP).contains(seconds) {
+        Ok(due_of(now, *seconds as u64))
+    } else {
+        Err(Raise::Error(Tag::ValueError))
+    }
+}
+
+// The moment of some seconds since 1970. No text tells one before that, nor one past the greatest.
+fn moment_of(seconds: i64) -> Result<u64, Raise>
+    ensures { (n : ℕ) → seconds ≡ pos n → Answers (λ m. m) result (Ok (n * 1000)) }
+{
+    let Ok(seconds) = u64::try_from(seconds) else {
+        return Err(Raise::OutOfMemory);
+    };
+    match seconds.checked_mul(1_000) {
+        Some(moment) => Ok(moment),
+        None => Err(Raise::OutOfMemory),
+    }
+}
+
+// When a sleep until a time ends.
+fn until_due(alloc: Global, args: &Map) -> Result<u64, Raise>
+    ensures { Answers (λ n. n) result (calls.until_due (get (codes "time") (pairs_of args.now))) }
+{
+    let Some(time) = args.get("time") else {
+        return Err(Raise::Error(Tag::TypeError));
+    };
+    let parsed = time_parse(alloc, time)?;
+    match &parsed {
+        Value::Int(seconds) => moment_of(*seconds),
+        _ => Err(Raise::OutOfMemory),
+    }
+}
+
+// When a sleep ends that begins at a reading.
+fn nap_due(alloc: Global, nap: Nap, args: &Map, now: u64) -> Result<u64, Raise>
+    ensures { Answers (λ n. n) result (nap_due nap now (pairs_of args.now)) }
+{
+    match nap {
+        Nap::For => sleep_due(args, now),
+        Nap::Until => until_due(alloc, args),
+    }
+}
+
+/// The task sleeps behind a step's call, with its arguments. An error in them is raised. A sleep begins at the reading that the step sees,
+/// and one until a moment that has passed is due at once.
+pub(crate) fn sleeps(
+    alloc: Global,
+    nodes: &[Node],
+    n: u32,
+    nap: Nap,
+    args: &Map,
+    frames: &mut Frames,
+    scopes: &mut Scopes,
+    facts: &Facts,
+) -> Result<Done, OutOfMemory>
+    ghost around: { Around }
+    requires tells { Tells around.spots nodes.now }
+    requires stands { Stands around nodes.now frames.old scopes.old }
+    requires names { Names nodes.now n (IsNap around.flows nap) }
+    ensures moved { IfOk result (λ d. SleepsBy around facts.entry.now
+        (λ s l. calls_by s (part_body (part_at around.spots n)) (pairs_of args.now)
+        (control_of around frames.old) l)
+        (held_by around frames.old scopes.old) d frames.new scopes.new) }
+    ensures stands { OnOk result (Stands around nodes.now frames.new scopes.new) }
+    ensures left { IfOk result (λ d. IsLeftSo nodes.now d (inner frames.new)) }
+{
+    match nap_due(alloc, nap, args, facts.now) {
+        Ok(due) => Ok(Done::Waits(Wait::Sleep { due, node: n })),
+        Err(raise) => Ok(Done::Went(fails(alloc, raise)?)),
+    }
+}
