@@ -1,4 +1,4 @@
-use Rattle.std.proofs.Common.{◌∷◌, ◌<◌, length, ap, sym, subst, ◌∙◌}
+use Rattle.std.proofs.Common.{◌<◌, length, ap, sym, subst, ◌∙◌}
 use Rattle.std.specs.Prelude.{slice_get}
 use Rattle.std.proofs.lemmas.Option.{get_or_from_slice_get, slice_get_within}
 use Rattle.wf_frames.specs.Frames.{items}
