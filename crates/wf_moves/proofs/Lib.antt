@@ -4,7 +4,9 @@ pub mod Calling
 pub mod Going
 pub mod Jumps
 pub mod Leaving
+pub mod Raising
 pub mod Requesting
+pub mod Retrying
 pub mod Returning
 pub mod Starting
 pub mod Stepping
