@@ -5,17 +5,26 @@ use Rattle.std.proofs.Math.Seq.{take-suc}
 use Rattle.std.proofs.lemmas.List.{append_assoc, length-append, take_all}
 use Rattle.std.proofs.lemmas.Slice.Eq.{bytes_eq-Decides}
 use Rattle.wf_ast.specs.Flows.{flow, flow_in}
-use Rattle.wf_ast.specs.Func.{Listing, func_named, special_named}
+use Rattle.wf_alone.specs.Plain.{is_plain_listed, is_plain_special}
+use Rattle.wf_ast.specs.Func.{AwaitCallback, CreateEndpoint, HttpCall, Listing, Special, SpecialListing, SysLog, SysSleep, SysSleepUntil, func_named, special_named}
 use Rattle.wf_ast.specs.Tree.{Flow}
+use Rattle.wf_ast.specs.declared.policy.Policy.{Policy}
+use Rattle.wf_ast.specs.declared.policy.Predicate.TheVariants as predicate
+use Rattle.wf_callbacks.specs.Plain.{plain_method}
 use Rattle.wf_library.specs.Functions.{Callable, callable, function_of}
 use Rattle.wf_library.specs.declared.functions.Function.{Function}
+use Rattle.wf_machine.specs.Main.{Says}
 use Rattle.wf_model.specs.Calls.{http_method}
 use Rattle.wf_nodes.specs.Spots.{FlowAt, Spot, flow_spots, flows_spots, spot, spot_part, spots, steps_size}
 use Rattle.wf_shared.specs.HttpUrl.{first_of_two}
 use Rattle.wf_nodes.specs.declared.node.CallNode.{CallNode}
 use Rattle.wf_nodes.specs.declared.node.Node.{Node}
 use Rattle.wf_nodes.specs.declared.node.NodeKind.TheVariants as kind
-use Rattle.wf_steps.specs.Built.{AreTargets, IsTarget, IsWorkflow, flow_part, function_parts, listed}
+use Rattle.wf_nodes.specs.declared.node.TryNode.{TryNode}
+use Rattle.wf_shared.specs.Events.{Method}
+use Rattle.wf_steps.specs.Built.{AreTargets, IsAsked, IsTarget, IsWorkflow, flow_part, function_parts, listed, nap_special}
+use Rattle.wf_steps.specs.declared.target.Nap.{Nap}
+use Rattle.wf_steps.specs.declared.target.Nap.TheVariants as nap
 use Rattle.wf_steps.specs.declared.target.Target.{Target}
 use Rattle.wf_steps.specs.declared.target.Target.TheVariants as target
 use Rattle.wf_table.proofs.Sizes.{steps_long}
@@ -123,24 +132,47 @@ listed_so fs ns x None so free = tt
 listed_so fs ns x (Some t) so free = so fs ns free
 
 -- ## What a call comes to
-pub plain_target : (fs : List Flow) (ns : List Spot) (o : Option Target) (x : Text) → IsTarget fs ns o x → (is_some (flow fs x) || is_some (func_named x) || is_some (http_method (special_named x))) ≡ true
-plain_target fs ns None x h = absurd h
-plain_target fs ns (Some (target.Flow n)) x h = ap (λ (b : Bool). b || is_some (func_named x) || is_some (http_method (special_named x))) h.named
-plain_target fs ns (Some (target.Function g)) x h = ap (λ (b : Bool). b || is_some (func_named x) || is_some (http_method (special_named x))) h.free ∙ by (func_named x) h.named
+http_is_plain : (o : Option SpecialListing) (m : Option Method) → http_method o ≡ Some m → is_plain_listed o ≡ true
+http_is_plain None m is = absurd (cc is)
+http_is_plain (Some g) m is = by g.special is
   where
-    by : (o : Option Listing) → option_map listed o ≡ Some (function_parts g) → (is_some o || is_some (http_method (special_named x))) ≡ true
+    by : (x : Special) → elim x [ HttpCall n ↦ Some n | y ↦ None ] ≡ Some m → is_plain_special x ≡ true
+    by (HttpCall n) at = refl
+    by SysLog at = absurd (cc at)
+    by SysSleep at = refl
+    by SysSleepUntil at = refl
+    by CreateEndpoint at = absurd (cc at)
+    by AwaitCallback at = absurd (cc at)
+
+nap_is_plain : (o : Option SpecialListing) (b : Nap) → option_map (λ e. e.special) o ≡ Some (nap_special b) → is_plain_listed o ≡ true
+nap_is_plain None b is = absurd (cc is)
+nap_is_plain (Some g) b is = let same : g.special ≡ nap_special b = cc is in ap is_plain_special same ∙ by b
+  where
+    by : (c : Nap) → is_plain_special (nap_special c) ≡ true
+    by nap.For = refl
+    by nap.Until = refl
+
+-- no workflow and no function of expressions, but one of call steps alone
+special_target : (fs : List Flow) (x : Text) → is_some (flow fs x) ≡ false → is_some (func_named x) ≡ false → is_plain_listed (special_named x) ≡ true
+    → (is_some (flow fs x) || is_some (func_named x) || is_plain_listed (special_named x)) ≡ true
+special_target fs x free unlisted is =
+    ap (λ (b : Bool). b || is_some (func_named x) || is_plain_listed (special_named x)) free
+    ∙ ap (λ (b : Bool). b || is_plain_listed (special_named x)) unlisted
+    ∙ is
+
+pub plain_target : (fs : List Flow) (ns : List Spot) (o : Option Target) (x : Text) → IsTarget fs ns o x → (is_some (flow fs x) || is_some (func_named x) || is_plain_listed (special_named x)) ≡ true
+plain_target fs ns None x h = absurd h
+plain_target fs ns (Some (target.Flow n)) x h = ap (λ (b : Bool). b || is_some (func_named x) || is_plain_listed (special_named x)) h.named
+plain_target fs ns (Some (target.Function g)) x h = ap (λ (b : Bool). b || is_some (func_named x) || is_plain_listed (special_named x)) h.free ∙ by (func_named x) h.named
+  where
+    by : (o : Option Listing) → option_map listed o ≡ Some (function_parts g) → (is_some o || is_plain_listed (special_named x)) ≡ true
     by None e = absurd (cc e)
     by (Some l) e = refl
-plain_target fs ns (Some (target.Http m)) x h =
-    ap (λ (b : Bool). b || is_some (func_named x) || is_some (http_method (special_named x))) h.free
-    ∙ ap (λ (b : Bool). b || is_some (http_method (special_named x))) h.unlisted
-    ∙ ap is_some h.named
+plain_target fs ns (Some (target.Http m)) x h = special_target fs x h.free h.unlisted (http_is_plain (special_named x) (option_map plain_method m) h.named)
+plain_target fs ns (Some (target.Sleeps b)) x h = special_target fs x h.free h.unlisted (nap_is_plain (special_named x) b h.named)
 
 -- ## The targets of a table
--- a node, and what stands at its number
-abbrev pub Says : List Flow → List Spot → Node → Target → Type 0
-Says fs ns x t = (f : CallNode) → x.kind ≡ kind.Call f → IsTarget fs ns (Some t) f.name
-
+-- nodes, and what stands at their numbers
 abbrev pub Aimed : List Flow → List Spot → List Node → List Target → Type 0
 Aimed fs ns [] [] = Unit {0}
 Aimed fs ns [] (t ∷ ts) = ⊥
@@ -155,11 +187,22 @@ aimed_push fs ns (y ∷ xs) [] x t a says = absurd a
 aimed_push fs ns (y ∷ xs) (u ∷ ts) x t a says = (a.0, aimed_push fs ns xs ts x t a.1 says)
 
 -- all of them
+calls_aim : (fs : List Flow) (ns : List Spot) (xs : List Node) (ts : List Target) → Aimed fs ns xs ts → (i : ℕ) (x : Node) (f : CallNode) → slice_get xs i ≡ Some x → x.kind ≡ kind.Call f
+    → IsTarget fs ns (slice_get ts i) f.name
+calls_aim fs ns [] ts a i x f at is = absurd (cc at)
+calls_aim fs ns (y ∷ xs) [] a i x f at is = absurd a
+calls_aim fs ns (y ∷ xs) (t ∷ ts) a zero x f at is = let same : y ≡ x = cc at in a.0.call f (ap (λ z. z.kind) same ∙ is)
+calls_aim fs ns (y ∷ xs) (t ∷ ts) a (suc i) x f at is = calls_aim fs ns xs ts a.1 i x f at is
+
+asks_aim : (fs : List Flow) (ns : List Spot) (xs : List Node) (ts : List Target) → Aimed fs ns xs ts → (i : ℕ) (x : Node) (t : TryNode) (p : Policy) (f : Text) → slice_get xs i ≡ Some x
+    → x.kind ≡ kind.Try t → t.policy ≡ Some p → p.predicate ≡ predicate.Flow f → IsAsked fs ns (slice_get ts i) f
+asks_aim fs ns [] ts a i x t p f at is by so = absurd (cc at)
+asks_aim fs ns (y ∷ xs) [] a i x t p f at is by so = absurd a
+asks_aim fs ns (y ∷ xs) (u ∷ ts) a zero x t p f at is by so = let same : y ≡ x = cc at in a.0.ask t p f (ap (λ z. z.kind) same ∙ is) by so
+asks_aim fs ns (y ∷ xs) (u ∷ ts) a (suc i) x t p f at is by so = asks_aim fs ns xs ts a.1 i x t p f at is by so
+
 pub aims : (fs : List Flow) (ns : List Spot) (xs : List Node) (ts : List Target) → Aimed fs ns xs ts → AreTargets fs ns xs ts
-aims fs ns [] ts a i x f at is = absurd (cc at)
-aims fs ns (y ∷ xs) [] a i x f at is = absurd a
-aims fs ns (y ∷ xs) (t ∷ ts) a zero x f at is = let same : y ≡ x = cc at in a.0 f (ap (λ z. z.kind) same ∙ is)
-aims fs ns (y ∷ xs) (t ∷ ts) a (suc i) x f at is = aims fs ns xs ts a.1 i x f at is
+aims fs ns xs ts a = record { calls = calls_aim fs ns xs ts a; asks = asks_aim fs ns xs ts a }
 
 -- one more of a table
 pub aimed_next : (fs : List Flow) (ns : List Spot) (xs : List Node) (i : ℕ) (x : Node) (ts us : List Target) (t : Target) → i < length xs → x ≡ get_or xs i x → us ≡ ts ++ t ∷ [] → Says fs ns x t → Aimed fs ns (take i xs) ts
