@@ -35,7 +35,7 @@ use Rattle.wf_model.proofs.Counts.{nothing_follows_an_outcome}
 use Rattle.wf_model.specs.Config.{Active, After, Config, Item, Layer, NotNow, To, Wait, Wrong}
 use Rattle.wf_model.specs.Law.{NeverWrong}
 use Rattle.wf_model.specs.Step.{next}
-use Rattle.wf_moves.specs.Waits.{CanGoOn, call_in}
+use Rattle.wf_moves.specs.Waits.{CanGoOn, is_awake_in}
 use Rattle.wf_moves.specs.declared.task.Task.{Task}
 use Rattle.wf_nodes.proofs.Told.{resolves}
 use Rattle.wf_nodes.specs.Spots.{spots}
@@ -87,7 +87,7 @@ module _ (m : Machine) (t : Task) (is : m.task ≡ Some t) where
   pub plain : ArePlain K
   plain = are_plain (spots P.flows) (inner t.frames)
 
-  pub has_move : call_in t.wait ≡ None → Moves P.flows K
+  pub has_move : is_awake_in t.wait ≡ true → Moves P.flows K
   has_move awake = moves P.flows (spots P.flows) (nodes_of m.program) m.targets.items (tells_of m.program m.built) m.aims (inner t.frames) standing.0.fit (going_by (nodes_of m.program) t awake standing.1)
 
   -- where it runs
