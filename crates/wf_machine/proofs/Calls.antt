@@ -11,6 +11,7 @@ use Rattle.wf_ast.specs.Tree.{Flow}
 use Rattle.wf_ast.specs.declared.policy.Policy.{Policy}
 use Rattle.wf_ast.specs.declared.policy.Predicate.TheVariants as predicate
 use Rattle.wf_callbacks.specs.Plain.{plain_method}
+use Rattle.wf_callbacks.specs.declared.method.Method as declared_method
 use Rattle.wf_library.specs.Functions.{Callable, callable, function_of}
 use Rattle.wf_library.specs.declared.functions.Function.{Function}
 use Rattle.wf_machine.specs.Main.{Says}
@@ -125,7 +126,13 @@ pub no_function : (o : Option Listing) → option_map function_of None ≡ optio
 no_function None e = refl
 no_function (Some l) e = absurd (cc e)
 
--- where no workflow may be called by a name, the function or the call of HTTP may
+-- where it names no function of expressions, the call of HTTP or the sleep may be called
+pub special_so : (x : Text) (o : Option Target) → IfSome o (λ t. (fs : List Flow) (ns : List Spot) → is_some (flow fs x) ≡ false → is_some (func_named x) ≡ false → IsTarget fs ns (Some t) x) → is_some (func_named x) ≡ false
+    → IfSome o (λ t. (fs : List Flow) (ns : List Spot) → is_some (flow fs x) ≡ false → IsTarget fs ns (Some t) x)
+special_so x None so unlisted = tt
+special_so x (Some t) so unlisted = λ fs ns free. so fs ns free unlisted
+
+-- where no workflow may be called by a name, the function, the call of HTTP or the sleep may
 pub listed_so : (fs : List Flow) (ns : List Spot) (x : Text) (o : Option Target) → IfSome o (λ t. (gs : List Flow) (ms : List Spot) → is_some (flow gs x) ≡ false → IsTarget gs ms (Some t) x) → is_some (flow fs x) ≡ false
     → IfSome o (λ t. IsTarget fs ns (Some t) x)
 listed_so fs ns x None so free = tt
@@ -170,6 +177,53 @@ plain_target fs ns (Some (target.Function g)) x h = ap (λ (b : Bool). b || is_s
     by (Some l) e = refl
 plain_target fs ns (Some (target.Http m)) x h = special_target fs x h.free h.unlisted (http_is_plain (special_named x) (option_map plain_method m) h.named)
 plain_target fs ns (Some (target.Sleeps b)) x h = special_target fs x h.free h.unlisted (nap_is_plain (special_named x) b h.named)
+
+-- ## By a node
+-- what a call names
+pub says_call : (fs : List Flow) (ns : List Spot) (x : Node) (y : CallNode) (o : Option Target) → x.kind ≡ kind.Call y → IfSome o (λ t. IsTarget fs ns (Some t) y.name) → IfSome o (Says fs ns x)
+says_call fs ns x y None is so = tt
+says_call fs ns x y (Some t) is so = record {
+  call = λ f at. let same : kind.Call y ≡ kind.Call f = sym is ∙ at in let one : y ≡ f = cc same in subst (λ (g : CallNode). IsTarget fs ns (Some t) g.name) one so;
+  ask = λ u p f at. let no : kind.Call y ≡ kind.Try u = sym is ∙ at in absurd (cc no);
+}
+
+-- what a policy asks
+abbrev pub AsksSo : List Flow → List Spot → Option Policy → Option Target → Type 0
+AsksSo fs ns policy o = IfSome o (λ t. (p : Policy) (f : Text) → policy ≡ Some p → p.predicate ≡ predicate.Flow f → IsAsked fs ns (Some t) f)
+
+pub says_try : (fs : List Flow) (ns : List Spot) (x : Node) (y : TryNode) (o : Option Target) → x.kind ≡ kind.Try y → AsksSo fs ns y.policy o → IfSome o (Says fs ns x)
+says_try fs ns x y None is so = tt
+says_try fs ns x y (Some t) is so = record {
+  call = λ f at. let no : kind.Try y ≡ kind.Call f = sym is ∙ at in absurd (cc no);
+  ask = λ u p f at by asked. let same : kind.Try y ≡ kind.Try u = sym is ∙ at in let one : y ≡ u = cc same in so p f (ap (λ z. z.policy) one ∙ by) asked;
+}
+
+-- nothing of another node
+pub says_nothing : (fs : List Flow) (ns : List Spot) (x : Node) (t : Target) → ((f : CallNode) → x.kind ≡ kind.Call f → ⊥) → ((u : TryNode) → x.kind ≡ kind.Try u → ⊥) → Says fs ns x t
+says_nothing fs ns x t no_call no_try = record {
+  call = λ f at. absurd (no_call f at);
+  ask = λ u p f at. absurd (no_try u at);
+}
+
+-- the workflow that a policy asks, or none
+pub asks_flow : (fs : List Flow) (ns : List Spot) (policy : Option Policy) (p : Policy) (name : Text) (o : Option ℕ) → policy ≡ Some p → p.predicate ≡ predicate.Flow name → IfSome o (λ n. IsWorkflow fs ns n name)
+    → AsksSo fs ns policy (option_map target.Flow o)
+asks_flow fs ns policy p name None is by so = tt
+asks_flow fs ns policy p name (Some n) is by so = λ q f at asked.
+    let same : Some p ≡ Some q = sym is ∙ at in
+    let one : p ≡ q = cc same in
+    let names : predicate.Flow name ≡ predicate.Flow f = sym by ∙ ap (λ (z : Policy). z.predicate) one ∙ asked in
+    let name_is : name ≡ f = cc names in
+    subst (IsWorkflow fs ns n) name_is so
+
+-- ## By a name of call steps alone
+pub is_http : (fs : List Flow) (ns : List Spot) (x : Text) (m : Option declared_method.Method) → Some (option_map plain_method m) ≡ http_method (special_named x) → is_some (flow fs x) ≡ false → is_some (func_named x) ≡ false
+    → IsTarget fs ns (Some (target.Http m)) x
+is_http fs ns x m named free unlisted = record { free = free; unlisted = unlisted; named = sym named }
+
+pub is_nap : (fs : List Flow) (ns : List Spot) (x : Text) (b : Nap) → option_map (λ e. e.special) (special_named x) ≡ Some (nap_special b) → is_some (flow fs x) ≡ false → is_some (func_named x) ≡ false
+    → IsTarget fs ns (Some (target.Sleeps b)) x
+is_nap fs ns x b named free unlisted = record { free = free; unlisted = unlisted; named = named }
 
 -- ## The targets of a table
 -- nodes, and what stands at their numbers

@@ -1,4 +1,4 @@
-use Rattle.std.proofs.Common.{◌≤◌, Err, refl, sym, ap, ◌∙◌, arith, subst}
+use Rattle.std.proofs.Common.{◌<◌, ◌≤◌, Err, refl, sym, ap, ◌∙◌, arith, subst}
 use Rattle.wf_machine.proofs.Answering.{due_comes, timed_out_by}
 use Rattle.wf_machine.proofs.Applying.{done}
 use Rattle.wf_machine.proofs.machine.Machine.time_out.Goals as goal
@@ -15,6 +15,12 @@ carry_on-requires-clause-comes c =
       subst (λ y. Comes m (timed_out_by c.args.call (Err c.in-Ok.error)) c.args.reading y (Event.Due 0 c.args.reading)) (sym c.requires.tally)
       (due_comes m 0 c.args.call c.args.reading refl c.requires.waits c.requires.last c.in-Ok.error c.in-Ok.ensures shallow),
     )
+
+pub carry_on-requires-clause-below : goal.carry_on-requires-clause-below
+carry_on-requires-clause-below c = subst (λ y. y.moves < 100000) (sym c.requires.tally) (c.args.self.now.running c.requires.whole c.requires.waits.running).1
+
+pub carry_on-requires-clause-bounded : goal.carry_on-requires-clause-bounded
+carry_on-requires-clause-bounded c = subst (λ y. y.bodies ≤ 67108864) (sym c.requires.tally) c.args.self.now.bounded
 
 pub returns : goal.returns
 returns c =
