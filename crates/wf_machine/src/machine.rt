@@ -45,7 +45,7 @@ pub(crate) struct Tally {
 pub struct Machine {
     pub(crate) alloc: Global,
     pub(crate) program: Checked,
-    /// What a call names, at the call's own number.
+    /// What a call names, at the call's own number, and the workflow of a predicate, at that of its `try`.
     pub(crate) targets: Vec<Target>,
     pub(crate) facts: Facts,
     pub(crate) tally: Tally,
