@@ -12,7 +12,7 @@ use Rattle.wf_frames.specs.declared.frames.Frame.{Frame}
 use Rattle.wf_frames.specs.declared.frames.Frame.TheVariants as frame
 use Rattle.wf_frames.specs.declared.frames.Left.{Left}
 use Rattle.wf_model.specs.Config.{Item, Do, Entries}
-use Rattle.wf_model.specs.Local.{settle, settled}
+use Rattle.wf_model.specs.Local.{Scene, settle, settled}
 use Rattle.wf_steps.proofs.Lists.{drop_end, drop_more, entries_long, from_end, from_more}
 use Rattle.wf_steps.proofs.Parts.{entries_is, list_is}
 use Rattle.wf_moves.specs.Moved.{HasMove, IsGoing, IsMove, IsSettled, Settled, is_at_back}
@@ -164,13 +164,13 @@ pub going_there : (nodes : List Node) (f : Frame) (fs : List Frame) → topped f
 going_there nodes f [] t h = absurd (cc t)
 going_there nodes f (g ∷ fs) t h = h
 
-pub went_on : (ns : List Spot) (f : Frame) (fs : List Frame) (h : Held) → topped fs ≡ Some f → IsMove (settled (standing (control ns fs) h)) went.Goes (standing (control ns fs) h)
-went_on ns f [] h t = absurd (cc t)
-went_on ns f (g ∷ fs) h t = refl
+pub went_on : (s : Scene) (ns : List Spot) (f : Frame) (fs : List Frame) (h : Held) → topped fs ≡ Some f → IsMove s (settled (standing (control ns fs) h)) went.Goes (standing (control ns fs) h)
+went_on s ns f [] h t = absurd (cc t)
+went_on s ns f (g ∷ fs) h t = refl
 
-pub went_out : (ns : List Spot) (fs : List Frame) (h : Held) → topped fs ≡ None → IsMove (settled (standing (control ns fs) h)) (went.Ended (end.Value value.Null)) (standing (control ns fs) h)
-went_out ns [] h t = (refl, omega arith, refl)
-went_out ns (g ∷ fs) h t = absurd (cc t)
+pub went_out : (s : Scene) (ns : List Spot) (fs : List Frame) (h : Held) → topped fs ≡ None → IsMove s (settled (standing (control ns fs) h)) (went.Ended (end.Value value.Null)) (standing (control ns fs) h)
+went_out s ns [] h t = (refl, omega arith, refl)
+went_out s ns (g ∷ fs) h t = absurd (cc t)
 
 -- the innermost frame isn't the end of a call
 pub no_back : (f : Frame) (fs gs : List Frame) → fs ≡ f ∷ gs → is_at_back fs ≡ false → is_back f ≡ false

@@ -84,7 +84,7 @@ plain_given ns s r v (frame.Judge tried r delay error m ∷ fs) l = refl
 
 module _ (ns : List Spot) (s : Scene) (v : Data) where
   pub gives_on : (f : Frame) (b : Bool) (mid new : List Frame) (d : List Item) (k h g : Held) (w : Went) (l : Local) → topped mid ≡ Some f → IsBackTop mid → Leaves b mid h new g
-      → IsMove (gives s (result_of ns (call_of f)) v (control ns new) (standing d g)) w l → IsMove (returned s v (standing d k) (back_found ns mid (standing d h))) w l
+      → IsMove s (gives s (result_of ns (call_of f)) v (control ns new) (standing d g)) w l → IsMove s (returned s v (standing d k) (back_found ns mid (standing d h))) w l
   gives_on f b [] new d k h g w l t top left m = absurd (cc t)
   gives_on f false (y ∷ fs) new d k h g w l t top left m = absurd (cc left.0)
   gives_on f true (frame.Back c m0 ∷ fs) new d k h g w l t top left m =
@@ -92,7 +92,7 @@ module _ (ns : List Spot) (s : Scene) (v : Data) where
       let same : frame.Back c m0 ≡ f = cc t in
       let rest : fs ≡ new = cc left.1 in
       let held : g ≡ dropped (frame.Back c m0) h = left.2 ∙ ap (λ y. dropped y h) (sym is) in
-      subst (λ y. IsMove y w l)
+      subst (λ y. IsMove s y w l)
       (ap (λ y. gives s (result_of ns (call_of y)) v (control ns new) (standing d g)) (sym same) ∙ ap (λ (y : Held). gives s (result_of ns c) v (control ns new) (standing d y)) held
       ∙ ap (λ ys. gives s (result_of ns c) v (control ns ys) (leave (standing d h))) (sym rest) ∙ sym (plain_given ns s (result_of ns c) v fs (leave (standing d h)))) m
   gives_on f true (frame.Do n at ∷ fs) new d k h g w l t top left m = absurd (cc top)
@@ -105,10 +105,10 @@ module _ (ns : List Spot) (s : Scene) (v : Data) where
 
   -- without a call the task ends
   pub ends_with : (x : Value) (mid : List Frame) (d c : List Item) (h g : Held) → plain x ≡ v → topped mid ≡ None → depth v ≤ 100 → g.outside ≡ h.outside
-      → IsMove (returned s v (standing d h) (back_found ns mid (standing d g))) (went.Ended (end.Value x)) (standing c g)
+      → IsMove s (returned s v (standing d h) (back_found ns mid (standing d g))) (went.Ended (end.Value x)) (standing c g)
   ends_with x [] d c h g e t deep out = by s.root
     where
-      by : (r : Root) → IsMove (returns_in r v (standing d h)) (went.Ended (end.Value x)) (standing c g)
+      by : (r : Root) → IsMove s (returns_in r v (standing d h)) (went.Ended (end.Value x)) (standing c g)
       by Main = (ap Gives (sym e), deep, sym out)
       by Branch = tt
       by Iteration = tt

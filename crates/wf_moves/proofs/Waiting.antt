@@ -58,7 +58,7 @@ pub went_left : (nodes : List Node) (w : Went) (t : Task) → call_in t.wait ≡
 went_left nodes went.Goes t e h = (e, subst (λ x. GoesFrom nodes x (inner t.frames)) (sym (is_awake t.wait e)) (going nodes (inner t.frames) h))
 went_left nodes (went.Ended x) t e h = h
 
-pub went_so : (m : Moved) (w : Went) (l : Local) → IsMove m w l → MovesSo m (move_of w) l
+pub went_so : (m : Moved) (w : Went) (l : Local) → IsMove s m w l → MovesSo m (move_of w) l
 went_so m went.Goes l h = h
 went_so m (went.Ended e) l h = h
 
@@ -68,7 +68,7 @@ module _ (a : Around) (s : Scene) (w : Wait) (old new : Frames) (xs ys : Scopes)
   awake_local fs x e = ap (λ v. record (local_of a fs x) { wait = wait_view a v }) (is_awake w e)
 
   -- a task that was awake and is
-  pub went_on : (v : Went) (m : Move) → call_in w ≡ None → m ≡ move_of v → IsMove (stepped_at s (control_of a old) (local_of a old xs)) v (local_of a new ys)
+  pub went_on : (v : Went) (m : Move) → call_in w ≡ None → m ≡ move_of v → IsMove s (stepped_at s (control_of a old) (local_of a old xs)) v (local_of a new ys)
       → MovesSo (stepped s (record (local_of a old xs) { wait = wait_view a w })) m (record (local_of a new ys) { wait = wait_view a w })
   went_on v m e is h =
       subst (λ l. MovesSo (stepped s l) m (record (local_of a new ys) { wait = wait_view a w })) (sym (awake_local old xs e))

@@ -95,6 +95,13 @@ IsMove s m (went.Raises e) l = (c : List Item) × (m ≡ unwind s l.control (rec
 IsMove s m (went.Says b) l = (c : List Item) × (m ≡ returns s (boolean b) l.control (record l { control = c }))
 IsMove s m w l = ⊥
 
+-- nothing is still to go outward
+abbrev pub IsThrough : Went → Type 0
+IsThrough went.Goes = Unit {0}
+IsThrough (went.Ended e) = Unit {0}
+IsThrough (went.Raises e) = ⊥
+IsThrough (went.Says b) = ⊥
+
 -- an error is raised, which nests at most 100 deep
 pub record Raises (d : Data) (w : Went) : Type 0 where
   pub error : Value

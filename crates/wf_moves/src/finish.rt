@@ -8,7 +8,7 @@ ghost use Rattle.wf_model.specs.Config.{Item};
 ghost use Rattle.wf_model.specs.Local as local;
 ghost use Rattle.wf_model.specs.Local.{Scene};
 ghost use Rattle.wf_steps.specs.Built.{Tells};
-ghost use Rattle.wf_moves.specs.Moved.{HasMove, IsLeft, IsMove, IsSettled, Settled};
+ghost use Rattle.wf_moves.specs.Moved.{HasMove, IsLeft, IsMove, IsSettled, IsThrough, Settled};
 ghost use Rattle.wf_nodes.specs.Spots.{Spot};
 ghost use Rattle.wf_nodes.specs.declared.node.Node.{Node};
 
@@ -90,6 +90,7 @@ pub(crate) fn goes(frames: &mut Frames, nodes: &[Node], scopes: &mut Scopes) -> 
     requires stands { Stands around nodes.now frames.old scopes.old }
     ensures stands { Stands around nodes.now frames.new scopes.new }
     ensures left { IsLeft nodes.now result (inner frames.new) }
+    ensures through { IsThrough result }
     ensures moved { (s : Scene) (c : List Item)
         → IsMove s
         (local.goes (control_of around frames.old) (beside c around frames.old scopes.old))

@@ -31,7 +31,7 @@ give-requires g c =
 
 pub returns-in-None-clause-moved : goal.returns-in-None-clause-moved
 returns-in-None-clause-moved g c s d agrees =
-    subst (λ (f : Found). IsMove (returned s (plain c.args.value) (beside d g.around c.args.frames.now c.args.scopes.now) f) (went.Ended (end.Value c.args.value)) (local_of g.around c.leave_to_back.new.frames c.leave_to_back.new.scopes)) (sym (c.leave_to_back.ensures.found d))
+    subst (λ (f : Found). IsMove s (returned s (plain c.args.value) (beside d g.around c.args.frames.now c.args.scopes.now) f) (went.Ended (end.Value c.args.value)) (local_of g.around c.leave_to_back.new.frames c.leave_to_back.new.scopes)) (sym (c.leave_to_back.ensures.found d))
     (ends_with g.around.spots s (plain c.args.value) c.args.value (inner c.leave_to_back.new.frames) d (control_of g.around c.leave_to_back.new.frames) (held_by g.around c.args.frames.now c.args.scopes.now) (held_by g.around c.leave_to_back.new.frames c.leave_to_back.new.scopes)
     refl c.in-None.ensures c.requires.1.1 c.leave_to_back.ensures.outside)
 
@@ -39,8 +39,8 @@ pub returns-in-Some-clause-moved : goal.returns-in-Some-clause-moved
 returns-in-Some-clause-moved g c =
     with_ok _ _ c.give.result
     (λ w h s d agrees.
-    subst (λ (f : Found). IsMove (returned s (plain c.args.value) (beside d g.around c.args.frames.now c.args.scopes.now) f) w (local_of g.around c.give.new.frames c.give.new.scopes)) (sym (c.leave_to_back.ensures.found d))
+    subst (λ (f : Found). IsMove s (returned s (plain c.args.value) (beside d g.around c.args.frames.now c.args.scopes.now) f) w (local_of g.around c.give.new.frames c.give.new.scopes)) (sym (c.leave_to_back.ensures.found d))
     (gives_on g.around.spots s (plain c.args.value) c.in-Some.frame.now c.leave.result (inner c.leave_to_back.new.frames) (inner c.leave.new.frames) d (held_by g.around c.args.frames.now c.args.scopes.now) (held_by g.around c.leave_to_back.new.frames c.leave_to_back.new.scopes) (held_by g.around c.leave.new.frames c.leave.new.scopes)
     w (local_of g.around c.give.new.frames c.give.new.scopes) c.in-Some.ensures c.leave_to_back.ensures.top c.leave.ensures.left
-    (subst (λ (o : Option ℕ). IsMove (gives s (result_of g.around.spots o) (plain c.args.value) (control_of g.around c.leave.new.frames) (beside d g.around c.leave.new.frames c.leave.new.scopes)) w (local_of g.around c.give.new.frames c.give.new.scopes)) c.call_of-call.ensures (h s d agrees))))
+    (subst (λ (o : Option ℕ). IsMove s (gives s (result_of g.around.spots o) (plain c.args.value) (control_of g.around c.leave.new.frames) (beside d g.around c.leave.new.frames c.leave.new.scopes)) w (local_of g.around c.give.new.frames c.give.new.scopes)) c.call_of-call.ensures (h s d agrees))))
     c.give.ensures.moved

@@ -12,7 +12,7 @@ returns-in-Went-clause-moved g c s sees reaches agrees =
     let old = c.args.self.now.frames in
     let new = c.advance.new.frames in
     went_on g.around s c.args.self.now.wait old new c.args.scopes.now c.advance.new.scopes c.in-Went.went c.move_of.result c.requires.1.1.1.1 c.move_of.ensures
-    (subst (λ x. IsDone g.around (stepped_at s (control_of g.around old) (local_of g.around old c.args.scopes.now)) x (local_of g.around new c.advance.new.scopes)) c.in-Went.is (c.in_ok-went.ensures.moved s (control_of g.around old) sees reaches agrees))
+    (subst (λ x. IsDone g.around s (stepped_at s (control_of g.around old) (local_of g.around old c.args.scopes.now)) x (local_of g.around new c.advance.new.scopes)) c.in-Went.is (c.in_ok-went.ensures.moved s (control_of g.around old) sees reaches agrees))
 
 pub returns-in-Went-clause-left : goal.returns-in-Went-clause-left
 returns-in-Went-clause-left g c =
@@ -25,4 +25,4 @@ returns-in-Sent-clause-moved g c s sees reaches agrees =
     let old = c.args.self.now.frames in
     let new = c.advance.new.frames in
     sent_on g.around s c.args.self.now.wait old new c.args.scopes.now c.advance.new.scopes c.in-Sent.sent c.requires.1.1.1.1 c.in-Sent.wait
-    (subst (λ x. IsDone g.around (stepped_at s (control_of g.around old) (local_of g.around old c.args.scopes.now)) x (local_of g.around new c.advance.new.scopes)) c.in-Sent.is (c.in_ok-went.ensures.moved s (control_of g.around old) sees reaches agrees))
+    (subst (λ x. IsDone g.around s (stepped_at s (control_of g.around old) (local_of g.around old c.args.scopes.now)) x (local_of g.around new c.advance.new.scopes)) c.in-Sent.is (c.in_ok-went.ensures.moved s (control_of g.around old) sees reaches agrees))
