@@ -5,14 +5,14 @@ use Rattle.std.proofs.Math.Dec.{leb}
 use Rattle.std.proofs.lemmas.Bool.{leb-true, leb-false}
 use Rattle.wf_ast.specs.Tree.{more}
 use Rattle.wf_frames.specs.Fits.{Fits, HasNode, entries_at, list_at}
-use Rattle.wf_frames.specs.Frames.{body_entries, control, is_back, mark_of, topped}
+use Rattle.wf_frames.specs.Frames.{body_entries, control, is_back, items, mark_of, topped}
 use Rattle.wf_frames.specs.Held.{Held, standing}
 use Rattle.wf_frames.specs.Turns.{Leaves, dropped, left_by}
 use Rattle.wf_frames.specs.declared.frames.Frame.{Frame}
 use Rattle.wf_frames.specs.declared.frames.Frame.TheVariants as frame
 use Rattle.wf_frames.specs.declared.frames.Left.{Left}
 use Rattle.wf_model.specs.Config.{Item, Do, Entries}
-use Rattle.wf_model.specs.Local.{Scene, settle, settled}
+use Rattle.wf_model.specs.Local.{Goes, Local, Scene, ended, settle, settled}
 use Rattle.wf_steps.proofs.Lists.{drop_end, drop_more, entries_long, from_end, from_more}
 use Rattle.wf_steps.proofs.Parts.{entries_is, list_is}
 use Rattle.wf_moves.specs.Moved.{HasMove, IsGoing, IsMove, IsSettled, Settled, is_at_back}
@@ -164,9 +164,23 @@ pub going_there : (nodes : List Node) (f : Frame) (fs : List Frame) → topped f
 going_there nodes f [] t h = absurd (cc t)
 going_there nodes f (g ∷ fs) t h = h
 
+ended_not : (ns : List Spot) (f : Frame) (k : List Item) (l : Local) → ended (items ns f k) l ≡ Goes l
+ended_not ns (frame.Do n at) k l = refl
+ended_not ns (frame.Lone n b) k l = refl
+ended_not ns (frame.Entries n at) k l = refl
+ended_not ns (frame.Then n) k l = refl
+ended_not ns (frame.Loop n w i) k l = refl
+ended_not ns (frame.Try n r d) k l = refl
+ended_not ns (frame.Mark m) k l = refl
+ended_not ns (frame.Back c m) k l = refl
+ended_not ns (frame.Judge tried r delay error m) k l = refl
+
+pub on_so : (ns : List Spot) (f : Frame) (fs : List Frame) (h : Held) → topped fs ≡ Some f → settled (standing (control ns fs) h) ≡ Goes (standing (control ns fs) h)
+on_so ns f [] h t = absurd (cc t)
+on_so ns f (g ∷ fs) h t = ended_not ns g (control ns fs) (standing (control ns (g ∷ fs)) h)
+
 pub went_on : (s : Scene) (ns : List Spot) (f : Frame) (fs : List Frame) (h : Held) → topped fs ≡ Some f → IsMove s (settled (standing (control ns fs) h)) went.Goes (standing (control ns fs) h)
-went_on s ns f [] h t = absurd (cc t)
-went_on s ns f (g ∷ fs) h t = refl
+went_on s ns f fs h t = subst (λ m. IsMove s m went.Goes (standing (control ns fs) h)) (sym (on_so ns f fs h t)) refl
 
 pub went_out : (s : Scene) (ns : List Spot) (fs : List Frame) (h : Held) → topped fs ≡ None → IsMove s (settled (standing (control ns fs) h)) (went.Ended (end.Value value.Null)) (standing (control ns fs) h)
 went_out s ns [] h t = (refl, omega arith, refl)

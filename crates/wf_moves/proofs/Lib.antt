@@ -5,6 +5,8 @@ pub mod Going
 pub mod Jumps
 pub mod Leaving
 pub mod Requesting
+pub mod Raised
+pub mod Retrying
 pub mod Returning
 pub mod Starting
 pub mod Stepping
