@@ -15,7 +15,7 @@ use Rattle.wf_model.specs.Config.{Item, Do, Entries}
 use Rattle.wf_model.specs.Local.{Goes, Local, Scene, ended, settle, settled}
 use Rattle.wf_steps.proofs.Lists.{drop_end, drop_more, entries_long, from_end, from_more}
 use Rattle.wf_steps.proofs.Parts.{entries_is, list_is}
-use Rattle.wf_moves.specs.Moved.{HasMove, IsGoing, IsMove, IsSettled, Settled, is_at_back}
+use Rattle.wf_moves.specs.Moved.{HasMove, IsEnd, IsGoing, IsMove, IsSettled, Settled, is_at_back}
 use Rattle.wf_moves.specs.declared.finish.End.TheVariants as end
 use Rattle.wf_moves.specs.declared.finish.Went.TheVariants as went
 use Rattle.wf_steps.specs.Steps.{HasStep, IsBefore, IsBeforeEntry}
@@ -164,27 +164,28 @@ pub going_there : (nodes : List Node) (f : Frame) (fs : List Frame) → topped f
 going_there nodes f [] t h = absurd (cc t)
 going_there nodes f (g ∷ fs) t h = h
 
-ended_not : (ns : List Spot) (f : Frame) (k : List Item) (l : Local) → ended (items ns f k) l ≡ Goes l
-ended_not ns (frame.Do n at) k l = refl
-ended_not ns (frame.Lone n b) k l = refl
-ended_not ns (frame.Entries n at) k l = refl
-ended_not ns (frame.Then n) k l = refl
-ended_not ns (frame.Loop n w i) k l = refl
-ended_not ns (frame.Try n r d) k l = refl
-ended_not ns (frame.Mark m) k l = refl
-ended_not ns (frame.Back c m) k l = refl
-ended_not ns (frame.Judge tried r delay error m) k l = refl
-
-pub on_so : (ns : List Spot) (f : Frame) (fs : List Frame) (h : Held) → topped fs ≡ Some f → settled (standing (control ns fs) h) ≡ Goes (standing (control ns fs) h)
-on_so ns f [] h t = absurd (cc t)
-on_so ns f (g ∷ fs) h t = ended_not ns g (control ns fs) (standing (control ns (g ∷ fs)) h)
+pub ended_items : (ns : List Spot) (f : Frame) (k : List Item) (l : Local) → ended (items ns f k) l ≡ Goes l
+ended_items ns (frame.Do n at) k l = refl
+ended_items ns (frame.Lone n b) k l = refl
+ended_items ns (frame.Entries n at) k l = refl
+ended_items ns (frame.Then n) k l = refl
+ended_items ns (frame.Loop n w i) k l = refl
+ended_items ns (frame.Try n r d) k l = refl
+ended_items ns (frame.Mark m) k l = refl
+ended_items ns (frame.Back c m) k l = refl
+ended_items ns (frame.Judge n r d e m) k l = refl
 
 pub went_on : (s : Scene) (ns : List Spot) (f : Frame) (fs : List Frame) (h : Held) → topped fs ≡ Some f → IsMove s (settled (standing (control ns fs) h)) went.Goes (standing (control ns fs) h)
-went_on s ns f fs h t = subst (λ m. IsMove s m went.Goes (standing (control ns fs) h)) (sym (on_so ns f fs h t)) refl
+went_on s ns f [] h t = absurd (cc t)
+went_on s ns f (g ∷ fs) h t = subst (λ m. IsMove s m went.Goes (standing (control ns (g ∷ fs)) h)) (sym (ended_items ns g (control ns fs) (standing (control ns (g ∷ fs)) h))) refl
 
 pub went_out : (s : Scene) (ns : List Spot) (fs : List Frame) (h : Held) → topped fs ≡ None → IsMove s (settled (standing (control ns fs) h)) (went.Ended (end.Value value.Null)) (standing (control ns fs) h)
 went_out s ns [] h t = (refl, omega arith, refl)
 went_out s ns (g ∷ fs) h t = absurd (cc t)
+
+pub ended_there : (ns : List Spot) (fs : List Frame) (h : Held) → topped fs ≡ None → IsEnd (settled (standing (control ns fs) h)) (end.Value value.Null) (standing (control ns fs) h)
+ended_there ns [] h t = (refl, omega arith, refl)
+ended_there ns (g ∷ fs) h t = absurd (cc t)
 
 -- the innermost frame isn't the end of a call
 pub no_back : (f : Frame) (fs gs : List Frame) → fs ≡ f ∷ gs → is_at_back fs ≡ false → is_back f ≡ false

@@ -1,33 +1,43 @@
 -- Retries, and the workflows that are asked.
-use Rattle.std.proofs.Common.{◌≡◌, ◌≤◌, ◌<◌, ◌⊎◌, inl, inr, ℕ, suc, Bool, true, false, List, [], ◌∷◌, length, map, Some, None, refl, sym, ap, subst, ◌∙◌, arith}
+use Rattle.std.proofs.Common.{◌≡◌, ◌≤◌, ◌<◌, ◌⊎◌, inl, inr, ℕ, suc, Bool, true, false, List, [], ◌∷◌, length, map, Some, None, refl, sym, ap, subst, ◌∙◌, arith, get_or}
 use Rattle.std.specs.Prelude.{Option, is_some, nat_le, nat_lt, slice_get, if◌then◌else◌}
 use Rattle.std.proofs.lemmas.Bool.{leb-true, leb-false}
 use Rattle.wf_ast.specs.Accept.{BadArgument, Kind}
 use Rattle.wf_ast.specs.Flows.{flow}
 use Rattle.wf_ast.specs.Tree.{Flow, Param, Steps, except, try}
-use Rattle.wf_ast.specs.View.{policy_option_view, policy_view, predicate_view}
+use Rattle.wf_ast.specs.View.{policy_option_view, policy_view, predicate_view, param_view}
 use Rattle.wf_ast.specs.declared.policy.Policy.{Policy}
 use Rattle.wf_ast.specs.declared.policy.Predicate.{Predicate}
 use Rattle.wf_ast.specs.declared.policy.Predicate.TheVariants as predicate
 use Rattle.wf_frames.proofs.Owning.{owned_other}
-use Rattle.wf_frames.specs.Fits.{Fits, IsTry, reach}
+use Rattle.wf_frames.specs.Fits.{Fits, IsTry, reach, outside_at, view_outside}
 use Rattle.wf_frames.specs.Frames.{calls_of, control, inner, items, mark_of, own, owned, topped}
 use Rattle.wf_frames.specs.Held.{Held, standing}
 use Rattle.wf_frames.specs.Owned.{Around, IsLinked, beside, control_of, held_by, held_of, local_of, own_of}
 use Rattle.wf_frames.specs.Stands.{Stands}
-use Rattle.wf_frames.specs.Turns.{Agrees, Enters, with_layer}
+use Rattle.wf_frames.specs.Turns.{Agrees, Enters, with_layer, Leaves, dropped}
 use Rattle.wf_frames.specs.declared.frames.Frame.{Frame}
 use Rattle.wf_frames.specs.declared.frames.Frame.TheVariants as frame
 use Rattle.wf_frames.specs.declared.frames.Frames.{Frames}
 use Rattle.wf_model.specs.Config.{Back, Delay, Do, Item, Judge, Try, call_limit}
 use Rattle.wf_model.specs.Layers.{enter, opened}
-use Rattle.wf_model.specs.Local.{Breaks, Goes, Local, Moved, Scene, goes, waits}
+use Rattle.wf_model.specs.Local.{Breaks, Goes, Local, Moved, Scene, goes, waits, Does, Ends, Not, settled}
 use Rattle.wf_model.specs.Move.{entered, retries}
-use Rattle.wf_model.specs.Unwind.{Asks, Judgement, Says, asked_one, asks, called, calls_in, decided, handled, judged, judgement, policy_of, retried, unwind}
-use Rattle.wf_moves.proofs.Calling.{calls_are, le_false, le_true}
+use Rattle.wf_model.specs.Unwind.{Asks, Judgement, Says, asked_one, asks, called, calls_in, decided, handled, judged, judgement, policy_of, retried, unwind, answered}
+use Rattle.wf_moves.proofs.Calling.{calls_are, le_false, le_true, Begun, begun}
+use Rattle.wf_moves.proofs.Leaving.{ended_items, stands_on}
+use Rattle.wf_moves.proofs.Starting.{flow_list}
+use Rattle.wf_moves.specs.Tasks.{IsFlow, part_params}
+use Rattle.wf_moves.specs.declared.finish.Went.TheVariants as went
+use Rattle.wf_model.specs.Leave.{returns}
+use Rattle.wf_nodes.specs.Kinds as kinds
+use Rattle.wf_ast.specs.declared.program.Param as declared
+use Rattle.std.proofs.lemmas.Option.{slice_get-get_or, slice_get_within}
+use Rattle.wf_value.specs.Plain.{plain}
+use Rattle.wf_value.specs.declared.Value.{Value}
 use Rattle.wf_moves.proofs.Unwinding.{try_is}
-use Rattle.wf_moves.specs.Retries.{IsLed, LeadsBy, TriedAt, ask_at, asked_by, decide_at, retry_at, try_at, verdict_of, verdict_said}
-use Rattle.wf_moves.specs.Moved.{IsEnd, IsJudgeTop, IsWent}
+use Rattle.wf_moves.specs.Retries.{IsLed, LeadsBy, TriedAt, ask_at, asked_by, decide_at, retry_at, try_at, verdict_of, verdict_said, Asked}
+use Rattle.wf_moves.specs.Moved.{IsEnd, IsJudgeTop, IsWent, IsMove}
 use Rattle.wf_moves.specs.Waits.{is_at_try, wait_view}
 use Rattle.wf_moves.specs.declared.judging.Verdict.{Verdict}
 use Rattle.wf_moves.specs.declared.judging.Verdict.TheVariants as verdict
@@ -36,8 +46,8 @@ use Rattle.wf_moves.specs.declared.leading.Led.TheVariants as led
 use Rattle.wf_moves.specs.declared.unwind.Tried.{Tried}
 use Rattle.wf_moves.specs.declared.wait.Wait.TheVariants as wait
 use Rattle.wf_nodes.specs.Kinds.{handler_view}
-use Rattle.wf_nodes.specs.Spots.{Spot, owners_at, part_at, part_body, part_list}
-use Rattle.wf_nodes.specs.Table.{except_of}
+use Rattle.wf_nodes.specs.Spots.{Spot, owners_at, part_at, part_body, part_list, FlowAt}
+use Rattle.wf_nodes.specs.Table.{except_of, outside}
 use Rattle.wf_nodes.specs.declared.node.Node.{Node}
 use Rattle.wf_nodes.specs.declared.node.TryNode.{TryNode}
 use Rattle.wf_scope.specs.Store.{layers_of}
@@ -49,7 +59,7 @@ use Rattle.wf_steps.specs.Built.{AreTargets, IsAsked, IsWorkflow, Tells}
 use Rattle.wf_steps.specs.Steps.{IsOrBreaks}
 use Rattle.wf_steps.specs.declared.target.Target.{Target}
 use Rattle.wf_steps.specs.declared.target.Target.TheVariants as target
-use Rattle.wf_value.specs.Data.{Data}
+use Rattle.wf_value.specs.Data.{Data, boolean, depth}
 use Rattle.wf_value.specs.Errors.{error_map, later}
 use Rattle.wf_value.specs.Pairs.{Text}
 use Rattle.wf_value.specs.declared.Tag.TheVariants.{RecursionError, ResourceLimitError}
@@ -280,3 +290,110 @@ module _ (a : Around) (r : Tried) (e : Data) (f : Text) (q : judged (policy_of (
     ask_shallow few =
         ask_one
         ∙ ap (λ (b : Bool). if b then unwind s k l (error_map RecursionError) else called (opened s l ((x.name, e) ∷ [])) w.steps (Back None ∷ Judge (try_at a.spots r.node) r.tries r.delay e ∷ k) l (unwind s k l)) (le_false call_limit (calls_in k) few)
+
+module _ (a : Around) (r : Tried) (e : Data) (f : Text) (q : judged (policy_of (try_at a.spots r.node)) r.tries e ≡ Asks f) (s : Scene) (agrees : Agrees s a) (w : Flow) (named : flow a.flows f ≡ Some w) (x : Param) (one : w.params ≡ x ∷ []) (old : List Frame) (c : List Item) (h : Held) where
+  -- one call too many
+  pub asked_deep : 20 ≤ calls_of old → ask_at a.spots r s e (control a.spots old) (standing c h) ≡ unwind s (control a.spots old) (standing c h) (error_map RecursionError)
+  asked_deep deep = ask_deep a r e f q s agrees w named (control a.spots old) (standing c h) x one (omega (arith, deep, calls_are a.spots old))
+
+  asked_in : calls_of old < 20 → ask_at a.spots r s e (control a.spots old) (standing c h)
+      ≡ called (opened s (standing [] h) ((x.name, e) ∷ [])) w.steps (Back None ∷ Judge (try_at a.spots r.node) r.tries r.delay e ∷ control a.spots old) (standing c h) (unwind s (control a.spots old) (standing c h))
+  asked_in few = ask_shallow a r e f q s agrees w named (control a.spots old) (standing c h) x one (omega (arith, few, calls_are a.spots old))
+
+  -- past the limit on variables
+  pub asked_refused : (g : Held) → calls_of old < 20 → Enters true s None h ((x.name, e) ∷ []) g → ask_at a.spots r s e (control a.spots old) (standing c h) ≡ unwind s (control a.spots old) (standing c g) (error_map ResourceLimitError)
+  asked_refused g few p =
+      asked_in few ∙ ap (λ z. called z w.steps (Back None ∷ Judge (try_at a.spots r.node) r.tries r.delay e ∷ control a.spots old) (standing c h) (unwind s (control a.spots old) (standing c h))) p.0
+      ∙ ap (λ (y : Held). unwind s (control a.spots old) (standing c y) (error_map ResourceLimitError)) (sym p.1)
+
+  -- it is called
+  pub asked_entered : (v : Value) (n layer : ℕ) (g : Held) (new : List Frame) → calls_of old < 20 → plain v ≡ e → part_list (part_at a.spots n) ≡ w.steps → Enters true s (Some layer) h ((x.name, e) ∷ []) g
+      → new ≡ frame.Do n 0 ∷ frame.Judge r.node r.tries r.delay v layer ∷ old → ask_at a.spots r s e (control a.spots old) (standing c h) ≡ goes (control a.spots new) (standing c g)
+  asked_entered v n layer g new few is list p pushed =
+      asked_in few ∙ ap (λ z. called z w.steps (Back None ∷ Judge (try_at a.spots r.node) r.tries r.delay e ∷ control a.spots old) (standing c h) (unwind s (control a.spots old) (standing c h))) p.1
+      ∙ ap (λ ss. goes (Do ss ss ∷ Back None ∷ Judge (try_at a.spots r.node) r.tries r.delay e ∷ control a.spots old) (standing c (with_layer true p.0 h))) (sym list)
+      ∙ ap (λ (y : Data). goes (Do (part_list (part_at a.spots n)) (part_list (part_at a.spots n)) ∷ Back None ∷ Judge (try_at a.spots r.node) r.tries r.delay y ∷ control a.spots old) (standing c (with_layer true p.0 h))) (sym is)
+      ∙ ap (λ fs. goes (control a.spots fs) (standing c (with_layer true p.0 h))) (sym pushed) ∙ ap (λ (y : Held). goes (control a.spots new) (standing c y)) (sym p.2)
+
+-- what stands at the number of the `try`
+pub asked_within : (a : Around) (ts : List Target) (r : Tried) (e : Data) → Asked a ts r e → r.node < length ts
+asked_within a ts r e h = by (slice_get ts r.node) refl h.2
+  where
+    by : (o : Option Target) → slice_get ts r.node ≡ o → IsAsked a.flows a.spots o h.0 → r.node < length ts
+    by None p q = absurd q
+    by (Some t) p q = slice_get_within ts r.node t p
+
+pub asked_begun : (a : Around) (nodes : List Node) (tells : Tells a.spots nodes) (ts : List Target) (r : Tried) (e : Data) (h : Asked a ts r e) (n : ℕ) → get_or ts r.node (target.Flow 0) ≡ target.Flow n → Begun a.flows a.spots nodes n h.0
+asked_begun a nodes tells ts r e h n is = (
+    let found : slice_get ts r.node ≡ Some (target.Flow n) = slice_get-get_or ts r.node (target.Flow 0) (asked_within a ts r e h) ∙ ap (λ (t : Target). Some t) is in
+    begun a.flows a.spots nodes n h.0 tells.resolves (asked_flow a.flows a.spots (slice_get ts r.node) n h.0 found h.2)
+    )
+
+-- its parameters
+pub one_long : (ps : List declared.Param) (x : Param) → map param_view ps ≡ x ∷ [] → length ps ≡ 1
+one_long [] x e = absurd (cc e)
+one_long (p ∷ []) x e = refl
+one_long (p ∷ q ∷ rest) x e = absurd (cc e)
+
+pub one_param : (ps : List declared.Param) (p : declared.Param) → 1 ≤ length ps → length ps < 2 → p ≡ get_or ps 0 p → map param_view ps ≡ param_view p ∷ []
+one_param [] p low high is = absurd (omega arith)
+one_param (q ∷ []) p low high is = ap (λ z. param_view z ∷ []) (sym is)
+one_param (q ∷ t ∷ rest) p low high is = absurd (omega arith)
+
+pub params_are : (ns : List Spot) (n : ℕ) (w : Flow) (ps : List Param) → part_at ns n ≡ FlowAt w → ps ≡ part_params (part_at ns n) → w.params ≡ ps
+params_are ns n w ps is e = sym (e ∙ ap part_params is)
+
+-- its frames
+pub ask_fits : (ns : List Spot) (nodes : List Node) (r : Tried) (flow layer : ℕ) (v : Value) (old mid new : List Frame) → TriedAt ns nodes r old → depth (plain v) ≤ 100 → IsFlow nodes flow
+    → mid ≡ frame.Judge r.node r.tries r.delay v layer ∷ old → new ≡ frame.Do flow 0 ∷ mid → Fits ns nodes old → Fits ns nodes new
+ask_fits ns nodes r flow layer v old mid new at shallow there m e fits =
+    let all : new ≡ frame.Do flow 0 ∷ frame.Judge r.node r.tries r.delay v layer ∷ old = e ∙ ap (λ fs. frame.Do flow 0 ∷ fs) m in
+    let out : outside_at ns nodes flow ≡ [] = ap (λ o. view_outside o (owners_at ns flow)) there.at ∙ ap (λ (k : kinds.Kind). outside k (owners_at ns flow)) there.is in
+    subst (Fits ns nodes) (sym all) (((there.list, flow_list nodes flow there, omega arith), out), ((((at.node, at.is), shallow), at.inside), fits))
+
+pub ask_owned : (p q flow layer : ℕ) (r : Tried) (v : Value) (old mid new : List Frame) → mid ≡ frame.Judge r.node r.tries r.delay v layer ∷ old → new ≡ frame.Do flow 0 ∷ mid → q ≡ p → owned q new ≡ own layer true ∷ owned p old
+ask_owned p q flow layer r v old mid new m e same = ap (λ (k : ℕ). owned k new) same ∙ ap (owned p) (e ∙ ap (λ fs. frame.Do flow 0 ∷ fs) m)
+
+-- ## Where it leads
+pub went_there : (ns : List Spot) (f : Frame) (fs : List Frame) (h : Held) → topped fs ≡ Some f → IsWent (settled (standing (control ns fs) h)) (standing (control ns fs) h)
+went_there ns f [] h t = absurd (cc t)
+went_there ns f (g ∷ fs) h t = subst (λ m. IsWent m (standing (control ns (g ∷ fs)) h)) (sym (ended_items ns g (control ns fs) (standing (control ns (g ∷ fs)) h))) refl
+
+-- what is told of a move that raises, and of one that answers
+pub still_raised : (s : Scene) (m : Moved) (v : Value) (l : Local) → IsMove s m (went.Raises v) l → ((c : List Item) × (m ≡ unwind s l.control (record l { control = c }) (plain v))) ⊎ ((kind : Kind) × (m ≡ Breaks kind))
+still_raised s (Goes x) v l h = inl h
+still_raised s (Ends e x) v l h = inl h
+still_raised s (Does e x) v l h = inl h
+still_raised s (Breaks kind) v l h = inr (kind, refl)
+still_raised s Not v l h = inl h
+
+pub still_said : (s : Scene) (m : Moved) (b : Bool) (l : Local) → IsMove s m (went.Says b) l → ((c : List Item) × (m ≡ returns s (boolean b) l.control (record l { control = c }))) ⊎ ((kind : Kind) × (m ≡ Breaks kind))
+still_said s (Goes x) b l h = inl h
+still_said s (Ends e x) b l h = inl h
+still_said s (Does e x) b l h = inl h
+still_said s (Breaks kind) b l h = inr (kind, refl)
+still_said s Not b l h = inl h
+
+-- ## The answer of a predicate
+-- its call is the innermost frame, and is left
+pub judge_left : (ns : List Spot) (f : Frame) (n r : ℕ) (d : Option ℕ) (v : Value) (m : ℕ) (b : Bool) (old new : List Frame) (h g : Held) → topped old ≡ Some f → f ≡ frame.Judge n r d v m → Leaves b old h new g
+    → (s : Scene) (c : List Item) (says : Bool) → returns s (boolean says) (control ns old) (standing c h) ≡ answered s (boolean says) (try_at ns n) r d (plain v) (control ns new) (standing c g)
+judge_left ns f n r d v m false old new h g t is w s c says = absurd (cc (sym t ∙ ap topped w.0))
+judge_left ns f n r d v m true old new h g t is w s c says =
+    let same : w.0 ≡ f = cc (sym (ap topped w.1) ∙ t) in
+    let judge : w.0 ≡ frame.Judge n r d v m = same ∙ is in
+    ap (λ fs. returns s (boolean says) (control ns fs) (standing c h)) (w.1 ∙ ap (λ y. y ∷ new) judge)
+    ∙ ap (λ l. answered s (boolean says) (try_at ns n) r d (plain v) (control ns new) l) (stands_on (frame.Judge n r d v m) c h ∙ ap (standing c) (sym (w.2 ∙ ap (λ y. dropped y h) judge)))
+
+-- the task stands behind it as it stood at its `try`, and the error nests within the limit
+pub record Judged (ns : List Spot) (nodes : List Node) (t : Tried) (v : Value) (fs : List Frame) : Type 0 where
+  pub at : TriedAt ns nodes t fs
+  pub shallow : depth (plain v) ≤ 100
+
+pub judge_at : (ns : List Spot) (nodes : List Node) (f : Frame) (n r : ℕ) (d : Option ℕ) (v : Value) (m : ℕ) (b : Bool) (old new : List Frame) (h g : Held) → topped old ≡ Some f → f ≡ frame.Judge n r d v m → Leaves b old h new g
+    → Fits ns nodes old → Judged ns nodes (record { node = n; tries = r; delay = d }) v new
+judge_at ns nodes f n r d v m false old new h g t is w fits = absurd (cc (sym t ∙ ap topped w.0))
+judge_at ns nodes f n r d v m true old new h g t is w fits =
+    let same : w.0 ≡ f = cc (sym (ap topped w.1) ∙ t) in
+    let all : Fits ns nodes (frame.Judge n r d v m ∷ new) = subst (λ y. Fits ns nodes (y ∷ new)) (same ∙ is) (subst (Fits ns nodes) w.1 fits) in
+    record { at = record { node = all.0.0.0.0; is = all.0.0.0.1; inside = all.0.1 }; shallow = all.0.0.1 }

@@ -105,6 +105,7 @@ module _ (a : Around) (old new : List Frame) (st : Step) (s : Scene) (l : Local)
     broken x y (inl e) g = subst (λ z. IsDone a s z x m) (sym e) g
     broken (done.Went w) y (inr b) g = subst (λ z. IsMove s z w m) (sym b.1) tt
     broken (done.Sent x w) y (inr b) g = subst (λ z. IsDone a s z (done.Sent x w) m) (sym b.1) tt
+    broken (done.Waits w) y (inr b) g = subst (λ z. IsDone a s z (done.Waits w) m) (sym b.1) tt
 
     -- the frames' half of a step, and then the other half
     pub stepped_on : IsDone a s (stepped_at s (control a.spots old) l) d m

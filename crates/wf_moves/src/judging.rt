@@ -155,10 +155,12 @@ fn ask(
     let Target::Flow(flow) = target else {
         unreachable!()
     };
-    let [param] = params(nodes, *flow) else {
+    let params = params(nodes, *flow);
+    if params.len() != 1 {
         // No program is accepted that asks another workflow.
         return Ok(Decided::Led(lead_on(frames, nodes, scopes)));
-    };
+    }
+    let param = &params[0];
     if frames.calls() >= CALL_LIMIT {
         return Ok(Decided::Raises(map_of(alloc, Tag::RecursionError)?));
     }

@@ -1,5 +1,5 @@
 // Tasks.
-ghost use Rattle.std.specs.Prelude.{◌≡◌, ◌≤◌, IfErr, IfOk, None, OnOk, false, is_some, true};
+ghost use Rattle.std.specs.Prelude.{◌≡◌, ◌≤◌, IfErr, IfOk, OnOk, Some, false, is_some, true};
 ghost use Rattle.wf_frames.specs.Fits.{Fits};
 ghost use Rattle.wf_frames.specs.Frames.{inner};
 ghost use Rattle.wf_frames.specs.Owned.{Around, control_of};
@@ -49,13 +49,15 @@ pub struct Task {
 
 impl Task {
     ghost use Rattle.wf_ast.specs.Tree.{Program};
+    ghost use Rattle.wf_frames.specs.Frames.{result_of};
     ghost use Rattle.wf_model.specs.Kinds.{next_kind};
+    ghost use Rattle.wf_model.specs.Leave.{gives};
     ghost use Rattle.wf_steps.specs.Kinds.{kind_view};
     ghost use Rattle.wf_model.specs.Move.{due, resumed};
     ghost use Rattle.wf_moves.specs.Requests.{Reaches};
     ghost use Rattle.wf_moves.specs.Stepped.{stepped};
     ghost use Rattle.wf_moves.specs.Tasks.{IsFirst, IsFlow, MovesSo, Stays, first, has_ended, is_sent};
-    ghost use Rattle.wf_moves.specs.Waits.{CanGoOn, answer_view, call_in, is_awake_in, moment_in, result_in, task_local};
+    ghost use Rattle.wf_moves.specs.Waits.{CanGoOn, answer_view, call_in, is_awake_in, is_call_at, moment_in, result_in, task_local};
 
     /// The first task, awake, which stands before the steps of a workflow: that of the node with this number. Its first layer is made, and holds
     /// the argument where the workflow has a parameter. Without memory, or where the argument passes the limit on variables, there is no
@@ -215,18 +217,10 @@ impl Task {
             unreachable!()
         };
         self.wait = Wait::Awake;
-        let went = match with {
-            Ok(value) => give(
-                self.alloc,
-                nodes,
-                Some(node),
-                value,
-                &mut self.frames,
-                scopes,
-            )?,
-            Err(error) => Went::Raises(error),
-        };
-        self.follow(nodes, targets, scopes, facts, went)
+        match with {
+            Ok(value) => self.gives(nodes, targets, scopes, facts, node, value),
+            Err(error) => self.follow(nodes, targets, scopes, facts, Went::Raises(error)),
+        }
     }
 
     /// It goes on at the moment until which it has waited: a sleep ends, or the body of its `try` is tried again. Without memory the task
@@ -253,18 +247,50 @@ impl Task {
     {
         let wait = self.wait;
         self.wait = Wait::Awake;
-        let went = match wait {
-            Wait::Sleep { node, .. } => give(
-                self.alloc,
-                nodes,
-                Some(node),
-                Value::Null,
-                &mut self.frames,
-                scopes,
-            )?,
-            Wait::Delay { .. } => try_again(nodes, &mut self.frames, scopes)?,
+        match wait {
+            Wait::Sleep { node, .. } => {
+                self.gives(nodes, targets, scopes, facts, node, Value::Null)
+            }
+            Wait::Delay { .. } => {
+                let went = try_again(nodes, &mut self.frames, scopes)?;
+                self.follow(nodes, targets, scopes, facts, went)
+            }
             Wait::Awake | Wait::Calling { .. } => unreachable!(),
-        };
+        }
+    }
+
+    // A value goes into the variable that a node's call names.
+    fn gives(
+        &mut self,
+        nodes: &[Node],
+        targets: &[Target],
+        scopes: &mut Scopes,
+        facts: &Facts,
+        node: u32,
+        value: Value,
+    ) -> Result<Move, OutOfMemory>
+        ghost around: { Around }
+        requires tells { Tells around.spots nodes.now }
+        requires targets { AreTargets around.flows around.spots nodes.now targets.now }
+        requires stands { Stands around nodes.now self.old.frames scopes.old }
+        requires call { is_call_at nodes.now node ≡ true }
+        requires awake { is_awake_in self.old.wait ≡ true }
+        ensures moved { IfOk result (λ m. (s : Scene) → Sees s facts.entry.now → Agrees s around
+            → MovesSo (gives s (result_of around.spots (Some node)) (plain value)
+            (control_of around self.old.frames) (task_local around self.old scopes.old)) m
+            (task_local around self.new scopes.new)) }
+        ensures stands { OnOk result (Stands around nodes.now self.new.frames scopes.new) }
+        ensures left { IfOk result (λ m. Stays nodes.now m self.new) }
+        ensures nothing_sent { IfOk result (λ m. is_sent m ≡ false) }
+    {
+        let went = give(
+            self.alloc,
+            nodes,
+            Some(node),
+            value,
+            &mut self.frames,
+            scopes,
+        )?;
         self.follow(nodes, targets, scopes, facts, went)
     }
 
