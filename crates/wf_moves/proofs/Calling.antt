@@ -193,14 +193,14 @@ pub call_owned : (p q flow layer : ℕ) (c : Option ℕ) (old mid new : List Fra
 call_owned p q flow layer c old mid new m e same = ap (λ (k : ℕ). owned k new) same ∙ ap (owned p) (e ∙ ap (λ fs. frame.Do flow 0 ∷ fs) m)
 
 -- ## The call begins
-le_true : (m n : ℕ) → m ≤ n → nat_le m n ≡ true
+pub le_true : (m n : ℕ) → m ≤ n → nat_le m n ≡ true
 le_true m n h = by (nat_le m n) refl
   where
     by : (b : Bool) → nat_le m n ≡ b → b ≡ true
     by true q = refl
     by false q = let lt = leb-false m n q in absurd (omega (arith, h, lt))
 
-le_false : (m n : ℕ) → n < m → nat_le m n ≡ false
+pub le_false : (m n : ℕ) → n < m → nat_le m n ≡ false
 le_false m n h = by (nat_le m n) refl
   where
     by : (b : Bool) → nat_le m n ≡ b → b ≡ false

@@ -4,13 +4,13 @@ pub mod Calling
 pub mod Deciding
 pub mod Going
 pub mod Jumps
-pub mod Leading
+pub mod Led
 pub mod Leaving
-pub mod Raising
+pub mod Raised
 pub mod Requesting
 pub mod Retrying
 pub mod Returning
-pub mod Sleeping
+pub mod Sleeps
 pub mod Starting
 pub mod Stepping
 pub mod Turning

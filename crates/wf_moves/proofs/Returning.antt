@@ -13,7 +13,7 @@ use Rattle.wf_model.specs.Local.{Branch, Gives, Iteration, Local, Main, Root, Sc
 use Rattle.wf_model.specs.Move.{moves}
 use Rattle.wf_model.specs.Unwind.{to_back}
 use Rattle.wf_moves.proofs.Leaving.{same_outside, stands_on}
-use Rattle.wf_moves.proofs.Raising.{raised, raised_left, said_so}
+use Rattle.wf_moves.proofs.Raised.{raised, raised_left, said_so}
 use Rattle.wf_moves.specs.Moved.{IsBackTop, IsJudgeTop, IsLeft, IsMove, SaysSo, back_found, call_of, is_at_back, is_judge}
 use Rattle.wf_moves.specs.declared.finish.End.TheVariants as end
 use Rattle.wf_moves.specs.declared.finish.Went.{Went}

@@ -1,4 +1,4 @@
--- Errors that go outward, to the nearest `try`.
+-- Errors that go outward.
 use Rattle.std.proofs.Common.{◌≡◌, ◌≤◌, ◌<◌, ℕ, Bool, true, false, List, [], ◌∷◌, length, Some, None, refl, sym, ap, subst, ◌∙◌, arith}
 use Rattle.std.specs.Prelude.{IfSome, Option, is_some}
 use Rattle.wf_ast.specs.Tree.{except, try}
@@ -12,9 +12,9 @@ use Rattle.wf_frames.specs.declared.frames.Frame.TheVariants as frame
 use Rattle.wf_model.specs.Config.{Do, Item, Mark}
 use Rattle.wf_model.specs.Layers.{opened}
 use Rattle.wf_model.specs.Local.{Local, Moved, Scene, goes}
-use Rattle.wf_model.specs.Unwind.{excepted, handled, policy_of, unwind}
+use Rattle.wf_model.specs.Unwind.{excepted, handled, unwind}
 use Rattle.wf_moves.proofs.Leaving.{stands_on}
-use Rattle.wf_moves.specs.Retries.{Handler, TriedAt, caught_at, decide_at, tried_of, try_at}
+use Rattle.wf_moves.specs.Retries.{Handler, TriedAt, caught_at, decide_at, tried_of}
 use Rattle.wf_moves.specs.declared.unwind.Tried.{Tried}
 use Rattle.wf_nodes.specs.Kinds.{block_view, handler_view, kind_by}
 use Rattle.wf_nodes.specs.Spots.{Spot, owners_at, part_at, part_body, part_list, steps_by}
@@ -36,108 +36,77 @@ same_try nodes n t u h k = (
     )
 
 -- ## One frame
-module _ (ns : List Spot) (s : Scene) (k : List Item) (l : Local) (e : Data) where
-  -- one that is no `try` is left
-  passes_one : (f : Frame) → tried_of f ≡ None → unwind s (items ns f k) l e ≡ unwind s k (left_by f l) e
-  passes_one (frame.Do n at) h = refl
-  passes_one (frame.Lone n b) h = refl
-  passes_one (frame.Entries n at) h = refl
-  passes_one (frame.Then n) h = refl
-  passes_one (frame.Loop n w i) h = refl
-  passes_one (frame.Mark m) h = refl
-  passes_one (frame.Back c m) h = refl
-  passes_one (frame.Judge tried r delay error m) h = refl
-  passes_one (frame.Try n r d) h = absurd (cc h)
+module _ (ns : List Spot) where
+  passes_one : (s : Scene) (f : Frame) (k : List Item) (l : Local) (e : Data) → tried_of f ≡ None → unwind s (items ns f k) l e ≡ unwind s k (left_by f l) e
+  passes_one s (frame.Do n at) k l e h = refl
+  passes_one s (frame.Lone n b) k l e h = refl
+  passes_one s (frame.Entries n at) k l e h = refl
+  passes_one s (frame.Then n) k l e h = refl
+  passes_one s (frame.Loop n w i) k l e h = refl
+  passes_one s (frame.Mark m) k l e h = refl
+  passes_one s (frame.Back c m) k l e h = refl
+  passes_one s (frame.Judge tried r delay error m) k l e h = refl
+  passes_one s (frame.Try n r d) k l e h = absurd (cc h)
 
-  -- at a `try` the policy decides
-  takes_one : (f : Frame) (t : Tried) → tried_of f ≡ Some t → unwind s (items ns f k) l e ≡ decide_at ns t s e k l
-  takes_one (frame.Try n r d) t h = (
+  -- the `try` of a frame
+  is_try : (f : Frame) (t : Tried) → tried_of f ≡ Some t → f ≡ frame.Try t.node t.tries t.delay
+  is_try (frame.Do n at) t h = absurd (cc h)
+  is_try (frame.Lone n b) t h = absurd (cc h)
+  is_try (frame.Entries n at) t h = absurd (cc h)
+  is_try (frame.Then n) t h = absurd (cc h)
+  is_try (frame.Loop n w i) t h = absurd (cc h)
+  is_try (frame.Mark m) t h = absurd (cc h)
+  is_try (frame.Back c m) t h = absurd (cc h)
+  is_try (frame.Judge tried r delay error m) t h = absurd (cc h)
+  is_try (frame.Try n r d) t h = (
       let same : record { node = n; tries = r; delay = d } ≡ t = cc h in
-      ap (λ (u : Tried). decide_at ns u s e k l) same
+      ap (λ (x : Tried). frame.Try x.node x.tries x.delay) same
       )
-  takes_one (frame.Do n at) t h = absurd (cc h)
-  takes_one (frame.Lone n b) t h = absurd (cc h)
-  takes_one (frame.Entries n at) t h = absurd (cc h)
-  takes_one (frame.Then n) t h = absurd (cc h)
-  takes_one (frame.Loop n w i) t h = absurd (cc h)
-  takes_one (frame.Mark m) t h = absurd (cc h)
-  takes_one (frame.Back c m) t h = absurd (cc h)
-  takes_one (frame.Judge tried r delay error m) t h = absurd (cc h)
 
--- a `try` has no layer
-try_dropped : (f : Frame) (t : Tried) (h : Held) → tried_of f ≡ Some t → dropped f h ≡ h
-try_dropped (frame.Try n r d) t h e = refl
-try_dropped (frame.Do n at) t h e = refl
-try_dropped (frame.Lone n b) t h e = refl
-try_dropped (frame.Entries n at) t h e = refl
-try_dropped (frame.Then n) t h e = refl
-try_dropped (frame.Loop n w i) t h e = refl
-try_dropped (frame.Mark m) t h e = absurd (cc e)
-try_dropped (frame.Back c m) t h e = absurd (cc e)
-try_dropped (frame.Judge tried r delay error m) t h e = absurd (cc e)
+  -- ## The innermost frame is left
+  pub passes_on : (f : Frame) (b : Bool) (old new : List Frame) (h g : Held) → topped old ≡ Some f → tried_of f ≡ None → Leaves b old h new g
+      → (s : Scene) (c : List Item) (e : Data) → unwind s (control ns old) (standing c h) e ≡ unwind s (control ns new) (standing c g) e
+  passes_on f false old new h g p q w s c e = absurd (cc (sym p ∙ ap topped w.0))
+  passes_on f true old new h g p q w s c e =
+      let same : w.0 ≡ f = cc (sym (ap topped w.1) ∙ p) in
+      ap (λ fs. unwind s (control ns fs) (standing c h) e) w.1 ∙ passes_one s w.0 (control ns new) (standing c h) e (ap tried_of same ∙ q)
+      ∙ ap (λ l. unwind s (control ns new) l e) (stands_on w.0 c h ∙ ap (standing c) (sym w.2))
 
-try_fits : (ns : List Spot) (nodes : List Node) (f : Frame) (t : Tried) (fs : List Frame) → tried_of f ≡ Some t → Fits ns nodes (f ∷ fs) → TriedAt ns nodes t fs
-try_fits ns nodes (frame.Try n r d) t fs h fits = (
-    let same : record { node = n; tries = r; delay = d } ≡ t = cc h in
-    subst (λ (u : Tried). TriedAt ns nodes u fs) same (record { node = fits.0.0.0; is = fits.0.0.1; inside = fits.0.1 })
-    )
-try_fits ns nodes (frame.Do n at) t fs h fits = absurd (cc h)
-try_fits ns nodes (frame.Lone n b) t fs h fits = absurd (cc h)
-try_fits ns nodes (frame.Entries n at) t fs h fits = absurd (cc h)
-try_fits ns nodes (frame.Then n) t fs h fits = absurd (cc h)
-try_fits ns nodes (frame.Loop n w i) t fs h fits = absurd (cc h)
-try_fits ns nodes (frame.Mark m) t fs h fits = absurd (cc h)
-try_fits ns nodes (frame.Back c m) t fs h fits = absurd (cc h)
-try_fits ns nodes (frame.Judge tried r delay error m) t fs h fits = absurd (cc h)
+  takes_on : (f : Frame) (t : Tried) (b : Bool) (old new : List Frame) (h g : Held) → topped old ≡ Some f → tried_of f ≡ Some t → Leaves b old h new g
+      → (s : Scene) (c : List Item) (e : Data) → unwind s (control ns old) (standing c h) e ≡ decide_at ns t s e (control ns new) (standing c g)
+  takes_on f t false old new h g p q w s c e = absurd (cc (sym p ∙ ap topped w.0))
+  takes_on f t true old new h g p q w s c e =
+      let same : w.0 ≡ f = cc (sym (ap topped w.1) ∙ p) in
+      let is : w.0 ≡ frame.Try t.node t.tries t.delay = same ∙ is_try f t q in
+      let held : h ≡ g = sym (w.2 ∙ ap (λ y. dropped y h) is) in
+      ap (λ fs. unwind s (control ns fs) (standing c h) e) (w.1 ∙ ap (λ y. y ∷ new) is) ∙ ap (λ (y : Held). decide_at ns t s e (control ns new) (standing c y)) held
 
--- ## The innermost frame is left
-pub passes_on : (ns : List Spot) (f : Frame) (b : Bool) (old new : List Frame) (h g : Held) → topped old ≡ Some f → tried_of f ≡ None → Leaves b old h new g
-    → (s : Scene) (c : List Item) (e : Data) → unwind s (control ns old) (standing c h) e ≡ unwind s (control ns new) (standing c g) e
-passes_on ns f false old new h g p q w s c e = absurd (cc (sym p ∙ ap topped w.0))
-passes_on ns f true old new h g p q w s c e =
-    let same : w.0 ≡ f = cc (sym (ap topped w.1) ∙ p) in
-    ap (λ fs. unwind s (control ns fs) (standing c h) e) w.1 ∙ passes_one ns s (control ns new) (standing c h) e w.0 (ap tried_of same ∙ q)
-    ∙ ap (λ l. unwind s (control ns new) l e) (stands_on w.0 c h ∙ ap (standing c) (sym w.2))
+  tried_at : (nodes : List Node) (f : Frame) (t : Tried) (b : Bool) (old new : List Frame) (h g : Held) → topped old ≡ Some f → tried_of f ≡ Some t → Leaves b old h new g → Fits ns nodes old → TriedAt ns nodes t new
+  tried_at nodes f t false old new h g p q w fits = absurd (cc (sym p ∙ ap topped w.0))
+  tried_at nodes f t true old new h g p q w fits =
+      let same : w.0 ≡ f = cc (sym (ap topped w.1) ∙ p) in
+      let all : Fits ns nodes (frame.Try t.node t.tries t.delay ∷ new) = subst (λ y. Fits ns nodes (y ∷ new)) (same ∙ is_try f t q) (subst (Fits ns nodes) w.1 fits) in
+      record { node = all.0.0.0; is = all.0.0.1; inside = all.0.1 }
 
-pub takes_on : (ns : List Spot) (f : Frame) (t : Tried) (b : Bool) (old new : List Frame) (h g : Held) → topped old ≡ Some f → tried_of f ≡ Some t → Leaves b old h new g
-    → (s : Scene) (c : List Item) (e : Data) → unwind s (control ns old) (standing c h) e ≡ decide_at ns t s e (control ns new) (standing c g)
-takes_on ns f t false old new h g p q w s c e = absurd (cc (sym p ∙ ap topped w.0))
-takes_on ns f t true old new h g p q w s c e =
-    let same : w.0 ≡ f = cc (sym (ap topped w.1) ∙ p) in
-    let is = ap tried_of same ∙ q in
-    ap (λ fs. unwind s (control ns fs) (standing c h) e) w.1 ∙ takes_one ns s (control ns new) (standing c h) e w.0 t is
-    ∙ ap (λ (y : Held). decide_at ns t s e (control ns new) (standing c y)) (sym (w.2 ∙ try_dropped w.0 t h is))
+  -- ## Where one was looked for
+  pub caught_on : (f : Frame) (o : Option Tried) (b : Bool) (old new : List Frame) (h g : Held) → topped old ≡ Some f → is_some o ≡ true → o ≡ tried_of f → Leaves b old h new g
+      → (s : Scene) (c : List Item) (e : Data) → unwind s (control ns old) (standing c h) e ≡ caught_at ns o s e (control ns new) (standing c g)
+  caught_on f None b old new h g p t q w s c e = absurd (cc t)
+  caught_on f (Some n) b old new h g p t q w s c e = takes_on f n b old new h g p (sym q) w s c e
 
--- the task stands behind it as it stood at it
-pub takes_at : (ns : List Spot) (nodes : List Node) (f : Frame) (t : Tried) (b : Bool) (old new : List Frame) (h g : Held) → topped old ≡ Some f → tried_of f ≡ Some t → Leaves b old h new g → Fits ns nodes old → TriedAt ns nodes t new
-takes_at ns nodes f t false old new h g p q w fits = absurd (cc (sym p ∙ ap topped w.0))
-takes_at ns nodes f t true old new h g p q w fits =
-    let same : w.0 ≡ f = cc (sym (ap topped w.1) ∙ p) in
-    try_fits ns nodes w.0 t new (ap tried_of same ∙ q) (subst (Fits ns nodes) w.1 fits)
+  pub some_at : (nodes : List Node) (f : Frame) (o : Option Tried) (b : Bool) (old new : List Frame) (h g : Held) → topped old ≡ Some f → is_some o ≡ true → o ≡ tried_of f → Leaves b old h new g → Fits ns nodes old → IfSome o (λ t. TriedAt ns nodes t new)
+  some_at nodes f None b old new h g p t q w fits = absurd (cc t)
+  some_at nodes f (Some n) b old new h g p t q w fits = tried_at nodes f n b old new h g p (sym q) w fits
 
--- ## Where one was looked for
-pub caught_on : (ns : List Spot) (f : Frame) (o : Option Tried) (b : Bool) (old new : List Frame) (h g : Held) → topped old ≡ Some f → is_some o ≡ true → o ≡ tried_of f → Leaves b old h new g
-    → (s : Scene) (c : List Item) (e : Data) → unwind s (control ns old) (standing c h) e ≡ caught_at ns o s e (control ns new) (standing c g)
-caught_on ns f None b old new h g p t q w s c e = absurd (cc t)
-caught_on ns f (Some y) b old new h g p t q w s c e = takes_on ns f y b old new h g p (sym q) w s c e
+  pub caught_out : (fs : List Frame) (l : Local) → topped fs ≡ None → (s : Scene) (e : Data) → unwind s (control ns fs) l e ≡ caught_at ns None s e (control ns fs) l
+  caught_out [] l t s e = refl
+  caught_out (f ∷ fs) l t s e = absurd (cc t)
 
-pub some_at : (ns : List Spot) (nodes : List Node) (f : Frame) (o : Option Tried) (b : Bool) (old new : List Frame) (h g : Held) → topped old ≡ Some f → is_some o ≡ true → o ≡ tried_of f → Leaves b old h new g → Fits ns nodes old → IfSome o (λ t. TriedAt ns nodes t new)
-some_at ns nodes f None b old new h g p t q w fits = absurd (cc t)
-some_at ns nodes f (Some y) b old new h g p t q w fits = takes_at ns nodes f y b old new h g p (sym q) w fits
-
+-- ## The steps that take the error
 module _ (ns : List Spot) (nodes : List Node) (t : Tells ns nodes) where
-  -- the `try` of a node
-  pub try_is : (n : ℕ) (y : TryNode) → IsTry nodes n y → try_at ns n ≡ try (part_body (part_at ns y.body)) (policy_option_view y.policy) (except_of ns (handler_view y.except))
+  pub try_is : (n : ℕ) (y : TryNode) → IsTry nodes n y → body_try (part_body (part_at ns n)) ≡ try (part_body (part_at ns y.body)) (policy_option_view y.policy) (except_of ns (handler_view y.except))
   try_is n y h = ap body_try (tried_body ns nodes n y t.resolves h)
 
-  pub policy_is : (n : ℕ) (y : TryNode) → IsTry nodes n y → policy_of (try_at ns n) ≡ policy_option_view y.policy
-  policy_is n y h = ap policy_of (try_is n y h)
-
-  -- one that takes no errors lets them pass
-  pub handled_past : (n : ℕ) (y : TryNode) → IsTry nodes n y → y.except ≡ None → (s : Scene) (e : Data) (k : List Item) (l : Local) (f : Data → Moved) → handled s e (try_at ns n) k l f ≡ f e
-  handled_past n y h none s e k l f = ap (λ z. handled s e z k l f) (try_is n y h ∙ ap (λ x. try (part_body (part_at ns y.body)) (policy_option_view y.policy) (except_of ns (handler_view x))) none)
-
-  -- ## The steps that take the error
   module _ (n : ℕ) (y : Handler nodes n) where
     handler_try : body_try (part_body (part_at ns n)) ≡ try (part_body (part_at ns y.tried.body)) (policy_option_view y.tried.policy) (except y.except.name (steps_by ns y.except.block.steps.items))
     handler_try = try_is n y.tried y.is ∙ ap (λ x. try (part_body (part_at ns y.tried.body)) (policy_option_view y.tried.policy) (except_of ns (handler_view x))) y.has
@@ -176,11 +145,16 @@ module _ (ns : List Spot) (nodes : List Node) (t : Tells ns nodes) where
 pub handler_owned : (p q n layer : ℕ) (old mid new : List Frame) → mid ≡ frame.Mark layer ∷ old → new ≡ frame.Do n 0 ∷ mid → q ≡ p → owned q new ≡ own layer false ∷ owned p old
 handler_owned p q n layer old mid new m e same = ap (λ (k : ℕ). owned k new) same ∙ ap (owned p) (e ∙ ap (λ fs. frame.Do n 0 ∷ fs) m)
 
+-- without them the error goes on
+pub handled_past : (ns : List Spot) (nodes : List Node) (t : Tells ns nodes) (n : ℕ) (y : TryNode) → IsTry nodes n y → y.except ≡ None → (s : Scene) (e : Data) (k : List Item) (l : Local) (f : Data → Moved) → handled s e (body_try (part_body (part_at ns n))) k l f ≡ f e
+handled_past ns nodes t n y h none s e k l f =
+    ap (λ z. handled s e z k l f) (try_is ns nodes t n y h ∙ ap (λ x. try (part_body (part_at ns y.body)) (policy_option_view y.policy) (except_of ns (handler_view x))) none)
+
 -- ## Fewer frames
 pub fewer_by : (b : Bool) (f : Frame) (old new : List Frame) (h g : Held) → topped old ≡ Some f → Leaves b old h new g → length new < length old
 fewer_by false f old new h g p w = absurd (cc (sym p ∙ ap topped w.0))
 fewer_by true f old new h g p w = let e = ap length w.1 in omega (arith, e)
 
-pub some_fewer : (o : Option Tried) (new old start : List Frame) → length new < length old → length old ≤ length start → IfSome o (λ t. length new < length start)
+pub some_fewer : (o : Option Tried) (new old start : List Frame) → length new < length old → length old ≤ length start → IfSome o (λ n. length new < length start)
 some_fewer None new old start h k = tt
-some_fewer (Some t) new old start h k = omega (arith, h, k)
+some_fewer (Some n) new old start h k = omega (arith, h, k)

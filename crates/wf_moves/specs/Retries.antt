@@ -6,8 +6,6 @@
 use Rattle.std.specs.Prelude.{◌≡◌, ◌≤◌, ℕ, Bool, true, false, List, [], ◌∷◌, slice_get, Some, None, Option}
 use Rattle.wf_ast.specs.Flows.{flow}
 use Rattle.wf_ast.specs.Tree.{TryBody}
-use Rattle.wf_ast.specs.declared.policy.Policy.{Policy}
-use Rattle.wf_ast.specs.declared.policy.Predicate.TheVariants as predicate
 use Rattle.wf_frames.specs.Fits.{IsTry, reach}
 use Rattle.wf_frames.specs.Frames.{body_try, control, inner}
 use Rattle.wf_frames.specs.Held.{Held, standing}
@@ -104,9 +102,9 @@ abbrev pub verdict_of : model.Judgement → Verdict
 verdict_of (Says b) = verdict_said b
 verdict_of (Asks f) = verdict.Asks
 
--- the workflow of this predicate stands at the number of its `try`
-abbrev pub Asked : Around → List Node → List Target → ℕ → Type 0
-Asked a nodes targets n = (t : TryNode) × (p : Policy) × (f : Text) × IsTry nodes n t × (t.policy ≡ Some p) × (p.predicate ≡ predicate.Flow f) × IsAsked a.flows a.spots (slice_get targets n) f
+-- the policy asks a workflow about an error, and it stands at the number of the `try`
+abbrev pub Asked : Around → List Target → Tried → Data → Type 0
+Asked a targets t e = (f : Text) × (judged (policy_of (try_at a.spots t.node)) t.tries e ≡ Asks f) × IsAsked a.flows a.spots (slice_get targets t.node) f
 
 -- ## Where a move leads
 -- the model's move, by what a call gives and leaves

@@ -1,15 +1,14 @@
 // What a `try` does with an error: the policy decides.
 ghost use Rattle.std.specs.Prelude.{◌≡◌, ◌≤◌, ℕ, IfOk, OnOk, true};
 ghost use Rattle.wf_ast.specs.View.{policy_option_view};
-ghost use Rattle.wf_frames.specs.Frames.{body_try, inner};
+ghost use Rattle.wf_frames.specs.Frames.{inner};
 ghost use Rattle.wf_frames.specs.Owned.{Around, control_of, held_by};
 ghost use Rattle.wf_frames.specs.Stands.{Stands};
 ghost use Rattle.wf_model.specs.Move.{retries};
-ghost use Rattle.wf_model.specs.Unwind.{asks, decided, judged, retried, unwind};
-ghost use Rattle.wf_ast.specs.Flows.{flow};
+ghost use Rattle.wf_model.specs.Unwind.{judged};
 ghost use Rattle.wf_moves.specs.Moved.{IsLeft, MovesBy};
-ghost use Rattle.wf_moves.specs.Retries.{Asked, DecidesBy, IsDecidedSo, IsLedSo, LeadsBy, Rests, TriedAt, ask_at, decide_at, is_at_try, retry_at, verdict_of, verdict_said};
-ghost use Rattle.wf_nodes.specs.Spots.{part_at, part_body};
+ghost use Rattle.wf_moves.specs.Retries.{DecidesBy, Asked, IsDecidedSo, IsLedSo, LeadsBy, Rests, TriedAt, ask_at, decide_at, retry_at, verdict_of, verdict_said};
+ghost use Rattle.wf_moves.specs.Waits.{is_at_try};
 ghost use Rattle.wf_steps.specs.Built.{AreTargets, Tells};
 ghost use Rattle.wf_value.specs.Data.{depth};
 ghost use Rattle.wf_value.specs.Plain.{plain};
@@ -141,7 +140,7 @@ fn ask(
 ) -> Result<Decided, OutOfMemory>
     ghost around: { Around }
     requires tells { Tells around.spots nodes.now }
-    requires asked { Asked around nodes.now targets.now tried.node }
+    requires asked { Asked around targets.now tried (plain error) }
     requires stands { Stands around nodes.now frames.old scopes.old }
     requires at { TriedAt around.spots nodes.now tried (inner frames.old) }
     requires shallow { depth (plain error) ≤ 100 }
@@ -156,10 +155,12 @@ fn ask(
     let Target::Flow(flow) = target else {
         unreachable!()
     };
-    let [param] = params(nodes, *flow) else {
+    let params = params(nodes, *flow);
+    if params.len() != 1 {
         // No program is accepted that asks another workflow.
         return Ok(Decided::Led(lead_on(frames, nodes, scopes)));
-    };
+    }
+    let param = &params[0];
     if frames.calls() >= CALL_LIMIT {
         return Ok(Decided::Raises(map_of(alloc, Tag::RecursionError)?));
     }

@@ -5,7 +5,7 @@
 use Rattle.std.specs.Prelude.{◌≡◌, ℕ, Bool, true, false, not, List, map, option_map, slice_get, is_some, Some, None, Option}
 use Rattle.std.specs.List.{list_all}
 use Rattle.wf_ast.specs.Flows.{flow}
-use Rattle.wf_ast.specs.Func.{Listing, Special, SysSleep, SysSleepUntil, func_named, special_named}
+use Rattle.wf_ast.specs.Func.{Listing, Special, SpecialListing, SysSleep, SysSleepUntil, func_named, special_named}
 use Rattle.wf_ast.specs.Tree.{Flow}
 use Rattle.wf_ast.specs.declared.Func.{Func}
 use Rattle.wf_ast.specs.declared.policy.Policy.{Policy}
@@ -79,6 +79,11 @@ pub record IsHttp (fs : List Flow) (m : Option Method) (x : Text) : Type 0 where
 abbrev pub nap_special : Nap → Special
 nap_special nap.For = SysSleep
 nap_special nap.Until = SysSleepUntil
+
+-- a function of call steps is a sleep
+abbrev pub is_sleep : Option SpecialListing → Bool
+is_sleep None = false
+is_sleep (Some g) = elim g.special [ SysSleep ↦ true | SysSleepUntil ↦ true | x ↦ false ]
 
 -- nor has a workflow nor a function of expressions this name, but this sleep
 pub record IsNap (fs : List Flow) (b : Nap) (x : Text) : Type 0 where

@@ -1,9 +1,9 @@
 // What the calls of a program come to.
-ghost use Rattle.std.specs.Prelude.{◌≡◌, IfSome, Some, option_map};
+ghost use Rattle.std.specs.Prelude.{◌≡◌, IfSome, None, Some, false, option_map};
 ghost use Rattle.wf_ast.specs.Func.{special_named};
 ghost use Rattle.wf_callbacks.specs.Plain.{plain_method};
 ghost use Rattle.wf_model.specs.Calls.{http_method};
-ghost use Rattle.wf_steps.specs.Built.{nap_special};
+ghost use Rattle.wf_steps.specs.Built.{is_sleep, nap_special};
 
 use wf_callbacks::Method;
 use wf_library::Function;
@@ -25,10 +25,11 @@ pub enum Target {
     Sleeps(Nap),
 }
 
-/// The sleep of a name.
+/// The sleep of a name; none where the name is that of no sleep.
 pub fn nap_named(name: &str) -> Option<Nap>
-    ensures { IfSome result (λ b. option_map (λ e. e.special) (special_named name.now)
+    ensures named { IfSome result (λ b. option_map (λ e. e.special) (special_named name.now)
         ≡ Some (nap_special b)) }
+    ensures none { result ≡ None → is_sleep (special_named name.now) ≡ false }
 {
     match name {
         "sys.sleep" => Some(Nap::For),

@@ -6,7 +6,7 @@ use Rattle.wf_eval.specs.Answers.{Answers}
 use Rattle.wf_eval.specs.Sight.{seen}
 use Rattle.wf_frames.specs.Frames.{inner}
 use Rattle.wf_frames.specs.Owned.{beside, control_of, held_by, local_of}
-use Rattle.wf_moves.proofs.Raising.{raised, raised_left}
+use Rattle.wf_moves.proofs.Raised.{raised, raised_left}
 use Rattle.wf_value.specs.Errors.{error_map}
 use Rattle.wf_frames.specs.Sights.{sight_of}
 use Rattle.wf_model.specs.Move.{assigns}

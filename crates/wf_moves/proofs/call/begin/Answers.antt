@@ -8,7 +8,7 @@ use Rattle.wf_frames.specs.Turns.{Enters, with_own}
 use Rattle.wf_frames.specs.declared.frames.Frame.TheVariants as frame
 use Rattle.wf_model.specs.Local.{goes}
 use Rattle.wf_moves.proofs.Calling.{call_deep, call_entered, call_fits, call_owned, call_refused, flow_part_at, flow_steps}
-use Rattle.wf_moves.proofs.Raising.{raised, raised_left}
+use Rattle.wf_moves.proofs.Raised.{raised, raised_left}
 use Rattle.wf_moves.specs.Moved.{IsMove}
 use Rattle.wf_moves.specs.Tasks.{flow_at}
 use Rattle.wf_nodes.specs.Spots.{part_at, part_body}

@@ -4,7 +4,7 @@ use Rattle.wf_ast.specs.Apply.{View}
 use Rattle.wf_ast.specs.Flows.{flow}
 use Rattle.wf_frames.specs.Frames.{body_result, inner}
 use Rattle.wf_frames.specs.Owned.{beside, control_of, held_by, local_of}
-use Rattle.wf_moves.proofs.Raising.{raised, raised_left}
+use Rattle.wf_moves.proofs.Raised.{raised, raised_left}
 use Rattle.wf_value.specs.Errors.{error_map}
 use Rattle.wf_eval.specs.Answers.{Gives}
 use Rattle.wf_model.specs.Layers.{view}

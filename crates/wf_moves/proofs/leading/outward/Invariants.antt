@@ -1,12 +1,10 @@
 use Rattle.std.proofs.Common.{◌≡◌, ◌≤◌, List, length}
-use Rattle.std.specs.Prelude.{◌⊎◌}
-use Rattle.wf_ast.specs.Accept.{Kind}
 use Rattle.wf_frames.specs.Frames.{inner}
 use Rattle.wf_frames.specs.Owned.{beside, control_of}
 use Rattle.wf_frames.specs.Stands.{Stands}
 use Rattle.wf_frames.specs.Turns.{Agrees}
 use Rattle.wf_model.specs.Config.{Item}
-use Rattle.wf_model.specs.Local.{Breaks, Scene}
+use Rattle.wf_model.specs.Local.{Scene}
 use Rattle.wf_model.specs.Unwind.{unwind}
 use Rattle.wf_steps.specs.Steps.{IsOrBreaks}
 use Rattle.wf_value.specs.Data.{depth}

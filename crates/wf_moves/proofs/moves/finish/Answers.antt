@@ -3,7 +3,7 @@ use Rattle.wf_frames.specs.Frames.{inner}
 use Rattle.wf_frames.specs.Held.{standing}
 use Rattle.wf_frames.specs.Owned.{beside, control_of, held_by, local_of}
 use Rattle.wf_model.specs.Leave.{raises}
-use Rattle.wf_moves.proofs.Raising.{raised_so}
+use Rattle.wf_moves.proofs.Raised.{raised_so}
 use Rattle.wf_moves.specs.declared.finish.Went.TheVariants as went
 use Rattle.wf_value.specs.Plain.{plain}
 use Rattle.wf_moves.specs.Moved.{IsMove}

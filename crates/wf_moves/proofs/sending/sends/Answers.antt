@@ -3,7 +3,7 @@ use Rattle.std.specs.Prelude.{suc}
 use Rattle.wf_eval.specs.Answers.{Answers}
 use Rattle.wf_frames.specs.Frames.{inner}
 use Rattle.wf_frames.specs.Owned.{control_of, held_by, local_of}
-use Rattle.wf_moves.proofs.Raising.{raised, raised_left}
+use Rattle.wf_moves.proofs.Raised.{raised, raised_left}
 use Rattle.wf_moves.proofs.Requesting.{request_failed, request_sent}
 use Rattle.wf_value.specs.Errors.{error_map}
 use Rattle.wf_moves.specs.Requests.{request_by, sent_view}

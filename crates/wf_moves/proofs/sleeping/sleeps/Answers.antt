@@ -3,8 +3,8 @@ use Rattle.wf_ast.specs.Tree.{Flow}
 use Rattle.wf_eval.specs.Answers.{Answers}
 use Rattle.wf_frames.specs.Frames.{inner}
 use Rattle.wf_frames.specs.Owned.{control_of, held_by, local_of}
-use Rattle.wf_moves.proofs.Raising.{raised, raised_left}
-use Rattle.wf_moves.proofs.Sleeping.{nap_done, sleep_fails, sleeps_so}
+use Rattle.wf_moves.proofs.Raised.{raised, raised_left}
+use Rattle.wf_moves.proofs.Sleeps.{nap_done, sleep_fails, sleeps_so}
 use Rattle.wf_moves.specs.Naps.{nap_due}
 use Rattle.wf_moves.specs.declared.finish.Done.TheVariants as done
 use Rattle.wf_moves.specs.declared.wait.Wait.TheVariants as wait

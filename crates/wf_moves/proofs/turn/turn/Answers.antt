@@ -9,7 +9,7 @@ use Rattle.wf_frames.specs.declared.frames.Left.{Left}
 use Rattle.wf_model.specs.Config.{next_of}
 use Rattle.wf_model.specs.Local.{goes}
 use Rattle.wf_steps.proofs.Performed.{with_ok}
-use Rattle.wf_moves.proofs.Raising.{raised, raised_left}
+use Rattle.wf_moves.proofs.Raised.{raised, raised_left}
 use Rattle.wf_moves.proofs.Turning.{turn_entered, turn_fits, turn_owned, turn_refused}
 use Rattle.wf_moves.specs.Moved.{IsMove}
 use Rattle.wf_scope.specs.Store.{layers_of}

@@ -2,17 +2,14 @@ use Rattle.std.proofs.Common.{refl}
 use Rattle.wf_frames.specs.Owned.{beside, control_of}
 use Rattle.wf_model.specs.Unwind.{unwind}
 use Rattle.wf_moves.proofs.Unwinding.{handled_past}
+use Rattle.wf_moves.specs.Retries.{Handler}
 use Rattle.wf_value.specs.Plain.{plain}
 use Rattle.wf_moves.proofs.unwind.take.Goals as goal
 
 pub handle-requires : goal.handle-requires
-handle-requires g c = (
-  c.requires.0,
-  (
-    c.requires.1.0,
-    ((record { tried = c.try_node-tried.result.now; except = c.in-Some.except; is = c.try_node-tried.ensures; has = c.in-Some.is }, refl), c.requires.1.1.1.0),
-  ),
-)
+handle-requires g c =
+    let h : Handler c.args.nodes.now c.args.n = record { tried = c.try_node-tried.result.now; except = c.in-Some.except; is = c.try_node-tried.ensures; has = c.in-Some.is } in
+    (c.requires.0, (c.requires.1.0, ((h, refl), c.requires.1.1.1.0)))
 
 pub returns-in-None-clause-moved : goal.returns-in-None-clause-moved
 returns-in-None-clause-moved g c s d agrees =

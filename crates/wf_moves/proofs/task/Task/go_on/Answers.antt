@@ -3,7 +3,7 @@ use Rattle.std.specs.Prelude.{Option, Result}
 use Rattle.wf_frames.specs.Frames.{inner, result_of}
 use Rattle.wf_frames.specs.Owned.{control_of, held_by, local_of}
 use Rattle.wf_model.specs.Leave.{handed, raises}
-use Rattle.wf_moves.proofs.Raising.{raised_so}
+use Rattle.wf_moves.proofs.Raised.{raised_so}
 use Rattle.wf_moves.specs.Tasks.{MovesSo}
 use Rattle.wf_moves.specs.Waits.{GoesFrom, answer_view, result_in, task_local}
 use Rattle.wf_steps.proofs.Performed.{with_ok}
