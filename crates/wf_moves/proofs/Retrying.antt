@@ -385,6 +385,17 @@ judge_left ns f n r d v m true old new h g t is w s c says =
     ap (λ fs. returns s (boolean says) (control ns fs) (standing c h)) (w.1 ∙ ap (λ y. y ∷ new) judge)
     ∙ ap (λ l. answered s (boolean says) (try_at ns n) r d (plain v) (control ns new) l) (stands_on (frame.Judge n r d v m) c h ∙ ap (standing c) (sym (w.2 ∙ ap (λ y. dropped y h) judge)))
 
+pub judge_yes : (ns : List Spot) (f : Frame) (n r : ℕ) (d : Option ℕ) (v : Value) (m : ℕ) (b : Bool) (old new : List Frame) (h g : Held) → topped old ≡ Some f → f ≡ frame.Judge n r d v m → Leaves b old h new g
+    → (s : Scene) (c : List Item) (says : Bool) → says ≡ true → returns s (boolean says) (control ns old) (standing c h) ≡ retried s (try_at ns n) r d (control ns new) (standing c g)
+judge_yes ns f n r d v m b old new h g t is w s c says true_is =
+    judge_left ns f n r d v m b old new h g t is w s c says ∙ ap (λ (y : Bool). answered s (boolean y) (try_at ns n) r d (plain v) (control ns new) (standing c g)) true_is
+
+pub judge_no : (ns : List Spot) (f : Frame) (n r : ℕ) (d : Option ℕ) (v : Value) (m : ℕ) (b : Bool) (old new : List Frame) (h g : Held) → topped old ≡ Some f → f ≡ frame.Judge n r d v m → Leaves b old h new g
+    → (s : Scene) (c : List Item) (says : Bool) → says ≡ false → (u : Value) → u ≡ v → returns s (boolean says) (control ns old) (standing c h) ≡ handled s (plain u) (try_at ns n) (control ns new) (standing c g) (unwind s (control ns new) (standing c g))
+judge_no ns f n r d v m b old new h g t is w s c says false_is u same =
+    judge_left ns f n r d v m b old new h g t is w s c says ∙ ap (λ (y : Bool). answered s (boolean y) (try_at ns n) r d (plain v) (control ns new) (standing c g)) false_is
+    ∙ ap (λ (y : Value). handled s (plain y) (try_at ns n) (control ns new) (standing c g) (unwind s (control ns new) (standing c g))) (sym same)
+
 -- the task stands behind it as it stood at its `try`, and the error nests within the limit
 pub record Judged (ns : List Spot) (nodes : List Node) (t : Tried) (v : Value) (fs : List Frame) : Type 0 where
   pub at : TriedAt ns nodes t fs

@@ -121,17 +121,14 @@ module _ (ns : List Spot) (s : Scene) (v : Data) where
   judged_on f (frame.Back c m ∷ fs) d h g w t judge says = let same : frame.Back c m ≡ f = cc t in absurd (cc (ap is_judge same ∙ judge))
   judged_on f (frame.Judge n r q e m ∷ fs) d h g w t judge says = by v says
     where
-      abbrev Here : List Item
-      Here = control ns (frame.Judge n r q e m ∷ fs)
-
-      by : (x : Data) → SaysSo x w → IsMove s (returned s x (standing d h) (back_found ns (frame.Judge n r q e m ∷ fs) (standing d g))) w (standing Here g)
-      by (boolean b) is = subst (λ y. IsMove s (returns s (boolean b) Here (standing d g)) y (standing Here g)) (sym is) (said_so s Here d g b (returns s (boolean b) Here (standing d g)) refl)
-      by null is = raised s Here d g (error_map TypeError) w is
-      by (integer i) is = raised s Here d g (error_map TypeError) w is
-      by (text x) is = raised s Here d g (error_map TypeError) w is
-      by (bytes x) is = raised s Here d g (error_map TypeError) w is
-      by (list x) is = raised s Here d g (error_map TypeError) w is
-      by (map x) is = raised s Here d g (error_map TypeError) w is
+      by : (x : Data) → SaysSo x w → IsMove s (returned s x (standing d h) (back_found ns (frame.Judge n r q e m ∷ fs) (standing d g))) w (standing (control ns (frame.Judge n r q e m ∷ fs)) g)
+      by (boolean b) is = subst (λ y. IsMove s (returns s (boolean b) (control ns (frame.Judge n r q e m ∷ fs)) (standing d g)) y (standing (control ns (frame.Judge n r q e m ∷ fs)) g)) (sym is) (said_so s (control ns (frame.Judge n r q e m ∷ fs)) d g b (returns s (boolean b) (control ns (frame.Judge n r q e m ∷ fs)) (standing d g)) refl)
+      by null is = raised s (control ns (frame.Judge n r q e m ∷ fs)) d g (error_map TypeError) w is
+      by (integer i) is = raised s (control ns (frame.Judge n r q e m ∷ fs)) d g (error_map TypeError) w is
+      by (text x) is = raised s (control ns (frame.Judge n r q e m ∷ fs)) d g (error_map TypeError) w is
+      by (bytes x) is = raised s (control ns (frame.Judge n r q e m ∷ fs)) d g (error_map TypeError) w is
+      by (list x) is = raised s (control ns (frame.Judge n r q e m ∷ fs)) d g (error_map TypeError) w is
+      by (map x) is = raised s (control ns (frame.Judge n r q e m ∷ fs)) d g (error_map TypeError) w is
 
   -- without a call the task ends
   pub ends_with : (x : Value) (mid : List Frame) (d c : List Item) (h g : Held) → plain x ≡ v → topped mid ≡ None → depth v ≤ 100 → g.outside ≡ h.outside

@@ -10,10 +10,9 @@ use Rattle.wf_frames.specs.Turns.{Enters, with_own}
 use Rattle.wf_frames.specs.declared.frames.Frame.TheVariants as frame
 use Rattle.wf_model.specs.Local.{goes}
 use Rattle.wf_model.specs.Unwind.{unwind}
-use Rattle.wf_moves.proofs.Calling.{flow_steps}
 use Rattle.wf_moves.proofs.Retrying.{ask_fits, ask_other, ask_owned, asked_begun, asked_deep, asked_entered, asked_refused, breaks_led, one_long, one_param, params_are}
 use Rattle.wf_moves.specs.Retries.{IsLed, ask_at}
-use Rattle.wf_nodes.specs.Spots.{part_at}
+use Rattle.wf_nodes.specs.Spots.{part_list}
 use Rattle.wf_scope.specs.Store.{layers_of}
 use Rattle.wf_scope.specs.Tasks.{Own}
 use Rattle.wf_value.specs.Data.{Data}
@@ -88,7 +87,7 @@ returns-in_ok-push-in-Some-2-clause-moved g c last s d same agrees =
     in
     subst (λ x. IsLed g.around x c.lead_on-in-Some.result (local_of g.around c.lead_on-in-Some.new.frames c.lead_on-in-Some.new.scopes))
     (sym (asked_entered g.around c.args.tried (plain c.args.error) c.requires.1.0.0 c.requires.1.0.1 s agrees b.workflow b.named (param_view c.index-params-0.result) one fs d h c.args.error c.in-Flow.flow layer m new
-    (omega (arith, c.if-calls-ge-CALL_LIMIT.false, c.calls.ensures)) refl (flow_steps (part_at g.around.spots c.in-Flow.flow) b.workflow b.part)
+    (omega (arith, c.if-calls-ge-CALL_LIMIT.false, c.calls.ensures)) refl (ap part_list b.part)
     (subst (λ (xs : List (Text × Data)). Enters true s (Some layer) h xs m) bound entered)
     (c.in_ok-push-in-Some-2.ensures.pushed ∙ ap (λ gs. frame.Do c.in-Flow.flow 0 ∷ gs) c.in_ok-push-in-Some.ensures.pushed)))
     (subst (λ (os : List Own). IsLed g.around (goes (control g.around.spots new) (standing d (held_of g.around.keys os (layers_of c.enter_call.new.scopes)))) c.lead_on-in-Some.result (local_of g.around c.lead_on-in-Some.new.frames c.lead_on-in-Some.new.scopes)) owned_is (c.lead_on-in-Some.ensures.moved d))

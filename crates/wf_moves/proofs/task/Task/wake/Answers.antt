@@ -25,14 +25,14 @@ pub try_again-requires : goal.try_again-requires
 try_again-requires g c = (c.requires.0, (c.requires.1.1.0, subst (λ w. GoesFrom c.args.nodes.now w (inner c.args.self.now.frames)) c.in-Delay.is c.requires.1.1.1.0))
 
 pub follow-requires : goal.follow-requires
-follow-requires g c = (c.requires.0, (c.requires.1.0, (c.in_ok-went.ensures.stands, (c.in_ok-went.ensures.left, refl))))
+follow-requires g c = (c.requires.0, (c.requires.1.0, (c.in_ok-went-in-Delay.ensures.stands, (c.in_ok-went-in-Delay.ensures.left, refl))))
 
-pub returns-in-Delay-clause-moved : goal.returns-in-Delay-clause-moved
-returns-in-Delay-clause-moved g c =
+pub returns-in_ok-went-in-Delay-clause-moved : goal.returns-in_ok-went-in-Delay-clause-moved
+returns-in_ok-went-in-Delay-clause-moved g c =
     let l = local_of g.around c.args.self.now.frames c.args.scopes.now in
     let k = control_of g.around c.args.self.now.frames in
     with_ok _ _ c.follow.result
     (λ d h s sees agrees.
     subst (λ (w : Wait). MovesSo (due_by s (wait_view g.around w) (record l { wait = wait_view g.around w })) d (task_local g.around c.follow.new.self c.follow.new.scopes)) (sym c.in-Delay.is)
-    (h s (retries k l) sees agrees (c.in_ok-went.ensures.moved s k agrees)))
+    (h s (retries k l) sees agrees (c.in_ok-went-in-Delay.ensures.moved s k agrees)))
     c.follow.ensures.moved
