@@ -132,8 +132,10 @@ fn begin<H: Host>(
         (H.world host.new) result)) }
     ensures holds { Told (H.world host.old) (IfOk result (λ e. Holds e (H.world host.new))) }
     ensures open { IfOk result (λ e. is_closed e ≡ false) }
+    ensures waits { IfOk result (λ e. (memory e).waits ≡ 0) }
     ensures disk_fault { IsErrOf result EngineFault.DiskFault
         → DiskFailed H.faults host.old host.new }
+    ensures polls { ¬ IsErrOf result EngineFault.PollFault }
     ensures tells { TellsAsBefore H.world host.old host.new }
     ensures counts { NoCountFalls H.faults host.old host.new }
 {
@@ -263,11 +265,7 @@ pub(crate) fn run<S: Source, H: Host>(
 }
 
 /// Goes on with the execution of the journal to its outcome.
-pub(crate) fn resume<H: Host>(
-    alloc: Global,
-    line: &Line<'_>,
-    host: &mut H,
-) -> Result<Said, Silence>
+pub(crate) fn resume<H: Host>(alloc: Global, line: &Line<'_>, host: &mut H) -> Result<Said, Silence>
     requires command { (plain_line line.now).command ≡ Resume }
     ensures end { (words : List (List ℕ)) (rest : Rest) (reads reads2 : ℕ)
         → line_of words ≡ Ok (plain_line line.now)

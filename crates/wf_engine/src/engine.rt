@@ -1,5 +1,5 @@
 // The engine: an execution over a journal.
-ghost use Rattle.std.specs.Prelude.{◌≡◌, false};
+ghost use Rattle.std.specs.Prelude.{◌≡◌, ◌<◌, ◌^◌, false};
 ghost use Rattle.std.specs.Coded.{→_prop};
 ghost use Rattle.wf_engine.specs.Ready.{IsReady, IsReady-prop};
 
@@ -19,6 +19,14 @@ use wf_journal_laws::{laws_of_histories, laws_of_moments};
 use wf_machine::{Machine, Outcome, Steps};
 use wf_model::{laws_of_calls, laws_of_runs};
 use wf_source::each_source_is_one;
+
+/// Carries that the numbers of a turn have a spelling.
+fn numbers_fit(session: u64, waits: u64)
+    ensures session { session < 2 ^ 64 }
+    ensures waits { waits < 2 ^ 64 }
+{
+    let _ = (session, waits);
+}
 
 /// An execution over a journal: what stands in the file, the machine that it leads to, and the session that goes on from there.
 ///
@@ -297,6 +305,7 @@ impl Engine {
         laws_of_calls();
         laws_of_steps();
         one_spelling();
+        numbers_fit(self.session, self.waits);
         // until the turn has succeeded
         self.closed = true;
         let taken = self.taken.take();

@@ -40,15 +40,3 @@ returns-clause-any_moment g c = λ told.
     let mid = g.H.Host.world c.empty_history.new.host in
     then_begins w mid (g.H.Host.world c.begin.new.host) (record_bytes (Started (start_view c.args.start.now))) (c.empty_history.ensures.any_moment told)
     (c.begin.ensures.any_moment c.in_ok-history.ensures.open (tells_still w mid c.empty_history.ensures.tells told)) (c.in_ok-history.ensures.none told) (c.empty_history.ensures.deeds told)
-
-pub invariant_of-result-clause-ready : goal.invariant_of-result-clause-ready
-invariant_of-result-clause-ready g c = λ open_now.
-    let now = state_of c.in_ok-machine.machine in record {
-      not_closed = c.in_ok-begin.ensures.open;
-      begun = c.in_ok-begin.ensures.begun;
-      ended = c.in_ok-begin.ensures.still_ended;
-      whole = c.in_ok-machine.ensures.whole;
-      last = omega (arith, c.last_reading-reading.ensures);
-      calls = none_of_it c.new-connections.result now.config c.new-connections.ensures.started;
-      takable = nothing_taken now.config None refl;
-    }

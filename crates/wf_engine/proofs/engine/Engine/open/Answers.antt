@@ -183,15 +183,3 @@ returns-clause-steps g c = λ told.
     let mid = g.H.Host.world c.open.new.host in
     c.in_ok-machine.ensures.steps (tells_still w mid c.open.ensures.tells told)
     ∙ ap (λ J. c.args.steps.now + applied_by J) (c.in_ok-history.ensures.first told ∙ ap records (c.open.ensures.seen told))
-
-pub invariant_of-result-clause-ready : goal.invariant_of-result-clause-ready
-invariant_of-result-clause-ready g c = λ open_now.
-    let now = state_of c.in_ok-machine.machine in record {
-      not_closed = c.in_ok-machine.ensures.still_open;
-      begun = c.last_machine.ensures.new ∙ sym c.in_ok-history.ensures.fresh_end ∙ sym c.if-at_end.ensures;
-      ended = c.in_ok-machine.ensures.ended;
-      whole = c.in_ok-machine.ensures.whole;
-      last = c.in_ok-reading.ensures.last;
-      calls = none_of_it c.new-connections.result now.config c.new-connections.ensures.started;
-      takable = nothing_taken now.config None refl;
-    }

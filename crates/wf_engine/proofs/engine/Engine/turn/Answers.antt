@@ -1,4 +1,4 @@
-use Rattle.std.proofs.Common.{◌≤◌, ◌<◌, ◌^◌, ◌+◌, length, ap, ◌∙◌, arith, refl, sym, [], ◌≡◌}
+use Rattle.std.proofs.Common.{◌≤◌, ◌<◌, ◌^◌, ◌+◌, length, ap, ◌∙◌, refl, sym, List, [], ◌∷◌, ◌++◌, ◌≡◌}
 use Rattle.std.specs.Prelude.{None, Option}
 use Rattle.wf_deeds.specs.Memory.{Memory}
 use Rattle.wf_deeds.specs.Turns.{turn_of}
@@ -12,8 +12,14 @@ use Rattle.wf_engine.specs.Taken.{taken_event}
 use Rattle.wf_engine.specs.TheLanguage.{the_language}
 use Rattle.wf_engine.specs.declared.taken.Taken.{Taken}
 use Rattle.wf_events.specs.View.{events_view}
+use Rattle.wf_journal.specs.Records.{records}
 use Rattle.wf_machine.specs.Counts.{counts_of}
 use Rattle.wf_machine.specs.Seen.{state_of}
+
+-- a list to which something was added
+added_some : {A : Type 0} (xs : List A) (x : A) → xs ++ x ∷ [] ≡ [] → ⊥
+added_some [] x is = cc is
+added_some (y ∷ xs) x is = cc is
 
 -- what was taken waits still
 pub choose_turn-requires-clause-takable : goal.choose_turn-requires-clause-takable
@@ -68,8 +74,8 @@ returns-in_err-add-clause-any_moment g c = λ O open_now told command handed D s
     let chosen = λ (o : Option Taken). turn_of m.program m.config m.reading (taken_event m.reading o) in
     let is : Choice m es now.config = record { turn = c.in_ok-events.ensures.turn ∙ ap chosen c.take-taken.ensures.value; leads = c.in_ok-events.ensures.leads } in
     let some : 1 ≤ length es = some_of es c.items.result.now c.items.ensures.view c.if-is_empty.ensures in
-    let number : m.session < 2 ^ 64 = omega arith in
-    let waits : m.waits < 2 ^ 64 = omega arith in
+    let number : m.session < 2 ^ 64 = c.numbers_fit.ensures.session in
+    let waits : m.waits < 2 ^ 64 = c.numbers_fit.ensures.waits in
     turn_adds the_language O c.args.self.now.history w command handed D (λ i d left. g.met.H.Host.only_now c.args.host.now i d told left) (c.requires.kept open_now told).0 (c.args.self.now.ready open_now).begun laws (g.H.Host.world c.add.new.host) m now.config es s is
     (not_none es some) (is_spelled m es number waits c.in_ok-events.ensures.spelled some c.in_ok-events.ensures.short) (c.add.ensures.any_moment (c.args.self.now.ready open_now).not_closed told)
 
@@ -84,8 +90,8 @@ returns-clause-any_moment g c = λ O open_now told command handed D s.
     let chosen = λ (o : Option Taken). turn_of m.program m.config m.reading (taken_event m.reading o) in
     let is : Choice m es now.config = record { turn = c.in_ok-events.ensures.turn ∙ ap chosen c.take-taken.ensures.value; leads = c.in_ok-events.ensures.leads } in
     let some : 1 ≤ length es = some_of es c.items.result.now c.items.ensures.view c.if-is_empty.ensures in
-    let number : m.session < 2 ^ 64 = omega arith in
-    let waits : m.waits < 2 ^ 64 = omega arith in
+    let number : m.session < 2 ^ 64 = c.numbers_fit.ensures.session in
+    let waits : m.waits < 2 ^ 64 = c.numbers_fit.ensures.waits in
     turn_adds the_language O c.args.self.now.history w command handed D (λ i d left. g.met.H.Host.only_now c.args.host.now i d told left) (c.requires.kept open_now told).0 (c.args.self.now.ready open_now).begun laws (g.H.Host.world c.add.new.host) m now.config es s is
     (not_none es some) (is_spelled m es number waits c.in_ok-events.ensures.spelled some c.in_ok-events.ensures.short) (c.add.ensures.any_moment (c.args.self.now.ready open_now).not_closed told)
 
@@ -98,8 +104,8 @@ returns-clause-adds g c = λ O told.
     let chosen = λ (o : Option Taken). turn_of m.program m.config m.reading (taken_event m.reading o) in
     let is : Choice m es now.config = record { turn = c.in_ok-events.ensures.turn ∙ ap chosen c.take-taken.ensures.value; leads = c.in_ok-events.ensures.leads } in
     let some : 1 ≤ length es = some_of es c.items.result.now c.items.ensures.view c.if-is_empty.ensures in
-    let number : m.session < 2 ^ 64 = omega arith in
-    let waits : m.waits < 2 ^ 64 = omega arith in
+    let number : m.session < 2 ^ 64 = c.numbers_fit.ensures.session in
+    let waits : m.waits < 2 ^ 64 = c.numbers_fit.ensures.waits in
     added the_language O m now.program now.config (taken_event m.reading c.take-taken.new.self) es c.in_ok-events.ensures.program (ap (taken_event m.reading) c.take-taken.ensures.after) refl is (g.H.Host.world c.args.host.now) (g.H.Host.world c.add.new.host)
     laws (not_none es some) (is_spelled m es number waits c.in_ok-events.ensures.spelled some c.in_ok-events.ensures.short) (c.in_ok-add.ensures.added told) (c.add.ensures.deeds told)
 
@@ -116,31 +122,25 @@ returns-clause-counted g c =
     let chosen = λ (o : Option Taken). turn_of m.program m.config m.reading (taken_event m.reading o) in
     c.in_ok-events.ensures.counted ∙ ap (λ l. m.config.moves + counts_of l) (c.in_ok-events.ensures.turn ∙ ap chosen c.take-taken.ensures.value)
 
--- it can go on
-pub invariant_of-self-then-is_empty-clause-ready : goal.invariant_of-self-then-is_empty-clause-ready
-invariant_of-self-then-is_empty-clause-ready g c = λ open_now.
-    let was = c.args.self.now.ready c.if-self.false in
-    let old = state_of c.args.self.now.machine in
-    let now = state_of c.choose_turn.new.machine in record {
-      not_closed = was.not_closed;
-      begun = was.begun;
-      ended = was.ended;
-      whole = c.in_ok-events.ensures.whole;
-      last = c.in_ok-events.ensures.last;
-      calls = still_of c.laws_of_calls.ensures.calls_go_on c.args.self.now.connections old.program old.config now.config (events_view c.in_ok-events.events) was.calls c.in_ok-events.ensures.leads;
-      takable = nothing_taken now.config c.take-taken.new.self c.take-taken.ensures.after;
-    }
+pub returns-clause-holds : goal.returns-clause-holds
+returns-clause-holds g c = λ open_now told. (
+  c.add.ensures.stands c.in_ok-add.ensures.open told,
+  λ none. added_some (records (g.H.Host.world c.args.host.now).seen) _ (sym (c.in_ok-add.ensures.added told) ∙ none),
+)
 
-pub invariant_of-self-clause-ready : goal.invariant_of-self-clause-ready
-invariant_of-self-clause-ready g c = λ open_now.
-    let was = c.args.self.now.ready c.if-self.false in
-    let old = state_of c.args.self.now.machine in
-    let now = state_of c.choose_turn.new.machine in record {
-      not_closed = c.in_ok-add.ensures.open;
-      begun = c.add.ensures.still_begun;
-      ended = c.add.ensures.still_ended;
-      whole = c.in_ok-events.ensures.whole;
-      last = c.in_ok-events.ensures.last;
-      calls = still_of c.laws_of_calls.ensures.calls_go_on c.args.self.now.connections old.program old.config now.config (events_view c.in_ok-events.events) was.calls c.in_ok-events.ensures.leads;
-      takable = nothing_taken now.config c.take-taken.new.self c.take-taken.ensures.after;
-    }
+-- it can go on
+pub invariant_of-self-2 : goal.invariant_of-self-2
+invariant_of-self-2 g c = record {
+  ready = λ open_now.
+      let was = c.args.self.now.ready c.if-self.false in
+      let old = state_of c.args.self.now.machine in
+      let now = state_of c.choose_turn.new.machine in record {
+        not_closed = c.in_ok-add.ensures.open;
+        begun = c.add.ensures.still_begun;
+        ended = c.add.ensures.still_ended;
+        whole = c.in_ok-events.ensures.whole;
+        last = c.in_ok-events.ensures.last;
+        calls = still_of c.laws_of_calls.ensures.calls_go_on c.args.self.now.connections old.program old.config now.config (events_view c.in_ok-events.events) was.calls c.in_ok-events.ensures.leads;
+        takable = nothing_taken now.config c.take-taken.new.self c.take-taken.ensures.after;
+      };
+}
