@@ -108,7 +108,7 @@ module _ (a : Around) (nodes : List Node) (tells : Tells a.spots nodes) (r : Tri
       → retry_at a.spots r s k l ≡ waits (Delay (later s.last (next_delay p.backoff r.delay))) (Try (try_at a.spots r.node) (suc r.tries) (Some (next_delay p.backoff r.delay)) ∷ k) l
   retry_some p e s k l = (
       let some : try_at a.spots r.node ≡ try (part_body (part_at a.spots y.body)) (Some (policy_view p)) (except_of a.spots (handler_view y.except)) =
-          retry_is ∙ ap (λ q. try (part_body (part_at a.spots y.body)) (policy_option_view q) (except_of a.spots (handler_view y.except))) e
+      retry_is ∙ ap (λ q. try (part_body (part_at a.spots y.body)) (policy_option_view q) (except_of a.spots (handler_view y.except))) e
       in
       ap (λ z. retried s z r.tries r.delay k l) some
       ∙ ap (λ z. waits (Delay (later s.last (next_delay p.backoff r.delay))) (Try z (suc r.tries) (Some (next_delay p.backoff r.delay)) ∷ k) l) (sym some)
@@ -122,13 +122,13 @@ module _ (a : Around) (nodes : List Node) (tells : Tells a.spots nodes) (r : Tri
       let o : held_by a gs x ≡ held_by a fs x = same_held a fs gs (frame.Try r.node tries (Some delay)) x pushed first refl in
       let l = standing c (held_by a fs x) in
       let step : retry_at a.spots r s (control_of a fs) (standing c (held_by a fs x)) ≡ Goes (record (local_of a gs x) { wait = Delay due }) =
-          retry_some p e s (control_of a fs) l
-          ∙ ap (λ (d : ℕ). waits (Delay (later s.last d)) (Try (try_at a.spots r.node) (suc r.tries) (Some d) ∷ control_of a fs) l) (sym delay_is)
-          ∙ ap (λ (n : ℕ). waits (Delay (later n delay)) (Try (try_at a.spots r.node) (suc r.tries) (Some delay) ∷ control_of a fs) l) same
-          ∙ ap (λ (u : ℕ). waits (Delay u) (Try (try_at a.spots r.node) (suc r.tries) (Some delay) ∷ control_of a fs) l) (sym due_is)
-          ∙ ap (λ (n : ℕ). waits (Delay due) (Try (try_at a.spots r.node) n (Some delay) ∷ control_of a fs) l) (sym tries_is)
-          ∙ ap (λ (z : List Item). Goes (record (standing z (held_by a fs x)) { wait = Delay due })) (sym k)
-          ∙ ap (λ (z : Held). Goes (record (standing (control_of a gs) z) { wait = Delay due })) (sym o)
+      retry_some p e s (control_of a fs) l
+      ∙ ap (λ (d : ℕ). waits (Delay (later s.last d)) (Try (try_at a.spots r.node) (suc r.tries) (Some d) ∷ control_of a fs) l) (sym delay_is)
+      ∙ ap (λ (n : ℕ). waits (Delay (later n delay)) (Try (try_at a.spots r.node) (suc r.tries) (Some delay) ∷ control_of a fs) l) same
+      ∙ ap (λ (u : ℕ). waits (Delay u) (Try (try_at a.spots r.node) (suc r.tries) (Some delay) ∷ control_of a fs) l) (sym due_is)
+      ∙ ap (λ (n : ℕ). waits (Delay due) (Try (try_at a.spots r.node) n (Some delay) ∷ control_of a fs) l) (sym tries_is)
+      ∙ ap (λ (z : List Item). Goes (record (standing z (held_by a fs x)) { wait = Delay due })) (sym k)
+      ∙ ap (λ (z : Held). Goes (record (standing (control_of a gs) z) { wait = Delay due })) (sym o)
       in
       subst (λ m. IsLed a m (led.Waits (wait.Delay due)) (local_of a gs x)) (sym step) refl
       )
@@ -161,7 +161,7 @@ module _ (a : Around) (nodes : List Node) (tells : Tells a.spots nodes) (n r : �
   again_goes l = (
       let top = top_is (frame.Try n r d) fs t in
       let is : control a.spots fs ≡ Try (try (part_body (part_at a.spots y.body)) (policy_option_view y.policy) (except_of a.spots (handler_view y.except))) r d ∷ control a.spots top.0 =
-          ap (control a.spots) top.1 ∙ ap (λ z. Try z r d ∷ control a.spots top.0) (try_is a.spots nodes tells n y h)
+      ap (control a.spots) top.1 ∙ ap (λ z. Try z r d ∷ control a.spots top.0) (try_is a.spots nodes tells n y h)
       in
       ap (λ z. retries z l) is ∙ ap (λ z. goes (entered (part_body (part_at a.spots y.body)) ∷ z) l) (sym is)
       )

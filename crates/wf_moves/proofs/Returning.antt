@@ -83,7 +83,7 @@ plain_given ns s r v (frame.Loop n w i ∷ fs) l = refl
 plain_given ns s r v (frame.Try n q d ∷ fs) l = refl
 plain_given ns s r v (frame.Mark m ∷ fs) l = refl
 plain_given ns s r v (frame.Back c m ∷ fs) l = refl
-plain_given ns s r v (frame.Judge tried r delay error m ∷ fs) l = refl
+plain_given ns s r v (frame.Judge tried q d error m ∷ fs) l = refl
 
 module _ (ns : List Spot) (s : Scene) (v : Data) where
   pub gives_on : (f : Frame) (b : Bool) (mid new : List Frame) (d : List Item) (k h g : Held) (w : Went) (l : Local) → topped mid ≡ Some f → IsBackTop mid → is_judge f ≡ false → Leaves b mid h new g

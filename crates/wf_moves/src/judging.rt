@@ -168,13 +168,7 @@ fn ask(
     bindings.put_first(param.name.copy()?, error.copy(alloc)?)?;
     match enter_call(frames, scopes, bindings)? {
         Some(layer) => {
-            frames.push(Frame::Judge(
-                tried.node,
-                tried.tries,
-                tried.delay,
-                error,
-                layer,
-            ))?;
+            frames.push(Frame::Judge(tried.node, tried.tries, tried.delay, error, layer))?;
             frames.push(Frame::Do(*flow, 0))?;
             Ok(Decided::Led(lead_on(frames, nodes, scopes)))
         }

@@ -1,5 +1,5 @@
 // Sleeps.
-ghost use Rattle.std.specs.Prelude.{◌≡◌, ◌*◌, ℕ, IfOk, Ok, OnOk, codes, pos};
+ghost use Rattle.std.specs.Prelude.{◌≡◌, ◌*◌, ℕ, IfOk, Ok, OnOk, codes, option_map, pos};
 ghost use Rattle.wf_eval.specs.Answers.{Answers};
 ghost use Rattle.wf_frames.specs.Frames.{inner};
 ghost use Rattle.wf_frames.specs.Owned.{Around, control_of, held_by};
@@ -10,8 +10,10 @@ ghost use Rattle.wf_moves.specs.Tasks.{IsLeftSo, Names, SleepsBy};
 ghost use Rattle.wf_nodes.specs.Spots.{part_at, part_body};
 ghost use Rattle.wf_steps.specs.Built.{IsNap, Tells};
 ghost use Rattle.wf_steps.specs.Steps.{calls_by};
-ghost use Rattle.wf_value.specs.Data.{pairs_of};
+ghost use Rattle.wf_value.specs.Data.{integer, pairs_of};
+ghost use Rattle.wf_shared.specs.HttpRequest.{whole_between};
 ghost use Rattle.wf_value.specs.Pairs.{get};
+ghost use Rattle.wf_value.specs.Plain.{plain};
 
 use crate::finish::Done;
 use crate::raising::fails;
@@ -28,21 +30,41 @@ use wf_value::{Map, OutOfMemory, Raise, Tag, Value};
 /// The longest sleep, in seconds.
 const LONGEST_SLEEP: i64 = 31_536_000;
 
+// The argument of this name.
+fn argument<'a>(args: &'a Map, name: &str) -> Option<&'a Value>
+    ensures { option_map (λ v. plain v.now) result ≡ get name.now (pairs_of args.now) }
+{
+    args.get(name)
+}
+
+// An argument that is a whole number.
+fn whole_at(args: &Map, name: &str) -> Result<i64, Raise>
+    ensures { Answers (λ n. n) result (calls.whole_arg (get name.now (pairs_of args.now))) }
+{
+    match argument(args, name) {
+        Some(Value::Int(number)) => Ok(*number),
+        _ => Err(Raise::Error(Tag::TypeError)),
+    }
+}
+
+// So many seconds, where no sleep is too long for them.
+fn seconds_of(seconds: i64) -> Result<u64, Raise>
+    ensures { Answers (λ n. n) result (whole_between 0 31536000 seconds) }
+{
+    if (0..=LONGEST_SLEEP).contains(&seconds) {
+        Ok(seconds as u64)
+    } else {
+        Err(Raise::Error(Tag::ValueError))
+    }
+}
+
 // When a sleep of some seconds ends that begins at a reading.
 fn sleep_due(args: &Map, now: u64) -> Result<u64, Raise>
     ensures { Answers (λ n. n) result (calls.sleep_due now (pairs_of args.now)) }
 {
-    let Some(value) = args.get("seconds") else {
-        return Err(Raise::Error(Tag::TypeError));
-    };
-    let Value::Int(seconds) = value else {
-        return Err(Raise::Error(Tag::TypeError));
-    };
-    if (0..=LONGEST_SLEEP).contains(seconds) {
-        Ok(due_of(now, *seconds as u64))
-    } else {
-        Err(Raise::Error(Tag::ValueError))
-    }
+    let seconds = whole_at(args, "seconds")?;
+    let seconds = seconds_of(seconds)?;
+    Ok(due_of(now, seconds))
 }
 
 // The moment of some seconds since 1970. No text tells one before that, nor one past the greatest.
@@ -58,17 +80,27 @@ fn moment_of(seconds: i64) -> Result<u64, Raise>
     }
 }
 
+// That of the seconds that a text tells.
+fn moment_in(parsed: &Value) -> Result<u64, Raise>
+    ensures { (n : ℕ) → plain parsed.now ≡ integer (pos n)
+        → Answers (λ m. m) result (Ok (n * 1000)) }
+{
+    match parsed {
+        Value::Int(seconds) => moment_of(*seconds),
+        _ => Err(Raise::OutOfMemory),
+    }
+}
+
 // When a sleep until a time ends.
 fn until_due(alloc: Global, args: &Map) -> Result<u64, Raise>
     ensures { Answers (λ n. n) result (calls.until_due (get (codes "time") (pairs_of args.now))) }
 {
-    let Some(time) = args.get("time") else {
+    let Some(time) = argument(args, "time") else {
         return Err(Raise::Error(Tag::TypeError));
     };
-    let parsed = time_parse(alloc, time)?;
-    match &parsed {
-        Value::Int(seconds) => moment_of(*seconds),
-        _ => Err(Raise::OutOfMemory),
+    match time_parse(alloc, time) {
+        Ok(parsed) => moment_in(&parsed),
+        Err(raise) => Err(raise),
     }
 }
 

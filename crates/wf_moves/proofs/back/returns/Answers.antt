@@ -35,8 +35,8 @@ returns-in-None-clause-moved g c s d agrees =
     (ends_with g.around.spots s (plain c.args.value) c.args.value (inner c.leave_to_back.new.frames) d (control_of g.around c.leave_to_back.new.frames) (held_by g.around c.args.frames.now c.args.scopes.now) (held_by g.around c.leave_to_back.new.frames c.leave_to_back.new.scopes)
     refl c.in-None.ensures c.requires.1.1 c.leave_to_back.ensures.outside)
 
-pub returns-in-Some-clause-moved : goal.returns-in-Some-clause-moved
-returns-in-Some-clause-moved g c =
+pub returns-else-is_judge-clause-moved : goal.returns-else-is_judge-clause-moved
+returns-else-is_judge-clause-moved g c =
     with_ok _ _ c.give.result
     (λ w h s d agrees.
     subst (λ (f : Found). IsMove s (returned s (plain c.args.value) (beside d g.around c.args.frames.now c.args.scopes.now) f) w (local_of g.around c.give.new.frames c.give.new.scopes)) (sym (c.leave_to_back.ensures.found d))

@@ -50,7 +50,7 @@ returns-in_ok-map_of-in-None-clause-moved g c last s d same agrees =
     let m = held_by g.around c.args.frames.now c.enter_call.new.scopes in
     let entered = subst (λ (o : Option ℕ). Enters true s o h (bindings_of c.put_first.new.self) (held_of g.around.keys (with_own true o (own_of c.args.frames.now)) (layers_of c.enter_call.new.scopes))) c.in-None.is (c.in_ok-layer.ensures.entered s agrees) in
     let bound : bindings_of c.put_first.new.self ≡ (c.index-params-0.result.name, plain c.args.error) ∷ [] =
-        c.in_ok-put_first.ensures ∙ ap (λ (xs : List (Text × Data)). (c.in_ok-copy.field-0, plain c.in_ok-copy-2.field-0) ∷ xs) c.new-bindings.ensures ∙ ap (λ (x : Text). (x, plain c.in_ok-copy-2.field-0) ∷ []) c.in_ok-copy.ensures ∙ ap (λ (v : Value). (c.index-params-0.result.name, plain v) ∷ []) c.in_ok-copy-2.ensures
+    c.in_ok-put_first.ensures ∙ ap (λ (xs : List (Text × Data)). (c.in_ok-copy.field-0, plain c.in_ok-copy-2.field-0) ∷ xs) c.new-bindings.ensures ∙ ap (λ (x : Text). (x, plain c.in_ok-copy-2.field-0) ∷ []) c.in_ok-copy.ensures ∙ ap (λ (v : Value). (c.index-params-0.result.name, plain v) ∷ []) c.in_ok-copy-2.ensures
     in
     inl (asked_refused g.around c.args.tried (plain c.args.error) c.requires.1.0.0 c.requires.1.0.1 s agrees b.workflow b.named (param_view c.index-params-0.result) one (inner c.args.frames.now) d h m (omega (arith, c.if-calls-ge-CALL_LIMIT.false, c.calls.ensures))
     (subst (λ (xs : List (Text × Data)). Enters true s None h xs m) bound entered)
@@ -83,7 +83,7 @@ returns-in_ok-push-in-Some-2-clause-moved g c last s d same agrees =
     let owned_is = ask_owned c.args.frames.now.first c.push-in-Some.new.self.first c.in-Flow.flow layer c.args.tried c.args.error fs (inner c.push.new.self) new c.in_ok-push-in-Some.ensures.pushed c.in_ok-push-in-Some-2.ensures.pushed (c.in_ok-push-in-Some-2.ensures.first ∙ c.in_ok-push-in-Some.ensures.first) in
     let entered = subst (λ (o : Option ℕ). Enters true s o h (bindings_of c.put_first.new.self) (held_of g.around.keys (with_own true o (own_of c.args.frames.now)) (layers_of c.enter_call.new.scopes))) c.in-Some.is (c.in_ok-layer.ensures.entered s agrees) in
     let bound : bindings_of c.put_first.new.self ≡ (c.index-params-0.result.name, plain c.args.error) ∷ [] =
-        c.in_ok-put_first.ensures ∙ ap (λ (xs : List (Text × Data)). (c.in_ok-copy.field-0, plain c.in_ok-copy-2.field-0) ∷ xs) c.new-bindings.ensures ∙ ap (λ (x : Text). (x, plain c.in_ok-copy-2.field-0) ∷ []) c.in_ok-copy.ensures ∙ ap (λ (v : Value). (c.index-params-0.result.name, plain v) ∷ []) c.in_ok-copy-2.ensures
+    c.in_ok-put_first.ensures ∙ ap (λ (xs : List (Text × Data)). (c.in_ok-copy.field-0, plain c.in_ok-copy-2.field-0) ∷ xs) c.new-bindings.ensures ∙ ap (λ (x : Text). (x, plain c.in_ok-copy-2.field-0) ∷ []) c.in_ok-copy.ensures ∙ ap (λ (v : Value). (c.index-params-0.result.name, plain v) ∷ []) c.in_ok-copy-2.ensures
     in
     subst (λ x. IsLed g.around x c.lead_on-in-Some.result (local_of g.around c.lead_on-in-Some.new.frames c.lead_on-in-Some.new.scopes))
     (sym (asked_entered g.around c.args.tried (plain c.args.error) c.requires.1.0.0 c.requires.1.0.1 s agrees b.workflow b.named (param_view c.index-params-0.result) one fs d h c.args.error c.in-Flow.flow layer m new

@@ -8,4 +8,3 @@ ghost-lead_on g a = g.around
 
 abbrev pub ghost-enter_call : goal.ghost-enter_call
 ghost-enter_call g a = g.around
-
