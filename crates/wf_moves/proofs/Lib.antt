@@ -6,6 +6,7 @@ pub mod Going
 pub mod Jumps
 pub mod Leading
 pub mod Leaving
+pub mod Predicates
 pub mod Raising
 pub mod Requesting
 pub mod Retrying

@@ -1,15 +1,17 @@
 -- What a `try` does with an error, and where a move leads.
 use Rattle.std.proofs.Common.{◌≡◌, ◌≤◌, ◌<◌, ℕ, Bool, true, false, List, [], ◌∷◌, length, Some, None, refl, sym, ap, subst, ◌∙◌, arith, inl, inr}
 use Rattle.std.specs.Prelude.{◌⊎◌, Option, suc, slice_get, nat_le, if◌then◌else◌, option_map}
-use Rattle.std.proofs.lemmas.Bool.{le-leb, lt-leb}
+use Rattle.std.proofs.lemmas.Bool.{le-leb, le-ltb, lt-leb, lt-ltb}
 use Rattle.wf_ast.specs.Flows.{flow}
 use Rattle.wf_ast.specs.Tree as tree
 use Rattle.wf_ast.specs.Tree.{Except, Flow, TryBody, try}
-use Rattle.wf_ast.specs.View.{policy_option_view, policy_view}
+use Rattle.wf_ast.specs.View.{policy_option_view, policy_view, predicate_view}
 use Rattle.wf_ast.specs.declared.policy.Policy.{Policy}
+use Rattle.wf_ast.specs.declared.policy.Predicate.{Predicate}
 use Rattle.wf_ast.specs.declared.policy.Predicate.TheVariants as predicate
 use Rattle.wf_frames.specs.Fits.{Fits, HasNode, IsTry, reach}
-use Rattle.wf_frames.specs.Frames.{calls_of, control, items, own, owned, topped}
+use Rattle.wf_frames.proofs.Owning.{owned_other}
+use Rattle.wf_frames.specs.Frames.{calls_of, control, items, mark_of, owned, topped}
 use Rattle.wf_frames.specs.Held.{Held, standing}
 use Rattle.wf_frames.specs.Owned.{Around}
 use Rattle.wf_frames.specs.Turns.{Enters, Leaves, dropped, with_layer}
@@ -20,12 +22,12 @@ use Rattle.wf_model.specs.Layers.{opened}
 use Rattle.wf_model.specs.Leave.{returns}
 use Rattle.wf_model.specs.Local.{Breaks, Does, Ends, Goes, Local, Moved, Not, Scene, ended, goes, leave, settled}
 use Rattle.wf_model.specs.Move.{entered, retries}
-use Rattle.wf_model.specs.Unwind.{Asks, Judgement, Says, answered, asked_one, asks, called, calls_in, judged, policy_of, retried, unwind}
+use Rattle.wf_model.specs.Unwind.{Asks, Judgement, Says, answered, asked_one, asks, called, calls_in, judged, judgement, policy_of, retried, unwind}
 use Rattle.wf_moves.proofs.Calling.{calls_are}
 use Rattle.wf_moves.proofs.Leaving.{ended_items, stands_on}
 use Rattle.wf_moves.proofs.Unwinding.{policy_is, try_is}
 use Rattle.wf_moves.specs.Moved.{IsEnd, IsMove, IsWent}
-use Rattle.wf_moves.specs.Retries.{TriedAt, ask_at, asked_by, asked_of, retry_at, try_at, verdict_of}
+use Rattle.wf_moves.specs.Retries.{TriedAt, ask_at, asked_of, retry_at, try_at, verdict_of}
 use Rattle.wf_moves.specs.declared.finish.Went.TheVariants as went
 use Rattle.wf_moves.specs.declared.judging.Verdict.TheVariants as verdict
 use Rattle.wf_moves.specs.declared.unwind.Tried.{Tried}
@@ -56,10 +58,23 @@ says_no (Says true) e = absurd (cc e)
 says_no (Says false) e = refl
 says_no (Asks f) e = absurd (cc e)
 
-pub says_asks : (j : Judgement) → verdict_of j ≡ verdict.Asks → j ≡ Asks (asked_by j)
+pub says_asks : (j : Judgement) → verdict_of j ≡ verdict.Asks → (g : Text) × (j ≡ Asks g)
 says_asks (Says true) e = absurd (cc e)
 says_asks (Says false) e = absurd (cc e)
-says_asks (Asks f) e = refl
+says_asks (Asks f) e = (f, refl)
+
+-- with no retries left it says no, whatever the predicate
+pub judged_none : (o : Option Policy) (p : Policy) (n : ℕ) (e : Data) → o ≡ Some p → p.max_retries ≤ n → verdict.No ≡ verdict_of (judged (policy_option_view o) n e)
+judged_none o p n e is none =
+    ap (λ (b : Bool). verdict_of (if b then judgement (predicate_view p.predicate) e else Says false)) (sym (le-ltb n p.max_retries none))
+    ∙ ap (λ q. verdict_of (judged (policy_option_view q) n e)) (sym is)
+
+-- and else what the predicate does
+pub judged_left : (o : Option Policy) (p : Policy) (n : ℕ) (e : Data) (q : Predicate) → o ≡ Some p → p.predicate ≡ q → n < p.max_retries → judged (policy_option_view o) n e ≡ judgement (predicate_view q) e
+judged_left o p n e q is names left =
+    ap (λ y. judged (policy_option_view y) n e) is
+    ∙ ap (λ (b : Bool). if b then judgement (predicate_view p.predicate) e else Says false) (lt-ltb n p.max_retries left)
+    ∙ ap (λ y. judgement (predicate_view y) e) names
 
 -- ## A retry
 -- without a policy the task goes on
@@ -106,6 +121,40 @@ again_so (try body2 p2 x2) body p x n d k l e = (
     ap (λ y. goes (entered y ∷ Try (try body2 p2 x2) n d ∷ k) l) same
     )
 
+-- its frame is the innermost
+pub record AtTry (ns : List Spot) (nodes : List Node) (n r : ℕ) (d : Option ℕ) (fs : List Frame) : Type 0 where
+  pub rest : List Frame
+  pub is : fs ≡ frame.Try n r d ∷ rest
+  pub at : TriedAt ns nodes (record { node = n; tries = r; delay = d }) rest
+
+pub at_try : (ns : List Spot) (nodes : List Node) (f : Frame) (n r : ℕ) (d : Option ℕ) (fs : List Frame) → topped fs ≡ Some f → f ≡ frame.Try n r d → Fits ns nodes fs → AtTry ns nodes n r d fs
+at_try ns nodes f n r d [] t is fits = absurd (cc t)
+at_try ns nodes f n r d (g ∷ fs) t is fits =
+    let same : g ≡ f = cc t in
+    let all : Fits ns nodes (frame.Try n r d ∷ fs) = subst (λ y. Fits ns nodes (y ∷ fs)) (same ∙ is) fits in
+    record { rest = fs; is = ap (λ y. y ∷ fs) (same ∙ is); at = record { node = all.0.0.0; is = all.0.0.1; inside = all.0.1 } }
+
+-- the body stands where the `try` does
+pub body_inside : (ns : List Spot) (nodes : List Node) (n r : ℕ) (d : Option ℕ) (fs : List Frame) (body : ℕ) (y : AtTry ns nodes n r d fs) → owners_at ns body ≡ owners_at ns n → owners_at ns body ≡ reach fs
+body_inside ns nodes n r d fs body y same = same ∙ y.at.inside ∙ sym (ap reach y.is)
+
+-- it stands inside it again
+module _ (ns : List Spot) (nodes : List Node) (tells : Tells ns nodes) (n r : ℕ) (d : Option ℕ) (old : List Frame) (y : AtTry ns nodes n r d old) (t : TryNode) (h : IsTry nodes n t) (f : Frame) (new : List Frame) (pushed : new ≡ f ∷ old)
+    (item : (k : List Item) → items ns f k ≡ entered (part_body (part_at ns t.body)) ∷ k) where
+  pub again_on : (l : Local) → retries (control ns old) l ≡ goes (control ns new) l
+  again_on l =
+      let k = control ns y.rest in
+      let inside : control ns old ≡ Try (try_at ns n) r d ∷ k = ap (control ns) y.is in
+      ap (λ m. retries m l) inside
+      ∙ again_so (try_at ns n) (part_body (part_at ns t.body)) (policy_option_view t.policy) (except_of ns (handler_view t.except)) r d k l (try_is ns nodes tells n t h)
+      ∙ ap (λ m. goes (entered (part_body (part_at ns t.body)) ∷ m) l) (sym inside)
+      ∙ ap (λ m. goes m l) (sym (item (control ns old)))
+      ∙ ap (λ fs. goes (control ns fs) l) (sym pushed)
+
+-- a frame that opens no layer
+pub unmarked : (p q : ℕ) (f : Frame) (old new : List Frame) → mark_of f ≡ None → new ≡ f ∷ old → q ≡ p → owned q new ≡ owned p old
+unmarked p q f old new none is same = ap (λ (k : ℕ). owned k new) same ∙ ap (owned p) is ∙ owned_other p f old none
+
 -- ## The answer of a predicate
 -- its call is the innermost frame, and is left
 pub judge_left : (ns : List Spot) (f : Frame) (n r : ℕ) (d : Option ℕ) (v : Value) (m : ℕ) (b : Bool) (old new : List Frame) (h g : Held) → topped old ≡ Some f → f ≡ frame.Judge n r d v m → Leaves b old h new g
@@ -131,14 +180,14 @@ judge_at ns nodes f n r d v m true old new h g t is w fits =
     record { at = record { node = all.0.0.0.0; is = all.0.0.0.1; inside = all.0.1 }; shallow = all.0.0.1 }
 
 -- ## A workflow is asked
-module _ (ns : List Spot) (s : Scene) (t : Tried) (e : Data) (old : List Frame) (c : List Item) (h : Held) (w : Flow) (x : tree.Param) (found : flow s.program.flows (asked_of ns t e) ≡ Some w) (one : w.params ≡ x ∷ []) where
+module _ (ns : List Spot) (s : Scene) (t : Tried) (e : Data) (old : List Frame) (c : List Item) (h : Held) (w : Flow) (x : tree.Param) (found : flow s.program.flows (asked_of ns t) ≡ Some w) (one : w.params ≡ x ∷ []) where
   abbrev Out : Data → Moved
   Out = unwind s (control ns old) (standing c h)
 
   abbrev Inside : List Item
   Inside = Judge (try_at ns t.node) t.tries t.delay e ∷ control ns old
 
-  asked_so : asks s e (flow s.program.flows (asked_of ns t e)) Inside (standing c h) Out
+  asked_so : asks s e (flow s.program.flows (asked_of ns t)) Inside (standing c h) Out
       ≡ (if nat_le call_limit (calls_in (control ns old)) then Out (error_map RecursionError) else called (opened s (standing c h) ((x.name, e) ∷ [])) w.steps (Back None ∷ Inside) (standing c h) Out)
   asked_so = ap (λ o. asks s e o Inside (standing c h) Out) found ∙ ap (λ xs. asked_one s e xs w.steps Inside (standing c h) Out) one
 

@@ -24,11 +24,12 @@ use Rattle.wf_moves.specs.declared.finish.Done.TheVariants as done
 use Rattle.wf_nodes.specs.Spots.{Spot, part_at, part_body}
 use Rattle.wf_scope.specs.Tasks.{Own}
 use Rattle.wf_scope.specs.declared.layer.Layer.{Layer}
-use Rattle.wf_steps.proofs.Clocked.{flow_clock, function_clock, http_asks}
-use Rattle.wf_steps.specs.Built.{IsFunction, IsHttp, IsWorkflow}
+use Rattle.wf_steps.proofs.Clocked.{flow_clock, function_clock, http_asks, nap_reads}
+use Rattle.wf_steps.specs.Built.{IsFunction, IsHttp, IsNap, IsWorkflow}
 use Rattle.wf_steps.specs.Steps.{IsNoCall, IsOrBreaks, Issues, Moves, WantsSame, asks, asks_with, calls_by, come}
 use Rattle.wf_steps.specs.declared.step.Step.{Step}
 use Rattle.wf_steps.specs.declared.step.Step.TheVariants as step
+use Rattle.wf_steps.specs.declared.target.Nap.{Nap}
 use Rattle.wf_value.specs.Data.{Pairs, pairs_of}
 use Rattle.wf_value.specs.declared.value.Map.{Map}
 
@@ -51,6 +52,10 @@ module _ (s : Scene) (fs : List Flow) (f : CallBody) (args : Pairs) (k : List It
   pub http_leads : (m : Option Method) → IsHttp fs m f.name → leads_with s (Body.Call f) args k l ≡ asks_with s (Body.Call f) args k l
   http_leads m h =
       ap (λ q. by_kind q (asks_with s (Body.Call f) args k l) (calls_by s (Body.Call f) args k l)) (http_asks s.program.flows m f.name (fields_now f.args) (subst (λ gs. IsHttp gs m f.name) (sym same) h))
+
+  pub nap_leads : (b : Nap) → IsNap fs b f.name → leads_with s (Body.Call f) args k l ≡ calls_by s (Body.Call f) args k l
+  nap_leads b h =
+      ap (λ q. by_kind q (asks_with s (Body.Call f) args k l) (calls_by s (Body.Call f) args k l)) (nap_reads s.program.flows b f.name (fields_now f.args) (subst (λ gs. IsNap gs b f.name) (sym same) h))
 
 -- ## What is left of a step
 -- one that doesn't call
