@@ -94,6 +94,16 @@ retried_so s (try body (Some q) x) p n m d delay due k l e one long when =
     ∙ ap (λ (t : ℕ). Goes (record l { control = Try b m (Some t) ∷ k; wait = Delay (later s.last t) })) long2
     ∙ ap (λ (t : ℕ). Goes (record l { control = Try b m (Some delay) ∷ k; wait = Delay t })) (sym when)
 
+-- and stands at its `try` then
+pub retry_waits : (ns : List Spot) (s : Scene) (t : Tried) (p : tree.Policy) (m delay due : ℕ) (d : List Item) (h g : Held) (old new : List Frame) → policy_of (try_at ns t.node) ≡ Some p → m ≡ suc t.tries → delay ≡ next_delay p.backoff t.delay → due ≡ later s.last delay
+    → new ≡ frame.Try t.node m (Some delay) ∷ old → g ≡ h → IsWent (retry_at ns t s (control ns old) (standing d h)) (record (standing (control ns new) g) { wait = Delay due })
+retry_waits ns s t p m delay due d h g old new e one long when pushed same =
+    subst (λ y. IsWent y (record (standing (control ns new) g) { wait = Delay due })) (sym (retried_so s (try_at ns t.node) p t.tries m t.delay delay due (control ns old) (standing d h) e one long when))
+    (ap (λ fs. waits_at fs h) (sym pushed) ∙ ap (λ (y : Held). waits_at new y) (sym same))
+  where
+    waits_at : List Frame → Held → Local
+    waits_at fs y = record (standing (control ns fs) y) { wait = Delay due }
+
 -- ## Where it leads
 pub went_there : (ns : List Spot) (f : Frame) (fs : List Frame) (h : Held) → topped fs ≡ Some f → IsWent (settled (standing (control ns fs) h)) (standing (control ns fs) h)
 went_there ns f [] h t = absurd (cc t)

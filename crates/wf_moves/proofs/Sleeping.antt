@@ -1,6 +1,6 @@
 -- Sleeps.
 use Rattle.std.proofs.Common.{◌≡◌, ℕ, Bool, true, false, List, Ok, Err, None, Some, refl, sym, ap, subst, ◌∙◌}
-use Rattle.std.specs.Prelude.{Option, codes, if◌then◌else◌, is_some, option_map}
+use Rattle.std.specs.Prelude.{◌*◌, Option, ℤ, codes, if◌then◌else◌, is_some, option_map, pos}
 use Rattle.wf_ast.specs.Accept.{BadArgument}
 use Rattle.wf_ast.specs.Flows.{flow}
 use Rattle.wf_ast.specs.Func.{Listing, Special, SpecialListing, SysSleep, SysSleepUntil, call_takes, func_named, special_named}
@@ -9,7 +9,7 @@ use Rattle.wf_eval.specs.Answers.{Answers}
 use Rattle.wf_frames.specs.Frames.{body_result, result_of}
 use Rattle.wf_frames.specs.Held.{Held, standing}
 use Rattle.wf_frames.specs.Owned.{Around}
-use Rattle.wf_model.specs.Calls.{calls_listed, calls_named, calls_special, sleep_due, sleeps, until_due}
+use Rattle.wf_model.specs.Calls.{calls_listed, calls_named, calls_special, sleep_due, sleeps, until_due, whole_arg}
 use Rattle.wf_model.specs.Config.{Item, Sleep}
 use Rattle.wf_model.specs.Leave.{on, raises}
 use Rattle.wf_model.specs.Local.{Breaks, Local, Moved, Scene, waits}
@@ -27,12 +27,84 @@ use Rattle.wf_steps.specs.Built.{IsNap, nap_special}
 use Rattle.wf_steps.specs.Steps.{calls_by}
 use Rattle.wf_steps.specs.declared.target.Nap.{Nap}
 use Rattle.wf_steps.specs.declared.target.Nap.TheVariants as nap
-use Rattle.wf_value.specs.Data.{Pairs}
-use Rattle.wf_value.specs.Errors.{Answer, error_map}
+use Rattle.wf_shared.specs.HttpRequest.{whole_between}
+use Rattle.wf_shared.specs.LibTime.{parsed_time, time_parse}
+use Rattle.wf_value.specs.Data.{Data, Pairs, boolean, bytes, integer, list, map, null, text}
+use Rattle.wf_value.specs.Errors.{Answer, ◌>>=◌, error_map, later, or_error}
 use Rattle.wf_value.specs.Pairs.{Text, get, keys}
-use Rattle.wf_value.specs.declared.Raise.TheVariants.{Error}
+use Rattle.wf_value.specs.Plain.{plain}
+use Rattle.wf_value.specs.declared.Raise.{Raise}
+use Rattle.wf_value.specs.declared.Raise.TheVariants.{Error, OutOfMemory}
 use Rattle.wf_value.specs.declared.Tag.{Tag}
+use Rattle.wf_value.specs.declared.Tag.TheVariants.{TypeError, ValueError}
+use Rattle.wf_value.specs.declared.Value.{Value}
+use Rattle.wf_value.specs.declared.value.Value.TheVariants as value
 
+-- ## Arguments
+-- by the argument
+abbrev seconds_due : ℕ → Option Data → Answer ℕ
+seconds_due now o = whole_arg o >>= whole_between 0 31536000 >>= λ n. Ok (later now (n * 1000))
+
+pub seconds_missing : (now : ℕ) (args : Pairs) → get (codes "seconds") args ≡ None → sleep_due now args ≡ Err TypeError
+seconds_missing now args e = ap (λ o. seconds_due now o) e
+
+-- what is no whole number
+not_whole : (v : Value) → ((n : ℤ) → v ≡ value.Int n → ⊥) → whole_arg (Some (plain v)) ≡ Err TypeError
+not_whole value.Null other = refl
+not_whole (value.Bool b) other = refl
+not_whole (value.Int n) other = absurd (other n refl)
+not_whole (value.Text t) other = refl
+not_whole (value.Bytes b) other = refl
+not_whole (value.List vs) other = refl
+not_whole (value.Map ps) other = refl
+
+pub seconds_other : (now : ℕ) (args : Pairs) (v : Value) → get (codes "seconds") args ≡ Some (plain v) → ((n : ℤ) → v ≡ value.Int n → ⊥) → sleep_due now args ≡ Err TypeError
+seconds_other now args v e other = ap (λ o. seconds_due now o) e ∙ ap (λ r. r >>= whole_between 0 31536000 >>= λ n. Ok (later now (n * 1000))) (not_whole v other)
+
+pub seconds_so : (now : ℕ) (args : Pairs) (v : Value) (i : ℤ) → get (codes "seconds") args ≡ Some (plain v) → v ≡ value.Int i → sleep_due now args ≡ (whole_between 0 31536000 i >>= λ n. Ok (later now (n * 1000)))
+seconds_so now args v i e is = ap (λ o. seconds_due now o) (e ∙ ap (λ w. Some (plain w)) is)
+
+-- by what is told of the seconds
+pub within_so : (now n : ℕ) (r : Answer ℕ) → Answers (λ m. m) (Ok n) r → Answers (λ m. m) (Ok (later now (n * 1000))) (r >>= λ m. Ok (later now (m * 1000)))
+within_so now n (Ok m) e = ap (λ (k : ℕ). later now (k * 1000)) e
+within_so now n (Err t) e = absurd e
+
+pub outside_so : (now : ℕ) (raise : Raise) (r : Answer ℕ) → Answers (λ m. m) (Err raise) r → Answers {A = ℕ} (λ m. m) (Err raise) (r >>= λ m. Ok (later now (m * 1000)))
+outside_so now OutOfMemory r e = tt
+outside_so now (Error t) (Ok m) e = absurd e
+outside_so now (Error t) (Err u) e = e
+
+-- ## Times
+-- a time that is read
+pub until_read : (d : Data) (v : Value) (i : ℤ) → Answers plain (Ok v) (time_parse d) → v ≡ value.Int i → (n : ℕ) × (i ≡ pos n) × (until_due (Some d) ≡ Ok (n * 1000))
+until_read (text t) v i e is = by (parsed_time t) e
+  where
+    by : (o : Option ℕ) → Answers plain (Ok v) (or_error ValueError o >>= λ n. Ok (integer (pos n))) → (n : ℕ) × (i ≡ pos n) × ((or_error ValueError o >>= λ n. Ok (n * 1000)) ≡ Ok (n * 1000))
+    by None at = absurd at
+    by (Some n) at = let same : integer i ≡ integer (pos n) = sym (ap plain is) ∙ at in (n, cc same, refl)
+until_read null v i e is = absurd e
+until_read (boolean b) v i e is = absurd e
+until_read (integer n) v i e is = absurd e
+until_read (bytes b) v i e is = absurd e
+until_read (list vs) v i e is = absurd e
+until_read (map ps) v i e is = absurd e
+
+-- an error of the reading
+pub until_failed : (d : Data) (raise : Raise) → Answers plain (Err raise) (time_parse d) → Answers {A = ℕ} (λ m. m) (Err raise) (until_due (Some d))
+until_failed d OutOfMemory e = tt
+until_failed (text t) (Error x) e = by (parsed_time t) e
+  where
+    by : (o : Option ℕ) → Answers plain (Err (Error x)) (or_error ValueError o >>= λ n. Ok (integer (pos n))) → Answers {A = ℕ} (λ m. m) (Err (Error x)) (or_error ValueError o >>= λ n. Ok (n * 1000))
+    by None at = at
+    by (Some n) at = absurd at
+until_failed null (Error x) e = e
+until_failed (boolean b) (Error x) e = e
+until_failed (integer n) (Error x) e = e
+until_failed (bytes b) (Error x) e = e
+until_failed (list vs) (Error x) e = e
+until_failed (map ps) (Error x) e = e
+
+-- ## Sleeps
 -- what no accepted program does
 broken : (a : Around) (s : Scene) (d : Done) (l : Local) (e : Moved) → e ≡ Breaks BadArgument → IsDone a s e d l
 broken a s (done.Went w) l e is = subst (λ m. IsDone a s m (done.Went w) l) (sym is) tt
