@@ -7,10 +7,11 @@
 //! outside. Readings are in milliseconds since 1970.
 //!
 //! So far `main` is the only task: workflows call each other, errors are raised, caught and retried, requests are made, each of which is
-//! waited for, and steps sleep. Each entry of an assign, each step of another form, each jump beside a step, each turn of a loop and each end of a called
-//! workflow is one event: an `Issue` with a reading where the step makes a request, a `MoveAt` with a reading where it evaluates what
-//! names `sys.now`, whether or not the evaluation comes there, and else a `Move`. What `main` waits for comes as an `Answer`, or as a
-//! `Due` where the due moment of the call comes first. The ends of sleeps and of the delays before retries come as a `Due` too. The limits are those of the first rules:
+//! waited for, and steps sleep. Each entry of an assign, each step of another form, each jump beside a step, each turn of a loop and each
+//! end of a called workflow is one event: an `Issue` with a reading where the step makes a request, a `MoveAt` with a reading where it
+//! sleeps or evaluates what names `sys.now`, whether or not the evaluation comes there, and else a `Move`. What `main` waits for comes as
+//! an `Answer`, or as a `Due` where the due moment of the call comes first; a sleep and the delay before a retry end by a `Due` too. The
+//! limits are those of the first rules:
 //! - counted events, which are moves and issues: 100,000 in an execution, of which the last isn't carried out: it raises a
 //!   `ResourceLimitError`;
 //! - bodies of answers: 67,108,864 bytes in an execution; the answer that would pass it ends the execution with a `ResourceLimitError`;

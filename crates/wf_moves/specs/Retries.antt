@@ -5,7 +5,8 @@
 --     IsLed            where a move leads
 use Rattle.std.specs.Prelude.{◌≡◌, ◌≤◌, ℕ, Bool, true, false, List, [], ◌∷◌, slice_get, Some, None, Option}
 use Rattle.wf_ast.specs.Flows.{flow}
-use Rattle.wf_ast.specs.Tree.{TryBody}
+use Rattle.wf_ast.specs.Tree as tree
+use Rattle.wf_ast.specs.Tree.{FlowNamed, Predicate, TryBody}
 use Rattle.wf_ast.specs.declared.policy.Policy.{Policy}
 use Rattle.wf_ast.specs.declared.policy.Predicate.TheVariants as predicate
 use Rattle.wf_frames.specs.Fits.{IsTry, reach}
@@ -65,17 +66,21 @@ decide_at ns t s e k l = decided s e (judged (policy_of (try_at ns t.node)) t.tr
 abbrev pub retry_at : List Spot → Tried → Scene → List Item → Local → Moved
 retry_at ns t s k l = retried s (try_at ns t.node) t.tries t.delay k l
 
--- the workflow that a judgement asks
-abbrev pub asked_by : model.Judgement → Text
-asked_by (Asks f) = f
-asked_by (Says b) = []
+-- the workflow that a policy asks
+abbrev pub asked_in : Predicate → Text
+asked_in (FlowNamed f) = f
+asked_in p = []
 
-abbrev pub asked_of : List Spot → Tried → Data → Text
-asked_of ns t e = asked_by (judged (policy_of (try_at ns t.node)) t.tries e)
+abbrev pub asked_name : Option tree.Policy → Text
+asked_name None = []
+asked_name (Some p) = asked_in p.predicate
 
--- a workflow is asked
+abbrev pub asked_of : List Spot → Tried → Text
+asked_of ns t = asked_name (policy_of (try_at ns t.node))
+
+-- it is asked
 abbrev pub ask_at : List Spot → Tried → Scene → Data → List Item → Local → Moved
-ask_at ns t s e k l = asks s e (flow s.program.flows (asked_of ns t e)) (Judge (try_at ns t.node) t.tries t.delay e ∷ k) l (unwind s k l)
+ask_at ns t s e k l = asks s e (flow s.program.flows (asked_of ns t)) (Judge (try_at ns t.node) t.tries t.delay e ∷ k) l (unwind s k l)
 
 -- where the nearest `try` was looked for: an error comes to it, or goes out of the task
 abbrev pub caught_at : List Spot → Option Tried → Scene → Data → List Item → Local → Moved

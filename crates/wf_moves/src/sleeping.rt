@@ -1,5 +1,5 @@
 // Sleeps.
-ghost use Rattle.std.specs.Prelude.{◌≡◌, ◌*◌, ℕ, IfOk, Ok, OnOk, codes, pos};
+ghost use Rattle.std.specs.Prelude.{◌≡◌, ◌*◌, ℕ, IfOk, Ok, OnOk, codes, option_map, pos};
 ghost use Rattle.wf_eval.specs.Answers.{Answers};
 ghost use Rattle.wf_frames.specs.Frames.{inner};
 ghost use Rattle.wf_frames.specs.Owned.{Around, control_of, held_by};
@@ -8,10 +8,12 @@ ghost use Rattle.wf_model.specs.Calls as calls;
 ghost use Rattle.wf_moves.specs.Naps.{nap_due};
 ghost use Rattle.wf_moves.specs.Tasks.{IsLeftSo, Names, SleepsBy};
 ghost use Rattle.wf_nodes.specs.Spots.{part_at, part_body};
+ghost use Rattle.wf_shared.specs.HttpRequest.{whole_between};
 ghost use Rattle.wf_steps.specs.Built.{IsNap, Tells};
 ghost use Rattle.wf_steps.specs.Steps.{calls_by};
 ghost use Rattle.wf_value.specs.Data.{pairs_of};
 ghost use Rattle.wf_value.specs.Pairs.{get};
+ghost use Rattle.wf_value.specs.Plain.{plain};
 
 use crate::finish::Done;
 use crate::raising::fails;
@@ -28,21 +30,36 @@ use wf_value::{Map, OutOfMemory, Raise, Tag, Value};
 /// The longest sleep, in seconds.
 const LONGEST_SLEEP: i64 = 31_536_000;
 
+// An argument by its name.
+fn argument<'a>(args: &'a Map, name: &str) -> Option<&'a Value>
+    ensures { option_map (λ v. plain v.now) result ≡ get name.now (pairs_of args.now) }
+{
+    args.get(name)
+}
+
+// The seconds of a sleep, of which there aren't too many.
+fn seconds_of(seconds: i64) -> Result<u64, Raise>
+    ensures { Answers (λ n. n) result (whole_between 0 31536000 seconds) }
+{
+    if (0..=LONGEST_SLEEP).contains(&seconds) {
+        Ok(seconds as u64)
+    } else {
+        Err(Raise::Error(Tag::ValueError))
+    }
+}
+
 // When a sleep of some seconds ends that begins at a reading.
 fn sleep_due(args: &Map, now: u64) -> Result<u64, Raise>
     ensures { Answers (λ n. n) result (calls.sleep_due now (pairs_of args.now)) }
 {
-    let Some(value) = args.get("seconds") else {
+    let Some(value) = argument(args, "seconds") else {
         return Err(Raise::Error(Tag::TypeError));
     };
     let Value::Int(seconds) = value else {
         return Err(Raise::Error(Tag::TypeError));
     };
-    if (0..=LONGEST_SLEEP).contains(seconds) {
-        Ok(due_of(now, *seconds as u64))
-    } else {
-        Err(Raise::Error(Tag::ValueError))
-    }
+    let seconds = seconds_of(*seconds)?;
+    Ok(due_of(now, seconds))
 }
 
 // The moment of some seconds since 1970. No text tells one before that, nor one past the greatest.
@@ -62,7 +79,7 @@ fn moment_of(seconds: i64) -> Result<u64, Raise>
 fn until_due(alloc: Global, args: &Map) -> Result<u64, Raise>
     ensures { Answers (λ n. n) result (calls.until_due (get (codes "time") (pairs_of args.now))) }
 {
-    let Some(time) = args.get("time") else {
+    let Some(time) = argument(args, "time") else {
         return Err(Raise::Error(Tag::TypeError));
     };
     let parsed = time_parse(alloc, time)?;

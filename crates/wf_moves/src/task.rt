@@ -59,8 +59,8 @@ impl Task {
     ghost use Rattle.wf_moves.specs.Tasks.{IsFirst, IsFlow, MovesSo, Stays, first, has_ended, is_sent};
     ghost use Rattle.wf_moves.specs.Waits.{CanGoOn, answer_view, call_in, is_awake_in, is_call_at, moment_in, result_in, task_local};
 
-    /// The first task, awake, which stands before the steps of a workflow: that of the node with this number. Its first layer is made, and holds
-    /// the argument where the workflow has a parameter. Without memory, or where the argument passes the limit on variables, there is no
+    /// The first task, awake, which stands before the steps of a workflow: that of the node with this number. Its first layer is made, and
+    /// holds the argument where the workflow has a parameter. Without memory, or where the argument passes the limit on variables, there is no
     /// task, and the layers are only to be let go.
     pub fn new(
         alloc: Global,
