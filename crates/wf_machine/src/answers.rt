@@ -108,7 +108,7 @@ impl Machine {
         Ok(self.carry_on(Cause::Heard(heard), 0, tally)?)
     }
 
-    /// Ends the wait of a task at its due moment, where it is `main` and that has come: a sleep ends, or the body of a `try` is tried again;
+    /// Ends the wait of a task at its due moment, where it is `main` and that has come: a sleep ends, the body of a `try` is tried again, or
     /// a call is closed, and `main` raises a `TimeoutError`.
     pub(crate) fn apply_due(&mut self, task: u32, reading: u64) -> Result<(), ApplyFault>
         requires { self.old.broken ≡ false }
