@@ -7,23 +7,22 @@ use Rattle.std.proofs.Common.{◌≡◌, ◌≤◌, ℕ, suc, ◌+◌, Bool, tru
 use Rattle.std.specs.Prelude.{if◌then◌else◌, nat_le, nat_lt}
 use Rattle.std.proofs.lemmas.Bool.{le-leb}
 use Rattle.wf_alone.proofs.Carried.{by_main, not_nowhere}
-use Rattle.wf_alone.proofs.Real.{real, resumed_real, waits}
+use Rattle.wf_alone.proofs.Real.{due_real, real, resumed_real, waits}
 use Rattle.wf_alone.proofs.Steps.{step_next}
-use Rattle.wf_alone.proofs.Waiting.{answer_next, calling, is_due, matches}
+use Rattle.wf_alone.proofs.Waiting.{answer_next, asleep, calling, is_due, matches}
 use Rattle.wf_alone.specs.Laws.{AnswersCanCome, DuesCanCome, MainCanStep, MainMatches, ReachedIsSound}
-use Rattle.wf_alone.specs.Machine.{IsReached, Rest, closed, heard, main_at, main_by, main_local, main_scene, read_by, read_for, seen_by, step_by}
-use Rattle.wf_alone.specs.Plain.{ArePlain, Moves}
-use Rattle.wf_alone.specs.Waiting.{Matches, call_by, caller}
+use Rattle.wf_alone.specs.Machine.{IsReached, Rest, closed, heard, main_at, main_by, main_local, main_scene, passed, read_by, read_for, seen_by, step_by}
+use Rattle.wf_alone.specs.Plain.{ArePlain, CanWake, Moves}
+use Rattle.wf_alone.specs.Waiting.{Matches, call_by, caller, due_for}
 use Rattle.wf_ast.specs.Accept.{Accept, Kind}
 use Rattle.wf_ast.specs.Tree.{Program}
 use Rattle.wf_model.proofs.After.{Leads, led_to}
 use Rattle.wf_model.proofs.Runs.{runs_join, step_goes_on}
 use Rattle.wf_model.specs.Choose.{wanted}
-use Rattle.wf_model.specs.Config.{After, Answered, Awake, Calling, Config, Item, Layer, NotNow, Raised, TimedOut, To, Wait, Wrong, body_limit, move_limit}
+use Rattle.wf_model.specs.Config.{After, Answered, Awake, Calling, Config, Item, Layer, NotNow, Raised, To, Wait, Wrong, body_limit, move_limit}
 use Rattle.wf_model.specs.Kinds.{NextKind, next_kind}
 use Rattle.wf_model.specs.Law.{NeverWrong}
-use Rattle.wf_model.specs.Move.{resumed, timeout_error}
-use Rattle.wf_model.specs.Ready.{call_due}
+use Rattle.wf_model.specs.Move.{due_by, resumed}
 use Rattle.wf_model.specs.Run.{initial, run_on}
 use Rattle.wf_model.specs.Step.{next, stopped}
 use Rattle.wf_model.specs.Taken.{by_itself, merged}
@@ -103,11 +102,11 @@ module _ (p : Program) (x : Rest) (k : List Item) (ls : List Layer) where
       (sym (answer_next p x k ls n v r a is le) ∙ none)
 
   -- and its due moment
-  pub due_comes : (n : ℕ) (v : Option Text) (d r : ℕ) → call_due (call_by x n) ≡ Some d → x.last ≤ r → d ≤ r → next p (main_at x k ls (Calling n v)) (Event.Due 0 r) ≡ NotNow → ⊥
-  due_comes n v d r is le due_now none =
-      let y = closed n TimedOut (read_by r x) in
-      not_nowhere (resumed (main_scene p y r) v timeout_error (main_local k ls (Calling n v))) (main_at y k ls (Calling n v)) (resumed_real (main_scene p y r) v timeout_error (main_local k ls (Calling n v)))
-      (sym (is_due p x k ls n v d r is le due_now) ∙ none)
+  pub due_comes : (w : Wait) (d r : ℕ) → CanWake k w → due_for x w ≡ Some d → x.last ≤ r → d ≤ r → next p (main_at x k ls w) (Event.Due 0 r) ≡ NotNow → ⊥
+  due_comes w d r can is le due_now none =
+      let y = passed w (read_by r x) in
+      not_nowhere (due_by (main_scene p y r) w (main_local k ls w)) (main_at y k ls w) (due_real (main_scene p y r) w (main_local k ls w) can (asleep x w d is))
+      (sym (is_due p x k ls w d r is le due_now) ∙ none)
 
   -- an answer to any open call comes to something
   pub open_answer_comes : (w : Wait) (n b r : ℕ) (a : Reply) → Matches x w → caller (call_by x n) ≡ Some b → x.last ≤ r → next p (main_at x k ls w) (Event.Answer n r a) ≡ NotNow → ⊥
@@ -127,5 +126,5 @@ answers_can_come first stay law p x k ls w n b r a accepted reached is le =
     (open_answer_comes p x k ls w n b r a (main_matches first stay p x k ls w reached) is le)
 
 pub dues_can_come : DuesCanCome
-dues_can_come law p x k ls n v d r accepted reached is le due_now =
-    leads (next p (main_at x k ls (Calling n v)) (Event.Due 0 r)) (λ wrong so. never law p (main_at x k ls (Calling n v)) accepted reached (Event.Due 0 r) wrong so) (due_comes p x k ls n v d r is le due_now)
+dues_can_come law p x k ls w d r accepted reached can is le due_now =
+    leads (next p (main_at x k ls w) (Event.Due 0 r)) (λ wrong so. never law p (main_at x k ls w) accepted reached (Event.Due 0 r) wrong so) (due_comes p x k ls w d r can is le due_now)

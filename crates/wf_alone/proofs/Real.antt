@@ -2,31 +2,32 @@
 --     waits, begins_none   what stands there
 --     real                 a step, by its kind
 --     resumed_real         what a task does that has waited for a call
+--     due_real             what it does at its due moment
 use Rattle.std.proofs.Common.{◌≡◌, ℕ, suc, Bool, true, false, List, [], ◌∷◌, Option, Result, None, Some, Ok, Err, refl, sym, ◌∙◌, subst}
 use Rattle.std.specs.Prelude.{if◌then◌else◌, ◌||◌, codes, bytes_eq, is_some, nat_le}
 use Rattle.wf_alone.specs.Machine.{step_by}
-use Rattle.wf_alone.specs.Plain.{is_plain_body, ArePlain, Moves, IsReal}
+use Rattle.wf_alone.specs.Plain.{is_before_try, is_plain_body, is_plain_listed, is_plain_special, ArePlain, CanWake, Moves, IsReal}
 use Rattle.wf_ast.specs.Accept.{BreakOutsideLoop}
 use Rattle.wf_ast.specs.Eval.{eval_all, fill, fill_fields}
 use Rattle.wf_ast.specs.Apply.{apply}
 use Rattle.wf_ast.specs.Flows.{flow}
-use Rattle.wf_ast.specs.Func.{AwaitCallback, CreateEndpoint, HttpCall, Listing, Special, SpecialListing, SysLog, SysSleep, SysSleepUntil, func_named, in_order, special_named, takes}
+use Rattle.wf_ast.specs.Func.{AwaitCallback, CreateEndpoint, HttpCall, Listing, Special, SpecialListing, SysLog, SysSleep, SysSleepUntil, call_takes, func_named, in_order, special_named, takes}
 use Rattle.wf_ast.specs.declared.Func.{Func}
 use Rattle.wf_ast.specs.Tree.{CallBody, Entry, Flow, OfBranches, OfLoop, Param, parallel, Steps, TryBody, except, loop, LoopBody, no_except, step, no_steps, more, Body, try}
-use Rattle.wf_model.specs.Calls.{bindings, calls_listed, calls_named, calls_with, evaluates, fits_call, http_method, issues_call, requests}
-use Rattle.wf_model.specs.Config.{Item, Do, Entries, Then, Loop, Try, Judge, Mark, Back, Join, Left, call_limit, next_of}
+use Rattle.wf_model.specs.Calls.{bindings, calls_listed, calls_named, calls_special, calls_with, evaluates, fits_call, http_method, issues_call, requests, sleep_due, until_due}
+use Rattle.wf_model.specs.Config.{Await, Awake, Calling, Delay, Item, Do, Entries, Then, Loop, Try, Judge, Mark, Back, Join, Left, Sleep, Wait, call_limit, next_of}
 use Rattle.wf_model.specs.Kinds.{ByCall, ByClock, NextKind, Plainly, next_kind, by_clock, arms_now, body_kind, call_kind, entry_now, fields_now, is_now, listed_kind, over_now, special_kind, template_now}
 use Rattle.wf_model.specs.Layers.{Assigned, Done, Refused, Undeclared, assign, enter, opened, view}
 use Rattle.wf_model.specs.Leave.{raises, on, on_assigned, given_to, gives, returns, returns_in, returned, continues, breaks, jumps, jumps_to}
 use Rattle.wf_model.specs.Local.{Local, Root, Main, Branch, Iteration, Scene, Moved, Breaks, leave, settle, ended, goes}
-use Rattle.wf_model.specs.Move.{assigns, awake, chosen, entered, in_arm, issues, loop_names, loop_steps, moves, over, performs, raised, resumed, steps_on, then_item, turns}
-use Rattle.wf_model.specs.Ready.{stands_waiting, begins}
+use Rattle.wf_model.specs.Move.{assigns, awake, chosen, due_by, entered, in_arm, issues, loop_names, loop_steps, moves, over, performs, raised, resumed, retries, steps_on, then_item, timeout_error, turns}
+use Rattle.wf_model.specs.Ready.{stands_waiting, begins, is_awake}
 use Rattle.wf_model.specs.Unwind.{Asks, Found, Judgement, Says, Stands, AtEnd, NotFound, answered, asked_one, asks, called, calls_in, decided, excepted, handled, judged, policy_of, retried, to_back, to_loop, to_step, unwind}
 use Rattle.wf_shared.specs.Events.{Method}
 use Rattle.wf_shared.specs.HttpRequest.{asked, request}
 use Rattle.wf_value.specs.Data.{Data, Pairs, boolean, bytes, integer, list, map, null, text}
 use Rattle.wf_value.specs.Errors.{Answer, ◌>>=◌, error_map, kept}
-use Rattle.wf_value.specs.Pairs.{Text, keys}
+use Rattle.wf_value.specs.Pairs.{Text, get, keys}
 use Rattle.wf_value.specs.declared.Tag.TheVariants.{RecursionError, TypeError}
 
 -- ## What stands there
@@ -226,22 +227,22 @@ calls_with_real s w r (Some xs) k l =
 evaluates_real : (s : Scene) (r : Option Text) (f : Func) (vs : List Data) (k : List Item) (l : Local) → IsReal (evaluates s r f vs k l)
 evaluates_real s r f vs k l = on_real s k l (apply (view s l) f vs >>= kept) _ (λ v. gives_real s r v k l)
 
--- no step of another kind is one of HTTP
-listed_real : (s : Scene) (r : Option Text) (e : Option Listing) (g : Option SpecialListing) (args : Pairs) (k : List Item) (l : Local) (clock : Bool) → (is_some e || is_some (http_method g)) ≡ true
+-- a sleep; no step of another kind is one of HTTP
+special_real : (s : Scene) (r : Option Text) (x : Special) (args : Pairs) (k : List Item) (l : Local) (clock : Bool) → is_plain_special x ≡ true → (special_kind x clock ≡ ByCall → ⊥) → IsReal (calls_special s r x args k l)
+special_real s r (HttpCall m) args k l clock there plain = absurd (plain refl)
+special_real s r SysLog args k l clock there plain = absurd (cc there)
+special_real s r SysSleep args k l clock there plain = on_real s k l (sleep_due s.now args) _ (λ d. tt)
+special_real s r SysSleepUntil args k l clock there plain = on_real s k l (until_due (get (codes "time") args)) _ (λ d. tt)
+special_real s r CreateEndpoint args k l clock there plain = absurd (cc there)
+special_real s r AwaitCallback args k l clock there plain = absurd (cc there)
+
+listed_real : (s : Scene) (r : Option Text) (e : Option Listing) (g : Option SpecialListing) (args : Pairs) (k : List Item) (l : Local) (clock : Bool) → (is_some e || is_plain_listed g) ≡ true
     → (listed_kind e g clock ≡ ByCall → ⊥) → IsReal (calls_listed s r e g args k l)
 listed_real s r (Some e) g args k l clock there plain = either_real (takes e.signature (keys args)) _ _ (evaluates_real s r e.func (in_order e.signature args) k l) tt
 listed_real s r None None args k l clock there plain = absurd (cc there)
-listed_real s r None (Some g) args k l clock there plain = absurd (special g.special there plain)
-  where
-    special : (x : Special) → is_some (elim x [ HttpCall m ↦ Some m | y ↦ None ]) ≡ true → (special_kind x clock ≡ ByCall → ⊥) → ⊥
-    special (HttpCall m) there plain = plain refl
-    special SysLog there plain = cc there
-    special SysSleep there plain = cc there
-    special SysSleepUntil there plain = cc there
-    special CreateEndpoint there plain = cc there
-    special AwaitCallback there plain = cc there
+listed_real s r None (Some g) args k l clock there plain = either_real (call_takes g.name g.signature (keys args)) _ _ (special_real s r g.special args k l clock there plain) tt
 
-named_real : (s : Scene) (r : Option Text) (o : Option Flow) (x : Text) (args : Pairs) (k : List Item) (l : Local) (clock : Bool) → (is_some o || is_some (func_named x) || is_some (http_method (special_named x))) ≡ true
+named_real : (s : Scene) (r : Option Text) (o : Option Flow) (x : Text) (args : Pairs) (k : List Item) (l : Local) (clock : Bool) → (is_some o || is_some (func_named x) || is_plain_listed (special_named x)) ≡ true
     → (call_kind o x clock ≡ ByCall → ⊥) → IsReal (calls_named s r o x args k l)
 named_real s r (Some w) x args k l clock there plain = calls_with_real s w r (bindings w.params args) k l
 named_real s r None x args k l clock there plain = listed_real s r (func_named x) (special_named x) args k l clock there plain
@@ -361,3 +362,23 @@ real s k l ByCall at has is = subst (λ j. IsReal (issues s j l)) (sym at) (issu
 pub resumed_real : (s : Scene) (r : Option Text) (e : Result Data Data) (l : Local) → IsReal (resumed s r e l)
 resumed_real s r (Ok v) l = gives_real s r v l.control (awake l)
 resumed_real s r (Err e) l = raises_real s l.control (awake l) e
+
+-- at its due moment, where it stands so that it can go on
+pub due_real : (s : Scene) (w : Wait) (l : Local) → CanWake l.control w → is_awake w ≡ false → IsReal (due_by s w l)
+due_real s Awake l can sleeps = absurd (cc sleeps)
+due_real s (Sleep t r) l can sleeps = resumed_real s r (Ok null) l
+due_real s (Delay t) l can sleeps = again l.control can
+  where
+    again : (k : List Item) → is_before_try k ≡ true → IsReal (retries k (awake l))
+    again [] h = absurd (cc h)
+    again (Try (try body p x) n d ∷ k) h = goes_real (entered body ∷ Try (try body p x) n d ∷ k) (awake l)
+    again (Do block left ∷ k) h = absurd (cc h)
+    again (Entries es ∷ k) h = absurd (cc h)
+    again (Then x ∷ k) h = absurd (cc h)
+    again (Loop b left i ∷ k) h = absurd (cc h)
+    again (Judge t n d e ∷ k) h = absurd (cc h)
+    again (Mark ∷ k) h = absurd (cc h)
+    again (Back r ∷ k) h = absurd (cc h)
+    again (Join body left n running es ∷ k) h = absurd (cc h)
+due_real s (Calling n r) l can sleeps = resumed_real s r timeout_error l
+due_real s (Await n t r) l can sleeps = resumed_real s r timeout_error l

@@ -6,19 +6,19 @@
 use Rattle.std.proofs.Common.{◌≡◌, ◌≤◌, ℕ, zero, suc, ◌+◌, ◌%◌, max, Bool, true, false, not, ◌&&◌, List, Option, None, Some, [], ◌∷◌, option_map, refl, sym, ◌∙◌, ap}
 use Rattle.std.proofs.Math.Dec.{eqb-zero-suc}
 use Rattle.std.proofs.lemmas.Bool.{le-leb, lt-leb}
-use Rattle.std.specs.Prelude.{nat_le, if◌then◌else◌}
+use Rattle.std.specs.Prelude.{◌||◌, nat_le, if◌then◌else◌}
 use Rattle.wf_alone.proofs.Carried.{by_main}
-use Rattle.wf_alone.proofs.Off.{call_same}
+use Rattle.wf_alone.proofs.Off.{call_same, due_same}
 use Rattle.wf_alone.specs.Laws.{MainIsAnswered, MainIsDue, MainIsFlooded, MainWaits}
-use Rattle.wf_alone.specs.Machine.{Rest, closed, heard, main_at, main_by, main_local, main_scene, main_task, read_by}
-use Rattle.wf_alone.specs.Waiting.{Matches, call_by, call_of, caller}
+use Rattle.wf_alone.specs.Machine.{Rest, closed, heard, main_at, main_by, main_local, main_scene, main_task, passed, read_by}
+use Rattle.wf_alone.specs.Waiting.{Matches, call_by, call_of, caller, due_for}
 use Rattle.wf_ast.specs.Tree.{Program}
 use Rattle.wf_model.specs.Choose.{ready_event}
 use Rattle.wf_model.specs.Config.{After, Answered, Await, Awake, Call, Calling, Config, Delay, Item, Layer, Open, Raised, Sleep, Task, TimedOut, To, Wait, body_limit}
 use Rattle.wf_model.specs.Local.{Local, Moved, Scene}
 use Rattle.wf_model.specs.Move.{due, resumed}
-use Rattle.wf_model.specs.Ready.{call, call_due, is_by, least_in}
-use Rattle.wf_model.specs.Step.{close, next, replied_to, when}
+use Rattle.wf_model.specs.Ready.{begins, call, due_of, is_awake, is_by, least_in, stands_waiting}
+use Rattle.wf_model.specs.Step.{close, next, replied_to, timed_out, when}
 use Rattle.wf_model.specs.Taken.{by_itself, merged}
 use Rattle.wf_model.specs.WaitLaws.{Info, Sound, info, info_at}
 use Rattle.wf_shared.specs.Events.{Event, Reply}
@@ -90,29 +90,50 @@ and_true : (b : Bool) → b && true ≡ b
 and_true true = refl
 and_true false = refl
 
+-- what is due is waited for
+pub asleep : (x : Rest) (w : Wait) (d : ℕ) → due_for x w ≡ Some d → is_awake w ≡ false
+asleep x Awake d is = absurd (cc is)
+asleep x (Sleep due v) d is = refl
+asleep x (Delay due) d is = refl
+asleep x (Calling n v) d is = refl
+asleep x (Await n due v) d is = refl
+
 pub waiting : MainWaits
-waiting p x k ls n v d is =
-    let at : call_due (call (main_at x k ls (Calling n v)) n) ≡ Some d = ap call_due (call_same x k ls (Calling n v) n) ∙ is in
+waiting p x k ls w d is =
+    let at : due_of (main_at x k ls w) w ≡ Some d = due_same x k ls w ∙ is in
+    let sleeps : is_awake w ≡ false = asleep x w d is in
     record {
       due = ap (λ o. least_in (elim o [ None ↦ [] | Some e ↦ e ∷ [] ])) at;
-      still = λ r. ap (λ o. not (is_by r o) && true) at ∙ and_true (not (nat_le d r));
+      still = λ r.
+          ap (λ b. not ((b && not (stands_waiting k)) || (b && begins k) || is_by r (due_of (main_at x k ls w) w)) && true) sleeps
+          ∙ ap (λ o. not (is_by r o) && true) at ∙ and_true (not (nat_le d r));
       chosen = λ r.
-          let t : ℕ × Task = (0, main_task k ls (Calling n v)) in
+          let t : ℕ × Task = (0, main_task k ls w) in
           let now = max r x.last in
-          ap (λ o. first_of_two (option_map (λ i. Event.Due i now) (if is_by r o then Some 0 else None)) (option_map (ready_event p now) (first_of_two (if nat_le (x.moves % 1) 0 && false then Some t else None) None))) at
+          let dues = option_map (λ i. Event.Due i now) (if is_by r (due_of (main_at x k ls w) w) then Some 0 else None) in
+          ap (λ b. first_of_two dues (first_of_two (option_map Event.Begin (if b && begins k then Some 0 else None))
+          (option_map (ready_event p now) (first_of_two (if nat_le (x.moves % 1) 0 && (b && not (stands_waiting k)) then Some t else None) (if b && not (stands_waiting k) then Some t else None))))) sleeps
+          ∙ ap (λ o. first_of_two (option_map (λ i. Event.Due i now) (if is_by r o then Some 0 else None)) (option_map (ready_event p now) (first_of_two (if nat_le (x.moves % 1) 0 && false then Some t else None) None))) at
           ∙ chosen (ready_event p now) t now (nat_le d r) (nat_le (x.moves % 1) 0);
     }
 
 -- ## Its end
+-- what the wait leaves
+close_passed : (x : Rest) (k : List Item) (ls : List Layer) (w : Wait) → timed_out w (main_at x k ls w) ≡ main_at (passed w x) k ls w
+close_passed x k ls Awake = refl
+close_passed x k ls (Sleep due v) = refl
+close_passed x k ls (Delay due) = refl
+close_passed x k ls (Calling n v) = close_main x k ls (Calling n v) n TimedOut
+close_passed x k ls (Await n due v) = refl
+
 pub is_due : MainIsDue
-is_due p x k ls n v d r is le due_now =
-    let w = Calling n v in
-    let after : After = by_itself p 0 r due (close n TimedOut (main_at (read_by r x) k ls w)) in
-    ap (λ b. when b (when (is_by r (call_due (call (main_at x k ls w) n))) after)) (le-leb x.last r le)
-    ∙ ap (λ o. when (is_by r o) after) (ap call_due (call_same x k ls (Calling n v) n) ∙ is)
+is_due p x k ls w d r is le due_now =
+    let after : After = by_itself p 0 r due (timed_out w (main_at (read_by r x) k ls w)) in
+    ap (λ b. when b (when (is_by r (due_of (main_at x k ls w) w)) after)) (le-leb x.last r le)
+    ∙ ap (λ o. when (is_by r o) after) (due_same x k ls w ∙ is)
     ∙ ap (λ b. when b after) (le-leb d r due_now)
-    ∙ ap (λ c. by_itself p 0 r due c) (close_main (read_by r x) k ls w n TimedOut)
-    ∙ by_main p (closed n TimedOut (read_by r x)) r k ls w due
+    ∙ ap (λ c. by_itself p 0 r due c) (close_passed (read_by r x) k ls w)
+    ∙ by_main p (passed w (read_by r x)) r k ls w due
 
 -- how it goes on with an answer
 abbrev Given : Option Text → Reply → Scene → Local → Moved

@@ -1,18 +1,18 @@
 -- Laws of executions in which `main` is the only task, and its control has no parallel steps. It stands at a control k with layers ls, and is
--- awake, or waits for an answer.
+-- awake, or waits: for an answer, for the end of a sleep, or for its next try.
 use Rattle.std.specs.Prelude.{◌≡◌, ◌<◌, ◌≤◌, ◌+◌, ℕ, false, not, if◌then◌else◌, nat_le, List, [], None, Some, Option, max}
-use Rattle.wf_alone.specs.Machine.{Rest, IsReached, closed, config_by, heard, main_at, main_by, main_local, main_scene, one_more, read_by, read_for, seen_by, sent, step_by}
-use Rattle.wf_alone.specs.Plain.{ArePlain, Moves}
-use Rattle.wf_alone.specs.Waiting.{IsOff, Matches, call_by, call_of, caller}
+use Rattle.wf_alone.specs.Machine.{Rest, IsReached, closed, config_by, heard, main_at, main_by, main_local, main_scene, one_more, passed, read_by, read_for, seen_by, sent, step_by}
+use Rattle.wf_alone.specs.Plain.{ArePlain, CanWake, Moves}
+use Rattle.wf_alone.specs.Waiting.{IsOff, Matches, call_by, call_of, caller, due_for}
 use Rattle.wf_ast.specs.Accept.{Accept}
 use Rattle.wf_ast.specs.Tree.{Program}
 use Rattle.wf_model.specs.Choose.{choose, wanted}
-use Rattle.wf_model.specs.Config.{Answered, Awake, Calling, Config, Item, Layer, NotNow, Raised, TimedOut, To, Wait}
+use Rattle.wf_model.specs.Config.{Answered, Awake, Calling, Config, Item, Layer, NotNow, Raised, To, Wait}
 use Rattle.wf_model.specs.Kinds.{NextKind, next_kind}
 use Rattle.wf_model.specs.Law.{NeverWrong}
 use Rattle.wf_model.specs.Local.{Does, End, Ends, Goes, Local, Sends}
-use Rattle.wf_model.specs.Move.{resumed, timeout_error}
-use Rattle.wf_model.specs.Ready.{call_due, least_due, quiet}
+use Rattle.wf_model.specs.Move.{due_by, resumed}
+use Rattle.wf_model.specs.Ready.{least_due, quiet}
 use Rattle.wf_model.specs.Run.{initial}
 use Rattle.wf_model.specs.Step.{next}
 use Rattle.wf_model.specs.Taken.{merged, outcome_of}
@@ -87,7 +87,7 @@ MainMatches = (p : Program) (x : Rest) (k : List Item) (ls : List Layer) (w : Wa
 abbrev pub ReachedIsSound : Type 0
 ReachedIsSound = (p : Program) (c : Config) → IsReached p c → Sound c
 
--- the due moment of the call is the only one; it is quiet before, and from then on the due moment is chosen
+-- what it waits for is due at one moment; it is quiet before, and from then on the due moment is chosen
 pub record StandsWaiting (p : Program) (c : Config) (last d : ℕ) : Type 0 where
   pub due : least_due c ≡ Some d
   pub still : (r : ℕ) → quiet c r ≡ not (nat_le d r)
@@ -95,19 +95,19 @@ pub record StandsWaiting (p : Program) (c : Config) (last d : ℕ) : Type 0 wher
 
 abbrev pub MainWaits : Type 0
 MainWaits =
-    (p : Program) (x : Rest) (k : List Item) (ls : List Layer) (n : ℕ) (v : Option Text) (d : ℕ)
-    → call_due (call_by x n) ≡ Some d
-    → StandsWaiting p (main_at x k ls (Calling n v)) x.last d
+    (p : Program) (x : Rest) (k : List Item) (ls : List Layer) (w : Wait) (d : ℕ)
+    → due_for x w ≡ Some d
+    → StandsWaiting p (main_at x k ls w) x.last d
 
--- from that moment on the call is closed, and `main` goes on with a TimeoutError
+-- from that moment on it ends: a call is closed, and `main` goes on with a TimeoutError; a sleep ends; and the body of a `try` is tried again
 abbrev pub MainIsDue : Type 0
 MainIsDue =
-    (p : Program) (x : Rest) (k : List Item) (ls : List Layer) (n : ℕ) (v : Option Text) (d r : ℕ)
-    → call_due (call_by x n) ≡ Some d
+    (p : Program) (x : Rest) (k : List Item) (ls : List Layer) (w : Wait) (d r : ℕ)
+    → due_for x w ≡ Some d
     → x.last ≤ r
     → d ≤ r
-    → let y = closed n TimedOut (read_by r x) in
-    next p (main_at x k ls (Calling n v)) (Event.Due 0 r) ≡ merged 0 None (resumed (main_scene p y r) v timeout_error (main_local k ls (Calling n v))) (main_at y k ls (Calling n v))
+    → let y = passed w (read_by r x) in
+    next p (main_at x k ls w) (Event.Due 0 r) ≡ merged 0 None (due_by (main_scene p y r) w (main_local k ls w)) (main_at y k ls w)
 
 -- an answer within the limit on bodies closes the call, and `main` goes on with what it gives
 abbrev pub MainIsAnswered : Type 0
@@ -139,17 +139,18 @@ AnswersCanCome =
     → x.last ≤ r
     → (d : Config) × (next p (main_at x k ls w) (Event.Answer n r a) ≡ To d)
 
--- and so does a due moment that has come
+-- and so does a due moment that has come, where `main` can go on then
 abbrev pub DuesCanCome : Type 0
 DuesCanCome =
     NeverWrong
-    → (p : Program) (x : Rest) (k : List Item) (ls : List Layer) (n : ℕ) (v : Option Text) (d r : ℕ)
+    → (p : Program) (x : Rest) (k : List Item) (ls : List Layer) (w : Wait) (d r : ℕ)
     → Accept p
-    → IsReached p (main_at x k ls (Calling n v))
-    → call_due (call_by x n) ≡ Some d
+    → IsReached p (main_at x k ls w)
+    → CanWake k w
+    → due_for x w ≡ Some d
     → x.last ≤ r
     → d ≤ r
-    → (e : Config) × (next p (main_at x k ls (Calling n v)) (Event.Due 0 r) ≡ To e)
+    → (e : Config) × (next p (main_at x k ls w) (Event.Due 0 r) ≡ To e)
 
 -- ## What a step comes to
 -- where no layer stands outside: the task goes on, or waits; it makes a request first; or it has ended

@@ -7,7 +7,7 @@
 --     facts_of, argument_of    what a start tells
 use Rattle.std.specs.Prelude.{ℕ, ◌+◌, List, [], ◌∷◌, ◌++◌, length, None, slice_set, zero, suc, unwrap_or}
 use Rattle.wf_ast.specs.Tree.{Program}
-use Rattle.wf_model.specs.Config.{Active, Call, Config, Facts, Item, Layer, Open, Outcome, Wait}
+use Rattle.wf_model.specs.Config.{Active, Call, Calling, Config, Facts, Item, Layer, Open, Outcome, TimedOut, Wait}
 use Rattle.wf_model.specs.Config as model
 use Rattle.wf_model.specs.Kinds.{ByCall, ByClock, NextKind, Plainly}
 use Rattle.wf_model.specs.Local.{Local, Main, Moved, Scene}
@@ -76,6 +76,11 @@ closed_in (suc n) y calls = slice_set calls n y
 -- call n is closed so
 abbrev pub closed : ℕ → Call → Rest → Rest
 closed n y x = record x { calls = closed_in n y x.calls }
+
+-- the due moment of what `main` waits for has come: a call is closed
+abbrev pub passed : Wait → Rest → Rest
+passed (Calling n v) x = closed n TimedOut x
+passed w x = x
 
 -- so many bytes of bodies more
 abbrev pub heard : ℕ → Rest → Rest

@@ -1,19 +1,30 @@
--- Control without parallel steps, whose calls are those of workflows, of functions that expressions may call too, and of HTTP.
+-- Control without parallel steps, whose calls are those of workflows, of functions that expressions may call too, of HTTP, and sleeps.
 --     is_plain, ArePlain   an item of these forms, and a control
 --     has_move, Moves      an item that has something to do, and a control whose innermost item has
 --     IsReal               a move that isn't ruled out
-use Rattle.std.specs.Prelude.{◌≡◌, Bool, true, false, ◌||◌, is_some, List, [], ◌∷◌}
+--     CanWake              where a task that waits can go on at its due moment
+use Rattle.std.specs.Prelude.{◌≡◌, Bool, true, false, ◌||◌, is_some, List, [], ◌∷◌, None, Some, Option}
 use Rattle.std.specs.List.{list_all}
 use Rattle.wf_ast.specs.Flows.{flow}
-use Rattle.wf_ast.specs.Func.{func_named, special_named}
+use Rattle.wf_ast.specs.Func.{HttpCall, Special, SpecialListing, SysSleep, SysSleepUntil, func_named, special_named}
 use Rattle.wf_ast.specs.Tree.{Body, Flow, more, step}
-use Rattle.wf_model.specs.Calls.{http_method}
-use Rattle.wf_model.specs.Config.{Item, Back, Do, Entries, Join, Then, Loop}
+use Rattle.wf_model.specs.Config.{Item, Back, Delay, Do, Entries, Join, Then, Try, Loop, Wait}
 use Rattle.wf_model.specs.Local.{Moved, Goes, Ends, Does, Breaks, Not, Sends}
 
--- a body of these forms: a call is one of these workflows, of a function that expressions may call too, or of HTTP
+-- of the functions of call steps alone those of HTTP and the sleeps
+abbrev pub is_plain_special : Special → Bool
+is_plain_special (HttpCall m) = true
+is_plain_special SysSleep = true
+is_plain_special SysSleepUntil = true
+is_plain_special x = false
+
+abbrev pub is_plain_listed : Option SpecialListing → Bool
+is_plain_listed None = false
+is_plain_listed (Some g) = is_plain_special g.special
+
+-- a body of these forms: a call is one of these workflows, of a function that expressions may call too, of HTTP, or a sleep
 abbrev pub is_plain_body : List Flow → Body → Bool
-is_plain_body fs (Body.Call f) = is_some (flow fs f.name) || is_some (func_named f.name) || is_some (http_method (special_named f.name))
+is_plain_body fs (Body.Call f) = is_some (flow fs f.name) || is_some (func_named f.name) || is_plain_listed (special_named f.name)
 is_plain_body fs (Body.Parallel p) = false
 is_plain_body fs body = true
 
@@ -47,3 +58,12 @@ IsReal (Does (Sends q due) m) = IsReal m
 IsReal (Does x m) = ⊥
 IsReal (Breaks kind) = Unit {0}
 IsReal Not = ⊥
+
+-- where a task waits for its next try it stands before the body of a `try`
+abbrev pub is_before_try : List Item → Bool
+is_before_try (Try t n d ∷ k) = true
+is_before_try k = false
+
+abbrev pub CanWake : List Item → Wait → Type 0
+CanWake k (Delay due) = is_before_try k ≡ true
+CanWake k w = Unit {0}

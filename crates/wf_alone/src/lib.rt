@@ -1,5 +1,5 @@
 //! Laws of an execution in which `main` is the only task, and what it has still to do has no parallel steps. It may make HTTP calls, and
-//! wait for their answers.
+//! wait for their answers; it may sleep; and it may wait until the body of a `try` is tried again.
 //!
 //! The laws are about the definitions of wf_model; the functions here do nothing and carry them as clauses. The machine above stands
 //! on the lemmas in proofs/.
@@ -23,8 +23,8 @@ pub fn laws_of_main()
     ensures off { OffNever }
 {}
 
-/// While `main` waits for an answer, its call is the only open one. Nothing else comes but an answer to it, its due moment once that has
-/// come, and a cancelling; and in a run of an accepted program each of these can come.
+/// While `main` waits for an answer, its call is the only open one, and else none is open. Nothing comes then but an answer to it, the due
+/// moment of what `main` waits for once that has come, and a cancelling; and in a run of an accepted program each of these can come.
 pub fn laws_of_waiting()
     ensures sound { ReachedIsSound }
     ensures matches { MainMatches }

@@ -26,14 +26,15 @@ fn uncalled(name: &str) -> Option<&'static str>
     }
 }
 
-// Whether a function of this name that only steps may call is built: a call of HTTP.
+// Whether a function of this name that only steps may call is built: a call of HTTP or a sleep.
 fn is_built(name: &str) -> bool
     ensures { result ≡ forms.is_built (special_named name.now) }
 {
-    matches!(
-        name,
-        "http.get" | "http.post" | "http.put" | "http.patch" | "http.delete" | "http.request"
-    )
+    match name {
+        "http.get" | "http.post" | "http.put" | "http.patch" | "http.delete" => true,
+        "http.request" | "sys.sleep" | "sys.sleep_until" => true,
+        _ => false,
+    }
 }
 
 // The key of a body whose form isn't built.
@@ -47,12 +48,8 @@ fn form_key(flows: &[Flow], body: &Body) -> Option<&'static str>
             Some(_) => None,
         },
         Body::Parallel(_) => Some("parallel"),
-        Body::Try(tried) => match &tried.policy {
-            None => None,
-            Some(_) => Some("retry"),
-        },
         Body::Nothing | Body::Assign(_) | Body::Switch(_) | Body::For(_) => None,
-        Body::Block(_) | Body::Raise(_) | Body::Return(_) => None,
+        Body::Block(_) | Body::Try(_) | Body::Raise(_) | Body::Return(_) => None,
     }
 }
 

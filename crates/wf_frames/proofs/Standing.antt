@@ -47,6 +47,7 @@ module _ (nodes : List Node) where
   at_node (frame.Mark m) h = tt
   at_node (frame.Back None m) h = tt
   at_node (frame.Back (Some n) m) h = ap is_call_node h.1.at ∙ ap is_call h.1.is
+  at_node (frame.Judge tried r delay error m) h = (ap is_try_node h.0.1.at ∙ ap is_try h.0.1.is, h.1)
 
   list_there : (n at : ℕ) (o : Option Listed) → list_at nodes n ≡ o → is_some o ≡ true → at ≤ length (steps_of o) → HasNode nodes (frame.Do n at)
   list_there n at None e t w = absurd (cc t)
@@ -78,6 +79,7 @@ module _ (nodes : List Node) where
   has_node (frame.Mark m) h = tt
   has_node (frame.Back None m) h = tt
   has_node (frame.Back (Some n) m) h = call_there n (slice_get nodes n) refl h
+  has_node (frame.Judge tried r delay error m) h = (try_there tried (slice_get nodes tried) refl h.0, h.1)
 
   all_at : (ns : List Spot) (fs : List Frame) → Fits ns nodes fs → AllStandAt ns nodes fs
   all_at ns [] h = tt

@@ -14,6 +14,8 @@ use Rattle.wf_nodes.specs.declared.node.LoopNode.{LoopNode}
 use Rattle.wf_nodes.specs.declared.node.Node.{Node}
 use Rattle.wf_nodes.specs.declared.node.TryNode.{TryNode}
 use Rattle.wf_nodes.specs.declared.node.NodeKind.TheVariants as variant
+use Rattle.wf_value.specs.Data.{depth}
+use Rattle.wf_value.specs.Plain.{plain}
 
 -- innermost first
 abbrev pub reach : List Frame → List ℕ
@@ -21,6 +23,7 @@ reach [] = []
 reach (frame.Do n at ∷ fs) = n ∷ reach fs
 reach (frame.Loop n l i ∷ fs) = []
 reach (frame.Back call number ∷ fs) = []
+reach (frame.Judge n tries delay e number ∷ fs) = []
 reach (f ∷ fs) = reach fs
 
 -- ## Nodes
@@ -74,7 +77,7 @@ abbrev pub IsCallOf : List Node → Option ℕ → Type 0
 IsCallOf nodes None = Unit {0}
 IsCallOf nodes (Some n) = (f : CallNode) × IsCall nodes n f
 
--- the frame's number is that of a node of its kind
+-- the frame's number is that of a node of its kind, and an error on which is decided nests within the limit
 abbrev pub HasNode : List Node → Frame → Type 0
 HasNode nodes (frame.Do n at) = (b : Listed) × (list_at nodes n ≡ Some b) × (at ≤ length b.steps)
 HasNode nodes (frame.Lone n done) = n < length nodes
@@ -84,6 +87,7 @@ HasNode nodes (frame.Loop n l i) = (b : LoopNode) × IsLoop nodes n b
 HasNode nodes (frame.Try n tries delay) = (t : TryNode) × IsTry nodes n t
 HasNode nodes (frame.Mark number) = Unit {0}
 HasNode nodes (frame.Back call number) = IsCallOf nodes call
+HasNode nodes (frame.Judge n tries delay e number) = ((t : TryNode) × IsTry nodes n t) × (depth (plain e) ≤ 100)
 
 -- what owns the lists around the node's own one
 abbrev pub view_outside : Option View → List ℕ → List ℕ
@@ -99,6 +103,7 @@ Nests ns nodes (frame.Do n at) fs = outside_at ns nodes n ≡ reach fs
 Nests ns nodes (frame.Lone n done) fs = owners_at ns n ≡ reach fs
 Nests ns nodes (frame.Then n) fs = owners_at ns n ≡ reach fs
 Nests ns nodes (frame.Try n tries delay) fs = owners_at ns n ≡ reach fs
+Nests ns nodes (frame.Judge n tries delay e number) fs = owners_at ns n ≡ reach fs
 Nests ns nodes f fs = Unit {0}
 
 abbrev pub FrameFits : List Spot → List Node → Frame → List Frame → Type 0

@@ -1,9 +1,10 @@
 -- Frames, innermost first, and the items that they stand for.
+--     items          the items of one frame, before those outside it
 --     control        the items
 --     owned          the task's own layers
 use Rattle.std.specs.Prelude.{ℕ, ◌+◌, Bool, true, false, cond, List, [], ◌∷◌, drop, reverse, Some, None, Option, unwrap_or}
 use Rattle.wf_ast.specs.Tree.{Body, Entry, InList, LoopBody, Scalar, Steps, TryBody, loop, no_except, no_steps, try, unnamed}
-use Rattle.wf_model.specs.Config.{Item, Do, Entries, Then, Loop, Try, Mark, Back, Left, OfList, OfRange}
+use Rattle.wf_model.specs.Config.{Item, Do, Entries, Then, Loop, Try, Judge, Mark, Back, Left, OfList, OfRange}
 use Rattle.wf_frames.specs.declared.frames.Frame.{Frame}
 use Rattle.wf_frames.specs.declared.frames.Frame.TheVariants as frame
 use Rattle.wf_frames.specs.declared.frames.Frames.{Frames}
@@ -13,6 +14,7 @@ use Rattle.wf_scope.specs.Tasks.{Own}
 use Rattle.wf_nodes.specs.Spots.{Spot, from, part_at, part_body, part_list, part_next}
 use Rattle.wf_value.specs.Data.{null}
 use Rattle.wf_value.specs.Pairs.{Text}
+use Rattle.wf_value.specs.Plain.{plain}
 
 -- ## As a list
 abbrev pub inner : Frames → List Frame
@@ -62,6 +64,7 @@ abbrev pub lone_steps : List Spot → ℕ → Bool → Steps
 lone_steps ns n true = no_steps
 lone_steps ns n false = unnamed (part_body (part_at ns n)) (part_next (part_at ns n))
 
+-- the innermost item of a frame
 abbrev pub item : List Spot → Frame → Item
 item ns (frame.Do n at) = Do (part_list (part_at ns n)) (from at (part_list (part_at ns n)))
 item ns (frame.Lone n done) = Do no_steps (lone_steps ns n done)
@@ -71,21 +74,29 @@ item ns (frame.Loop n l i) = Loop (body_loop (part_body (part_at ns n))) (left_v
 item ns (frame.Try n tries delay) = Try (body_try (part_body (part_at ns n))) tries delay
 item ns (frame.Mark number) = Mark
 item ns (frame.Back call number) = Back (result_of ns call)
+item ns (frame.Judge n tries delay e number) = Back None
+
+-- the items of a frame, before those outside it: a predicate's call stands inside what it decides
+abbrev pub items : List Spot → Frame → List Item → List Item
+items ns (frame.Judge n tries delay e number) k = Back None ∷ Judge (body_try (part_body (part_at ns n))) tries delay (plain e) ∷ k
+items ns f k = item ns f ∷ k
 
 abbrev pub control : List Spot → List Frame → List Item
 control ns [] = []
-control ns (f ∷ fs) = item ns f ∷ control ns fs
+control ns (f ∷ fs) = items ns f (control ns fs)
 
 -- ## Own layers
 -- the number of the layer that ends with a frame
 abbrev pub mark_of : Frame → Option ℕ
 mark_of (frame.Mark number) = Some number
 mark_of (frame.Back call number) = Some number
+mark_of (frame.Judge n tries delay e number) = Some number
 mark_of f = None
 
 -- whether a call ends with a frame
 abbrev pub is_back : Frame → Bool
 is_back (frame.Back call number) = true
+is_back (frame.Judge n tries delay e number) = true
 is_back f = false
 
 -- how many calls do
@@ -102,6 +113,7 @@ abbrev pub owned : ℕ → List Frame → List Own
 owned first [] = own first false ∷ []
 owned first (frame.Mark number ∷ fs) = own number false ∷ owned first fs
 owned first (frame.Back call number ∷ fs) = own number true ∷ owned first fs
+owned first (frame.Judge n tries delay e number ∷ fs) = own number true ∷ owned first fs
 owned first (f ∷ fs) = owned first fs
 
 -- the number of the innermost
@@ -109,4 +121,5 @@ abbrev pub innermost : ℕ → List Frame → ℕ
 innermost first [] = first
 innermost first (frame.Mark number ∷ fs) = number
 innermost first (frame.Back call number ∷ fs) = number
+innermost first (frame.Judge n tries delay e number ∷ fs) = number
 innermost first (f ∷ fs) = innermost first fs

@@ -30,3 +30,4 @@ pub record Sees (s : Scene) (f : Facts) : Type 0 where
   pub id : s.facts.id ≡ f.id
   pub base : s.facts.base ≡ f.base
   pub now : s.now ≡ f.now
+  pub last : s.last ≡ f.last

@@ -22,7 +22,9 @@ use Rattle.wf_scope.specs.Store.{layers_of}
 use Rattle.wf_scope.specs.Tasks.{AreApart, AreOthers, Far, Own, far_layers, numbers, own_layers}
 use Rattle.wf_scope.specs.declared.layer.Layer.{Layer}
 use Rattle.wf_scope.specs.declared.scopes.Scopes.{Scopes}
+use Rattle.wf_value.specs.Data.{depth}
 use Rattle.wf_value.specs.Maps.{IsInOrder, key_cmp}
+use Rattle.wf_value.specs.Plain.{plain}
 
 -- ## Frames
 -- the steps of a list that may be there
@@ -59,7 +61,7 @@ abbrev pub StandsCall : List Node → Option ℕ → Type 0
 StandsCall nodes None = Unit {0}
 StandsCall nodes (Some n) = is_call_node (slice_get nodes n) ≡ true
 
--- the frame's number is that of a node of its kind
+-- the frame's number is that of a node of its kind, and an error on which is decided nests within the limit
 abbrev pub StandsAt : List Node → Frame → Type 0
 StandsAt nodes (frame.Do n at) = (is_some (list_at nodes n) ≡ true) × (at ≤ length (steps_of (list_at nodes n)))
 StandsAt nodes (frame.Lone n done) = n < length nodes
@@ -69,6 +71,7 @@ StandsAt nodes (frame.Loop n l i) = is_loop_node (slice_get nodes n) ≡ true
 StandsAt nodes (frame.Try n tries delay) = is_try_node (slice_get nodes n) ≡ true
 StandsAt nodes (frame.Mark number) = Unit {0}
 StandsAt nodes (frame.Back call number) = StandsCall nodes call
+StandsAt nodes (frame.Judge n tries delay e number) = (is_try_node (slice_get nodes n) ≡ true) × (depth (plain e) ≤ 100)
 
 abbrev pub AllStandAt : List Spot → List Node → List Frame → Type 0
 AllStandAt ns nodes [] = Unit {0}
@@ -112,6 +115,7 @@ StandsAt-prop nodes (frame.Loop n l i) = Coded-set coded_bool _ _
 StandsAt-prop nodes (frame.Try n tries delay) = Coded-set coded_bool _ _
 StandsAt-prop nodes (frame.Mark number) = Unit-prop
 StandsAt-prop nodes (frame.Back call number) = StandsCall-prop nodes call
+StandsAt-prop nodes (frame.Judge n tries delay e number) = ×_prop (Coded-set coded_bool _ _) le_prop
 
 Nests-prop : (ns : List Spot) (nodes : List Node) (f : Frame) (fs : List Frame) → IsProp (Nests ns nodes f fs)
 Nests-prop ns nodes (frame.Do n at) fs = Coded-set (coded_list coded_ℕ) _ _
@@ -122,6 +126,7 @@ Nests-prop ns nodes (frame.Loop n l i) fs = Unit-prop
 Nests-prop ns nodes (frame.Try n tries delay) fs = Coded-set (coded_list coded_ℕ) _ _
 Nests-prop ns nodes (frame.Mark number) fs = Unit-prop
 Nests-prop ns nodes (frame.Back call number) fs = Unit-prop
+Nests-prop ns nodes (frame.Judge n tries delay e number) fs = Coded-set (coded_list coded_ℕ) _ _
 
 AllStandAt-prop : (ns : List Spot) (nodes : List Node) (fs : List Frame) → IsProp (AllStandAt ns nodes fs)
 AllStandAt-prop ns nodes [] = Unit-prop

@@ -1,10 +1,11 @@
 // What a step may read of its execution.
 use wf_value::{Pairs, Text};
 
-/// What a step may read of its execution: the last reading of the clock in milliseconds, the address under which callbacks come, the id,
-/// and the environment.
+/// What a step may read of its execution: the reading of the clock that it sees and the last reading, both in milliseconds, the address
+/// under which callbacks come, the id, and the environment.
 pub struct Facts {
     pub now: u64,
+    pub last: u64,
     pub base: Text,
     pub id: Text,
     pub env: Pairs,
@@ -15,6 +16,7 @@ impl Drop for Facts {
     fn drop(self) {
         let Facts {
             now: _,
+            last: _,
             base: _,
             id: _,
             env: _,

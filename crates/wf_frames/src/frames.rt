@@ -4,7 +4,7 @@ ghost use Rattle.wf_frames.specs.Frames.{calls_of, inner, innermost, popped, top
 
 use std::alloc::Global;
 use wf_scope::Chain;
-use wf_value::{List, OutOfMemory};
+use wf_value::{List, OutOfMemory, Value};
 
 /// The values that a loop has left.
 #[derive(Drop)]
@@ -33,8 +33,11 @@ pub enum Frame {
     Try(u32, u64, Option<u64>),
     /// The layer of this number ends here.
     Mark(u64),
-    /// The call of a step ends here, or one that no step makes, with its layer.
+    /// The call of a step ends here, with its layer.
     Back(Option<u32>, u64),
+    /// The call of the workflow that decides on an error of a `try` ends here, with its layer: the retries used, the last delay in
+    /// milliseconds, the error, and the layer's number. The call and the decision are one frame, since neither is left without the other.
+    Judge(u32, u64, Option<u64>, Value, u64),
 }
 
 impl Frame {
@@ -46,6 +49,7 @@ impl Frame {
     {
         match self {
             Frame::Mark(number) | Frame::Back(_, number) => Some(*number),
+            Frame::Judge(_, _, _, _, number) => Some(*number),
             Frame::Do(_, _) | Frame::Lone(_, _) | Frame::Entries(_, _) | Frame::Then(_) => None,
             Frame::Loop(_, _, _) | Frame::Try(_, _, _) => None,
         }
@@ -56,7 +60,7 @@ impl Frame {
         ensures { result ≡ is_back self.now }
     {
         match self {
-            Frame::Back(_, _) => true,
+            Frame::Back(_, _) | Frame::Judge(_, _, _, _, _) => true,
             Frame::Do(_, _) | Frame::Lone(_, _) | Frame::Entries(_, _) | Frame::Then(_) => false,
             Frame::Loop(_, _, _) | Frame::Try(_, _, _) | Frame::Mark(_) => false,
         }

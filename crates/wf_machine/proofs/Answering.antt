@@ -1,18 +1,18 @@
--- Answers to the call for which `main` waits, and its due moment.
+-- Answers to the call for which `main` waits, and the due moment of what it waits for.
 --     answer_comes, answer_stops     where an answer leads, within the limit on bodies and past it
---     due_comes                      where the due moment leads
+--     due_comes, moment_comes        where the due moment leads, of that call and of a sleep or a next try
 --     answer_off, due_off            what can't come
 use Rattle.std.proofs.Common.{◌≡◌, ◌<◌, ◌≤◌, ◌+◌, ◌⊎◌, inl, inr, ℕ, zero, suc, true, false, List, [], Option, None, Some, Result, Err, refl, sym, ap, ◌∙◌, subst}
 use Rattle.std.specs.Prelude.{IfErr, is_some}
 use Rattle.wf_alone.proofs.Waiting.{is_answered, is_due, is_flooded}
 use Rattle.wf_alone.specs.Laws.{MainMatches}
-use Rattle.wf_alone.specs.Machine.{Rest, closed_in, config_by, main_at, main_by, main_local, main_scene}
-use Rattle.wf_alone.specs.Waiting.{IsOff, call_by, caller}
+use Rattle.wf_alone.specs.Machine.{Rest, closed_in, config_by, main_at, main_by, main_local, main_scene, read_by}
+use Rattle.wf_alone.specs.Waiting.{IsOff, call_by, caller, due_for}
 use Rattle.wf_calls.specs.Numbers.{NumbersAreThoseOfSteps, call_in as call_at, call_task, closed_at}
 use Rattle.wf_calls.specs.declared.closed.Closed.TheVariants as closed
 use Rattle.wf_check.specs.Seen.{program_of}
 use Rattle.wf_machine.proofs.Places.{K, Ls, P, W, X, has_main, here, matches_now}
-use Rattle.wf_machine.proofs.Waiting.{call_of_view, calling_view}
+use Rattle.wf_machine.proofs.Waiting.{call_of_view, calling_view, has_moment, nothing_passed}
 use Rattle.wf_machine.specs.Causes.{Comes, Stops}
 use Rattle.wf_machine.specs.Main.{around, rest_of, tasks_view}
 use Rattle.wf_machine.specs.Seen.{DuesBy, DuesNot, control_by, rest_by, state_of, wait_by}
@@ -22,7 +22,7 @@ use Rattle.wf_machine.specs.declared.machine.Tally.{Tally}
 use Rattle.wf_machine.specs.declared.task.Cause.{Cause}
 use Rattle.wf_machine.specs.declared.task.Cause.TheVariants as cause
 use Rattle.wf_model.specs.Config.{Active, Answered, Call, Calling, Open, Raised, TimedOut, To}
-use Rattle.wf_model.specs.Move.{resumed, timeout_error}
+use Rattle.wf_model.specs.Move.{due_by, resumed, timeout_error}
 use Rattle.wf_model.specs.Ready.{call_due}
 use Rattle.wf_model.specs.Step.{next}
 use Rattle.wf_model.specs.Taken.{merged}
@@ -115,25 +115,42 @@ module _ (m : Machine) (t : Task) (is : m.task ≡ Some t) (run : m.ending ≡ e
       ∙ ap (λ o. To (config_by (rest_of m.facts (tally_at m r m.tally.bodies) m.calls) (tasks_view (P m t is) o m.scopes) (Raised (error_map ResourceLimitError)))) (sym is)
 
 -- ## Due moments
-pub due_comes : (m : Machine) (b n r : ℕ) → b ≡ 0 → DuesBy m n r → m.tally.last ≤ r → (e : Value) → plain e ≡ error_map TimeoutError → depth (plain e) ≤ 100
-    → Comes m (timed_out_by n (Err e)) r (tally_at m r m.tally.bodies) (Event.Due b r)
-due_comes m b n r zero_is dues le e error shallow =
+-- the call is closed for whose answer `main` waits
+pub due_comes : (m : Machine) (n r : ℕ) → DuesBy m (Some n) r → m.tally.last ≤ r → (e : Value) → plain e ≡ error_map TimeoutError → depth (plain e) ≤ 100
+    → Comes m (timed_out_by n (Err e)) r (tally_at m r m.tally.bodies) (Event.Due 0 r)
+due_comes m n r dues le e error shallow =
     let t = dues.task in
     let is = dues.is in
     let V : Option Text = result_in (around (P m t is)) t.wait in
     let calls : W m t is ≡ Calling n V = calling_view (around (P m t is)) t.wait n dues.waits in
     let Y : List Call → Rest = λ cs. rest_of m.facts (tally_at m r m.tally.bodies) cs in
-    subst (λ k. Comes m (timed_out_by n (Err e)) r (tally_at m r m.tally.bodies) (Event.Due k r)) (sym zero_is) (record {
+    record {
       task = t;
       is = is;
       running = dues.running;
       suits = (ap is_some dues.waits, shallow);
       leads =
           ap (λ c. next (P m t is) c (Event.Due 0 r)) (here m t is dues.running ∙ ap (main_at (X m t is) (K m t is) (Ls m t is)) calls)
-          ∙ is_due (P m t is) (X m t is) (K m t is) (Ls m t is) n V dues.moment r dues.due le dues.come
+          ∙ is_due (P m t is) (X m t is) (K m t is) (Ls m t is) (Calling n V) dues.moment r (sym (ap (due_for (X m t is)) calls) ∙ dues.due) le dues.come
           ∙ ap (λ cs. merged 0 None (resumed (main_scene (P m t is) (Y cs) r) V timeout_error (main_local (K m t is) (Ls m t is) (Calling n V))) (main_at (Y cs) (K m t is) (Ls m t is) (Calling n V))) (closed_same n TimedOut m.calls)
           ∙ ap (λ (d : Data). merged 0 None (resumed (main_scene (P m t is) (Y (closed_at m.calls n TimedOut)) r) V (Err d) (main_local (K m t is) (Ls m t is) (Calling n V))) (main_at (Y (closed_at m.calls n TimedOut)) (K m t is) (Ls m t is) (Calling n V))) (sym error)
           ∙ ap (λ w. merged 0 None (resumed (main_scene (P m t is) (Y (closed_at m.calls n TimedOut)) r) V (Err (plain e)) (main_local (K m t is) (Ls m t is) w)) (main_at (Y (closed_at m.calls n TimedOut)) (K m t is) (Ls m t is) w)) (sym calls);
+    }
+
+-- or its sleep ends, or the body of its `try` is tried again
+pub moment_comes : (m : Machine) (b r : ℕ) → b ≡ 0 → DuesBy m None r → m.tally.last ≤ r → Comes m cause.Due r (tally_at m r m.tally.bodies) (Event.Due b r)
+moment_comes m b r zero_is dues le =
+    let t = dues.task in
+    let is = dues.is in
+    subst (λ k. Comes m cause.Due r (tally_at m r m.tally.bodies) (Event.Due k r)) (sym zero_is) (record {
+      task = t;
+      is = is;
+      running = dues.running;
+      suits = has_moment (around (P m t is)) (X m t is) t.wait dues.moment dues.waits dues.due;
+      leads =
+          ap (λ c. next (P m t is) c (Event.Due 0 r)) (here m t is dues.running)
+          ∙ is_due (P m t is) (X m t is) (K m t is) (Ls m t is) (W m t is) dues.moment r dues.due le dues.come
+          ∙ ap (λ y. merged 0 None (due_by (main_scene (P m t is) y r) (W m t is) (main_local (K m t is) (Ls m t is) (W m t is))) (main_at y (K m t is) (Ls m t is) (W m t is))) (nothing_passed (around (P m t is)) (read_by r (X m t is)) t.wait dues.waits);
     })
 
 -- ## Which call

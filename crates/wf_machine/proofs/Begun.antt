@@ -5,8 +5,9 @@ use Rattle.wf_alone.proofs.Begun.{begun, begun_ended}
 use Rattle.wf_alone.specs.Machine.{argument_of, config_by, facts_of, main_at, rest_of as rest_from}
 use Rattle.wf_ast.specs.Tree.{Program, Steps, more, no_steps}
 use Rattle.wf_frames.specs.Owned.{control_of, own_of}
-use Rattle.wf_frames.specs.Frames.{control, inner}
+use Rattle.wf_frames.specs.Frames.{control, inner, items}
 use Rattle.wf_frames.specs.declared.frames.Frame.{Frame}
+use Rattle.wf_frames.specs.declared.frames.Frame.TheVariants as frame
 use Rattle.wf_machine.specs.Facts.{facts_view}
 use Rattle.wf_machine.proofs.Waiting.{going_by}
 use Rattle.wf_machine.specs.Main.{Begins, IsStanding, around, config_of, first_local}
@@ -67,10 +68,22 @@ module _ (p : Program) (s : Start) where
       by (more st rest) is = absurd (let some : Do (more st rest) (more st rest) ∷ [] ≡ [] = sym (ap (λ ss. (settled_from p V ss).control) is) ∙ begins in cc some)
 
 -- ## A machine that begins
+-- a frame stands for an item, at least
+some_items : (ns : List Spot) (f : Frame) (k : List Item) → IsSome (items ns f k)
+some_items ns (frame.Do n at) k = tt
+some_items ns (frame.Lone n done) k = tt
+some_items ns (frame.Entries n at) k = tt
+some_items ns (frame.Then n) k = tt
+some_items ns (frame.Loop n l i) k = tt
+some_items ns (frame.Try n tries delay) k = tt
+some_items ns (frame.Mark number) k = tt
+some_items ns (frame.Back call number) k = tt
+some_items ns (frame.Judge n tries delay e number) k = tt
+
 -- a task that goes on has something left
 some_left : (ns : List Spot) (nodes : List Node) (fs : List Frame) → Going nodes fs → IsSome (control ns fs)
 some_left ns nodes [] goes = absurd goes
-some_left ns nodes (f ∷ fs) goes = tt
+some_left ns nodes (f ∷ fs) goes = some_items ns f (control ns fs)
 
 -- which ending it has
 abbrev pub EndingFor : Option Task → Ending → Type 0

@@ -4,18 +4,24 @@ use Rattle.std.specs.Prelude.{IfSome, ◌||◌, bytes_eq, codes, if◌then◌els
 use Rattle.std.proofs.Math.Seq.{take-suc}
 use Rattle.std.proofs.lemmas.List.{append_assoc, length-append, take_all}
 use Rattle.std.proofs.lemmas.Slice.Eq.{bytes_eq-Decides}
+use Rattle.wf_alone.specs.Plain.{is_plain_listed, is_plain_special}
 use Rattle.wf_ast.specs.Flows.{flow, flow_in}
-use Rattle.wf_ast.specs.Func.{Listing, func_named, special_named}
+use Rattle.wf_ast.specs.Func.{AwaitCallback, CreateEndpoint, HttpCall, Listing, Special, SpecialListing, SysLog, SysSleep, SysSleepUntil, func_named, special_named}
 use Rattle.wf_ast.specs.Tree.{Flow}
+use Rattle.wf_callbacks.specs.Plain.{plain_method}
+use Rattle.wf_machine.specs.Main.{Says}
 use Rattle.wf_library.specs.Functions.{Callable, callable, function_of}
 use Rattle.wf_library.specs.declared.functions.Function.{Function}
 use Rattle.wf_model.specs.Calls.{http_method}
 use Rattle.wf_nodes.specs.Spots.{FlowAt, Spot, flow_spots, flows_spots, spot, spot_part, spots, steps_size}
+use Rattle.wf_shared.specs.Events.{Method}
 use Rattle.wf_shared.specs.HttpUrl.{first_of_two}
 use Rattle.wf_nodes.specs.declared.node.CallNode.{CallNode}
 use Rattle.wf_nodes.specs.declared.node.Node.{Node}
 use Rattle.wf_nodes.specs.declared.node.NodeKind.TheVariants as kind
-use Rattle.wf_steps.specs.Built.{AreTargets, IsTarget, IsWorkflow, flow_part, function_parts, listed}
+use Rattle.wf_steps.specs.Built.{AreTargets, IsAsked, IsTarget, IsWorkflow, flow_part, function_parts, listed, nap_special}
+use Rattle.wf_steps.specs.declared.target.Nap.{Nap}
+use Rattle.wf_steps.specs.declared.target.Nap.TheVariants as nap
 use Rattle.wf_steps.specs.declared.target.Target.{Target}
 use Rattle.wf_steps.specs.declared.target.Target.TheVariants as target
 use Rattle.wf_table.proofs.Sizes.{steps_long}
@@ -122,25 +128,53 @@ pub listed_so : (fs : List Flow) (ns : List Spot) (x : Text) (o : Option Target)
 listed_so fs ns x None so free = tt
 listed_so fs ns x (Some t) so free = so fs ns free
 
+-- where none of them may, the call of HTTP or the sleep may
+pub unlisted_so : (x : Text) (o : Option Target) → IfSome o (λ t. (gs : List Flow) (ms : List Spot) → is_some (flow gs x) ≡ false → is_some (func_named x) ≡ false → IsTarget gs ms (Some t) x) → is_some (func_named x) ≡ false
+    → IfSome o (λ t. (gs : List Flow) (ms : List Spot) → is_some (flow gs x) ≡ false → IsTarget gs ms (Some t) x)
+unlisted_so x None so none = tt
+unlisted_so x (Some t) so none = λ gs ms free. so gs ms free none
+
 -- ## What a call comes to
-pub plain_target : (fs : List Flow) (ns : List Spot) (o : Option Target) (x : Text) → IsTarget fs ns o x → (is_some (flow fs x) || is_some (func_named x) || is_some (http_method (special_named x))) ≡ true
-plain_target fs ns None x h = absurd h
-plain_target fs ns (Some (target.Flow n)) x h = ap (λ (b : Bool). b || is_some (func_named x) || is_some (http_method (special_named x))) h.named
-plain_target fs ns (Some (target.Function g)) x h = ap (λ (b : Bool). b || is_some (func_named x) || is_some (http_method (special_named x))) h.free ∙ by (func_named x) h.named
+-- a call of HTTP, or a sleep
+plain_http : (o : Option SpecialListing) (m : Option Method) → http_method o ≡ Some m → is_plain_listed o ≡ true
+plain_http None m e = absurd (cc e)
+plain_http (Some g) m e = by g.special e
   where
-    by : (o : Option Listing) → option_map listed o ≡ Some (function_parts g) → (is_some o || is_some (http_method (special_named x))) ≡ true
+    by : (s : Special) → elim s [ HttpCall n ↦ Some n | y ↦ None ] ≡ Some m → is_plain_special s ≡ true
+    by (HttpCall n) e = refl
+    by SysLog e = absurd (cc e)
+    by SysSleep e = refl
+    by SysSleepUntil e = refl
+    by CreateEndpoint e = absurd (cc e)
+    by AwaitCallback e = absurd (cc e)
+
+plain_nap : (o : Option SpecialListing) (b : Nap) → option_map (λ e. e.special) o ≡ Some (nap_special b) → is_plain_listed o ≡ true
+plain_nap None b e = absurd (cc e)
+plain_nap (Some g) b e = let same : g.special ≡ nap_special b = cc e in ap is_plain_special same ∙ by b
+  where
+    by : (b : Nap) → is_plain_special (nap_special b) ≡ true
+    by nap.For = refl
+    by nap.Until = refl
+
+pub plain_target : (fs : List Flow) (ns : List Spot) (o : Option Target) (x : Text) → IsTarget fs ns o x → (is_some (flow fs x) || is_some (func_named x) || is_plain_listed (special_named x)) ≡ true
+plain_target fs ns None x h = absurd h
+plain_target fs ns (Some (target.Flow n)) x h = ap (λ (b : Bool). b || is_some (func_named x) || is_plain_listed (special_named x)) h.named
+plain_target fs ns (Some (target.Function g)) x h = ap (λ (b : Bool). b || is_some (func_named x) || is_plain_listed (special_named x)) h.free ∙ by (func_named x) h.named
+  where
+    by : (o : Option Listing) → option_map listed o ≡ Some (function_parts g) → (is_some o || is_plain_listed (special_named x)) ≡ true
     by None e = absurd (cc e)
     by (Some l) e = refl
 plain_target fs ns (Some (target.Http m)) x h =
-    ap (λ (b : Bool). b || is_some (func_named x) || is_some (http_method (special_named x))) h.free
-    ∙ ap (λ (b : Bool). b || is_some (http_method (special_named x))) h.unlisted
-    ∙ ap is_some h.named
+    ap (λ (b : Bool). b || is_some (func_named x) || is_plain_listed (special_named x)) h.free
+    ∙ ap (λ (b : Bool). b || is_plain_listed (special_named x)) h.unlisted
+    ∙ plain_http (special_named x) (option_map plain_method m) h.named
+plain_target fs ns (Some (target.Sleeps b)) x h =
+    ap (λ (b : Bool). b || is_some (func_named x) || is_plain_listed (special_named x)) h.free
+    ∙ ap (λ (b : Bool). b || is_plain_listed (special_named x)) h.unlisted
+    ∙ plain_nap (special_named x) b h.named
 
 -- ## The targets of a table
--- a node, and what stands at its number
-abbrev pub Says : List Flow → List Spot → Node → Target → Type 0
-Says fs ns x t = (f : CallNode) → x.kind ≡ kind.Call f → IsTarget fs ns (Some t) f.name
-
+-- what stands at the number of each node
 abbrev pub Aimed : List Flow → List Spot → List Node → List Target → Type 0
 Aimed fs ns [] [] = Unit {0}
 Aimed fs ns [] (t ∷ ts) = ⊥
@@ -155,11 +189,17 @@ aimed_push fs ns (y ∷ xs) [] x t a says = absurd a
 aimed_push fs ns (y ∷ xs) (u ∷ ts) x t a says = (a.0, aimed_push fs ns xs ts x t a.1 says)
 
 -- all of them
+called : (fs : List Flow) (ns : List Spot) (xs : List Node) (ts : List Target) → Aimed fs ns xs ts → (i : ℕ) (x : Node) → slice_get xs i ≡ Some x → (t : Target) × (slice_get ts i ≡ Some t) × Says fs ns x t
+called fs ns [] ts a i x at = absurd (cc at)
+called fs ns (y ∷ xs) [] a i x at = absurd a
+called fs ns (y ∷ xs) (t ∷ ts) a zero x at = let same : y ≡ x = cc at in (t, refl, subst (λ z. Says fs ns z t) same a.0)
+called fs ns (y ∷ xs) (t ∷ ts) a (suc i) x at = called fs ns xs ts a.1 i x at
+
 pub aims : (fs : List Flow) (ns : List Spot) (xs : List Node) (ts : List Target) → Aimed fs ns xs ts → AreTargets fs ns xs ts
-aims fs ns [] ts a i x f at is = absurd (cc at)
-aims fs ns (y ∷ xs) [] a i x f at is = absurd a
-aims fs ns (y ∷ xs) (t ∷ ts) a zero x f at is = let same : y ≡ x = cc at in a.0 f (ap (λ z. z.kind) same ∙ is)
-aims fs ns (y ∷ xs) (t ∷ ts) a (suc i) x f at is = aims fs ns xs ts a.1 i x f at is
+aims fs ns xs ts a = record {
+  calls = λ i x f at is. let c = called fs ns xs ts a i x at in subst (λ o. IsTarget fs ns o f.name) (sym c.1) (c.2.call f is);
+  asks = λ i x y p f at is policy asks. let c = called fs ns xs ts a i x at in subst (λ o. IsAsked fs ns o f) (sym c.1) (c.2.ask y p f is policy asks);
+}
 
 -- one more of a table
 pub aimed_next : (fs : List Flow) (ns : List Spot) (xs : List Node) (i : ℕ) (x : Node) (ts us : List Target) (t : Target) → i < length xs → x ≡ get_or xs i x → us ≡ ts ++ t ∷ [] → Says fs ns x t → Aimed fs ns (take i xs) ts

@@ -14,8 +14,8 @@ use Rattle.wf_alone.specs.Waiting.{call_by, due_for}
 use Rattle.wf_check.specs.Seen.{program_of}
 use Rattle.wf_frames.specs.Frames.{result_of}
 use Rattle.wf_machine.proofs.Answering.{open_due}
-use Rattle.wf_machine.proofs.Places.{K, Ls, P, W, X, comes_from, has_main, has_move, here, matches_now, plain, running_of}
-use Rattle.wf_machine.proofs.Waiting.{awake_view, call_of_view, calling_view, waits_for_one}
+use Rattle.wf_machine.proofs.Places.{K, Ls, P, W, X, comes_from, has_main, has_move, here, matches_now, plain, running_of, wakes}
+use Rattle.wf_machine.proofs.Waiting.{awake_view, call_of_view, calling_view}
 use Rattle.wf_machine.specs.Main.{around, config_of, tasks_view}
 use Rattle.wf_machine.specs.Seen.{DuesBy, DuesNot, StepsBy, StepsNot, rest_by, state_of}
 use Rattle.wf_machine.specs.State.{outcome_by}
@@ -29,7 +29,7 @@ use Rattle.wf_model.specs.Kinds.{NextKind}
 use Rattle.wf_model.specs.Law.{NeverWrong}
 use Rattle.wf_model.specs.Ready.{call, call_due, is_by, least_due, least_in, quiet}
 use Rattle.wf_model.specs.Step.{next}
-use Rattle.wf_moves.specs.Waits.{call_in, result_in, wait_view}
+use Rattle.wf_moves.specs.Waits.{call_in, is_awake_in, wait_view}
 use Rattle.wf_moves.specs.declared.task.Task.{Task}
 use Rattle.wf_moves.specs.declared.wait.Wait.{Wait}
 use Rattle.wf_moves.specs.declared.wait.Wait.TheVariants as wait
@@ -46,39 +46,35 @@ step_chosen m q steps r =
     ∙ ap (λ w. choose (P m t is) (main_at (X m t is) (K m t is) (Ls m t is) w) r) (awake_view (around (P m t is)) t.wait steps.awake)
     ∙ main_is_chosen (P m t is) (X m t is) (K m t is) (Ls m t is) q (plain m t is) steps.wanted r
 
--- where `main` waits for call n, whose due moment is d
-waits_at : (m : Machine) (t : Task) (is : m.task ≡ Some t) → m.ending ≡ ending.Running → (n : ℕ) → call_in t.wait ≡ Some n
-    → (state_of m).config ≡ main_at (X m t is) (K m t is) (Ls m t is) (Calling n (result_in (around (P m t is)) t.wait))
-waits_at m t is run n waits = here m t is run ∙ ap (main_at (X m t is) (K m t is) (Ls m t is)) (calling_view (around (P m t is)) t.wait n waits)
-
-pub due_chosen : (m : Machine) (n r : ℕ) → DuesBy m n r → choose (program_of m.program) (state_of m).config r ≡ Some (Event.Due 0 (max r m.tally.last))
-due_chosen m n r dues =
+pub due_chosen : (m : Machine) (o : Option ℕ) (r : ℕ) → DuesBy m o r → choose (program_of m.program) (state_of m).config r ≡ Some (Event.Due 0 (max r m.tally.last))
+due_chosen m o r dues =
     let t = dues.task in
     let is = dues.is in
-    ap (λ c. choose (P m t is) c r) (waits_at m t is dues.running n dues.waits)
-    ∙ (waiting (P m t is) (X m t is) (K m t is) (Ls m t is) n (result_in (around (P m t is)) t.wait) dues.moment dues.due).chosen r
+    ap (λ c. choose (P m t is) c r) (here m t is dues.running)
+    ∙ (waiting (P m t is) (X m t is) (K m t is) (Ls m t is) (W m t is) dues.moment dues.due).chosen r
     ∙ ap (λ b. if b then Some (Event.Due 0 (max r m.tally.last)) else None) (le-leb dues.moment r dues.come)
 
--- the call for which `main` waits is open
-pub is_due_some : MainMatches → (m : Machine) (t : Task) (is : m.task ≡ Some t) → m.ending ≡ ending.Running → (n : ℕ) → call_in t.wait ≡ Some n → (d : ℕ) × (call_due (call_by (X m t is) n) ≡ Some d)
-is_due_some law m t is run n waits = open_due (call_by (X m t is) n) 0 ((matches_now m t is law run).waited n (call_of_view (around (P m t is)) t.wait ∙ waits))
-
--- the due moment by the wait
+-- the due moment of a call for which it waits
 pub due_for_is : (m : Machine) (t : Task) (is : m.task ≡ Some t) (n : ℕ) → call_in t.wait ≡ Some n → due_for (X m t is) (W m t is) ≡ call_due (call_by (X m t is) n)
 due_for_is m t is n waits = ap (due_for (X m t is)) (calling_view (around (P m t is)) t.wait n waits)
 
--- the call for which it waits, where it is due
-pub due_by : (m : Machine) (t : Task) (is : m.task ≡ Some t) → m.ending ≡ ending.Running → (n : ℕ) → call_in t.wait ≡ Some n → (r : ℕ) (o : Option ℕ) → o ≡ due_for (X m t is) (W m t is) → is_by r o ≡ true → DuesBy m n r
-due_by m t is run n waits r None its by = absurd (cc by)
-due_by m t is run n waits r (Some d) its by = record {
-  task = t;
-  is = is;
-  running = run;
-  waits = waits;
-  moment = d;
-  due = sym (its ∙ due_for_is m t is n waits);
-  come = leb-true d r by;
-}
+-- what `main` waits for ends at a moment: the call for which it waits is open
+pub is_due_some : MainMatches → (m : Machine) (t : Task) (is : m.task ≡ Some t) → m.ending ≡ ending.Running → is_awake_in t.wait ≡ false → (d : ℕ) × (due_for (X m t is) (W m t is) ≡ Some d)
+is_due_some law m t is run waits = by t.wait refl
+  where
+    by : (w : Wait) → t.wait ≡ w → (d : ℕ) × (due_for (X m t is) (W m t is) ≡ Some d)
+    by wait.Awake at = absurd (cc (sym waits ∙ ap is_awake_in at))
+    by (wait.Sleep due node) at = (due, ap (λ w. due_for (X m t is) (wait_view (around (P m t is)) w)) at)
+    by (wait.Delay due) at = (due, ap (λ w. due_for (X m t is) (wait_view (around (P m t is)) w)) at)
+    by (wait.Calling n node) at =
+        let calls : call_in t.wait ≡ Some n = ap call_in at in
+        let d = open_due (call_by (X m t is) n) 0 ((matches_now m t is law run).waited n (call_of_view (around (P m t is)) t.wait ∙ calls)) in
+        (d.0, due_for_is m t is n calls ∙ d.1)
+
+-- what it waits for, where that is due
+pub due_by : (m : Machine) (t : Task) (is : m.task ≡ Some t) → m.ending ≡ ending.Running → (r : ℕ) (o : Option ℕ) → o ≡ due_for (X m t is) (W m t is) → is_by r o ≡ true → DuesBy m (call_in t.wait) r
+due_by m t is run r None its by = absurd (cc by)
+due_by m t is run r (Some d) its by = record { task = t; is = is; running = run; waits = refl; moment = d; due = sym its; come = leb-true d r by }
 
 pub none_chosen : MainMatches → (m : Machine) (r : ℕ) → StepsNot m → DuesNot m r → choose (program_of m.program) (state_of m).config r ≡ None
 none_chosen law m r steps dues = by m.ending refl m.task refl
@@ -91,11 +87,10 @@ none_chosen law m r steps dues = by m.ending refl m.task refl
     by (ending.Raised v) run o is = at o (ending.Raised v) is run
     by ending.Running run None is = at None ending.Running is run
     by ending.Running run (Some t) is =
-        let n = waits_for_one t.wait (steps t is run) in
-        let d = is_due_some law m t is run n.0 n.1 in
-        let late : nat_le d.0 r ≡ false = sym (ap (is_by r) (due_for_is m t is n.0 n.1 ∙ d.1)) ∙ dues t is run in
-        ap (λ c. choose (P m t is) c r) (waits_at m t is run n.0 n.1)
-        ∙ (waiting (P m t is) (X m t is) (K m t is) (Ls m t is) n.0 (result_in (around (P m t is)) t.wait) d.0 d.1).chosen r
+        let d = is_due_some law m t is run (steps t is run) in
+        let late : nat_le d.0 r ≡ false = sym (ap (is_by r) d.1) ∙ dues t is run in
+        ap (λ c. choose (P m t is) c r) (here m t is run)
+        ∙ (waiting (P m t is) (X m t is) (K m t is) (Ls m t is) (W m t is) d.0 d.1).chosen r
         ∙ ap (λ b. if b then Some (Event.Due 0 (max r m.tally.last)) else None) late
 
 -- ## It can come
@@ -109,18 +104,16 @@ step_can_come right m q steps r =
     subst (λ w. (d : Config) × (next (P m t is) (main_at (X m t is) (K m t is) (Ls m t is) w) (wanted q 0 (max r m.tally.last)) ≡ To d)) (sym awake)
     (can_step right (P m t is) (X m t is) (K m t is) (Ls m t is) q (max r m.tally.last) accept (subst (λ w. IsReached (P m t is) (main_at (X m t is) (K m t is) (Ls m t is) w)) awake reached) (plain m t is) (has_move m t is steps.awake) steps.wanted le))
 
-pub due_can_come : NeverWrong → (m : Machine) (n r : ℕ) → DuesBy m n r → (d : Config) × (next (program_of m.program) (state_of m).config (Event.Due 0 (max r m.tally.last)) ≡ To d)
-due_can_come right m n r dues =
+pub due_can_come : NeverWrong → (m : Machine) (o : Option ℕ) (r : ℕ) → DuesBy m o r → (d : Config) × (next (program_of m.program) (state_of m).config (Event.Due 0 (max r m.tally.last)) ≡ To d)
+due_can_come right m o r dues =
     let t = dues.task in
     let is = dues.is in
     let moment = dues.moment in
     let come = dues.come in
     let le : m.tally.last ≤ max r m.tally.last = omega arith in
     let due : moment ≤ max r m.tally.last = omega (arith, come) in
-    let calls = calling_view (around (P m t is)) t.wait n dues.waits in
     comes_from m t is dues.running (Event.Due 0 (max r m.tally.last)) (λ accept reached.
-    subst (λ w. (d : Config) × (next (P m t is) (main_at (X m t is) (K m t is) (Ls m t is) w) (Event.Due 0 (max r m.tally.last)) ≡ To d)) (sym calls)
-    (dues_can_come right (P m t is) (X m t is) (K m t is) (Ls m t is) n (result_in (around (P m t is)) t.wait) moment (max r m.tally.last) accept (subst (λ w. IsReached (P m t is) (main_at (X m t is) (K m t is) (Ls m t is) w)) calls reached) dues.due le due))
+    dues_can_come right (P m t is) (X m t is) (K m t is) (Ls m t is) (W m t is) moment (max r m.tally.last) accept reached (wakes m t is) dues.due le due)
 
 -- ## Quiet
 -- a call is the same whatever the tasks and the outcome
@@ -151,32 +144,36 @@ calling_least x k ls n v o = least_one (call_due (call (main_by x k ls (Calling 
 
 module _ (m : Machine) (t : Task) (is : m.task ≡ Some t) where
   -- it is still where it waits for what isn't due yet
-  quiet_by : (w : Wait) (r : ℕ) → (is_some (call_in w) && not (is_by r (due_for (X m t is) (wait_view (around (P m t is)) w)))) ≡ quiet (main_by (X m t is) (K m t is) (Ls m t is) (wait_view (around (P m t is)) w) (outcome_by m.ending)) r
+  quiet_by : (w : Wait) (r : ℕ) → (not (is_awake_in w) && not (is_by r (due_for (X m t is) (wait_view (around (P m t is)) w)))) ≡ quiet (main_by (X m t is) (K m t is) (Ls m t is) (wait_view (around (P m t is)) w) (outcome_by m.ending)) r
   quiet_by wait.Awake r = sym ((main_is_busy (X m t is) (K m t is) (Ls m t is) (plain m t is)).0 r)
+  quiet_by (wait.Sleep due node) r = sym (and_true (not (nat_le due r)))
+  quiet_by (wait.Delay due) r = sym (and_true (not (nat_le due r)))
   quiet_by (wait.Calling n node) r = sym (calling_quiet (X m t is) (K m t is) (Ls m t is) n (result_of (spots (P m t is).flows) (Some node)) (outcome_by m.ending) r)
 
   -- where it stands, with or without an outcome
   stands : (state_of m).config ≡ main_by (X m t is) (K m t is) (Ls m t is) (W m t is) (outcome_by m.ending)
   stands = ap (λ o. config_of (P m t is) m.facts m.tally o m.scopes m.calls m.ending) is
 
-  pub quiet_is : (r : ℕ) → (is_some (call_in t.wait) && not (is_by r (due_for (X m t is) (W m t is)))) ≡ quiet (state_of m).config r
+  pub quiet_is : (r : ℕ) → (not (is_awake_in t.wait) && not (is_by r (due_for (X m t is) (W m t is)))) ≡ quiet (state_of m).config r
   quiet_is r = quiet_by t.wait r ∙ sym (ap (λ c. quiet c r) stands)
 
   -- what will be due
   least_by : (w : Wait) → due_for (X m t is) (wait_view (around (P m t is)) w) ≡ least_due (main_by (X m t is) (K m t is) (Ls m t is) (wait_view (around (P m t is)) w) (outcome_by m.ending))
   least_by wait.Awake = refl
+  least_by (wait.Sleep due node) = refl
+  least_by (wait.Delay due) = refl
   least_by (wait.Calling n node) = sym (calling_least (X m t is) (K m t is) (Ls m t is) n (result_of (spots (P m t is).flows) (Some node)) (outcome_by m.ending))
 
   pub least_is : due_for (X m t is) (W m t is) ≡ least_due (state_of m).config
   least_is = least_by t.wait ∙ sym (ap least_due stands)
 
   -- where it is still something will be due
-  still_due : MainMatches → m.ending ≡ ending.Running → (o : Option ℕ) → call_in t.wait ≡ o → (r : ℕ) → IsTrue (is_some o && not (is_by r (due_for (X m t is) (W m t is)))) → is_some (due_for (X m t is) (W m t is)) ≡ true
-  still_due law run None waits r still = absurd (cc still)
-  still_due law run (Some n) waits r still = ap is_some (due_for_is m t is n waits ∙ (is_due_some law m t is run n waits).1)
+  still_due : MainMatches → m.ending ≡ ending.Running → (b : Bool) → is_awake_in t.wait ≡ b → (r : ℕ) → IsTrue (not b && not (is_by r (due_for (X m t is) (W m t is)))) → is_some (due_for (X m t is) (W m t is)) ≡ true
+  still_due law run true waits r still = absurd (cc still)
+  still_due law run false waits r still = ap is_some (is_due_some law m t is run waits).1
 
   pub has_due : MainMatches → m.ending ≡ ending.Running → (r : ℕ) → IsTrue (quiet (state_of m).config r) → is_some (least_due (state_of m).config) ≡ true
-  has_due law run r still = sym (ap is_some least_is) ∙ still_due law run (call_in t.wait) refl r (subst IsTrue (sym (quiet_is r)) still)
+  has_due law run r still = sym (ap is_some least_is) ∙ still_due law run (is_awake_in t.wait) refl r (subst IsTrue (sym (quiet_is r)) still)
 
 -- without a task
 pub quiet_none : (m : Machine) → m.task ≡ None → (r : ℕ) → true ≡ quiet (state_of m).config r

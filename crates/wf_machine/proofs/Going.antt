@@ -34,13 +34,14 @@ use Rattle.wf_moves.specs.declared.task.Task.{Task}
 use Rattle.wf_scope.specs.declared.scopes.Scopes.{Scopes}
 use Rattle.wf_shared.specs.Events.{Event}
 
--- what a step sees: the machine's facts at a reading, where so many calls were made
-abbrev pub facts_at : Machine → (now calls : ℕ) → Facts
-facts_at m now n = record { of_step = record m.facts.of_step { now = now }; sending = record m.facts.sending { calls = n } }
+-- what a step sees: the machine's facts at a reading, behind the last one, where so many calls were made
+abbrev pub facts_at : Machine → (now last calls : ℕ) → Facts
+facts_at m now last n = record { of_step = record m.facts.of_step { now = now; last = last }; sending = record m.facts.sending { calls = n } }
 
-reaches_for : (c : Cause) (m : Machine) (y : Tally) (now n : ℕ) → n ≡ length m.calls → ReachesFor c (main_scene (program_of m.program) (rest_of m.facts y (calls_by c m.calls)) now) (facts_at m now n).sending
+reaches_for : (c : Cause) (m : Machine) (y : Tally) (now n : ℕ) → n ≡ length m.calls → ReachesFor c (main_scene (program_of m.program) (rest_of m.facts y (calls_by c m.calls)) now) (facts_at m now y.last n).sending
 reaches_for cause.Step m y now n counted = record { routes = refl; calls = sym counted }
 reaches_for (cause.Heard h) m y now n counted = tt
+reaches_for cause.Due m y now n counted = tt
 
 -- the task that goes on is the machine's
 same_task : (m : Machine) (c : Cause) (now : ℕ) (y : Tally) (e : Event) (comes : Comes m c now y e) (t : Task) → m.task ≡ Some t → comes.task ≡ t
@@ -50,7 +51,7 @@ pub suits_here : (m : Machine) (c : Cause) (now : ℕ) (y : Tally) (e : Event) �
 suits_here m c now y e comes t is = subst (SuitsTo c) (same_task m c now y e comes t is) comes.suits
 
 module _ (law : NeverWrong) (m : Machine) (c : Cause) (now : ℕ) (y : Tally) (e : Event) (comes : Comes m c now y e) (t : Task) (is : m.task ≡ Some t) (n : ℕ) (counted : n ≡ length m.calls) (u : Task) (x : Scopes) (did : Move)
-    (so : (s : Scene) → Sees s (facts_at m now n).of_step → ReachesFor c s (facts_at m now n).sending → Agrees s (around (program_of m.program))
+    (so : (s : Scene) → Sees s (facts_at m now y.last n).of_step → ReachesFor c s (facts_at m now y.last n).sending → Agrees s (around (program_of m.program))
     → MovesSo (does_by c (result_in (around (program_of m.program)) t.wait) s (task_local (around (program_of m.program)) t m.scopes)) did (task_local (around (program_of m.program)) u x)) where
   abbrev P : Program
   P = program_of m.program
@@ -75,8 +76,8 @@ module _ (law : NeverWrong) (m : Machine) (c : Cause) (now : ℕ) (y : Tally) (e
   right : (kind : Kind) → It ≡ Breaks kind → ⊥
   right kind wrong = goes_right m t is law e kind (leads ∙ ap (λ a. merged 0 None a (main_at Beside (control_by m t) (layers_by m t) (wait_by m t))) wrong)
 
-  sees : Sees Seen (facts_at m now n).of_step
-  sees = record { env = refl; id = refl; base = refl; now = refl }
+  sees : Sees Seen (facts_at m now y.last n).of_step
+  sees = record { env = refl; id = refl; base = refl; now = refl; last = refl }
 
   it_came : Came It did (task_local (around P) u x)
   it_came = came It did (task_local (around P) u x) (so Seen sees (reaches_for c m y now n counted) (refl, refl, refl)) right

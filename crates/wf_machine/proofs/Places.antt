@@ -11,7 +11,7 @@ use Rattle.wf_alone.proofs.Off.{off}
 use Rattle.wf_alone.proofs.Reached.{never as never_wrong}
 use Rattle.wf_alone.specs.Laws.{MainMatches}
 use Rattle.wf_alone.specs.Machine.{IsReached, Rest, main_at}
-use Rattle.wf_alone.specs.Plain.{ArePlain, Moves}
+use Rattle.wf_alone.specs.Plain.{ArePlain, CanWake, Moves}
 use Rattle.wf_alone.specs.Waiting.{IsOff, Matches, Matches-prop}
 use Rattle.wf_ast.specs.Accept.{Accept, Kind}
 use Rattle.wf_ast.specs.Tree.{Program}
@@ -23,7 +23,7 @@ use Rattle.wf_frames.specs.Frames.{inner}
 use Rattle.wf_frames.specs.Standing.{Standing}
 use Rattle.wf_frames.specs.Stands.{Stands}
 use Rattle.wf_machine.proofs.Plainly.{are_plain, moves}
-use Rattle.wf_machine.proofs.Waiting.{going_by}
+use Rattle.wf_machine.proofs.Waiting.{can_wake, going_by}
 use Rattle.wf_machine.specs.Main.{IsStanding, around, config_of}
 use Rattle.wf_machine.specs.Seen.{control_by, layers_by, rest_by, state_of, wait_by}
 use Rattle.wf_machine.specs.State.{outcome_by}
@@ -35,7 +35,7 @@ use Rattle.wf_model.proofs.Counts.{nothing_follows_an_outcome}
 use Rattle.wf_model.specs.Config.{Active, After, Config, Item, Layer, NotNow, To, Wait, Wrong}
 use Rattle.wf_model.specs.Law.{NeverWrong}
 use Rattle.wf_model.specs.Step.{next}
-use Rattle.wf_moves.specs.Waits.{CanGoOn, call_in}
+use Rattle.wf_moves.specs.Waits.{CanGoOn, is_awake_in}
 use Rattle.wf_moves.specs.declared.task.Task.{Task}
 use Rattle.wf_nodes.proofs.Told.{resolves}
 use Rattle.wf_nodes.specs.Spots.{spots}
@@ -87,8 +87,12 @@ module _ (m : Machine) (t : Task) (is : m.task ≡ Some t) where
   pub plain : ArePlain K
   plain = are_plain (spots P.flows) (inner t.frames)
 
-  pub has_move : call_in t.wait ≡ None → Moves P.flows K
+  pub has_move : is_awake_in t.wait ≡ true → Moves P.flows K
   has_move awake = moves P.flows (spots P.flows) (nodes_of m.program) m.targets.items (tells_of m.program m.built) m.aims (inner t.frames) standing.0.fit (going_by (nodes_of m.program) t awake standing.1)
+
+  -- and goes on at the moment until which it waits
+  pub wakes : CanWake K W
+  wakes = can_wake (around P) (nodes_of m.program) t.wait (inner t.frames) standing.1
 
   -- where it runs
   pub here : m.ending ≡ ending.Running → (state_of m).config ≡ main_at X K Ls W

@@ -4,11 +4,11 @@ use Rattle.std.specs.Prelude.{get_or, unwrap_or, drop, slice_get}
 use Rattle.wf_alone.specs.Plain.{ArePlain, Moves, has_move, is_plain_body}
 use Rattle.wf_ast.specs.Tree.{Flow}
 use Rattle.wf_frames.specs.Fits.{entries_at, list_at}
-use Rattle.wf_frames.specs.Frames.{control, item}
+use Rattle.wf_frames.specs.Frames.{control, item, items}
 use Rattle.wf_frames.specs.Standing.{AllStandAt, StandsAt, steps_of}
 use Rattle.wf_frames.specs.declared.frames.Frame.{Frame}
 use Rattle.wf_frames.specs.declared.frames.Frame.TheVariants as frame
-use Rattle.wf_model.specs.Config.{Do, Entries}
+use Rattle.wf_model.specs.Config.{Do, Entries, Item}
 use Rattle.wf_steps.proofs.Advancing.{entries_next, from_next, step_within}
 use Rattle.wf_steps.proofs.Parts.{entries_is, list_is, never_parallel, part_is}
 use Rattle.wf_machine.proofs.Calls.{plain_target}
@@ -33,6 +33,7 @@ are_plain ns (frame.Loop n l i ∷ fs) = are_plain ns fs
 are_plain ns (frame.Try n r d ∷ fs) = are_plain ns fs
 are_plain ns (frame.Mark number ∷ fs) = are_plain ns fs
 are_plain ns (frame.Back c number ∷ fs) = are_plain ns fs
+are_plain ns (frame.Judge tried r delay error number ∷ fs) = are_plain ns fs
 
 module _ (flows : List Flow) (ns : List Spot) (nodes : List Node) (targets : List Target) (tells : Tells ns nodes) (aims : AreTargets flows ns nodes targets) where
   -- the node of a number below the length
@@ -43,7 +44,7 @@ module _ (flows : List Flow) (ns : List Spot) (nodes : List Node) (targets : Lis
 
   -- the body of a node of a form that is built
   plain_kind : (n : ℕ) (x : Node) (k : NodeKind) → slice_get nodes n ≡ Some x → x.kind ≡ k → is_plain_body flows (part_body (part_by ns x.name x.next (kind_by x.codes.items.items k))) ≡ true
-  plain_kind n x (kind.Call f) at is = plain_target flows ns (slice_get targets n) f.name (aims n x f at is)
+  plain_kind n x (kind.Call f) at is = plain_target flows ns (slice_get targets n) f.name (aims.calls n x f at is)
   plain_kind n x (kind.Try t) at is = refl
   plain_kind n x (kind.Parallel p) at is = absurd (never_parallel nodes n x p tells.built at is)
   plain_kind n x (kind.Flow f) at is = refl
@@ -78,18 +79,19 @@ module _ (flows : List Flow) (ns : List Spot) (nodes : List Node) (targets : Lis
       ap (λ es. has_move flows (Entries (drop at es))) (entries_is ns nodes n b tells.resolves is)
       ∙ ap (λ es. has_move flows (Entries es)) (entries_next ns b at lt)
 
-  goes_on : (f : Frame) → StandsAt nodes f → GoesOn nodes f → has_move flows (item ns f) ≡ true
-  goes_on (frame.Do n at) stands goes = do_moves n at (list_at nodes n) refl goes
-  goes_on (frame.Lone n true) stands goes = absurd (cc goes)
-  goes_on (frame.Lone n false) stands goes = plain_body n stands
-  goes_on (frame.Entries n at) stands goes = entries_move n at (entries_at nodes n) refl goes
-  goes_on (frame.Then n) stands goes = refl
-  goes_on (frame.Loop n l i) stands goes = refl
-  goes_on (frame.Try n r d) stands goes = absurd goes
-  goes_on (frame.Mark number) stands goes = absurd goes
-  goes_on (frame.Back c number) stands goes = refl
+  goes_on : (f : Frame) → StandsAt nodes f → GoesOn nodes f → (k : List Item) → Moves flows (items ns f k)
+  goes_on (frame.Do n at) stands goes k = do_moves n at (list_at nodes n) refl goes
+  goes_on (frame.Lone n true) stands goes k = absurd (cc goes)
+  goes_on (frame.Lone n false) stands goes k = plain_body n stands
+  goes_on (frame.Entries n at) stands goes k = entries_move n at (entries_at nodes n) refl goes
+  goes_on (frame.Then n) stands goes k = refl
+  goes_on (frame.Loop n l i) stands goes k = refl
+  goes_on (frame.Try n r d) stands goes k = absurd goes
+  goes_on (frame.Mark number) stands goes k = absurd goes
+  goes_on (frame.Back c number) stands goes k = refl
+  goes_on (frame.Judge tried r delay error number) stands goes k = refl
 
   -- a task that goes on
   pub moves : (fs : List Frame) → AllStandAt ns nodes fs → Going nodes fs → Moves flows (control ns fs)
   moves [] stand going = absurd going
-  moves (f ∷ fs) stand going = goes_on f stand.0.0 going
+  moves (f ∷ fs) stand going = goes_on f stand.0.0 going (control ns fs)

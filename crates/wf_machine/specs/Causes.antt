@@ -17,12 +17,12 @@ use Rattle.wf_machine.specs.declared.task.Cause.{Cause}
 use Rattle.wf_machine.specs.declared.task.Cause.TheVariants as cause
 use Rattle.wf_model.specs.Config.{Call, Raised, To}
 use Rattle.wf_model.specs.Local.{Local, Moved, Scene}
-use Rattle.wf_model.specs.Move.{resumed}
+use Rattle.wf_model.specs.Move.{due, resumed}
 use Rattle.wf_model.specs.Step.{next}
 use Rattle.wf_model.specs.Taken.{merged}
 use Rattle.wf_moves.specs.Requests.{Reaches}
 use Rattle.wf_moves.specs.Stepped.{stepped}
-use Rattle.wf_moves.specs.Waits.{answer_view, call_in, result_in}
+use Rattle.wf_moves.specs.Waits.{answer_view, call_in, is_awake_in, moment_in, result_in}
 use Rattle.wf_moves.specs.declared.sending.Sending.{Sending}
 use Rattle.wf_moves.specs.declared.task.Task.{Task}
 use Rattle.wf_shared.specs.Events.{Event}
@@ -36,21 +36,26 @@ use Rattle.wf_value.specs.declared.Tag.TheVariants.{ResourceLimitError}
 abbrev pub does_by : Cause → Option Text → Scene → Local → Moved
 does_by cause.Step v s l = stepped s l
 does_by (cause.Heard h) v s l = resumed s v (answer_view h.with) l
+does_by cause.Due v s l = due s l
 
 -- the calls then: the one that was heard of is closed
 abbrev pub calls_by : Cause → List Call → List Call
 calls_by cause.Step calls = calls
 calls_by (cause.Heard h) calls = closed_at calls h.call (closed_view h.how)
+calls_by cause.Due calls = calls
 
--- a step is taken by a task that doesn't wait; what comes is given to one that does, and an error nests at most 100 deep
+-- a step is taken by a task that doesn't wait; an answer is given to one that waits for it, and an error nests at most 100 deep; and a moment
+-- ends a wait for it
 abbrev pub SuitsTo : Cause → Task → Type 0
-SuitsTo cause.Step t = call_in t.wait ≡ None
+SuitsTo cause.Step t = is_awake_in t.wait ≡ true
 SuitsTo (cause.Heard h) t = (is_some (call_in t.wait) ≡ true) × IfErr h.with (λ e. depth (plain e) ≤ 100)
+SuitsTo cause.Due t = is_some (moment_in t.wait) ≡ true
 
 -- what a step sees of the calls; what comes sees nothing of them
 abbrev pub ReachesFor : Cause → Scene → Sending → Type 0
 ReachesFor cause.Step s x = Reaches s x
 ReachesFor (cause.Heard h) s x = Unit {0}
+ReachesFor cause.Due s x = Unit {0}
 
 -- by an event `main` goes on for this cause at the reading `now`, and all else stands so then
 pub record Comes (m : Machine) (c : Cause) (now : ℕ) (y : Tally) (e : Event) : Type 0 where

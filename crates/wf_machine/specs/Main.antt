@@ -1,12 +1,14 @@
 -- Where `main` stands, by its frames, the store of its layers and what it waits for.
 --     around        what stands around it
 --     config_of     the configuration
---     IsStanding    its frames and layers fit the program's table, and it has something to do or waits for an answer
-use Rattle.std.specs.Prelude.{◌≡◌, ℕ, true, false, List, [], ◌∷◌, ◌++◌, None, Some, Option, is_some, option_map}
+--     IsStanding    its frames and layers fit the program's table, and it has something to do or waits
+use Rattle.std.specs.Prelude.{◌≡◌, ℕ, true, false, List, [], ◌∷◌, ◌++◌, None, Some, Option, is_some, option_map, slice_get}
 use Rattle.std.specs.Coded.{Coded-set, codes, coded_bool, ×_prop, Unit-prop, Π_prop, →_prop}
 use Rattle.wf_ast.specs.Flows.{flow}
 use Rattle.wf_ast.specs.Func.{func_named, special_named}
 use Rattle.wf_ast.specs.Tree.{Flow, Program}
+use Rattle.wf_ast.specs.declared.policy.Policy.{Policy}
+use Rattle.wf_ast.specs.declared.policy.Predicate.TheVariants as predicate
 use Rattle.wf_callbacks.specs.Plain.{plain_method}
 use Rattle.wf_callbacks.specs.declared.method.Method.{Method}
 use Rattle.wf_frames.specs.Owned.{Around, control_of, own_of}
@@ -23,7 +25,7 @@ use Rattle.wf_model.specs.Config as model
 use Rattle.wf_model.specs.Config.{Active, Call, Config, Do, Open, Outcome, Raised, Returned, limits}
 use Rattle.wf_model.specs.Local.{Local, settle}
 use Rattle.wf_model.specs.Run.{main_local, main_steps}
-use Rattle.wf_moves.specs.Waits.{CanGoOn, CanGoOn-prop, call_in, task_local, wait_view}
+use Rattle.wf_moves.specs.Waits.{CanGoOn, CanGoOn-prop, is_awake_in, task_local, wait_view}
 use Rattle.wf_moves.specs.declared.finish.End.TheVariants as end
 use Rattle.wf_moves.specs.declared.task.Move.{Move}
 use Rattle.wf_moves.specs.declared.task.Move.TheVariants as move
@@ -34,11 +36,15 @@ use Rattle.wf_value.specs.Plain.{plain}
 use Rattle.wf_nodes.specs.Sets.{Part-set}
 use Rattle.wf_library.specs.declared.functions.Function.{Function}
 use Rattle.wf_nodes.specs.Spots.{Spot, part_at, spots}
+use Rattle.wf_nodes.specs.declared.node.CallNode.{CallNode}
 use Rattle.wf_nodes.specs.declared.node.Node.{Node}
+use Rattle.wf_nodes.specs.declared.node.NodeKind.TheVariants as kind
+use Rattle.wf_nodes.specs.declared.node.TryNode.{TryNode}
 use Rattle.wf_scope.specs.Store.{layers_of}
 use Rattle.wf_scope.specs.Tasks.{own_layers}
 use Rattle.wf_scope.specs.declared.scopes.Scopes.{Scopes}
-use Rattle.wf_steps.specs.Built.{AreTargets, IsFunction, IsHttp, IsTarget, IsWorkflow, flow_part, function_parts, listed}
+use Rattle.wf_steps.specs.Built.{AreTargets, IsAsked, IsFunction, IsHttp, IsNap, IsTarget, IsWorkflow, flow_part, function_parts, listed, nap_special}
+use Rattle.wf_steps.specs.declared.target.Nap.{Nap}
 use Rattle.wf_steps.specs.declared.target.Target.{Target}
 use Rattle.wf_steps.specs.declared.target.Target.TheVariants as target
 
@@ -46,7 +52,7 @@ use Rattle.wf_steps.specs.declared.target.Target.TheVariants as target
 abbrev pub around : Program → Around
 around p = record { flows = p.flows; spots = spots p.flows; keys = []; limit = (limits 1).variables; others = 0 }
 
--- what each call names stands at the call's own number
+-- what each call names stands at the call's own number, and the workflow of each predicate at that of its `try`
 abbrev pub Aims : Program → List Node → List Target → Type 0
 Aims p nodes targets = AreTargets p.flows (spots p.flows) nodes targets
 
@@ -69,14 +75,37 @@ IsHttp-prop fs m x = λ g h i. record {
   named = Coded-set (hlevel codes) (http_method (special_named x)) (Some (option_map plain_method m)) g.named h.named i;
 }
 
+IsNap-prop : (fs : List Flow) (b : Nap) (x : Text) → IsProp (IsNap fs b x)
+IsNap-prop fs b x = λ g h i. record {
+  free = Coded-set coded_bool (is_some (flow fs x)) false g.free h.free i;
+  unlisted = Coded-set coded_bool (is_some (func_named x)) false g.unlisted h.unlisted i;
+  named = Coded-set (hlevel codes) (option_map (λ e. e.special) (special_named x)) (Some (nap_special b)) g.named h.named i;
+}
+
 IsTarget-prop : (fs : List Flow) (ns : List Spot) (o : Option Target) (x : Text) → IsProp (IsTarget fs ns o x)
 IsTarget-prop fs ns None x = λ g h. absurd g
 IsTarget-prop fs ns (Some (target.Flow n)) x = IsWorkflow-prop fs ns n x
 IsTarget-prop fs ns (Some (target.Function f)) x = IsFunction-prop fs f x
 IsTarget-prop fs ns (Some (target.Http m)) x = IsHttp-prop fs m x
+IsTarget-prop fs ns (Some (target.Sleeps b)) x = IsNap-prop fs b x
+
+IsAsked-prop : (fs : List Flow) (ns : List Spot) (o : Option Target) (x : Text) → IsProp (IsAsked fs ns o x)
+IsAsked-prop fs ns None x = λ g h. absurd g
+IsAsked-prop fs ns (Some (target.Flow n)) x = IsWorkflow-prop fs ns n x
+IsAsked-prop fs ns (Some (target.Function f)) x = λ g h. absurd g
+IsAsked-prop fs ns (Some (target.Http m)) x = λ g h. absurd g
+IsAsked-prop fs ns (Some (target.Sleeps b)) x = λ g h. absurd g
 
 pub Aims-prop : (p : Program) (nodes : List Node) (targets : List Target) → IsProp (Aims p nodes targets)
-Aims-prop p nodes targets = Π_prop (λ i. Π_prop (λ x. Π_prop (λ f. →_prop (→_prop (IsTarget-prop _ _ _ _)))))
+Aims-prop p nodes targets = λ g h i. record {
+  calls = Π_prop (λ n. Π_prop (λ x. Π_prop (λ f. →_prop (→_prop (IsTarget-prop p.flows (spots p.flows) (slice_get targets n) f.name))))) g.calls h.calls i;
+  asks = Π_prop (λ n. Π_prop (λ x. Π_prop (λ t. Π_prop (λ y. Π_prop (λ f. →_prop (→_prop (→_prop (→_prop (IsAsked-prop p.flows (spots p.flows) (slice_get targets n) f))))))))) g.asks h.asks i;
+}
+
+-- what a node calls is this, and so is what its predicate asks
+pub record Says (fs : List Flow) (ns : List Spot) (x : Node) (t : Target) : Type 0 where
+  pub call : (f : CallNode) → x.kind ≡ kind.Call f → IsTarget fs ns (Some t) f.name
+  pub ask : (y : TryNode) (p : Policy) (f : Text) → x.kind ≡ kind.Try y → y.policy ≡ Some p → p.predicate ≡ predicate.Flow f → IsAsked fs ns (Some t) f
 
 -- ## The configuration
 -- what it has beside its tasks and its outcome
@@ -109,7 +138,7 @@ first_local p v = settle (Do (main_steps p.flows) (main_steps p.flows) ∷ []) (
 
 abbrev pub Begins : Program → Data → Option Task → Scopes → Type 0
 Begins p v None x = (first_local p v).control ≡ []
-Begins p v (Some t) x = (first_local p v ≡ task_local (around p) t x) × (call_in t.wait ≡ None)
+Begins p v (Some t) x = (first_local p v ≡ task_local (around p) t x) × (is_awake_in t.wait ≡ true)
 
 -- the outcome behind what `main` has done, and the calls
 abbrev pub outcome_behind : Move → Outcome

@@ -2,9 +2,9 @@
 --     state_of                  its program, its configuration, and whether it is broken
 --     control_by ..             what `main` has, and what stands beside it
 --     StepsBy, DuesBy           what `main` wants
-use Rattle.std.specs.Prelude.{◌≡◌, ◌≤◌, ◌⊎◌, ℕ, true, false, is_some, List, None, Some}
+use Rattle.std.specs.Prelude.{◌≡◌, ◌≤◌, ◌⊎◌, ℕ, true, false, List, Some, Option}
 use Rattle.wf_alone.specs.Machine.{Rest}
-use Rattle.wf_alone.specs.Waiting.{call_by, due_for}
+use Rattle.wf_alone.specs.Waiting.{due_for}
 use Rattle.wf_check.specs.Seen.{program_of}
 use Rattle.wf_frames.specs.Owned.{control_of, own_of}
 use Rattle.wf_machine.specs.Main.{around, config_of, rest_of}
@@ -13,8 +13,8 @@ use Rattle.wf_machine.specs.declared.ending.Ending.TheVariants.{Running}
 use Rattle.wf_machine.specs.declared.machine.Machine.{Machine}
 use Rattle.wf_model.specs.Config.{Item, Layer, Wait}
 use Rattle.wf_model.specs.Kinds.{NextKind, Plainly, ByClock, ByCall, next_kind}
-use Rattle.wf_model.specs.Ready.{call_due, is_by}
-use Rattle.wf_moves.specs.Waits.{call_in, wait_view}
+use Rattle.wf_model.specs.Ready.{is_by}
+use Rattle.wf_moves.specs.Waits.{call_in, is_awake_in, wait_view}
 use Rattle.wf_moves.specs.declared.task.Task.{Task}
 use Rattle.wf_scope.specs.Store.{layers_of}
 use Rattle.wf_scope.specs.Tasks.{own_layers}
@@ -50,27 +50,27 @@ pub record StepsBy (m : Machine) (kind : NextKind) : Type 0 where
   pub task : Task
   pub is : m.task ≡ Some task
   pub running : m.ending ≡ Running
-  pub awake : call_in task.wait ≡ None
+  pub awake : is_awake_in task.wait ≡ true
   pub wanted : next_kind (program_of m.program) (control_by m task) ≡ kind
 
 -- it is to take no step, or none of this kind
 abbrev pub StepsNot : Machine → Type 0
-StepsNot m = (t : Task) → m.task ≡ Some t → m.ending ≡ Running → is_some (call_in t.wait) ≡ true
+StepsNot m = (t : Task) → m.task ≡ Some t → m.ending ≡ Running → is_awake_in t.wait ≡ false
 
 abbrev pub WantsNot : Machine → NextKind → Type 0
-WantsNot m kind = (t : Task) → m.task ≡ Some t → m.ending ≡ Running → (is_some (call_in t.wait) ≡ true) ⊎ (next_kind (program_of m.program) (control_by m t) ≡ kind → ⊥)
+WantsNot m kind = (t : Task) → m.task ≡ Some t → m.ending ≡ Running → (is_awake_in t.wait ≡ false) ⊎ (next_kind (program_of m.program) (control_by m t) ≡ kind → ⊥)
 
--- it waits for the answer of call n, whose due moment is at or before a reading
-pub record DuesBy (m : Machine) (n reading : ℕ) : Type 0 where
+-- it waits for what is due at or before a reading: the answer of this call, or none
+pub record DuesBy (m : Machine) (o : Option ℕ) (reading : ℕ) : Type 0 where
   pub task : Task
   pub is : m.task ≡ Some task
   pub running : m.ending ≡ Running
-  pub waits : call_in task.wait ≡ Some n
+  pub waits : call_in task.wait ≡ o
   pub moment : ℕ
-  pub due : call_due (call_by (rest_by m) n) ≡ Some moment
+  pub due : due_for (rest_by m) (wait_by m task) ≡ Some moment
   pub come : moment ≤ reading
 
--- it waits for none whose due moment is
+-- it waits for nothing that is
 abbrev pub DuesNot : Machine → ℕ → Type 0
 DuesNot m reading = (t : Task) → m.task ≡ Some t → m.ending ≡ Running → is_by reading (due_for (rest_by m) (wait_by m t)) ≡ false
 

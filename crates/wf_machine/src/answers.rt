@@ -1,5 +1,5 @@
 // Answers to calls, and due moments.
-ghost use Rattle.std.specs.Prelude.{◌≡◌, IfSome, IsNone, false};
+ghost use Rattle.std.specs.Prelude.{◌≡◌, ◌≤◌, IfSome, IsNone, Some, false};
 ghost use Rattle.wf_alone.specs.Waiting.{due_for};
 ghost use Rattle.wf_machine.specs.Applied.{Applied};
 ghost use Rattle.wf_machine.specs.Seen.{DuesBy, DuesNot, rest_by, state_of, wait_by};
@@ -31,25 +31,29 @@ fn is_by(reading: u64, moment: Option<u64>) -> bool
 }
 
 impl Machine {
-    /// The due moment of the call for whose answer a task waits.
+    /// The moment at which a task's wait ends: that of its sleep or of its next try, or that of the call for whose answer it waits.
     pub(crate) fn due_of(&self, task: &Task) -> Option<u64>
         ensures { result ≡ due_for (rest_by self.now) (wait_by self.now task.now) }
     {
         numbers_are_those_of_steps();
-        self.calls.due(task.call()?)
+        match task.call() {
+            Some(call) => self.calls.due(call),
+            None => task.due(),
+        }
     }
 
-    /// Whether a task waits for an answer whose due moment is behind the reading.
+    /// Whether a task waits for what is due behind the reading.
     pub(crate) fn is_still(&self, task: &Task, reading: u64) -> bool
         requires { self.now.task ≡ Some task.now }
         ensures { result ≡ quiet (state_of self.now).config reading }
     {
-        task.call().is_some() && !is_by(reading, self.due_of(task))
+        !task.is_awake() && !is_by(reading, self.due_of(task))
     }
 
-    /// The call for whose answer `main` waits, if its due moment is at or before the reading.
-    pub(crate) fn due_call(&self, reading: u64) -> Option<u64>
-        ensures some { IfSome result (λ n. DuesBy self.now n reading) }
+    /// What `main` waits for, if that is due at or before the reading: the answer to this call, or none where it sleeps or waits for its
+    /// next try.
+    pub(crate) fn due_wait(&self, reading: u64) -> Option<Option<u64>>
+        ensures some { IfSome result (λ o. DuesBy self.now o reading) }
         ensures none { IsNone result → DuesNot self.now reading }
     {
         if !self.ending.is_running() {
@@ -58,9 +62,8 @@ impl Machine {
         let Some(task) = &self.task else {
             return None;
         };
-        let call = task.call()?;
         if is_by(reading, self.due_of(task)) {
-            Some(call)
+            Some(task.call())
         } else {
             None
         }
@@ -105,8 +108,8 @@ impl Machine {
         Ok(self.carry_on(Cause::Heard(heard), 0, tally)?)
     }
 
-    /// Ends the wait of a task at its due moment, where it is `main` and that has come. The call is closed, and `main` raises a
-    /// `TimeoutError`.
+    /// Ends the wait of a task at its due moment, where it is `main` and that has come: a sleep ends, the body of a `try` is tried again, or
+    /// a call is closed, and `main` raises a `TimeoutError`.
     pub(crate) fn apply_due(&mut self, task: u32, reading: u64) -> Result<(), ApplyFault>
         requires { self.old.broken ≡ false }
         ensures { Applied (state_of self.old) (state_of self.new) (AnyEvent.Due task reading)
@@ -115,11 +118,25 @@ impl Machine {
         if task != 0 || reading < self.tally.last {
             return Err(ApplyFault::NotEnabled);
         }
-        let Some(call) = self.due_call(reading) else {
+        let Some(waited) = self.due_wait(reading) else {
             return Err(ApplyFault::NotEnabled);
         };
         let mut tally = self.tally;
         tally.last = reading;
+        match waited {
+            None => Ok(self.carry_on(Cause::Due, reading, tally)?),
+            Some(call) => self.time_out(call, reading, tally),
+        }
+    }
+
+    /// A call is closed whose due moment has come, and `main` raises a `TimeoutError`.
+    fn time_out(&mut self, call: u64, reading: u64, tally: Tally) -> Result<(), ApplyFault>
+        requires whole { self.old.broken ≡ false }
+        requires waits { DuesBy self.old (Some call) reading }
+        requires last { self.old.tally.last ≤ reading }
+        requires tally { tally ≡ record self.old.tally { last = reading } }
+        ensures { Applied (state_of self.old) (state_of self.new) (AnyEvent.Due 0 reading) result }
+    {
         let Ok(error) = error_map(self.alloc, Tag::TimeoutError) else {
             self.broken = true;
             return Err(ApplyFault::OutOfMemory);

@@ -40,7 +40,7 @@ impl Machine {
         match self.wanted_kind() {
             Some(kind) => Some(step_event(kind, last)),
             None => {
-                let _call = self.due_call(reading)?;
+                let _wait = self.due_wait(reading)?;
                 Some(Event::Due(0, last))
             }
         }

@@ -33,6 +33,7 @@ impl Facts {
         Ok(Facts {
             of_step: StepFacts {
                 now: 0,
+                last: start.reading,
                 base: start.base.copy()?,
                 id: start.id.copy()?,
                 env: start.env.copy(alloc)?,

@@ -1,16 +1,17 @@
 //! The machine: an execution of a workflow, event by event.
 //!
 //! An execution is a program, what it was started with, and what stands between two events: what `main` has still to do, the layers of
-//! its variables, the call for whose answer it waits, the calls that were made, the count of events, the bytes of all bodies, the last
+//! its variables, what it waits for, the calls that were made, the count of events, the bytes of all bodies, the last
 //! reading of the clock, and the outcome. [`Machine::choose`] tells the event that comes next, [`Machine::apply`] carries it out, and
 //! [`Machine::outcome`] tells how the execution has ended. Nothing is read from a clock or a network: readings and answers come in from
 //! outside. Readings are in milliseconds since 1970.
 //!
-//! So far `main` is the only task: workflows call each other, errors are raised and caught, and requests are made, each of which is
-//! waited for. Each entry of an assign, each step of another form, each jump beside a step, each turn of a loop and each end of a called
-//! workflow is one event: an `Issue` with a reading where the step makes a request, a `MoveAt` with a reading where it evaluates what
-//! names `sys.now`, whether or not the evaluation comes there, and else a `Move`. What `main` waits for comes as an `Answer`, or as a
-//! `Due` where the due moment of the call comes first. The limits are those of the first rules:
+//! So far `main` is the only task: workflows call each other, errors are raised, caught and retried, requests are made, each of which is
+//! waited for, and it sleeps. Each entry of an assign, each step of another form, each jump beside a step, each turn of a loop and each
+//! end of a called workflow is one event: an `Issue` with a reading where the step makes a request, a `MoveAt` with a reading where it
+//! sleeps for some seconds or evaluates what names `sys.now`, whether or not the evaluation comes there, and else a `Move`. The answer to a
+//! call comes as an `Answer`, or the call is closed by a `Due` where its due moment comes first. A sleep ends by a `Due` too, and so does
+//! the delay before the body of a `try` is tried again. The limits are those of the first rules:
 //! - counted events, which are moves and issues: 100,000 in an execution, of which the last isn't carried out: it raises a
 //!   `ResourceLimitError`;
 //! - bodies of answers: 67,108,864 bytes in an execution; the answer that would pass it ends the execution with a `ResourceLimitError`;

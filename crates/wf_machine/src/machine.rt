@@ -45,7 +45,7 @@ pub(crate) struct Tally {
 pub struct Machine {
     pub(crate) alloc: Global,
     pub(crate) program: Checked,
-    /// What a call names, at the call's own number.
+    /// What a call names, at the call's own number, and the workflow of a predicate, at that of its `try`.
     pub(crate) targets: Vec<Target>,
     pub(crate) facts: Facts,
     pub(crate) tally: Tally,
@@ -146,8 +146,7 @@ impl Machine {
         self.program.program()
     }
 
-    /// Whether `main` can't go on at the reading, in milliseconds since 1970: it has ended, or waits for an answer whose due moment is
-    /// later.
+    /// Whether `main` can't go on at the reading, in milliseconds since 1970: it has ended, or waits for what is due later.
     pub fn is_quiet(&self, reading: u64) -> bool
         ensures { result ≡ quiet (state_of self.now).config reading }
     {
@@ -157,7 +156,7 @@ impl Machine {
         }
     }
 
-    /// The least moment at which something is due, in milliseconds since 1970: that of the call for whose answer `main` waits.
+    /// The least moment at which something is due, in milliseconds since 1970: that at which what `main` waits for ends.
     pub fn least_due(&self) -> Option<u64>
         ensures due { result ≡ least_due (state_of self.now).config }
         // Where nothing can move something is due.

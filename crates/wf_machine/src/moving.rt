@@ -54,9 +54,10 @@ impl Machine {
         let Some(task) = &self.task else {
             return None;
         };
-        match task.call() {
-            Some(_) => None,
-            None => Some(kind_of(&self.program, self.targets.as_slice(), task)),
+        if task.is_awake() {
+            Some(kind_of(&self.program, self.targets.as_slice(), task))
+        } else {
+            None
         }
     }
 
@@ -122,6 +123,7 @@ impl Machine {
             unreachable!()
         };
         self.facts.of_step.now = now;
+        self.facts.of_step.last = tally.last;
         self.facts.sending.calls = self.calls.count();
         let Ok(did) = go_on(
             &self.program,

@@ -3,21 +3,24 @@ ghost use Rattle.std.specs.Prelude.{◌≡◌, IfOk, IfSome, List, None, Some, f
 ghost use Rattle.wf_ast.specs.Flows.{flow};
 ghost use Rattle.wf_ast.specs.Tree.{Flow};
 ghost use Rattle.wf_check.specs.Seen.{nodes_of, program_of};
-ghost use Rattle.wf_machine.specs.Main.{Aims};
+ghost use Rattle.wf_ast.specs.Func.{func_named};
+ghost use Rattle.wf_ast.specs.declared.policy.Policy as declared;
+ghost use Rattle.wf_ast.specs.declared.policy.Predicate.TheVariants as predicate;
+ghost use Rattle.wf_machine.specs.Main.{Aims, Says};
 ghost use Rattle.wf_nodes.specs.Spots.{Spot, spots};
-ghost use Rattle.wf_nodes.specs.declared.node.CallNode as call_node;
-ghost use Rattle.wf_nodes.specs.declared.node.NodeKind.TheVariants as kind;
-ghost use Rattle.wf_steps.specs.Built.{IsTarget, IsWorkflow};
+ghost use Rattle.wf_steps.specs.Built.{IsAsked, IsTarget, IsWorkflow};
+ghost use Rattle.wf_value.specs.Pairs.{Text};
 
 use std::alloc::Global;
+use wf_ast::{Policy, Predicate};
 use wf_check::Checked;
 use wf_library::function_named;
 use wf_nodes::{Node, NodeKind};
-use wf_steps::{Target, http_named};
+use wf_steps::{Target, http_named, nap_named};
 use wf_value::OutOfMemory;
 
-/// What each call names, at the call's own number; none where a call names neither a workflow, nor a function of expressions, nor a call
-/// of HTTP.
+/// What each call names, at the call's own number, and the workflow of each predicate, at that of its `try`; none where a call names
+/// neither a workflow, nor a function of expressions, nor a call of HTTP, nor a sleep, or a predicate no workflow.
 pub(crate) fn targets_of(
     alloc: Global,
     program: &Checked,
@@ -37,19 +40,35 @@ pub(crate) fn targets_of(
     Ok(Some(targets))
 }
 
-// What a node calls; workflow 0 of a node that calls nothing.
+// What a node calls or asks; workflow 0 of a node that does neither.
 fn target(program: &Checked, node: &Node) -> Option<Target>
-    ensures { IfSome result (λ t. (f : call_node.CallNode) → node.now.kind ≡ kind.Call f
-        → IsTarget (program_of program.now).flows (spots (program_of program.now).flows) (Some t)
-        f.name) }
+    ensures { IfSome result (Says (program_of program.now).flows
+        (spots (program_of program.now).flows) node.now) }
 {
     match &node.kind {
         NodeKind::Call(call) => named(program, call.name.as_str()),
+        NodeKind::Try(tried) => asked(program, &tried.policy),
         _ => Some(Target::Flow(0)),
     }
 }
 
-// What may be called by a name: the workflow of that name, where there is none a function, and where that isn't one either a call of HTTP.
+// The workflow that a policy asks; workflow 0 where it asks none.
+fn asked(program: &Checked, policy: &Option<Policy>) -> Option<Target>
+    ensures { IfSome result (λ t. (p : declared.Policy) (f : Text) → policy.now ≡ Some p
+        → p.predicate ≡ predicate.Flow f → IsAsked (program_of program.now).flows
+        (spots (program_of program.now).flows) (Some t) f) }
+{
+    let Some(policy) = policy else {
+        return Some(Target::Flow(0));
+    };
+    match &policy.predicate {
+        Predicate::Flow(name) => Some(Target::Flow(flow(program, name.as_str())?)),
+        Predicate::Always | Predicate::Never | Predicate::Default(_) => Some(Target::Flow(0)),
+    }
+}
+
+// What may be called by a name: the workflow of that name, where there is none a function, and where that isn't one either a call of HTTP
+// or a sleep.
 fn named(program: &Checked, name: &str) -> Option<Target>
     ensures { IfSome result (λ t. IsTarget (program_of program.now).flows
         (spots (program_of program.now).flows) (Some t) name.now) }
@@ -60,14 +79,26 @@ fn named(program: &Checked, name: &str) -> Option<Target>
     }
 }
 
-// The function of a name, or the call of HTTP.
+// The function of a name, or the call of HTTP or the sleep.
 fn listed(name: &str) -> Option<Target>
     ensures { IfSome result (λ t. (fs : List Flow) (ns : List Spot)
         → is_some (flow fs name.now) ≡ false → IsTarget fs ns (Some t) name.now) }
 {
     match function_named(name) {
         Some(function) => Some(Target::Function(function)),
-        None => Some(Target::Http(http_named(name)?)),
+        None => special(name),
+    }
+}
+
+// The call of HTTP of a name, or the sleep.
+fn special(name: &str) -> Option<Target>
+    ensures { IfSome result (λ t. (fs : List Flow) (ns : List Spot)
+        → is_some (flow fs name.now) ≡ false → is_some (func_named name.now) ≡ false
+        → IsTarget fs ns (Some t) name.now) }
+{
+    match http_named(name) {
+        Some(method) => Some(Target::Http(method)),
+        None => Some(Target::Sleeps(nap_named(name)?)),
     }
 }
 

@@ -72,6 +72,8 @@ pub(crate) enum Cause {
     Step,
     /// What it has waited for has come.
     Heard(Heard),
+    /// The moment until which it has slept, or waited for its next try, has come.
+    Due,
 }
 
 /// The end of a call: how it is closed, and the value that it gives or the error that it raises.
@@ -113,7 +115,8 @@ pub(crate) fn go_on(
         Cause::Step => task.advance(nodes, targets, scopes, &facts.of_step, &facts.sending),
         Cause::Heard(heard) => {
             calls.close(heard.call, heard.how);
-            task.go_on(nodes, scopes, heard.with)
+            task.go_on(nodes, targets, scopes, heard.with, &facts.of_step)
         }
+        Cause::Due => task.wake(nodes, targets, scopes, &facts.of_step),
     }
 }

@@ -28,20 +28,20 @@ use Rattle.wf_value.specs.declared.Tag.{Tag}
 use Rattle.wf_value.specs.declared.Value.{Value}
 
 module _ (s : Scene) (r : Option Text) (x : Text) (args : Pairs) (g : Function) (k : List Item) (l : Local) (w : Went) (m : Local) (free : is_some (flow s.program.flows x) ≡ false) (named : option_map listed (func_named x) ≡ Some (function_parts g)) where
-  taken : (e : Listing) (b : Bool) → IsMove (evaluates s r e.func (in_order e.signature args) k l) w m → IsMove (if b then evaluates s r e.func (in_order e.signature args) k l else Breaks BadArgument) w m
+  taken : (e : Listing) (b : Bool) → IsMove s (evaluates s r e.func (in_order e.signature args) k l) w m → IsMove s (if b then evaluates s r e.func (in_order e.signature args) k l else Breaks BadArgument) w m
   taken e true h = h
   taken e false h = tt
 
-  in_library : (e : Option Listing) → option_map listed e ≡ Some (function_parts g) → IsMove (evaluates s r g.func (in_order (signature_of g.arguments) args) k l) w m → IsMove (calls_listed s r e (special_named x) args k l) w m
+  in_library : (e : Option Listing) → option_map listed e ≡ Some (function_parts g) → IsMove s (evaluates s r g.func (in_order (signature_of g.arguments) args) k l) w m → IsMove s (calls_listed s r e (special_named x) args k l) w m
   in_library None q h = absurd (cc q)
   in_library (Some e) q h =
       let same : listed e ≡ function_parts g = cc q in
-      taken e (takes e.signature (keys args)) (subst (λ (p : Func × (List Text × List Text)). IsMove (evaluates s r p.0 (in_order (record { needs = p.1.0; may = p.1.1 }) args) k l) w m) (sym same) h)
+      taken e (takes e.signature (keys args)) (subst (λ (p : Func × (List Text × List Text)). IsMove s (evaluates s r p.0 (in_order (record { needs = p.1.0; may = p.1.1 }) args) k l) w m) (sym same) h)
 
-  by_function : IsMove (evaluates s r g.func (in_order (signature_of g.arguments) args) k l) w m → IsMove (calls_named s r (flow s.program.flows x) x args k l) w m
+  by_function : IsMove s (evaluates s r g.func (in_order (signature_of g.arguments) args) k l) w m → IsMove s (calls_named s r (flow s.program.flows x) x args k l) w m
   by_function h = by (flow s.program.flows x) free
     where
-      by : (o : Option Flow) → is_some o ≡ false → IsMove (calls_named s r o x args k l) w m
+      by : (o : Option Flow) → is_some o ≡ false → IsMove s (calls_named s r o x args k l) w m
       by (Some f) t = absurd (cc t)
       by None t = in_library (func_named x) named h
 
@@ -50,9 +50,9 @@ module _ (s : Scene) (r : Option Text) (x : Text) (args : Pairs) (g : Function) 
   Answer_of = apply (view s l) g.func (in_order (signature_of g.arguments) args) >>= kept
 
   -- a value
-  pub function_gave : (v : Value) → Gives (Ok v) Answer_of → IsMove (gives s r (plain v) k l) w m → IsMove (calls_named s r (flow s.program.flows x) x args k l) w m
-  function_gave v a h = by_function (subst (λ (y : Answer Data). IsMove (on s k l y (λ d. gives s r d k l)) w m) (sym (gave plain v Answer_of a)) h)
+  pub function_gave : (v : Value) → Gives (Ok v) Answer_of → IsMove s (gives s r (plain v) k l) w m → IsMove s (calls_named s r (flow s.program.flows x) x args k l) w m
+  function_gave v a h = by_function (subst (λ (y : Answer Data). IsMove s (on s k l y (λ d. gives s r d k l)) w m) (sym (gave plain v Answer_of a)) h)
 
   -- or an error
-  pub function_failed : (t : Tag) → Gives (Err (Error t)) Answer_of → IsMove (raises s k l (error_map t)) w m → IsMove (calls_named s r (flow s.program.flows x) x args k l) w m
-  function_failed t a h = by_function (subst (λ (y : Answer Data). IsMove (on s k l y (λ d. gives s r d k l)) w m) (sym (failed plain t Answer_of a)) h)
+  pub function_failed : (t : Tag) → Gives (Err (Error t)) Answer_of → IsMove s (raises s k l (error_map t)) w m → IsMove s (calls_named s r (flow s.program.flows x) x args k l) w m
+  function_failed t a h = by_function (subst (λ (y : Answer Data). IsMove s (on s k l y (λ d. gives s r d k l)) w m) (sym (failed plain t Answer_of a)) h)

@@ -64,21 +64,21 @@ module _ (s : Scene) (x : Text) (c : List Item) where
 
 -- ## Behind an assignment
 module _ (s : Scene) (x : Text) (ks : List Data) (v : Data) (k c : List Item) (h g : Held) (w : Went) (l : Local) where
-  breaks : assign s x ks v (standing [] h) ≡ Undeclared → IsMove (on_assigned s k (standing c h) (assign s x ks v (standing c h))) w l
-  breaks e = subst (λ a. IsMove (on_assigned s k (standing c h) a) w l) (sym (control_same s x c ks v h ∙ ap (with_control c) e)) tt
+  breaks : assign s x ks v (standing [] h) ≡ Undeclared → IsMove s (on_assigned s k (standing c h) (assign s x ks v (standing c h))) w l
+  breaks e = subst (λ a. IsMove s (on_assigned s k (standing c h) a) w l) (sym (control_same s x c ks v h ∙ ap (with_control c) e)) tt
 
-  pub stored : Writes s None h x ks v g → IsMove (goes k (standing c g)) w l → IsMove (on_assigned s k (standing c h) (assign s x ks v (standing c h))) w l
+  pub stored : Writes s None h x ks v g → IsMove s (goes k (standing c g)) w l → IsMove s (on_assigned s k (standing c h) (assign s x ks v (standing c h))) w l
   stored (inl e) m = breaks e
-  stored (inr e) m = subst (λ a. IsMove (on_assigned s k (standing c h) a) w l) (sym (control_same s x c ks v h ∙ ap (with_control c) e)) m
+  stored (inr e) m = subst (λ a. IsMove s (on_assigned s k (standing c h) a) w l) (sym (control_same s x c ks v h ∙ ap (with_control c) e)) m
 
-  pub refused : (t : Tag) → Writes s (Some t) h x ks v g → IsMove (raises s k (standing c g) (error_map t)) w l → IsMove (on_assigned s k (standing c h) (assign s x ks v (standing c h))) w l
+  pub refused : (t : Tag) → Writes s (Some t) h x ks v g → IsMove s (raises s k (standing c g) (error_map t)) w l → IsMove s (on_assigned s k (standing c h) (assign s x ks v (standing c h))) w l
   refused t r m = by r.1
     where
-      by : (assign s x ks v (standing [] h) ≡ Undeclared) ⊎ (assign s x ks v (standing [] h) ≡ Refused t) → IsMove (on_assigned s k (standing c h) (assign s x ks v (standing c h))) w l
+      by : (assign s x ks v (standing [] h) ≡ Undeclared) ⊎ (assign s x ks v (standing [] h) ≡ Refused t) → IsMove s (on_assigned s k (standing c h) (assign s x ks v (standing c h))) w l
       by (inl u) = breaks u
       by (inr u) =
-          subst (λ a. IsMove (on_assigned s k (standing c h) a) w l) (sym (control_same s x c ks v h ∙ ap (with_control c) u))
-          (subst (λ (y : Held). IsMove (raises s k (standing c y) (error_map t)) w l) r.0 m)
+          subst (λ a. IsMove s (on_assigned s k (standing c h) a) w l) (sym (control_same s x c ks v h ∙ ap (with_control c) u))
+          (subst (λ (y : Held). IsMove s (raises s k (standing c y) (error_map t)) w l) r.0 m)
 
 -- ## An entry
 both_on : (s : Scene) (k : List Item) (l : Local) (r : Answer Data) (q : Answer (List Data)) (f : Data → List Data → Moved) → on s k l r (λ d. on s k l q (f d)) ≡ on {A = Data × List Data} s k l (r >>= λ d. q >>= λ ds. Ok (d, ds)) (λ p. f p.0 p.1)
@@ -92,13 +92,13 @@ module _ (s : Scene) (e : Entry) (k : List Item) (l : Local) (v : View) (same : 
       ap (λ y. on s k l (fill e.value y) (λ d. on s k l (eval_all e.target.places y) (λ ks. on_assigned s k l (assign s e.target.name ks d l)))) same
       ∙ both_on s k l (fill e.value v) (eval_all e.target.places v) (λ d ks. on_assigned s k l (assign s e.target.name ks d l))
 
-  pub entry_given : (a : declared.Assigned) (w : Went) (m : Local) → Answers values_of (Ok a) (entry_values e v) → IsMove (on_assigned s k l (assign s e.target.name (values_of a).1 (values_of a).0 l)) w m → IsMove (assigns s e k l) w m
+  pub entry_given : (a : declared.Assigned) (w : Went) (m : Local) → Answers values_of (Ok a) (entry_values e v) → IsMove s (on_assigned s k l (assign s e.target.name (values_of a).1 (values_of a).0 l)) w m → IsMove s (assigns s e k l) w m
   entry_given a w m g h =
-      subst (λ y. IsMove y w m) (sym (assigns_by ∙ ap (λ r. on {A = Data × List Data} s k l r (λ p. on_assigned s k l (assign s e.target.name p.1 p.0 l))) (gave values_of a (entry_values e v) g))) h
+      subst (λ y. IsMove s y w m) (sym (assigns_by ∙ ap (λ r. on {A = Data × List Data} s k l r (λ p. on_assigned s k l (assign s e.target.name p.1 p.0 l))) (gave values_of a (entry_values e v) g))) h
 
-  pub entry_failed : (t : Tag) (w : Went) (m : Local) → Answers values_of (Err (Error t)) (entry_values e v) → IsMove (raises s k l (error_map t)) w m → IsMove (assigns s e k l) w m
+  pub entry_failed : (t : Tag) (w : Went) (m : Local) → Answers values_of (Err (Error t)) (entry_values e v) → IsMove s (raises s k l (error_map t)) w m → IsMove s (assigns s e k l) w m
   entry_failed t w m g h =
-      subst (λ y. IsMove y w m) (sym (assigns_by ∙ ap (λ r. on {A = Data × List Data} s k l r (λ p. on_assigned s k l (assign s e.target.name p.1 p.0 l))) (failed values_of t (entry_values e v) g))) h
+      subst (λ y. IsMove s y w m) (sym (assigns_by ∙ ap (λ r. on {A = Data × List Data} s k l r (λ p. on_assigned s k l (assign s e.target.name p.1 p.0 l))) (failed values_of t (entry_values e v) g))) h
 
 -- ## The value, and then the places
 pub both_given : (a : declared.Assigned) (d : Answer Data) (ds : Answer (List Data)) → Answers plain (Ok a.value) d → Answers (λ vs. map plain vs.items) (Ok a.places) ds → Answers values_of (Ok a) (d >>= λ x. ds >>= λ ys. Ok (x, ys))

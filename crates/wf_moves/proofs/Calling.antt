@@ -55,6 +55,7 @@ calls_are ns (frame.Loop n w i ∷ fs) = omega (arith, calls_are ns fs)
 calls_are ns (frame.Try n r d ∷ fs) = omega (arith, calls_are ns fs)
 calls_are ns (frame.Mark m ∷ fs) = omega (arith, calls_are ns fs)
 calls_are ns (frame.Back c m ∷ fs) = omega (arith, calls_are ns fs)
+calls_are ns (frame.Judge tried r delay error m ∷ fs) = omega (arith, calls_are ns fs)
 
 -- ## Parameters
 -- the first of some, with those behind it
@@ -75,23 +76,23 @@ given_none (y ∷ xs) (suc n) x args at e = by (value_for y args) (given_none xs
     by (Some w) later = ap (option_map (λ ys. (y.name, w) ∷ ys)) later
 
 module _ (s : Scene) (r : Option Text) (x : Text) (args : Pairs) (f : Flow) (k : List Item) (l : Local) (w : Went) (m : Local) (named : flow s.program.flows x ≡ Some f) where
-  by_flow : (o : Option (List (Text × Data))) → bindings f.params args ≡ o → IsMove (calls_with s f r o k l) w m → IsMove (calls_named s r (flow s.program.flows x) x args k l) w m
+  by_flow : (o : Option (List (Text × Data))) → bindings f.params args ≡ o → IsMove s (calls_with s f r o k l) w m → IsMove s (calls_named s r (flow s.program.flows x) x args k l) w m
   by_flow o e h =
-      subst (λ (q : Option Flow). IsMove (calls_named s r q x args k l) w m) (sym named) (subst (λ (q : Option (List (Text × Data))). IsMove (calls_with s f r q k l) w m) (sym e) h)
+      subst (λ (q : Option Flow). IsMove s (calls_named s r q x args k l) w m) (sym named) (subst (λ (q : Option (List (Text × Data))). IsMove s (calls_with s f r q k l) w m) (sym e) h)
 
   -- with values for its parameters
-  pub call_given : (xs : List (Text × Data)) → given f.params args ≡ Some xs → IsMove (calls_with s f r (Some xs) k l) w m → IsMove (calls_named s r (flow s.program.flows x) x args k l) w m
+  pub call_given : (xs : List (Text × Data)) → given f.params args ≡ Some xs → IsMove s (calls_with s f r (Some xs) k l) w m → IsMove s (calls_named s r (flow s.program.flows x) x args k l) w m
   call_given xs e h = by (all_params args f.params) refl
     where
-      by : (b : Bool) → all_params args f.params ≡ b → IsMove (calls_named s r (flow s.program.flows x) x args k l) w m
+      by : (b : Bool) → all_params args f.params ≡ b → IsMove s (calls_named s r (flow s.program.flows x) x args k l) w m
       by true t = by_flow (Some xs) (ap (λ (c : Bool). if c then given f.params args else None) t ∙ e) h
       by false t = by_flow None (ap (λ (c : Bool). if c then given f.params args else None) t) tt
 
   -- without
-  pub call_lacks : given f.params args ≡ None → IsMove (calls_named s r (flow s.program.flows x) x args k l) w m
+  pub call_lacks : given f.params args ≡ None → IsMove s (calls_named s r (flow s.program.flows x) x args k l) w m
   call_lacks e = by (all_params args f.params) refl
     where
-      by : (b : Bool) → all_params args f.params ≡ b → IsMove (calls_named s r (flow s.program.flows x) x args k l) w m
+      by : (b : Bool) → all_params args f.params ≡ b → IsMove s (calls_named s r (flow s.program.flows x) x args k l) w m
       by true t = by_flow None (ap (λ (c : Bool). if c then given f.params args else None) t ∙ e) tt
       by false t = by_flow None (ap (λ (c : Bool). if c then given f.params args else None) t) tt
 
@@ -192,14 +193,14 @@ pub call_owned : (p q flow layer : ℕ) (c : Option ℕ) (old mid new : List Fra
 call_owned p q flow layer c old mid new m e same = ap (λ (k : ℕ). owned k new) same ∙ ap (owned p) (e ∙ ap (λ fs. frame.Do flow 0 ∷ fs) m)
 
 -- ## The call begins
-le_true : (m n : ℕ) → m ≤ n → nat_le m n ≡ true
+pub le_true : (m n : ℕ) → m ≤ n → nat_le m n ≡ true
 le_true m n h = by (nat_le m n) refl
   where
     by : (b : Bool) → nat_le m n ≡ b → b ≡ true
     by true q = refl
     by false q = let lt = leb-false m n q in absurd (omega (arith, h, lt))
 
-le_false : (m n : ℕ) → n < m → nat_le m n ≡ false
+pub le_false : (m n : ℕ) → n < m → nat_le m n ≡ false
 le_false m n h = by (nat_le m n) refl
   where
     by : (b : Bool) → nat_le m n ≡ b → b ≡ false
@@ -207,25 +208,25 @@ le_false m n h = by (nat_le m n) refl
     by true q = let le = leb-true m n q in absurd (omega (arith, h, le))
 
 module _ (ns : List Spot) (s : Scene) (w : Flow) (r : Option Text) (xs : List (Text × Data)) (old : List Frame) (d : List Item) (h : Held) where
-  pub call_deep : (e : Went) (l : Local) → 20 ≤ calls_of old → IsMove (raises s (control ns old) (standing d h) (error_map RecursionError)) e l → IsMove (calls_with s w r (Some xs) (control ns old) (standing d h)) e l
+  pub call_deep : (e : Went) (l : Local) → 20 ≤ calls_of old → IsMove s (raises s (control ns old) (standing d h) (error_map RecursionError)) e l → IsMove s (calls_with s w r (Some xs) (control ns old) (standing d h)) e l
   call_deep e l deep m =
       let t : nat_le call_limit (calls_in (control ns old)) ≡ true = le_true call_limit (calls_in (control ns old)) (omega (arith, deep, calls_are ns old)) in
-      subst (λ y. IsMove y e l) (sym (ap (λ (b : Bool). if b then raises s (control ns old) (standing d h) (error_map RecursionError) else (on s (control ns old) (standing d h) (opened s (standing d h) xs) (λ ps. goes (Do w.steps w.steps ∷ Back r ∷ control ns old) (enter true ps (standing d h))))) t)) m
+      subst (λ y. IsMove s y e l) (sym (ap (λ (b : Bool). if b then raises s (control ns old) (standing d h) (error_map RecursionError) else (on s (control ns old) (standing d h) (opened s (standing d h) xs) (λ ps. goes (Do w.steps w.steps ∷ Back r ∷ control ns old) (enter true ps (standing d h))))) t)) m
 
   shallow : calls_of old < 20 → calls_with s w r (Some xs) (control ns old) (standing d h) ≡ on s (control ns old) (standing d h) (opened s (standing [] h) xs) (λ ps. goes (Do w.steps w.steps ∷ Back r ∷ control ns old) (standing d (with_layer true ps h)))
   shallow few =
       let t : nat_le call_limit (calls_in (control ns old)) ≡ false = le_false call_limit (calls_in (control ns old)) (omega (arith, few, calls_are ns old)) in
       ap (λ (b : Bool). if b then raises s (control ns old) (standing d h) (error_map RecursionError) else (on s (control ns old) (standing d h) (opened s (standing d h) xs) (λ ps. goes (Do w.steps w.steps ∷ Back r ∷ control ns old) (enter true ps (standing d h))))) t
 
-  pub call_refused : (g : Held) (e : Went) (l : Local) → calls_of old < 20 → Enters true s None h xs g → IsMove (raises s (control ns old) (standing d g) (error_map ResourceLimitError)) e l → IsMove (calls_with s w r (Some xs) (control ns old) (standing d h)) e l
+  pub call_refused : (g : Held) (e : Went) (l : Local) → calls_of old < 20 → Enters true s None h xs g → IsMove s (raises s (control ns old) (standing d g) (error_map ResourceLimitError)) e l → IsMove s (calls_with s w r (Some xs) (control ns old) (standing d h)) e l
   call_refused g e l few q m =
-      subst (λ y. IsMove y e l) (sym (shallow few ∙ ap (λ y. on s (control ns old) (standing d h) y (λ ps. goes (Do w.steps w.steps ∷ Back r ∷ control ns old) (standing d (with_layer true ps h)))) q.0
+      subst (λ y. IsMove s y e l) (sym (shallow few ∙ ap (λ y. on s (control ns old) (standing d h) y (λ ps. goes (Do w.steps w.steps ∷ Back r ∷ control ns old) (standing d (with_layer true ps h)))) q.0
       ∙ ap (λ (y : Held). raises s (control ns old) (standing d y) (error_map ResourceLimitError)) (sym q.1))) m
 
   pub call_entered : (n flow layer : ℕ) (g : Held) (e : Went) (l : Local) (new : List Frame) → calls_of old < 20 → Enters true s (Some layer) h xs g → part_list (part_at ns flow) ≡ w.steps → result_of ns (Some n) ≡ r
-      → new ≡ frame.Do flow 0 ∷ frame.Back (Some n) layer ∷ old → IsMove (goes (control ns new) (standing d g)) e l → IsMove (calls_with s w r (Some xs) (control ns old) (standing d h)) e l
+      → new ≡ frame.Do flow 0 ∷ frame.Back (Some n) layer ∷ old → IsMove s (goes (control ns new) (standing d g)) e l → IsMove s (calls_with s w r (Some xs) (control ns old) (standing d h)) e l
   call_entered n flow layer g e l new few q steps result p m =
-      subst (λ y. IsMove y e l) (sym (shallow few ∙ ap (λ y. on s (control ns old) (standing d h) y (λ ps. goes (Do w.steps w.steps ∷ Back r ∷ control ns old) (standing d (with_layer true ps h)))) q.1
+      subst (λ y. IsMove s y e l) (sym (shallow few ∙ ap (λ y. on s (control ns old) (standing d h) y (λ ps. goes (Do w.steps w.steps ∷ Back r ∷ control ns old) (standing d (with_layer true ps h)))) q.1
       ∙ ap (λ ss. goes (Do ss ss ∷ Back r ∷ control ns old) (standing d (with_layer true q.0 h))) (sym steps)
       ∙ ap (λ o. goes (Do (part_list (part_at ns flow)) (part_list (part_at ns flow)) ∷ Back o ∷ control ns old) (standing d (with_layer true q.0 h))) (sym result)
       ∙ ap (λ fs. goes (control ns fs) (standing d (with_layer true q.0 h))) (sym p) ∙ ap (λ (y : Held). goes (control ns new) (standing d y)) (sym q.2))) m

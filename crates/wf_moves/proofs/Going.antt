@@ -22,6 +22,7 @@ module _ (nodes : List Node) where
   goes_on (frame.Try n r d) h = absurd h
   goes_on (frame.Mark m) h = absurd h
   goes_on (frame.Back k m) h = tt
+  goes_on (frame.Judge tried r delay error m) h = tt
 
   before : (n at : ℕ) (o : Option Listed) → list_at nodes n ≡ o → at < length (steps_of o) → IsBefore nodes n at
   before n at None e w = absurd (omega (arith, w))
@@ -41,6 +42,7 @@ module _ (nodes : List Node) where
   has_move (frame.Try n r d) h = absurd h
   has_move (frame.Mark m) h = absurd h
   has_move (frame.Back k m) h = tt
+  has_move (frame.Judge tried r delay error m) h = tt
 
   pub going : (fs : List Frame) → IsGoing nodes fs → Going nodes fs
   going [] h = absurd h

@@ -6,7 +6,7 @@ use mathlib.Core.Logic.{inl, inr}
 use Rattle.std.specs.Prelude.{suc, slice_get, nat_eq, if◌then◌else◌, bytes_eq, codes, is_ok, is_some, OnOk, Result, Ok, Err}
 use Rattle.wf_ast.specs.Accept.{BreakOutsideLoop}
 use Rattle.wf_frames.specs.Fits.{Fits, FrameFits, list_at, outside_at, reach, views}
-use Rattle.wf_frames.specs.Frames.{control, item, topped}
+use Rattle.wf_frames.specs.Frames.{control, items, topped}
 use Rattle.wf_frames.specs.Held.{Held, standing}
 use Rattle.wf_frames.specs.Turns.{Leaves, dropped, left_by}
 use Rattle.wf_frames.specs.declared.frames.Frame.{Frame}
@@ -17,7 +17,7 @@ use Rattle.wf_model.specs.Local.{Local, Scene, Root, Main, Branch, Iteration, Br
 use Rattle.wf_model.specs.Unwind.{NotFound, Stands, cut_at, to_loop, to_step}
 use Rattle.wf_moves.proofs.Leaving.{stands_on, same_outside}
 use Rattle.wf_steps.proofs.Parts.{list_stands}
-use Rattle.wf_moves.specs.Moved.{FoundIn, IsLoopTop, IsMove, if_at, is_loop, loop_found, target}
+use Rattle.wf_moves.specs.Moved.{FoundIn, IsLoopTop, IsMove, IsThrough, if_at, is_loop, loop_found, target}
 use Rattle.wf_moves.specs.declared.finish.Went.{Went}
 use Rattle.wf_moves.specs.declared.finish.Went.TheVariants as went
 use Rattle.wf_nodes.specs.Kinds.{Listed, node_view}
@@ -45,7 +45,7 @@ if_not n b keep h e = absurd (cc (sym (ap (λ (t : Bool). if t then Some n else 
 
 module _ (ns : List Spot) (nodes : List Node) (x : Text) (j : Jump) (r : Resolves ns nodes) where
   pub record Passes (f : Frame) (fs : List Frame) : Type 0 where
-    pub goes : (k : List Item) (l : Local) → to_step x (item ns f ∷ k) l ≡ to_step x k (left_by f l)
+    pub goes : (k : List Item) (l : Local) → to_step x (items ns f k) l ≡ to_step x k (left_by f l)
     pub leads : Leads ns (views nodes) x (Some j) (reach fs)
 
   do_passes : (o at : ℕ) (fs : List Frame) → FrameFits ns nodes (frame.Do o at) fs → target nodes j.keep (frame.Do o at) ≡ None → Leads ns (views nodes) x (Some j) (o ∷ reach fs) → Passes (frame.Do o at) fs
@@ -64,6 +64,7 @@ module _ (ns : List Spot) (nodes : List Node) (x : Text) (j : Jump) (r : Resolve
   passes (frame.Try n r0 d) fs h t w = record { goes = λ k l. refl; leads = w }
   passes (frame.Mark mk) fs h t w = record { goes = λ k l. refl; leads = w }
   passes (frame.Back c mk) fs h t w = absurd w
+  passes (frame.Judge tried r delay error mk) fs h t w = absurd w
 
   -- a turn of the loop
   pub passes_on : (f : Frame) (fs : List Frame) (c : List Item) (h g : Held) → Passes f fs → g ≡ dropped f h → to_step x (control ns (f ∷ fs)) (standing c h) ≡ to_step x (control ns fs) (standing c g)
@@ -103,6 +104,7 @@ module _ (ns : List Spot) (nodes : List Node) (x : Text) (j : Jump) (r : Resolve
   found_at (frame.Try n r0 d) m fs f t w h = absurd (cc t)
   found_at (frame.Mark mk) m fs f t w h = absurd (cc t)
   found_at (frame.Back c mk) m fs f t w h = absurd (cc t)
+  found_at (frame.Judge tried r delay error mk) m fs f t w h = absurd (cc t)
 
   pub record Turned (old new : List Frame) (h g : Held) : Type 0 where
     pub fits : Fits ns nodes new
@@ -126,6 +128,7 @@ module _ (ns : List Spot) (nodes : List Node) (x : Text) (j : Jump) (r : Resolve
   kept_held (frame.Try n r0 d) m h t = refl
   kept_held (frame.Mark mk) m h t = absurd (cc t)
   kept_held (frame.Back c mk) m h t = absurd (cc t)
+  kept_held (frame.Judge tried r delay error mk) m h t = absurd (cc t)
 
   pub found_in : (f : Frame) (m : ℕ) (b : Bool) (start old new : List Frame) (k h g : Held) → topped old ≡ Some f → target nodes j.keep f ≡ Some m → Leaves b old h new g → Fits ns nodes old → Leads ns (views nodes) x (Some j) (reach old)
       → ((c : List Item) → to_step x (control ns start) (standing c k) ≡ to_step x (control ns old) (standing c h)) → FoundIn ns nodes x j (Some m) start k new g
@@ -150,6 +153,7 @@ module _ (ns : List Spot) (nodes : List Node) (x : Text) (j : Jump) (r : Resolve
   target_in (frame.Try n r0 d) m fs t h = absurd (cc t)
   target_in (frame.Mark mk) m fs t h = absurd (cc t)
   target_in (frame.Back c mk) m fs t h = absurd (cc t)
+  target_in (frame.Judge tried r delay error mk) m fs t h = absurd (cc t)
 
   pub target_left : (f : Frame) (m : ℕ) (b : Bool) (old new : List Frame) (h g : Held) → topped old ≡ Some f → target nodes j.keep f ≡ Some m → Leaves b old h new g → Fits ns nodes old → (is_some (list_at nodes m) ≡ true) × (outside_at ns nodes m ≡ reach new)
   target_left f m false old new h g t is w fits = absurd (cc (sym t ∙ ap topped w.0))
@@ -185,7 +189,7 @@ before_fits ns nodes x j o place b xs old new h g f e is at out fits =
     (((b, e, omega (arith, lt, ap (λ (ys : List ℕ). length ys) is)), out), fits)
 
 -- ## Loops
-loop_one : (ns : List Spot) (f : Frame) (k : List Item) (l : Local) → is_loop f ≡ false → to_loop (item ns f ∷ k) l ≡ to_loop k (left_by f l)
+loop_one : (ns : List Spot) (f : Frame) (k : List Item) (l : Local) → is_loop f ≡ false → to_loop (items ns f k) l ≡ to_loop k (left_by f l)
 loop_one ns (frame.Do n at) k l h = refl
 loop_one ns (frame.Lone n b) k l h = refl
 loop_one ns (frame.Entries n at) k l h = refl
@@ -194,6 +198,7 @@ loop_one ns (frame.Loop n w i) k l h = absurd (cc h)
 loop_one ns (frame.Try n r d) k l h = refl
 loop_one ns (frame.Mark mk) k l h = refl
 loop_one ns (frame.Back c mk) k l h = absurd (cc h)
+loop_one ns (frame.Judge tried r delay error mk) k l h = absurd (cc h)
 
 pub record LoopTurned (old new : List Frame) (h g : Held) : Type 0 where
   pub outside : g.outside ≡ h.outside
@@ -210,43 +215,47 @@ loop_turned f true old new h g t other w =
       goes = λ ns c. ap (λ fs. to_loop (control ns fs) (standing c h)) w.1 ∙ loop_one ns w.0 (control ns new) (standing c h) (ap is_loop same ∙ other) ∙ ap (λ l. to_loop (control ns new) l) (stands_on w.0 c h ∙ ap (standing c) (sym w.2));
     }
 
-ends_so : (h g : Held) (w : Went) (l : Local) → g.outside ≡ h.outside → IsMove (goes [] (standing [] g)) w l → IsMove (goes [] (standing [] h)) w l
-ends_so h g (went.Ended e) l o m = (m.0, m.1, sym o ∙ m.2)
-ends_so h g went.Goes l o m = absurd m
+ends_so : (s : Scene) (h g : Held) (w : Went) (l : Local) → IsThrough w → g.outside ≡ h.outside → IsMove s (goes [] (standing [] g)) w l → IsMove s (goes [] (standing [] h)) w l
+ends_so s h g (went.Ended e) l t o m = (m.0, m.1, sym o ∙ m.2)
+ends_so s h g went.Goes l t o m = absurd m
+ends_so s h g (went.Raises e) l t o m = absurd t
+ends_so s h g (went.Says b) l t o m = absurd t
 
-by_root : (r : Root) (h g : Held) (d : List Item) (w : Went) (l : Local) → g.outside ≡ h.outside → IsMove (goes [] (standing [] g)) w l → IsMove (elim r [ Iteration ↦ goes [] (standing d h) | _ ↦ Breaks BreakOutsideLoop ]) w l
-by_root Main h g d w l o m = tt
-by_root Branch h g d w l o m = tt
-by_root Iteration h g d w l o m = ends_so h g w l o m
+by_root : (s : Scene) (r : Root) (h g : Held) (d : List Item) (w : Went) (l : Local) → IsThrough w → g.outside ≡ h.outside → IsMove s (goes [] (standing [] g)) w l → IsMove s (elim r [ Iteration ↦ goes [] (standing d h) | _ ↦ Breaks BreakOutsideLoop ]) w l
+by_root s Main h g d w l t o m = tt
+by_root s Branch h g d w l t o m = tt
+by_root s Iteration h g d w l t o m = ends_so s h g w l t o m
 
-pub continued : (ns : List Spot) (s : Scene) (fs : List Frame) (d : List Item) (h g : Held) (w : Went) (l : Local) → ((c : List Item) → IsMove (goes (control ns fs) (standing c g)) w l) → g.outside ≡ h.outside
-    → IsMove (continues s (standing d h) (loop_found ns fs (standing d g))) w l
-continued ns s [] d h g w l m o = by_root s.root h g d w l o (m [])
-continued ns s (frame.Back c mk ∷ fs) d h g w l m o = tt
-continued ns s (frame.Do n at ∷ fs) d h g w l m o = m d
-continued ns s (frame.Lone n b ∷ fs) d h g w l m o = m d
-continued ns s (frame.Entries n at ∷ fs) d h g w l m o = m d
-continued ns s (frame.Then n ∷ fs) d h g w l m o = m d
-continued ns s (frame.Loop n x i ∷ fs) d h g w l m o = m d
-continued ns s (frame.Try n r q ∷ fs) d h g w l m o = m d
-continued ns s (frame.Mark mk ∷ fs) d h g w l m o = m d
+pub continued : (ns : List Spot) (s : Scene) (fs : List Frame) (d : List Item) (h g : Held) (w : Went) (l : Local) → IsThrough w → ((c : List Item) → IsMove s (goes (control ns fs) (standing c g)) w l) → g.outside ≡ h.outside
+    → IsMove s (continues s (standing d h) (loop_found ns fs (standing d g))) w l
+continued ns s [] d h g w l t m o = by_root s s.root h g d w l t o (m [])
+continued ns s (frame.Back c mk ∷ fs) d h g w l t m o = tt
+continued ns s (frame.Judge tried r delay error mk ∷ fs) d h g w l t m o = tt
+continued ns s (frame.Do n at ∷ fs) d h g w l t m o = m d
+continued ns s (frame.Lone n b ∷ fs) d h g w l t m o = m d
+continued ns s (frame.Entries n at ∷ fs) d h g w l t m o = m d
+continued ns s (frame.Then n ∷ fs) d h g w l t m o = m d
+continued ns s (frame.Loop n x i ∷ fs) d h g w l t m o = m d
+continued ns s (frame.Try n r q ∷ fs) d h g w l t m o = m d
+continued ns s (frame.Mark mk ∷ fs) d h g w l t m o = m d
 
-pub broken : (ns : List Spot) (b : Bool) (mid new : List Frame) (d : List Item) (h g : Held) (w : Went) (l : Local) → IsLoopTop mid → Leaves b mid h new g → ((c : List Item) → IsMove (goes (control ns new) (standing c g)) w l)
-    → IsMove (breaks (loop_found ns mid (standing d h))) w l
-broken ns b [] new d h g w l top left m = tt
-broken ns false (f ∷ fs) new d h g w l top left m = absurd (cc left.0)
-broken ns true (frame.Loop n x i ∷ fs) new d h g w l top left m =
+pub broken : (s : Scene) (ns : List Spot) (b : Bool) (mid new : List Frame) (d : List Item) (h g : Held) (w : Went) (l : Local) → IsLoopTop mid → Leaves b mid h new g → ((c : List Item) → IsMove s (goes (control ns new) (standing c g)) w l)
+    → IsMove s (breaks (loop_found ns mid (standing d h))) w l
+broken s ns b [] new d h g w l top left m = tt
+broken s ns false (f ∷ fs) new d h g w l top left m = absurd (cc left.0)
+broken s ns true (frame.Loop n x i ∷ fs) new d h g w l top left m =
     let same : frame.Loop n x i ≡ left.0 = cc left.1 in
     let rest : fs ≡ new = cc left.1 in
     let e : g ≡ h = left.2 ∙ ap (λ f. dropped f h) (sym same) in
-    subst (λ ys. IsMove (goes (control ns ys) (standing d h)) w l) (sym rest) (subst (λ y. IsMove (goes (control ns new) (standing d y)) w l) e (m d))
-broken ns true (frame.Back c mk ∷ fs) new d h g w l top left m = tt
-broken ns true (frame.Do n at ∷ fs) new d h g w l top left m = absurd (cc top)
-broken ns true (frame.Lone n q ∷ fs) new d h g w l top left m = absurd (cc top)
-broken ns true (frame.Entries n at ∷ fs) new d h g w l top left m = absurd (cc top)
-broken ns true (frame.Then n ∷ fs) new d h g w l top left m = absurd (cc top)
-broken ns true (frame.Try n r q ∷ fs) new d h g w l top left m = absurd (cc top)
-broken ns true (frame.Mark mk ∷ fs) new d h g w l top left m = absurd (cc top)
+    subst (λ ys. IsMove s (goes (control ns ys) (standing d h)) w l) (sym rest) (subst (λ y. IsMove s (goes (control ns new) (standing d y)) w l) e (m d))
+broken s ns true (frame.Back c mk ∷ fs) new d h g w l top left m = tt
+broken s ns true (frame.Judge tried r delay error mk ∷ fs) new d h g w l top left m = tt
+broken s ns true (frame.Do n at ∷ fs) new d h g w l top left m = absurd (cc top)
+broken s ns true (frame.Lone n q ∷ fs) new d h g w l top left m = absurd (cc top)
+broken s ns true (frame.Entries n at ∷ fs) new d h g w l top left m = absurd (cc top)
+broken s ns true (frame.Then n ∷ fs) new d h g w l top left m = absurd (cc top)
+broken s ns true (frame.Try n r q ∷ fs) new d h g w l top left m = absurd (cc top)
+broken s ns true (frame.Mark mk ∷ fs) new d h g w l top left m = absurd (cc top)
 
 -- ## Without a step of the name
 module _ (ns : List Spot) (nodes : List Node) (x : Text) where
@@ -260,9 +269,10 @@ module _ (ns : List Spot) (nodes : List Node) (x : Text) where
   nowhere (frame.Try n r d ∷ fs) l h = nowhere fs l h
   nowhere (frame.Mark m ∷ fs) l h = nowhere fs (leave l) h
   nowhere (frame.Back c m ∷ fs) l h = refl
+  nowhere (frame.Judge tried r delay error m ∷ fs) l h = refl
 
-  pub breaks_so : (s : Scene) (fs : List Frame) (l m : Local) (w : Went) → Leads ns (views nodes) x None (reach fs) → IsMove (jumps_to s x (to_step x (control ns fs) l)) w m
-  breaks_so s fs l m w h = subst (λ f. IsMove (jumps_to s x f) w m) (sym (nowhere fs l h)) tt
+  pub breaks_so : (s : Scene) (fs : List Frame) (l m : Local) (w : Went) → Leads ns (views nodes) x None (reach fs) → IsMove s (jumps_to s x (to_step x (control ns fs) l)) w m
+  breaks_so s fs l m w h = subst (λ f. IsMove s (jumps_to s x f) w m) (sym (nowhere fs l h)) tt
 
 -- ## By the text of a `next`
 module _ (s : Scene) (x : Text) (k : List Item) (l : Local) where

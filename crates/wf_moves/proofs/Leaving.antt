@@ -5,17 +5,17 @@ use Rattle.std.proofs.Math.Dec.{leb}
 use Rattle.std.proofs.lemmas.Bool.{leb-true, leb-false}
 use Rattle.wf_ast.specs.Tree.{more}
 use Rattle.wf_frames.specs.Fits.{Fits, HasNode, entries_at, list_at}
-use Rattle.wf_frames.specs.Frames.{body_entries, control, is_back, mark_of, topped}
+use Rattle.wf_frames.specs.Frames.{body_entries, control, is_back, items, mark_of, topped}
 use Rattle.wf_frames.specs.Held.{Held, standing}
 use Rattle.wf_frames.specs.Turns.{Leaves, dropped, left_by}
 use Rattle.wf_frames.specs.declared.frames.Frame.{Frame}
 use Rattle.wf_frames.specs.declared.frames.Frame.TheVariants as frame
 use Rattle.wf_frames.specs.declared.frames.Left.{Left}
 use Rattle.wf_model.specs.Config.{Item, Do, Entries}
-use Rattle.wf_model.specs.Local.{settle, settled}
+use Rattle.wf_model.specs.Local.{Goes, Local, Scene, ended, settle, settled}
 use Rattle.wf_steps.proofs.Lists.{drop_end, drop_more, entries_long, from_end, from_more}
 use Rattle.wf_steps.proofs.Parts.{entries_is, list_is}
-use Rattle.wf_moves.specs.Moved.{HasMove, IsGoing, IsMove, IsSettled, Settled, is_at_back}
+use Rattle.wf_moves.specs.Moved.{HasMove, IsEnd, IsGoing, IsMove, IsSettled, Settled, is_at_back}
 use Rattle.wf_moves.specs.declared.finish.End.TheVariants as end
 use Rattle.wf_moves.specs.declared.finish.Went.TheVariants as went
 use Rattle.wf_steps.specs.Steps.{HasStep, IsBefore, IsBeforeEntry}
@@ -35,6 +35,7 @@ stands_on (frame.Loop n w i) c h = refl
 stands_on (frame.Try n r d) c h = refl
 stands_on (frame.Mark m) c h = refl
 stands_on (frame.Back k m) c h = refl
+stands_on (frame.Judge tried r delay error m) c h = refl
 
 pub same_outside : (f : Frame) (h : Held) → (dropped f h).outside ≡ h.outside
 same_outside (frame.Do n at) h = refl
@@ -45,6 +46,7 @@ same_outside (frame.Loop n w i) h = refl
 same_outside (frame.Try n r d) h = refl
 same_outside (frame.Mark m) h = refl
 same_outside (frame.Back k m) h = refl
+same_outside (frame.Judge tried r delay error m) h = refl
 
 -- ## What has ended
 pub do_ended : (ns : List Spot) (n at : ℕ) (xs : List ℕ) → part_list (part_at ns n) ≡ steps_by ns xs → length xs ≤ at → Settled ns true (frame.Do n at)
@@ -144,6 +146,7 @@ going_plain nodes (frame.Loop n w i) h q = refl
 going_plain nodes (frame.Try n r d) h q = absurd h
 going_plain nodes (frame.Mark m) h q = absurd h
 going_plain nodes (frame.Back k m) h q = absurd (cc q)
+going_plain nodes (frame.Judge tried r delay error m) h q = absurd (cc q)
 
 pub going_step : (nodes : List Node) (f : Frame) → HasMove nodes f → is_back f ≡ false → ((n : ℕ) (w : Left) (i : ℕ) → f ≡ frame.Loop n w i → ⊥) → HasStep nodes f
 going_step nodes (frame.Do n at) h q other = h
@@ -154,19 +157,35 @@ going_step nodes (frame.Loop n w i) h q other = absurd (other n w i refl)
 going_step nodes (frame.Try n r d) h q other = absurd h
 going_step nodes (frame.Mark m) h q other = absurd h
 going_step nodes (frame.Back k m) h q other = absurd (cc q)
+going_step nodes (frame.Judge tried r delay error m) h q other = absurd (cc q)
 
 -- the task goes on, or has ended
 pub going_there : (nodes : List Node) (f : Frame) (fs : List Frame) → topped fs ≡ Some f → IsSettled nodes fs → IsGoing nodes fs
 going_there nodes f [] t h = absurd (cc t)
 going_there nodes f (g ∷ fs) t h = h
 
-pub went_on : (ns : List Spot) (f : Frame) (fs : List Frame) (h : Held) → topped fs ≡ Some f → IsMove (settled (standing (control ns fs) h)) went.Goes (standing (control ns fs) h)
-went_on ns f [] h t = absurd (cc t)
-went_on ns f (g ∷ fs) h t = refl
+pub ended_items : (ns : List Spot) (f : Frame) (k : List Item) (l : Local) → ended (items ns f k) l ≡ Goes l
+ended_items ns (frame.Do n at) k l = refl
+ended_items ns (frame.Lone n b) k l = refl
+ended_items ns (frame.Entries n at) k l = refl
+ended_items ns (frame.Then n) k l = refl
+ended_items ns (frame.Loop n w i) k l = refl
+ended_items ns (frame.Try n r d) k l = refl
+ended_items ns (frame.Mark m) k l = refl
+ended_items ns (frame.Back c m) k l = refl
+ended_items ns (frame.Judge n r d e m) k l = refl
 
-pub went_out : (ns : List Spot) (fs : List Frame) (h : Held) → topped fs ≡ None → IsMove (settled (standing (control ns fs) h)) (went.Ended (end.Value value.Null)) (standing (control ns fs) h)
-went_out ns [] h t = (refl, omega arith, refl)
-went_out ns (g ∷ fs) h t = absurd (cc t)
+pub went_on : (s : Scene) (ns : List Spot) (f : Frame) (fs : List Frame) (h : Held) → topped fs ≡ Some f → IsMove s (settled (standing (control ns fs) h)) went.Goes (standing (control ns fs) h)
+went_on s ns f [] h t = absurd (cc t)
+went_on s ns f (g ∷ fs) h t = subst (λ m. IsMove s m went.Goes (standing (control ns (g ∷ fs)) h)) (sym (ended_items ns g (control ns fs) (standing (control ns (g ∷ fs)) h))) refl
+
+pub went_out : (s : Scene) (ns : List Spot) (fs : List Frame) (h : Held) → topped fs ≡ None → IsMove s (settled (standing (control ns fs) h)) (went.Ended (end.Value value.Null)) (standing (control ns fs) h)
+went_out s ns [] h t = (refl, omega arith, refl)
+went_out s ns (g ∷ fs) h t = absurd (cc t)
+
+pub ended_there : (ns : List Spot) (fs : List Frame) (h : Held) → topped fs ≡ None → IsEnd (settled (standing (control ns fs) h)) (end.Value value.Null) (standing (control ns fs) h)
+ended_there ns [] h t = (refl, omega arith, refl)
+ended_there ns (g ∷ fs) h t = absurd (cc t)
 
 -- the innermost frame isn't the end of a call
 pub no_back : (f : Frame) (fs gs : List Frame) → fs ≡ f ∷ gs → is_at_back fs ≡ false → is_back f ≡ false

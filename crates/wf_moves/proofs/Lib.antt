@@ -1,11 +1,16 @@
 pub mod Answering
 pub mod Assigning
 pub mod Calling
+pub mod Deciding
 pub mod Going
 pub mod Jumps
+pub mod Led
 pub mod Leaving
+pub mod Raised
 pub mod Requesting
+pub mod Retrying
 pub mod Returning
+pub mod Sleeps
 pub mod Starting
 pub mod Stepping
 pub mod Turning

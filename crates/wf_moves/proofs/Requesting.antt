@@ -65,7 +65,7 @@ module _ (a : Around) (s : Scene) (d k : List Item) (h : Held) (n : ℕ) (f : Ca
       (sym (asks_made ∙ ap (λ q. on s k (standing d h) q (λ p. Does (Sends p.0 p.1) (waits (Calling number f.result) k (standing d h)))) so))
       (refl, refl, ap (λ b. waits (Calling number (body_result b)) k (standing d h)) (sym body))
 
-  pub request_failed : (t : Tag) (w : Went) (l : Local) → eval.Answers sent_view (Err (Error t)) (request_by m args facts x.routes number) → IsMove (raises s k (standing d h) (error_map t)) w l → IsMove (asks_with s (part_body (part_at a.spots n)) args k (standing d h)) w l
+  pub request_failed : (t : Tag) (w : Went) (l : Local) → eval.Answers sent_view (Err (Error t)) (request_by m args facts x.routes number) → IsMove s (raises s k (standing d h) (error_map t)) w l → IsMove s (asks_with s (part_body (part_at a.spots n)) args k (standing d h)) w l
   request_failed t w l e g =
       let so : request_by m args facts x.routes number ≡ Err t = failed sent_view t (request_by m args facts x.routes number) e in
-      subst (λ y. IsMove y w l) (sym (asks_made ∙ ap (λ q. on s k (standing d h) q (λ p. Does (Sends p.0 p.1) (waits (Calling number f.result) k (standing d h)))) so)) g
+      subst (λ y. IsMove s y w l) (sym (asks_made ∙ ap (λ q. on s k (standing d h) q (λ p. Does (Sends p.0 p.1) (waits (Calling number f.result) k (standing d h)))) so)) g

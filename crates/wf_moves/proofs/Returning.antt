@@ -2,7 +2,7 @@
 use Rattle.std.proofs.Common.{◌≡◌, ◌≤◌, Bool, true, false, List, [], ◌∷◌, Some, None, refl, sym, ap, subst, ◌∙◌}
 use Rattle.std.specs.Prelude.{Option}
 use Rattle.wf_frames.specs.Fits.{Fits, HasNode, IsCallOf}
-use Rattle.wf_frames.specs.Frames.{control, is_back, item, result_of, topped}
+use Rattle.wf_frames.specs.Frames.{control, is_back, items, result_of, topped}
 use Rattle.wf_frames.specs.Held.{Held, standing}
 use Rattle.wf_frames.specs.Turns.{Leaves, dropped, left_by}
 use Rattle.wf_frames.specs.declared.frames.Frame.{Frame}
@@ -13,19 +13,22 @@ use Rattle.wf_model.specs.Local.{Branch, Gives, Iteration, Local, Main, Root, Sc
 use Rattle.wf_model.specs.Move.{moves}
 use Rattle.wf_model.specs.Unwind.{to_back}
 use Rattle.wf_moves.proofs.Leaving.{same_outside, stands_on}
-use Rattle.wf_moves.specs.Moved.{IsBackTop, IsMove, back_found, call_of, is_at_back}
+use Rattle.wf_moves.proofs.Raised.{raised, raised_left, said_so}
+use Rattle.wf_moves.specs.Moved.{IsBackTop, IsJudgeTop, IsLeft, IsMove, SaysSo, back_found, call_of, is_at_back, is_judge}
 use Rattle.wf_moves.specs.declared.finish.End.TheVariants as end
 use Rattle.wf_moves.specs.declared.finish.Went.{Went}
 use Rattle.wf_moves.specs.declared.finish.Went.TheVariants as went
 use Rattle.wf_nodes.specs.Spots.{Spot}
 use Rattle.wf_nodes.specs.declared.node.Node.{Node}
-use Rattle.wf_value.specs.Data.{Data, depth, null}
+use Rattle.wf_value.specs.Data.{Data, boolean, bytes, depth, integer, list, map, null, text}
+use Rattle.wf_value.specs.Errors.{error_map}
 use Rattle.wf_value.specs.Pairs.{Text}
 use Rattle.wf_value.specs.Plain.{plain}
+use Rattle.wf_value.specs.declared.Tag.TheVariants.{TypeError}
 use Rattle.wf_value.specs.declared.Value.{Value}
 
 -- ## To the innermost call
-back_one : (ns : List Spot) (f : Frame) (k : List Item) (l : Local) → is_back f ≡ false → to_back (item ns f ∷ k) l ≡ to_back k (left_by f l)
+back_one : (ns : List Spot) (f : Frame) (k : List Item) (l : Local) → is_back f ≡ false → to_back (items ns f k) l ≡ to_back k (left_by f l)
 back_one ns (frame.Do n at) k l h = refl
 back_one ns (frame.Lone n b) k l h = refl
 back_one ns (frame.Entries n at) k l h = refl
@@ -34,6 +37,7 @@ back_one ns (frame.Loop n w i) k l h = refl
 back_one ns (frame.Try n r d) k l h = refl
 back_one ns (frame.Mark m) k l h = refl
 back_one ns (frame.Back c m) k l h = absurd (cc h)
+back_one ns (frame.Judge tried r delay error m) k l h = absurd (cc h)
 
 pub record BackTurned (old new : List Frame) (h g : Held) : Type 0 where
   pub outside : g.outside ≡ h.outside
@@ -54,6 +58,7 @@ back_turned f true old new h g t other w =
 pub back_here : (ns : List Spot) (f : Frame) (fs : List Frame) (l : Local) → topped fs ≡ Some f → is_back f ≡ true → (to_back (control ns fs) l ≡ back_found ns fs l) × IsBackTop fs
 back_here ns f [] l t h = absurd (cc t)
 back_here ns f (frame.Back c m ∷ fs) l t h = (refl, refl)
+back_here ns f (frame.Judge tried r delay error m ∷ fs) l t h = (refl, refl)
 back_here ns f (frame.Do n at ∷ fs) l t h = let same : frame.Do n at ≡ f = cc t in absurd (cc (ap is_back same ∙ h))
 back_here ns f (frame.Lone n b ∷ fs) l t h = let same : frame.Lone n b ≡ f = cc t in absurd (cc (ap is_back same ∙ h))
 back_here ns f (frame.Entries n at ∷ fs) l t h = let same : frame.Entries n at ≡ f = cc t in absurd (cc (ap is_back same ∙ h))
@@ -78,34 +83,59 @@ plain_given ns s r v (frame.Loop n w i ∷ fs) l = refl
 plain_given ns s r v (frame.Try n q d ∷ fs) l = refl
 plain_given ns s r v (frame.Mark m ∷ fs) l = refl
 plain_given ns s r v (frame.Back c m ∷ fs) l = refl
+plain_given ns s r v (frame.Judge tried q d error m ∷ fs) l = refl
 
 module _ (ns : List Spot) (s : Scene) (v : Data) where
-  pub gives_on : (f : Frame) (b : Bool) (mid new : List Frame) (d : List Item) (k h g : Held) (w : Went) (l : Local) → topped mid ≡ Some f → IsBackTop mid → Leaves b mid h new g
-      → IsMove (gives s (result_of ns (call_of f)) v (control ns new) (standing d g)) w l → IsMove (returned s v (standing d k) (back_found ns mid (standing d h))) w l
-  gives_on f b [] new d k h g w l t top left m = absurd (cc t)
-  gives_on f false (y ∷ fs) new d k h g w l t top left m = absurd (cc left.0)
-  gives_on f true (frame.Back c m0 ∷ fs) new d k h g w l t top left m =
+  pub gives_on : (f : Frame) (b : Bool) (mid new : List Frame) (d : List Item) (k h g : Held) (w : Went) (l : Local) → topped mid ≡ Some f → IsBackTop mid → is_judge f ≡ false → Leaves b mid h new g
+      → IsMove s (gives s (result_of ns (call_of f)) v (control ns new) (standing d g)) w l → IsMove s (returned s v (standing d k) (back_found ns mid (standing d h))) w l
+  gives_on f b [] new d k h g w l t top other left m = absurd (cc t)
+  gives_on f false (y ∷ fs) new d k h g w l t top other left m = absurd (cc left.0)
+  gives_on f true (frame.Back c m0 ∷ fs) new d k h g w l t top other left m =
       let is : frame.Back c m0 ≡ left.0 = cc left.1 in
       let same : frame.Back c m0 ≡ f = cc t in
       let rest : fs ≡ new = cc left.1 in
       let held : g ≡ dropped (frame.Back c m0) h = left.2 ∙ ap (λ y. dropped y h) (sym is) in
-      subst (λ y. IsMove y w l)
+      subst (λ y. IsMove s y w l)
       (ap (λ y. gives s (result_of ns (call_of y)) v (control ns new) (standing d g)) (sym same) ∙ ap (λ (y : Held). gives s (result_of ns c) v (control ns new) (standing d y)) held
       ∙ ap (λ ys. gives s (result_of ns c) v (control ns ys) (leave (standing d h))) (sym rest) ∙ sym (plain_given ns s (result_of ns c) v fs (leave (standing d h)))) m
-  gives_on f true (frame.Do n at ∷ fs) new d k h g w l t top left m = absurd (cc top)
-  gives_on f true (frame.Lone n b ∷ fs) new d k h g w l t top left m = absurd (cc top)
-  gives_on f true (frame.Entries n at ∷ fs) new d k h g w l t top left m = absurd (cc top)
-  gives_on f true (frame.Then n ∷ fs) new d k h g w l t top left m = absurd (cc top)
-  gives_on f true (frame.Loop n x i ∷ fs) new d k h g w l t top left m = absurd (cc top)
-  gives_on f true (frame.Try n r q ∷ fs) new d k h g w l t top left m = absurd (cc top)
-  gives_on f true (frame.Mark m0 ∷ fs) new d k h g w l t top left m = absurd (cc top)
+  gives_on f true (frame.Judge tried r delay error m0 ∷ fs) new d k h g w l t top other left m = let same : frame.Judge tried r delay error m0 ≡ f = cc t in absurd (cc (ap is_judge same ∙ other))
+  gives_on f true (frame.Do n at ∷ fs) new d k h g w l t top other left m = absurd (cc top)
+  gives_on f true (frame.Lone n b ∷ fs) new d k h g w l t top other left m = absurd (cc top)
+  gives_on f true (frame.Entries n at ∷ fs) new d k h g w l t top other left m = absurd (cc top)
+  gives_on f true (frame.Then n ∷ fs) new d k h g w l t top other left m = absurd (cc top)
+  gives_on f true (frame.Loop n x i ∷ fs) new d k h g w l t top other left m = absurd (cc top)
+  gives_on f true (frame.Try n r q ∷ fs) new d k h g w l t top other left m = absurd (cc top)
+  gives_on f true (frame.Mark m0 ∷ fs) new d k h g w l t top other left m = absurd (cc top)
+
+  -- a predicate has answered: its truth value is still to go to its `try`, and a TypeError outward
+  pub judged_on : (f : Frame) (mid : List Frame) (d : List Item) (h g : Held) (w : Went) → topped mid ≡ Some f → is_judge f ≡ true → SaysSo v w
+      → IsMove s (returned s v (standing d h) (back_found ns mid (standing d g))) w (standing (control ns mid) g)
+  judged_on f [] d h g w t judge says = absurd (cc t)
+  judged_on f (frame.Do n at ∷ fs) d h g w t judge says = let same : frame.Do n at ≡ f = cc t in absurd (cc (ap is_judge same ∙ judge))
+  judged_on f (frame.Lone n b ∷ fs) d h g w t judge says = let same : frame.Lone n b ≡ f = cc t in absurd (cc (ap is_judge same ∙ judge))
+  judged_on f (frame.Entries n at ∷ fs) d h g w t judge says = let same : frame.Entries n at ≡ f = cc t in absurd (cc (ap is_judge same ∙ judge))
+  judged_on f (frame.Then n ∷ fs) d h g w t judge says = let same : frame.Then n ≡ f = cc t in absurd (cc (ap is_judge same ∙ judge))
+  judged_on f (frame.Loop n x i ∷ fs) d h g w t judge says = let same : frame.Loop n x i ≡ f = cc t in absurd (cc (ap is_judge same ∙ judge))
+  judged_on f (frame.Try n r q ∷ fs) d h g w t judge says = let same : frame.Try n r q ≡ f = cc t in absurd (cc (ap is_judge same ∙ judge))
+  judged_on f (frame.Mark m ∷ fs) d h g w t judge says = let same : frame.Mark m ≡ f = cc t in absurd (cc (ap is_judge same ∙ judge))
+  judged_on f (frame.Back c m ∷ fs) d h g w t judge says = let same : frame.Back c m ≡ f = cc t in absurd (cc (ap is_judge same ∙ judge))
+  judged_on f (frame.Judge n r q e m ∷ fs) d h g w t judge says = by v says
+    where
+      by : (x : Data) → SaysSo x w → IsMove s (returned s x (standing d h) (back_found ns (frame.Judge n r q e m ∷ fs) (standing d g))) w (standing (control ns (frame.Judge n r q e m ∷ fs)) g)
+      by (boolean b) is = subst (λ y. IsMove s (returns s (boolean b) (control ns (frame.Judge n r q e m ∷ fs)) (standing d g)) y (standing (control ns (frame.Judge n r q e m ∷ fs)) g)) (sym is) (said_so s (control ns (frame.Judge n r q e m ∷ fs)) d g b (returns s (boolean b) (control ns (frame.Judge n r q e m ∷ fs)) (standing d g)) refl)
+      by null is = raised s (control ns (frame.Judge n r q e m ∷ fs)) d g (error_map TypeError) w is
+      by (integer i) is = raised s (control ns (frame.Judge n r q e m ∷ fs)) d g (error_map TypeError) w is
+      by (text x) is = raised s (control ns (frame.Judge n r q e m ∷ fs)) d g (error_map TypeError) w is
+      by (bytes x) is = raised s (control ns (frame.Judge n r q e m ∷ fs)) d g (error_map TypeError) w is
+      by (list x) is = raised s (control ns (frame.Judge n r q e m ∷ fs)) d g (error_map TypeError) w is
+      by (map x) is = raised s (control ns (frame.Judge n r q e m ∷ fs)) d g (error_map TypeError) w is
 
   -- without a call the task ends
   pub ends_with : (x : Value) (mid : List Frame) (d c : List Item) (h g : Held) → plain x ≡ v → topped mid ≡ None → depth v ≤ 100 → g.outside ≡ h.outside
-      → IsMove (returned s v (standing d h) (back_found ns mid (standing d g))) (went.Ended (end.Value x)) (standing c g)
+      → IsMove s (returned s v (standing d h) (back_found ns mid (standing d g))) (went.Ended (end.Value x)) (standing c g)
   ends_with x [] d c h g e t deep out = by s.root
     where
-      by : (r : Root) → IsMove (returns_in r v (standing d h)) (went.Ended (end.Value x)) (standing c g)
+      by : (r : Root) → IsMove s (returns_in r v (standing d h)) (went.Ended (end.Value x)) (standing c g)
       by Main = (ap Gives (sym e), deep, sym out)
       by Branch = tt
       by Iteration = tt
@@ -114,6 +144,7 @@ module _ (ns : List Spot) (s : Scene) (v : Data) where
 -- the node of the call
 pub call_node : (nodes : List Node) (f : Frame) → HasNode nodes f → is_back f ≡ true → IsCallOf nodes (call_of f)
 call_node nodes (frame.Back c k) h e = h
+call_node nodes (frame.Judge tried r delay error k) h e = tt
 call_node nodes (frame.Do n at) h e = absurd (cc e)
 call_node nodes (frame.Lone n b) h e = absurd (cc e)
 call_node nodes (frame.Entries n at) h e = absurd (cc e)
@@ -130,6 +161,7 @@ top_back f (g ∷ fs) t h = let same : g ≡ f = cc t in subst (λ y. is_back y 
 pub moves_back : (ns : List Spot) (s : Scene) (fs : List Frame) (l : Local) → is_at_back fs ≡ true → moves s (control ns fs) l ≡ returns s null (control ns fs) l
 moves_back ns s [] l h = absurd (cc h)
 moves_back ns s (frame.Back c k ∷ fs) l h = refl
+moves_back ns s (frame.Judge tried r delay error k ∷ fs) l h = refl
 moves_back ns s (frame.Do n at ∷ fs) l h = absurd (cc h)
 moves_back ns s (frame.Lone n b ∷ fs) l h = absurd (cc h)
 moves_back ns s (frame.Entries n at ∷ fs) l h = absurd (cc h)
@@ -137,3 +169,17 @@ moves_back ns s (frame.Then n ∷ fs) l h = absurd (cc h)
 moves_back ns s (frame.Loop n w i ∷ fs) l h = absurd (cc h)
 moves_back ns s (frame.Try n r d ∷ fs) l h = absurd (cc h)
 moves_back ns s (frame.Mark k ∷ fs) l h = absurd (cc h)
+
+-- the innermost frame is a predicate's call
+pub judge_top : (f : Frame) (fs : List Frame) → topped fs ≡ Some f → is_judge f ≡ true → IsJudgeTop fs
+judge_top f [] t h = absurd (cc t)
+judge_top f (g ∷ fs) t h = let same : g ≡ f = cc t in ap is_judge same ∙ h
+
+pub says_left : (nodes : List Node) (fs : List Frame) (v : Data) (w : Went) → IsJudgeTop fs → SaysSo v w → IsLeft nodes w fs
+says_left nodes fs (boolean b) w top is = subst (λ x. IsLeft nodes x fs) (sym is) top
+says_left nodes fs null w top is = raised_left nodes fs (error_map TypeError) w is
+says_left nodes fs (integer i) w top is = raised_left nodes fs (error_map TypeError) w is
+says_left nodes fs (text x) w top is = raised_left nodes fs (error_map TypeError) w is
+says_left nodes fs (bytes x) w top is = raised_left nodes fs (error_map TypeError) w is
+says_left nodes fs (list x) w top is = raised_left nodes fs (error_map TypeError) w is
+says_left nodes fs (map x) w top is = raised_left nodes fs (error_map TypeError) w is

@@ -24,10 +24,11 @@ use Rattle.wf_moves.specs.declared.finish.Done.TheVariants as done
 use Rattle.wf_nodes.specs.Spots.{Spot, part_at, part_body}
 use Rattle.wf_scope.specs.Tasks.{Own}
 use Rattle.wf_scope.specs.declared.layer.Layer.{Layer}
-use Rattle.wf_steps.proofs.Clocked.{flow_clock, function_clock, http_asks}
-use Rattle.wf_steps.specs.Built.{IsFunction, IsHttp, IsWorkflow}
+use Rattle.wf_steps.proofs.Clocked.{flow_clock, function_clock, http_asks, nap_reads}
+use Rattle.wf_steps.specs.Built.{IsFunction, IsHttp, IsNap, IsWorkflow}
 use Rattle.wf_steps.specs.Steps.{IsNoCall, IsOrBreaks, Issues, Moves, WantsSame, asks, asks_with, calls_by, come}
 use Rattle.wf_steps.specs.declared.step.Step.{Step}
+use Rattle.wf_steps.specs.declared.target.Nap.{Nap}
 use Rattle.wf_steps.specs.declared.step.Step.TheVariants as step
 use Rattle.wf_value.specs.Data.{Pairs, pairs_of}
 use Rattle.wf_value.specs.declared.value.Map.{Map}
@@ -47,6 +48,9 @@ module _ (s : Scene) (fs : List Flow) (f : CallBody) (args : Pairs) (k : List It
 
   pub function_leads : (g : Function) → IsFunction fs g f.name → leads_with s (Body.Call f) args k l ≡ calls_by s (Body.Call f) args k l
   function_leads g h = leads_plainly _ (function_clock s.program.flows g f.name (fields_now f.args) (subst (λ gs. IsFunction gs g f.name) (sym same) h))
+
+  pub sleep_leads : (b : Nap) → IsNap fs b f.name → leads_with s (Body.Call f) args k l ≡ calls_by s (Body.Call f) args k l
+  sleep_leads b h = leads_plainly true (nap_reads s.program.flows b f.name (fields_now f.args) (subst (λ gs. IsNap gs b f.name) (sym same) h))
 
   pub http_leads : (m : Option Method) → IsHttp fs m f.name → leads_with s (Body.Call f) args k l ≡ asks_with s (Body.Call f) args k l
   http_leads m h =
@@ -100,28 +104,30 @@ module _ (a : Around) (old new : List Frame) (st : Step) (s : Scene) (l : Local)
       by (step.Assigns n) w = refl
       by (step.Calls n m) w = ap (λ q. by_kind q (asks_with s (part_body (part_at a.spots n)) (pairs_of m) (control a.spots new) l) (calls_by s (part_body (part_at a.spots n)) (pairs_of m) (control a.spots new) l)) (sym (w s.program) ∙ e)
 
-  module _ (v : View) (d : Done) (m : Local) (moves_so : Moves a.spots old v new st) (issues_so : Issues a.spots old v new st) (seen : view s l ≡ v) (h : IsDone a (leads a.spots st s (control a.spots new) l) d m) where
-    broken : (x : Done) (y : Moved) → IsOrBreaks y (asks a.spots st s (control a.spots new) l) → (IsDone a (asks a.spots st s (control a.spots new) l) x m) → IsDone a y x m
-    broken x y (inl e) g = subst (λ z. IsDone a z x m) (sym e) g
-    broken (done.Went w) y (inr b) g = subst (λ z. IsMove z w m) (sym b.1) tt
-    broken (done.Sent x w) y (inr b) g = subst (λ z. IsDone a z (done.Sent x w) m) (sym b.1) tt
+  module _ (v : View) (d : Done) (m : Local) (moves_so : Moves a.spots old v new st) (issues_so : Issues a.spots old v new st) (seen : view s l ≡ v) (h : IsDone a s (leads a.spots st s (control a.spots new) l) d m) where
+    broken : (x : Done) (y : Moved) → IsOrBreaks y (asks a.spots st s (control a.spots new) l) → (IsDone a s (asks a.spots st s (control a.spots new) l) x m) → IsDone a s y x m
+    broken x y (inl e) g = subst (λ z. IsDone a s z x m) (sym e) g
+    broken (done.Went w) y (inr b) g = subst (λ z. IsMove s z w m) (sym b.1) tt
+    broken (done.Sent x w) y (inr b) g = subst (λ z. IsDone a s z (done.Sent x w) m) (sym b.1) tt
+    broken (done.Waits w) y (inr b) g = subst (λ z. IsDone a s z (done.Waits w) m) (sym b.1) tt
 
     -- the frames' half of a step, and then the other half
-    pub stepped_on : IsDone a (stepped_at s (control a.spots old) l) d m
+    pub stepped_on : IsDone a s (stepped_at s (control a.spots old) l) d m
     stepped_on = by (next_kind s.program (control a.spots old)) refl
       where
-        move : (q : NextKind) → (q ≡ ByCall → ⊥) → next_kind s.program (control a.spots old) ≡ q → IsDone a (moves s (control a.spots old) l) d m
-        move q other e = subst (λ z. IsDone a z d m) (leads_on q other e ∙ sym (moves_so s l seen)) h
+        move : (q : NextKind) → (q ≡ ByCall → ⊥) → next_kind s.program (control a.spots old) ≡ q → IsDone a s (moves s (control a.spots old) l) d m
+        move q other e = subst (λ z. IsDone a s z d m) (leads_on q other e ∙ sym (moves_so s l seen)) h
 
-        by : (q : NextKind) → next_kind s.program (control a.spots old) ≡ q → IsDone a (by_kind q (issues s (control a.spots old) l) (moves s (control a.spots old) l)) d m
+        by : (q : NextKind) → next_kind s.program (control a.spots old) ≡ q → IsDone a s (by_kind q (issues s (control a.spots old) l) (moves s (control a.spots old) l)) d m
         by Plainly e = move Plainly (λ q. cc q) e
         by ByClock e = move ByClock (λ q. cc q) e
-        by ByCall e = broken d (issues s (control a.spots old) l) (issues_so s l seen e) (subst (λ z. IsDone a z d m) (leads_out e) h)
+        by ByCall e = broken d (issues s (control a.spots old) l) (issues_so s l seen e) (subst (λ z. IsDone a s z d m) (leads_out e) h)
 
 -- ## Frames that make no request
 pub back_stepped : (ns : List Spot) (s : Scene) (fs : List Frame) (l : Local) → is_at_back fs ≡ true → stepped_at s (control ns fs) l ≡ moves s (control ns fs) l
 back_stepped ns s [] l h = absurd (cc h)
 back_stepped ns s (frame.Back c k ∷ fs) l h = refl
+back_stepped ns s (frame.Judge tried r delay error k ∷ fs) l h = refl
 back_stepped ns s (frame.Do n at ∷ fs) l h = absurd (cc h)
 back_stepped ns s (frame.Lone n b ∷ fs) l h = absurd (cc h)
 back_stepped ns s (frame.Entries n at ∷ fs) l h = absurd (cc h)
@@ -135,6 +141,6 @@ loop_stepped ns s fs gs n i w l e = ap (λ q. by_kind (next_kind s.program (cont
 
 -- ## The same frames and layers
 pub stepped_same : (a : Around) (s : Scene) (os ps : List Own) (ls : List Layer) (d : List Item) (fs gs : List Frame) (w : Done) (l : Local) → os ≡ ps → fs ≡ gs
-    → IsDone a (stepped_at s (control a.spots gs) (standing d (held_of a.keys ps ls))) w l → IsDone a (stepped_at s (control a.spots fs) (standing d (held_of a.keys os ls))) w l
+    → IsDone a s (stepped_at s (control a.spots gs) (standing d (held_of a.keys ps ls))) w l → IsDone a s (stepped_at s (control a.spots fs) (standing d (held_of a.keys os ls))) w l
 stepped_same a s os ps ls d fs gs w l same e m =
-    subst (λ qs. IsDone a (stepped_at s (control a.spots fs) (standing d (held_of a.keys qs ls))) w l) (sym same) (subst (λ hs. IsDone a (stepped_at s (control a.spots hs) (standing d (held_of a.keys ps ls))) w l) (sym e) m)
+    subst (λ qs. IsDone a s (stepped_at s (control a.spots fs) (standing d (held_of a.keys qs ls))) w l) (sym same) (subst (λ hs. IsDone a s (stepped_at s (control a.spots hs) (standing d (held_of a.keys ps ls))) w l) (sym e) m)

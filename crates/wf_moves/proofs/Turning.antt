@@ -46,8 +46,8 @@ next_is vs ds i v w p lt e same =
 
 -- ## A turn
 module _ (ns : List Spot) (n : ℕ) (left : declared.Left) (i : ℕ) (old : List Frame) (s : Scene) (c : List Item) (h : Held) where
-  pub turn_ended : (w : Went) (l : Local) → next_of (left_view left) ≡ None → IsMove (goes (control ns old) (standing c h)) w l → IsMove (moves s (control ns (frame.Loop n left i ∷ old)) (standing c h)) w l
-  turn_ended w l e m = subst (λ o. IsMove (turns s (body_loop (part_body (part_at ns n))) o i (control ns old) (standing c h)) w l) (sym e) m
+  pub turn_ended : (w : Went) (l : Local) → next_of (left_view left) ≡ None → IsMove s (goes (control ns old) (standing c h)) w l → IsMove s (moves s (control ns (frame.Loop n left i ∷ old)) (standing c h)) w l
+  turn_ended w l e m = subst (λ o. IsMove s (turns s (body_loop (part_body (part_at ns n))) o i (control ns old) (standing c h)) w l) (sym e) m
 
   module _ (nodes : List Node) (x : Node) (b : LoopNode) (r : Resolves ns nodes) (at : slice_get nodes n ≡ Some x) (is : x.kind ≡ kind.For b) (v : Data) (rest : declared.Left) (left_is : next_of (left_view left) ≡ Some (v, left_view rest)) where
     tree : LoopBody
@@ -69,15 +69,15 @@ module _ (ns : List Spot) (n : ℕ) (left : declared.Left) (i : ℕ) (old : List
         ∙ ap (λ p. on s (control ns old) (standing c h) (opened s (standing [] h) (names_of b.value v b.index (pos i))) (λ ps. goes (Do (part_list p) (part_list p) ∷ Mark ∷ Loop (body_loop (part_body p)) (left_view rest) (suc i) ∷ control ns old) (standing c (with_layer false ps h)))) (sym part)
 
     pub turn_refused : (g : Held) (w : Went) (l : Local) → Enters false s None h (names_of b.value v b.index (pos i)) g
-        → IsMove (raises s (control ns old) (standing c g) (error_map ResourceLimitError)) w l → IsMove (moves s (control ns (frame.Loop n left i ∷ old)) (standing c h)) w l
+        → IsMove s (raises s (control ns old) (standing c g) (error_map ResourceLimitError)) w l → IsMove s (moves s (control ns (frame.Loop n left i ∷ old)) (standing c h)) w l
     turn_refused g w l q m =
-        subst (λ y. IsMove y w l) (sym (opens ∙ ap (λ y. on s (control ns old) (standing c h) y (λ ps. goes (Do (part_list (part_at ns n)) (part_list (part_at ns n)) ∷ Mark ∷ Loop (body_loop (part_body (part_at ns n))) (left_view rest) (suc i) ∷ control ns old) (standing c (with_layer false ps h)))) q.0
+        subst (λ y. IsMove s y w l) (sym (opens ∙ ap (λ y. on s (control ns old) (standing c h) y (λ ps. goes (Do (part_list (part_at ns n)) (part_list (part_at ns n)) ∷ Mark ∷ Loop (body_loop (part_body (part_at ns n))) (left_view rest) (suc i) ∷ control ns old) (standing c (with_layer false ps h)))) q.0
         ∙ ap (λ y. raises s (control ns old) (standing c y) (error_map ResourceLimitError)) (sym q.1))) m
 
     pub turn_entered : (layer : ℕ) (g : Held) (w : Went) (l : Local) (new : List Frame) → Enters false s (Some layer) h (names_of b.value v b.index (pos i)) g → new ≡ frame.Do n 0 ∷ frame.Mark layer ∷ frame.Loop n rest (i + 1) ∷ old
-        → IsMove (goes (control ns new) (standing c g)) w l → IsMove (moves s (control ns (frame.Loop n left i ∷ old)) (standing c h)) w l
+        → IsMove s (goes (control ns new) (standing c g)) w l → IsMove s (moves s (control ns (frame.Loop n left i ∷ old)) (standing c h)) w l
     turn_entered layer g w l new q p m =
-        subst (λ y. IsMove y w l) (sym (opens ∙ ap (λ y. on s (control ns old) (standing c h) y (λ ps. goes (Do (part_list (part_at ns n)) (part_list (part_at ns n)) ∷ Mark ∷ Loop (body_loop (part_body (part_at ns n))) (left_view rest) (suc i) ∷ control ns old) (standing c (with_layer false ps h)))) q.1
+        subst (λ y. IsMove s y w l) (sym (opens ∙ ap (λ y. on s (control ns old) (standing c h) y (λ ps. goes (Do (part_list (part_at ns n)) (part_list (part_at ns n)) ∷ Mark ∷ Loop (body_loop (part_body (part_at ns n))) (left_view rest) (suc i) ∷ control ns old) (standing c (with_layer false ps h)))) q.1
         ∙ ap (λ (j : ℕ). goes (Do (part_list (part_at ns n)) (part_list (part_at ns n)) ∷ Mark ∷ Loop (body_loop (part_body (part_at ns n))) (left_view rest) j ∷ control ns old) (standing c (with_layer false q.0 h))) (sym (add-one i))
         ∙ ap (λ y. goes (control ns y) (standing c (with_layer false q.0 h))) (sym p) ∙ ap (λ y. goes (control ns new) (standing c y)) (sym q.2))) m
 
@@ -101,6 +101,6 @@ loop_there nodes f n w i e h = subst (HasNode nodes) e h
 
 -- ## The same frames and layers
 module _ (a : Around) (s : Scene) (os ps : List Own) (ls : List Layer) (same : os ≡ ps) where
-  pub moved_same : (d : List Item) (fs gs : List Frame) (w : Went) (l : Local) → fs ≡ gs → IsMove (moves s (control a.spots gs) (standing d (held_of a.keys ps ls))) w l → IsMove (moves s (control a.spots fs) (standing d (held_of a.keys os ls))) w l
+  pub moved_same : (d : List Item) (fs gs : List Frame) (w : Went) (l : Local) → fs ≡ gs → IsMove s (moves s (control a.spots gs) (standing d (held_of a.keys ps ls))) w l → IsMove s (moves s (control a.spots fs) (standing d (held_of a.keys os ls))) w l
   moved_same d fs gs w l e m =
-      subst (λ qs. IsMove (moves s (control a.spots fs) (standing d (held_of a.keys qs ls))) w l) (sym same) (subst (λ hs. IsMove (moves s (control a.spots hs) (standing d (held_of a.keys ps ls))) w l) (sym e) m)
+      subst (λ qs. IsMove s (moves s (control a.spots fs) (standing d (held_of a.keys qs ls))) w l) (sym same) (subst (λ hs. IsMove s (moves s (control a.spots hs) (standing d (held_of a.keys ps ls))) w l) (sym e) m)

@@ -1,35 +1,32 @@
 -- Errors that go outward.
 use Rattle.std.proofs.Common.{◌≡◌, ◌≤◌, ◌<◌, ℕ, Bool, true, false, List, [], ◌∷◌, length, Some, None, refl, sym, ap, subst, ◌∙◌, arith}
-use Rattle.std.specs.Prelude.{IfSome, Option, is_none, is_some}
+use Rattle.std.specs.Prelude.{IfSome, Option, is_some}
 use Rattle.wf_ast.specs.Tree.{except, try}
 use Rattle.wf_ast.specs.View.{policy_option_view}
 use Rattle.wf_frames.specs.Fits.{Fits, IsTry, list_at, outside_at, reach, view_outside}
-use Rattle.wf_frames.specs.Frames.{body_try, control, item, own, owned, topped}
+use Rattle.wf_frames.specs.Frames.{body_try, control, items, own, owned, topped}
 use Rattle.wf_frames.specs.Held.{Held, standing}
 use Rattle.wf_frames.specs.Turns.{Enters, Leaves, dropped, left_by, with_layer}
 use Rattle.wf_frames.specs.declared.frames.Frame.{Frame}
 use Rattle.wf_frames.specs.declared.frames.Frame.TheVariants as frame
-use Rattle.wf_model.specs.Config.{Do, Item, Mark, Try}
+use Rattle.wf_model.specs.Config.{Do, Item, Mark}
 use Rattle.wf_model.specs.Layers.{opened}
 use Rattle.wf_model.specs.Local.{Local, Moved, Scene, goes}
 use Rattle.wf_model.specs.Unwind.{excepted, handled, unwind}
 use Rattle.wf_moves.proofs.Leaving.{stands_on}
-use Rattle.wf_moves.specs.Moved.{Handler, IsTaken, Takes, caught_by}
+use Rattle.wf_moves.specs.Retries.{Handler, TriedAt, caught_at, decide_at, tried_of}
+use Rattle.wf_moves.specs.declared.unwind.Tried.{Tried}
 use Rattle.wf_nodes.specs.Kinds.{block_view, handler_view, kind_by}
 use Rattle.wf_nodes.specs.Spots.{Spot, owners_at, part_at, part_body, part_list, steps_by}
 use Rattle.wf_nodes.specs.Table.{except_of, handler_list, kind_list, outside}
 use Rattle.wf_nodes.specs.declared.node.Node.{Node}
 use Rattle.wf_nodes.specs.declared.node.NodeKind.{NodeKind}
 use Rattle.wf_nodes.specs.declared.node.TryNode.{TryNode}
-use Rattle.wf_steps.proofs.Parts.{list_is, list_of, tried_body, try_built, view_is}
+use Rattle.wf_steps.proofs.Parts.{list_is, list_of, tried_body, view_is}
 use Rattle.wf_steps.specs.Built.{Tells}
 use Rattle.wf_value.specs.Data.{Data}
 use Rattle.wf_value.specs.Errors.{error_map}
 use Rattle.wf_value.specs.declared.Tag.TheVariants.{ResourceLimitError}
-
-none_there : {A : Type 0} (o : Option A) → is_none o ≡ true → o ≡ None
-none_there None h = refl
-none_there (Some x) h = absurd (cc h)
 
 -- a number has one `try`
 pub same_try : (nodes : List Node) (n : ℕ) (t u : TryNode) → IsTry nodes n t → IsTry nodes n u → t ≡ u
@@ -38,16 +35,9 @@ same_try nodes n t u h k = (
     cc (sym h.is ∙ ap (λ (x : Node). x.kind) same ∙ k.is)
     )
 
-module _ (ns : List Spot) (nodes : List Node) (t : Tells ns nodes) where
-  pub no_policy : (n : ℕ) (y : TryNode) → IsTry nodes n y → y.policy ≡ None
-  no_policy n y h = none_there y.policy (try_built nodes n h.node y t.built h.at h.is).0
-
-  try_is : (n : ℕ) (y : TryNode) → IsTry nodes n y → body_try (part_body (part_at ns n)) ≡ try (part_body (part_at ns y.body)) None (except_of ns (handler_view y.except))
-  try_is n y h =
-      ap body_try (tried_body ns nodes n y t.resolves h) ∙ ap (λ p. try (part_body (part_at ns y.body)) (policy_option_view p) (except_of ns (handler_view y.except))) (no_policy n y h)
-
-  -- ## One frame
-  passes_one : (s : Scene) (f : Frame) (k : List Item) (l : Local) (e : Data) → IsTaken nodes f None → unwind s (item ns f ∷ k) l e ≡ unwind s k (left_by f l) e
+-- ## One frame
+module _ (ns : List Spot) where
+  passes_one : (s : Scene) (f : Frame) (k : List Item) (l : Local) (e : Data) → tried_of f ≡ None → unwind s (items ns f k) l e ≡ unwind s k (left_by f l) e
   passes_one s (frame.Do n at) k l e h = refl
   passes_one s (frame.Lone n b) k l e h = refl
   passes_one s (frame.Entries n at) k l e h = refl
@@ -55,62 +45,71 @@ module _ (ns : List Spot) (nodes : List Node) (t : Tells ns nodes) where
   passes_one s (frame.Loop n w i) k l e h = refl
   passes_one s (frame.Mark m) k l e h = refl
   passes_one s (frame.Back c m) k l e h = refl
-  passes_one s (frame.Try n r d) k l e h =
-      let is = try_is n h.tried h.is ∙ ap (λ x. try (part_body (part_at ns h.tried.body)) None (except_of ns (handler_view x))) h.none in
-      ap (λ y. unwind s (Try y r d ∷ k) l e) is
+  passes_one s (frame.Judge tried r delay error m) k l e h = refl
+  passes_one s (frame.Try n r d) k l e h = absurd (cc h)
 
-  takes_one : (s : Scene) (f : Frame) (n : ℕ) (k : List Item) (l : Local) (e : Data) → Takes nodes f n → unwind s (item ns f ∷ k) l e ≡ handled s e (body_try (part_body (part_at ns n))) k l (unwind s k l)
-  takes_one s f n k l e h =
-      let is = try_is n h.tried h.is in
-      ap (λ g. unwind s (item ns g ∷ k) l e) h.frame ∙ ap (λ y. unwind s (Try y h.tries h.delay ∷ k) l e) is ∙ sym (ap (λ y. handled s e y k l (unwind s k l)) is)
+  -- the `try` of a frame
+  is_try : (f : Frame) (t : Tried) → tried_of f ≡ Some t → f ≡ frame.Try t.node t.tries t.delay
+  is_try (frame.Do n at) t h = absurd (cc h)
+  is_try (frame.Lone n b) t h = absurd (cc h)
+  is_try (frame.Entries n at) t h = absurd (cc h)
+  is_try (frame.Then n) t h = absurd (cc h)
+  is_try (frame.Loop n w i) t h = absurd (cc h)
+  is_try (frame.Mark m) t h = absurd (cc h)
+  is_try (frame.Back c m) t h = absurd (cc h)
+  is_try (frame.Judge tried r delay error m) t h = absurd (cc h)
+  is_try (frame.Try n r d) t h = (
+      let same : record { node = n; tries = r; delay = d } ≡ t = cc h in
+      ap (λ (x : Tried). frame.Try x.node x.tries x.delay) same
+      )
 
   -- ## The innermost frame is left
-  pub passes_on : (f : Frame) (b : Bool) (old new : List Frame) (h g : Held) → topped old ≡ Some f → IsTaken nodes f None → Leaves b old h new g
+  pub passes_on : (f : Frame) (b : Bool) (old new : List Frame) (h g : Held) → topped old ≡ Some f → tried_of f ≡ None → Leaves b old h new g
       → (s : Scene) (c : List Item) (e : Data) → unwind s (control ns old) (standing c h) e ≡ unwind s (control ns new) (standing c g) e
   passes_on f false old new h g p q w s c e = absurd (cc (sym p ∙ ap topped w.0))
   passes_on f true old new h g p q w s c e =
       let same : w.0 ≡ f = cc (sym (ap topped w.1) ∙ p) in
-      ap (λ fs. unwind s (control ns fs) (standing c h) e) w.1 ∙ passes_one s w.0 (control ns new) (standing c h) e (subst (λ y. IsTaken nodes y None) (sym same) q)
+      ap (λ fs. unwind s (control ns fs) (standing c h) e) w.1 ∙ passes_one s w.0 (control ns new) (standing c h) e (ap tried_of same ∙ q)
       ∙ ap (λ l. unwind s (control ns new) l e) (stands_on w.0 c h ∙ ap (standing c) (sym w.2))
 
-  pub takes_on : (f : Frame) (n : ℕ) (b : Bool) (old new : List Frame) (h g : Held) → topped old ≡ Some f → Takes nodes f n → Leaves b old h new g
-      → (s : Scene) (c : List Item) (e : Data) → unwind s (control ns old) (standing c h) e ≡ handled s e (body_try (part_body (part_at ns n))) (control ns new) (standing c g) (unwind s (control ns new) (standing c g))
-  takes_on f n false old new h g p q w s c e = absurd (cc (sym p ∙ ap topped w.0))
-  takes_on f n true old new h g p q w s c e =
+  takes_on : (f : Frame) (t : Tried) (b : Bool) (old new : List Frame) (h g : Held) → topped old ≡ Some f → tried_of f ≡ Some t → Leaves b old h new g
+      → (s : Scene) (c : List Item) (e : Data) → unwind s (control ns old) (standing c h) e ≡ decide_at ns t s e (control ns new) (standing c g)
+  takes_on f t false old new h g p q w s c e = absurd (cc (sym p ∙ ap topped w.0))
+  takes_on f t true old new h g p q w s c e =
       let same : w.0 ≡ f = cc (sym (ap topped w.1) ∙ p) in
-      let is : w.0 ≡ frame.Try n q.tries q.delay = same ∙ q.frame in
+      let is : w.0 ≡ frame.Try t.node t.tries t.delay = same ∙ is_try f t q in
       let held : h ≡ g = sym (w.2 ∙ ap (λ y. dropped y h) is) in
-      ap (λ fs. unwind s (control ns fs) (standing c h) e) w.1 ∙ takes_one s w.0 n (control ns new) (standing c h) e (record { tries = q.tries; delay = q.delay; frame = is; tried = q.tried; except = q.except; is = q.is; has = q.has })
-      ∙ ap (λ (y : Held). handled s e (body_try (part_body (part_at ns n))) (control ns new) (standing c y) (unwind s (control ns new) (standing c y))) held
+      ap (λ fs. unwind s (control ns fs) (standing c h) e) (w.1 ∙ ap (λ y. y ∷ new) is) ∙ ap (λ (y : Held). decide_at ns t s e (control ns new) (standing c y)) held
 
-  pub takes_inside : (f : Frame) (n : ℕ) (b : Bool) (old new : List Frame) (h g : Held) → topped old ≡ Some f → Takes nodes f n → Leaves b old h new g → Fits ns nodes old → owners_at ns n ≡ reach new
-  takes_inside f n false old new h g p q w fits = absurd (cc (sym p ∙ ap topped w.0))
-  takes_inside f n true old new h g p q w fits =
+  tried_at : (nodes : List Node) (f : Frame) (t : Tried) (b : Bool) (old new : List Frame) (h g : Held) → topped old ≡ Some f → tried_of f ≡ Some t → Leaves b old h new g → Fits ns nodes old → TriedAt ns nodes t new
+  tried_at nodes f t false old new h g p q w fits = absurd (cc (sym p ∙ ap topped w.0))
+  tried_at nodes f t true old new h g p q w fits =
       let same : w.0 ≡ f = cc (sym (ap topped w.1) ∙ p) in
-      let all : Fits ns nodes (frame.Try n q.tries q.delay ∷ new) = subst (λ y. Fits ns nodes (y ∷ new)) (same ∙ q.frame) (subst (Fits ns nodes) w.1 fits) in
-      all.0.1
-
-  pub handler_is : (f : Frame) (n : ℕ) → Takes nodes f n → Handler nodes n
-  handler_is f n q = record { tried = q.tried; except = q.except; is = q.is; policy = no_policy n q.tried q.is; has = q.has }
+      let all : Fits ns nodes (frame.Try t.node t.tries t.delay ∷ new) = subst (λ y. Fits ns nodes (y ∷ new)) (same ∙ is_try f t q) (subst (Fits ns nodes) w.1 fits) in
+      record { node = all.0.0.0; is = all.0.0.1; inside = all.0.1 }
 
   -- ## Where one was looked for
-  pub caught_on : (f : Frame) (o : Option ℕ) (b : Bool) (old new : List Frame) (h g : Held) → topped old ≡ Some f → is_some o ≡ true → IsTaken nodes f o → Leaves b old h new g
-      → (s : Scene) (c : List Item) (e : Data) → unwind s (control ns old) (standing c h) e ≡ caught_by ns o s e (control ns new) (standing c g)
+  pub caught_on : (f : Frame) (o : Option Tried) (b : Bool) (old new : List Frame) (h g : Held) → topped old ≡ Some f → is_some o ≡ true → o ≡ tried_of f → Leaves b old h new g
+      → (s : Scene) (c : List Item) (e : Data) → unwind s (control ns old) (standing c h) e ≡ caught_at ns o s e (control ns new) (standing c g)
   caught_on f None b old new h g p t q w s c e = absurd (cc t)
-  caught_on f (Some n) b old new h g p t q w s c e = takes_on f n b old new h g p q w s c e
+  caught_on f (Some n) b old new h g p t q w s c e = takes_on f n b old new h g p (sym q) w s c e
 
-  pub some_handler : (f : Frame) (o : Option ℕ) → is_some o ≡ true → IsTaken nodes f o → IfSome o (Handler nodes)
-  some_handler f None t q = absurd (cc t)
-  some_handler f (Some n) t q = handler_is f n q
+  pub some_at : (nodes : List Node) (f : Frame) (o : Option Tried) (b : Bool) (old new : List Frame) (h g : Held) → topped old ≡ Some f → is_some o ≡ true → o ≡ tried_of f → Leaves b old h new g → Fits ns nodes old → IfSome o (λ t. TriedAt ns nodes t new)
+  some_at nodes f None b old new h g p t q w fits = absurd (cc t)
+  some_at nodes f (Some n) b old new h g p t q w fits = tried_at nodes f n b old new h g p (sym q) w fits
 
-  pub some_inside : (f : Frame) (o : Option ℕ) (b : Bool) (old new : List Frame) (h g : Held) → topped old ≡ Some f → is_some o ≡ true → IsTaken nodes f o → Leaves b old h new g → Fits ns nodes old → IfSome o (λ n. owners_at ns n ≡ reach new)
-  some_inside f None b old new h g p t q w fits = absurd (cc t)
-  some_inside f (Some n) b old new h g p t q w fits = takes_inside f n b old new h g p q w fits
+  pub caught_out : (fs : List Frame) (l : Local) → topped fs ≡ None → (s : Scene) (e : Data) → unwind s (control ns fs) l e ≡ caught_at ns None s e (control ns fs) l
+  caught_out [] l t s e = refl
+  caught_out (f ∷ fs) l t s e = absurd (cc t)
 
-  -- ## The steps that take the error
+-- ## The steps that take the error
+module _ (ns : List Spot) (nodes : List Node) (t : Tells ns nodes) where
+  pub try_is : (n : ℕ) (y : TryNode) → IsTry nodes n y → body_try (part_body (part_at ns n)) ≡ try (part_body (part_at ns y.body)) (policy_option_view y.policy) (except_of ns (handler_view y.except))
+  try_is n y h = ap body_try (tried_body ns nodes n y t.resolves h)
+
   module _ (n : ℕ) (y : Handler nodes n) where
-    handler_try : body_try (part_body (part_at ns n)) ≡ try (part_body (part_at ns y.tried.body)) None (except y.except.name (steps_by ns y.except.block.steps.items))
-    handler_try = try_is n y.tried y.is ∙ ap (λ x. try (part_body (part_at ns y.tried.body)) None (except_of ns (handler_view x))) y.has
+    handler_try : body_try (part_body (part_at ns n)) ≡ try (part_body (part_at ns y.tried.body)) (policy_option_view y.tried.policy) (except y.except.name (steps_by ns y.except.block.steps.items))
+    handler_try = try_is n y.tried y.is ∙ ap (λ x. try (part_body (part_at ns y.tried.body)) (policy_option_view y.tried.policy) (except_of ns (handler_view x))) y.has
 
     handler_at : list_at nodes n ≡ Some (block_view y.except.block)
     handler_at =
@@ -146,11 +145,16 @@ module _ (ns : List Spot) (nodes : List Node) (t : Tells ns nodes) where
 pub handler_owned : (p q n layer : ℕ) (old mid new : List Frame) → mid ≡ frame.Mark layer ∷ old → new ≡ frame.Do n 0 ∷ mid → q ≡ p → owned q new ≡ own layer false ∷ owned p old
 handler_owned p q n layer old mid new m e same = ap (λ (k : ℕ). owned k new) same ∙ ap (owned p) (e ∙ ap (λ fs. frame.Do n 0 ∷ fs) m)
 
+-- without them the error goes on
+pub handled_past : (ns : List Spot) (nodes : List Node) (t : Tells ns nodes) (n : ℕ) (y : TryNode) → IsTry nodes n y → y.except ≡ None → (s : Scene) (e : Data) (k : List Item) (l : Local) (f : Data → Moved) → handled s e (body_try (part_body (part_at ns n))) k l f ≡ f e
+handled_past ns nodes t n y h none s e k l f =
+    ap (λ z. handled s e z k l f) (try_is ns nodes t n y h ∙ ap (λ x. try (part_body (part_at ns y.body)) (policy_option_view y.policy) (except_of ns (handler_view x))) none)
+
 -- ## Fewer frames
 pub fewer_by : (b : Bool) (f : Frame) (old new : List Frame) (h g : Held) → topped old ≡ Some f → Leaves b old h new g → length new < length old
 fewer_by false f old new h g p w = absurd (cc (sym p ∙ ap topped w.0))
 fewer_by true f old new h g p w = let e = ap length w.1 in omega (arith, e)
 
-pub some_fewer : (o : Option ℕ) (new old start : List Frame) → length new < length old → length old ≤ length start → IfSome o (λ n. length new < length start)
+pub some_fewer : (o : Option Tried) (new old start : List Frame) → length new < length old → length old ≤ length start → IfSome o (λ n. length new < length start)
 some_fewer None new old start h k = tt
 some_fewer (Some n) new old start h k = omega (arith, h, k)

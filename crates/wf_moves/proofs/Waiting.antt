@@ -3,18 +3,11 @@ use Rattle.std.proofs.Common.{◌≡◌, ℕ, true, List, Some, None, refl, sym,
 use Rattle.std.specs.Prelude.{Option, slice_get}
 use Rattle.wf_frames.specs.Fits.{IsCall}
 use Rattle.wf_frames.specs.Frames.{inner}
-use Rattle.wf_frames.specs.Owned.{Around, control_of, local_of}
+use Rattle.wf_frames.specs.Owned.{Around, local_of}
 use Rattle.wf_frames.specs.declared.frames.Frames.{Frames}
-use Rattle.wf_model.specs.Local.{Local, Moved, Scene}
 use Rattle.wf_moves.proofs.Going.{going}
-use Rattle.wf_moves.specs.Moved.{IsLeft, IsMove}
-use Rattle.wf_moves.specs.Stepped.{stepped, stepped_at}
-use Rattle.wf_moves.specs.Tasks.{IsRequest, MovesSo, Stays, move_of}
-use Rattle.wf_moves.specs.Waits.{GoesFrom, call_in, is_call_at, is_call_kind, is_call_node, wait_view}
-use Rattle.wf_moves.specs.declared.finish.Went.{Went}
-use Rattle.wf_moves.specs.declared.finish.Went.TheVariants as went
-use Rattle.wf_moves.specs.declared.sending.Sent.{Sent}
-use Rattle.wf_moves.specs.declared.task.Move.{Move}
+use Rattle.wf_moves.specs.Moved.{IsGoing}
+use Rattle.wf_moves.specs.Waits.{CanGoOn, GoesFrom, call_in, is_awake_in, is_call_at, is_call_kind, is_call_node, wait_view}
 use Rattle.wf_moves.specs.declared.task.Task.{Task}
 use Rattle.wf_moves.specs.declared.wait.Wait.{Wait}
 use Rattle.wf_moves.specs.declared.wait.Wait.TheVariants as wait
@@ -49,32 +42,20 @@ call_there nodes n h = by (slice_get nodes n) refl h
     by (Some x) at t = by_kind x x.kind refl at t
 
 -- ## Waits
-pub is_awake : (w : Wait) → call_in w ≡ None → w ≡ wait.Awake
+pub is_awake : (w : Wait) → is_awake_in w ≡ true → w ≡ wait.Awake
 is_awake wait.Awake e = refl
+is_awake (wait.Sleep d n) e = absurd (cc e)
+is_awake (wait.Delay d) e = absurd (cc e)
 is_awake (wait.Calling c n) e = absurd (cc e)
 
--- ## What is left behind a move
-pub went_left : (nodes : List Node) (w : Went) (t : Task) → call_in t.wait ≡ None → IsLeft nodes w (inner t.frames) → Stays nodes (move_of w) t
-went_left nodes went.Goes t e h = (e, subst (λ x. GoesFrom nodes x (inner t.frames)) (sym (is_awake t.wait e)) (going nodes (inner t.frames) h))
-went_left nodes (went.Ended x) t e h = h
+pub calls_none : (w : Wait) → is_awake_in w ≡ true → call_in w ≡ None
+calls_none w e = ap call_in (is_awake w e)
 
-pub went_so : (m : Moved) (w : Went) (l : Local) → IsMove m w l → MovesSo m (move_of w) l
-went_so m went.Goes l h = h
-went_so m (went.Ended e) l h = h
+-- ## What is left behind a move
+pub went_left : (nodes : List Node) (t : Task) → is_awake_in t.wait ≡ true → IsGoing nodes (inner t.frames) → (call_in t.wait ≡ None) × CanGoOn nodes t
+went_left nodes t e h = (calls_none t.wait e, subst (λ x. GoesFrom nodes x (inner t.frames)) (sym (is_awake t.wait e)) (going nodes (inner t.frames) h))
 
 -- ## By itself
-module _ (a : Around) (s : Scene) (w : Wait) (old new : Frames) (xs ys : Scopes) where
-  awake_local : (fs : Frames) (x : Scopes) → call_in w ≡ None → record (local_of a fs x) { wait = wait_view a w } ≡ local_of a fs x
-  awake_local fs x e = ap (λ v. record (local_of a fs x) { wait = wait_view a v }) (is_awake w e)
-
-  -- a task that was awake and is
-  pub went_on : (v : Went) (m : Move) → call_in w ≡ None → m ≡ move_of v → IsMove (stepped_at s (control_of a old) (local_of a old xs)) v (local_of a new ys)
-      → MovesSo (stepped s (record (local_of a old xs) { wait = wait_view a w })) m (record (local_of a new ys) { wait = wait_view a w })
-  went_on v m e is h =
-      subst (λ l. MovesSo (stepped s l) m (record (local_of a new ys) { wait = wait_view a w })) (sym (awake_local old xs e))
-      (subst (λ l. MovesSo (stepped s (local_of a old xs)) m l) (sym (awake_local new ys e)) (subst (λ n. MovesSo (stepped s (local_of a old xs)) n (local_of a new ys)) (sym is) (went_so (stepped s (local_of a old xs)) v (local_of a new ys) h)))
-
-  -- or waits now
-  pub sent_on : (v : Sent) → call_in w ≡ None → (u : Wait) → IsRequest (stepped_at s (control_of a old) (local_of a old xs)) v (record (local_of a new ys) { wait = wait_view a u })
-      → IsRequest (stepped s (record (local_of a old xs) { wait = wait_view a w })) v (record (local_of a new ys) { wait = wait_view a u })
-  sent_on v e u h = subst (λ l. IsRequest (stepped s l) v (record (local_of a new ys) { wait = wait_view a u })) (sym (awake_local old xs e)) h
+-- a task that waits for nothing
+pub awake_local : (a : Around) (w : Wait) (fs : Frames) (x : Scopes) → is_awake_in w ≡ true → record (local_of a fs x) { wait = wait_view a w } ≡ local_of a fs x
+awake_local a w fs x e = ap (λ v. record (local_of a fs x) { wait = wait_view a v }) (is_awake w e)

@@ -19,6 +19,7 @@ GoesOn nodes (frame.Loop n l i) = Unit {0}
 GoesOn nodes (frame.Try n tries delay) = ⊥
 GoesOn nodes (frame.Mark number) = ⊥
 GoesOn nodes (frame.Back call number) = Unit {0}
+GoesOn nodes (frame.Judge n tries delay e number) = Unit {0}
 
 -- the innermost one is such a frame
 abbrev pub Going : List Node → List Frame → Type 0
@@ -34,6 +35,7 @@ GoesOn-prop nodes (frame.Loop n l i) = Unit-prop
 GoesOn-prop nodes (frame.Try n tries delay) = λ g h. absurd g
 GoesOn-prop nodes (frame.Mark number) = λ g h. absurd g
 GoesOn-prop nodes (frame.Back call number) = Unit-prop
+GoesOn-prop nodes (frame.Judge n tries delay e number) = Unit-prop
 
 pub Going-prop : (nodes : List Node) (fs : List Frame) → IsProp (Going nodes fs)
 Going-prop nodes [] = λ g h. absurd g

@@ -1,7 +1,9 @@
 pub mod Assigned
 pub mod Going
 pub mod Moved
+pub mod Naps
 pub mod Requests
+pub mod Retries
 pub mod Stepped
 pub mod Tasks
 pub mod Waits

@@ -2,8 +2,8 @@
 --     Settled     what has ended is left
 --     IsMove      a move of the model, by what a call gives and leaves
 use Rattle.std.specs.Prelude.{◌≡◌, ◌≤◌, ℕ, Bool, true, false, List, [], ◌∷◌, nat_eq, slice_get, if◌then◌else◌, Some, None, Option}
-use Rattle.wf_frames.specs.Fits.{IsTry, list_at}
-use Rattle.wf_frames.specs.Frames.{body_try, control, is_back, item}
+use Rattle.wf_frames.specs.Fits.{list_at}
+use Rattle.wf_frames.specs.Frames.{control, is_back, items}
 use Rattle.wf_frames.specs.Held.{Held, standing}
 use Rattle.wf_frames.specs.Owned.{Around, local_of}
 use Rattle.wf_frames.specs.Sights.{Sees}
@@ -13,42 +13,45 @@ use Rattle.wf_frames.specs.declared.frames.Frame.{Frame}
 use Rattle.wf_frames.specs.declared.frames.Frame.TheVariants as frame
 use Rattle.wf_frames.specs.declared.frames.Frames.{Frames}
 use Rattle.wf_model.specs.Config.{Item}
-use Rattle.wf_model.specs.Local.{Local, Moved, Scene, Goes, Ends, Does, Breaks, Not, Gives, Fails, goes, settle}
+use Rattle.wf_model.specs.Local.{Local, Moved, Scene, Goes, Ends, Breaks, Gives, Fails, settle}
 use Rattle.wf_model.specs.Local as model
-use Rattle.wf_model.specs.Unwind.{Found, NotFound, Stands, AtEnd, handled, to_step, unwind}
+use Rattle.wf_model.specs.Leave.{returns}
+use Rattle.wf_model.specs.Unwind.{Found, NotFound, Stands, AtEnd, to_step, unwind}
 use Rattle.wf_steps.specs.Steps.{HasStep}
 use Rattle.wf_moves.specs.declared.finish.End.{End}
 use Rattle.wf_moves.specs.declared.finish.End.TheVariants as end
 use Rattle.wf_moves.specs.declared.finish.Went.{Went}
 use Rattle.wf_moves.specs.declared.finish.Went.TheVariants as went
 use Rattle.wf_nodes.specs.Kinds.{Listed}
-use Rattle.wf_nodes.specs.Spots.{Spot, part_at, part_body}
-use Rattle.wf_nodes.specs.declared.node.ExceptNode.{ExceptNode}
+use Rattle.wf_nodes.specs.Spots.{Spot}
 use Rattle.wf_nodes.specs.declared.node.Jump.{Jump}
 use Rattle.wf_nodes.specs.declared.node.Node.{Node}
-use Rattle.wf_nodes.specs.declared.node.TryNode.{TryNode}
 use Rattle.wf_scope.specs.declared.scopes.Scopes.{Scopes}
-use Rattle.wf_value.specs.Data.{Data, depth}
+use Rattle.wf_value.specs.Data.{Data, boolean, depth}
+use Rattle.wf_value.specs.Errors.{error_map}
 use Rattle.wf_value.specs.Pairs.{Text}
 use Rattle.wf_value.specs.Plain.{plain}
+use Rattle.wf_value.specs.declared.Tag.TheVariants.{TypeError}
 use Rattle.wf_value.specs.declared.Value.{Value}
 
 -- ## Frames that have ended
 -- a frame that has ended is left by settling, and another one isn't
 abbrev pub Settled : List Spot → Bool → Frame → Type 0
-Settled ns true f = (k : List Item) (l : Local) → settle (item ns f ∷ k) l ≡ settle k (left_by f l)
-Settled ns false f = (k : List Item) (l : Local) → settle (item ns f ∷ k) l ≡ record l { control = item ns f ∷ k }
+Settled ns true f = (k : List Item) (l : Local) → settle (items ns f k) l ≡ settle k (left_by f l)
+Settled ns false f = (k : List Item) (l : Local) → settle (items ns f k) l ≡ record l { control = items ns f k }
 
 -- a frame at which the way outward of a `break` or `continue` ends: a loop, or a call, in which there is none
 abbrev pub is_loop : Frame → Bool
 is_loop (frame.Loop n l i) = true
 is_loop (frame.Back call number) = true
+is_loop (frame.Judge n tries delay e number) = true
 is_loop f = false
 
 -- a frame from which a move is made
 abbrev pub HasMove : List Node → Frame → Type 0
 HasMove nodes (frame.Loop n l i) = Unit {0}
 HasMove nodes (frame.Back call number) = Unit {0}
+HasMove nodes (frame.Judge n tries delay e number) = Unit {0}
 HasMove nodes f = HasStep nodes f
 
 -- the innermost one is such a frame, if any frame is left
@@ -70,24 +73,70 @@ abbrev pub end_data : model.End → Data
 end_data (Gives v) = v
 end_data (Fails e) = e
 
--- the model's move, where it isn't one that no accepted program makes: of a task that has ended, the layers outside count alone, and what it
--- ends with nests within the limit
-abbrev pub IsMove : Moved → Went → Local → Type 0
-IsMove (Breaks kind) w l = Unit {0}
-IsMove (Goes m) went.Goes l = m ≡ l
-IsMove (Ends e m) (went.Ended f) l = (e ≡ end_view f) × (depth (end_data e) ≤ 100) × (m.outer ≡ l.outer)
-IsMove m w l = ⊥
+-- the model's move is that the task goes on or waits so, where it isn't one that no accepted program makes
+abbrev pub IsWent : Moved → Local → Type 0
+IsWent (Breaks kind) l = Unit {0}
+IsWent (Goes m) l = m ≡ l
+IsWent m l = ⊥
 
--- where the task goes on its innermost frame has something to do, and where it has ended none is left
+-- or that it has ended: the layers outside count alone, and what it ends with nests within the limit
+abbrev pub IsEnd : Moved → End → Local → Type 0
+IsEnd (Breaks kind) f l = Unit {0}
+IsEnd (Ends e m) f l = (e ≡ end_view f) × (depth (end_data e) ≤ 100) × (m.outer ≡ l.outer)
+IsEnd m f l = ⊥
+
+-- the model's move, by what a call gives and leaves. An error is still to go outward, and so is what a predicate returns, whatever control
+-- the task has
+abbrev pub IsMove : Scene → Moved → Went → Local → Type 0
+IsMove s (Breaks kind) w l = Unit {0}
+IsMove s (Goes m) went.Goes l = m ≡ l
+IsMove s (Ends e m) (went.Ended f) l = (e ≡ end_view f) × (depth (end_data e) ≤ 100) × (m.outer ≡ l.outer)
+IsMove s m (went.Raises e) l = (c : List Item) × (m ≡ unwind s l.control (record l { control = c }) (plain e))
+IsMove s m (went.Says b) l = (c : List Item) × (m ≡ returns s (boolean b) l.control (record l { control = c }))
+IsMove s m w l = ⊥
+
+-- nothing is still to go outward
+abbrev pub IsThrough : Went → Type 0
+IsThrough went.Goes = Unit {0}
+IsThrough (went.Ended e) = Unit {0}
+IsThrough (went.Raises e) = ⊥
+IsThrough (went.Says b) = ⊥
+
+-- an error is raised, which nests at most 100 deep
+pub record Raises (d : Data) (w : Went) : Type 0 where
+  pub error : Value
+  pub is : w ≡ went.Raises error
+  pub says : plain error ≡ d
+  pub shallow : depth (plain error) ≤ 100
+
+-- what a predicate returns: a truth value is its answer, and any other is a TypeError
+abbrev pub SaysSo : Data → Went → Type 0
+SaysSo (boolean b) w = w ≡ went.Says b
+SaysSo d w = Raises (error_map TypeError) w
+
+-- whether the innermost frame is the call of a predicate
+abbrev pub is_judge : Frame → Bool
+is_judge (frame.Judge n tries delay e number) = true
+is_judge f = false
+
+abbrev pub IsJudgeTop : List Frame → Type 0
+IsJudgeTop [] = ⊥
+IsJudgeTop (f ∷ fs) = is_judge f ≡ true
+
+-- where the task goes on its innermost frame has something to do, and where it has ended none is left; an error nests at most 100 deep, and
+-- an answer is that of the predicate whose call is the innermost frame
 abbrev pub IsLeft : List Node → Went → List Frame → Type 0
 IsLeft nodes went.Goes fs = IsGoing nodes fs
 IsLeft nodes (went.Ended e) fs = fs ≡ []
+IsLeft nodes (went.Raises e) fs = depth (plain e) ≤ 100
+IsLeft nodes (went.Says b) fs = IsJudgeTop fs
 
 -- ## Ways outward
 -- where an innermost loop was looked for: there are these frames from it on, or there is none
 abbrev pub loop_found : List Spot → List Frame → Local → Found
 loop_found ns [] l = AtEnd
 loop_found ns (frame.Back call number ∷ fs) l = NotFound
+loop_found ns (frame.Judge n tries delay e number ∷ fs) l = NotFound
 loop_found ns (f ∷ fs) l = Stands (control ns (f ∷ fs)) l
 
 -- the innermost frame is a loop or a call, if any frame is left
@@ -131,52 +180,11 @@ abbrev pub call_of : Frame → Option ℕ
 call_of (frame.Back call number) = call
 call_of f = None
 
--- ## Errors
--- the node of this number is a `try` without a policy, and these steps take its errors
-pub record Handler (nodes : List Node) (n : ℕ) : Type 0 where
-  pub tried : TryNode
-  pub except : ExceptNode
-  pub is : IsTry nodes n tried
-  pub policy : tried.policy ≡ None
-  pub has : tried.except ≡ Some except
-
--- the frame is a `try` of this number that takes errors
-pub record Takes (nodes : List Node) (f : Frame) (n : ℕ) : Type 0 where
-  pub tries : ℕ
-  pub delay : Option ℕ
-  pub frame : f ≡ frame.Try n tries delay
-  pub tried : TryNode
-  pub except : ExceptNode
-  pub is : IsTry nodes n tried
-  pub has : tried.except ≡ Some except
-
--- a `try` that takes none
-pub record LetsPass (nodes : List Node) (n : ℕ) : Type 0 where
-  pub tried : TryNode
-  pub is : IsTry nodes n tried
-  pub none : tried.except ≡ None
-
--- the frame takes errors by its `try` of this number, or takes none
-abbrev pub IsTaken : List Node → Frame → Option ℕ → Type 0
-IsTaken nodes f (Some n) = Takes nodes f n
-IsTaken nodes (frame.Try n tries delay) None = LetsPass nodes n
-IsTaken nodes f None = Unit {0}
-
--- where the nearest `try` was looked for that takes an error: it is this one, and was left, or there is none
-abbrev pub caught_by : List Spot → Option ℕ → Scene → Data → List Item → Local → Moved
-caught_by ns None s e k l = Ends (Fails e) l
-caught_by ns (Some n) s e k l = handled s e (body_try (part_body (part_at ns n))) k l (unwind s k l)
-
--- the `try` takes the error, or raises another one
-abbrev pub caught : Option Value → Scene → List Item → Local → Moved
-caught None s k l = goes k l
-caught (Some e) s k l = unwind s k l (plain e)
-
 -- ## What a call says of a move
 -- it is this one of the task, whatever the scene that agrees on the limit, the rest and the workflows
 abbrev pub MovesBy : Around → (Scene → Local → Moved) → Held → Went → Frames → Scopes → Type 0
-MovesBy a m h w fs x = (s : Scene) (c : List Item) → Agrees s a → IsMove (m s (standing c h)) w (local_of a fs x)
+MovesBy a m h w fs x = (s : Scene) (c : List Item) → Agrees s a → IsMove s (m s (standing c h)) w (local_of a fs x)
 
 -- the same of a scene that has these facts
 abbrev pub SeesBy : Around → Facts → (Scene → Local → Moved) → Held → Went → Frames → Scopes → Type 0
-SeesBy a f m h w fs x = (s : Scene) (c : List Item) → Sees s f → Agrees s a → IsMove (m s (standing c h)) w (local_of a fs x)
+SeesBy a f m h w fs x = (s : Scene) (c : List Item) → Sees s f → Agrees s a → IsMove s (m s (standing c h)) w (local_of a fs x)

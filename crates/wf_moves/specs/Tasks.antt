@@ -18,13 +18,11 @@ use Rattle.wf_http_ask.specs.View.{request_view}
 use Rattle.wf_model.specs.Config.{Awake, Do, Item}
 use Rattle.wf_model.specs.Local.{Breaks, Does, Goes, Local, Moved, Scene, Sends, settle}
 use Rattle.wf_model.specs.Run.{argument_in}
-use Rattle.wf_moves.specs.Moved.{IsLeft, IsMove}
+use Rattle.wf_moves.specs.Moved.{IsEnd, IsLeft, IsMove, IsWent}
 use Rattle.wf_moves.specs.Requests.{Reaches}
 use Rattle.wf_moves.specs.Waits.{CanGoOn, GoesFrom, call_in, wait_view}
 use Rattle.wf_moves.specs.declared.finish.Done.{Done}
 use Rattle.wf_moves.specs.declared.finish.Done.TheVariants as done
-use Rattle.wf_moves.specs.declared.finish.Went.{Went}
-use Rattle.wf_moves.specs.declared.finish.Went.TheVariants as went
 use Rattle.wf_moves.specs.declared.task.Move.{Move}
 use Rattle.wf_moves.specs.declared.task.Move.TheVariants as move
 use Rattle.wf_moves.specs.declared.sending.Sending.{Sending}
@@ -97,10 +95,6 @@ abbrev pub has_ended : List Frame → Bool
 has_ended [] = true
 has_ended (f ∷ fs) = false
 
-abbrev pub move_of : Went → Move
-move_of went.Goes = move.Went
-move_of (went.Ended e) = move.Ended e
-
 -- the model's request, where it isn't one that no accepted program makes
 abbrev pub IsRequest : Moved → Sent → Local → Type 0
 IsRequest (Breaks kind) x l = Unit {0}
@@ -109,15 +103,15 @@ IsRequest m x l = ⊥
 
 -- the model's move or request, by what a call gives and leaves
 abbrev pub MovesSo : Moved → Move → Local → Type 0
-MovesSo m move.Went l = IsMove m went.Goes l
-MovesSo m (move.Ended e) l = IsMove m (went.Ended e) l
+MovesSo m move.Went l = IsWent m l
+MovesSo m (move.Ended e) l = IsEnd m e l
 MovesSo m (move.Sent x) l = IsRequest m x l
 
 abbrev pub is_sent : Move → Bool
 is_sent (move.Sent x) = true
 is_sent m = false
 
--- a task that goes on or waits can go on, and of one that has ended no frame is left
+-- a task that goes on or waits can go on, and makes no request, and of one that has ended no frame is left
 abbrev pub Stays : List Node → Move → Task → Type 0
 Stays nodes move.Went t = (call_in t.wait ≡ None) × CanGoOn nodes t
 Stays nodes (move.Ended e) t = inner t.frames ≡ []
@@ -125,14 +119,20 @@ Stays nodes (move.Sent x) t = (is_some (call_in t.wait) ≡ true) × CanGoOn nod
 
 -- ## Moves and requests within a call
 -- the model's move or request, of a task that goes on so or waits
-abbrev pub IsDone : Around → Moved → Done → Local → Type 0
-IsDone a m (done.Went w) l = IsMove m w l
-IsDone a m (done.Sent x w) l = IsRequest m x (record l { wait = wait_view a w })
+abbrev pub IsDone : Around → Scene → Moved → Done → Local → Type 0
+IsDone a s m (done.Went w) l = IsMove s m w l
+IsDone a s m (done.Sent x w) l = IsRequest m x (record l { wait = wait_view a w })
+IsDone a s m (done.Waits w) l = IsWent m (record l { wait = wait_view a w })
 
 -- it is this one, whatever the scene that has these facts, and agrees on the limit, the rest and the workflows
 abbrev pub DoesBy : Around → Facts → Sending → (Scene → Local → Moved) → Held → Done → Frames → Scopes → Type 0
-DoesBy a f g m h d fs x = (s : Scene) (c : List Item) → Sees s f → Reaches s g → Agrees s a → IsDone a (m s (standing c h)) d (local_of a fs x)
+DoesBy a f g m h d fs x = (s : Scene) (c : List Item) → Sees s f → Reaches s g → Agrees s a → IsDone a s (m s (standing c h)) d (local_of a fs x)
+
+-- the same of one that sees no calls
+abbrev pub SleepsBy : Around → Facts → (Scene → Local → Moved) → Held → Done → Frames → Scopes → Type 0
+SleepsBy a f m h d fs x = (s : Scene) (c : List Item) → Sees s f → Agrees s a → IsDone a s (m s (standing c h)) d (local_of a fs x)
 
 abbrev pub IsLeftSo : List Node → Done → List Frame → Type 0
 IsLeftSo nodes (done.Went w) fs = IsLeft nodes w fs
 IsLeftSo nodes (done.Sent x w) fs = (is_some (call_in w) ≡ true) × GoesFrom nodes w fs
+IsLeftSo nodes (done.Waits w) fs = (call_in w ≡ None) × GoesFrom nodes w fs

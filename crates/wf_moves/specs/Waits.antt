@@ -1,11 +1,12 @@
 -- What a task waits for.
 --     task_local     the task by itself, with its wait
---     CanGoOn        a task that is awake has a move, and one that waits for an answer has its call; with at most one proof
-use Rattle.std.specs.Prelude.{◌≡◌, ℕ, Bool, true, false, List, Some, None, Ok, Err, Option, Result, slice_get}
+--     CanGoOn        a task that is awake has a move, and one that waits has its call or its `try`; with at most one proof
+use Rattle.std.specs.Prelude.{◌≡◌, ℕ, Bool, true, false, List, [], ◌∷◌, Some, None, Ok, Err, Option, Result, slice_get}
 use Rattle.std.specs.Coded.{Coded-set, coded_bool}
 use Rattle.wf_frames.specs.Frames.{inner, result_of}
 use Rattle.wf_frames.specs.Owned.{Around, local_of}
 use Rattle.wf_frames.specs.declared.frames.Frame.{Frame}
+use Rattle.wf_frames.specs.declared.frames.Frame.TheVariants as frame
 use Rattle.wf_model.specs.Config as model
 use Rattle.wf_model.specs.Local.{Local}
 use Rattle.wf_moves.specs.Going.{Going, Going-prop}
@@ -25,15 +26,34 @@ use Rattle.wf_value.specs.declared.Value.{Value}
 -- the number of the call that is waited for
 abbrev pub call_in : Wait → Option ℕ
 call_in wait.Awake = None
+call_in (wait.Sleep due node) = None
+call_in (wait.Delay due) = None
 call_in (wait.Calling call node) = Some call
+
+-- the moment of a sleep or a delay
+abbrev pub moment_in : Wait → Option ℕ
+moment_in wait.Awake = None
+moment_in (wait.Sleep due node) = Some due
+moment_in (wait.Delay due) = Some due
+moment_in (wait.Calling call node) = None
+
+abbrev pub is_awake_in : Wait → Bool
+is_awake_in wait.Awake = true
+is_awake_in (wait.Sleep due node) = false
+is_awake_in (wait.Delay due) = false
+is_awake_in (wait.Calling call node) = false
 
 -- the variable that takes the answer
 abbrev pub result_in : Around → Wait → Option Text
 result_in a wait.Awake = None
+result_in a (wait.Sleep due node) = result_of a.spots (Some node)
+result_in a (wait.Delay due) = None
 result_in a (wait.Calling call node) = result_of a.spots (Some node)
 
 abbrev pub wait_view : Around → Wait → model.Wait
 wait_view a wait.Awake = model.Awake
+wait_view a (wait.Sleep due node) = model.Sleep due (result_of a.spots (Some node))
+wait_view a (wait.Delay due) = model.Delay due
 wait_view a (wait.Calling call node) = model.Calling call (result_of a.spots (Some node))
 
 -- the task by itself, at the control of its frames
@@ -58,9 +78,17 @@ is_call_node (Some x) = is_call_kind x.kind
 abbrev pub is_call_at : List Node → ℕ → Bool
 is_call_at nodes n = is_call_node (slice_get nodes n)
 
--- these frames have a move, or it is a call that is waited for
+-- whether the innermost frame is a `try`
+abbrev pub is_at_try : List Frame → Bool
+is_at_try [] = false
+is_at_try (frame.Try n tries delay ∷ fs) = true
+is_at_try (f ∷ fs) = false
+
+-- these frames have a move, it is a sleep's or a request's call for which is waited, or they stand before the body of a `try`
 abbrev pub GoesFrom : List Node → Wait → List Frame → Type 0
 GoesFrom nodes wait.Awake fs = Going nodes fs
+GoesFrom nodes (wait.Sleep due node) fs = is_call_at nodes node ≡ true
+GoesFrom nodes (wait.Delay due) fs = is_at_try fs ≡ true
 GoesFrom nodes (wait.Calling call node) fs = is_call_at nodes node ≡ true
 
 abbrev pub CanGoOn : List Node → Task → Type 0
@@ -68,6 +96,8 @@ CanGoOn nodes t = GoesFrom nodes t.wait (inner t.frames)
 
 GoesFrom-prop : (nodes : List Node) (w : Wait) (fs : List Frame) → IsProp (GoesFrom nodes w fs)
 GoesFrom-prop nodes wait.Awake fs = Going-prop nodes fs
+GoesFrom-prop nodes (wait.Sleep due node) fs = Coded-set coded_bool _ _
+GoesFrom-prop nodes (wait.Delay due) fs = Coded-set coded_bool _ _
 GoesFrom-prop nodes (wait.Calling call node) fs = Coded-set coded_bool _ _
 
 pub CanGoOn-prop : (nodes : List Node) (t : Task) → IsProp (CanGoOn nodes t)

@@ -1,5 +1,5 @@
 // Assignments.
-ghost use Rattle.std.specs.Prelude.{◌≡◌, ◌<◌, IfOk, OnOk, length, true};
+ghost use Rattle.std.specs.Prelude.{◌<◌, IfOk, OnOk, length};
 ghost use Rattle.wf_eval.specs.Answers.{Answers};
 ghost use Rattle.wf_eval.specs.Sight.{seen};
 ghost use Rattle.wf_frames.specs.Frames.{inner};
@@ -13,12 +13,9 @@ ghost use Rattle.wf_steps.specs.Built.{Tells};
 ghost use Rattle.wf_moves.specs.Moved.{IsLeft, MovesBy, SeesBy};
 ghost use Rattle.wf_nodes.specs.Kinds.{entry_by};
 ghost use Rattle.wf_nodes.specs.Spots.{part_at, part_entry};
-ghost use Rattle.wf_value.specs.Errors.{error_map};
-ghost use Rattle.wf_value.specs.declared.Raise.TheVariants as raised;
-ghost use Rattle.wf_value.specs.declared.Tag.{Tag};
 
 use crate::finish::{Went, goes};
-use crate::unwind::raises_tag;
+use crate::raising::{fails, raises_tag};
 use std::alloc::Global;
 use wf_eval::Look;
 use wf_frames::{Facts, Frames, assign as put, seen};
@@ -74,31 +71,7 @@ pub(crate) fn store(
     let Assigned { value, places } = assigned;
     match put(alloc, frames, scopes, name, places.as_slice(), value)? {
         None => Ok(goes(frames, nodes, scopes)),
-        Some(tag) => raises_tag(alloc, nodes, frames, scopes, tag),
-    }
-}
-
-/// The error of an evaluation goes outward.
-pub(crate) fn fails(
-    alloc: Global,
-    nodes: &[Node],
-    raise: Raise,
-    frames: &mut Frames,
-    scopes: &mut Scopes,
-) -> Result<Went, OutOfMemory>
-    ghost around: { Around }
-    requires tells { Tells around.spots nodes.now }
-    requires stands { Stands around nodes.now frames.old scopes.old }
-    ensures moved { IfOk result (λ w. (t : Tag) → raise ≡ raised.Error t → MovesBy around
-        (λ s l. leave.raises s (control_of around frames.old) l (error_map t))
-        (held_by around frames.old scopes.old) w frames.new scopes.new) }
-    ensures error { OnOk result ((t : Tag) × (raise ≡ raised.Error t)) }
-    ensures stands { OnOk result (Stands around nodes.now frames.new scopes.new) }
-    ensures left { IfOk result (λ w. IsLeft nodes.now w (inner frames.new)) }
-{
-    match raise {
-        Raise::Error(tag) => raises_tag(alloc, nodes, frames, scopes, tag),
-        Raise::OutOfMemory => Err(OutOfMemory),
+        Some(tag) => raises_tag(alloc, tag),
     }
 }
 
@@ -129,6 +102,6 @@ pub(crate) fn assign(
     let look = seen(frames, scopes, facts);
     match evaluate(alloc, entry, node.codes.items(), &look, facts.now) {
         Ok(assigned) => store(alloc, nodes, &entry.name, assigned, frames, scopes),
-        Err(raise) => fails(alloc, nodes, raise, frames, scopes),
+        Err(raise) => fails(alloc, raise),
     }
 }

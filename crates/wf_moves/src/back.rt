@@ -10,7 +10,7 @@ ghost use Rattle.wf_frames.specs.Fits.{Fits};
 ghost use Rattle.wf_model.specs.Config.{Item};
 ghost use Rattle.wf_model.specs.Leave as leave;
 ghost use Rattle.wf_model.specs.Unwind.{to_back};
-ghost use Rattle.wf_moves.specs.Moved.{IsBackTop, IsLeft, MovesBy, back_found, call_of};
+ghost use Rattle.wf_moves.specs.Moved.{IsBackTop, IsLeft, MovesBy, SaysSo, back_found, call_of, is_judge};
 ghost use Rattle.wf_nodes.specs.Spots.{Spot};
 ghost use Rattle.wf_nodes.specs.declared.node.Node.{Node};
 ghost use Rattle.wf_steps.specs.Built.{Tells};
@@ -19,11 +19,12 @@ ghost use Rattle.wf_value.specs.Plain.{plain};
 
 use crate::assign::{Assigned, store};
 use crate::finish::{End, Went, goes};
+use crate::raising::raises_tag;
 use std::alloc::Global;
 use wf_frames::{Frame, Frames, leave};
 use wf_nodes::{Node, NodeKind};
 use wf_scope::Scopes;
-use wf_value::{OutOfMemory, Text, Value};
+use wf_value::{OutOfMemory, Tag, Text, Value};
 
 // The frames inside the innermost call are left, or all.
 fn leave_to_back(frames: &mut Frames, scopes: &mut Scopes)
@@ -55,6 +56,28 @@ fn call_of(frame: &Frame) -> Option<u32>
         Frame::Back(call, _) => *call,
         Frame::Do(_, _) | Frame::Lone(_, _) | Frame::Entries(_, _) | Frame::Then(_) => None,
         Frame::Loop(_, _, _) | Frame::Try(_, _, _) | Frame::Mark(_) => None,
+        Frame::Judge(_, _, _, _, _) => None,
+    }
+}
+
+// Whether the call that ends with a frame is that of a workflow that was asked about an error.
+fn is_judge(frame: &Frame) -> bool
+    ensures { result ≡ is_judge frame.now }
+{
+    match frame {
+        Frame::Judge(_, _, _, _, _) => true,
+        Frame::Do(_, _) | Frame::Lone(_, _) | Frame::Entries(_, _) | Frame::Then(_) => false,
+        Frame::Loop(_, _, _) | Frame::Try(_, _, _) | Frame::Mark(_) | Frame::Back(_, _) => false,
+    }
+}
+
+// What the workflow that was asked about an error says, which must be a truth value.
+fn says(alloc: Global, value: &Value) -> Result<Went, OutOfMemory>
+    ensures { IfOk result (SaysSo (plain value.now)) }
+{
+    match value {
+        Value::Bool(yes) => Ok(Went::Says(*yes)),
+        _ => raises_tag(alloc, Tag::TypeError),
     }
 }
 
@@ -111,7 +134,7 @@ pub(crate) fn give(
     }
 }
 
-/// The innermost workflow returns: to the call that it is of, or out of the task.
+/// The innermost workflow returns: to the call that it is of, to the question that it was asked, or out of the task.
 pub(crate) fn returns(
     alloc: Global,
     nodes: &[Node],
@@ -133,6 +156,9 @@ pub(crate) fn returns(
     match frames.top() {
         None => Ok(Went::Ended(End::Value(value))),
         Some(frame) => {
+            if is_judge(frame) {
+                return says(alloc, &value);
+            }
             let call = call_of(frame);
             leave(frames, scopes);
             give(alloc, nodes, call, value, frames, scopes)

@@ -17,12 +17,12 @@ ghost use Rattle.wf_steps.specs.Steps.{calls_by};
 ghost use Rattle.wf_value.specs.Data.{pairs_depth, pairs_of};
 ghost use Rattle.wf_value.specs.Plain.{plain};
 
-use crate::assign::fails;
 use crate::back::give;
 use crate::finish::{Done, Went, goes};
+use crate::raising::{fails, raises_tag};
 use crate::sending::{Sending, sends};
+use crate::sleeping::sleeps;
 use crate::start::params;
-use crate::unwind::raises_tag;
 use std::alloc::Global;
 use wf_ast::Param;
 use wf_frames::{Bindings, Facts, Frame, Frames, enter_call, seen};
@@ -34,7 +34,7 @@ use wf_steps::Target;
 use wf_value::{Map, OutOfMemory, Tag, Value};
 
 /// How many calls of workflows may stand in each other.
-const CALL_LIMIT: usize = 20;
+pub(crate) const CALL_LIMIT: usize = 20;
 
 // What an argument gives a parameter, and else its default.
 fn value_for(alloc: Global, param: &Param, args: &Map) -> Result<Option<Value>, OutOfMemory>
@@ -93,7 +93,7 @@ fn begin(
     ensures left { IfOk result (λ w. IsLeft nodes.now w (inner frames.new)) }
 {
     if frames.calls() >= CALL_LIMIT {
-        return raises_tag(alloc, nodes, frames, scopes, Tag::RecursionError);
+        return raises_tag(alloc, Tag::RecursionError);
     }
     match enter_call(frames, scopes, bindings)? {
         Some(layer) => {
@@ -101,7 +101,7 @@ fn begin(
             frames.push(Frame::Do(flow, 0))?;
             Ok(goes(frames, nodes, scopes))
         }
-        None => raises_tag(alloc, nodes, frames, scopes, Tag::ResourceLimitError),
+        None => raises_tag(alloc, Tag::ResourceLimitError),
     }
 }
 
@@ -157,7 +157,7 @@ fn evaluates(
     let look = seen(frames, scopes, facts);
     match call_function(alloc, function, args, &look, facts.now) {
         Ok(value) => give(alloc, nodes, Some(n), value, frames, scopes),
-        Err(raise) => fails(alloc, nodes, raise, frames, scopes),
+        Err(raise) => fails(alloc, raise),
     }
 }
 
@@ -197,5 +197,6 @@ pub(crate) fn call(
         Target::Http(method) => sends(
             alloc, nodes, n, *method, args, frames, scopes, facts, sending,
         ),
+        Target::Sleeps(nap) => sleeps(alloc, nodes, n, *nap, args, frames, scopes, facts),
     }
 }

@@ -6,8 +6,9 @@ ghost use Rattle.wf_frames.specs.Owned.{Around, beside, control_of, local_of};
 ghost use Rattle.wf_frames.specs.Stands.{Stands};
 ghost use Rattle.wf_model.specs.Config.{Item};
 ghost use Rattle.wf_model.specs.Local as local;
+ghost use Rattle.wf_model.specs.Local.{Scene};
 ghost use Rattle.wf_steps.specs.Built.{Tells};
-ghost use Rattle.wf_moves.specs.Moved.{HasMove, IsLeft, IsMove, IsSettled, Settled};
+ghost use Rattle.wf_moves.specs.Moved.{HasMove, IsLeft, IsMove, IsSettled, IsThrough, Settled};
 ghost use Rattle.wf_nodes.specs.Spots.{Spot};
 ghost use Rattle.wf_nodes.specs.declared.node.Node.{Node};
 
@@ -26,18 +27,23 @@ pub enum End {
     Error(Value),
 }
 
-/// What a move gives.
+/// What a move gives. An error goes outward only behind it (`lead`), and so does the answer of a predicate.
 #[derive(Drop)]
 pub(crate) enum Went {
     Goes,
     Ended(End),
+    /// This error goes outward.
+    Raises(Value),
+    /// The workflow that was asked about an error returns this. Its call is the innermost frame.
+    Says(bool),
 }
 
-/// What a move gives, or the request that the task has made, with its wait.
+/// What a move gives, the request that the task has made, with its wait, or a wait alone.
 #[derive(Drop)]
 pub(crate) enum Done {
     Went(Went),
     Sent(Sent, Wait),
+    Waits(Wait),
 }
 
 // Whether a frame has ended.
@@ -53,6 +59,7 @@ fn is_ended(frame: &Frame, nodes: &[Node]) -> bool
         Frame::Lone(_, done) => *done,
         Frame::Entries(n, at) => *at >= entries(nodes, *n).len(),
         Frame::Then(_) | Frame::Loop(_, _, _) | Frame::Back(_, _) => false,
+        Frame::Judge(_, _, _, _, _) => false,
         Frame::Try(_, _, _) | Frame::Mark(_) => true,
     }
 }
@@ -83,8 +90,10 @@ pub(crate) fn goes(frames: &mut Frames, nodes: &[Node], scopes: &mut Scopes) -> 
     requires stands { Stands around nodes.now frames.old scopes.old }
     ensures stands { Stands around nodes.now frames.new scopes.new }
     ensures left { IsLeft nodes.now result (inner frames.new) }
-    ensures moved { (c : List Item)
-        → IsMove (local.goes (control_of around frames.old) (beside c around frames.old scopes.old))
+    ensures through { IsThrough result }
+    ensures moved { (s : Scene) (c : List Item)
+        → IsMove s
+        (local.goes (control_of around frames.old) (beside c around frames.old scopes.old))
         result (local_of around frames.new scopes.new) }
 {
     settle(frames, nodes, scopes);

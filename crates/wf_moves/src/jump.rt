@@ -68,6 +68,7 @@ fn target(frame: &Frame, nodes: &[Node], keep: u32) -> Option<u32>
         }
         Frame::Lone(_, _) | Frame::Entries(_, _) | Frame::Then(_) => None,
         Frame::Loop(_, _, _) | Frame::Try(_, _, _) | Frame::Mark(_) | Frame::Back(_, _) => None,
+        Frame::Judge(_, _, _, _, _) => None,
     }
 }
 
@@ -128,7 +129,7 @@ fn is_loop(frame: &Frame) -> bool
     ensures { result ≡ is_loop frame.now }
 {
     match frame {
-        Frame::Loop(_, _, _) | Frame::Back(_, _) => true,
+        Frame::Loop(_, _, _) | Frame::Back(_, _) | Frame::Judge(_, _, _, _, _) => true,
         Frame::Do(_, _) | Frame::Lone(_, _) | Frame::Entries(_, _) => false,
         Frame::Then(_) | Frame::Try(_, _, _) | Frame::Mark(_) => false,
     }
@@ -162,7 +163,7 @@ fn go_on_loop(frames: &mut Frames, nodes: &[Node], scopes: &mut Scopes) -> Went
     requires tells { Tells around.spots nodes.now }
     requires stands { Stands around nodes.now frames.old scopes.old }
     ensures moved { (s : Scene) (c : List Item)
-        → IsMove (leave.continues s (beside c around frames.old scopes.old)
+        → IsMove s (leave.continues s (beside c around frames.old scopes.old)
         (to_loop (control_of around frames.old) (beside c around frames.old scopes.old)))
         result (local_of around frames.new scopes.new) }
     ensures stands { Stands around nodes.now frames.new scopes.new }
@@ -177,8 +178,8 @@ fn end_loop(frames: &mut Frames, nodes: &[Node], scopes: &mut Scopes) -> Went
     ghost around: { Around }
     requires tells { Tells around.spots nodes.now }
     requires stands { Stands around nodes.now frames.old scopes.old }
-    ensures moved { (c : List Item)
-        → IsMove (leave.breaks (to_loop (control_of around frames.old)
+    ensures moved { (s : Scene) (c : List Item)
+        → IsMove s (leave.breaks (to_loop (control_of around frames.old)
         (beside c around frames.old scopes.old))) result (local_of around frames.new scopes.new) }
     ensures stands { Stands around nodes.now frames.new scopes.new }
     ensures left { IsLeft nodes.now result (inner frames.new) }
@@ -202,7 +203,7 @@ fn go_to(
         × Leads around.spots (views nodes.now) x jump (reach (inner frames.old)) }
     ensures moved { IfOk result (λ w. (x : Text)
         → Leads around.spots (views nodes.now) x jump (reach (inner frames.old))
-        → (s : Scene) (c : List Item) → IsMove (leave.jumps_to s x
+        → (s : Scene) (c : List Item) → IsMove s (leave.jumps_to s x
         (to_step x (control_of around frames.old) (beside c around frames.old scopes.old)))
         w (local_of around frames.new scopes.new)) }
     ensures stands { OnOk result (Stands around nodes.now frames.new scopes.new) }

@@ -2,16 +2,20 @@
 //!
 //! A task stands before a step of a program, in frames of numbers over the program's table. Each move is one of the definition of steps:
 //! the innermost frame says what is next, it is carried out, and what has ended is left. A call of HTTP makes a request, and the task waits
-//! for its answer.
+//! for its answer. It waits too where it sleeps, and until the body of a `try` is tried again.
 #![tactic(auto)]
 
 mod assign;
 mod back;
 mod call;
 mod finish;
+mod judging;
 mod jump;
+mod leading;
 mod moves;
+mod raising;
 mod sending;
+mod sleeping;
 mod start;
 mod task;
 mod turn;

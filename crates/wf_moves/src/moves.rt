@@ -17,7 +17,6 @@ use crate::finish::{Done, Went, goes};
 use crate::jump::jump;
 use crate::sending::Sending;
 use crate::turn::turn;
-use crate::unwind::raises;
 use std::alloc::Global;
 use wf_frames::{Facts, Frame, Frames, seen};
 use wf_nodes::Node;
@@ -47,7 +46,7 @@ fn finish(
 {
     match step {
         Step::Goes => Ok(goes(frames, nodes, scopes)),
-        Step::Raises(error) => raises(alloc, nodes, frames, scopes, error),
+        Step::Raises(error) => Ok(Went::Raises(error)),
         Step::Returns(value) => returns(alloc, nodes, frames, scopes, value),
         Step::Jumps(n) => jump(alloc, frames, nodes, scopes, n),
         Step::Assigns(n) => assign(alloc, nodes, n, frames, scopes, facts),

@@ -15,8 +15,8 @@ ghost use Rattle.wf_steps.specs.Steps.{asks_with};
 ghost use Rattle.wf_value.specs.Data.{pairs_depth, pairs_of};
 ghost use Rattle.wf_value.specs.Errors.{later};
 
-use crate::assign::fails;
 use crate::finish::Done;
+use crate::raising::fails;
 use crate::wait::Wait;
 use std::alloc::Global;
 use wf_callbacks::Method;
@@ -50,8 +50,8 @@ pub struct Sent {
     pub due: u64,
 }
 
-// The moment so many seconds after a reading. A sum past the greatest moment is that moment.
-fn due_of(now: u64, timeout: u64) -> u64
+/// The moment so many seconds after a reading. A sum past the greatest moment is that moment.
+pub(crate) fn due_of(now: u64, timeout: u64) -> u64
     ensures { result ≡ later now (timeout * 1000) }
 {
     now.saturating_add(timeout.saturating_mul(1_000))
@@ -112,6 +112,6 @@ pub(crate) fn sends(
                 node: n,
             },
         )),
-        Err(raise) => Ok(Done::Went(fails(alloc, nodes, raise, frames, scopes)?)),
+        Err(raise) => Ok(Done::Went(fails(alloc, raise)?)),
     }
 }

@@ -1,25 +1,25 @@
 // Tasks.
-ghost use Rattle.std.specs.Prelude.{◌≡◌, ◌≤◌, IfErr, IfOk, None, OnOk, false, is_some, true};
+ghost use Rattle.std.specs.Prelude.{◌≡◌, ◌≤◌, IfErr, IfOk, OnOk, Some, false, is_some, true};
 ghost use Rattle.wf_frames.specs.Fits.{Fits};
 ghost use Rattle.wf_frames.specs.Frames.{inner};
 ghost use Rattle.wf_frames.specs.Owned.{Around, control_of};
 ghost use Rattle.wf_frames.specs.Sights.{Sees};
 ghost use Rattle.wf_frames.specs.Stands.{Stands};
 ghost use Rattle.wf_frames.specs.Turns.{Agrees};
-ghost use Rattle.wf_model.specs.Local.{Scene};
+ghost use Rattle.wf_model.specs.Local.{Moved, Scene};
 ghost use Rattle.wf_steps.specs.Built.{AreTargets, Tells};
-ghost use Rattle.wf_moves.specs.Moved.{IsSettled};
-ghost use Rattle.wf_moves.specs.Tasks.{move_of};
+ghost use Rattle.wf_moves.specs.Moved.{IsLeft, IsMove, IsSettled};
 ghost use Rattle.wf_nodes.specs.Spots.{part_at};
 ghost use Rattle.wf_value.specs.Data.{depth};
 ghost use Rattle.wf_value.specs.Plain.{plain};
 
 use crate::back::give;
 use crate::finish::{Done, End, Went, settle};
+use crate::judging::try_again;
+use crate::leading::{Led, lead};
 use crate::moves::advance;
 use crate::sending::{Sending, Sent};
 use crate::start::{first_layer, params};
-use crate::unwind::raises;
 use crate::wait::Wait;
 use std::alloc::Global;
 use wf_frames::{Facts, Frame, Frames};
@@ -31,22 +31,12 @@ use wf_value::{OutOfMemory, Value};
 /// What a move has done.
 #[derive(Drop)]
 pub enum Move {
-    /// The task goes on.
+    /// The task goes on, or waits until a moment.
     Went,
     /// It has ended, and its layers with it but for the first.
     Ended(End),
     /// It has made a request, and waits for the answer.
     Sent(Sent),
-}
-
-// What a move has done that makes no request.
-fn move_of(went: Went) -> Move
-    ensures { result ≡ move_of went }
-{
-    match went {
-        Went::Goes => Move::Went,
-        Went::Ended(end) => Move::Ended(end),
-    }
 }
 
 /// A task: what it has still to do, the layers of its own, and what it waits for.
@@ -59,13 +49,15 @@ pub struct Task {
 
 impl Task {
     ghost use Rattle.wf_ast.specs.Tree.{Program};
+    ghost use Rattle.wf_frames.specs.Frames.{result_of};
     ghost use Rattle.wf_model.specs.Kinds.{next_kind};
+    ghost use Rattle.wf_model.specs.Leave.{gives};
     ghost use Rattle.wf_steps.specs.Kinds.{kind_view};
-    ghost use Rattle.wf_model.specs.Move.{resumed};
+    ghost use Rattle.wf_model.specs.Move.{due, resumed};
     ghost use Rattle.wf_moves.specs.Requests.{Reaches};
     ghost use Rattle.wf_moves.specs.Stepped.{stepped};
     ghost use Rattle.wf_moves.specs.Tasks.{IsFirst, IsFlow, MovesSo, Stays, first, has_ended, is_sent};
-    ghost use Rattle.wf_moves.specs.Waits.{CanGoOn, answer_view, call_in, result_in, task_local};
+    ghost use Rattle.wf_moves.specs.Waits.{CanGoOn, answer_view, call_in, is_awake_in, is_call_at, moment_in, result_in, task_local};
 
     /// The first task, awake, which stands before the steps of a workflow: that of the node with this number. Its first layer is made, and holds
     /// the argument where the workflow has a parameter. Without memory, or where the argument passes the limit on variables, there is no
@@ -83,7 +75,7 @@ impl Task {
         requires first { IsFirst around scopes.old }
         ensures begins { IfOk result (λ t. first (part_at around.spots flow) (plain argument)
             ≡ task_local around t scopes.new) }
-        ensures awake { IfOk result (λ t. call_in t.wait ≡ None) }
+        ensures awake { IfOk result (λ t. is_awake_in t.wait ≡ true) }
         ensures stands { IfOk result (λ t. Stands around nodes.now t.frames scopes.new) }
         ensures settled { IfOk result (λ t. IsSettled nodes.now (inner t.frames)) }
     {
@@ -127,13 +119,33 @@ impl Task {
         ensures { result ≡ call_in self.now.wait }
     {
         match self.wait {
-            Wait::Awake => None,
+            Wait::Awake | Wait::Sleep { .. } | Wait::Delay { .. } => None,
             Wait::Calling { call, .. } => Some(call),
         }
     }
 
-    /// The next move, or the request that is next. `targets` has what a call names at the call's own number. Without memory the task and
-    /// the layers are left in any state, and are only to be let go.
+    /// The moment until which it sleeps, or waits for its next try, in milliseconds since 1970.
+    pub fn due(&self) -> Option<u64>
+        ensures { result ≡ moment_in self.now.wait }
+    {
+        match self.wait {
+            Wait::Awake | Wait::Calling { .. } => None,
+            Wait::Sleep { due, .. } | Wait::Delay { due } => Some(due),
+        }
+    }
+
+    /// Whether it waits for nothing.
+    pub fn is_awake(&self) -> bool
+        ensures { result ≡ is_awake_in self.now.wait }
+    {
+        match self.wait {
+            Wait::Awake => true,
+            Wait::Sleep { .. } | Wait::Delay { .. } | Wait::Calling { .. } => false,
+        }
+    }
+
+    /// The next move, or the request that is next. `targets` has what a call names at the call's own number, and the workflow of a
+    /// predicate at that of its `try`. Without memory the task and the layers are left in any state, and are only to be let go.
     pub fn advance(
         &mut self,
         nodes: &[Node],
@@ -147,7 +159,7 @@ impl Task {
         requires targets { AreTargets around.flows around.spots nodes.now targets.now }
         requires stands { Stands around nodes.now self.old.frames scopes.old }
         requires going { CanGoOn nodes.now self.old }
-        requires awake { call_in self.old.wait ≡ None }
+        requires awake { is_awake_in self.old.wait ≡ true }
         ensures moved { IfOk result (λ m. (s : Scene) → Sees s facts.entry.now
             → Reaches s sending.now → Agrees s around
             → MovesSo (stepped s (task_local around self.old scopes.old)) m
@@ -155,7 +167,7 @@ impl Task {
         ensures stands { OnOk result (Stands around nodes.now self.new.frames scopes.new) }
         ensures left { IfOk result (λ m. Stays nodes.now m self.new) }
     {
-        match advance(
+        let done = advance(
             self.alloc,
             nodes,
             targets,
@@ -163,8 +175,13 @@ impl Task {
             scopes,
             facts,
             sending,
-        )? {
-            Done::Went(went) => Ok(move_of(went)),
+        )?;
+        match done {
+            Done::Went(went) => self.follow(nodes, targets, scopes, facts, went),
+            Done::Waits(wait) => {
+                self.wait = wait;
+                Ok(Move::Went)
+            }
             Done::Sent(sent, wait) => {
                 self.wait = wait;
                 Ok(Move::Sent(sent))
@@ -177,16 +194,19 @@ impl Task {
     pub fn go_on(
         &mut self,
         nodes: &[Node],
+        targets: &[Target],
         scopes: &mut Scopes,
         with: Result<Value, Value>,
+        facts: &Facts,
     ) -> Result<Move, OutOfMemory>
         ghost around: { Around }
         requires tells { Tells around.spots nodes.now }
+        requires targets { AreTargets around.flows around.spots nodes.now targets.now }
         requires stands { Stands around nodes.now self.old.frames scopes.old }
         requires going { CanGoOn nodes.now self.old }
         requires waits { is_some (call_in self.old.wait) ≡ true }
         requires shallow { IfErr with (λ e. depth (plain e) ≤ 100) }
-        ensures moved { IfOk result (λ m. (s : Scene) → Agrees s around
+        ensures moved { IfOk result (λ m. (s : Scene) → Sees s facts.entry.now → Agrees s around
             → MovesSo (resumed s (result_in around self.old.wait) (answer_view with)
             (task_local around self.old scopes.old)) m (task_local around self.new scopes.new)) }
         ensures stands { OnOk result (Stands around nodes.now self.new.frames scopes.new) }
@@ -197,17 +217,121 @@ impl Task {
             unreachable!()
         };
         self.wait = Wait::Awake;
-        let went = match with {
-            Ok(value) => give(
-                self.alloc,
-                nodes,
-                Some(node),
-                value,
-                &mut self.frames,
-                scopes,
-            )?,
-            Err(error) => raises(self.alloc, nodes, &mut self.frames, scopes, error)?,
-        };
-        Ok(move_of(went))
+        match with {
+            Ok(value) => self.gives(nodes, targets, scopes, facts, node, value),
+            Err(error) => self.follow(nodes, targets, scopes, facts, Went::Raises(error)),
+        }
+    }
+
+    /// It goes on at the moment until which it has waited: a sleep ends, or the body of its `try` is tried again. Without memory the task
+    /// and the layers are left in any state, and are only to be let go.
+    pub fn wake(
+        &mut self,
+        nodes: &[Node],
+        targets: &[Target],
+        scopes: &mut Scopes,
+        facts: &Facts,
+    ) -> Result<Move, OutOfMemory>
+        ghost around: { Around }
+        requires tells { Tells around.spots nodes.now }
+        requires targets { AreTargets around.flows around.spots nodes.now targets.now }
+        requires stands { Stands around nodes.now self.old.frames scopes.old }
+        requires going { CanGoOn nodes.now self.old }
+        requires waits { is_some (moment_in self.old.wait) ≡ true }
+        ensures moved { IfOk result (λ m. (s : Scene) → Sees s facts.entry.now → Agrees s around
+            → MovesSo (due s (task_local around self.old scopes.old)) m
+            (task_local around self.new scopes.new)) }
+        ensures stands { OnOk result (Stands around nodes.now self.new.frames scopes.new) }
+        ensures left { IfOk result (λ m. Stays nodes.now m self.new) }
+        ensures nothing_sent { IfOk result (λ m. is_sent m ≡ false) }
+    {
+        let wait = self.wait;
+        self.wait = Wait::Awake;
+        match wait {
+            Wait::Sleep { node, .. } => {
+                self.gives(nodes, targets, scopes, facts, node, Value::Null)
+            }
+            Wait::Delay { .. } => {
+                let went = try_again(nodes, &mut self.frames, scopes)?;
+                self.follow(nodes, targets, scopes, facts, went)
+            }
+            Wait::Awake | Wait::Calling { .. } => unreachable!(),
+        }
+    }
+
+    // A value goes into the variable that a node's call names.
+    fn gives(
+        &mut self,
+        nodes: &[Node],
+        targets: &[Target],
+        scopes: &mut Scopes,
+        facts: &Facts,
+        node: u32,
+        value: Value,
+    ) -> Result<Move, OutOfMemory>
+        ghost around: { Around }
+        requires tells { Tells around.spots nodes.now }
+        requires targets { AreTargets around.flows around.spots nodes.now targets.now }
+        requires stands { Stands around nodes.now self.old.frames scopes.old }
+        requires call { is_call_at nodes.now node ≡ true }
+        requires awake { is_awake_in self.old.wait ≡ true }
+        ensures moved { IfOk result (λ m. (s : Scene) → Sees s facts.entry.now → Agrees s around
+            → MovesSo (gives s (result_of around.spots (Some node)) (plain value)
+            (control_of around self.old.frames) (task_local around self.old scopes.old)) m
+            (task_local around self.new scopes.new)) }
+        ensures stands { OnOk result (Stands around nodes.now self.new.frames scopes.new) }
+        ensures left { IfOk result (λ m. Stays nodes.now m self.new) }
+        ensures nothing_sent { IfOk result (λ m. is_sent m ≡ false) }
+    {
+        let went = give(
+            self.alloc,
+            nodes,
+            Some(node),
+            value,
+            &mut self.frames,
+            scopes,
+        )?;
+        self.follow(nodes, targets, scopes, facts, went)
+    }
+
+    // Where a move leads: its error goes outward, and so does what a predicate has said.
+    fn follow(
+        &mut self,
+        nodes: &[Node],
+        targets: &[Target],
+        scopes: &mut Scopes,
+        facts: &Facts,
+        went: Went,
+    ) -> Result<Move, OutOfMemory>
+        ghost around: { Around }
+        requires tells { Tells around.spots nodes.now }
+        requires targets { AreTargets around.flows around.spots nodes.now targets.now }
+        requires stands { Stands around nodes.now self.old.frames scopes.old }
+        requires left { IsLeft nodes.now went (inner self.old.frames) }
+        requires awake { is_awake_in self.old.wait ≡ true }
+        ensures moved { IfOk result (λ d. (s : Scene) (m : Moved) → Sees s facts.entry.now
+            → Agrees s around → IsMove s m went (task_local around self.old scopes.old)
+            → MovesSo m d (task_local around self.new scopes.new)) }
+        ensures stands { OnOk result (Stands around nodes.now self.new.frames scopes.new) }
+        ensures left { IfOk result (λ d. Stays nodes.now d self.new) }
+        ensures nothing_sent { IfOk result (λ d. is_sent d ≡ false) }
+    {
+        let led = lead(
+            self.alloc,
+            nodes,
+            targets,
+            facts.last,
+            went,
+            &mut self.frames,
+            scopes,
+        )?;
+        match led {
+            Led::Goes => Ok(Move::Went),
+            Led::Ended(end) => Ok(Move::Ended(end)),
+            Led::Waits(wait) => {
+                self.wait = wait;
+                Ok(Move::Went)
+            }
+        }
     }
 }

@@ -13,7 +13,7 @@ ghost use Rattle.wf_moves.specs.Moved.{IsLeft, MovesBy};
 ghost use Rattle.wf_value.specs.Plain.{plain};
 
 use crate::finish::{Went, goes};
-use crate::unwind::raises_tag;
+use crate::raising::raises_tag;
 use std::alloc::Global;
 use wf_frames::{Frame, Frames, Left, enter};
 use wf_nodes::{LoopNode, Node};
@@ -91,7 +91,7 @@ pub(crate) fn turn(
     }
     let entered = enter(frames, scopes, &body.value, value, &body.index, index)?;
     let Some(layer) = entered else {
-        return raises_tag(alloc, nodes, frames, scopes, Tag::ResourceLimitError);
+        return raises_tag(alloc, Tag::ResourceLimitError);
     };
     frames.push(Frame::Loop(n, rest, index + 1))?;
     frames.push(Frame::Mark(layer))?;

@@ -86,3 +86,4 @@ some_step nodes (frame.Loop n w i) h d l e t = h
 some_step nodes (frame.Try n r w) h d l e t = h
 some_step nodes (frame.Mark m) h d l e t = h
 some_step nodes (frame.Back c m) h d l e t = h
+some_step nodes (frame.Judge tried r delay error m) h d l e t = h

@@ -15,11 +15,13 @@ use Rattle.wf_shared.specs.Events as plain
 use Rattle.wf_model.specs.Calls.{http_method}
 use Rattle.wf_model.specs.Config.{Item, Do, Entries}
 use Rattle.wf_library.specs.declared.functions.Function.{Function}
-use Rattle.wf_model.specs.Kinds.{ByCall, Plainly, body_kind, by_clock, call_kind, entry_now, is_now, listed_kind, next_kind, special_kind}
+use Rattle.wf_model.specs.Kinds.{ByCall, ByClock, Plainly, body_kind, by_clock, call_kind, entry_now, is_now, listed_kind, next_kind, special_kind}
 use Rattle.wf_steps.proofs.Advancing.{entries_next, from_next}
 use Rattle.wf_steps.proofs.Lists.{drop_end, entries_long, from_end}
 use Rattle.wf_steps.proofs.Parts.{as_part, entries_is, list_is, part_is}
-use Rattle.wf_steps.specs.Built.{IsFunction, IsHttp, IsWorkflow, function_parts, listed}
+use Rattle.wf_steps.specs.Built.{IsFunction, IsHttp, IsNap, IsWorkflow, function_parts, listed, nap_special}
+use Rattle.wf_steps.specs.declared.target.Nap.{Nap}
+use Rattle.wf_steps.specs.declared.target.Nap.TheVariants as nap
 use Rattle.wf_nodes.specs.Kinds.{Listed, entry_by, kind_by}
 use Rattle.wf_nodes.specs.Shapes.{Compiled}
 use Rattle.wf_nodes.specs.Spots.{Spot, entries_by, from, part_at, part_body, part_entry, part_list}
@@ -130,6 +132,26 @@ http_asks fs m x b h = by (flow fs x) h.free ∙ in_library (func_named x) h.unl
     special : (g : Option SpecialListing) → http_method g ≡ Some (option_map plain_method m) → listed_kind None g b ≡ ByCall
     special None e = absurd (cc e)
     special (Some g) e = by_special g.special e
+
+-- a sleep takes a reading
+pub nap_reads : (fs : List Flow) (n : Nap) (x : Text) (b : Bool) → IsNap fs n x → call_kind (flow fs x) x b ≡ ByClock
+nap_reads fs n x b h = by (flow fs x) h.free ∙ in_library (func_named x) h.unlisted ∙ special (special_named x) h.named
+  where
+    by : (o : Option Flow) → is_some o ≡ false → call_kind o x b ≡ listed_kind (func_named x) (special_named x) b
+    by (Some w) t = absurd (cc t)
+    by None t = refl
+
+    in_library : (o : Option Listing) → is_some o ≡ false → listed_kind o (special_named x) b ≡ listed_kind None (special_named x) b
+    in_library (Some e) t = absurd (cc t)
+    in_library None t = refl
+
+    naps : (m : Nap) → special_kind (nap_special m) b ≡ ByClock
+    naps nap.For = refl
+    naps nap.Until = refl
+
+    special : (g : Option SpecialListing) → option_map (λ e. e.special) g ≡ Some (nap_special n) → listed_kind None g b ≡ ByClock
+    special None e = absurd (cc e)
+    special (Some g) e = let same : g.special ≡ nap_special n = cc e in ap (λ y. special_kind y b) same ∙ naps n
 
 -- a test or another
 pub either_true : (a b v : Bool) → a ≡ true → v ≡ true → v ≡ (a || b)

@@ -1,7 +1,7 @@
 -- Nodes by their numbers, and the parts that they are.
 use Rattle.std.proofs.Common.{◌≡◌, ℕ, ◌<◌, Bool, true, false, List, [], ◌∷◌, length, get_or, Some, None, refl, sym, ap, subst, ◌∙◌, arith}
 use Rattle.std.specs.List.{list_all}
-use Rattle.std.specs.Prelude.{◌&&◌, not, zero, suc, is_none, is_some, option_map, slice_get, Option, Vec}
+use Rattle.std.specs.Prelude.{not, zero, suc, is_some, option_map, slice_get, Option, Vec}
 use Rattle.std.specs.declared.alloc.Global.{Global}
 use Rattle.std.proofs.lemmas.Bool.{and_parts}
 use Rattle.std.proofs.lemmas.Option.{slice_get_read, slice_get_within}
@@ -101,12 +101,9 @@ node_built nodes n x b h = built_in nodes nodes n x b h
 pub never_parallel : (nodes : List Node) (n : ℕ) (x : Node) (p : ParallelNode) → is_table_built nodes ≡ true → slice_get nodes n ≡ Some x → x.kind ≡ kind.Parallel p → ⊥
 never_parallel nodes n x p b h e = let t : false ≡ true = sym (ap (kind_built nodes) e) ∙ node_built nodes n x b h in cc t
 
--- a `try` has no policy, and its body says nothing of what is next
-pub try_built : (nodes : List Node) (n : ℕ) (x : Node) (t : TryNode) → is_table_built nodes ≡ true → slice_get nodes n ≡ Some x → x.kind ≡ kind.Try t → (is_none t.policy ≡ true) × (has_next (view_at nodes t.body) ≡ false)
-try_built nodes n x t b h e =
-    let all = sym (ap (kind_built nodes) e) ∙ node_built nodes n x b h in
-    let rest = and_parts (is_none t.policy) (not (has_next (view_at nodes t.body))) all in
-    (rest.0, not_true (has_next (view_at nodes t.body)) rest.1)
+-- the body of a `try` says nothing of what is next
+pub try_built : (nodes : List Node) (n : ℕ) (x : Node) (t : TryNode) → is_table_built nodes ≡ true → slice_get nodes n ≡ Some x → x.kind ≡ kind.Try t → has_next (view_at nodes t.body) ≡ false
+try_built nodes n x t b h e = not_true (has_next (view_at nodes t.body)) (sym (ap (kind_built nodes) e) ∙ node_built nodes n x b h)
   where
     not_true : (c : Bool) → not c ≡ true → c ≡ false
     not_true true q = absurd (cc q)

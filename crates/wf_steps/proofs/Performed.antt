@@ -20,7 +20,7 @@ use Rattle.wf_ast.specs.Flows.{flow}
 use Rattle.wf_ast.specs.Tree.{Body, CallBody, Except, Policy, Template, Over, Steps, Arms, loop, try}
 use Rattle.wf_eval.specs.Answers.{Answers}
 use Rattle.wf_steps.proofs.Evaluated.{gave, failed, raised_error}
-use Rattle.wf_frames.specs.Frames.{body_entries, body_loop, body_try, control, item, left_view}
+use Rattle.wf_frames.specs.Frames.{body_entries, body_loop, body_try, control, item, items, left_view}
 use Rattle.wf_nodes.specs.Spots.{Spot, BodyAt, part_at, part_body, part_next, part_list, part_entry, entries_by, from}
 use Rattle.wf_frames.specs.Fits.{has_next, view_at}
 use Rattle.wf_nodes.specs.declared.node.Node.{Node}
@@ -185,12 +185,12 @@ call_fails n f v (Error t) st a h = λ ns s k l is same.
 
 -- the body of a `try` stands inside it
 pub tried_performs : (ns : List Spot) (n body : ℕ) (p : Option Policy) (x : Except) (f : Frame) (v : View) (old mid new : List Frame) → part_body (part_at ns n) ≡ Body.Try (try (part_body (part_at ns body)) p x)
-    → item ns f ≡ entered (part_body (part_at ns body)) → mid ≡ frame.Try n 0 None ∷ old → new ≡ f ∷ mid → Performs ns (part_body (part_at ns n)) v old new step.Goes
+    → ((k : List Item) → items ns f k ≡ entered (part_body (part_at ns body)) ∷ k) → mid ≡ frame.Try n 0 None ∷ old → new ≡ f ∷ mid → Performs ns (part_body (part_at ns n)) v old new step.Goes
 tried_performs ns n body p x f v old mid new is i m e s l same =
     ap (λ b. performs s b (control ns old) l) is
-    ∙ ap (λ (y : Item). goes (y ∷ Try (try (part_body (part_at ns body)) p x) 0 None ∷ control ns old) l) (sym i)
-    ∙ ap (λ b. goes (item ns f ∷ Try (body_try b) 0 None ∷ control ns old) l) (sym is)
-    ∙ ap (λ fs. goes (item ns f ∷ control ns fs) l) (sym m)
+    ∙ ap (λ b. goes (entered (part_body (part_at ns body)) ∷ Try (body_try b) 0 None ∷ control ns old) l) (sym is)
+    ∙ ap (λ fs. goes (entered (part_body (part_at ns body)) ∷ control ns fs) l) (sym m)
+    ∙ ap (λ (k : List Item). goes k l) (sym (i (control ns mid)))
     ∙ ap (λ fs. goes (control ns fs) l) (sym e)
 
 -- the body of a `try` as a frame

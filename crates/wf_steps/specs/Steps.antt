@@ -184,6 +184,7 @@ HasStep nodes (frame.Loop n l i) = ⊥
 HasStep nodes (frame.Try n tries delay) = ⊥
 HasStep nodes (frame.Mark number) = ⊥
 HasStep nodes (frame.Back call number) = ⊥
+HasStep nodes (frame.Judge n tries delay e number) = ⊥
 
 -- a move of the task: these frames become those, and this is left to be done
 abbrev pub Moves : List Spot → List Frame → View → List Frame → Step → Type 0

@@ -3,7 +3,7 @@ ghost use Rattle.std.specs.Prelude.{◌≡◌, ◌<◌, ◌∷◌, ℕ, List, le
 ghost use Rattle.wf_ast.specs.Flows.{flow};
 ghost use Rattle.wf_ast.specs.Tree.{Body, Flow, Program};
 ghost use Rattle.wf_frames.specs.Fits.{HasNode};
-ghost use Rattle.wf_frames.specs.Frames.{item};
+ghost use Rattle.wf_frames.specs.Frames.{items};
 ghost use Rattle.wf_model.specs.Config.{Item};
 ghost use Rattle.wf_model.specs.Kinds.{arms_now, body_kind, by_clock, call_kind, entry_now, is_now, next_kind, over_now, template_now};
 ghost use Rattle.wf_steps.specs.Built.{AreTargets, IsTarget, Tells};
@@ -134,6 +134,7 @@ fn call_kind(targets: &[Target], n: u32, clock: bool) -> Kind
         Target::Flow(_) => by_clock(clock),
         Target::Function(function) => by_clock(is_now(function.func) || clock),
         Target::Http(_) => Kind::Call,
+        Target::Sleeps(_) => Kind::Clock,
     }
 }
 
@@ -178,7 +179,7 @@ pub fn frame_kind(nodes: &[Node], targets: &[Target], frame: &Frame) -> Kind
     requires tells { Tells ns nodes.now }
     requires node { HasNode nodes.now frame.now }
     ensures { (p : Program) (k : List Item) → AreTargets p.flows ns nodes.now targets.now
-        → kind_view result ≡ next_kind p (item ns frame.now ∷ k) }
+        → kind_view result ≡ next_kind p (items ns frame.now k) }
 {
     match frame {
         Frame::Do(list, at) => match number_at(block(nodes, *list).steps.as_slice(), *at) {

@@ -13,5 +13,5 @@ mod target;
 pub use advance::step_of;
 pub use kinds::{Kind, frame_kind};
 pub use nodes::{are_built, block, entries, first_of, loop_node, try_node};
-pub use step::{Step, map_of};
-pub use target::{Target, http_named};
+pub use step::{Step, body_frame, map_of};
+pub use target::{Nap, Target, http_named, nap_named};

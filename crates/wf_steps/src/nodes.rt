@@ -9,7 +9,7 @@ ghost use Rattle.wf_nodes.specs.declared.node.TryNode as try_node;
 use wf_nodes::{Block, LoopNode, Node, NodeKind, TryNode};
 use wf_postfix::Postfix;
 
-/// Whether the steps of this table are built: none is parallel, and no `try` has a policy.
+/// Whether the steps of this table are built: none is parallel. What stands under a `try` says nothing of what is next.
 pub fn are_built(nodes: &[Node]) -> bool
     ensures { result ≡ is_table_built nodes.now }
 {
@@ -26,7 +26,7 @@ fn is_built(nodes: &[Node], node: &Node) -> bool
 {
     match &node.kind {
         NodeKind::Parallel(_) => false,
-        NodeKind::Try(tried) => tried.policy.is_none() && !has_next(nodes, tried.body),
+        NodeKind::Try(tried) => !has_next(nodes, tried.body),
         NodeKind::Flow(_) | NodeKind::Branch(_) | NodeKind::Block(_) | NodeKind::For(_) => true,
         NodeKind::Nothing | NodeKind::Assign(_) | NodeKind::Switch(_) | NodeKind::Raise(_) => true,
         NodeKind::Return(_) | NodeKind::Arm(_) | NodeKind::Entry(_) | NodeKind::Call(_) => true,

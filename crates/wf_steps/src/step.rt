@@ -1,13 +1,14 @@
 // What a step does to a task's frames.
-ghost use Rattle.std.specs.Prelude.{◌≡◌, ◌<◌, ◌≤◌, ℕ, List, Option, length, IfOk, IfSome, None, OnOk, false, true};
+ghost use Rattle.std.specs.Prelude.{◌≡◌, ◌<◌, ◌≤◌, ◌∷◌, ℕ, List, Option, length, IfOk, IfSome, None, OnOk, false, true};
 ghost use Rattle.wf_ast.specs.Eval.{truth};
 ghost use Rattle.wf_ast.specs.Tree.{Body, Steps, loop};
 ghost use Rattle.wf_eval.specs.Answers.{Answers, GivesBool};
 ghost use Rattle.wf_eval.specs.Sight.{seen};
 ghost use Rattle.wf_frames.specs.Fits.{Fits, FrameFits, IsCall, IsLoop, IsTry, has_next, reach, view_at};
-ghost use Rattle.wf_frames.specs.Frames.{inner, item, left_view, mark_of};
+ghost use Rattle.wf_frames.specs.Frames.{inner, items, left_view, mark_of};
 ghost use Rattle.wf_frames.specs.Owned.{own_of};
 ghost use Rattle.wf_ast.specs.Apply.{View};
+ghost use Rattle.wf_model.specs.Config.{Item};
 ghost use Rattle.wf_model.specs.Move as move;
 ghost use Rattle.wf_model.specs.Move.{entered};
 ghost use Rattle.wf_steps.specs.Built.{Tells};
@@ -324,13 +325,13 @@ fn calls<K: Look>(
     }
 }
 
-// The frame of the body of a `try`.
-fn body_frame(nodes: &[Node], body: u32) -> Frame
+/// The frame of the body of a `try`.
+pub fn body_frame(nodes: &[Node], body: u32) -> Frame
     ghost ns: { List Spot }
     requires tells { Tells ns nodes.now }
     requires within { body < length nodes.now }
     requires next { has_next (view_at nodes.now body) ≡ false }
-    ensures item { item ns result ≡ entered (part_body (part_at ns body)) }
+    ensures item { (k : List Item) → items ns result k ≡ entered (part_body (part_at ns body)) ∷ k }
     ensures fits { (fs : List Frame) → owners_at ns body ≡ reach fs
         → FrameFits ns nodes.now result fs }
     ensures own { mark_of result ≡ None }

@@ -5,6 +5,3 @@ ghost-seen g a = g.around
 
 abbrev pub ghost-store : goal.ghost-store
 ghost-store g a = g.around
-
-abbrev pub ghost-fails : goal.ghost-fails
-ghost-fails g a = g.around

@@ -5,6 +5,3 @@ ghost-assign g a = g.around
 
 abbrev pub ghost-goes : goal.ghost-goes
 ghost-goes g a = g.around
-
-abbrev pub ghost-raises_tag : goal.ghost-raises_tag
-ghost-raises_tag g a = g.around

@@ -14,6 +14,6 @@ pub returns-in-Some-clause-moved : goal.returns-in-Some-clause-moved
 returns-in-Some-clause-moved g c =
     with_ok _ _ c.store.result
     (λ w h s d agrees.
-    subst (λ (o : Option Text). IsMove (gives s o (plain c.args.value) (control_of g.around c.args.frames.now) (beside d g.around c.args.frames.now c.args.scopes.now)) w (local_of g.around c.store.new.frames c.store.new.scopes)) c.in-Some.ensures
-    (subst (λ (ks : List Data). IsMove (on_assigned s (control_of g.around c.args.frames.now) (beside d g.around c.args.frames.now c.args.scopes.now) (assign s c.in-Some.name.now ks (plain c.args.value) (beside d g.around c.args.frames.now c.args.scopes.now))) w (local_of g.around c.store.new.frames c.store.new.scopes)) (ap (map plain) c.new-places.ensures.items) (h s d agrees)))
+    subst (λ (o : Option Text). IsMove s (gives s o (plain c.args.value) (control_of g.around c.args.frames.now) (beside d g.around c.args.frames.now c.args.scopes.now)) w (local_of g.around c.store.new.frames c.store.new.scopes)) c.in-Some.ensures
+    (subst (λ (ks : List Data). IsMove s (on_assigned s (control_of g.around c.args.frames.now) (beside d g.around c.args.frames.now c.args.scopes.now) (assign s c.in-Some.name.now ks (plain c.args.value) (beside d g.around c.args.frames.now c.args.scopes.now))) w (local_of g.around c.store.new.frames c.store.new.scopes)) (ap (map plain) c.new-places.ensures.items) (h s d agrees)))
     c.store.ensures.moved

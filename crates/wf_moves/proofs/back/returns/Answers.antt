@@ -1,4 +1,4 @@
-use Rattle.std.proofs.Common.{ℕ, refl, sym, subst}
+use Rattle.std.proofs.Common.{ℕ, refl, sym, subst, ◌∙◌}
 use Rattle.std.specs.Prelude.{Option}
 use Rattle.wf_frames.specs.Fits.{IsCallOf}
 use Rattle.wf_frames.specs.Frames.{inner, result_of}
@@ -6,7 +6,7 @@ use Rattle.wf_frames.specs.Owned.{beside, control_of, held_by, local_of}
 use Rattle.wf_model.specs.Leave.{gives, returned}
 use Rattle.wf_model.specs.Unwind.{Found}
 use Rattle.wf_moves.proofs.Leaving.{fits_after, top_node}
-use Rattle.wf_moves.proofs.Returning.{call_node, ends_with, gives_on, top_back}
+use Rattle.wf_moves.proofs.Returning.{call_node, ends_with, gives_on, judge_top, judged_on, says_left, top_back}
 use Rattle.wf_moves.specs.Moved.{IsMove}
 use Rattle.wf_moves.specs.declared.finish.End.TheVariants as end
 use Rattle.wf_moves.specs.declared.finish.Went.TheVariants as went
@@ -31,16 +31,35 @@ give-requires g c =
 
 pub returns-in-None-clause-moved : goal.returns-in-None-clause-moved
 returns-in-None-clause-moved g c s d agrees =
-    subst (λ (f : Found). IsMove (returned s (plain c.args.value) (beside d g.around c.args.frames.now c.args.scopes.now) f) (went.Ended (end.Value c.args.value)) (local_of g.around c.leave_to_back.new.frames c.leave_to_back.new.scopes)) (sym (c.leave_to_back.ensures.found d))
+    subst (λ (f : Found). IsMove s (returned s (plain c.args.value) (beside d g.around c.args.frames.now c.args.scopes.now) f) (went.Ended (end.Value c.args.value)) (local_of g.around c.leave_to_back.new.frames c.leave_to_back.new.scopes)) (sym (c.leave_to_back.ensures.found d))
     (ends_with g.around.spots s (plain c.args.value) c.args.value (inner c.leave_to_back.new.frames) d (control_of g.around c.leave_to_back.new.frames) (held_by g.around c.args.frames.now c.args.scopes.now) (held_by g.around c.leave_to_back.new.frames c.leave_to_back.new.scopes)
     refl c.in-None.ensures c.requires.1.1 c.leave_to_back.ensures.outside)
 
-pub returns-in-Some-clause-moved : goal.returns-in-Some-clause-moved
-returns-in-Some-clause-moved g c =
+pub returns-else-is_judge-clause-moved : goal.returns-else-is_judge-clause-moved
+returns-else-is_judge-clause-moved g c =
     with_ok _ _ c.give.result
     (λ w h s d agrees.
-    subst (λ (f : Found). IsMove (returned s (plain c.args.value) (beside d g.around c.args.frames.now c.args.scopes.now) f) w (local_of g.around c.give.new.frames c.give.new.scopes)) (sym (c.leave_to_back.ensures.found d))
+    subst (λ (f : Found). IsMove s (returned s (plain c.args.value) (beside d g.around c.args.frames.now c.args.scopes.now) f) w (local_of g.around c.give.new.frames c.give.new.scopes)) (sym (c.leave_to_back.ensures.found d))
     (gives_on g.around.spots s (plain c.args.value) c.in-Some.frame.now c.leave.result (inner c.leave_to_back.new.frames) (inner c.leave.new.frames) d (held_by g.around c.args.frames.now c.args.scopes.now) (held_by g.around c.leave_to_back.new.frames c.leave_to_back.new.scopes) (held_by g.around c.leave.new.frames c.leave.new.scopes)
-    w (local_of g.around c.give.new.frames c.give.new.scopes) c.in-Some.ensures c.leave_to_back.ensures.top c.leave.ensures.left
-    (subst (λ (o : Option ℕ). IsMove (gives s (result_of g.around.spots o) (plain c.args.value) (control_of g.around c.leave.new.frames) (beside d g.around c.leave.new.frames c.leave.new.scopes)) w (local_of g.around c.give.new.frames c.give.new.scopes)) c.call_of-call.ensures (h s d agrees))))
+    w (local_of g.around c.give.new.frames c.give.new.scopes) c.in-Some.ensures c.leave_to_back.ensures.top (sym c.is_judge.ensures ∙ c.if-is_judge.false) c.leave.ensures.left
+    (subst (λ (o : Option ℕ). IsMove s (gives s (result_of g.around.spots o) (plain c.args.value) (control_of g.around c.leave.new.frames) (beside d g.around c.leave.new.frames c.leave.new.scopes)) w (local_of g.around c.give.new.frames c.give.new.scopes)) c.call_of-call.ensures (h s d agrees))))
     c.give.ensures.moved
+
+pub returns-then-is_judge-clause-moved : goal.returns-then-is_judge-clause-moved
+returns-then-is_judge-clause-moved g c =
+    with_ok _ _ c.says.result
+    (λ w says s d agrees.
+    subst (λ (f : Found). IsMove s (returned s (plain c.args.value) (beside d g.around c.args.frames.now c.args.scopes.now) f) w (local_of g.around c.leave_to_back.new.frames c.leave_to_back.new.scopes)) (sym (c.leave_to_back.ensures.found d))
+    (judged_on g.around.spots s (plain c.args.value) c.in-Some.frame.now (inner c.leave_to_back.new.frames) d (held_by g.around c.args.frames.now c.args.scopes.now) (held_by g.around c.leave_to_back.new.frames c.leave_to_back.new.scopes) w
+    c.in-Some.ensures (sym c.is_judge.ensures ∙ c.if-is_judge.true) says))
+    c.says.ensures
+
+pub returns-then-is_judge-clause-left : goal.returns-then-is_judge-clause-left
+returns-then-is_judge-clause-left g c =
+    with_ok _ _ c.says.result
+    (λ w says. says_left c.args.nodes.now (inner c.leave_to_back.new.frames) (plain c.args.value) w (judge_top c.in-Some.frame.now (inner c.leave_to_back.new.frames) c.in-Some.ensures (sym c.is_judge.ensures ∙ c.if-is_judge.true)) says)
+    c.says.ensures
+
+pub returns-then-is_judge-clause-stands : goal.returns-then-is_judge-clause-stands
+returns-then-is_judge-clause-stands g c =
+    with_ok _ _ c.says.result (λ w says. record { fits = c.leave_to_back.ensures.fits c.args.nodes.now c.requires.1.0.fits; linked = c.leave_to_back.ensures.linked }) c.says.ensures

@@ -1,8 +1,5 @@
 use Rattle.wf_moves.proofs.call.begin.Given as goal
 
-abbrev pub ghost-raises_tag : goal.ghost-raises_tag
-ghost-raises_tag g a = g.around
-
 abbrev pub ghost-enter_call : goal.ghost-enter_call
 ghost-enter_call g a = g.around
 

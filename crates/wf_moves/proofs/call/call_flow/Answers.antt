@@ -39,10 +39,10 @@ returns-in-Some-clause-moved g c =
     let values : given t.workflow.params args ≡ Some (bindings_of c.in-Some.bindings) = ap (λ ps. given ps args) (sym params) ∙ sym c.in_ok-bindings.ensures ∙ ap (option_map bindings_of) c.in-Some.is in
     with_ok _ _ c.begin.result
     (λ w h s d agrees.
-    subst (λ b. IsMove (calls_by s b args k (beside d g.around c.args.frames.now c.args.scopes.now)) w (local_of g.around c.begin.new.frames c.begin.new.scopes)) (sym body)
+    subst (λ b. IsMove s (calls_by s b args k (beside d g.around c.args.frames.now c.args.scopes.now)) w (local_of g.around c.begin.new.frames c.begin.new.scopes)) (sym body)
     (call_given s f.0.result f.0.name args t.workflow k (beside d g.around c.args.frames.now c.args.scopes.now) w (local_of g.around c.begin.new.frames c.begin.new.scopes) (ap (λ fs. flow fs f.0.name) agrees.2 ∙ t.named) (bindings_of c.in-Some.bindings) values
-    (subst (λ (p : Part). IsMove (calls_with s (flow_at p) f.0.result (Some (bindings_of c.in-Some.bindings)) k (beside d g.around c.args.frames.now c.args.scopes.now)) w (local_of g.around c.begin.new.frames c.begin.new.scopes)) t.part
-    (subst (λ b. IsMove (calls_with s (flow_at (part_at g.around.spots (c.args.flow))) (body_result b) (Some (bindings_of c.in-Some.bindings)) k (beside d g.around c.args.frames.now c.args.scopes.now)) w (local_of g.around c.begin.new.frames c.begin.new.scopes)) body (h s d agrees)))))
+    (subst (λ (p : Part). IsMove s (calls_with s (flow_at p) f.0.result (Some (bindings_of c.in-Some.bindings)) k (beside d g.around c.args.frames.now c.args.scopes.now)) w (local_of g.around c.begin.new.frames c.begin.new.scopes)) t.part
+    (subst (λ b. IsMove s (calls_with s (flow_at (part_at g.around.spots (c.args.flow))) (body_result b) (Some (bindings_of c.in-Some.bindings)) k (beside d g.around c.args.frames.now c.args.scopes.now)) w (local_of g.around c.begin.new.frames c.begin.new.scopes)) body (h s d agrees)))))
     c.begin.ensures.moved
 
 pub returns-in-None-clause-moved : goal.returns-in-None-clause-moved
@@ -55,5 +55,5 @@ returns-in-None-clause-moved g c s d agrees =
     let body = ap part_body (as_part g.around.spots c.args.nodes.now c.args.n f.1.node (kind.Call f.0) c.requires.0.resolves f.1.at f.1.is) in
     let params = c.params.ensures ∙ flow_param_list (part_at g.around.spots (c.args.flow)) t.workflow t.part in
     let values : given t.workflow.params args ≡ None = ap (λ ps. given ps args) (sym params) ∙ sym c.in_ok-bindings.ensures ∙ ap (option_map bindings_of) c.in-None.is in
-    subst (λ b. IsMove (calls_by s b args k l) c.goes.result (local_of g.around c.goes.new.frames c.goes.new.scopes)) (sym body)
+    subst (λ b. IsMove s (calls_by s b args k l) c.goes.result (local_of g.around c.goes.new.frames c.goes.new.scopes)) (sym body)
     (call_lacks s f.0.result f.0.name args t.workflow k l c.goes.result (local_of g.around c.goes.new.frames c.goes.new.scopes) (ap (λ fs. flow fs f.0.name) agrees.2 ∙ t.named) values)

@@ -2,8 +2,10 @@ use Rattle.std.proofs.Common.{Ok, Err, ap, sym, subst, ◌∙◌}
 use Rattle.std.specs.Prelude.{is_some}
 use Rattle.wf_ast.specs.Apply.{View}
 use Rattle.wf_ast.specs.Flows.{flow}
-use Rattle.wf_frames.specs.Frames.{body_result}
-use Rattle.wf_frames.specs.Owned.{beside, control_of, local_of}
+use Rattle.wf_frames.specs.Frames.{body_result, inner}
+use Rattle.wf_frames.specs.Owned.{beside, control_of, held_by, local_of}
+use Rattle.wf_moves.proofs.Raised.{raised, raised_left}
+use Rattle.wf_value.specs.Errors.{error_map}
 use Rattle.wf_eval.specs.Answers.{Gives}
 use Rattle.wf_model.specs.Layers.{view}
 use Rattle.wf_model.specs.Leave.{gives}
@@ -29,10 +31,10 @@ returns-in-Ok-clause-moved g c =
     (λ w h s d sees agrees.
     let l = beside d g.around c.args.frames.now c.args.scopes.now in
     let m = local_of g.around c.give.new.frames c.give.new.scopes in
-    subst (λ b. IsMove (calls_by s b args k l) w m) (sym body)
+    subst (λ b. IsMove s (calls_by s b args k l) w m) (sym body)
     (function_gave s f.0.result f.0.name args c.args.function.now k l w m (ap (λ fs. is_some (flow fs f.0.name)) agrees.2 ∙ f.2.free) f.2.named
     c.in-Ok.value (subst (λ (v : View). Gives (Ok c.in-Ok.value) (answer_of v c.args.function.now args)) (sym (c.seen-look.ensures s sees)) c.in-Ok.ensures)
-    (subst (λ b. IsMove (gives s (body_result b) (plain c.in-Ok.value) k l) w m) body (h s d agrees))))
+    (subst (λ b. IsMove s (gives s (body_result b) (plain c.in-Ok.value) k l) w m) body (h s d agrees))))
     c.give.ensures.moved
 
 pub returns-in-Err-clause-moved : goal.returns-in-Err-clause-moved
@@ -44,8 +46,11 @@ returns-in-Err-clause-moved g c =
     with_both _ _ c.fails.result
     (λ w h t s d sees agrees.
     let l = beside d g.around c.args.frames.now c.args.scopes.now in
-    let m = local_of g.around c.fails.new.frames c.fails.new.scopes in
-    subst (λ b. IsMove (calls_by s b args k l) w m) (sym body)
+    let m = local_of g.around c.args.frames.now c.args.scopes.now in
+    subst (λ b. IsMove s (calls_by s b args k l) w m) (sym body)
     (function_failed s f.0.result f.0.name args c.args.function.now k l w m (ap (λ fs. is_some (flow fs f.0.name)) agrees.2 ∙ f.2.free) f.2.named
-    t.0 (subst (λ r. Gives (Err r) (answer_of (view s l) c.args.function.now args)) t.1 (subst (λ (v : View). Gives (Err c.in-Err.raise) (answer_of v c.args.function.now args)) (sym (c.seen-look.ensures s sees)) c.in-Err.ensures)) (h t.0 t.1 s d agrees)))
-    c.fails.ensures.moved c.fails.ensures.error
+    t.0 (subst (λ r. Gives (Err r) (answer_of (view s l) c.args.function.now args)) t.1 (subst (λ (v : View). Gives (Err c.in-Err.raise) (answer_of v c.args.function.now args)) (sym (c.seen-look.ensures s sees)) c.in-Err.ensures)) (raised s k d (held_by g.around c.args.frames.now c.args.scopes.now) (error_map t.0) w (h t.0 t.1))))
+    c.fails.ensures.raised c.fails.ensures.error
+
+pub returns-in-Err-clause-left : goal.returns-in-Err-clause-left
+returns-in-Err-clause-left g c = with_both _ _ c.fails.result (λ w h t. raised_left c.args.nodes.now (inner c.args.frames.now) (error_map t.0) w (h t.0 t.1)) c.fails.ensures.raised c.fails.ensures.error

@@ -5,6 +5,3 @@ ghost-seen g a = g.around
 
 abbrev pub ghost-give : goal.ghost-give
 ghost-give g a = g.around
-
-abbrev pub ghost-fails : goal.ghost-fails
-ghost-fails g a = g.around

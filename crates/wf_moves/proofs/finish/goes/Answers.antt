@@ -13,16 +13,16 @@ pub returns-in-None-clause-left : goal.returns-in-None-clause-left
 returns-in-None-clause-left g c = none_there (inner c.settle.new.frames) c.in-None.ensures
 
 pub returns-in-None-clause-moved : goal.returns-in-None-clause-moved
-returns-in-None-clause-moved g c d =
+returns-in-None-clause-moved g c s d =
     let frames = c.settle.new.frames in
     let scopes = c.settle.new.scopes in
-    subst (λ (l : Local). IsMove (settled l) (went.Ended (end.Value value.Null)) (local_of g.around frames scopes)) (sym (c.settle.ensures.left d)) (went_out g.around.spots (inner frames) (held_by g.around frames scopes) c.in-None.ensures)
+    subst (λ (l : Local). IsMove s (settled l) (went.Ended (end.Value value.Null)) (local_of g.around frames scopes)) (sym (c.settle.ensures.left d)) (went_out s g.around.spots (inner frames) (held_by g.around frames scopes) c.in-None.ensures)
 
 pub returns-in-Some-clause-left : goal.returns-in-Some-clause-left
 returns-in-Some-clause-left g c = going_there c.args.nodes.now c.in-Some.field-0.now (inner c.settle.new.frames) c.in-Some.ensures c.settle.ensures.settled
 
 pub returns-in-Some-clause-moved : goal.returns-in-Some-clause-moved
-returns-in-Some-clause-moved g c d =
+returns-in-Some-clause-moved g c s d =
     let frames = c.settle.new.frames in
     let scopes = c.settle.new.scopes in
-    subst (λ (l : Local). IsMove (settled l) went.Goes (local_of g.around frames scopes)) (sym (c.settle.ensures.left d)) (went_on g.around.spots c.in-Some.field-0.now (inner frames) (held_by g.around frames scopes) c.in-Some.ensures)
+    subst (λ (l : Local). IsMove s (settled l) went.Goes (local_of g.around frames scopes)) (sym (c.settle.ensures.left d)) (went_on s g.around.spots c.in-Some.field-0.now (inner frames) (held_by g.around frames scopes) c.in-Some.ensures)

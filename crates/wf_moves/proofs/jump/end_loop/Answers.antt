@@ -18,7 +18,7 @@ goes-requires g c = (
 )
 
 pub returns-clause-moved : goal.returns-clause-moved
-returns-clause-moved g c d =
-    subst (λ f. IsMove (breaks f) c.goes.result (local_of g.around c.goes.new.frames c.goes.new.scopes)) (sym (c.leave_to_loop.ensures.found d))
-    (broken g.around.spots c.leave.result (inner c.leave_to_loop.new.frames) (inner c.leave.new.frames) d (held_by g.around c.leave_to_loop.new.frames c.leave_to_loop.new.scopes) (held_by g.around c.leave.new.frames c.leave.new.scopes) c.goes.result (local_of g.around c.goes.new.frames c.goes.new.scopes)
-    c.leave_to_loop.ensures.top c.leave.ensures.left c.goes.ensures.moved)
+returns-clause-moved g c s d =
+    subst (λ f. IsMove s (breaks f) c.goes.result (local_of g.around c.goes.new.frames c.goes.new.scopes)) (sym (c.leave_to_loop.ensures.found d))
+    (broken s g.around.spots c.leave.result (inner c.leave_to_loop.new.frames) (inner c.leave.new.frames) d (held_by g.around c.leave_to_loop.new.frames c.leave_to_loop.new.scopes) (held_by g.around c.leave.new.frames c.leave.new.scopes) c.goes.result (local_of g.around c.goes.new.frames c.goes.new.scopes)
+    c.leave_to_loop.ensures.top c.leave.ensures.left (c.goes.ensures.moved s))

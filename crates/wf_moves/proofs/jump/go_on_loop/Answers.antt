@@ -11,5 +11,5 @@ goes-requires g c = (c.requires.0, record { fits = c.leave_to_loop.ensures.fits 
 
 pub returns-clause-moved : goal.returns-clause-moved
 returns-clause-moved g c s d =
-    subst (λ f. IsMove (continues s (beside d g.around c.args.frames.now c.args.scopes.now) f) c.goes.result (local_of g.around c.goes.new.frames c.goes.new.scopes)) (sym (c.leave_to_loop.ensures.found d))
-    (continued g.around.spots s (inner c.leave_to_loop.new.frames) d (held_by g.around c.args.frames.now c.args.scopes.now) (held_by g.around c.leave_to_loop.new.frames c.leave_to_loop.new.scopes) c.goes.result (local_of g.around c.goes.new.frames c.goes.new.scopes) c.goes.ensures.moved c.leave_to_loop.ensures.outside)
+    subst (λ f. IsMove s (continues s (beside d g.around c.args.frames.now c.args.scopes.now) f) c.goes.result (local_of g.around c.goes.new.frames c.goes.new.scopes)) (sym (c.leave_to_loop.ensures.found d))
+    (continued g.around.spots s (inner c.leave_to_loop.new.frames) d (held_by g.around c.args.frames.now c.args.scopes.now) (held_by g.around c.leave_to_loop.new.frames c.leave_to_loop.new.scopes) c.goes.result (local_of g.around c.goes.new.frames c.goes.new.scopes) c.goes.ensures.through (c.goes.ensures.moved s) c.leave_to_loop.ensures.outside)

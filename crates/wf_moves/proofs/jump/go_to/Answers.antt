@@ -16,7 +16,7 @@ jump_to-requires g c =
 pub returns-in_ok-jump_to-in-Some-clause-moved : goal.returns-in_ok-jump_to-in-Some-clause-moved
 returns-in_ok-jump_to-in-Some-clause-moved g c x w s d =
     let lead = subst (λ o. Leads g.around.spots (views c.args.nodes.now) x o (reach (inner c.args.frames.now))) c.in-Some.is w in
-    subst (λ f. IsMove (jumps_to s x f) c.goes.result (local_of g.around c.goes.new.frames c.goes.new.scopes)) (sym (c.in_ok-jump_to-in-Some.ensures.found x lead d)) (c.goes.ensures.moved d)
+    subst (λ f. IsMove s (jumps_to s x f) c.goes.result (local_of g.around c.goes.new.frames c.goes.new.scopes)) (sym (c.in_ok-jump_to-in-Some.ensures.found x lead d)) (c.goes.ensures.moved s d)
 
 pub returns-in-None-clause-moved : goal.returns-in-None-clause-moved
 returns-in-None-clause-moved g c x w s d =

@@ -27,7 +27,7 @@ returns-then-eq-clause-moved g c =
     let same = c.as_str-next.ensures in
     let k = control_of g.around c.args.frames.now in
     with_ok _ _ c.returns.result
-    (λ w h s d agrees. subst (λ (m : Moved). IsMove m w (local_of g.around c.returns.new.frames c.returns.new.scopes))
+    (λ w h s d agrees. subst (λ (m : Moved). IsMove s m w (local_of g.around c.returns.new.frames c.returns.new.scopes))
     (sym (ap (λ (t : Text). jumps s t k (beside d g.around c.args.frames.now c.args.scopes.now)) next ∙ jumps_end s c.in-Some.next k (beside d g.around c.args.frames.now c.args.scopes.now) (ap (λ (t : Text). bytes_eq t (codes "end")) (sym same) ∙ sym c.eq.ensures ∙ c.if-eq.true)))
     (h s d agrees))
     c.returns.ensures.moved
@@ -41,7 +41,7 @@ returns-then-eq-2-clause-moved g c s d agrees =
     let same = c.as_str-next.ensures in
     let k = control_of g.around c.args.frames.now in
     let l = beside d g.around c.args.frames.now c.args.scopes.now in
-    subst (λ (m : Moved). IsMove m c.go_on_loop.result (local_of g.around c.go_on_loop.new.frames c.go_on_loop.new.scopes))
+    subst (λ (m : Moved). IsMove s m c.go_on_loop.result (local_of g.around c.go_on_loop.new.frames c.go_on_loop.new.scopes))
     (sym (ap (λ (t : Text). jumps s t k l) next ∙ jumps_continue s c.in-Some.next k l (ap (λ (t : Text). bytes_eq t (codes "end")) (sym same) ∙ sym c.eq.ensures ∙ c.if-eq.false) (ap (λ (t : Text). bytes_eq t (codes "continue")) (sym same) ∙ sym c.eq-else-eq.ensures ∙ c.if-eq-2.true))) (c.go_on_loop.ensures.moved s d)
 
 pub returns-then-eq-3-clause-moved : goal.returns-then-eq-3-clause-moved
@@ -53,8 +53,8 @@ returns-then-eq-3-clause-moved g c s d agrees =
     let same = c.as_str-next.ensures in
     let k = control_of g.around c.args.frames.now in
     let l = beside d g.around c.args.frames.now c.args.scopes.now in
-    subst (λ (m : Moved). IsMove m c.end_loop.result (local_of g.around c.end_loop.new.frames c.end_loop.new.scopes))
-    (sym (ap (λ (t : Text). jumps s t k l) next ∙ jumps_break s c.in-Some.next k l (ap (λ (t : Text). bytes_eq t (codes "end")) (sym same) ∙ sym c.eq.ensures ∙ c.if-eq.false) (ap (λ (t : Text). bytes_eq t (codes "continue")) (sym same) ∙ sym c.eq-else-eq.ensures ∙ c.if-eq-2.false) (ap (λ (t : Text). bytes_eq t (codes "break")) (sym same) ∙ sym c.eq-else-eq-2.ensures ∙ c.if-eq-3.true))) (c.end_loop.ensures.moved d)
+    subst (λ (m : Moved). IsMove s m c.end_loop.result (local_of g.around c.end_loop.new.frames c.end_loop.new.scopes))
+    (sym (ap (λ (t : Text). jumps s t k l) next ∙ jumps_break s c.in-Some.next k l (ap (λ (t : Text). bytes_eq t (codes "end")) (sym same) ∙ sym c.eq.ensures ∙ c.if-eq.false) (ap (λ (t : Text). bytes_eq t (codes "continue")) (sym same) ∙ sym c.eq-else-eq.ensures ∙ c.if-eq-2.false) (ap (λ (t : Text). bytes_eq t (codes "break")) (sym same) ∙ sym c.eq-else-eq-2.ensures ∙ c.if-eq-3.true))) (c.end_loop.ensures.moved s d)
 
 pub returns-else-eq-3-clause-moved : goal.returns-else-eq-3-clause-moved
 returns-else-eq-3-clause-moved g c =
@@ -66,7 +66,7 @@ returns-else-eq-3-clause-moved g c =
     let same = c.as_str-next.ensures in
     let k = control_of g.around c.args.frames.now in
     with_ok _ _ c.go_to.result
-    (λ w m s d agrees. subst (λ (y : Moved). IsMove y w (local_of g.around c.go_to.new.frames c.go_to.new.scopes))
+    (λ w m s d agrees. subst (λ (y : Moved). IsMove s y w (local_of g.around c.go_to.new.frames c.go_to.new.scopes))
     (sym (ap (λ (t : Text). jumps s t k (beside d g.around c.args.frames.now c.args.scopes.now)) next ∙ jumps_step s c.in-Some.next k (beside d g.around c.args.frames.now c.args.scopes.now) (ap (λ (t : Text). bytes_eq t (codes "end")) (sym same) ∙ sym c.eq.ensures ∙ c.if-eq.false) (ap (λ (t : Text). bytes_eq t (codes "continue")) (sym same) ∙ sym c.eq-else-eq.ensures ∙ c.if-eq-2.false) (ap (λ (t : Text). bytes_eq t (codes "break")) (sym same) ∙ sym c.eq-else-eq-2.ensures ∙ c.if-eq-3.false)))
     (m c.in-Some.next leads s d))
     c.go_to.ensures.moved

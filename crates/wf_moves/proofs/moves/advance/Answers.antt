@@ -40,7 +40,7 @@ returns-in_ok-turn-in-Loop-clause-moved g c s d sees reaches agrees =
     let own = own_pushed c.pop.new.self.first c.args.frames.now.first c.in-Some.frame (inner c.pop.new.self) (inner c.args.frames.now) (sym c.in-Some.ensures.first) (going_plain c.args.nodes.now c.in-Some.frame has (no_back c.in-Some.frame (inner c.args.frames.now) (inner c.pop.new.self) c.in-Some.ensures.popped (sym c.is_at_back.ensures ∙ c.if-is_at_back.false))) c.in-Some.ensures.popped in
     let fs = c.in-Some.ensures.popped ∙ ap (λ f. f ∷ inner c.pop.new.self) c.in-Loop.is in
     let m = local_of g.around c.turn.new.frames c.turn.new.scopes in
-    subst (λ y. IsMove y c.in_ok-turn-in-Loop.field-0 m) (sym (loop_stepped g.around.spots s (inner c.args.frames.now) (inner c.pop.new.self) c.in-Loop.n c.in-Loop.index c.in-Loop.left (beside d g.around c.args.frames.now c.args.scopes.now) fs))
+    subst (λ y. IsMove s y c.in_ok-turn-in-Loop.field-0 m) (sym (loop_stepped g.around.spots s (inner c.args.frames.now) (inner c.pop.new.self) c.in-Loop.n c.in-Loop.index c.in-Loop.left (beside d g.around c.args.frames.now c.args.scopes.now) fs))
     (moved_same g.around s (own_of c.args.frames.now) (own_of c.pop.new.self) (layers_of c.args.scopes.now) own d (inner c.args.frames.now) (frame.Loop c.in-Loop.n c.in-Loop.left c.in-Loop.index ∷ inner c.pop.new.self) c.in_ok-turn-in-Loop.field-0 m fs
     (c.in_ok-turn-in-Loop.ensures.moved s d agrees))
 
@@ -56,5 +56,5 @@ pub returns-then-is_at_back-clause-moved : goal.returns-then-is_at_back-clause-m
 returns-then-is_at_back-clause-moved g c s d sees reaches agrees =
     let at = sym c.is_at_back.ensures ∙ c.if-is_at_back.true in
     let l = beside d g.around c.args.frames.now c.args.scopes.now in
-    subst (λ (m : Moved). IsMove m c.in_ok-returns.field-0 (local_of g.around c.returns.new.frames c.returns.new.scopes))
+    subst (λ (m : Moved). IsMove s m c.in_ok-returns.field-0 (local_of g.around c.returns.new.frames c.returns.new.scopes))
     (sym (back_stepped g.around.spots s (inner c.args.frames.now) l at ∙ moves_back g.around.spots s (inner c.args.frames.now) l at)) (c.in_ok-returns.ensures.moved s d agrees)

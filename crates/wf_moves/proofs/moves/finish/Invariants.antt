@@ -3,9 +3,6 @@ use Rattle.wf_moves.proofs.moves.finish.Given as goal
 abbrev pub ghost-goes : goal.ghost-goes
 ghost-goes g a = g.around
 
-abbrev pub ghost-raises : goal.ghost-raises
-ghost-raises g a = g.around
-
 abbrev pub ghost-returns : goal.ghost-returns
 ghost-returns g a = g.around
 

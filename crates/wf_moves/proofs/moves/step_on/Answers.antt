@@ -20,5 +20,5 @@ returns-clause-moved g c =
     with_ok _ _ c.finish_step.result
     (λ w m s d sees reaches agrees.
     stepped_on g.around (c.args.frame ∷ inner c.args.frames.now) (inner mid) st s (beside d g.around c.args.frames.now c.args.scopes.now) h.same v w (local_of g.around c.finish_step.new.frames c.finish_step.new.scopes) h.moves h.issues (c.seen-look.ensures s sees)
-    (subst (λ os. IsDone g.around (leads g.around.spots st s (control_of g.around mid) (standing d (held_of g.around.keys os (layers_of c.args.scopes.now)))) w (local_of g.around c.finish_step.new.frames c.finish_step.new.scopes)) h.own (m s d sees reaches agrees)))
+    (subst (λ os. IsDone g.around s (leads g.around.spots st s (control_of g.around mid) (standing d (held_of g.around.keys os (layers_of c.args.scopes.now)))) w (local_of g.around c.finish_step.new.frames c.finish_step.new.scopes)) h.own (m s d sees reaches agrees)))
     c.finish_step.ensures.moved

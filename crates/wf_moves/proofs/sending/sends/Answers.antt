@@ -1,8 +1,11 @@
 use Rattle.std.proofs.Common.{◌≡◌, Err, arith, ap, subst}
 use Rattle.std.specs.Prelude.{suc}
 use Rattle.wf_eval.specs.Answers.{Answers}
+use Rattle.wf_frames.specs.Frames.{inner}
 use Rattle.wf_frames.specs.Owned.{control_of, held_by, local_of}
+use Rattle.wf_moves.proofs.Raised.{raised, raised_left}
 use Rattle.wf_moves.proofs.Requesting.{request_failed, request_sent}
+use Rattle.wf_value.specs.Errors.{error_map}
 use Rattle.wf_moves.specs.Requests.{request_by, sent_view}
 use Rattle.wf_nodes.specs.Kinds.{call_by}
 use Rattle.wf_nodes.specs.Spots.{part_body}
@@ -27,5 +30,12 @@ returns-in_ok-fails-in-Err-clause-moved g c s d sees reaches agrees =
     let h = c.in_ok-fails-in-Err.ensures in
     let t = h.error in
     request_failed g.around s d (control_of g.around c.args.frames.now) (held_by g.around c.args.frames.now c.args.scopes.now) c.args.n (call_by f.1.node.codes.items.items f.0) c.args.method (pairs_of c.args.args.now) c.args.facts.now c.args.sending.now c.in-Some.number
-    body f.2.named sees reaches count t.0 c.in_ok-fails-in-Err.field-0 (local_of g.around c.fails.new.frames c.fails.new.scopes)
-    (subst (λ r. Answers sent_view (Err r) (request_by c.args.method (pairs_of c.args.args.now) c.args.facts.now c.args.sending.now.routes c.in-Some.number)) t.1 c.in-Err.ensures) (h.moved t.0 t.1 s d agrees)
+    body f.2.named sees reaches count t.0 c.in_ok-fails-in-Err.field-0 (local_of g.around c.args.frames.now c.args.scopes.now)
+    (subst (λ r. Answers sent_view (Err r) (request_by c.args.method (pairs_of c.args.args.now) c.args.facts.now c.args.sending.now.routes c.in-Some.number)) t.1 c.in-Err.ensures)
+    (raised s (control_of g.around c.args.frames.now) d (held_by g.around c.args.frames.now c.args.scopes.now) (error_map t.0) c.in_ok-fails-in-Err.field-0 (h.raised t.0 t.1))
+
+pub returns-in_ok-fails-in-Err-clause-left : goal.returns-in_ok-fails-in-Err-clause-left
+returns-in_ok-fails-in-Err-clause-left g c =
+    let h = c.in_ok-fails-in-Err.ensures in
+    let t = h.error in
+    raised_left c.args.nodes.now (inner c.args.frames.now) (error_map t.0) c.in_ok-fails-in-Err.field-0 (h.raised t.0 t.1)

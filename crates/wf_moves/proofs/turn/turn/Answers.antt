@@ -2,23 +2,32 @@ use Rattle.std.proofs.Common.{◌≡◌, ◌+◌, ℕ, List, ◌∷◌, Some, fa
 use Rattle.std.specs.Prelude.{Option, option_map}
 use Rattle.wf_frames.specs.Frames.{control, inner, left_view, own}
 use Rattle.wf_frames.specs.Held.{standing}
-use Rattle.wf_frames.specs.Owned.{IsLinked, held_by, held_of, local_of, own_of}
+use Rattle.wf_frames.specs.Owned.{IsLinked, control_of, held_by, held_of, local_of, own_of}
 use Rattle.wf_frames.specs.Turns.{Enters, names_of, with_own}
 use Rattle.wf_frames.specs.declared.frames.Frame.TheVariants as frame
 use Rattle.wf_frames.specs.declared.frames.Left.{Left}
 use Rattle.wf_model.specs.Config.{next_of}
 use Rattle.wf_model.specs.Local.{goes}
 use Rattle.wf_steps.proofs.Performed.{with_ok}
+use Rattle.wf_moves.proofs.Raised.{raised, raised_left}
 use Rattle.wf_moves.proofs.Turning.{turn_entered, turn_fits, turn_owned, turn_refused}
 use Rattle.wf_moves.specs.Moved.{IsMove}
 use Rattle.wf_scope.specs.Store.{layers_of}
 use Rattle.wf_scope.specs.Tasks.{Own}
 use Rattle.wf_value.specs.Plain.{plain}
+use Rattle.wf_value.specs.Errors.{error_map}
+use Rattle.wf_value.specs.declared.Tag.TheVariants.{ResourceLimitError}
 use Rattle.wf_value.specs.declared.Value.{Value}
 use Rattle.wf_moves.proofs.turn.turn.Goals as goal
 
-pub raises_tag-requires : goal.raises_tag-requires
-raises_tag-requires g c = (c.requires.0, record { fits = c.requires.1.0.fits; linked = subst (λ o. IsLinked g.around (with_own false o (own_of c.args.frames.now)) c.enter.new.scopes) c.in_default-entered.is c.in_ok-entered.ensures.linked })
+pub returns-in_default-entered-clause-stands : goal.returns-in_default-entered-clause-stands
+returns-in_default-entered-clause-stands g c =
+    with_ok _ _ c.raises_tag.result
+    (λ w m. record { fits = c.requires.1.0.fits; linked = subst (λ o. IsLinked g.around (with_own false o (own_of c.args.frames.now)) c.enter.new.scopes) c.in_default-entered.is c.in_ok-entered.ensures.linked })
+    c.raises_tag.ensures
+
+pub returns-in_default-entered-clause-left : goal.returns-in_default-entered-clause-left
+returns-in_default-entered-clause-left g c = with_ok _ _ c.raises_tag.result (λ w m. raised_left c.args.nodes.now (inner c.args.frames.now) (error_map ResourceLimitError) w m) c.raises_tag.ensures
 
 pub returns-in_default-entered-clause-moved : goal.returns-in_default-entered-clause-moved
 returns-in_default-entered-clause-moved g c =
@@ -28,10 +37,10 @@ returns-in_default-entered-clause-moved g c =
     let next : next_of (left_view c.args.left) ≡ Some (plain c.in-Some.both.0, left_view c.in-Some.both.1) = sym c.in_ok-found.ensures ∙ ap (option_map (λ (p : Value × Left). (plain p.0, left_view p.1))) c.in-Some.is in
     with_ok _ _ c.raises_tag.result
     (λ w m s d agrees. turn_refused g.around.spots c.args.n c.args.left c.args.index (inner c.args.frames.now) s d h c.args.nodes.now is.node c.args.body.now c.requires.0.resolves is.at is.is (plain c.in-Some.both.0) c.in-Some.both.1 next
-    (held_by g.around c.args.frames.now c.enter.new.scopes) w (local_of g.around c.raises_tag.new.frames c.raises_tag.new.scopes)
+    (held_by g.around c.args.frames.now c.enter.new.scopes) w (local_of g.around c.args.frames.now c.enter.new.scopes)
     (subst (λ (o : Option ℕ). Enters false s o h names (held_of g.around.keys (with_own false o (own_of c.args.frames.now)) (layers_of c.enter.new.scopes))) c.in_default-entered.is (c.in_ok-entered.ensures.entered s agrees))
-    (m s d agrees))
-    c.raises_tag.ensures.moved
+    (raised s (control_of g.around c.args.frames.now) d (held_by g.around c.args.frames.now c.enter.new.scopes) (error_map ResourceLimitError) w m))
+    c.raises_tag.ensures
 
 pub goes-requires-2 : goal.goes-requires-2
 goes-requires-2 g c =
@@ -62,4 +71,4 @@ returns-clause-moved g c s d agrees =
     layer (held_of g.around.keys (own layer false ∷ own_of c.args.frames.now) (layers_of c.enter.new.scopes)) c.goes-2.result (local_of g.around c.goes-2.new.frames c.goes-2.new.scopes) (inner c.push-3.new.self)
     (subst (λ (o : Option ℕ). Enters false s o h names (held_of g.around.keys (with_own false o (own_of c.args.frames.now)) (layers_of c.enter.new.scopes))) c.in-Some-entered.is (c.in_ok-entered.ensures.entered s agrees))
     (c.in_ok-push-3.ensures.pushed ∙ ap (λ fs. frame.Do c.args.n 0 ∷ fs) (c.in_ok-push-2.ensures.pushed ∙ ap (λ fs. frame.Mark layer ∷ fs) c.in_ok-push.ensures.pushed))
-    (subst (λ (os : List Own). IsMove (goes (control g.around.spots (inner c.push-3.new.self)) (standing d (held_of g.around.keys os (layers_of c.enter.new.scopes)))) c.goes-2.result (local_of g.around c.goes-2.new.frames c.goes-2.new.scopes)) owned_is (c.goes-2.ensures.moved d))
+    (subst (λ (os : List Own). IsMove s (goes (control g.around.spots (inner c.push-3.new.self)) (standing d (held_of g.around.keys os (layers_of c.enter.new.scopes)))) c.goes-2.result (local_of g.around c.goes-2.new.frames c.goes-2.new.scopes)) owned_is (c.goes-2.ensures.moved s d))

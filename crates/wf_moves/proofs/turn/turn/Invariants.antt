@@ -5,6 +5,3 @@ ghost-goes g a = g.around
 
 abbrev pub ghost-enter : goal.ghost-enter
 ghost-enter g a = g.around
-
-abbrev pub ghost-raises_tag : goal.ghost-raises_tag
-ghost-raises_tag g a = g.around

@@ -3,7 +3,7 @@ use Rattle.std.specs.Prelude.{◌||◌, Option, slice_get}
 use Rattle.std.proofs.lemmas.Bool.{ltb-true}
 use Rattle.std.proofs.lemmas.Option.{slice_get_read}
 use Rattle.wf_model.specs.Kinds.{by_clock, is_now}
-use Rattle.wf_steps.proofs.Clocked.{either_false, either_true, function_clock, http_asks}
+use Rattle.wf_steps.proofs.Clocked.{either_false, either_true, function_clock, http_asks, nap_reads}
 use Rattle.wf_steps.specs.Built.{IsTarget}
 use Rattle.wf_steps.specs.declared.target.Target.{Target}
 use Rattle.wf_steps.specs.declared.target.Target.TheVariants as target
@@ -27,3 +27,9 @@ returns-in-Http c fs ns x h =
     let found : slice_get c.args.targets.now c.args.n ≡ Some (target.Http c.in-Http.field-0) =
     slice_get_read c.args.targets.now (length c.args.targets.now) c.args.n c.in-Some.target.now refl (ltb-true c.args.n (length c.args.targets.now) (sym c.in-Some.ensures.lookup.0)) c.in-Some.ensures.lookup.1 ∙ ap (λ (t : Target). Some t) c.in-Http.is in
     sym (http_asks fs c.in-Http.field-0 x c.args.clock (subst (λ (o : Option Target). IsTarget fs ns o x) found h))
+
+pub returns-in-Sleeps : goal.returns-in-Sleeps
+returns-in-Sleeps c fs ns x h =
+    let found : slice_get c.args.targets.now c.args.n ≡ Some (target.Sleeps c.in-Sleeps.field-0) =
+    slice_get_read c.args.targets.now (length c.args.targets.now) c.args.n c.in-Some.target.now refl (ltb-true c.args.n (length c.args.targets.now) (sym c.in-Some.ensures.lookup.0)) c.in-Some.ensures.lookup.1 ∙ ap (λ (t : Target). Some t) c.in-Sleeps.is in
+    sym (nap_reads fs c.in-Sleeps.field-0 x c.args.clock (subst (λ (o : Option Target). IsTarget fs ns o x) found h))

@@ -1,7 +1,7 @@
-use Rattle.std.proofs.Common.{◌∷◌, ◌<◌, length, ap, sym, subst, ◌∙◌}
+use Rattle.std.proofs.Common.{◌<◌, length, ap, sym, subst, ◌∙◌}
 use Rattle.std.specs.Prelude.{slice_get}
 use Rattle.std.proofs.lemmas.Option.{get_or_from_slice_get, slice_get_within}
-use Rattle.wf_frames.specs.Frames.{item}
+use Rattle.wf_frames.specs.Frames.{items}
 use Rattle.wf_model.specs.Kinds.{by_clock, next_kind}
 use Rattle.wf_steps.proofs.Clocked.{do_kind, do_plain, entry_kind, entry_plain}
 use Rattle.wf_steps.proofs.Fitting.{entry_below}
@@ -28,13 +28,13 @@ pub returns-in-Some : goal.returns-in-Some
 returns-in-Some g c p k named =
     let b = block_view c.block.result.now in
     let found = ap (λ xs. slice_get xs c.in-Do.at) (sym c.as_slice.ensures.value) ∙ sym c.in-Some.ensures in
-    c.node_kind.ensures p named ∙ sym (ap (λ f. next_kind p (item g.ns f ∷ k)) c.in-Do.is ∙ do_kind g.ns c.args.nodes.now c.in-Do.list c.in-Do.at c.requires.0.resolves p k b c.in-Some.n c.block.ensures found)
+    c.node_kind.ensures p named ∙ sym (ap (λ f. next_kind p (items g.ns f k)) c.in-Do.is ∙ do_kind g.ns c.args.nodes.now c.in-Do.list c.in-Do.at c.requires.0.resolves p k b c.in-Some.n c.block.ensures found)
 
 pub returns-in-None : goal.returns-in-None
 returns-in-None g c p k named =
     let b = block_view c.block.result.now in
     let none = ap (λ xs. slice_get xs c.in-Do.at) (sym c.as_slice.ensures.value) ∙ sym c.in-None.ensures in
-    sym (ap (λ f. next_kind p (item g.ns f ∷ k)) c.in-Do.is ∙ do_plain g.ns c.args.nodes.now c.in-Do.list c.in-Do.at c.requires.0.resolves p k b c.block.ensures none)
+    sym (ap (λ f. next_kind p (items g.ns f k)) c.in-Do.is ∙ do_plain g.ns c.args.nodes.now c.in-Do.list c.in-Do.at c.requires.0.resolves p k b c.block.ensures none)
 
 pub is_entry_at-requires : goal.is_entry_at-requires
 is_entry_at-requires g c =
@@ -50,10 +50,10 @@ returns-in-Some-number_at g c p k named =
     let ns = c.entries.result.now in
     let found = sym c.in-Some-number_at.ensures in
     c.by_clock.ensures ∙ ap by_clock c.is_entry_at.ensures
-    ∙ sym (ap (λ f. next_kind p (item g.ns f ∷ k)) c.in-Entries.is ∙ entry_kind g.ns c.args.nodes.now c.in-Entries.n c.in-Entries.at c.requires.0.resolves p k ns c.in-Some-number_at.entry c.entries.ensures found)
+    ∙ sym (ap (λ f. next_kind p (items g.ns f k)) c.in-Entries.is ∙ entry_kind g.ns c.args.nodes.now c.in-Entries.n c.in-Entries.at c.requires.0.resolves p k ns c.in-Some-number_at.entry c.entries.ensures found)
 
 pub returns-in-None-number_at : goal.returns-in-None-number_at
 returns-in-None-number_at g c p k named =
     let ns = c.entries.result.now in
     let none = sym c.in-None-number_at.ensures in
-    sym (ap (λ f. next_kind p (item g.ns f ∷ k)) c.in-Entries.is ∙ entry_plain g.ns c.args.nodes.now c.in-Entries.n c.in-Entries.at c.requires.0.resolves p k ns c.entries.ensures none)
+    sym (ap (λ f. next_kind p (items g.ns f k)) c.in-Entries.is ∙ entry_plain g.ns c.args.nodes.now c.in-Entries.n c.in-Entries.at c.requires.0.resolves p k ns c.entries.ensures none)

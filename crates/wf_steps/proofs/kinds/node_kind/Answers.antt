@@ -85,7 +85,7 @@ pub returns-in-Call : goal.returns-in-Call
 returns-in-Call g c p named =
     let x = c.index-nodes-n.result in
     let there = node_at c.args.nodes.now c.args.n x c.requires.1 c.index-nodes-n.is in
-    c.call_kind.ensures p.flows g.ns c.in-Call.call.name (named c.args.n x c.in-Call.call there c.in-Call.is)
+    c.call_kind.ensures p.flows g.ns c.in-Call.call.name (named.calls c.args.n x c.in-Call.call there c.in-Call.is)
     ∙ ap (call_kind (flow p.flows c.in-Call.call.name) c.in-Call.call.name) (c.is_clock_named.ensures ∙ ap (λ cs. fields_now (fields (fields_by cs c.in-Call.call.args))) c.items-codes.ensures)
     ∙ sym (body_so g.ns c.args.nodes.now c.args.n x c.requires.0.resolves there p (kind.Call c.in-Call.call) c.in-Call.is)
 

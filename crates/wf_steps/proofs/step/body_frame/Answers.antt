@@ -1,4 +1,5 @@
-use Rattle.std.proofs.Common.{refl, sym, ap, ◌∙◌}
+use Rattle.std.proofs.Common.{◌∷◌, refl, sym, ap, ◌∙◌}
+use Rattle.wf_model.specs.Config.{Item}
 use Rattle.wf_nodes.specs.Spots.{part_body, steps_by}
 use Rattle.wf_nodes.specs.declared.node.NodeKind.TheVariants as kind
 use Rattle.wf_steps.proofs.Fitting.{block_frame}
@@ -7,10 +8,10 @@ use Rattle.wf_steps.proofs.Performed.{block_entered, lone_entered, no_block, no_
 use Rattle.wf_steps.proofs.step.body_frame.Goals as goal
 
 pub returns-in-Block-clause-item : goal.returns-in-Block-clause-item
-returns-in-Block-clause-item g c =
+returns-in-Block-clause-item g c k =
     let x = c.index-nodes-body.result in
     let there = node_at c.args.nodes.now c.args.body x c.requires.1.0 c.index-nodes-body.is in
-    block_entered g.ns c.args.body x.name (steps_by g.ns c.in-Block.field-0.steps.items) x.next (as_part g.ns c.args.nodes.now c.args.body x (kind.Block c.in-Block.field-0) c.requires.0.resolves there c.in-Block.is)
+    ap (λ (i : Item). i ∷ k) (block_entered g.ns c.args.body x.name (steps_by g.ns c.in-Block.field-0.steps.items) x.next (as_part g.ns c.args.nodes.now c.args.body x (kind.Block c.in-Block.field-0) c.requires.0.resolves there c.in-Block.is))
 
 pub returns-in-Block-clause-fits : goal.returns-in-Block-clause-fits
 returns-in-Block-clause-fits g c fs inside =
@@ -23,8 +24,8 @@ returns-in_default g c =
     let x = c.index-nodes-body.result in
     let there = node_at c.args.nodes.now c.args.body x c.requires.1.0 c.index-nodes-body.is in
     record {
-      item = lone_entered g.ns c.args.body (no_next g.ns c.args.nodes.now c.args.body x c.requires.0 there c.requires.1.1)
-          (λ ss e. no_block g.ns x.codes.items.items x.name x.next x.kind c.in_default.not-Block ss (ap part_body (sym (part_is g.ns c.args.nodes.now c.args.body x c.requires.0.resolves there)) ∙ e));
+      item = λ k. ap (λ (i : Item). i ∷ k) (lone_entered g.ns c.args.body (no_next g.ns c.args.nodes.now c.args.body x c.requires.0 there c.requires.1.1)
+          (λ ss e. no_block g.ns x.codes.items.items x.name x.next x.kind c.in_default.not-Block ss (ap part_body (sym (part_is g.ns c.args.nodes.now c.args.body x c.requires.0.resolves there)) ∙ e)));
       fits = λ fs inside. (c.requires.1.0, inside);
       own = refl;
     }

@@ -15,7 +15,7 @@ body_frame-requires g c =
     let t = c.requires.1.0 in
     let stands = tried_stands g.ns c.args.nodes.now c.args.n c.args.tried.now c.requires.0.resolves t in
     let built = try_built c.args.nodes.now c.args.n t.node c.args.tried.now c.requires.0.built t.at t.is in
-    (c.requires.0, (stands.0, built.1))
+    (c.requires.0, (stands.0, built))
 
 pub returns-clause-performed : goal.returns-clause-performed
 returns-clause-performed g c v =

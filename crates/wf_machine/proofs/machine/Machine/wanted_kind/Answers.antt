@@ -10,13 +10,13 @@ kind_of-requires c =
     let m = c.args.self.now in
     (tells_of m.program m.built, (stands_now m c.in-Some.task c.in-Some.is).fits)
 
-pub returns-in-None-clause-some : goal.returns-in-None-clause-some
-returns-in-None-clause-some c =
+pub returns-then-is_awake-clause-some : goal.returns-then-is_awake-clause-some
+returns-then-is_awake-clause-some c =
     let m = c.args.self.now in
     record {
       task = c.in-Some.task;
       is = c.in-Some.is;
       running = runs m.ending (sym c.is_running.ensures ∙ c.if-not-is_running.false);
-      awake = sym c.call.ensures ∙ c.in-None.is;
+      awake = sym c.if-is_awake.ensures;
       wanted = sym (c.kind_of.ensures (program_of m.program) (subst (Aims (program_of m.program) (nodes_of m.program)) (sym c.as_slice.ensures.value) m.aims));
     }

@@ -1,28 +1,55 @@
 use Rattle.std.proofs.Common.{sym, subst}
 use Rattle.wf_frames.specs.Frames.{inner}
 use Rattle.wf_frames.specs.Owned.{control_of, local_of}
-use Rattle.wf_moves.proofs.Waiting.{sent_on, went_left, went_on}
-use Rattle.wf_moves.specs.Stepped.{stepped_at}
-use Rattle.wf_moves.specs.Tasks.{IsDone, IsLeftSo, Stays}
-use Rattle.wf_moves.specs.declared.task.Task.{Task}
+use Rattle.wf_moves.proofs.Waiting.{awake_local}
+use Rattle.wf_moves.specs.Moved.{IsMove, IsWent}
+use Rattle.wf_moves.specs.Stepped.{stepped, stepped_at}
+use Rattle.wf_moves.specs.Tasks.{IsDone, IsLeftSo, IsRequest, MovesSo}
+use Rattle.wf_moves.specs.Waits.{task_local, wait_view}
+use Rattle.wf_steps.proofs.Performed.{with_ok}
 use Rattle.wf_moves.proofs.task.Task.advance.Goals as goal
 
+pub follow-requires : goal.follow-requires
+follow-requires g c = (
+  c.requires.0,
+  (
+    c.requires.1.0,
+    (c.in_ok-done.ensures.stands, (subst (λ x. IsLeftSo c.args.nodes.now x (inner c.advance.new.frames)) c.in-Went.is c.in_ok-done.ensures.left, c.requires.1.1.1.1)),
+  ),
+)
+
 pub returns-in-Went-clause-moved : goal.returns-in-Went-clause-moved
-returns-in-Went-clause-moved g c s sees reaches agrees =
+returns-in-Went-clause-moved g c =
+    let w = c.args.self.now.wait in
+    let old = c.args.self.now.frames in
+    let mid = c.advance.new.frames in
+    let awake = c.requires.1.1.1.1 in
+    with_ok _ _ c.follow.result
+    (λ d h s sees reaches agrees.
+    subst (λ l. MovesSo (stepped s l) d (task_local g.around c.follow.new.self c.follow.new.scopes)) (sym (awake_local g.around w old c.args.scopes.now awake))
+    (h s (stepped s (local_of g.around old c.args.scopes.now)) sees agrees
+    (subst (λ l. IsMove s (stepped s (local_of g.around old c.args.scopes.now)) c.in-Went.went l) (sym (awake_local g.around w mid c.advance.new.scopes awake))
+    (subst (λ x. IsDone g.around s (stepped_at s (control_of g.around old) (local_of g.around old c.args.scopes.now)) x (local_of g.around mid c.advance.new.scopes)) c.in-Went.is (c.in_ok-done.ensures.moved s (control_of g.around old) sees reaches agrees)))))
+    c.follow.ensures.moved
+
+pub returns-in-Waits-clause-moved : goal.returns-in-Waits-clause-moved
+returns-in-Waits-clause-moved g c s sees reaches agrees =
+    let w = c.args.self.now.wait in
     let old = c.args.self.now.frames in
     let new = c.advance.new.frames in
-    went_on g.around s c.args.self.now.wait old new c.args.scopes.now c.advance.new.scopes c.in-Went.went c.move_of.result c.requires.1.1.1.1 c.move_of.ensures
-    (subst (λ x. IsDone g.around (stepped_at s (control_of g.around old) (local_of g.around old c.args.scopes.now)) x (local_of g.around new c.advance.new.scopes)) c.in-Went.is (c.in_ok-went.ensures.moved s (control_of g.around old) sees reaches agrees))
+    subst (λ l. IsWent (stepped s l) (record (local_of g.around new c.advance.new.scopes) { wait = wait_view g.around c.in-Waits.wait })) (sym (awake_local g.around w old c.args.scopes.now c.requires.1.1.1.1))
+    (subst (λ x. IsDone g.around s (stepped_at s (control_of g.around old) (local_of g.around old c.args.scopes.now)) x (local_of g.around new c.advance.new.scopes)) c.in-Waits.is (c.in_ok-done.ensures.moved s (control_of g.around old) sees reaches agrees))
 
-pub returns-in-Went-clause-left : goal.returns-in-Went-clause-left
-returns-in-Went-clause-left g c =
-    let t : Task = record { alloc = c.args.self.now.alloc; frames = c.advance.new.frames; wait = c.args.self.now.wait } in
-    subst (λ m. Stays c.args.nodes.now m t) (sym c.move_of.ensures)
-    (went_left c.args.nodes.now c.in-Went.went t c.requires.1.1.1.1 (subst (λ x. IsLeftSo c.args.nodes.now x (inner c.advance.new.frames)) c.in-Went.is c.in_ok-went.ensures.left))
+pub returns-in-Waits-clause-left : goal.returns-in-Waits-clause-left
+returns-in-Waits-clause-left g c = subst (λ x. IsLeftSo c.args.nodes.now x (inner c.advance.new.frames)) c.in-Waits.is c.in_ok-done.ensures.left
 
 pub returns-in-Sent-clause-moved : goal.returns-in-Sent-clause-moved
 returns-in-Sent-clause-moved g c s sees reaches agrees =
+    let w = c.args.self.now.wait in
     let old = c.args.self.now.frames in
     let new = c.advance.new.frames in
-    sent_on g.around s c.args.self.now.wait old new c.args.scopes.now c.advance.new.scopes c.in-Sent.sent c.requires.1.1.1.1 c.in-Sent.wait
-    (subst (λ x. IsDone g.around (stepped_at s (control_of g.around old) (local_of g.around old c.args.scopes.now)) x (local_of g.around new c.advance.new.scopes)) c.in-Sent.is (c.in_ok-went.ensures.moved s (control_of g.around old) sees reaches agrees))
+    subst (λ l. IsRequest (stepped s l) c.in-Sent.sent (record (local_of g.around new c.advance.new.scopes) { wait = wait_view g.around c.in-Sent.wait })) (sym (awake_local g.around w old c.args.scopes.now c.requires.1.1.1.1))
+    (subst (λ x. IsDone g.around s (stepped_at s (control_of g.around old) (local_of g.around old c.args.scopes.now)) x (local_of g.around new c.advance.new.scopes)) c.in-Sent.is (c.in_ok-done.ensures.moved s (control_of g.around old) sees reaches agrees))
+
+pub returns-in-Sent-clause-left : goal.returns-in-Sent-clause-left
+returns-in-Sent-clause-left g c = subst (λ x. IsLeftSo c.args.nodes.now x (inner c.advance.new.frames)) c.in-Sent.is c.in_ok-done.ensures.left

@@ -1,9 +1,40 @@
-use Rattle.std.proofs.Common.{subst}
-use Rattle.wf_frames.specs.Frames.{inner}
-use Rattle.wf_moves.proofs.Waiting.{call_there}
-use Rattle.wf_moves.specs.Waits.{GoesFrom}
+use Rattle.std.proofs.Common.{Some, refl, sym, ap, subst, ◌∙◌, true}
+use Rattle.std.specs.Prelude.{Option, Result}
+use Rattle.wf_frames.specs.Frames.{inner, result_of}
+use Rattle.wf_frames.specs.Owned.{control_of, held_by, local_of}
+use Rattle.wf_model.specs.Leave.{handed, raises}
+use Rattle.wf_moves.proofs.Raised.{raised_so}
+use Rattle.wf_moves.specs.Tasks.{MovesSo}
+use Rattle.wf_moves.specs.Waits.{GoesFrom, answer_view, result_in, task_local}
+use Rattle.wf_steps.proofs.Performed.{with_ok}
+use Rattle.wf_value.specs.Data.{Data}
+use Rattle.wf_value.specs.Pairs.{Text}
+use Rattle.wf_value.specs.Plain.{plain}
 use Rattle.wf_moves.proofs.task.Task.go_on.Goals as goal
 
-pub give-requires : goal.give-requires
-give-requires g c =
-    (c.requires.0, (c.requires.1.0, call_there c.args.nodes.now c.in-Calling.node (subst (λ w. GoesFrom c.args.nodes.now w (inner c.args.self.now.frames)) c.in-Calling.is c.requires.1.1.0)))
+pub gives-requires : goal.gives-requires
+gives-requires g c =
+    (c.requires.0, (c.requires.1.0, (c.requires.1.1.0, (subst (λ w. GoesFrom c.args.nodes.now w (inner c.args.self.now.frames)) c.in-Calling.is c.requires.1.1.1.0, refl))))
+
+pub returns-in-Ok-clause-moved : goal.returns-in-Ok-clause-moved
+returns-in-Ok-clause-moved g c =
+    let old = c.args.self.now.frames in
+    let k = control_of g.around old in
+    let l = local_of g.around old c.args.scopes.now in
+    with_ok _ _ c.gives.result
+    (λ d h s sees agrees.
+    subst (λ (r : Option Text). MovesSo (handed s r (answer_view c.args.with) k l) d (task_local g.around c.gives.new.self c.gives.new.scopes)) (sym (ap (result_in g.around) c.in-Calling.is))
+    (subst (λ (x : Result Data Data). MovesSo (handed s (result_of g.around.spots (Some c.in-Calling.node)) x k l) d (task_local g.around c.gives.new.self c.gives.new.scopes)) (sym (ap answer_view c.in-Ok.is)) (h s sees agrees)))
+    c.gives.ensures.moved
+
+pub returns-in-Err-clause-moved : goal.returns-in-Err-clause-moved
+returns-in-Err-clause-moved g c =
+    let old = c.args.self.now.frames in
+    let k = control_of g.around old in
+    let l = local_of g.around old c.args.scopes.now in
+    let h0 = held_by g.around old c.args.scopes.now in
+    with_ok _ _ c.follow.result
+    (λ d h s sees agrees.
+    subst (λ (x : Result Data Data). MovesSo (handed s (result_in g.around c.args.self.now.wait) x k l) d (task_local g.around c.follow.new.self c.follow.new.scopes)) (sym (ap answer_view c.in-Err.is))
+    (h s (raises s k l (plain c.in-Err.error)) sees agrees (raised_so s k k h0 c.in-Err.error (raises s k l (plain c.in-Err.error)) refl)))
+    c.follow.ensures.moved
