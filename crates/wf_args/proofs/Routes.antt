@@ -1,6 +1,6 @@
 -- The words of one option, and the routes of a line.
 use Rattle.std.proofs.Common.{◌≡◌, ◌+◌, ◌<◌, ◌≤◌, ℕ, suc, zero, Bool, true, false, cond, List, [], ◌∷◌, length, Option, Some, None, refl, sym, ap, ◌∙◌, subst, arith, String, Global}
-use Rattle.std.specs.Prelude.{◌&&◌, bytes_eq, is_ok, is_some, option_and_then, slice_get, unwrap_or, if◌then◌else◌}
+use Rattle.std.specs.Prelude.{is_ok, is_some, option_and_then, slice_get, unwrap_or, if◌then◌else◌}
 use Rattle.std.specs.List.{cons_option, filter_map, list_all}
 use Rattle.std.specs.Option.{IfSome, option_map, option_map_or}
 use Rattle.std.proofs.lemmas.Bool.{and_from, and_parts}
@@ -65,14 +65,15 @@ fewer f (x ∷ xs) = more (f x) (filter_map f xs) (fewer f xs)
 -- where each word gives something, they give it in their order
 each_gives : {X Y : Type 0} (f : X → Option Y) (xs : List X) (k : ℕ) → list_all (λ x. is_some (f x)) xs ≡ true → slice_get (filter_map f xs) k ≡ option_and_then f (slice_get xs k)
 each_gives f [] k all = refl
-each_gives f (x ∷ xs) k all =
+each_gives {X} {Y} f (x ∷ xs) k all =
     let parts = and_parts (is_some (f x)) (list_all (λ x. is_some (f x)) xs) all in
-    at (f x) refl k parts.0
+    gives_on (λ j. each_gives f xs j parts.1) k (f x) refl parts.0
   where
-    at : (o : Option _) → f x ≡ o → (k : ℕ) → is_some o ≡ true → slice_get (cons_option o (filter_map f xs)) k ≡ option_and_then f (slice_get (x ∷ xs) k)
-    at None gives k some = absurd (grind (arith, some))
-    at (Some y) gives zero some = sym gives
-    at (Some y) gives (suc k) some = each_gives f xs k (and_parts (is_some (f x)) (list_all (λ x. is_some (f x)) xs) all).1
+    gives_on : ((j : ℕ) → slice_get (filter_map f xs) j ≡ option_and_then f (slice_get xs j)) → (k : ℕ) (o : Option Y) → f x ≡ o → is_some o ≡ true
+        → slice_get (cons_option o (filter_map f xs)) k ≡ option_and_then f (slice_get (x ∷ xs) k)
+    gives_on rest k None gives some = absurd (grind (arith, some))
+    gives_on rest zero (Some y) gives some = sym gives
+    gives_on rest (suc k) (Some y) gives some = rest k
 
 pub few_routes : (l : PlainLine) → IsLine l → length (routes_of l) ≤ 20
 few_routes l is =
@@ -86,7 +87,7 @@ routes_in_order l k is = each_gives route_in (all_words Route l.options) k (word
 -- what is read as a route is one
 pub read_is_route : (word : List ℕ) (r : Option RouteParts) → option_map plain_route r ≡ route_in word → IfSome r (λ r. IsRoute (plain_route r))
 read_is_route word None is = tt
-read_is_route word (Some r) is = (route_tells word (plain_route r) (sym is)).1.0
+read_is_route word (Some r) is = (route_tells word (plain_route r) (sym is)).1
 
 -- what stands behind a name of a line that was read is what the line has
 pub nth_route : (c : Command) (words : List (List ℕ)) (k : ℕ) (o : Option (List ℕ)) → is_ok (options_at c 1 [] words) ≡ true → o ≡ slice_get (words_after (name_word Route) words) k

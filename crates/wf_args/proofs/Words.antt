@@ -1,6 +1,6 @@
 -- Numbers and routes, and the words that spell them.
-use Rattle.std.proofs.Common.{◌≡◌, ◌+◌, ◌-◌, ◌*◌, ◌<◌, ◌≤◌, ◌^◌, ℕ, suc, Bool, true, false, cond, List, [], ◌∷◌, ◌++◌, length, take, drop, get_or, Option, Some, None, Result, Ok, refl, sym, ap, ◌∙◌, subst, arith, length-drop, length-take, length-append}
-use Rattle.std.specs.Prelude.{not, ◌&&◌, ◌==◌, nat_lt, nat_le, if◌then◌else◌, codes, decimal, slice_index, ◌↔◌}
+use Rattle.std.proofs.Common.{◌≡◌, ◌≢◌, ◌+◌, ◌-◌, ◌*◌, ◌<◌, ◌≤◌, ◌^◌, ℕ, suc, Bool, true, false, cond, List, [], ◌∷◌, ◌++◌, append_assoc, length, take, drop, get_or, Option, Some, None, Result, Ok, Err, refl, sym, ap, ◌∙◌, subst, arith, length-drop, length-take, length-append}
+use Rattle.std.specs.Prelude.{not, ◌&&◌, ◌==◌, nat_lt, nat_le, if◌then◌else◌, decimal, slice_index}
 use Rattle.std.specs.Char.{digit_value, is_ascii_digit}
 use Rattle.std.specs.List.{list_all, before_first, after_first, position_or_len, prefix_len, take_while}
 use Rattle.std.specs.Option.{option_map}
@@ -14,7 +14,7 @@ use Rattle.std.proofs.lemmas.Fmt.{decimal-digits_value, digits_decimal, digits_v
 use Rattle.std.proofs.lemmas.List.Sums.{passes_at_first, split_at_first, take_while-cons}
 use Rattle.std.proofs.lemmas.Str.Parse.{IsNumeralModel, digits_value-take-le, numerals_by_value, parse_plain, tells_all_ascii_digits}
 use Rattle.wf_args.specs.Laws.{IsRoute, NumbersAreSpelled, RoutesAreSpelled, has_no, route_word}
-use Rattle.wf_args.specs.Lines.{PlainRoute, has_names, host_in, is_colon, is_equals, longest_word, name_in, number_to, port_in, route_in}
+use Rattle.wf_args.specs.Lines.{PlainRoute, host_in, is_colon, is_equals, longest_word, name_in, number_to, port_in, route_in}
 
 -- ## Numbers
 pub own : IsNumeralModel (λ ds. all_ascii_digits ds ≡ true) (digits_value 10)
@@ -96,17 +96,32 @@ pub parsed_number : {E : Type 0} (word : List ℕ) (r : Result ℕ E) (n : ℕ) 
 parsed_number word r n parses no_plus no_zero is =
     let told = subst (λ r. OkIff r ((all_ascii_digits word ≡ true) × (0 < length word) × (digits_value 10 word < 2 ^ 32)) (digits_value 10 word)) is
     (parse_plain own 32 word r parses (λ plus. eqb-false (slice_index word 0) 43 no_plus plus)) in
-    (told.0.0, first_is_more word told.0.0 told.0.1.0 no_zero, told.1)
+    (told.0.0, first_is_more word told.0.0 told.0.1 no_zero, told.1)
 
 pub number_parsed : (greatest : ℕ) (word : List ℕ) (n : ℕ) → (all_ascii_digits word ≡ true) × (48 < slice_index word 0) × (n ≡ digits_value 10 word) → (if nat_le n greatest then Some n else None) ≡ number_to greatest word
 number_parsed greatest word n (digits, first, value) =
     (λ i. if nat_le (value i) greatest then Some (value i) else None)
     ∙ ap (λ (t : Bool). if t && nat_le (digits_value 10 word) greatest then Some (digits_value 10 word) else None) (sym (and_from (all_ascii_digits word) (nat_lt 48 (slice_index word 0)) digits (lt-ltb 48 (slice_index word 0) first)))
 
+-- and what it doesn't read is no number
+none_through : {X : Type 0} (b : Bool) (x : X) → ¬ (b ≡ true) → ◌≡◌ {A = Option X} None (if b then Some x else None)
+none_through true x never = absurd (never refl)
+none_through false x never = refl
+
+pub number_not_parsed : {E : Type 0} (greatest : ℕ) (word : List ℕ) (r : Result ℕ E) (e : E) → greatest < 2 ^ 32 → ParsesUnsigned 32 10 word r → (slice_index word 0 == 43) ≡ false → r ≡ Err e → None ≡ number_to greatest word
+number_not_parsed greatest word r e few parses no_plus is =
+    let told = subst (λ r. OkIff r ((all_ascii_digits word ≡ true) × (0 < length word) × (digits_value 10 word < 2 ^ 32)) (digits_value 10 word)) is
+    (parse_plain own 32 word r parses (λ plus. eqb-false (slice_index word 0) 43 no_plus plus)) in
+    none_through (passes_to greatest word) (digits_value 10 word)
+    (λ passes.
+    let n = number_tells greatest word (digits_value 10 word) (ap (λ (t : Bool). if t then Some (digits_value 10 word) else None) passes) in
+    let small = n.small in
+    told (n.digits, some_bytes word n.first, omega (arith, small, few)))
+
 pub numbers_are_spelled : NumbersAreSpelled
 numbers_are_spelled greatest few word n = (
   (λ is. let t = number_tells greatest word n is in (number_written greatest word n few t, t.some, t.small)),
-  (λ h. ap (number_to greatest) h.0 ∙ number_read greatest n few h.1.0 h.1.1),
+  (λ h. ap (number_to greatest) h.0 ∙ number_read greatest n few h.1 h.2),
 )
 
 -- ## Cutting at the first of a byte
@@ -148,7 +163,7 @@ cut c word some =
 -- ## Routes
 -- what a test lets through of a number
 through_option : {X Y : Type 0} (b : Bool) (f : X → Y) (o : Option X) (y : Y) → (if b then option_map f o else None) ≡ Some y → (b ≡ true) × ((x : X) × (o ≡ Some x) × (f x ≡ y))
-through_option true f (Some x) y is = (refl, x, refl, grind (arith, is))
+through_option true f (Some x) y is = (refl, (x, refl, grind (arith, is)))
 through_option true f None y is = absurd (grind (arith, is))
 through_option false f o y is = absurd (grind (arith, is))
 
@@ -162,10 +177,10 @@ abbrev made : ℕ → List ℕ → List ℕ → List ℕ → Option PlainRoute
 made long host name digits =
     if names_pass long host name then option_map (λ port. record { host = host; name = name; port = port }) (number_to 65535 digits) else None
 
-record Names (long : ℕ) (host name : List ℕ) : Type 0 where
+pub record Names (long : ℕ) (host name : List ℕ) : Type 0 where
   pub short : long ≤ longest_word
-  pub host : 0 < length host
-  pub name : 0 < length name
+  pub host_some : 0 < length host
+  pub name_some : 0 < length name
   pub no_equals : has_no 61 name ≡ true
 
 names_tell : (long : ℕ) (host name : List ℕ) → names_pass long host name ≡ true → Names long host name
@@ -175,56 +190,83 @@ names_tell long host name is =
     let three = and_parts (nat_lt 0 (length host)) (nat_lt 0 (length name)) two.0 in
     record {
       short = leb-true long longest_word one.0;
-      host = ltb-true 0 (length host) three.0;
-      name = ltb-true 0 (length name) three.1;
+      host_some = ltb-true 0 (length host) three.0;
+      name_some = ltb-true 0 (length name) three.1;
       no_equals = two.1;
     }
 
 names_yes : (long : ℕ) (host name : List ℕ) → Names long host name → names_pass long host name ≡ true
 names_yes long host name n =
-    and_from _ _ (le-leb long longest_word n.short) (and_from _ _ (and_from _ _ (lt-ltb 0 (length host) n.host) (lt-ltb 0 (length name) n.name)) n.no_equals)
+    and_from _ _ (le-leb long longest_word n.short) (and_from _ _ (and_from _ _ (lt-ltb 0 (length host) n.host_some) (lt-ltb 0 (length name) n.name_some)) n.no_equals)
 
 abbrev to_in : List ℕ → List ℕ
 to_in word = after_first is_equals word
+
+-- the word of a route, with its two signs
+spelled_out : (r : PlainRoute) → route_word r ≡ r.host ++ 61 ∷ (r.name ++ 58 ∷ decimal r.port)
+spelled_out r =
+    append_assoc (r.host ++ 61 ∷ [] ++ r.name) (58 ∷ []) (decimal r.port)
+    ∙ append_assoc (r.host ++ 61 ∷ []) r.name (58 ∷ decimal r.port)
+    ∙ append_assoc r.host (61 ∷ []) (r.name ++ 58 ∷ decimal r.port)
 
 pub route_tells : (word : List ℕ) (r : PlainRoute) → route_in word ≡ Some r → (word ≡ route_word r) × IsRoute r × (length word ≤ longest_word)
 route_tells word r is =
     let through = through_option (names_pass (length word) (host_in word) (name_in word)) (λ port. record { host = host_in word; name = name_in word; port = port }) (number_to 65535 (port_in word)) r is in
     let port = through.1.0 in
     let names = names_tell (length word) (host_in word) (name_in word) through.0 in
-    let number = number_tells 65535 (port_in word) port through.1.1.0 in
-    let name_some : 0 < length (name_in word) = names.name in
+    let number = number_tells 65535 (port_in word) port through.1.1 in
+    let name_some : 0 < length (name_in word) = names.name_some in
     let name_short : length (name_in word) ≤ length (to_in word) = before_short 58 (to_in word) in
     let to_some : 0 < length (to_in word) = omega (arith, name_some, name_short) in
     let behind : word ≡ host_in word ++ 61 ∷ to_in word = cut 61 word to_some in
     let port_some : 0 < length (port_in word) = some_bytes (port_in word) number.first in
     let ends : to_in word ≡ name_in word ++ 58 ∷ port_in word = cut 58 (to_in word) port_some in
     let digits : port_in word ≡ decimal port = number_written 65535 (port_in word) port (omega arith) number in
-    let spelled : word ≡ host_in word ++ 61 ∷ name_in word ++ 58 ∷ decimal port = behind ∙ ap (λ s. host_in word ++ 61 ∷ s) (ends ∙ ap (λ ds. name_in word ++ 58 ∷ ds) digits) in
-    let long : length word ≡ length (host_in word) + suc (length (name_in word ++ 58 ∷ decimal port)) = ap length spelled ∙ length-append (host_in word) (61 ∷ name_in word ++ 58 ∷ decimal port) in
+    let spelled : word ≡ host_in word ++ 61 ∷ (name_in word ++ 58 ∷ decimal port) = behind ∙ ap (λ s. host_in word ++ 61 ∷ s) (ends ∙ ap (λ ds. name_in word ++ 58 ∷ ds) digits) in
+    let long : length word ≡ length (host_in word) + suc (length (name_in word ++ 58 ∷ decimal port)) = ap length spelled ∙ length-append (host_in word) (61 ∷ (name_in word ++ 58 ∷ decimal port)) in
     let long_name : length (name_in word ++ 58 ∷ decimal port) ≡ length (name_in word) + suc (length (decimal port)) = length-append (name_in word) (58 ∷ decimal port) in
     let within : length word ≤ longest_word = names.short in
     let both : length (host_in word) + length (name_in word) < longest_word = omega (arith, long, long_name, within) in
     let made_of : IsRoute (record { host = host_in word; name = name_in word; port = port }) =
     record {
-      host = (names.host, none_before 61 word);
-      name = (names.name, names.no_equals, none_before 58 (to_in word));
+      host = (names.host_some, none_before 61 word);
+      name = (names.name_some, names.no_equals, none_before 58 (to_in word));
       port = (number.some, number.small);
       short = both;
     } in
-    subst (λ r. (word ≡ route_word r) × IsRoute r × (length word ≤ longest_word)) through.1.1.1 (spelled, made_of, within)
+    subst (λ r. (word ≡ route_word r) × IsRoute r × (length word ≤ longest_word)) through.1.2 (spelled ∙ sym (spelled_out (record { host = host_in word; name = name_in word; port = port })), made_of, within)
+
+-- where no place holds it, there is none
+pub none_by_places : (c : ℕ) (word : List ℕ) → ((k : ℕ) → k < length word → get_or word k 0 ≢ c) → has_no c word ≡ true
+none_by_places c [] none = refl
+none_by_places c (b ∷ word) none =
+    none_with (b == c) refl (none_by_places c word (λ k below same. none (suc k) (omega (arith, below)) same))
+  where
+    none_with : (t : Bool) → (b == c) ≡ t → has_no c word ≡ true → (not (b == c) && has_no c word) ≡ true
+    none_with true is rest = absurd (none 0 (omega arith) (eqb-true b c is))
+    none_with false is rest = and_from (not (b == c)) (has_no c word) (ap not is) rest
+
+-- the parts that are cut make the route
+pub parts_are_route : (word host to name digits : List ℕ) (port : ℕ) → host ≡ host_in word → to ≡ to_in word → name ≡ before_first is_colon to → digits ≡ after_first is_colon to
+    → Names (length word) host name → Some port ≡ number_to 65535 digits → Some (record { host = host; name = name; port = port }) ≡ route_in word
+parts_are_route word host to name digits port host_is to_is name_is digits_is names number =
+    let name_cut : name ≡ name_in word = name_is ∙ ap (before_first is_colon) to_is in
+    let digits_cut : digits ≡ port_in word = digits_is ∙ ap (after_first is_colon) to_is in
+    ap (option_map (λ port. record { host = host; name = name; port = port })) number
+    ∙ ap (λ (t : Bool). if t then option_map (λ port. record { host = host; name = name; port = port }) (number_to 65535 digits) else None) (sym (names_yes (length word) host name names))
+    ∙ (λ i. made (length word) (host_is i) (name_cut i) (digits_cut i))
 
 pub route_read : (r : PlainRoute) → IsRoute r → length (route_word r) ≤ longest_word → route_in (route_word r) ≡ Some r
 route_read r is short =
-    let host : host_in (route_word r) ≡ r.host = before_is 61 r.host (r.name ++ 58 ∷ decimal r.port) is.host.1 in
-    let rest : after_first is_equals (route_word r) ≡ r.name ++ 58 ∷ decimal r.port = after_is 61 r.host (r.name ++ 58 ∷ decimal r.port) is.host.1 in
-    let name : name_in (route_word r) ≡ r.name = ap (before_first is_colon) rest ∙ before_is 58 r.name (decimal r.port) is.name.1.1 in
-    let digits : port_in (route_word r) ≡ decimal r.port = ap (after_first is_colon) rest ∙ after_is 58 r.name (decimal r.port) is.name.1.1 in
-    let names = names_yes (length (route_word r)) r.host r.name (record { short = short; host = is.host.0; name = is.name.0; no_equals = is.name.1.0 }) in
+    let host : host_in (route_word r) ≡ r.host = ap host_in (spelled_out r) ∙ before_is 61 r.host (r.name ++ 58 ∷ decimal r.port) is.host.1 in
+    let rest : to_in (route_word r) ≡ r.name ++ 58 ∷ decimal r.port = ap to_in (spelled_out r) ∙ after_is 61 r.host (r.name ++ 58 ∷ decimal r.port) is.host.1 in
+    let name : name_in (route_word r) ≡ r.name = ap (before_first is_colon) rest ∙ before_is 58 r.name (decimal r.port) is.name.2 in
+    let digits : port_in (route_word r) ≡ decimal r.port = ap (after_first is_colon) rest ∙ after_is 58 r.name (decimal r.port) is.name.2 in
+    let names = names_yes (length (route_word r)) r.host r.name (record { short = short; host_some = is.host.0; name_some = is.name.0; no_equals = is.name.1 }) in
     (λ i. made (length (route_word r)) (host i) (name i) (digits i))
     ∙ ap (λ (t : Bool). if t then option_map (λ port. record { host = r.host; name = r.name; port = port }) (number_to 65535 (decimal r.port)) else None) names
     ∙ ap (option_map (λ port. record { host = r.host; name = r.name; port = port })) (number_read 65535 r.port (omega arith) is.port.0 is.port.1)
 
 pub routes_are_spelled : RoutesAreSpelled
 routes_are_spelled word r =
-    (route_tells word r, (λ h. ap route_in h.0 ∙ route_read r h.1.0 (subst (λ w. length w ≤ longest_word) h.0 h.1.1)))
+    (route_tells word r, (λ h. ap route_in h.0 ∙ route_read r h.1 (subst (λ w. length w ≤ longest_word) h.0 h.2)))

@@ -1,5 +1,5 @@
 -- Laws of command lines.
-use Rattle.std.specs.Prelude.{◌≡◌, ◌<◌, ◌≤◌, ◌+◌, ◌⊎◌, ◌↔◌, ℕ, suc, not, ◌==◌, List, [], ◌∷◌, ◌++◌, length, take, flat_map, IsTrue, Some, Result, Ok, Err, codes, decimal, ◌^◌}
+use Rattle.std.specs.Prelude.{◌≡◌, ◌<◌, ◌≤◌, ◌+◌, ◌⊎◌, ◌↔◌, ℕ, suc, Bool, not, ◌==◌, List, [], ◌∷◌, ◌++◌, length, take, flat_map, IsTrue, Some, Result, Ok, Err, codes, decimal, ◌^◌}
 use Rattle.std.specs.List.{list_all, list_any}
 use Rattle.wf_args.specs.declared.option.OptionName.{OptionName}
 use Rattle.wf_args.specs.Lines.{PlainLine, PlainRoute, line_of, command_word, name_word, options_of, most, is_word, same_name, count, is_complete, word_of, word_behind, longest_word, number_to, route_in}

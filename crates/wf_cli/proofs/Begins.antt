@@ -135,6 +135,13 @@ module _ (O : Outside) (s : Scene) (old mid new : World) (t : ℕ) (payload : Li
 
   fault_of : (f : EngineFault) → Clauses O mid new t payload (Err f) → FaultHolds the_language s f
   fault_of engine.DiskFault k = tt
+  fault_of engine.PollFault k = absurd (none k.only)
+    where
+      none : (engine.PollFault ≡ engine.DiskFault) ⊎ (engine.PollFault ≡ engine.NotAJournal) ⊎ (engine.PollFault ≡ engine.AlreadyStarted) ⊎ (engine.PollFault ≡ engine.OutOfMemory) → ⊥
+      none (inl is) = cc is
+      none (inr (inl is)) = cc is
+      none (inr (inr (inl is))) = cc is
+      none (inr (inr (inr is))) = cc is
   fault_of engine.NotAJournal k =
       let why = subst (λ f. (5 ≤ length f) × (take 4 f ≢ magic)) found_is (k.not_a_journal refl) in
       ((run_uses s line, why.0, why.1), passed_magic the_language s)

@@ -2,7 +2,7 @@
 use Rattle.std.proofs.Common.{◌≡◌, ◌⊎◌, inl, inr, IsTrue, ℕ, false, List, refl, subst}
 use Rattle.wf_cli.proofs.Causes.{not_both, executing, Cause, gives_cause}
 use Rattle.wf_cli.proofs.Rows.{suspended_row}
-use Rattle.wf_cli.specs.Top.{Call, IsLineOf, IsOfFile, Says, bad_line, bad_argument, refused, reported, of_file, Ends, said, cut, unread, failed, no_memory, HasNoCause, Completes}
+use Rattle.wf_cli.specs.Top.{Call, IsLineOf, IsOfFile, Says, bad_line, bad_argument, refused, reported, of_file, Ends, said, cut, unread, failed, unheard, no_memory, HasNoCause, Completes}
 use Rattle.wf_engine.specs.Printed.{executes}
 use Rattle.wf_engine.specs.TheLanguage.{the_language}
 use Rattle.wf_args.specs.Lines.{line_of}
@@ -47,6 +47,7 @@ module _ (x : Call) (none : HasNoCause the_language x) where
   said_or_lacks P so (cut st text is says (inr took) some) = absurd (none.took took)
   said_or_lacks P so (unread is line fine rose prints) = absurd (none.reads rose)
   said_or_lacks P so (failed is line accepted rose prints) = absurd (none.disk rose)
+  said_or_lacks P so (unheard is line accepted passed rose prints) = absurd (none.polls rose)
   said_or_lacks P so (no_memory is prints) = inr is
 
 four : {A B C D : Type 0} → (A ⊎ B ⊎ C) ⊎ D → A ⊎ B ⊎ C ⊎ D

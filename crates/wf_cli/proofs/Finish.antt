@@ -11,7 +11,7 @@ use Rattle.wf_cli.proofs.Safe.{IsPlainEnd, plain_end, MayEndBy, IsFront, gives_b
 use Rattle.wf_cli.proofs.Together.{where_told, when_told}
 use Rattle.wf_cli.specs.Reports.{the_reports}
 use Rattle.wf_cli.specs.Said.{IsEnd, Worked, DoneSilently, LateNow, MayEndNow, Unwritten, Tells, Printing, silent_status, text_of}
-use Rattle.wf_cli.specs.Top.{Call, IsRefused, IsBehindSync, IsPrint, Gives, Says, bad_line, bad_argument, refused, reported, of_file, Ends, said, cut, unread, failed, no_memory, Prints, PrintsSome, TookNothing, FinishedStays, RefusedStays, ReportsStay, SilentStays, SafeThroughout, SafeAtEnd, LateAtEnd, WritesNothing}
+use Rattle.wf_cli.specs.Top.{Call, IsRefused, IsBehindSync, IsPrint, Gives, Says, bad_line, bad_argument, refused, reported, of_file, Ends, said, cut, unread, failed, unheard, no_memory, Prints, PrintsSome, TookNothing, FinishedStays, RefusedStays, ReportsStay, SilentStays, SafeThroughout, SafeAtEnd, LateAtEnd, WritesNothing}
 use Rattle.wf_cli.specs.declared.end.Said.{Said}
 use Rattle.wf_cli.specs.declared.end.Silence.{Silence}
 use Rattle.wf_cli.specs.declared.end.Silence.TheVariants as silence
@@ -119,6 +119,8 @@ module _ (x : Call) (mid : World) (reads2 : ℕ) (faults2 : Faults) (tells : mid
   ends (Err silence.Unread) is did (same, none) seen reads before after = unread same is.0 is.1 (rose_by x.reads_old reads2 x.reads_new is.2 reads) (nothing did none)
   ends (Err silence.DiskFault) is did (same, none) seen reads before after =
       failed same is.0 is.1 (rose_by x.faults_old.disk faults2.disk x.faults_new.disk is.2 after.disk) (nothing did none)
+  ends (Err silence.PollFault) is did (same, none) seen reads before after =
+      unheard same is.0 is.1 is.2 (rose_by x.faults_old.poll faults2.poll x.faults_new.poll is.3 after.poll) (nothing did none)
   ends (Err silence.OutOfMemory) is did (same, none) seen reads before after = no_memory same (nothing did none)
 
 -- ## What a crash may leave
@@ -180,6 +182,7 @@ module _ (x : Call) (mid : World) (r : Result Said Silence) (w : InTheOutside (�
   silent_plain : (e : Silence) → IsPlainEnd (status_code (silent_status e))
   silent_plain silence.Unread = (omega arith, omega arith, omega arith)
   silent_plain silence.DiskFault = (omega arith, omega arith, omega arith)
+  silent_plain silence.PollFault = (omega arith, omega arith, omega arith)
   silent_plain silence.OutOfMemory = (omega arith, omega arith, omega arith)
 
   -- the call may end with its status, as the work may with what it says
@@ -209,6 +212,7 @@ module _ (x : Call) (mid : World) (r : Result Said Silence) (w : InTheOutside (�
   silent_early : (e : Silence) → ¬ IsBehindSync x.scene (silent_status e)
   silent_early silence.Unread behind = behind
   silent_early silence.DiskFault behind = behind
+  silent_early silence.PollFault behind = behind
   silent_early silence.OutOfMemory behind = behind
 
   late_of : (O : Outside) (q : Result Said Silence) (f g : Faults) → IfOk q (λ it. IsBehindSync x.scene it.status → LateNow the_language O x.scene x.old mid) → Tells q mid x.new f g x.status → IsBehindSync x.scene x.status

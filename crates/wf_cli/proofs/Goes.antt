@@ -61,8 +61,8 @@ paused_of _ bound n done is (paused active equal still) = record { active = acti
 
 -- ## What a session comes to
 -- what is said, and that the command may end so
-abbrev pub SaysEnd : Language → Outside → kept.Command → Memory → List Deed → World → List Deed → Said → Type 0
-SaysEnd L O command m D new done it = SaysHistory L new done it × MayEnd L O (session command false m (records new.seen) (D ++ done)) (status_code it.status)
+abbrev pub SaysEnd : Language → Outside → kept.Command → Memory → ℕ → List Deed → World → List Deed → Said → Type 0
+SaysEnd L O command m waits D new done it = SaysHistory L waits new done it × MayEnd L O (session command false m (records new.seen) (D ++ done)) (status_code it.status)
 
 -- at the last moment of a call nothing was printed
 silently_of : (L : Language) (O : Outside) (command : kept.Command) (m : Memory) (D : List Deed) (old new : World) → LeavesOnly old new (Moment old (KeptAt L O command false m (records old.seen) D)) → CountsNow new → new.may_leave new.seen → DoneSilently old new
@@ -70,36 +70,36 @@ silently_of L O command m D old new moments counts reads =
     let last = moments.each new.seen new.deeds (counts old.moment new.seen moments.later reads) in
     record { done = last.0; deeds = last.1; silent = last.3.silent }
 
-module _ (L : Language) (O : Outside) (command : kept.Command) (m n : Memory) (D : List Deed) (old new : World) where
-  says_of : EndIsKept → (it : Said) (done : List Deed) → StandsFor L O command false n (records new.seen) (D ++ done) → IsSettled n → n.session ≡ m.session → Only new.seen new.may_leave → SaysStanding it n.config.outcome done
-      → (status_code it.status ≡ 13 → IsTrue (quiet n.config n.reading)) → SaysEnd L O command m D new done it
+module _ (L : Language) (O : Outside) (command : kept.Command) (m n : Memory) (waits : ℕ) (D : List Deed) (old new : World) where
+  says_of : EndIsKept → (it : Said) (done : List Deed) → StandsFor L O command false n (records new.seen) (D ++ done) → IsSettled n → n.session ≡ m.session → Only new.seen new.may_leave → SaysStanding waits it n.config.outcome done
+      → (status_code it.status ≡ 13 → IsTrue (quiet n.config n.reading)) → SaysEnd L O command m waits D new done it
   says_of law it done stands rests same only says still = (
     record {
       standing = stands.leads.standing;
       history = stands.leads.history;
-      says = subst (λ o. SaysStanding it o done) (sym (ap (λ c. c.outcome) stands.leads.config)) says;
+      says = subst (λ o. SaysStanding waits it o done) (sym (ap (λ c. c.outcome) stands.leads.config)) says;
       settled = only;
     },
     subst (λ k. MayEnd L O (of_command (records new.seen) k (D ++ done) command None) (status_code it.status)) same (may_end law L O command n (records new.seen) (D ++ done) (status_code it.status) stands rests still),
   )
 
   -- the deeds of the session are those that were done
-  same_done : (suspended : Bool) (ss : Sessions L O suspended 0 m n old new) (silently : DoneSilently old new) → ss.done ≡ silently.done
+  same_done : (suspended : Bool) (ss : Sessions L O suspended waits m n old new) (silently : DoneSilently old new) → ss.done ≡ silently.done
   same_done suspended ss silently = append_cancel_left old.deeds ss.done silently.done (sym ss.went.deeds ∙ silently.deeds)
 
   -- an outcome
-  pub says_outcome : EndIsKept → Sessions L O false 0 m n old new → n.session ≡ m.session → Only new.seen new.may_leave → StandsFor L O command false m (records old.seen) D → (o : Outcome) → o ≡ n.config.outcome → (r : Result Said Silence) → IfOk r (λ it. SaysOutcome it o)
-      → (silently : DoneSilently old new) → IfOk r (SaysEnd L O command m D new silently.done)
+  pub says_outcome : EndIsKept → Sessions L O false waits m n old new → n.session ≡ m.session → Only new.seen new.may_leave → StandsFor L O command false m (records old.seen) D → (o : Outcome) → o ≡ n.config.outcome → (r : Result Said Silence) → IfOk r (λ it. SaysOutcome it o)
+      → (silently : DoneSilently old new) → IfOk r (SaysEnd L O command m waits D new silently.done)
   says_outcome law ss same only stands o is (Ok it) says silently =
       let there = subst (λ E. StandsFor L O command false n (records new.seen) (D ++ E)) (same_done false ss silently) (ss.went.stands command false D stands) in
       says_of law it silently.done there ss.settled same only (inl (subst (SaysOutcome it) is says)) (λ code. absurd (outcome_code o it.status says.status code))
   says_outcome law ss same only stands o is (Err e) says silently = tt
 
   -- none yet
-  says_suspended : EndIsKept → Sessions L O true 0 m n old new → n.session ≡ m.session → Only new.seen new.may_leave → StandsFor L O command false m (records old.seen) D → (it : Said) → SaysStatus status.Suspended it
-      → (silently : DoneSilently old new) → SaysEnd L O command m D new silently.done it
+  says_suspended : EndIsKept → Sessions L O true waits m n old new → n.session ≡ m.session → Only new.seen new.may_leave → StandsFor L O command false m (records old.seen) D → (it : Said) → SaysStatus status.Suspended it
+      → (silently : DoneSilently old new) → SaysEnd L O command m waits D new silently.done it
   says_suspended law ss same only stands it says silently =
-      let rest = paused_of true 0 n ss.done refl ss.ends in
+      let rest = paused_of true waits n ss.done refl ss.ends in
       let done = same_done true ss silently in
       let there = subst (λ E. StandsFor L O command false n (records new.seen) (D ++ E)) done (ss.went.stands command false D stands) in
       says_of law it silently.done there ss.settled same only (inr (rest.active, sym (ap polls done) ∙ rest.polls, says)) (λ code. rest.still)
@@ -109,27 +109,28 @@ both_said : (r : Result Said Silence) (P Q : Said → Type 0) → IfOk r (λ it.
 both_said (Ok it) P Q both = both
 both_said (Err e) P Q both = (tt, tt)
 
-pub going : (L : Language) (O : Outside) (command : kept.Command) (m : Memory) (D : List Deed) (old new : World) (r : Result Said Silence) → LeavesOnly old new (Moment old (KeptAt L O command false m (records old.seen) D)) → CountsNow new → new.may_leave new.seen
-    → (m.config.outcome ≢ Active → Unwritten old new × (new.deeds ≡ old.deeds)) → ((silently : DoneSilently old new) → IfOk r (SaysEnd L O command m D new silently.done)) → Going L O command m D old new r
-going L O command m D old new r moments counts reads finished says =
+pub going : (L : Language) (O : Outside) (command : kept.Command) (m : Memory) (waits : ℕ) (D : List Deed) (old new : World) (r : Result Said Silence) → LeavesOnly old new (Moment old (KeptAt L O command false m (records old.seen) D)) → CountsNow new → new.may_leave new.seen
+    → (m.config.outcome ≢ Active → Unwritten old new × (new.deeds ≡ old.deeds)) → ((silently : DoneSilently old new) → IfOk r (SaysEnd L O command m waits D new silently.done)) → Going L O command m waits D old new r
+going L O command m waits D old new r moments counts reads finished says =
     let silently = silently_of L O command m D old new moments counts reads in
     let both = both_said r _ _ (says silently) in
     record { moments = moments; silently = silently; said = both.0; ends = both.1; finished = finished }
 
 -- ## Faults
 abbrev pub IsOfSession : EngineFault → Type 0
-IsOfSession f = (f ≡ engine.DiskFault) ⊎ (f ≡ engine.Suspended) ⊎ (f ≡ engine.Closed) ⊎ (f ≡ engine.OutOfMemory)
+IsOfSession f = (f ≡ engine.DiskFault) ⊎ (f ≡ engine.PollFault) ⊎ (f ≡ engine.Suspended) ⊎ (f ≡ engine.Closed) ⊎ (f ≡ engine.OutOfMemory)
 
 -- of these just one says something
 said_of_fault : (f : EngineFault) (it : Said) → IsOfSession f → SaysFault f (Ok it) → (f ≡ engine.Suspended) × SaysStatus status.Suspended it
 said_of_fault f it (inl is) says = absurd (let no : Ok it ≡ Err silence.DiskFault = subst (λ x. SaysFault x (Ok it)) is says in cc no)
-said_of_fault f it (inr (inl is)) says = (is, subst (λ x. SaysFault x (Ok it)) is says)
-said_of_fault f it (inr (inr (inl is))) says = absurd (let no : Ok it ≡ Err silence.OutOfMemory = subst (λ x. SaysFault x (Ok it)) is says in cc no)
-said_of_fault f it (inr (inr (inr is))) says = absurd (let no : Ok it ≡ Err silence.OutOfMemory = subst (λ x. SaysFault x (Ok it)) is says in cc no)
+said_of_fault f it (inr (inl is)) says = absurd (let no : Ok it ≡ Err silence.PollFault = subst (λ x. SaysFault x (Ok it)) is says in cc no)
+said_of_fault f it (inr (inr (inl is))) says = (is, subst (λ x. SaysFault x (Ok it)) is says)
+said_of_fault f it (inr (inr (inr (inl is)))) says = absurd (let no : Ok it ≡ Err silence.OutOfMemory = subst (λ x. SaysFault x (Ok it)) is says in cc no)
+said_of_fault f it (inr (inr (inr (inr is)))) says = absurd (let no : Ok it ≡ Err silence.OutOfMemory = subst (λ x. SaysFault x (Ok it)) is says in cc no)
 
-pub fault_said : (L : Language) (O : Outside) (command : kept.Command) (m n : Memory) (D : List Deed) (old new : World) (f : EngineFault) (r : Result Said Silence) → EndIsKept → IsOfSession f → SaysFault f r
-    → (f ≡ engine.Suspended → Sessions L O true 0 m n old new) → n.session ≡ m.session → (f ≡ engine.Suspended → Only new.seen new.may_leave) → StandsFor L O command false m (records old.seen) D
-    → (silently : DoneSilently old new) → IfOk r (SaysEnd L O command m D new silently.done)
-fault_said L O command m n D old new f (Ok it) law is says ss same only stands silently =
-    let that = said_of_fault f it is says in says_suspended L O command m n D old new law (ss that.0) same (only that.0) stands it that.1 silently
-fault_said L O command m n D old new f (Err e) law is says ss same only stands silently = tt
+pub fault_said : (L : Language) (O : Outside) (command : kept.Command) (m n : Memory) (waits : ℕ) (D : List Deed) (old new : World) (f : EngineFault) (r : Result Said Silence) → EndIsKept → IsOfSession f → SaysFault f r
+    → (f ≡ engine.Suspended → Sessions L O true waits m n old new) → n.session ≡ m.session → (f ≡ engine.Suspended → Only new.seen new.may_leave) → StandsFor L O command false m (records old.seen) D
+    → (silently : DoneSilently old new) → IfOk r (SaysEnd L O command m waits D new silently.done)
+fault_said L O command m n waits D old new f (Ok it) law is says ss same only stands silently =
+    let that = said_of_fault f it is says in says_suspended L O command m n waits D old new law (ss that.0) same (only that.0) stands it that.1 silently
+fault_said L O command m n waits D old new f (Err e) law is says ss same only stands silently = tt

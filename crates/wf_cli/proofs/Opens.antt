@@ -113,6 +113,14 @@ unfolding history
 no_record_no_history L J st is none = let no : Err 0 ≡ Ok st = ap (history L) (sym none) ∙ is in cc no
 
 -- ## Resuming
+-- an opening polls nothing
+pub not_of_polls : (f : EngineFault) → (f ≡ engine.DiskFault) ⊎ (f ≡ engine.NotAJournal) ⊎ (f ≡ engine.NotStarted) ⊎ ((n : ℕ) × (f ≡ engine.NotAHistory n)) ⊎ (f ≡ engine.OutOfMemory) → f ≢ engine.PollFault
+not_of_polls f (inl is) poll = let no : engine.DiskFault ≡ engine.PollFault = sym is ∙ poll in cc no
+not_of_polls f (inr (inl is)) poll = let no : engine.NotAJournal ≡ engine.PollFault = sym is ∙ poll in cc no
+not_of_polls f (inr (inr (inl is))) poll = let no : engine.NotStarted ≡ engine.PollFault = sym is ∙ poll in cc no
+not_of_polls f (inr (inr (inr (inl (n, is))))) poll = let no : engine.NotAHistory n ≡ engine.PollFault = sym is ∙ poll in cc no
+not_of_polls f (inr (inr (inr (inr is)))) poll = let no : engine.OutOfMemory ≡ engine.PollFault = sym is ∙ poll in cc no
+
 -- what an opening promises
 pub record Clauses (O : Outside) (old new : World) (r : Result Engine EngineFault) : Type 0 where
   pub opened : IfOk r (λ e. Opened the_language O (memory e) old new)
@@ -171,6 +179,14 @@ module _ (O : Outside) (s : Scene) (old new : World) (line : IsLineOf s (λ c. c
 
   fault_of : (f : EngineFault) → Clauses O old new (Err f) → FaultHolds the_language s f
   fault_of engine.DiskFault k = tt
+  fault_of engine.PollFault k = absurd (none k.only)
+    where
+      none : (engine.PollFault ≡ engine.DiskFault) ⊎ (engine.PollFault ≡ engine.NotAJournal) ⊎ (engine.PollFault ≡ engine.NotStarted) ⊎ ((n : ℕ) × (engine.PollFault ≡ engine.NotAHistory n)) ⊎ (engine.PollFault ≡ engine.OutOfMemory) → ⊥
+      none (inl is) = cc is
+      none (inr (inl is)) = cc is
+      none (inr (inr (inl is))) = cc is
+      none (inr (inr (inr (inl (n, is))))) = cc is
+      none (inr (inr (inr (inr is)))) = cc is
   fault_of engine.NotAJournal k =
       let why = subst (λ f. (5 ≤ length f) × (take 4 f ≢ magic)) found (k.not_a_journal refl) in
       ((resume_uses s line, why.0, why.1), passed_magic the_language s)

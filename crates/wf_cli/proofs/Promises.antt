@@ -2,7 +2,7 @@
 use Rattle.std.proofs.Common.{◌≡◌, ◌≤◌, ℕ, Result, ◌∙◌}
 use Rattle.wf_cli.proofs.Completes.{completes}
 use Rattle.wf_cli.proofs.Finish.{only_printed, ends, safe_throughout, safe_at_end, late_at_end, finished_stays, refused_stays, reports_stay, silent_stays}
-use Rattle.wf_cli.proofs.Rows.{bad_line_row, bad_argument_row, read_fault_row, refused_row, disk_fault_row, not_a_journal_row, already_started_row, not_started_row, not_a_history_row, suspended_row, outcome_row, done_row, accepted_row, comes_back_row, print_fault_row, only_these}
+use Rattle.wf_cli.proofs.Rows.{bad_line_row, bad_argument_row, read_fault_row, refused_row, disk_fault_row, not_a_journal_row, already_started_row, not_started_row, not_a_history_row, suspended_row, outcome_row, done_row, accepted_row, comes_back_row, print_fault_row, poll_fault_row}
 use Rattle.wf_cli.specs.Promises.{Promised}
 use Rattle.wf_cli.specs.Said.{IsEnd, Worked, Tells, Printing, text_of}
 use Rattle.wf_cli.specs.Top.{Call, Ends}
@@ -28,6 +28,7 @@ promised x mid reads2 faults2 r is worked tells printing same reads before after
       read_fault = read_fault_row x all;
       refused = refused_row once apart x all;
       disk_fault = disk_fault_row x all;
+      poll_fault = poll_fault_row x all;
       not_a_journal = λ told. not_a_journal_row x told all;
       already_started = λ told. already_started_row x told all;
       not_started = λ told. not_started_row x told all;
@@ -38,7 +39,6 @@ promised x mid reads2 faults2 r is worked tells printing same reads before after
       accepted = accepted_row x all;
       comes_back = comes_back_row x all;
       print_fault = print_fault_row x all;
-      only = only_these x all;
       completes = λ told. completes x told all;
       finished_stays = λ told. finished_stays x mid r (λ O. worked O told) (printing (same ∙ told)) (counts_mid told) (counts_new told) deed end;
       refused_stays = λ told. refused_stays x mid r (λ O. worked O told) (printing (same ∙ told)) (counts_mid told) (counts_new told) deed end;

@@ -1,5 +1,5 @@
 -- The routes of a line as a start keeps them, one after another.
-use Rattle.std.proofs.Common.{◌≡◌, ◌+◌, ◌*◌, ◌<◌, ◌≤◌, ◌^◌, ℕ, zero, suc, List, [], ◌∷◌, ◌++◌, length, take, Option, None, Some, IsUtf8, refl, sym, ◌∙◌, ap, subst, arith}
+use Rattle.std.proofs.Common.{◌≡◌, ◌+◌, ◌-◌, ◌*◌, ◌<◌, ◌≤◌, ◌^◌, ℕ, zero, suc, List, [], ◌∷◌, ◌++◌, length, take, Option, None, Some, IsUtf8, refl, sym, ◌∙◌, ap, subst, arith}
 use Rattle.std.specs.Prelude.{map, slice_get}
 use Rattle.std.specs.List.{AllByRecursion, flat_map}
 use Rattle.std.proofs.lemmas.Grind.{flat_map-append}
@@ -15,7 +15,7 @@ use Rattle.wf_record_parts.specs.Spelling.{Each, four, listed, string, two}
 use Rattle.wf_shared.specs.Events as plain
 
 -- ## Lists
-take_more : {X : Type 0} (xs : List X) (k : ℕ) (x : X) → slice_get xs k ≡ Some x → take (k + 1) xs ≡ take k xs ++ x ∷ []
+take_more : {X : Type 0} (xs : List X) (k : ℕ) (x : X) → slice_get xs k ≡ Some x → take (suc k) xs ≡ take k xs ++ x ∷ []
 take_more [] k x is = absurd (cc is)
 take_more (y ∷ xs) zero x is = let same : y ≡ x = cc is in ap (λ y. y ∷ []) same
 take_more (y ∷ xs) (suc k) x is = ap (λ ys. y ∷ ys) (take_more xs k x is)
@@ -38,9 +38,10 @@ two_is n = refl
 
 route_is : (r : List ℕ × plain.Address) → length (route r) ≡ 10 + length r.0 + length r.1.name
 route_is r =
-    let host = length-append (string r.0) (string r.1.name ++ two r.1.port) in
-    let name = length-append (string r.1.name) (two r.1.port) in
-    omega (arith, host, name, string_is r.0, string_is r.1.name, two_is r.1.port)
+    let all = three (string r.0) (string r.1.name) (two r.1.port) in omega (arith, all, string_is r.0, string_is r.1.name, two_is r.1.port)
+  where
+    three : (a b c : List ℕ) → length (a ++ b ++ c) ≡ length a + length b + length c
+    three a b c = omega (arith, length-append (a ++ b) c, length-append a b)
 
 -- ## The routes so far
 pub record SoFar (l : PlainLine) (routes : List (List ℕ × Address)) (index : ℕ) : Type 0 where
@@ -59,14 +60,15 @@ pub route_more : (l : PlainLine) (routes : List (List ℕ × Address)) (index : 
 route_more l routes index p host to so_far is fits host_is name_is port_is utf8 utf8_name =
     let added : map route_view (routes ++ (host, to) ∷ []) ≡ map route_view routes ++ route_view (host, to) ∷ [] = map-append route_view routes ((host, to) ∷ []) in
     let kept : route_view (host, to) ≡ kept_route p = (λ i. (host_is i, record { name = name_is i; port = port_is i })) in
+    let next : index + 1 ≡ suc index = omega arith in
     let taken : map kept_route (take (index + 1) (routes_of l)) ≡ map kept_route (take index (routes_of l)) ++ kept_route p ∷ [] =
-    ap (map kept_route) (take_more (routes_of l) index p is) ∙ map-append kept_route (take index (routes_of l)) (p ∷ []) in
+    ap (λ k. map kept_route (take k (routes_of l))) next ∙ ap (map kept_route) (take_more (routes_of l) index p is) ∙ map-append kept_route (take index (routes_of l)) (p ∷ []) in
     let inside = slice_get_within (routes_of l) index p is in
     let both = fits.short in
     let host_long = ap length host_is in
     let name_long = ap length name_is in
     let most = fits.port.1 in
-    let one : IsRoute (route_view (host, to)) = ((omega (arith, both, host_long), utf8), ((omega (arith, both, name_long), utf8_name), omega (arith, port_is, most))) in
+    let one : IsRoute (route_view (host, to)) = ((omega (arith, both, host_long), utf8), (omega (arith, both, name_long), utf8_name), omega (arith, port_is, most)) in
     let longer = ap length (ap (flat_map route) added ∙ flat_map-append route (map route_view routes) (route_view (host, to) ∷ []))
     ∙ length-append (flat_map route (map route_view routes)) (flat_map route (route_view (host, to) ∷ [])) in
     let last = length-append (route (route_view (host, to))) [] in
@@ -97,3 +99,7 @@ all_routes l routes index so_far is few =
       spelled = (omega (arith, so_many, within, few), so_far.spelled);
       short = omega (arith, long, before, within, few);
     }
+
+-- behind one more fewer are left
+pub fewer_left : (l : PlainLine) (index : ℕ) (p : PlainRoute) → slice_get (routes_of l) index ≡ Some p → length (routes_of l) - (index + 1) < length (routes_of l) - index
+fewer_left l index p is = let inside = slice_get_within (routes_of l) index p is in omega (arith, inside)

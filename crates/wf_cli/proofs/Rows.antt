@@ -3,12 +3,12 @@ use Rattle.std.proofs.Common.{◌≡◌, ◌<◌, ◌⊎◌, inl, inr, ⊎_elim,
 use Rattle.std.specs.Prelude.{codes, decimal}
 use Rattle.wf_cli.proofs.Causes.{same_ok, same_some, no_bad_line, one_command, executing, journal_executes, check_reports, format_reports, line_is, run_executes, resume_executes, reported_line, Cause, says_cause, says_text, EarlyCause, says_early, text_early, not_said}
 use Rattle.wf_cli.proofs.Together.{IsOrBefore, where_bad_line, where_bad_argument, where_told, when_told, where_refused, where_of_file, where_no_history, at_magic, at_started, at_not_started}
-use Rattle.wf_cli.specs.Top.{Call, IsLineOf, IsBadArgument, IsRefused, IsChecked, HasOutcome, IsSuspended, Reported, Gives, IsTaken, IsOfFile, ComesBack, Says, bad_line, bad_argument, refused, reported, of_file, Ends, said, cut, unread, failed, no_memory, Prints, IsOrYields, Exactly, BadLineRow, BadArgumentRow, ReadFaultRow, RefusedRow, DiskFaultRow, NotAJournalRow, AlreadyStartedRow, NotStartedRow, NotAHistoryRow, WaitsNoMore, SuspendedRow, OutcomeRow, DoneRow, AcceptedRow, ComesBackRow, PrintFaultRow, OnlyThese}
+use Rattle.wf_cli.specs.Top.{Call, IsLineOf, IsBadArgument, IsRefused, IsChecked, HasOutcome, IsSuspended, Reported, Gives, IsTaken, IsOfFile, ComesBack, Says, bad_line, bad_argument, refused, reported, of_file, Ends, said, cut, unread, failed, unheard, no_memory, Prints, IsOrYields, Exactly, BadLineRow, BadArgumentRow, ReadFaultRow, RefusedRow, DiskFaultRow, NotAJournalRow, AlreadyStartedRow, NotStartedRow, NotAHistoryRow, WaitsNoMore, SuspendedRow, OutcomeRow, DoneRow, AcceptedRow, ComesBackRow, PrintFaultRow, PollFaultRow, IsPassed}
 use Rattle.wf_engine.specs.Printed as end
 use Rattle.wf_engine.specs.Printed.{Scene, uses_source, uses_journal, executes, status_of, outcome_text, accepted_text}
 use Rattle.wf_engine.specs.Safe.{Since}
 use Rattle.wf_engine.specs.TheLanguage.{the_language}
-use Rattle.wf_host.specs.World.{World}
+use Rattle.wf_host.specs.World.{World, Told}
 use Rattle.wf_host.specs.declared.data.Deed.{Deed}
 use Rattle.wf_journal.specs.Records.{records}
 use Rattle.wf_args.specs.declared.command.Command.TheVariants.{Check, Format, Help, Version}
@@ -27,12 +27,13 @@ use Rattle.wf_yaml_write.specs.Layout.{written}
 -- ## What a status has
 -- a status that comes with each end, unless an earlier cause came
 pub yields : (x : Call) (st : Status) → Ends x → ((other : Status) (text : List ℕ) → Says x.scene x.old x.new other text → IsOrBefore st other) → (IsLineOf x.scene (λ c. uses_source c ≡ true) → ¬ IsBadArgument x.scene → 2 < rank st)
-    → (IsLineOf x.scene (λ c. executes c ≡ true) → IsTaken x.scene → 4 < rank st) → IsOrYields x st
-yields x st (said text says prints) one reads disk = ⊎_elim (λ is. inl is) (λ low. inr (inl low)) (one x.status text says)
-yields x st (cut other text is says why some) one reads disk = inr (inr (inl is))
-yields x st (unread is line fine rose prints) one reads disk = inr (inl (subst (λ s. rank s < rank st) (sym is) (reads line fine)))
-yields x st (failed is line accepted rose prints) one reads disk = inr (inl (subst (λ s. rank s < rank st) (sym is) (disk line accepted)))
-yields x st (no_memory is prints) one reads disk = inr (inr (inr is))
+    → (IsLineOf x.scene (λ c. executes c ≡ true) → IsTaken x.scene → 4 < rank st) → (IsLineOf x.scene (λ c. executes c ≡ true) → IsTaken x.scene → Told x.old (IsPassed the_language x.scene status.PollFault) → 9 < rank st) → IsOrYields x st
+yields x st (said text says prints) one reads disk polls = ⊎_elim (λ is. inl is) (λ low. inr (inl low)) (one x.status text says)
+yields x st (cut other text is says why some) one reads disk polls = inr (inr (inl is))
+yields x st (unread is line fine rose prints) one reads disk polls = inr (inl (subst (λ s. rank s < rank st) (sym is) (reads line fine)))
+yields x st (failed is line accepted rose prints) one reads disk polls = inr (inl (subst (λ s. rank s < rank st) (sym is) (disk line accepted)))
+yields x st (unheard is line accepted passed rose prints) one reads disk polls = inr (inl (subst (λ s. rank s < rank st) (sym is) (polls line accepted passed)))
+yields x st (no_memory is prints) one reads disk polls = inr (inr (inr is))
 
 -- a status that prints a line of its own
 abbrev pub IsTexted : Status → List ℕ → Type 0
@@ -47,6 +48,7 @@ cause_told x line told (said text says prints) texted = says_cause x.scene x.old
 cause_told x line told (cut other text is says why some) texted = absurd (no_text x.status status.PrintFault line texted is refl)
 cause_told x line told (unread is rline fine rose prints) texted = absurd (no_text x.status status.ReadFault line texted is refl)
 cause_told x line told (failed is rline accepted rose prints) texted = absurd (no_text x.status status.DiskFault line texted is refl)
+cause_told x line told (unheard is rline accepted passed rose prints) texted = absurd (no_text x.status status.PollFault line texted is refl)
 cause_told x line told (no_memory is prints) texted = absurd (no_text x.status status.OutOfMemory line texted is refl)
 
 -- and one of the words or of the source in any case
@@ -55,6 +57,7 @@ cause_early x line low (said text says prints) texted = says_early x.scene x.old
 cause_early x line low (cut other text is says why some) texted = absurd (no_text x.status status.PrintFault line texted is refl)
 cause_early x line low (unread is rline fine rose prints) texted = absurd (no_text x.status status.ReadFault line texted is refl)
 cause_early x line low (failed is rline accepted rose prints) texted = absurd (no_text x.status status.DiskFault line texted is refl)
+cause_early x line low (unheard is rline accepted passed rose prints) texted = absurd (no_text x.status status.PollFault line texted is refl)
 cause_early x line low (no_memory is prints) texted = absurd (no_text x.status status.OutOfMemory line texted is refl)
 
 -- and then just its line is printed
@@ -63,6 +66,7 @@ line_printed x line (said text says prints) texted = λ told. subst (λ t. Print
 line_printed x line (cut other text is says why some) texted = absurd (no_text x.status status.PrintFault line texted is refl)
 line_printed x line (unread is rline fine rose prints) texted = absurd (no_text x.status status.ReadFault line texted is refl)
 line_printed x line (failed is rline accepted rose prints) texted = absurd (no_text x.status status.DiskFault line texted is refl)
+line_printed x line (unheard is rline accepted passed rose prints) texted = absurd (no_text x.status status.PollFault line texted is refl)
 line_printed x line (no_memory is prints) texted = absurd (no_text x.status status.OutOfMemory line texted is refl)
 
 -- in any case where it is of the words or of the source
@@ -71,6 +75,7 @@ line_early x line low (said text says prints) texted = λ told. subst (λ t. Pri
 line_early x line low (cut other text is says why some) texted = absurd (no_text x.status status.PrintFault line texted is refl)
 line_early x line low (unread is rline fine rose prints) texted = absurd (no_text x.status status.ReadFault line texted is refl)
 line_early x line low (failed is rline accepted rose prints) texted = absurd (no_text x.status status.DiskFault line texted is refl)
+line_early x line low (unheard is rline accepted passed rose prints) texted = absurd (no_text x.status status.PollFault line texted is refl)
 line_early x line low (no_memory is prints) texted = absurd (no_text x.status status.OutOfMemory line texted is refl)
 
 -- of a status that prints this line
@@ -84,7 +89,7 @@ bad_line_row x ends n =
     record {
       comes = λ is. subst (EarlyCause x.scene) is (cause_early x line (subst (λ s. rank s < 5) (sym is) (omega arith)) ends (texted_as x (status.BadLine n) line refl is));
       only = λ bad. yields x (status.BadLine n) ends (λ other text says. where_bad_line x.scene x.old x.new n other text bad says) (λ run fine. absurd (no_bad_line x.scene (λ c. uses_source c ≡ true) n run bad))
-          (λ runs accepted. absurd (no_bad_line x.scene (λ c. executes c ≡ true) n runs bad));
+          (λ runs accepted. absurd (no_bad_line x.scene (λ c. executes c ≡ true) n runs bad)) (λ runs accepted passed. absurd (no_bad_line x.scene (λ c. executes c ≡ true) n runs bad));
       prints = λ is. line_early x line (subst (λ s. rank s < 5) (sym is) (omega arith)) ends (texted_as x (status.BadLine n) line refl is);
     }
 
@@ -93,7 +98,7 @@ bad_argument_row x ends =
     let line = line_end (codes "bad argument") in
     record {
       comes = λ is. subst (EarlyCause x.scene) is (cause_early x line (subst (λ s. rank s < 5) (sym is) (omega arith)) ends (texted_as x status.BadArgument line refl is));
-      only = λ bad. yields x status.BadArgument ends (λ other text says. where_bad_argument x.scene x.old x.new other text bad says) (λ run fine. absurd (fine bad)) (λ runs taken. absurd (taken.argument bad));
+      only = λ bad. yields x status.BadArgument ends (λ other text says. where_bad_argument x.scene x.old x.new other text bad says) (λ run fine. absurd (fine bad)) (λ runs taken. absurd (taken.argument bad)) (λ runs taken passed. absurd (taken.argument bad));
       prints = λ is. line_early x line (subst (λ s. rank s < 5) (sym is) (omega arith)) ends (texted_as x status.BadArgument line refl is);
     }
 
@@ -104,16 +109,17 @@ refused_row law apart x ends =
     record {
       comes = λ is. subst (EarlyCause x.scene) is (cause_early x line (subst (λ s. rank s < 5) (sym is) (omega arith)) ends (texted_as x (status.Refused r) line refl is));
       only = λ why. yields x (status.Refused r) ends (λ other text says. where_refused law apart x.scene x.old x.new left r other text told why says) (λ run fine. omega arith)
-          (λ runs taken. absurd (when_told x.scene.source left ((q : Refusal) → ¬ IsRefused x.scene q) told taken.source r why));
+          (λ runs taken. absurd (when_told x.scene.source left ((q : Refusal) → ¬ IsRefused x.scene q) told taken.source r why))
+          (λ runs taken passed. absurd (when_told x.scene.source left ((q : Refusal) → ¬ IsRefused x.scene q) told taken.source r why));
       prints = λ is. line_early x line (subst (λ s. rank s < 5) (sym is) (omega arith)) ends (texted_as x (status.Refused r) line refl is);
     })
 
 -- of a status of the file
 file_row : (x : Call) (st : Status) (line : List ℕ) → IsTrue x.old.tells → Ends x → status_text st ≡ Some line → 4 < rank st
-    → ((other : Status) (text : List ℕ) → Cause the_language x.scene st → Says x.scene x.old x.new other text → IsOrBefore st other) → Exactly x st (Cause the_language x.scene st) line
-file_row x st line told ends texted low before = record {
+    → ((other : Status) (text : List ℕ) → Cause the_language x.scene st → Says x.scene x.old x.new other text → IsOrBefore st other) → (IsPassed the_language x.scene status.PollFault → ¬ Cause the_language x.scene st) → Exactly x st (Cause the_language x.scene st) line
+file_row x st line told ends texted low before never = record {
   comes = λ is. subst (Cause the_language x.scene) is (cause_told x line told ends (texted_as x st line texted is));
-  only = λ why. yields x st ends (λ other text says. before other text why says) (λ run fine. omega (arith, low)) (λ runs taken. low);
+  only = λ why. yields x st ends (λ other text says. before other text why says) (λ run fine. omega (arith, low)) (λ runs taken. low) (λ runs taken passed. absurd (never (passed told) why));
   prints = λ is. line_printed x line ends (texted_as x st line texted is);
 }
 
@@ -121,21 +127,21 @@ pub not_a_journal_row : (x : Call) → IsTrue x.old.tells → Ends x → NotAJou
 not_a_journal_row x told ends =
     file_row x status.NotAJournal _ told ends refl (omega arith) (λ other text why says.
     let line = line_is x.scene (λ c. uses_journal c ≡ true) (λ c. executes c ≡ true) journal_executes why.0 in
-    where_of_file x.scene x.old x.new status.NotAJournal other text told (omega arith) line (λ q passed low. passed.magic low why) at_magic says)
+    where_of_file x.scene x.old x.new status.NotAJournal other text told (omega arith) line (λ q passed low. passed.magic low why) at_magic says) (λ passed. passed.magic (omega arith))
 
 pub already_started_row : (x : Call) → IsTrue x.old.tells → Ends x → AlreadyStartedRow x
 already_started_row x told ends =
     file_row x status.AlreadyStarted _ told ends refl (omega arith) (λ other text why says.
-    where_of_file x.scene x.old x.new status.AlreadyStarted other text told (omega arith) (run_executes x.scene why.0) (λ q passed low. passed.started low why) at_started says)
+    where_of_file x.scene x.old x.new status.AlreadyStarted other text told (omega arith) (run_executes x.scene why.0) (λ q passed low. passed.started low why) at_started says) (λ passed. passed.started (omega arith))
 
 pub not_started_row : (x : Call) → IsTrue x.old.tells → Ends x → NotStartedRow x
 not_started_row x told ends =
     file_row x status.NotStarted _ told ends refl (omega arith) (λ other text why says.
-    where_of_file x.scene x.old x.new status.NotStarted other text told (omega arith) (resume_executes x.scene why.0) (λ q passed low. passed.not_started low why) at_not_started says)
+    where_of_file x.scene x.old x.new status.NotStarted other text told (omega arith) (resume_executes x.scene why.0) (λ q passed low. passed.not_started low why) at_not_started says) (λ passed. passed.not_started (omega arith))
 
 pub not_a_history_row : (x : Call) → IsTrue x.old.tells → Ends x → NotAHistoryRow the_language x
 not_a_history_row x told ends n =
-    file_row x (status.NotAHistory n) _ told ends refl (omega arith) (λ other text why says. where_no_history x.scene x.old x.new n other text told why says)
+    file_row x (status.NotAHistory n) _ told ends refl (omega arith) (λ other text why says. where_no_history x.scene x.old x.new n other text told why says) (λ passed. passed.history n (omega arith))
 
 -- ## Faults
 pub read_fault_row : (x : Call) → Ends x → ReadFaultRow x
@@ -143,6 +149,7 @@ read_fault_row x (said text says prints) = λ is. absurd (not_said x.scene x.old
 read_fault_row x (cut other text is says why some) = λ it. let no : status.PrintFault ≡ status.ReadFault = sym is ∙ it in absurd (cc no)
 read_fault_row x (unread is line fine rose prints) = λ it. rose
 read_fault_row x (failed is line accepted rose prints) = λ it. let no : status.DiskFault ≡ status.ReadFault = sym is ∙ it in absurd (cc no)
+read_fault_row x (unheard is line accepted passed rose prints) = λ it. let no : status.PollFault ≡ status.ReadFault = sym is ∙ it in absurd (cc no)
 read_fault_row x (no_memory is prints) = λ it. let no : status.OutOfMemory ≡ status.ReadFault = sym is ∙ it in absurd (cc no)
 
 pub disk_fault_row : (x : Call) → Ends x → DiskFaultRow x
@@ -150,42 +157,24 @@ disk_fault_row x (said text says prints) = λ is. absurd (not_said x.scene x.old
 disk_fault_row x (cut other text is says why some) = λ it. let no : status.PrintFault ≡ status.DiskFault = sym is ∙ it in absurd (cc no)
 disk_fault_row x (unread is line fine rose prints) = λ it. let no : status.ReadFault ≡ status.DiskFault = sym is ∙ it in absurd (cc no)
 disk_fault_row x (failed is line accepted rose prints) = λ it. rose
+disk_fault_row x (unheard is line accepted passed rose prints) = λ it. let no : status.PollFault ≡ status.DiskFault = sym is ∙ it in absurd (cc no)
 disk_fault_row x (no_memory is prints) = λ it. let no : status.OutOfMemory ≡ status.DiskFault = sym is ∙ it in absurd (cc no)
+
+pub poll_fault_row : (x : Call) → Ends x → PollFaultRow x
+poll_fault_row x (said text says prints) = λ is. absurd (not_said x.scene x.old x.new x.status status.PollFault text says is refl)
+poll_fault_row x (cut other text is says why some) = λ it. let no : status.PrintFault ≡ status.PollFault = sym is ∙ it in absurd (cc no)
+poll_fault_row x (unread is line fine rose prints) = λ it. let no : status.ReadFault ≡ status.PollFault = sym is ∙ it in absurd (cc no)
+poll_fault_row x (failed is line accepted rose prints) = λ it. let no : status.DiskFault ≡ status.PollFault = sym is ∙ it in absurd (cc no)
+poll_fault_row x (unheard is line accepted passed rose prints) = λ it. rose
+poll_fault_row x (no_memory is prints) = λ it. let no : status.OutOfMemory ≡ status.PollFault = sym is ∙ it in absurd (cc no)
 
 pub print_fault_row : (x : Call) → Ends x → PrintFaultRow x
 print_fault_row x (said text says prints) = λ is. absurd (not_said x.scene x.old x.new x.status status.PrintFault text says is refl)
 print_fault_row x (cut other text is says why some) = λ it. why
 print_fault_row x (unread is line fine rose prints) = λ it. let no : status.ReadFault ≡ status.PrintFault = sym is ∙ it in absurd (cc no)
 print_fault_row x (failed is line accepted rose prints) = λ it. let no : status.DiskFault ≡ status.PrintFault = sym is ∙ it in absurd (cc no)
+print_fault_row x (unheard is line accepted passed rose prints) = λ it. let no : status.PollFault ≡ status.PrintFault = sym is ∙ it in absurd (cc no)
 print_fault_row x (no_memory is prints) = λ it. let no : status.OutOfMemory ≡ status.PrintFault = sym is ∙ it in absurd (cc no)
-
--- a status of this part
-abbrev pub is_own : Status → Bool
-is_own status.PollFault = false
-is_own st = true
-
-own_of_said : (s : Scene) (old new : World) (st : Status) (text : List ℕ) → Says s old new st text → is_own st ≡ true
-own_of_said s old new _ _ (bad_line n bad) = refl
-own_of_said s old new _ _ (bad_argument why) = refl
-own_of_said s old new _ _ (refused r why fine) = refl
-own_of_said s old new _ _ (reported text report back) = refl
-own_of_said s old new _ _ (of_file st text (inl is) line accepted gives) = ap is_own is
-own_of_said s old new _ _ (of_file st text (inr (inl is)) line accepted gives) = ap is_own is
-own_of_said s old new _ _ (of_file st text (inr (inr (inl is))) line accepted gives) = ap is_own is
-own_of_said s old new _ _ (of_file st text (inr (inr (inr (inl (n, is))))) line accepted gives) = ap is_own is
-own_of_said s old new _ _ (of_file st text (inr (inr (inr (inr (inl is))))) line accepted gives) = ap is_own is
-own_of_said s old new _ _ (of_file st text (inr (inr (inr (inr (inr (inl is)))))) line accepted gives) = ap is_own is
-own_of_said s old new _ _ (of_file st text (inr (inr (inr (inr (inr (inr is)))))) line accepted gives) = ap is_own is
-
-own_status : (x : Call) → Ends x → is_own x.status ≡ true
-own_status x (said text says prints) = own_of_said x.scene x.old x.new x.status text says
-own_status x (cut other text is says why some) = ap is_own is
-own_status x (unread is line fine rose prints) = ap is_own is
-own_status x (failed is line accepted rose prints) = ap is_own is
-own_status x (no_memory is prints) = ap is_own is
-
-pub only_these : (x : Call) → Ends x → OnlyThese x
-only_these x ends is = let no : true ≡ false = sym (own_status x ends) ∙ ap is_own is in cc no
 
 -- ## Outcomes
 -- a status that is said of an outcome
@@ -247,6 +236,7 @@ outcome_comes x told (said text says prints) line is =
 outcome_comes x told (cut other text it says why some) line is = let no : false ≡ true = sym (ap is_outcome it) ∙ is in absurd (cc no)
 outcome_comes x told (unread it rline fine rose prints) line is = let no : false ≡ true = sym (ap is_outcome it) ∙ is in absurd (cc no)
 outcome_comes x told (failed it rline accepted rose prints) line is = let no : false ≡ true = sym (ap is_outcome it) ∙ is in absurd (cc no)
+outcome_comes x told (unheard it rline accepted passed rose prints) line is = let no : false ≡ true = sym (ap is_outcome it) ∙ is in absurd (cc no)
 outcome_comes x told (no_memory it prints) line is = let no : false ≡ true = sym (ap is_outcome it) ∙ is in absurd (cc no)
 
 -- one outcome of the records, and one status of it
@@ -279,7 +269,7 @@ outcome_row x told ends = record {
   comes = λ line is. outcome_comes x told ends line (⊎_elim (λ done. ap is_outcome done) (λ raised. ap is_outcome raised) is);
   only = λ o st which has.
       let r = outcome_rank st (outcome_status o st which) in
-      yields x st ends (λ other text says. where_outcome x.scene x.old x.new o st other text told which has says) (λ run fine. omega (arith, r)) (λ runs taken. omega (arith, r));
+      yields x st ends (λ other text says. where_outcome x.scene x.old x.new o st other text told which has says) (λ run fine. omega (arith, r)) (λ runs taken. omega (arith, r)) (λ runs taken passed. omega (arith, r));
 }
 
 -- ## No outcome
@@ -308,6 +298,7 @@ suspended_comes x told (said text says prints) is = suspended_of_says x.scene x.
 suspended_comes x told (cut other text it says why some) is = let no : status.PrintFault ≡ status.Suspended = sym it ∙ is in absurd (cc no)
 suspended_comes x told (unread it line fine rose prints) is = let no : status.ReadFault ≡ status.Suspended = sym it ∙ is in absurd (cc no)
 suspended_comes x told (failed it line accepted rose prints) is = let no : status.DiskFault ≡ status.Suspended = sym it ∙ is in absurd (cc no)
+suspended_comes x told (unheard it line accepted passed rose prints) is = let no : status.PollFault ≡ status.Suspended = sym it ∙ is in absurd (cc no)
 suspended_comes x told (no_memory it prints) is = let no : status.OutOfMemory ≡ status.Suspended = sym it ∙ is in absurd (cc no)
 
 -- without an outcome no outcome is told
@@ -340,7 +331,7 @@ suspended_row x told ends =
     let line = line_end (codes "suspended") in
     record {
       comes = λ is. suspended_comes x told ends is;
-      only = λ why. yields x status.Suspended ends (λ other text says. where_suspended x.scene x.old x.new why.0 other text told why.2 says) (λ run fine. omega arith) (λ runs taken. omega arith);
+      only = λ why. yields x status.Suspended ends (λ other text says. where_suspended x.scene x.old x.new why.0 other text told why.2 says) (λ run fine. omega arith) (λ runs taken. omega arith) (λ runs taken passed. omega arith);
       prints = λ is. line_printed x line ends (texted_as x status.Suspended line refl is);
     }
 
@@ -357,6 +348,7 @@ done_comes x (said text says prints) line is = (text, report_of_says x.scene x.o
 done_comes x (cut other text it says why some) line is = let no : status.PrintFault ≡ status.Done = sym it ∙ is in absurd (cc no)
 done_comes x (unread it rline fine rose prints) line is = let no : status.ReadFault ≡ status.Done = sym it ∙ is in absurd (cc no)
 done_comes x (failed it rline accepted rose prints) line is = let no : status.DiskFault ≡ status.Done = sym it ∙ is in absurd (cc no)
+done_comes x (unheard it rline accepted passed rose prints) line is = let no : status.PollFault ≡ status.Done = sym it ∙ is in absurd (cc no)
 done_comes x (no_memory it prints) line is = let no : status.OutOfMemory ≡ status.Done = sym it ∙ is in absurd (cc no)
 
 where_reported : (s : Scene) (old new : World) (shown : List ℕ) (other : Status) (text : List ℕ) → Reported s shown → Says s old new other text → IsOrBefore status.Done other
@@ -369,7 +361,7 @@ where_reported s old new shown _ _ report (of_file st text is line accepted give
 pub done_row : (x : Call) → Ends x → DoneRow x
 done_row x ends = record {
   comes = λ line is. done_comes x ends line is;
-  only = λ shown report. yields x status.Done ends (λ other text says. where_reported x.scene x.old x.new shown other text report says) (λ run fine. omega arith) (λ runs taken. omega arith);
+  only = λ shown report. yields x status.Done ends (λ other text says. where_reported x.scene x.old x.new shown other text report says) (λ run fine. omega arith) (λ runs taken. omega arith) (λ runs taken passed. omega arith);
 }
 
 -- ## Sources that are accepted
@@ -404,4 +396,5 @@ comes_back_row x (said text says prints) line is =
 comes_back_row x (cut other text it says why some) line is = let no : status.PrintFault ≡ status.Done = sym it ∙ is in absurd (cc no)
 comes_back_row x (unread it rline fine rose prints) line is = let no : status.ReadFault ≡ status.Done = sym it ∙ is in absurd (cc no)
 comes_back_row x (failed it rline accepted rose prints) line is = let no : status.DiskFault ≡ status.Done = sym it ∙ is in absurd (cc no)
+comes_back_row x (unheard it rline accepted passed rose prints) line is = let no : status.PollFault ≡ status.Done = sym it ∙ is in absurd (cc no)
 comes_back_row x (no_memory it prints) line is = let no : status.OutOfMemory ≡ status.Done = sym it ∙ is in absurd (cc no)

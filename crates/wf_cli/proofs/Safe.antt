@@ -121,7 +121,7 @@ gives_behind L R s image D P _ _ prints (not_a_journal why) = not_a_journal why
 gives_behind L R s image D P _ _ prints (already_started why) = already_started why
 gives_behind L R s image D P _ _ prints (not_started why) = not_started why
 gives_behind L R s image D P _ _ prints (not_a_history n why) = not_a_history n why
-gives_behind L R s image D P _ _ prints (suspended why) = suspended (why.0, polls_behind D P prints ∙ why.1)
+gives_behind L R s image D P _ _ prints (suspended why) = suspended (why.0, (why.1.0, why.1.1, polls_behind D P prints ∙ why.1.2))
 gives_behind L R s image D P _ _ prints (ended o st has is) = ended o st has is
 gives_behind L R s image D P _ _ prints (done text report) = done text report
 

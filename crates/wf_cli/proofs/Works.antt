@@ -39,7 +39,7 @@ use Rattle.wf_journal.specs.Records.{records}
 use Rattle.wf_journal.specs.Standing.{new_none}
 use Rattle.wf_journal.specs.Steps.{Moment}
 use Rattle.wf_args.specs.Help.{help, version}
-use Rattle.wf_args.specs.Lines.{PlainLine, line_of}
+use Rattle.wf_args.specs.Lines.{PlainLine, line_of, waits_of}
 use Rattle.wf_args.specs.declared.command.Command.{Command}
 use Rattle.wf_args.specs.declared.command.Command.TheVariants.{Check, Format, Run, Resume, Help, Version}
 use Rattle.wf_args.specs.declared.read.LineFault.{LineFault}
@@ -167,6 +167,7 @@ plain_code it st is plain = subst (λ x. IsPlainEnd (status_code x)) (sym is) pl
 -- the status and the line of a fault, of which the rules ask nothing at the end
 fault_gives : (L : Language) (s : Scene) (f : EngineFault) (it : Said) → FaultHolds L s f → SaysFault f (Ok it) → ((image : List ℕ) (D : List Deed) → Gives L s image D it.status it.text.items) × IsPassed L s it.status × IsPlainEnd (status_code it.status)
 fault_gives L s engine.DiskFault it holds says = absurd (cc says)
+fault_gives L s engine.PollFault it holds says = absurd holds
 fault_gives L s engine.NotAJournal it holds says =
     (λ image D. gives_line L s image D status.NotAJournal (line_end (codes "not a journal")) it (end.not_a_journal holds.0) refl says, subst (IsPassed L s) (sym says.status) holds.1, plain_code it status.NotAJournal says.status (omega arith, omega arith, omega arith))
 fault_gives L s (engine.NotAHistory n) it holds says =
@@ -188,6 +189,7 @@ no_fit L s n why passed (inr (inr (begins, (st, is)))) = not_both (history L (re
 -- what a status behind the opening's sync tells
 fault_late : (O : Outside) (s : Scene) (old new : World) (f : EngineFault) (it : Said) → FaultHolds the_language s f → ((f ≡ engine.AlreadyStarted) ⊎ (f ≡ engine.NotStarted) → LateNow the_language O s old new) → SaysFault f (Ok it) → IsBehindSync s it.status → LateNow the_language O s old new
 fault_late O s old new engine.DiskFault it holds late says behind = absurd (cc says)
+fault_late O s old new engine.PollFault it holds late says behind = absurd holds
 fault_late O s old new engine.NotAJournal it holds late says behind = absurd (subst (IsBehindSync s) says.status behind)
 fault_late O s old new (engine.NotAHistory n) it holds late says behind = λ fit. absurd (no_fit the_language s n holds.0 holds.1 fit)
 fault_late O s old new engine.AlreadyStarted it holds late says behind = late (inl refl)
@@ -199,6 +201,7 @@ fault_late O s old new engine.OutOfMemory it holds late says behind = absurd (cc
 -- a fault is of the file, whether or not the host tells
 fault_of_file : (f : EngineFault) (it : Said) → SaysFault f (Ok it) → IsOfFile it.status
 fault_of_file engine.DiskFault it says = absurd (cc says)
+fault_of_file engine.PollFault it says = absurd (cc says)
 fault_of_file engine.NotAJournal it says = inl says.status
 fault_of_file (engine.NotAHistory n) it says = inr (inr (inr (inl (n, says.status))))
 fault_of_file engine.AlreadyStarted it says = inr (inl says.status)
@@ -213,23 +216,25 @@ as_err e = Err e
 err_is : (e g : Silence) → as_err e ≡ as_err g → e ≡ g
 err_is e g is = same_err (as_err e) e g refl is
 
--- a silence of a fault is the disk's or memory's
-pub fault_silence : (f : EngineFault) (e : Silence) → SaysFault f (Err e) → ((f ≡ engine.DiskFault) × (e ≡ silence.DiskFault)) ⊎ (e ≡ silence.OutOfMemory)
+-- a silence of a fault is the disk's, a poll's or memory's
+pub fault_silence : (f : EngineFault) (e : Silence) → SaysFault f (Err e) → ((f ≡ engine.DiskFault) × (e ≡ silence.DiskFault)) ⊎ ((f ≡ engine.PollFault) × (e ≡ silence.PollFault)) ⊎ (e ≡ silence.OutOfMemory)
 fault_silence engine.DiskFault e says = inl (refl, err_is e silence.DiskFault says)
-fault_silence engine.NotAJournal e says = inr says
-fault_silence (engine.NotAHistory n) e says = inr says
-fault_silence engine.AlreadyStarted e says = inr says
-fault_silence engine.NotStarted e says = inr says
-fault_silence engine.Suspended e says = inr says
-fault_silence engine.Closed e says = inr (err_is e silence.OutOfMemory says)
-fault_silence engine.OutOfMemory e says = inr (err_is e silence.OutOfMemory says)
+fault_silence engine.PollFault e says = inr (inl (refl, err_is e silence.PollFault says))
+fault_silence engine.NotAJournal e says = inr (inr says)
+fault_silence (engine.NotAHistory n) e says = inr (inr says)
+fault_silence engine.AlreadyStarted e says = inr (inr says)
+fault_silence engine.NotStarted e says = inr (inr says)
+fault_silence engine.Suspended e says = inr (inr says)
+fault_silence engine.Closed e says = inr (inr (err_is e silence.OutOfMemory says))
+fault_silence engine.OutOfMemory e says = inr (inr (err_is e silence.OutOfMemory says))
 
 pub end_fault : (s : Scene) (old new : World) (a b : ℕ) (f g : Faults) (why : EngineFault) (r : Result Said Silence) → SaysFault why r → IsLineOf s (λ c. executes c ≡ true) → IsTaken s → Told old (FaultHolds the_language s why) → Told old (DoneSilently old new)
-    → (why ≡ engine.DiskFault → Rose f.disk g.disk) → IsEnd s old new a b f g r
-end_fault s old new a b f g why (Ok it) says line taken holds silently rose =
+    → (why ≡ engine.DiskFault → Rose f.disk g.disk) → why ≢ engine.PollFault → IsEnd s old new a b f g r
+end_fault s old new a b f g why (Ok it) says line taken holds silently rose heard =
     of_file it.status it.text.items (fault_of_file why it says) line taken (λ told. let x = fault_gives the_language s why it (holds told) says in let did = silently told in ((did.done, did.deeds, x.0 new.seen did.done), x.1))
-end_fault s old new a b f g why (Err e) says line taken holds silently rose =
-    ⊎_elim (λ disk. subst (λ x. IsEnd s old new a b f g (Err x)) (sym disk.1) (line, taken, rose disk.0)) (λ lack. subst (λ x. IsEnd s old new a b f g (Err x)) (sym lack) tt) (fault_silence why e says)
+end_fault s old new a b f g why (Err e) says line taken holds silently rose heard =
+    ⊎_elim (λ disk. subst (λ x. IsEnd s old new a b f g (Err x)) (sym disk.1) (line, taken, rose disk.0))
+    (λ other. ⊎_elim (λ poll. absurd (heard poll.0)) (λ lack. subst (λ x. IsEnd s old new a b f g (Err x)) (sym lack) tt) other) (fault_silence why e says)
 
 pub worked_fault : (O : Outside) (s : Scene) (command : kept.Command) (old new : World) (why : EngineFault) (r : Result Said Silence) → Opening O command s old new (Err why) → SaysFault why r → IsLineOf s (λ c. executes c ≡ true)
     → IsTaken s → (IsLineOf s (λ c. c ≡ Resume) → command ≡ kept.Resume) → Worked O s old new r
@@ -266,17 +271,18 @@ outcome_of_file (Raised e) st is = inr (inr (inr (inr (inr (inr (sym (same_some 
 outcome_of_file Cancelled st is = let no : None ≡ Some st = is in absurd (cc no)
 
 -- the outcome of what stands there
-history_gives : (L : Language) (s : Scene) (new : World) (D done : List Deed) (it : Said) → IsLineOf s (λ c. executes c ≡ true) → polls D ≡ 0 → SaysHistory L new done it → (image : List ℕ) → new.may_leave image → Gives L s image (D ++ done) it.status it.text.items
-history_gives L s new D done it line unpolled says image may =
+history_gives : (L : Language) (s : Scene) (l : PlainLine) (new : World) (D done : List Deed) (it : Said) → line_of s.words ≡ Ok l → IsLineOf s (λ c. executes c ≡ true) → polls D ≡ 0 → SaysHistory L (waits_of l) new done it → (image : List ℕ) → new.may_leave image
+    → Gives L s image (D ++ done) it.status it.text.items
+history_gives L s l new D done it is line unpolled says image may =
     let here : HasOutcome L s image says.standing.config.outcome = (line, (says.standing, subst (λ f. history L (records f) ≡ Ok says.standing) (sym (says.settled image may)) says.history, refl)) in
     ⊎_elim (λ that. subst (λ t. Gives L s image (D ++ done) it.status t) (sym that.text) (end.ended says.standing.config.outcome it.status here that.status))
-    (λ (active, none, that).
-    let few : polls (D ++ done) ≡ 0 = (let all = polls_both D done in omega (arith, all, unpolled, none)) in
-    gives_line L s image (D ++ done) status.Suspended (line_end (codes "suspended")) it (end.suspended (subst (λ o. HasOutcome L s image o) active here, few)) refl that)
+    (λ (active, polled, that).
+    let all : polls (D ++ done) ≡ waits_of l = (let both = polls_both D done in omega (arith, both, unpolled, polled)) in
+    gives_line L s image (D ++ done) status.Suspended (line_end (codes "suspended")) it (end.suspended (subst (λ o. HasOutcome L s image o) active here, (l, is, all))) refl that)
     says.says
 
-module _ (O : Outside) (s : Scene) (command : kept.Command) (old mid new : World) (e : Engine) (r : Result Said Silence) (line : IsLineOf s (λ c. executes c ≡ true)) (taken : IsTaken s) (which : IsLineOf s (λ c. c ≡ Resume) → command ≡ kept.Resume) (found : old.seen ≡ s.found)
-    (counts : CountsNow mid) (counts_new : CountsNow new) (o : Opening O command s old mid (Ok e)) (g : Going the_language O command (memory e) o.silently.done mid new r) where
+module _ (O : Outside) (s : Scene) (l : PlainLine) (is_line : line_of s.words ≡ Ok l) (command : kept.Command) (old mid new : World) (e : Engine) (r : Result Said Silence) (line : IsLineOf s (λ c. executes c ≡ true)) (taken : IsTaken s) (which : IsLineOf s (λ c. c ≡ Resume) → command ≡ kept.Resume) (found : old.seen ≡ s.found)
+    (counts : CountsNow mid) (counts_new : CountsNow new) (o : Opening O command s old mid (Ok e)) (g : Going the_language O command (memory e) (waits_of l) o.silently.done mid new r) where
   -- the deeds of the opening and those of the session
   abbrev all : List Deed
   all = o.silently.done ++ g.silently.done
@@ -284,12 +290,12 @@ module _ (O : Outside) (s : Scene) (command : kept.Command) (old mid new : World
   all_done : new.deeds ≡ old.deeds ++ all
   all_done = g.silently.deeds ∙ ap (λ l. l ++ g.silently.done) o.silently.deeds ∙ append_assoc old.deeds o.silently.done g.silently.done
 
-  given : (L : Language) (q : Result Said Silence) → IfOk q (SaysHistory L new g.silently.done) → IfOk q (λ it. (image : List ℕ) → new.may_leave image → Gives L s image all it.status it.text.items)
-  given L (Ok it) says = history_gives L s new o.silently.done g.silently.done it line o.opened.unpolled says
+  given : (L : Language) (q : Result Said Silence) → IfOk q (SaysHistory L (waits_of l) new g.silently.done) → IfOk q (λ it. (image : List ℕ) → new.may_leave image → Gives L s image all it.status it.text.items)
+  given L (Ok it) says = history_gives L s l new o.silently.done g.silently.done it is_line line o.opened.unpolled says
   given L (Err x) says = tt
 
   -- a crash leaves just what was read, so the command may end with it
-  may_end : (q : Result Said Silence) → IfOk q (SaysHistory the_language new g.silently.done) → IfOk q (λ it. MayEnd the_language O (session_of command false (memory e) (records new.seen) all) (status_code it.status)) → IfOk q (λ it. MayEndNow the_language O s old new it.status)
+  may_end : (q : Result Said Silence) → IfOk q (SaysHistory the_language (waits_of l) new g.silently.done) → IfOk q (λ it. MayEnd the_language O (session_of command false (memory e) (records new.seen) all) (status_code it.status)) → IfOk q (λ it. MayEndNow the_language O s old new it.status)
   may_end (Ok it) says ends = λ image may. (
     all,
     all_done,
@@ -341,12 +347,13 @@ module _ (O : Outside) (s : Scene) (command : kept.Command) (old mid new : World
   }
 
 pub end_going : (s : Scene) (old new : World) (a b : ℕ) (f g h : Faults) (r : Result Said Silence) → SaysResult g h r → IsLineOf s (λ c. executes c ≡ true) → IsTaken s
-    → Told old (HasNoCauseInFile the_language s × IfOk r (λ it. Since old new.deeds (λ D. Gives the_language s new.seen D it.status it.text.items))) → (Rose g.disk h.disk → Rose f.disk h.disk) → IsEnd s old new a b f h r
-end_going s old new a b f g h (Ok it) says line taken gives rose =
+    → Told old (HasNoCauseInFile the_language s × IfOk r (λ it. Since old new.deeds (λ D. Gives the_language s new.seen D it.status it.text.items))) → (Rose g.disk h.disk → Rose f.disk h.disk) → (Rose g.poll h.poll → Rose f.poll h.poll) → IsEnd s old new a b f h r
+end_going s old new a b f g h (Ok it) says line taken gives rose heard =
     of_file it.status it.text.items (⊎_elim (λ (o, result, that). outcome_of_file o it.status that.status) (λ that. inr (inr (inr (inr (inl that.status))))) says) line taken (λ told. let x = gives told in (x.1, passed_all the_language s it.status x.0))
-end_going s old new a b f g h (Err silence.Unread) says line taken gives rose = absurd says
-end_going s old new a b f g h (Err silence.DiskFault) says line taken gives rose = (line, taken, rose says)
-end_going s old new a b f g h (Err silence.OutOfMemory) says line taken gives rose = tt
+end_going s old new a b f g h (Err silence.Unread) says line taken gives rose heard = absurd says
+end_going s old new a b f g h (Err silence.DiskFault) says line taken gives rose heard = (line, taken, rose says)
+end_going s old new a b f g h (Err silence.PollFault) says line taken gives rose heard = (line, taken, (λ told. passed_all the_language s status.PollFault (gives told).0), heard says)
+end_going s old new a b f g h (Err silence.OutOfMemory) says line taken gives rose heard = tt
 
 -- ## Commands that touch nothing
 abbrev pub OnlyNow : World → Type 0
@@ -496,6 +503,7 @@ checked_end s l w a b f g (Ok it) is command (bytes, first, says) =
     (verdict_said s l bytes it (is, ap uses_source command, first) command says)
 checked_end s l w a b f g (Err silence.Unread) is command rose = ((l, is, ap uses_source command), no_argument s l is (check_is_not_run l.command command), rose)
 checked_end s l w a b f g (Err silence.DiskFault) is command never = absurd never
+checked_end s l w a b f g (Err silence.PollFault) is command never = absurd never
 checked_end s l w a b f g (Err silence.OutOfMemory) is command lacks = tt
 
 pub checked_worked : (O : Outside) (s : Scene) (l : PlainLine) (w : World) (a b : ℕ) (r : Result Said Silence) → line_of s.words ≡ Ok l → l.command ≡ Check → SaysChecked s.source a b r → OnlyNow w → Worked O s w w r
@@ -519,6 +527,7 @@ layout_end s l w a b f g (Ok it) is command (bytes, first, says) =
     (tree_said s l bytes (read_tree bytes) it (is, ap uses_source command, first) command refl says)
 layout_end s l w a b f g (Err silence.Unread) is command rose = ((l, is, ap uses_source command), no_argument s l is (format_is_not_run l.command command), rose)
 layout_end s l w a b f g (Err silence.DiskFault) is command never = absurd never
+layout_end s l w a b f g (Err silence.PollFault) is command never = absurd never
 layout_end s l w a b f g (Err silence.OutOfMemory) is command lacks = tt
 
 pub layout_worked : (O : Outside) (s : Scene) (l : PlainLine) (w : World) (a b : ℕ) (r : Result Said Silence) → line_of s.words ≡ Ok l → l.command ≡ Format → SaysLayout s.source a b r → OnlyNow w → Worked O s w w r

@@ -238,7 +238,7 @@ abbrev pub IsEnd : Scene → World → World → ℕ → ℕ → Faults → Faul
 IsEnd s old new reads reads2 faults faults2 (Ok said) = Says s old new said.status said.text.items
 IsEnd s old new reads reads2 faults faults2 (Err silence.Unread) = IsLineOf s (λ c. uses_source c ≡ true) × ¬ IsBadArgument s × Rose reads reads2
 IsEnd s old new reads reads2 faults faults2 (Err silence.DiskFault) = IsLineOf s (λ c. executes c ≡ true) × IsTaken s × Rose faults.disk faults2.disk
-IsEnd s old new reads reads2 faults faults2 (Err silence.PollFault) = IsLineOf s (λ c. executes c ≡ true) × IsTaken s × Rose faults.poll faults2.poll
+IsEnd s old new reads reads2 faults faults2 (Err silence.PollFault) = IsLineOf s (λ c. executes c ≡ true) × IsTaken s × Told old (IsPassed the_language s status.PollFault) × Rose faults.poll faults2.poll
 IsEnd s old new reads reads2 faults faults2 (Err silence.OutOfMemory) = Unit {0}
 
 -- the line executes, and neither its argument nor its source is refused

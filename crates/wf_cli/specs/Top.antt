@@ -147,7 +147,7 @@ module _ (x : Call) where
     cut : (st : Status) (text : List ℕ) → x.status ≡ status.PrintFault → Says x.scene x.old x.new st text → Rose x.faults_old.print x.faults_new.print ⊎ TookNothing → PrintsSome text → Ends
     unread : x.status ≡ status.ReadFault → IsLineOf x.scene (λ c. uses_source c ≡ true) → ¬ IsBadArgument x.scene → Rose x.reads_old x.reads_new → Prints [] → Ends
     failed : x.status ≡ status.DiskFault → IsLineOf x.scene (λ c. executes c ≡ true) → IsTaken x.scene → Rose x.faults_old.disk x.faults_new.disk → Prints [] → Ends
-    unheard : x.status ≡ status.PollFault → IsLineOf x.scene (λ c. executes c ≡ true) → IsTaken x.scene → Rose x.faults_old.poll x.faults_new.poll → Prints [] → Ends
+    unheard : x.status ≡ status.PollFault → IsLineOf x.scene (λ c. executes c ≡ true) → IsTaken x.scene → Told x.old (IsPassed the_language x.scene status.PollFault) → Rose x.faults_old.poll x.faults_new.poll → Prints [] → Ends
     no_memory : x.status ≡ status.OutOfMemory → Prints [] → Ends
 
   -- it is this status, or an earlier cause came, or the text wasn't printed whole, or memory ran out

@@ -132,8 +132,10 @@ fn begin<H: Host>(
         (H.world host.new) result)) }
     ensures holds { Told (H.world host.old) (IfOk result (λ e. Holds e (H.world host.new))) }
     ensures open { IfOk result (λ e. is_closed e ≡ false) }
+    ensures waits { IfOk result (λ e. (memory e).waits ≡ 0) }
     ensures disk_fault { IsErrOf result EngineFault.DiskFault
         → DiskFailed H.faults host.old host.new }
+    ensures polls { ¬ IsErrOf result EngineFault.PollFault }
     ensures tells { TellsAsBefore H.world host.old host.new }
     ensures counts { NoCountFalls H.faults host.old host.new }
 {

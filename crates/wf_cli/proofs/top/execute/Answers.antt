@@ -29,10 +29,10 @@ returns-in-Format-clause-worked g c = λ O told words is.
     is (sym c.in-Format.ensures.command) c.format.ensures.says (λ i d left. g.met.H.Host.only_now c.args.host.now i d told left)
 
 pub returns-in-Resume-clause-end : goal.returns-in-Resume-clause-end
-returns-in-Resume-clause-end g c = λ words is. c.resume.ensures.end words (g.S.Source.left c.args.source.now) (g.S.Source.faults c.args.source.now) (g.S.Source.faults c.args.source.now) (plain_line c.args.line.now, is, sym c.in-Resume.ensures.command)
+returns-in-Resume-clause-end g c = λ words is. c.resume.ensures.end words (g.S.Source.left c.args.source.now) (g.S.Source.faults c.args.source.now) (g.S.Source.faults c.args.source.now) is
 
 pub returns-in-Resume-clause-worked : goal.returns-in-Resume-clause-worked
-returns-in-Resume-clause-worked g c = λ O told words is. c.resume.ensures.worked O told words (g.S.Source.left c.args.source.now) (plain_line c.args.line.now, is, sym c.in-Resume.ensures.command)
+returns-in-Resume-clause-worked g c = λ O told words is. c.resume.ensures.worked O told words (g.S.Source.left c.args.source.now) is
 
 pub returns-in-Help-clause-end : goal.returns-in-Help-clause-end
 returns-in-Help-clause-end g c = λ words is.
