@@ -2,27 +2,28 @@
 --     not_yet     where a node uses one of them
 use Rattle.std.specs.Prelude.{Bool, true, false, List, codes, Option, Some, None, if◌then◌else◌}
 use Rattle.wf_ast.specs.Flows.{flow}
-use Rattle.wf_ast.specs.Func.{HttpCall, Listing, Special, SpecialListing, func_named, special_named}
+use Rattle.wf_ast.specs.Func.{HttpCall, Listing, Special, SpecialListing, SysLog, func_named, special_named}
 use Rattle.wf_ast.specs.Nodes.{Path, NodePart, part_body, below}
 use Rattle.wf_ast.specs.Tree.{Body, Flow, try}
 use Rattle.wf_value.specs.Pairs.{Text}
 
--- a call of HTTP
-abbrev pub is_http : Special → Bool
-is_http (HttpCall m) = true
-is_http s = false
+-- a call of HTTP, or the log
+abbrev pub has_moves : Special → Bool
+has_moves (HttpCall m) = true
+has_moves SysLog = true
+has_moves s = false
 
--- there is a function of this name that only steps may call, and it is built: a call of HTTP
+-- there is a function of this name that only steps may call, and it is built: a call of HTTP, or the log
 abbrev pub is_built : Option SpecialListing → Bool
 is_built None = false
-is_built (Some e) = is_http e.special
+is_built (Some e) = has_moves e.special
 
 -- the key of a call that names no workflow: none where expressions may call the function, or it is built
 abbrev pub uncalled : Option Listing → Option SpecialListing → Option Text
 uncalled (Some e) g = None
 uncalled None g = if is_built g then None else Some (codes "call")
 
--- the key of a body whose form isn't built: a call of a function that only steps may call, unless it is one of HTTP, what runs in parallel, a retry
+-- the key of a body whose form isn't built: a call of a function that only steps may call, unless it is one of HTTP or the log, what runs in parallel, a retry
 abbrev pub form_key : List Flow → Body → Option Text
 form_key fs (Body.Call f) = elim (flow fs f.name) [ None ↦ uncalled (func_named f.name) (special_named f.name) | Some g ↦ None ]
 form_key fs (Body.Parallel p) = Some (codes "parallel")

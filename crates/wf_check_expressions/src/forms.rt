@@ -26,13 +26,19 @@ fn uncalled(name: &str) -> Option<&'static str>
     }
 }
 
-// Whether a function of this name that only steps may call is built: a call of HTTP.
+// Whether a function of this name that only steps may call is built: a call of HTTP, or the log.
 fn is_built(name: &str) -> bool
     ensures { result ≡ forms.is_built (special_named name.now) }
 {
     matches!(
         name,
-        "http.get" | "http.post" | "http.put" | "http.patch" | "http.delete" | "http.request"
+        "http.get"
+            | "http.post"
+            | "http.put"
+            | "http.patch"
+            | "http.delete"
+            | "http.request"
+            | "sys.log"
     )
 }
 

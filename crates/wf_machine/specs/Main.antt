@@ -13,22 +13,27 @@ use Rattle.wf_frames.specs.Owned.{Around, control_of, own_of}
 use Rattle.wf_frames.specs.Standing.{Standing, Standing-prop}
 use Rattle.wf_http_ask.specs.View.{request_view}
 use Rattle.wf_machine.specs.Facts.{facts_view}
+use Rattle.wf_machine.specs.Log.{entries_of, logged_at}
 use Rattle.wf_machine.specs.State.{outcome_by}
 use Rattle.wf_machine.specs.declared.ending.Ending.{Ending}
 use Rattle.wf_machine.specs.declared.facts.Facts.{Facts}
+use Rattle.wf_machine.specs.declared.log.Log.{Log}
 use Rattle.wf_machine.specs.declared.machine.Tally.{Tally}
 use Rattle.wf_alone.specs.Machine.{Rest, config_by, main_task}
 use Rattle.wf_model.specs.Calls.{http_method}
 use Rattle.wf_model.specs.Config as model
-use Rattle.wf_model.specs.Config.{Active, Call, Config, Do, Open, Outcome, Raised, Returned, limits}
+use Rattle.wf_model.specs.Config.{Active, Call, Config, Do, LogEntry, Open, Outcome, Raised, Returned, limits}
 use Rattle.wf_model.specs.Local.{Local, settle}
 use Rattle.wf_model.specs.Run.{main_local, main_steps}
 use Rattle.wf_moves.specs.Waits.{CanGoOn, CanGoOn-prop, call_in, task_local, wait_view}
+use Rattle.wf_moves.specs.declared.finish.End.{End}
 use Rattle.wf_moves.specs.declared.finish.End.TheVariants as end
+use Rattle.wf_moves.specs.declared.finish.Went.{Went}
+use Rattle.wf_moves.specs.declared.finish.Went.TheVariants as went
 use Rattle.wf_moves.specs.declared.task.Move.{Move}
 use Rattle.wf_moves.specs.declared.task.Move.TheVariants as move
 use Rattle.wf_moves.specs.declared.task.Task.{Task}
-use Rattle.wf_value.specs.Data.{Data}
+use Rattle.wf_value.specs.Data.{Data, depth}
 use Rattle.wf_value.specs.Pairs.{Text}
 use Rattle.wf_value.specs.Plain.{plain}
 use Rattle.wf_nodes.specs.Sets.{Part-set}
@@ -80,8 +85,8 @@ Aims-prop p nodes targets = Π_prop (λ i. Π_prop (λ x. Π_prop (λ f. →_pro
 
 -- ## The configuration
 -- what it has beside its tasks and its outcome
-abbrev pub rest_of : Facts → Tally → List Call → Rest
-rest_of f y calls = record { facts = facts_view f; last = y.last; calls = calls; moves = y.moves; bodies = y.bodies }
+abbrev pub rest_of : Facts → Tally → List Call → List LogEntry → Rest
+rest_of f y calls log = record { facts = facts_view f; last = y.last; calls = calls; log = log; moves = y.moves; bodies = y.bodies }
 
 abbrev pub task_view : Program → Task → Scopes → model.Task
 task_view p t x = main_task (control_of (around p) t.frames) (own_layers (own_of t.frames) (layers_of x)) (wait_view (around p) t.wait)
@@ -90,8 +95,8 @@ abbrev pub tasks_view : Program → Option Task → Scopes → List (ℕ × mode
 tasks_view p None x = []
 tasks_view p (Some t) x = (0, task_view p t x) ∷ []
 
-abbrev pub config_of : Program → Facts → Tally → Option Task → Scopes → List Call → Ending → Config
-config_of p f y t x calls e = config_by (rest_of f y calls) (tasks_view p t x) (outcome_by e)
+abbrev pub config_of : Program → Facts → Tally → Option Task → Scopes → List Call → Log → Ending → Config
+config_of p f y t x calls log e = config_by (rest_of f y calls (entries_of log)) (tasks_view p t x) (outcome_by e)
 
 -- ## Where it stands
 abbrev pub IsStanding : Program → List Node → Option Task → Scopes → Type 0
@@ -111,13 +116,30 @@ abbrev pub Begins : Program → Data → Option Task → Scopes → Type 0
 Begins p v None x = (first_local p v).control ≡ []
 Begins p v (Some t) x = (first_local p v ≡ task_local (around p) t x) × (call_in t.wait ≡ None)
 
--- the outcome behind what `main` has done, and the calls
+-- the outcome behind an end of `main`, and behind what it has done; the calls; and the log
+abbrev pub outcome_at : End → Outcome
+outcome_at (end.Value v) = Returned (plain v)
+outcome_at (end.Error e) = Raised (plain e)
+
+abbrev pub outcome_then : Went → Outcome
+outcome_then went.Goes = Active
+outcome_then (went.Ended e) = outcome_at e
+
 abbrev pub outcome_behind : Move → Outcome
 outcome_behind move.Went = Active
-outcome_behind (move.Ended (end.Value v)) = Returned (plain v)
-outcome_behind (move.Ended (end.Error e)) = Raised (plain e)
+outcome_behind (move.Ended e) = outcome_at e
 outcome_behind (move.Sent x) = Active
+outcome_behind (move.Logged x w) = outcome_then w
 
 abbrev pub calls_behind : Move → List Call → List Call
 calls_behind (move.Sent x) calls = calls ++ Open 0 (request_view x.request) x.due ∷ []
 calls_behind m calls = calls
+
+abbrev pub log_behind : ℕ → Move → List LogEntry → List LogEntry
+log_behind reading (move.Logged x w) log = log ++ logged_at reading x ∷ []
+log_behind reading m log = log
+
+-- how deep nests what it has logged
+abbrev pub logged_depth : Move → ℕ
+logged_depth (move.Logged x w) = depth (plain x.value)
+logged_depth m = 0

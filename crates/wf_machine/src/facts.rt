@@ -9,7 +9,8 @@ use wf_frames::Facts as StepFacts;
 use wf_moves::Sending;
 use wf_value::OutOfMemory;
 
-/// What no event of an execution changes, and what a step sees of the rest: the reading of the clock, and how many calls were made.
+/// What no event of an execution changes, and what a step sees of the rest: the reading of the clock, how many calls were made, and how
+/// much was logged.
 pub(crate) struct Facts {
     pub(crate) of_step: StepFacts,
     pub(crate) sending: Sending,
@@ -26,7 +27,7 @@ impl Drop for Facts {
 }
 
 impl Facts {
-    /// Those of a start. No step has seen the clock, and no call was made.
+    /// Those of a start. No step has seen the clock, no call was made, and nothing was logged.
     pub(crate) fn of(alloc: Global, start: &Start) -> Result<Facts, OutOfMemory>
         ensures { IfOk result (λ f. facts_view f ≡ facts_of (start_view start.now)) }
     {
@@ -40,6 +41,7 @@ impl Facts {
             sending: Sending {
                 routes: copy_routes(alloc, &start.routes)?,
                 calls: 0,
+                logged: 0,
             },
         })
     }

@@ -17,7 +17,7 @@ use wf_steps::{Target, http_named};
 use wf_value::OutOfMemory;
 
 /// What each call names, at the call's own number; none where a call names neither a workflow, nor a function of expressions, nor a call
-/// of HTTP.
+/// of HTTP, nor the log.
 pub(crate) fn targets_of(
     alloc: Global,
     program: &Checked,
@@ -49,7 +49,8 @@ fn target(program: &Checked, node: &Node) -> Option<Target>
     }
 }
 
-// What may be called by a name: the workflow of that name, where there is none a function, and where that isn't one either a call of HTTP.
+// What may be called by a name: the workflow of that name, where there is none a function, and where that isn't one either a call of HTTP
+// or the log.
 fn named(program: &Checked, name: &str) -> Option<Target>
     ensures { IfSome result (λ t. IsTarget (program_of program.now).flows
         (spots (program_of program.now).flows) (Some t) name.now) }
@@ -60,13 +61,14 @@ fn named(program: &Checked, name: &str) -> Option<Target>
     }
 }
 
-// The function of a name, or the call of HTTP.
+// The function of a name, or the call of HTTP, or the log.
 fn listed(name: &str) -> Option<Target>
     ensures { IfSome result (λ t. (fs : List Flow) (ns : List Spot)
         → is_some (flow fs name.now) ≡ false → IsTarget fs ns (Some t) name.now) }
 {
     match function_named(name) {
         Some(function) => Some(Target::Function(function)),
+        None if name == "sys.log" => Some(Target::Log),
         None => Some(Target::Http(http_named(name)?)),
     }
 }

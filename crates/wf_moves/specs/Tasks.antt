@@ -2,8 +2,8 @@
 --     begun       a task before a workflow, with its argument
 --     argued      a layer with the argument in it
 --     Names       a node is a call of such a name
---     MovesSo     a move or a request of the model, by what a call gives and leaves
-use Rattle.std.specs.Prelude.{◌≡◌, ℕ, Bool, true, false, List, [], ◌∷◌, Some, None, is_some}
+--     MovesSo     a move, a request or a log of the model, by what a call gives and leaves
+use Rattle.std.specs.Prelude.{◌≡◌, ◌≤◌, ℕ, Bool, true, false, List, [], ◌∷◌, Some, None, is_some}
 use Rattle.wf_ast.specs.Tree.{Flow, Param, no_steps}
 use Rattle.wf_frames.specs.Fits.{IsCall, view_at}
 use Rattle.wf_frames.specs.Frames.{inner}
@@ -16,7 +16,7 @@ use Rattle.wf_frames.specs.declared.frames.Frame.{Frame}
 use Rattle.wf_frames.specs.declared.frames.Frames.{Frames}
 use Rattle.wf_http_ask.specs.View.{request_view}
 use Rattle.wf_model.specs.Config.{Awake, Do, Item}
-use Rattle.wf_model.specs.Local.{Breaks, Does, Goes, Local, Moved, Scene, Sends, settle}
+use Rattle.wf_model.specs.Local.{Breaks, Does, Goes, Local, Logs, Moved, Scene, Sends, settle}
 use Rattle.wf_model.specs.Run.{argument_in}
 use Rattle.wf_moves.specs.Moved.{IsLeft, IsMove}
 use Rattle.wf_moves.specs.Requests.{Reaches}
@@ -27,6 +27,7 @@ use Rattle.wf_moves.specs.declared.finish.Went.{Went}
 use Rattle.wf_moves.specs.declared.finish.Went.TheVariants as went
 use Rattle.wf_moves.specs.declared.task.Move.{Move}
 use Rattle.wf_moves.specs.declared.task.Move.TheVariants as move
+use Rattle.wf_moves.specs.declared.logging.Logged.{Logged}
 use Rattle.wf_moves.specs.declared.sending.Sending.{Sending}
 use Rattle.wf_moves.specs.declared.sending.Sent.{Sent}
 use Rattle.wf_moves.specs.declared.task.Task.{Task}
@@ -39,8 +40,9 @@ use Rattle.wf_scope.specs.Layers.{put_at}
 use Rattle.wf_scope.specs.Store.{layers_of}
 use Rattle.wf_scope.specs.declared.layer.Layer.{Layer}
 use Rattle.wf_scope.specs.declared.scopes.Scopes.{Scopes}
-use Rattle.wf_value.specs.Data.{Data}
+use Rattle.wf_value.specs.Data.{Data, depth}
 use Rattle.wf_value.specs.Pairs.{Text}
+use Rattle.wf_value.specs.Plain.{plain}
 
 -- ## The start
 -- the node is a workflow
@@ -107,11 +109,18 @@ IsRequest (Breaks kind) x l = Unit {0}
 IsRequest (Does (Sends q d) m) x l = (q ≡ request_view x.request) × (d ≡ x.due) × (m ≡ Goes l)
 IsRequest m x l = ⊥
 
--- the model's move or request, by what a call gives and leaves
+-- the model's log, and its move then, where it isn't one that no accepted program makes
+abbrev pub IsLogged : Moved → Logged → Went → Local → Type 0
+IsLogged (Breaks kind) x w l = Unit {0}
+IsLogged (Does (Logs severity v) m) x w l = (severity ≡ x.severity) × (v ≡ plain x.value) × (depth (plain x.value) ≤ 100) × IsMove m w l
+IsLogged m x w l = ⊥
+
+-- the model's move, request or log, by what a call gives and leaves
 abbrev pub MovesSo : Moved → Move → Local → Type 0
 MovesSo m move.Went l = IsMove m went.Goes l
 MovesSo m (move.Ended e) l = IsMove m (went.Ended e) l
 MovesSo m (move.Sent x) l = IsRequest m x l
+MovesSo m (move.Logged x w) l = IsLogged m x w l
 
 abbrev pub is_sent : Move → Bool
 is_sent (move.Sent x) = true
@@ -122,17 +131,25 @@ abbrev pub Stays : List Node → Move → Task → Type 0
 Stays nodes move.Went t = (call_in t.wait ≡ None) × CanGoOn nodes t
 Stays nodes (move.Ended e) t = inner t.frames ≡ []
 Stays nodes (move.Sent x) t = (is_some (call_in t.wait) ≡ true) × CanGoOn nodes t
+Stays nodes (move.Logged x went.Goes) t = (call_in t.wait ≡ None) × CanGoOn nodes t
+Stays nodes (move.Logged x (went.Ended e)) t = inner t.frames ≡ []
 
--- ## Moves and requests within a call
--- the model's move or request, of a task that goes on so or waits
+-- ## Moves, requests and logs within a call
+-- the model's move, request or log, of a task that goes on so or waits
 abbrev pub IsDone : Around → Moved → Done → Local → Type 0
 IsDone a m (done.Went w) l = IsMove m w l
 IsDone a m (done.Sent x w) l = IsRequest m x (record l { wait = wait_view a w })
+IsDone a m (done.Logged x w) l = IsLogged m x w l
 
 -- it is this one, whatever the scene that has these facts, and agrees on the limit, the rest and the workflows
 abbrev pub DoesBy : Around → Facts → Sending → (Scene → Local → Moved) → Held → Done → Frames → Scopes → Type 0
 DoesBy a f g m h d fs x = (s : Scene) (c : List Item) → Sees s f → Reaches s g → Agrees s a → IsDone a (m s (standing c h)) d (local_of a fs x)
 
+-- the same of a scene whose facts don't matter
+abbrev pub LogsBy : Around → Sending → (Scene → Local → Moved) → Held → Done → Frames → Scopes → Type 0
+LogsBy a g m h d fs x = (s : Scene) (c : List Item) → Reaches s g → Agrees s a → IsDone a (m s (standing c h)) d (local_of a fs x)
+
 abbrev pub IsLeftSo : List Node → Done → List Frame → Type 0
 IsLeftSo nodes (done.Went w) fs = IsLeft nodes w fs
 IsLeftSo nodes (done.Sent x w) fs = (is_some (call_in w) ≡ true) × GoesFrom nodes w fs
+IsLeftSo nodes (done.Logged x w) fs = IsLeft nodes w fs

@@ -20,6 +20,7 @@ ghost use Rattle.wf_value.specs.Plain.{plain};
 use crate::assign::fails;
 use crate::back::give;
 use crate::finish::{Done, Went, goes};
+use crate::logging::logs;
 use crate::sending::{Sending, sends};
 use crate::start::params;
 use crate::unwind::raises_tag;
@@ -197,5 +198,6 @@ pub(crate) fn call(
         Target::Http(method) => sends(
             alloc, nodes, n, *method, args, frames, scopes, facts, sending,
         ),
+        Target::Log => logs(alloc, nodes, n, args, frames, scopes, sending),
     }
 }

@@ -11,6 +11,7 @@ ghost use Rattle.wf_moves.specs.Moved.{HasMove, IsLeft, IsMove, IsSettled, Settl
 ghost use Rattle.wf_nodes.specs.Spots.{Spot};
 ghost use Rattle.wf_nodes.specs.declared.node.Node.{Node};
 
+use crate::logging::Logged;
 use crate::sending::Sent;
 use crate::wait::Wait;
 use wf_frames::{Frame, Frames, leave};
@@ -26,18 +27,19 @@ pub enum End {
     Error(Value),
 }
 
-/// What a move gives.
+/// How a task stands behind a move: it goes on, or has ended.
 #[derive(Drop)]
-pub(crate) enum Went {
+pub enum Went {
     Goes,
     Ended(End),
 }
 
-/// What a move gives, or the request that the task has made, with its wait.
+/// What a move gives; the request that the task has made, with its wait; or what it has logged, and what the move gives then.
 #[derive(Drop)]
 pub(crate) enum Done {
     Went(Went),
     Sent(Sent, Wait),
+    Logged(Logged, Went),
 }
 
 // Whether a frame has ended.

@@ -10,6 +10,7 @@ mod back;
 mod call;
 mod finish;
 mod jump;
+mod logging;
 mod moves;
 mod sending;
 mod start;
@@ -18,6 +19,7 @@ mod turn;
 mod unwind;
 mod wait;
 
-pub use finish::End;
+pub use finish::{End, Went};
+pub use logging::Logged;
 pub use sending::{Sending, Sent};
 pub use task::{Move, Task};

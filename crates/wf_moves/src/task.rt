@@ -16,6 +16,7 @@ ghost use Rattle.wf_value.specs.Plain.{plain};
 
 use crate::back::give;
 use crate::finish::{Done, End, Went, settle};
+use crate::logging::Logged;
 use crate::moves::advance;
 use crate::sending::{Sending, Sent};
 use crate::start::{first_layer, params};
@@ -37,9 +38,11 @@ pub enum Move {
     Ended(End),
     /// It has made a request, and waits for the answer.
     Sent(Sent),
+    /// It has logged a value, and goes on or has ended.
+    Logged(Logged, Went),
 }
 
-// What a move has done that makes no request.
+// What a move has done that neither makes a request nor logs.
 fn move_of(went: Went) -> Move
     ensures { result ≡ move_of went }
 {
@@ -169,6 +172,7 @@ impl Task {
                 self.wait = wait;
                 Ok(Move::Sent(sent))
             }
+            Done::Logged(entry, went) => Ok(Move::Logged(entry, went)),
         }
     }
 

@@ -1,11 +1,11 @@
 -- Tables whose steps are built.
 --     is_table_built     none is parallel or retries
 --     Tells              such a table tells of a program's parts
---     AreTargets         what its calls name: workflows, functions, and calls of HTTP
+--     AreTargets         what its calls name: workflows, functions, calls of HTTP, and the log
 use Rattle.std.specs.Prelude.{◌≡◌, ℕ, Bool, true, false, ◌&&◌, not, List, map, option_map, slice_get, is_none, is_some, Some, None, Option}
 use Rattle.std.specs.List.{list_all}
 use Rattle.wf_ast.specs.Flows.{flow}
-use Rattle.wf_ast.specs.Func.{Listing, func_named, special_named}
+use Rattle.wf_ast.specs.Func.{Listing, SpecialListing, SysLog, func_named, special_named}
 use Rattle.wf_ast.specs.Tree.{Flow}
 use Rattle.wf_ast.specs.declared.Func.{Func}
 use Rattle.wf_callbacks.specs.Plain.{plain_method}
@@ -70,12 +70,19 @@ pub record IsHttp (fs : List Flow) (m : Option Method) (x : Text) : Type 0 where
   pub unlisted : is_some (func_named x) ≡ false
   pub named : http_method (special_named x) ≡ Some (option_map plain_method m)
 
+-- no workflow and no function of expressions that may be called has this name, but the log
+pub record IsLog (fs : List Flow) (x : Text) : Type 0 where
+  pub free : is_some (flow fs x) ≡ false
+  pub unlisted : is_some (func_named x) ≡ false
+  pub named : option_map (λ (g : SpecialListing). g.special) (special_named x) ≡ Some SysLog
+
 -- a call of this name comes to this
 abbrev pub IsTarget : List Flow → List Spot → Option Target → Text → Type 0
 IsTarget fs ns None x = ⊥
 IsTarget fs ns (Some (target.Flow n)) x = IsWorkflow fs ns n x
 IsTarget fs ns (Some (target.Function g)) x = IsFunction fs g x
 IsTarget fs ns (Some (target.Http m)) x = IsHttp fs m x
+IsTarget fs ns (Some target.Log) x = IsLog fs x
 
 -- what each call names stands at the call's own number
 abbrev pub AreTargets : List Flow → List Spot → List Node → List Target → Type 0

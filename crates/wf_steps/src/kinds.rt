@@ -134,6 +134,7 @@ fn call_kind(targets: &[Target], n: u32, clock: bool) -> Kind
         Target::Flow(_) => by_clock(clock),
         Target::Function(function) => by_clock(is_now(function.func) || clock),
         Target::Http(_) => Kind::Call,
+        Target::Log => by_clock(clock),
     }
 }
 

@@ -7,13 +7,14 @@ ghost use Rattle.wf_model.specs.Calls.{http_method};
 use wf_callbacks::Method;
 use wf_library::Function;
 
-/// What a call names: the workflow of the node with this number, a function, or a call of HTTP, whose name tells its method, or none
-/// where the method is among the arguments.
+/// What a call names: the workflow of the node with this number, a function, a call of HTTP, whose name tells its method, or none
+/// where the method is among the arguments, or the log.
 #[derive(Clone, Copy)]
 pub enum Target {
     Flow(u32),
     Function(Function),
     Http(Option<Method>),
+    Log,
 }
 
 /// The call of HTTP of a name, with the method that the name tells.
