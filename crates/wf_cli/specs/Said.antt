@@ -17,7 +17,7 @@ use Rattle.wf_deeds.specs.Outside.{Outside}
 use Rattle.wf_deeds.specs.Rules.{MayEnd}
 use Rattle.wf_engine.specs.Engine.{memory}
 use Rattle.wf_engine.specs.Printed as end
-use Rattle.wf_engine.specs.Printed.{Scene, uses_source, executes, status_of, outcome_text, accepted_text}
+use Rattle.wf_engine.specs.Printed.{Scene, uses_source, uses_journal, executes, status_of, outcome_text, accepted_text}
 use Rattle.wf_engine.specs.Safe.{IsFit, Since, SafeAt, LateAt, command_by, session}
 use Rattle.wf_engine.specs.Starts.{start_of}
 use Rattle.wf_engine.specs.TheLanguage.{the_language}
@@ -204,6 +204,11 @@ pub record Opening (O : Outside) (command : kept.Command) (s : Scene) (old new :
   pub resumed : command ≡ kept.Resume → Unwritten old new
   pub finished : (st : Standing) → IsLineOf s (λ c. c ≡ Resume) → history the_language (records s.found) ≡ Ok st → st.config.outcome ≢ Active → new.deeds ≡ old.deeds
 
+-- ## Telling of a history
+-- a text of a line that tells of a history, where these are the records that are found
+abbrev pub TellsOf : PlainLine → List (List ℕ) → List ℕ → Type 0
+TellsOf l J text = (s : Scene) → end.IsLine s l → records s.found ≡ J → end.TellsHistory the_language the_reports s text
+
 -- ## Going on to the outcome
 -- an outcome is said, or that there is none yet, or the disk failed, or there was no memory
 abbrev pub SaysResult : Faults → Faults → Result Said Silence → Type 0
@@ -237,7 +242,7 @@ pub record Going (L : Language) (O : Outside) (command : kept.Command) (m : Memo
 abbrev pub IsEnd : Scene → World → World → ℕ → ℕ → Faults → Faults → Result Said Silence → Type 0
 IsEnd s old new reads reads2 faults faults2 (Ok said) = Says s old new said.status said.text.items
 IsEnd s old new reads reads2 faults faults2 (Err silence.Unread) = IsLineOf s (λ c. uses_source c ≡ true) × ¬ IsBadArgument s × Rose reads reads2
-IsEnd s old new reads reads2 faults faults2 (Err silence.DiskFault) = IsLineOf s (λ c. executes c ≡ true) × IsTaken s × Rose faults.disk faults2.disk
+IsEnd s old new reads reads2 faults faults2 (Err silence.DiskFault) = IsLineOf s (λ c. uses_journal c ≡ true) × IsTaken s × Rose faults.disk faults2.disk
 IsEnd s old new reads reads2 faults faults2 (Err silence.PollFault) = IsLineOf s (λ c. executes c ≡ true) × IsTaken s × Told old (IsPassed the_language s status.PollFault) × Rose faults.poll faults2.poll
 IsEnd s old new reads reads2 faults faults2 (Err silence.OutOfMemory) = Unit {0}
 
