@@ -54,7 +54,7 @@ somewhere (Ends e l) c real = tt
 somewhere (Does (Sends q due) m) c real = somewhere m (done 0 (Sends q due) c) real
 somewhere (Does (Creates m) n) c real = absurd real
 somewhere (Does (Takes e) n) c real = absurd real
-somewhere (Does (Logs severity v) n) c real = absurd real
+somewhere (Does (Logs severity v) n) c real = somewhere n (done 0 (Logs severity v) c) real
 somewhere (Breaks kind) c real = tt
 somewhere Not c real = absurd real
 

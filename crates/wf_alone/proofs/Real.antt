@@ -5,15 +5,15 @@
 use Rattle.std.proofs.Common.{◌≡◌, ℕ, suc, Bool, true, false, List, [], ◌∷◌, Option, Result, None, Some, Ok, Err, refl, sym, ◌∙◌, subst}
 use Rattle.std.specs.Prelude.{if◌then◌else◌, ◌||◌, codes, bytes_eq, is_some, nat_le}
 use Rattle.wf_alone.specs.Machine.{step_by}
-use Rattle.wf_alone.specs.Plain.{is_plain_body, ArePlain, Moves, IsReal}
+use Rattle.wf_alone.specs.Plain.{is_log, is_plain_body, special_of, ArePlain, Moves, IsReal}
 use Rattle.wf_ast.specs.Accept.{BreakOutsideLoop}
 use Rattle.wf_ast.specs.Eval.{eval_all, fill, fill_fields}
 use Rattle.wf_ast.specs.Apply.{apply}
 use Rattle.wf_ast.specs.Flows.{flow}
-use Rattle.wf_ast.specs.Func.{AwaitCallback, CreateEndpoint, HttpCall, Listing, Special, SpecialListing, SysLog, SysSleep, SysSleepUntil, func_named, in_order, special_named, takes}
+use Rattle.wf_ast.specs.Func.{AwaitCallback, CreateEndpoint, HttpCall, Listing, Special, SpecialListing, SysLog, SysSleep, SysSleepUntil, call_takes, func_named, in_order, special_named, takes}
 use Rattle.wf_ast.specs.declared.Func.{Func}
 use Rattle.wf_ast.specs.Tree.{CallBody, Entry, Flow, OfBranches, OfLoop, Param, parallel, Steps, TryBody, except, loop, LoopBody, no_except, step, no_steps, more, Body, try}
-use Rattle.wf_model.specs.Calls.{bindings, calls_listed, calls_named, calls_with, evaluates, fits_call, http_method, issues_call, requests}
+use Rattle.wf_model.specs.Calls.{bindings, calls_listed, calls_named, calls_special, calls_with, evaluates, fits_call, http_method, issues_call, log_entry, logs, requests, within_log}
 use Rattle.wf_model.specs.Config.{Item, Do, Entries, Then, Loop, Try, Judge, Mark, Back, Join, Left, call_limit, next_of}
 use Rattle.wf_model.specs.Kinds.{ByCall, ByClock, NextKind, Plainly, next_kind, by_clock, arms_now, body_kind, call_kind, entry_now, fields_now, is_now, listed_kind, over_now, special_kind, template_now}
 use Rattle.wf_model.specs.Layers.{Assigned, Done, Refused, Undeclared, assign, enter, opened, view}
@@ -226,22 +226,26 @@ calls_with_real s w r (Some xs) k l =
 evaluates_real : (s : Scene) (r : Option Text) (f : Func) (vs : List Data) (k : List Item) (l : Local) → IsReal (evaluates s r f vs k l)
 evaluates_real s r f vs k l = on_real s k l (apply (view s l) f vs >>= kept) _ (λ v. gives_real s r v k l)
 
+-- a log, which goes on then
+logs_real : (s : Scene) (r : Option Text) (args : Pairs) (k : List Item) (l : Local) → IsReal (logs s r args k l)
+logs_real s r args k l = on_real s k l (log_entry args >>= within_log s) _ (λ e. gives_real s r null k l)
+
 -- no step of another kind is one of HTTP
-listed_real : (s : Scene) (r : Option Text) (e : Option Listing) (g : Option SpecialListing) (args : Pairs) (k : List Item) (l : Local) (clock : Bool) → (is_some e || is_some (http_method g)) ≡ true
+listed_real : (s : Scene) (r : Option Text) (e : Option Listing) (g : Option SpecialListing) (args : Pairs) (k : List Item) (l : Local) (clock : Bool) → (is_some e || is_some (http_method g) || is_log (special_of g)) ≡ true
     → (listed_kind e g clock ≡ ByCall → ⊥) → IsReal (calls_listed s r e g args k l)
 listed_real s r (Some e) g args k l clock there plain = either_real (takes e.signature (keys args)) _ _ (evaluates_real s r e.func (in_order e.signature args) k l) tt
 listed_real s r None None args k l clock there plain = absurd (cc there)
-listed_real s r None (Some g) args k l clock there plain = absurd (special g.special there plain)
+listed_real s r None (Some g) args k l clock there plain = either_real (call_takes g.name g.signature (keys args)) _ _ (special g.special there plain) tt
   where
-    special : (x : Special) → is_some (elim x [ HttpCall m ↦ Some m | y ↦ None ]) ≡ true → (special_kind x clock ≡ ByCall → ⊥) → ⊥
-    special (HttpCall m) there plain = plain refl
-    special SysLog there plain = cc there
-    special SysSleep there plain = cc there
-    special SysSleepUntil there plain = cc there
-    special CreateEndpoint there plain = cc there
-    special AwaitCallback there plain = cc there
+    special : (x : Special) → (is_some (elim x [ HttpCall m ↦ Some m | y ↦ None ]) || is_log (Some x)) ≡ true → (special_kind x clock ≡ ByCall → ⊥) → IsReal (calls_special s r x args k l)
+    special (HttpCall m) there plain = absurd (plain refl)
+    special SysLog there plain = logs_real s r args k l
+    special SysSleep there plain = absurd (cc there)
+    special SysSleepUntil there plain = absurd (cc there)
+    special CreateEndpoint there plain = absurd (cc there)
+    special AwaitCallback there plain = absurd (cc there)
 
-named_real : (s : Scene) (r : Option Text) (o : Option Flow) (x : Text) (args : Pairs) (k : List Item) (l : Local) (clock : Bool) → (is_some o || is_some (func_named x) || is_some (http_method (special_named x))) ≡ true
+named_real : (s : Scene) (r : Option Text) (o : Option Flow) (x : Text) (args : Pairs) (k : List Item) (l : Local) (clock : Bool) → (is_some o || is_some (func_named x) || is_some (http_method (special_named x)) || is_log (special_of (special_named x))) ≡ true
     → (call_kind o x clock ≡ ByCall → ⊥) → IsReal (calls_named s r o x args k l)
 named_real s r (Some w) x args k l clock there plain = calls_with_real s w r (bindings w.params args) k l
 named_real s r None x args k l clock there plain = listed_real s r (func_named x) (special_named x) args k l clock there plain

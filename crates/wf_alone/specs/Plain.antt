@@ -1,19 +1,28 @@
--- Control without parallel steps, whose calls are those of workflows, of functions that expressions may call too, and of HTTP.
+-- Control without parallel steps, whose calls are those of workflows, of functions that expressions may call too, of HTTP, and of the log.
 --     is_plain, ArePlain   an item of these forms, and a control
 --     has_move, Moves      an item that has something to do, and a control whose innermost item has
 --     IsReal               a move that isn't ruled out
-use Rattle.std.specs.Prelude.{◌≡◌, Bool, true, false, ◌||◌, is_some, List, [], ◌∷◌}
+use Rattle.std.specs.Prelude.{◌≡◌, Bool, true, false, ◌||◌, is_some, List, [], ◌∷◌, Option, Some, option_map}
 use Rattle.std.specs.List.{list_all}
 use Rattle.wf_ast.specs.Flows.{flow}
-use Rattle.wf_ast.specs.Func.{func_named, special_named}
+use Rattle.wf_ast.specs.Func.{Special, SpecialListing, SysLog, func_named, special_named}
 use Rattle.wf_ast.specs.Tree.{Body, Flow, more, step}
 use Rattle.wf_model.specs.Calls.{http_method}
 use Rattle.wf_model.specs.Config.{Item, Back, Do, Entries, Join, Then, Loop}
-use Rattle.wf_model.specs.Local.{Moved, Goes, Ends, Does, Breaks, Not, Sends}
+use Rattle.wf_model.specs.Local.{Moved, Goes, Ends, Does, Breaks, Not, Logs, Sends}
 
--- a body of these forms: a call is one of these workflows, of a function that expressions may call too, or of HTTP
+-- the log
+abbrev pub is_log : Option Special → Bool
+is_log (Some SysLog) = true
+is_log s = false
+
+-- a function that only steps may call, by its listing
+abbrev pub special_of : Option SpecialListing → Option Special
+special_of g = option_map (λ (e : SpecialListing). e.special) g
+
+-- a body of these forms: a call is one of these workflows, of a function that expressions may call too, of HTTP, or of the log
 abbrev pub is_plain_body : List Flow → Body → Bool
-is_plain_body fs (Body.Call f) = is_some (flow fs f.name) || is_some (func_named f.name) || is_some (http_method (special_named f.name))
+is_plain_body fs (Body.Call f) = is_some (flow fs f.name) || is_some (func_named f.name) || is_some (http_method (special_named f.name)) || is_log (special_of (special_named f.name))
 is_plain_body fs (Body.Parallel p) = false
 is_plain_body fs body = true
 
@@ -39,11 +48,12 @@ abbrev pub Moves : List Flow → List Item → Type 0
 Moves fs [] = ⊥
 Moves fs (i ∷ k) = has_move fs i ≡ true
 
--- a move that isn't ruled out: beside the task it does nothing but make a request
+-- a move that isn't ruled out: beside the task it does nothing but make a request or log a value
 abbrev pub IsReal : Moved → Type 0
 IsReal (Goes l) = Unit {0}
 IsReal (Ends e l) = Unit {0}
 IsReal (Does (Sends q due) m) = IsReal m
+IsReal (Does (Logs severity v) m) = IsReal m
 IsReal (Does x m) = ⊥
 IsReal (Breaks kind) = Unit {0}
 IsReal Not = ⊥

@@ -5,6 +5,7 @@ use Rattle.std.proofs.Math.Seq.{take-suc}
 use Rattle.std.proofs.lemmas.List.{append_assoc, length-append, take_all}
 use Rattle.std.proofs.lemmas.Slice.Eq.{bytes_eq-Decides}
 use Rattle.wf_ast.specs.Flows.{flow, flow_in}
+use Rattle.wf_alone.specs.Plain.{is_log, special_of}
 use Rattle.wf_ast.specs.Func.{Listing, func_named, special_named}
 use Rattle.wf_ast.specs.Tree.{Flow}
 use Rattle.wf_library.specs.Functions.{Callable, callable, function_of}
@@ -116,25 +117,44 @@ pub no_function : (o : Option Listing) → option_map function_of None ≡ optio
 no_function None e = refl
 no_function (Some l) e = absurd (cc e)
 
--- where no workflow may be called by a name, the function or the call of HTTP may
+-- where it isn't, what only steps may call may be
+pub unlisted_so : (x : Text) (o : Option Target)
+    → IfSome o (λ t. (fs : List Flow) (ns : List Spot) → is_some (flow fs x) ≡ false → is_some (func_named x) ≡ false → IsTarget fs ns (Some t) x)
+    → is_some (func_named x) ≡ false → IfSome o (λ t. (fs : List Flow) (ns : List Spot) → is_some (flow fs x) ≡ false → IsTarget fs ns (Some t) x)
+unlisted_so x None so none = tt
+unlisted_so x (Some t) so none = λ fs ns free. so fs ns free none
+
+-- where no workflow may be called by a name, the function, the call of HTTP or the log may
 pub listed_so : (fs : List Flow) (ns : List Spot) (x : Text) (o : Option Target) → IfSome o (λ t. (gs : List Flow) (ms : List Spot) → is_some (flow gs x) ≡ false → IsTarget gs ms (Some t) x) → is_some (flow fs x) ≡ false
     → IfSome o (λ t. IsTarget fs ns (Some t) x)
 listed_so fs ns x None so free = tt
 listed_so fs ns x (Some t) so free = so fs ns free
 
 -- ## What a call comes to
-pub plain_target : (fs : List Flow) (ns : List Spot) (o : Option Target) (x : Text) → IsTarget fs ns o x → (is_some (flow fs x) || is_some (func_named x) || is_some (http_method (special_named x))) ≡ true
+abbrev plain_by : Text → (function http flow : Bool) → Bool
+plain_by x function http flow = flow || function || http || is_log (special_of (special_named x))
+
+true_last : (b : Bool) → (b || true) ≡ true
+true_last true = refl
+true_last false = refl
+
+pub plain_target : (fs : List Flow) (ns : List Spot) (o : Option Target) (x : Text) → IsTarget fs ns o x → (is_some (flow fs x) || is_some (func_named x) || is_some (http_method (special_named x)) || is_log (special_of (special_named x))) ≡ true
 plain_target fs ns None x h = absurd h
-plain_target fs ns (Some (target.Flow n)) x h = ap (λ (b : Bool). b || is_some (func_named x) || is_some (http_method (special_named x))) h.named
-plain_target fs ns (Some (target.Function g)) x h = ap (λ (b : Bool). b || is_some (func_named x) || is_some (http_method (special_named x))) h.free ∙ by (func_named x) h.named
+plain_target fs ns (Some (target.Flow n)) x h = ap (plain_by x (is_some (func_named x)) (is_some (http_method (special_named x)))) h.named
+plain_target fs ns (Some (target.Function g)) x h = ap (plain_by x (is_some (func_named x)) (is_some (http_method (special_named x)))) h.free ∙ by (func_named x) h.named
   where
-    by : (o : Option Listing) → option_map listed o ≡ Some (function_parts g) → (is_some o || is_some (http_method (special_named x))) ≡ true
+    by : (o : Option Listing) → option_map listed o ≡ Some (function_parts g) → (is_some o || is_some (http_method (special_named x)) || is_log (special_of (special_named x))) ≡ true
     by None e = absurd (cc e)
     by (Some l) e = refl
 plain_target fs ns (Some (target.Http m)) x h =
-    ap (λ (b : Bool). b || is_some (func_named x) || is_some (http_method (special_named x))) h.free
-    ∙ ap (λ (b : Bool). b || is_some (http_method (special_named x))) h.unlisted
-    ∙ ap is_some h.named
+    ap (plain_by x (is_some (func_named x)) (is_some (http_method (special_named x)))) h.free
+    ∙ ap (λ (b : Bool). b || is_some (http_method (special_named x)) || is_log (special_of (special_named x))) h.unlisted
+    ∙ ap (λ q. is_some q || is_log (special_of (special_named x))) h.named
+plain_target fs ns (Some target.Log) x h =
+    ap (plain_by x (is_some (func_named x)) (is_some (http_method (special_named x)))) h.free
+    ∙ ap (λ (b : Bool). b || is_some (http_method (special_named x)) || is_log (special_of (special_named x))) h.unlisted
+    ∙ ap (λ q. is_some (http_method (special_named x)) || is_log q) h.named
+    ∙ true_last (is_some (http_method (special_named x)))
 
 -- ## The targets of a table
 -- a node, and what stands at its number

@@ -5,7 +5,7 @@
 use Rattle.std.specs.Prelude.{◌≡◌, ℕ, true, false, List, [], ◌∷◌, ◌++◌, None, Some, Option, is_some, option_map}
 use Rattle.std.specs.Coded.{Coded-set, codes, coded_bool, ×_prop, Unit-prop, Π_prop, →_prop}
 use Rattle.wf_ast.specs.Flows.{flow}
-use Rattle.wf_ast.specs.Func.{func_named, special_named}
+use Rattle.wf_ast.specs.Func.{SpecialListing, SysLog, func_named, special_named}
 use Rattle.wf_ast.specs.Tree.{Flow, Program}
 use Rattle.wf_callbacks.specs.Plain.{plain_method}
 use Rattle.wf_callbacks.specs.declared.method.Method.{Method}
@@ -43,7 +43,7 @@ use Rattle.wf_nodes.specs.declared.node.Node.{Node}
 use Rattle.wf_scope.specs.Store.{layers_of}
 use Rattle.wf_scope.specs.Tasks.{own_layers}
 use Rattle.wf_scope.specs.declared.scopes.Scopes.{Scopes}
-use Rattle.wf_steps.specs.Built.{AreTargets, IsFunction, IsHttp, IsTarget, IsWorkflow, flow_part, function_parts, listed}
+use Rattle.wf_steps.specs.Built.{AreTargets, IsFunction, IsHttp, IsLog, IsTarget, IsWorkflow, flow_part, function_parts, listed}
 use Rattle.wf_steps.specs.declared.target.Target.{Target}
 use Rattle.wf_steps.specs.declared.target.Target.TheVariants as target
 
@@ -74,11 +74,19 @@ IsHttp-prop fs m x = λ g h i. record {
   named = Coded-set (hlevel codes) (http_method (special_named x)) (Some (option_map plain_method m)) g.named h.named i;
 }
 
+IsLog-prop : (fs : List Flow) (x : Text) → IsProp (IsLog fs x)
+IsLog-prop fs x = λ g h i. record {
+  free = Coded-set coded_bool (is_some (flow fs x)) false g.free h.free i;
+  unlisted = Coded-set coded_bool (is_some (func_named x)) false g.unlisted h.unlisted i;
+  named = Coded-set (hlevel codes) (option_map (λ (e : SpecialListing). e.special) (special_named x)) (Some SysLog) g.named h.named i;
+}
+
 IsTarget-prop : (fs : List Flow) (ns : List Spot) (o : Option Target) (x : Text) → IsProp (IsTarget fs ns o x)
 IsTarget-prop fs ns None x = λ g h. absurd g
 IsTarget-prop fs ns (Some (target.Flow n)) x = IsWorkflow-prop fs ns n x
 IsTarget-prop fs ns (Some (target.Function f)) x = IsFunction-prop fs f x
 IsTarget-prop fs ns (Some (target.Http m)) x = IsHttp-prop fs m x
+IsTarget-prop fs ns (Some target.Log) x = IsLog-prop fs x
 
 pub Aims-prop : (p : Program) (nodes : List Node) (targets : List Target) → IsProp (Aims p nodes targets)
 Aims-prop p nodes targets = Π_prop (λ i. Π_prop (λ x. Π_prop (λ f. →_prop (→_prop (IsTarget-prop _ _ _ _)))))

@@ -1,6 +1,7 @@
 // What calls name.
 ghost use Rattle.std.specs.Prelude.{◌≡◌, IfOk, IfSome, List, None, Some, false, is_some, true};
 ghost use Rattle.wf_ast.specs.Flows.{flow};
+ghost use Rattle.wf_ast.specs.Func.{func_named};
 ghost use Rattle.wf_ast.specs.Tree.{Flow};
 ghost use Rattle.wf_check.specs.Seen.{nodes_of, program_of};
 ghost use Rattle.wf_machine.specs.Main.{Aims};
@@ -68,9 +69,20 @@ fn listed(name: &str) -> Option<Target>
 {
     match function_named(name) {
         Some(function) => Some(Target::Function(function)),
-        None if name == "sys.log" => Some(Target::Log),
-        None => Some(Target::Http(http_named(name)?)),
+        None => unlisted(name),
     }
+}
+
+// The call of HTTP of a name that no function of expressions has, or the log.
+fn unlisted(name: &str) -> Option<Target>
+    ensures { IfSome result (λ t. (fs : List Flow) (ns : List Spot)
+        → is_some (flow fs name.now) ≡ false → is_some (func_named name.now) ≡ false
+        → IsTarget fs ns (Some t) name.now) }
+{
+    if name == "sys.log" {
+        return Some(Target::Log);
+    }
+    Some(Target::Http(http_named(name)?))
 }
 
 // The number of the workflow of a name that may be called: `main` may not.

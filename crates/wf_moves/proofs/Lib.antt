@@ -4,6 +4,7 @@ pub mod Calling
 pub mod Going
 pub mod Jumps
 pub mod Leaving
+pub mod Logging
 pub mod Requesting
 pub mod Returning
 pub mod Starting

@@ -9,12 +9,14 @@ use Rattle.wf_model.specs.Local.{Local, Moved, Scene}
 use Rattle.wf_moves.proofs.Going.{going}
 use Rattle.wf_moves.specs.Moved.{IsLeft, IsMove}
 use Rattle.wf_moves.specs.Stepped.{stepped, stepped_at}
-use Rattle.wf_moves.specs.Tasks.{IsRequest, MovesSo, Stays, move_of}
+use Rattle.wf_moves.specs.Tasks.{IsLogged, IsRequest, MovesSo, Stays, move_of}
 use Rattle.wf_moves.specs.Waits.{GoesFrom, call_in, is_call_at, is_call_kind, is_call_node, wait_view}
 use Rattle.wf_moves.specs.declared.finish.Went.{Went}
 use Rattle.wf_moves.specs.declared.finish.Went.TheVariants as went
+use Rattle.wf_moves.specs.declared.logging.Logged.{Logged}
 use Rattle.wf_moves.specs.declared.sending.Sent.{Sent}
 use Rattle.wf_moves.specs.declared.task.Move.{Move}
+use Rattle.wf_moves.specs.declared.task.Move.TheVariants as move
 use Rattle.wf_moves.specs.declared.task.Task.{Task}
 use Rattle.wf_moves.specs.declared.wait.Wait.{Wait}
 use Rattle.wf_moves.specs.declared.wait.Wait.TheVariants as wait
@@ -58,6 +60,10 @@ pub went_left : (nodes : List Node) (w : Went) (t : Task) → call_in t.wait ≡
 went_left nodes went.Goes t e h = (e, subst (λ x. GoesFrom nodes x (inner t.frames)) (sym (is_awake t.wait e)) (going nodes (inner t.frames) h))
 went_left nodes (went.Ended x) t e h = h
 
+pub logged_left : (nodes : List Node) (x : Logged) (w : Went) (t : Task) → call_in t.wait ≡ None → IsLeft nodes w (inner t.frames) → Stays nodes (move.Logged x w) t
+logged_left nodes x went.Goes t e h = (e, subst (λ y. GoesFrom nodes y (inner t.frames)) (sym (is_awake t.wait e)) (going nodes (inner t.frames) h))
+logged_left nodes x (went.Ended y) t e h = h
+
 pub went_so : (m : Moved) (w : Went) (l : Local) → IsMove m w l → MovesSo m (move_of w) l
 went_so m went.Goes l h = h
 went_so m (went.Ended e) l h = h
@@ -78,3 +84,10 @@ module _ (a : Around) (s : Scene) (w : Wait) (old new : Frames) (xs ys : Scopes)
   pub sent_on : (v : Sent) → call_in w ≡ None → (u : Wait) → IsRequest (stepped_at s (control_of a old) (local_of a old xs)) v (record (local_of a new ys) { wait = wait_view a u })
       → IsRequest (stepped s (record (local_of a old xs) { wait = wait_view a w })) v (record (local_of a new ys) { wait = wait_view a u })
   sent_on v e u h = subst (λ l. IsRequest (stepped s l) v (record (local_of a new ys) { wait = wait_view a u })) (sym (awake_local old xs e)) h
+
+  -- or has logged a value, and is awake
+  pub logged_on : (x : Logged) (v : Went) → call_in w ≡ None → IsLogged (stepped_at s (control_of a old) (local_of a old xs)) x v (local_of a new ys)
+      → IsLogged (stepped s (record (local_of a old xs) { wait = wait_view a w })) x v (record (local_of a new ys) { wait = wait_view a w })
+  logged_on x v e h =
+      subst (λ l. IsLogged (stepped s l) x v (record (local_of a new ys) { wait = wait_view a w })) (sym (awake_local old xs e))
+      (subst (λ l. IsLogged (stepped s (local_of a old xs)) x v l) (sym (awake_local new ys e)) h)

@@ -74,7 +74,7 @@ pub record IsHttp (fs : List Flow) (m : Option Method) (x : Text) : Type 0 where
 pub record IsLog (fs : List Flow) (x : Text) : Type 0 where
   pub free : is_some (flow fs x) ≡ false
   pub unlisted : is_some (func_named x) ≡ false
-  pub named : option_map (λ (g : SpecialListing). g.special) (special_named x) ≡ Some SysLog
+  pub named : option_map (λ (e : SpecialListing). e.special) (special_named x) ≡ Some SysLog
 
 -- a call of this name comes to this
 abbrev pub IsTarget : List Flow → List Spot → Option Target → Text → Type 0

@@ -8,3 +8,6 @@ ghost-evaluates g a = g.around
 
 abbrev pub ghost-sends : goal.ghost-sends
 ghost-sends g a = g.around
+
+abbrev pub ghost-logs : goal.ghost-logs
+ghost-logs g a = g.around

@@ -1,0 +1,7 @@
+use Rattle.wf_moves.proofs.logging.logs.Given as goal
+
+abbrev pub ghost-give : goal.ghost-give
+ghost-give g a = g.around
+
+abbrev pub ghost-fails : goal.ghost-fails
+ghost-fails g a = g.around
