@@ -1,5 +1,5 @@
 -- What the code of a command has found out before it prints.
-use Rattle.std.specs.Prelude.{◌≡◌, ◌≢◌, ◌⊎◌, ℕ, true, false, List, [], ◌∷◌, ◌++◌, Contains, Some, None, Result, Ok, Err, IfOk, IfErr}
+use Rattle.std.specs.Prelude.{◌≡◌, ◌≢◌, ◌⊎◌, ◌≤◌, ℕ, true, false, List, [], ◌∷◌, ◌++◌, length, take, Contains, Some, None, Result, Ok, Err, IfOk, IfErr, OnOk, IsErrOf, String, string_bytes}
 use Rattle.std.specs.List.{AllByRecursion}
 use Rattle.wf_ast.specs.Tree.{Program}
 use Rattle.wf_cli.specs.Reports.{the_reports}
@@ -31,7 +31,7 @@ use Rattle.wf_host.specs.World.{World, Faults, Told, Only, LeavesOnly, Rose}
 use Rattle.wf_host.specs.declared.ReadFault.{ReadFault}
 use Rattle.wf_host.specs.declared.ReadFault.TheVariants as fault
 use Rattle.wf_host.specs.declared.data.Deed.{Deed}
-use Rattle.wf_journal.specs.Records.{records}
+use Rattle.wf_journal.specs.Records.{magic, records}
 use Rattle.wf_journal.specs.Steps.{Moment}
 use Rattle.wf_args.specs.Lines.{PlainLine, line_of}
 use Rattle.wf_args.specs.declared.command.Command.TheVariants.{Resume}
@@ -43,6 +43,9 @@ use Rattle.wf_host.specs.Printing.{PrintsFront, PrintsWhole, LeavesSome, TookNot
 use Rattle.wf_journal_laws.specs.At.{journal, next_session}
 use Rattle.wf_journal_laws.specs.History.{Standing, history}
 use Rattle.wf_journal_laws.specs.Language.{Language}
+use Rattle.wf_journal_laws.specs.Laws.{IsHistory}
+use Rattle.wf_report.specs.Journals.{MayHaveRecords}
+use Rattle.std.specs.declared.alloc.Global.{Global}
 use Rattle.wf_status.specs.Statuses.{status_code, status_text}
 use Rattle.wf_source.specs.Programs.{IsRefusalOf, IsSourceOf}
 use Rattle.wf_source.specs.Sources.{read_tree}
@@ -208,6 +211,20 @@ pub record Opening (O : Outside) (command : kept.Command) (s : Scene) (old new :
 -- a text of a line that tells of a history, where these are the records that are found
 abbrev pub TellsOf : PlainLine → List (List ℕ) → List ℕ → Type 0
 TellsOf l J text = (s : Scene) → end.IsLine s l → records s.found ≡ J → end.TellsHistory the_language the_reports s text
+
+-- A journal was read for a report, where the host tells: the text, or why there is none. Nothing else was done.
+pub record ReadsJournal (l : PlainLine) (old new : World) (r : Result (String Global) EngineFault) : Type 0 where
+  pub told : IfOk r (λ text. TellsOf l (records old.seen) (string_bytes text))
+  pub begins : OnOk r (take 4 old.seen ≡ magic)
+  pub history : OnOk r (IsHistory the_language (records old.seen))
+  pub not_a_journal : IsErrOf r engine.NotAJournal → (5 ≤ length old.seen) × (take 4 old.seen ≢ magic)
+  pub not_started : IsErrOf r engine.NotStarted → (records old.seen ≡ []) × MayHaveRecords old.seen
+  pub not_a_history : IfErr r (λ e. (n : ℕ) → e ≡ engine.NotAHistory n → (history the_language (records old.seen) ≡ Err n) × (records old.seen ≢ []) × (take 4 old.seen ≡ magic))
+  pub settled : OnOk r (Only new.seen new.may_leave)
+  pub settled_empty : IsErrOf r engine.NotStarted → Only new.seen new.may_leave
+  pub seen : new.seen ≡ old.seen
+  pub any_moment : LeavesOnly old new (λ c d. old.may_leave c × (d ≡ old.deeds))
+  pub deeds : new.deeds ≡ old.deeds
 
 -- ## Going on to the outcome
 -- an outcome is said, or that there is none yet, or the disk failed, or there was no memory

@@ -2,15 +2,13 @@
 ghost use Rattle.std.specs.Prelude.{◌≡◌, ◌⊎◌, ◌<◌, true, ℕ, List, Ok, IfErr, IsErrOf};
 ghost use Rattle.wf_args.specs.Lines.{line_of};
 ghost use Rattle.wf_args.specs.Plain.{plain_line};
-ghost use Rattle.wf_cli.specs.Said.{IsEnd, TellsOf, Worked};
+ghost use Rattle.wf_cli.specs.Said.{IsEnd, ReadsJournal, Worked};
 ghost use Rattle.wf_engine.specs.Printed.{tells_history};
 ghost use Rattle.wf_engine.specs.Safe.{scene};
-ghost use Rattle.wf_engine.specs.TheLanguage.{the_language};
 ghost use Rattle.wf_engine.specs.TheOutside.{InTheOutside};
 ghost use Rattle.wf_host.specs.Calls.{DiskFailed, NoCountFalls, TellsAsBefore};
 ghost use Rattle.wf_host.specs.Source.{Rest};
 ghost use Rattle.wf_host.specs.World.{Told};
-ghost use Rattle.wf_report.specs.Journals.{Opens};
 
 use crate::end::{Said, Silence};
 use std::alloc::Global;
@@ -105,9 +103,8 @@ fn text_for<H: Host, L: Ledger>(
     steps: &mut Steps<L>,
 ) -> Result<String, EngineFault>
     requires command { tells_history (plain_line line.now).command ≡ true }
-    ensures opens { Told (H.world host.old)
-        (Opens the_language (λ J text. TellsOf (plain_line line.now) J text)
-        (H.world host.old) (H.world host.new) result) }
+    ensures reads { Told (H.world host.old)
+        (ReadsJournal (plain_line line.now) (H.world host.old) (H.world host.new) result) }
     ensures disk_fault { IsErrOf result EngineFault.DiskFault
         → DiskFailed H.faults host.old host.new }
     ensures only { IfErr result (λ e. (e ≡ EngineFault.DiskFault)

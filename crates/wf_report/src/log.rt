@@ -1,5 +1,5 @@
 // What an execution has logged.
-ghost use Rattle.std.specs.Prelude.{◌≡◌, ◌≤◌, ◌++◌, IfOk, OnOk, option_copied};
+ghost use Rattle.std.specs.Prelude.{◌≡◌, ◌≤◌, ◌++◌, IfOk, OnOk, option_copied, string_bytes};
 ghost use Rattle.wf_machine.specs.Log.{entry_by};
 ghost use Rattle.wf_machine.specs.Seen.{state_of};
 ghost use Rattle.wf_report.specs.Texts.{is_wanted, logged, told_of};
@@ -42,7 +42,7 @@ fn is_wanted(grep: Option<&str>, json: &str) -> bool
 /// A value as JSON.
 fn json_of(alloc: Global, value: &Value) -> Result<String, OutOfMemory>
     requires { depth (plain value.now) ≤ 100 }
-    ensures { IfOk result (λ json. json ≡ json_text (plain value.now)) }
+    ensures { IfOk result (λ json. string_bytes json ≡ json_text (plain value.now)) }
 {
     let json = to_json(alloc, value)?;
     // JSON is UTF-8.
@@ -60,7 +60,7 @@ fn add_line(
     text: &mut String,
 ) -> Result<(), OutOfMemory>
     requires { depth (plain entry.2.now) ≤ 100 }
-    ensures { OnOk result (text.new ≡ text.old
+    ensures { OnOk result (string_bytes text.new ≡ string_bytes text.old
         ++ told_of (option_copied grep) (entry_by entry.0 entry.1 (plain entry.2.now))) }
 {
     let (reading, severity, value) = entry;
@@ -86,7 +86,7 @@ pub fn log_lines(
     machine: &Machine,
     grep: Option<&str>,
 ) -> Result<String, OutOfMemory>
-    ensures { IfOk result (λ text. text
+    ensures { IfOk result (λ text. string_bytes text
         ≡ logged (option_copied grep) (state_of machine.now).config.log) }
 {
     let mut text = String::new(alloc);

@@ -1,5 +1,5 @@
 // What an execution has come to.
-ghost use Rattle.std.specs.Prelude.{◌≡◌, IfOk};
+ghost use Rattle.std.specs.Prelude.{◌≡◌, IfOk, string_bytes};
 ghost use Rattle.wf_machine.specs.Lent.{outcome_view};
 ghost use Rattle.wf_machine.specs.Seen.{state_of};
 ghost use Rattle.wf_report.specs.Texts.{shown_as, state_word};
@@ -23,7 +23,8 @@ fn state_word(outcome: Outcome<'_>) -> &'static str
 /// made.
 #[tactic(auto, unfolding(crate::specs::Texts::shown_as))]
 pub fn show(alloc: Global, id: &str, machine: &Machine) -> Result<String, OutOfMemory>
-    ensures { IfOk result (λ text. text ≡ shown_as id.now (state_of machine.now).config) }
+    ensures { IfOk result (λ text. string_bytes text
+        ≡ shown_as id.now (state_of machine.now).config) }
 {
     let state = state_word(machine.outcome());
     let moves = machine.moves();
