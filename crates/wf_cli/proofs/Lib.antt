@@ -11,6 +11,7 @@ mod Outsides
 mod Promises
 mod Rows
 mod Safe
+mod Pairs
 mod Routes
 mod Spelled
 mod Together

@@ -42,10 +42,12 @@ impl Look for Seen<'_> {
 fn find<'a>(pairs: &'a [(Text, Text)], key: &str) -> Option<&'a str>
     ensures { option_map (λ t. t.now) result ≡ env_in pairs.now key.now }
 {
-    for (name, value) in pairs {
-        if name.as_str() == key {
-            return Some(value.as_str());
+    let mut rest = pairs;
+    while let [pair, more @ ..] = rest {
+        if pair.0.as_str() == key {
+            return Some(pair.1.as_str());
         }
+        rest = more;
     }
     None
 }
