@@ -10,7 +10,7 @@ ghost use Rattle.wf_model.specs.Config.{Config, To};
 ghost use Rattle.wf_model.specs.Run.{run_on};
 ghost use Rattle.wf_journal_laws.specs.At.{applied_by, events_of};
 ghost use Rattle.wf_journal_laws.specs.History.{goes_on, goes_on_at, goes_to, is_numbered, told};
-ghost use Rattle.wf_replay.specs.Standing.{session_of, standing, stands_at, waits_of};
+ghost use Rattle.wf_replay.specs.Standing.{Passes, session_of, standing, stands_at, waits_of};
 
 use crate::ReplayFault;
 use std::alloc::Global;
@@ -75,6 +75,11 @@ pub fn replay<H: Host, L: Ledger>(
 /// Applies so many of the turns that a history has left to the machine, which stands where the records that were read so far lead, or all
 /// of them where there are fewer. Then the machine stands where the records lead that were read, and the other turns come next. Each event
 /// of the turns that were applied counts one step. The faults are those of [`replay`], of these turns alone.
+#[tactic(auto, using(
+    crate::proofs::Fronts::one_further,
+    crate::proofs::Fronts::all_gone,
+    crate::proofs::Fronts::none_left
+))]
 pub fn replay_turns<H: Host, L: Ledger>(
     alloc: Global,
     history: &mut History,
@@ -148,6 +153,13 @@ fn replay_next<H: Host, L: Ledger>(
         ≡ steps.old + applied_by (ahead history.old (H.world host.old).seen))) }
     ensures last { Told (H.world host.old)
         (IfOk result (λ more. more ≡ false → ahead history.new (H.world host.old).seen ≡ [])) }
+    ensures one { Told (H.world host.old)
+        (IfOk result (λ more. more ≡ true
+        → Passes (standing history.old machine.old) (standing history.new machine.new)
+        (ahead history.old (H.world host.old).seen) (ahead history.new (H.world host.old).seen))) }
+    ensures none_more { Told (H.world host.old)
+        (IfOk result (λ more. more ≡ false → (ahead history.old (H.world host.old).seen ≡ [])
+        × (standing history.new machine.new ≡ standing history.old machine.old))) }
     ensures whole { OnOk result ((state_of machine.new).broken ≡ false) }
     ensures ended { IfOk result (λ more. more ≡ false → at_end history.new ≡ true) }
     ensures shorter { IfOk result (λ more. more ≡ true → unread history.new < unread history.old) }
