@@ -1,3 +1,4 @@
+mod Found
 mod Fronts
 mod Opened
 mod Lines

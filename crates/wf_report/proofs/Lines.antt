@@ -1,13 +1,11 @@
 -- The lines of a log.
 use Rattle.std.proofs.Common.{◌≡◌, ◌<◌, ◌-◌, ◌+◌, ◌≤◌, ◌∙◌, ℕ, zero, suc, Bool, true, false, List, [], ◌∷◌, ◌++◌, length, take, Option, None, Some, refl, sym, ap, arith, append-nil}
-use Rattle.std.specs.Prelude.{◌||◌, flat_map, nat_eq, slice_get}
-use Rattle.std.specs.List.{starts_with}
-use Rattle.std.specs.Str.Iter.{HasSubslice}
+use Rattle.std.specs.Prelude.{flat_map, slice_get}
 use Rattle.std.proofs.lemmas.Grind.{flat_map-append}
 use Rattle.std.proofs.lemmas.List.{take_all}
 use Rattle.std.proofs.lemmas.Option.{slice_get_within}
 use Rattle.wf_model.specs.Config.{LogEntry}
-use Rattle.wf_report.specs.Texts.{holds, logged, told_of}
+use Rattle.wf_report.specs.Texts.{logged, told_of}
 
 -- one entry more
 take_more : {X : Type 0} (xs : List X) (k : ℕ) (x : X) → slice_get xs k ≡ Some x → take (suc k) xs ≡ take k xs ++ x ∷ []
