@@ -281,11 +281,7 @@ pub(crate) fn run<S: Source, H: Host>(
 }
 
 /// Goes on with the execution of the journal to its outcome.
-pub(crate) fn resume<H: Host>(
-    alloc: Global,
-    line: &Line<'_>,
-    host: &mut H,
-) -> Result<Said, Silence>
+pub(crate) fn resume<H: Host>(alloc: Global, line: &Line<'_>, host: &mut H) -> Result<Said, Silence>
     requires command { (plain_line line.now).command ≡ Resume }
     ensures end { (words : List (List ℕ)) (rest : Rest) (reads reads2 : ℕ)
         → line_of words ≡ Ok (plain_line line.now)

@@ -1,5 +1,5 @@
+pub mod Changes
 pub mod Copies
-pub mod Lines
 pub mod Replies
 pub mod Steps
 pub mod Tells

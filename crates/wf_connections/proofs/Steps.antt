@@ -1,16 +1,20 @@
 -- What each step changes.
-use Rattle.std.proofs.Common.{◌≡◌, ◌≢◌, ℕ, ◌<◌, ◌≤◌, Bool, true, false, ◌||◌, List, [], ◌∷◌, ◌++◌, length, Option, Some, None, slice_get, slice_set, refl, sym, ap, ◌∙◌, subst, arith, inl, inr}
-use Rattle.std.specs.Prelude.{nat_eq}
+use Rattle.std.proofs.Common.{◌≡◌, ℕ, ◌<◌, ◌≤◌, true, false, ◌||◌, List, [], ◌∷◌, ◌++◌, length, Some, None, get_or, slice_get, slice_set, refl, sym, ap, ◌∙◌, subst, arith, inl, inr}
+use Rattle.std.specs.Prelude.{nat_eq, OnOk, Result, Ok, Err, Box}
+use Rattle.std.specs.Global.{Global}
 use Rattle.std.proofs.lemmas.Bool.{cases_lt}
 use Rattle.std.proofs.lemmas.Bool.Decides.{eqb_tells}
+use Rattle.std.proofs.lemmas.Option.{slice_get_read}
 use Rattle.wf_connections.specs.declared.connections.Connections.{Connections}
 use Rattle.wf_connections.specs.declared.line.Line.{Line}
+use Rattle.wf_connections.specs.declared.line.State.TheVariants as state
 use Rattle.wf_connections.specs.Calls.{is_started, is_dropped, listens, told, IsFresh, Starts, Drops, Forgets, StandsAsBefore, Hears}
-use Rattle.wf_connections.specs.Lines.{used_at, dropped_at, heard_at, told_at, told_by, is_used, is_heard, is_dropped as was_dropped, AreSame}
-use Rattle.wf_connections.proofs.Lines.{at_past, at_read, at_set, at_other, at_equal, at_yes, at_no, at_none, unused_at}
+use Rattle.wf_connections.specs.Lines.{used_at, dropped_at, heard_at, told_at, told_by, adds, HasRead, IsReadAs, AreRead, is_used, is_heard, is_dropped as was_dropped, AreSame}
+use Rattle.wf_connections.proofs.Changes.{at_past, at_read, at_set, at_other, at_equal, at_yes, at_no, at_none, unused_at}
 use Rattle.wf_connections.proofs.Tells.{told_more, tells_none, tells_other}
-use Rattle.wf_deeds.specs.Deeds.{Told, nothing_told, tells, call_of}
+use Rattle.wf_deeds.specs.Deeds.{nothing_told, tells, call_of}
 use Rattle.wf_host.specs.declared.data.What.{What}
+use Rattle.wf_http_in.specs.declared.reading.Reading.{Reading}
 
 -- ## Line i changes
 pub used_kept : (ls : List Line) (i k : ℕ) (o l : Line) → slice_get ls i ≡ Some o → is_used l.state ≡ is_used o.state → used_at (slice_set ls i l) k ≡ used_at ls k
@@ -38,13 +42,45 @@ heard_within ls k is = elim (cases_lt k (length ls)) [
   | inr past ↦ absurd (let f : true ≡ false = sym is ∙ at_past (λ x. is_heard x.state) false ls k past in cc f)
 ]
 
-pub started_within : (c : Connections) (call : ℕ) → is_started c call ≡ true → call < length c.lines.items
+pub started_within : (c : Connections) (call : ℕ) → is_started c call ≡ true → call < c.lines.len
 unfolding is_started
-started_within c call is = used_within c.lines.items call is
+started_within c call is = omega (arith, used_within c.lines.items call is, c.lines.ok.0)
 
-pub listening_within : (c : Connections) (call : ℕ) → listens c call ≡ true → call < length c.lines.items
+pub listening_within : (c : Connections) (call : ℕ) → listens c call ≡ true → call < c.lines.len
 unfolding listens
-listening_within c call is = heard_within c.lines.items call is
+listening_within c call is = omega (arith, heard_within c.lines.items call is, c.lines.ok.0)
+
+-- the line at a number that was read
+pub line_at : (c : Connections) (call : ℕ) (l : Line) → call < c.lines.len → l ≡ get_or c.lines.items call l → slice_get c.lines.items call ≡ Some l
+line_at c call l within is = slice_get_read c.lines.items c.lines.len call l c.lines.ok.0 within is
+
+-- what a line tells of its call
+pub started_line : (c : Connections) (call : ℕ) (l : Line) → slice_get c.lines.items call ≡ Some l → is_started c call ≡ is_used l.state
+unfolding is_started
+started_line c call l is = at_read (λ x. is_used x.state) false c.lines.items call l is
+
+pub started_past : (c : Connections) (call : ℕ) → length c.lines.items ≤ call → is_started c call ≡ false
+unfolding is_started
+started_past c call past = at_past (λ x. is_used x.state) false c.lines.items call past
+
+pub dropped_line : (c : Connections) (call : ℕ) (l : Line) → slice_get c.lines.items call ≡ Some l → is_dropped c call ≡ was_dropped l.state
+unfolding is_dropped
+dropped_line c call l is = at_read (λ x. was_dropped x.state) false c.lines.items call l is
+
+pub dropped_past : (c : Connections) (call : ℕ) → length c.lines.items ≤ call → is_dropped c call ≡ false
+unfolding is_dropped
+dropped_past c call past = at_past (λ x. was_dropped x.state) false c.lines.items call past
+
+pub listening_line : (c : Connections) (call : ℕ) (l : Line) → slice_get c.lines.items call ≡ Some l → listens c call ≡ true → is_heard l.state ≡ true
+unfolding listens
+listening_line c call l is listening = sym (at_read (λ x. is_heard x.state) false c.lines.items call l is) ∙ listening
+
+-- what is read of a call is what was told of it
+pub reading_told : (c : Connections) (call : ℕ) (l : Line) (r : Box Reading Global) → slice_get c.lines.items call ≡ Some l → l.state ≡ state.Heard r → AreRead c.lines.items → HasRead r.value (told c call)
+unfolding told
+reading_told c call l r is stands are =
+    let here : told_at c.lines.items call ≡ told_by call l.heard.items = at_read (λ x. told_by call x.heard.items) nothing_told c.lines.items call l is in
+    subst (HasRead r.value) (sym here) (subst (λ s. IsReadAs s (told_by call l.heard.items)) stands (are call l is))
 
 -- ## Steps
 pub fresh : (c : Connections) → c.lines.items ≡ [] → IsFresh c
@@ -131,8 +167,13 @@ unfolding told
 hears old new w call o l of_it less is put more k was =
     let ls = old.lines.items in
     elim (eqb_tells k call) [
-      | inl yes ↦ subst (λ n. told_at new.lines.items n ≡ tells n w (told_at ls n)) (sym yes.1)
+      | inl same ↦ subst (λ n. told_at new.lines.items n ≡ tells n w (told_at ls n)) (sym same.1)
           (ap (λ xs. told_at xs call) put ∙ at_set (λ x. told_by call x.heard.items) nothing_told ls call l less ∙ ap (told_by call) more ∙ told_more call o.heard.items w
           ∙ sym (ap (tells call w) (at_read (λ x. told_by call x.heard.items) nothing_told ls call o is)))
-      | inr no ↦ ap (λ xs. told_at xs k) put ∙ at_other (λ x. told_by k x.heard.items) nothing_told ls call k l no.1 ∙ sym (tells_other w call k (told_at ls k) of_it no.1)
+      | inr apart ↦ ap (λ xs. told_at xs k) put ∙ at_other (λ x. told_by k x.heard.items) nothing_told ls call k l apart.1 ∙ sym (tells_other w call k (told_at ls k) of_it apart.1)
     ]
+
+pub hears_on_ok : {E : Type 0} (r : Result (Unit {0}) E) (old new : Connections) (w : What) (call : ℕ) (o l : Line) → call_of w ≡ Some call → call < length old.lines.items → slice_get old.lines.items call ≡ Some o
+    → new.lines.items ≡ slice_set old.lines.items call l → l.heard.items ≡ adds r w o.heard.items → OnOk r (Hears old new w)
+hears_on_ok (Ok x) old new w call o l of_it less is put more = hears old new w call o l of_it less is put more
+hears_on_ok (Err e) old new w call o l of_it less is put more = tt

@@ -10,6 +10,7 @@ use Rattle.wf_connections.specs.declared.line.State.TheVariants as state
 use Rattle.wf_deeds.specs.Deeds.{Told, nothing_told, tells}
 use Rattle.wf_host.specs.declared.data.What.{What}
 use Rattle.wf_http_in.specs.Stages.{HasHeard}
+use Rattle.wf_http_in.specs.declared.reading.Reading.{Reading}
 
 -- ## One line
 abbrev pub is_used : State → Bool
@@ -36,8 +37,12 @@ adds result what heard = if is_ok result then heard ++ (what, tt) ∷ [] else he
 abbrev pub told_by : ℕ → Heard → Told
 told_by k heard = fold (λ t h. tells k h.0 t) nothing_told heard
 
+-- a reading has heard what was told
+abbrev pub HasRead : Reading → Told → Type 0
+HasRead r t = HasHeard r t.bytes t.close
+
 abbrev pub IsReadAs : State → Told → Type 0
-IsReadAs (state.Heard r) t = HasHeard r.value t.bytes t.close
+IsReadAs (state.Heard r) t = HasRead r.value t
 IsReadAs s t = ⊤
 
 abbrev pub IsRead : ℕ → Line → Type 0

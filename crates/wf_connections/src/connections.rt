@@ -14,7 +14,7 @@ use wf_value::OutOfMemory;
 ///
 /// What was heard of a call is read as an answer while it `listens`: from its start until it is dropped or forgotten. Of an answer
 /// that is read its head and its body are kept, and nothing once it isn't wanted any more. A call costs the same time whatever its
-/// number, but a number takes room for all below it, three words each.
+/// number, but a number takes room for all below it, two words each.
 #[derive(Drop)]
 pub struct Connections {
     lines: Vec<Line>,
@@ -89,7 +89,7 @@ impl Connections {
         }
     }
 
-    /// Hears what a poll heard, where that is of a call. Without memory nothing was heard.
+    /// Hears what a poll heard, where that is of a call.
     pub fn hear(&mut self, what: &What) -> Result<(), OutOfMemory>
         ensures heard { OnOk result (Hears self.old self.new what.now) }
         ensures stands { StandsAsBefore self.old self.new }
@@ -111,8 +111,9 @@ impl Connections {
         requires { listens self.now call ≡ true }
         ensures answered { IfOk result (λ a.
             IsAnswered (told self.now call) (option_map reply_view a)) }
-        ensures spelled { IfOk result (IfSome (λ r. IsReply (reply_view r))) }
-        ensures short { IfOk result (IfSome (λ r. length (reply (reply_view r)) ≤ 2200000)) }
+        ensures spelled { IfOk result (λ a. IfSome a (λ r. IsReply (reply_view r))) }
+        ensures short { IfOk result (λ a.
+            IfSome a (λ r. length (reply (reply_view r)) ≤ 2200000)) }
     {
         answers_are_small();
         let line = &self.lines[call as usize];

@@ -1,7 +1,7 @@
 // The line to one call.
-ghost use Rattle.std.specs.Prelude.{◌≡◌, ◌∷◌, [], ◌++◌, ℕ, false, IfOk, OnErr, OnOk, Some};
-ghost use Rattle.wf_connections.specs.Lines.{IsRead, adds, is_dropped, is_heard, is_used};
-ghost use Rattle.wf_deeds.specs.Deeds.{call_of};
+ghost use Rattle.std.specs.Prelude.{◌≡◌, ◌∷◌, [], ◌++◌, ℕ, true, false, if◌then◌else◌, is_ok, IfOk, Some};
+ghost use Rattle.wf_connections.specs.Lines.{HasRead, IsRead, adds, is_dropped, is_heard, is_used};
+ghost use Rattle.wf_deeds.specs.Deeds.{Told, call_of, tells};
 
 use http_server::Log;
 use std::alloc::Global;
@@ -106,14 +106,28 @@ impl Line {
             → IsRead k self.new }
     {
         if let State::Heard(reading) = &mut self.state {
-            match what {
-                What::Bytes(_, bytes) => reading.feed(bytes.as_slice())?,
-                What::End(_) => reading.end(),
-                What::Broken(_) => reading.broke(),
-                What::Nothing | What::Visit(_, _) | What::VisitEnd(_) => {}
-            }
+            read(reading, what)?;
         }
         self.heard = self.heard.and(what, &());
         Ok(())
+    }
+}
+
+// Reads this of a call. Without memory nothing was read.
+fn read(reading: &mut Reading, what: &What) -> Result<(), OutOfMemory>
+    ensures { (k : ℕ) (t : Told) → call_of what.now ≡ Some k → HasRead reading.old t
+        → HasRead reading.new (if is_ok result then tells k what.now t else t) }
+{
+    match what {
+        What::Bytes(_, bytes) => reading.feed(bytes.as_slice()),
+        What::End(_) => {
+            reading.end();
+            Ok(())
+        }
+        What::Broken(_) => {
+            reading.broke();
+            Ok(())
+        }
+        What::Nothing | What::Visit(_, _) | What::VisitEnd(_) => Ok(()),
     }
 }

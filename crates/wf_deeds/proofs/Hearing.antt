@@ -1,5 +1,5 @@
 -- What an engine stands for once it heard something.
-use Rattle.std.specs.Prelude.{◌≡◌, ◌≢◌, ◌⊎◌, ◌≤◌, ◌&&◌, ℕ, suc, max, Bool, true, false, IsTrue, is_some, nat_eq, nat_le, nat_lt, if◌then◌else◌, List, [], ◌∷◌, ◌++◌, length, take, Option, Some, None, option_map, option_and_then}
+use Rattle.std.specs.Prelude.{◌≡◌, ◌≢◌, ◌⊎◌, ◌≤◌, ◌&&◌, ℕ, suc, max, true, false, IsTrue, is_some, nat_eq, nat_le, nat_lt, if◌then◌else◌, List, [], ◌∷◌, ◌++◌, length, take, Option, Some, None, option_map, option_and_then}
 use Rattle.std.proofs.Common.{inl, inr, ⊎_elim, refl, sym, ◌∙◌, ap, subst, arith, length-append}
 use Rattle.std.proofs.lemmas.Bool.{and_from, eq-eqb, eqb-true, le-leb, leb-true, or_left, or_right}
 use Rattle.std.proofs.lemmas.List.{append-nil, take_all}
@@ -15,7 +15,7 @@ use Rattle.wf_deeds.proofs.TurnMore.{both_true}
 use Rattle.wf_deeds.proofs.Visits.{bool_case, decision_is, find_put, undecided_put, weight_of, piece, piece_by, heard_is, piece_number}
 use Rattle.wf_deeds.specs.Deeds.{polls, nows, poll_readings, greatest, reading_by, was_started, was_dropped, was_replied, before_poll, Told, tells, told_of, IsAnswered, ComesTo, call_of, Visit, Decision, decision, visit_of, visits_after, hears_visit, put_visit, find_visit, undecided as undecided_in, poll_at}
 use Rattle.wf_deeds.specs.Kept.{IsOpen, Decides, own, reading_of, last_of}
-use Rattle.wf_deeds.specs.Memory.{Owed, Memory, IsAnswerTo, IsOfOutside, session, forgotten, awaits, ComesNow, IsAnswerBy, Brings, decided_by, owes_by, arrival_by, visit_by, decision_by}
+use Rattle.wf_deeds.specs.Memory.{Owed, Memory, IsAnswerTo, IsOfOutside, session, forgotten, ComesNow, IsAnswerBy, Brings, decided_by, owes_by, arrival_by, visit_by, decision_by}
 use Rattle.wf_deeds.specs.Outside.{Outside, Verdict, Arrives, Refuses}
 use Rattle.wf_deeds.specs.Rules.{IsSent, IsBrought, NoTurnYet, DeedKeepsRules, with_deed}
 use Rattle.wf_deeds.specs.Steps.{weight, VisitsAre, PollIsKept, HearingGoesOn}

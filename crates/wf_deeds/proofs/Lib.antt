@@ -1,7 +1,7 @@
 mod Answered
 mod Quiet
 mod Splits
-mod Lists
+pub mod Lists
 mod Carried
 mod DeedMore
 mod TurnMore

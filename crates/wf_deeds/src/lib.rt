@@ -1,5 +1,5 @@
 //! The rules on what an engine does, as definitions over records and deeds, and their laws: the rules are kept by each step, whatever
-//! heard bytes come to.
+//! visits come to.
 #![tactic(auto)]
 
 mod laws;

@@ -9,7 +9,7 @@ use Rattle.wf_deeds.specs.Clauses.{is_timed_out}
 use Rattle.wf_deeds.specs.Memory.{IsSettled, Memory}
 use Rattle.wf_deeds.specs.Outside.{Outside}
 use Rattle.wf_deeds.specs.Steps.{DropGoesOn, StartGoesOn, with_calls}
-use Rattle.wf_engine.proofs.Sending.{or_none, past_answered}
+use Rattle.wf_engine.proofs.CallsSent.{or_none, past_answered}
 use Rattle.wf_engine.proofs.Sent.{Goes, drop_goes, same_goes, start_goes}
 use Rattle.wf_engine.specs.Ready.{AreOf, IsReady}
 use Rattle.wf_engine.specs.Sending.{DropsOne, SameButSent, StartsOne, is_to_drop, is_to_start}
@@ -79,6 +79,10 @@ pub lent_none : (r : Option (Bor own.Request)) (o : Option Request) → option_m
 lent_none None o is none = sym is
 lent_none (Some q) o is none = absurd (cc none)
 
+-- with the bytes that are sent
+pub lent_request : (m : Memory) (k : ℕ) (q : own.Request) (bytes : List ℕ) → Some (request_view q) ≡ request_of m.config k → bytes ≡ q.bytes → request_of m.config k ≡ Some (record { address = address_view q.address; bytes = bytes })
+lent_request m k q bytes lent same = sym lent ∙ ap (λ l. Some (record { address = address_view q.address; bytes = l })) (sym same)
+
 -- as it lends the outcome
 pub lent_over : (o : lent.Outcome) (p : Outcome) → outcome_view o ≡ p → (o ≡ outcome.Active → ⊥) → p ≢ Active
 lent_over outcome.Active p is other = absurd (other refl)
@@ -144,9 +148,9 @@ module _ (m : Memory) (a b : Connections) (k : ℕ) where
     forgets_same = record { program = refl; config = refl; session = refl; reading = refl; waits = refl; taken = refl; started = λ j was. f.started j ∙ was; told = λ j was. f.told_of_each j }
 
     pub forgets_one : is_to_drop before k ≡ false → DropsOne before behind k
-    forgets_one no = record {
+    forgets_one off = record {
       started = f.started;
-      here = f.dropped k ∙ or_none (is_dropped a k) ∙ ap (λ v. is_dropped a k || v) (sym no);
+      here = f.dropped k ∙ or_none (is_dropped a k) ∙ ap (λ v. is_dropped a k || v) (sym off);
       others = λ j other. f.dropped j;
     }
 

@@ -1,19 +1,25 @@
 -- What an engine stands for once it took what was heard.
-use Rattle.std.specs.Prelude.{◌≡◌, ◌⊎◌, ◌&&◌, ℕ, suc, max, Bool, true, false, is_some, List, [], ◌∷◌, ◌++◌, Option, Some, None, option_map, option_and_then}
-use Rattle.std.proofs.Common.{inl, inr, ⊎_elim, refl, sym, ◌∙◌, ap, subst}
+use Rattle.std.specs.Prelude.{◌≡◌, ◌⊎◌, ◌≤◌, ◌&&◌, ℕ, suc, max, Bool, true, false, is_some, List, [], ◌∷◌, ◌++◌, Option, Some, None, option_map, option_and_then}
+use Rattle.std.proofs.Common.{inl, inr, ⊎_elim, refl, sym, ◌∙◌, ap, subst, arith}
 use Rattle.wf_ast.specs.Tree.{Program}
+use Rattle.wf_connections.specs.Calls.{StandsAsBefore}
+use Rattle.wf_connections.specs.declared.connections.Connections.{Connections}
 use Rattle.wf_deeds.specs.Clauses.{Takes}
 use Rattle.wf_deeds.specs.Deeds.{Told, IsAnswered, call_of, tells, visit_of}
 use Rattle.wf_deeds.specs.Memory.{Memory, Owed, IsSettled, StandsFor, IsAnswerBy, Brings, arrival_by, awaits, decision_by, owes_by}
 use Rattle.wf_deeds.specs.Outside.{Outside}
 use Rattle.wf_deeds.specs.Steps.{Hears, HearingGoesOn, VisitsAre, hearing}
 use Rattle.wf_engine.specs.Hearing.{Finds, FindsAnswer, FindsBy}
+use Rattle.wf_engine.specs.Ready.{IsReady}
 use Rattle.wf_engine.specs.Taken.{AreTakable, taken_event}
 use Rattle.wf_engine.specs.declared.taken.Taken.{Taken}
+use Rattle.wf_history.specs.declared.history.History.{History}
 use Rattle.wf_host.specs.declared.data.Deed.TheVariants.{Poll}
 use Rattle.wf_host.specs.declared.data.Heard.{Heard}
 use Rattle.wf_host.specs.declared.data.What.{What}
 use Rattle.wf_journal_laws.specs.Language.{Language}
+use Rattle.wf_machine.specs.Seen.{state_of}
+use Rattle.wf_machine.specs.declared.machine.Machine.{Machine}
 use Rattle.wf_model.specs.Config.{Active, Config}
 use Rattle.wf_model.specs.Ready.{request_of}
 use Rattle.wf_shared.specs.Events as plain
@@ -115,3 +121,43 @@ takable m (Some k) o active (inl none) u is = absurd (let no : None ≡ Some u =
 takable m (Some k) o active (inr finds) u is =
     let both = both_true (is_some (request_of m.config k)) (m.started k) finds.awaited in
     record { active = active; opened = ap (λ i. is_some (request_of m.config i)) (takable_of m k 0 o u finds is) ∙ both.0 }
+
+-- ## What is found
+pub finds_nothing : (m : Memory) (w : What) → None ≡ call_of w → Finds m w None
+finds_nothing m w is = subst (FindsBy m None) is refl
+
+module _ (m : Memory) (w : What) (k : ℕ) (is : Some k ≡ call_of w) where
+  -- of a call that isn't open, or wasn't started
+  pub finds_shut : is_some (request_of m.config k) ≡ false → Finds m w None
+  finds_shut shut = subst (FindsBy m None) is (inl (ap (λ b. b && m.started k) shut, refl))
+
+  pub finds_old : m.started k ≡ false → Finds m w None
+  finds_old old = subst (FindsBy m None) is (inl (neither (is_some (request_of m.config k)) (m.started k) old, refl))
+    where
+      neither : (a b : Bool) → b ≡ false → a && b ≡ false
+      neither true b off = off
+      neither false b off = refl
+
+  -- of one that is awaited
+  pub finds_answer : is_some (request_of m.config k) ≡ true → m.started k ≡ true → (o : Option Taken) (answer : Option plain.Reply) → IsAnswered (m.told k) answer → ((r : ℕ) → taken_event r o ≡ option_map (plain.Answer k r) answer) → Finds m w o
+  finds_answer opened was o answer answered event = subst (FindsBy m o) is (inr (record {
+    awaited = ap (λ b. b && m.started k) opened ∙ was;
+    answer = answer;
+    answered = answered;
+    taken = event;
+  }))
+
+-- ## It can still go on
+pub heard_ready : (h : History) (m : Machine) (reading r : ℕ) (a b : Connections) (old new : Option Taken) → IsReady h m reading a old → reading ≤ r → StandsAsBefore a b → AreTakable (state_of m).config new → IsReady h m r b new
+heard_ready h m reading r a b old new was le stands takable = record {
+  not_closed = was.not_closed;
+  begun = was.begun;
+  ended = was.ended;
+  whole = was.whole;
+  last = omega (arith, was.last, le);
+  calls = record {
+    issued = λ k started. was.calls.issued k (sym (stands.started k) ∙ started);
+    heard = λ k still started. stands.listening k ∙ was.calls.heard k still (sym (stands.started k) ∙ started);
+  };
+  takable = takable;
+}

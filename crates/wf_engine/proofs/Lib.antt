@@ -16,11 +16,11 @@ mod LivesRuns
 mod NewSessions
 mod OneTurn
 mod Parts
+mod Polling
 mod Reopened
-mod Sending
+mod CallsSent
 mod Sent
 mod SentLists
-mod Sessions
 mod Settling
 mod StillOpen
 mod Turning

@@ -220,4 +220,4 @@ sending_polls (start k to bytes rest) = sending_polls rest
 sending_polls (drop j rest) = sending_polls rest
 
 pub polls_once : (ds : List Deed) (until : ℕ) (h : Heard) → polls ds ≡ 0 → polls (ds ++ Poll until h ∷ []) ≡ 1
-polls_once ds until h none = omega (arith, polls-append ds (Poll until h ∷ []), none)
+polls_once ds until h nothing = omega (arith, polls-append ds (Poll until h ∷ []), nothing)

@@ -2,15 +2,18 @@
 use Rattle.std.specs.Prelude.{◌≡◌, ◌≢◌, ◌⊎◌, ◌≤◌, ◌+◌, ◌<◌, ◌^◌, ℕ, suc, Bool, true, false, IsTrue, List, [], ◌∷◌, ◌++◌, Option, Some, None}
 use Rattle.std.proofs.Common.{inl, inr, ⊎_elim, refl, sym, ◌∙◌, ap, subst, arith}
 use Rattle.wf_deeds.proofs.Lists.{polls-append}
-use Rattle.wf_deeds.specs.Clauses.{Sessions, Waits, Went, ended, paused}
+use Rattle.wf_deeds.specs.Clauses.{KeptThroughout, Sessions, Went, ended, paused}
 use Rattle.wf_deeds.specs.Deeds.{polls}
 use Rattle.wf_deeds.specs.Memory.{IsSettled, Memory}
 use Rattle.wf_deeds.specs.Outside.{Outside}
-use Rattle.wf_engine.proofs.Parts.{Far, far_went}
+use Rattle.wf_engine.proofs.Parts.{Far, far_on, far_went}
 use Rattle.wf_engine.specs.Engine.{Holds, is_closed, memory}
+use Rattle.wf_engine.specs.Taken.{taken_event}
 use Rattle.wf_engine.specs.TheLanguage.{the_language}
 use Rattle.wf_engine.specs.TheOutside.{InTheOutside}
 use Rattle.wf_engine.specs.declared.engine.Engine.{Engine}
+use Rattle.wf_engine.specs.declared.taken.Taken.{Taken}
+use Rattle.wf_host.specs.Moments.{CountsNow}
 use Rattle.wf_host.specs.World.{World, Told, Faults, NoneFell}
 use Rattle.wf_host.specs.declared.data.Deed.{Deed}
 use Rattle.wf_model.specs.Config.{Active}
@@ -22,7 +25,24 @@ pub record Polled (O : Outside) (m n : Memory) (first now : World) (bound left :
   pub count : polls done + left ≡ bound
 
 pub polled_first : (O : Outside) (m n : Memory) (first now : World) (bound : ℕ) → Far the_language O m n first now [] → Polled O m n first now bound bound
-polled_first O m n first now bound far = record { done = []; far = far; count = refl }
+polled_first O m n first now bound far = record { done = []; far = far; count = omega arith }
+
+-- and then a part more
+pub polled_more : (O : Outside) (e d c : Engine) (first mid new : World) (bound left less : ℕ) (done : List Deed) → Polled O (memory e) (memory d) first mid bound left → (memory d).session ≡ (memory e).session → KeptThroughout the_language O (memory d) mid new
+    → Went the_language O (memory d) (memory c) mid new done → polls done + less ≡ left → CountsNow new → new.may_leave new.seen → is_closed c ≡ false → Holds c new → Polled O (memory e) (memory c) first new bound less
+polled_more O e d c first mid new bound left less done p number moments went count counts reads opened holds = record {
+  done = p.done ++ done;
+  far = far_on the_language O (memory e) (memory d) (memory c) first mid new p.done done p.far number moments went c.history counts reads holds.0 (c.ready opened).begun;
+  count = omega (arith, p.count, count, polls-append p.done done);
+}
+
+-- an engine with an outcome is settled
+pub settled_over : (e : Engine) → is_closed e ≡ false → (memory e).config.outcome ≢ Active → IsSettled (memory e)
+settled_over e opened over = record { taken = by e.taken refl; owed = refl; still = inr over }
+  where
+    by : (o : Option Taken) → e.taken ≡ o → taken_event e.reading o ≡ None
+    by None is = refl
+    by (Some t) is = absurd (over ((e.ready opened).takable t is).active)
 
 -- ## The loop
 pub record Waiting (first now : World) (f g : Faults) (e d : Engine) (bound left : ℕ) (Rest : Type 0) : Type 0 where

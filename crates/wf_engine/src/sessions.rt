@@ -6,7 +6,7 @@ use wf_host::Host;
 use wf_machine::Outcome;
 
 impl Engine {
-    ghost use Rattle.std.specs.Prelude.{◌≡◌, ◌≢◌, ◌⊎◌, ◌×◌, ◌↔◌, ◌+◌, ◌<◌, ◌^◌, true, false, IfErr, IsErrOf, IsTrue, OnErr, OnOk};
+    ghost use Rattle.std.specs.Prelude.{◌≡◌, ◌≢◌, ◌⊎◌, ◌↔◌, ◌+◌, ◌<◌, ◌^◌, true, false, IfErr, IsErrOf, IsTrue, OnErr, OnOk};
     ghost use Rattle.wf_deeds.specs.Clauses.{AddsTurns, KeptThroughout, Sessions, Waits};
     ghost use Rattle.wf_deeds.specs.Memory.{IsSettled};
     ghost use Rattle.wf_engine.specs.Engine.{Holds, is_closed, memory};
@@ -65,7 +65,10 @@ impl Engine {
         laws_of_steps();
         self.settle(host)?;
         let mut left = waits;
-        while matches!(self.machine.outcome(), Outcome::Active) {
+        loop {
+            let Outcome::Active = self.machine.outcome() else {
+                return Ok(());
+            };
             if left == 0 {
                 return Err(EngineFault::Suspended);
             }
@@ -73,7 +76,6 @@ impl Engine {
             self.wait(host)?;
             self.settle(host)?;
         }
-        Ok(())
     }
 
     /// Adds turns until it is settled.
@@ -138,12 +140,11 @@ impl Engine {
         let Some(until) = self.machine.least_due() else {
             unreachable!();
         };
-        match host.poll(until) {
-            Ok(heard) => self.take(heard),
-            Err(error) => {
-                self.closed = true;
-                Err(error.into())
-            }
-        }
+        // until it has heard
+        self.closed = true;
+        let heard = host.poll(until)?;
+        self.closed = false;
+        self.take(heard)?;
+        Ok(())
     }
 }

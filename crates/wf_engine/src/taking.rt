@@ -1,4 +1,7 @@
 // What is heard.
+ghost use Rattle.std.specs.Prelude.{◌≡◌};
+ghost use Rattle.wf_deeds.specs.Deeds.{call_of};
+
 use crate::engine::Engine;
 use crate::fault::EngineFault;
 use crate::taken::Taken;
@@ -33,7 +36,9 @@ impl Engine {
             (memory self.new) heard)) }
         ensures reading { OnOk result ((memory self.new).reading
             ≡ max (memory self.old).reading heard.reading) }
+        ensures waits { OnOk result ((memory self.new).waits ≡ (memory self.old).waits + 1) }
         ensures same { OnOk result (SameBut (memory self.old) (memory self.new)) }
+        ensures session { (memory self.new).session ≡ (memory self.old).session }
         ensures holds { held self.new ≡ held self.old }
         ensures closed { IsErrOf result EngineFault.Closed ↔ (is_closed self.old ≡ true) }
         ensures closes { OnErr result (is_closed self.new ≡ true) }
@@ -62,13 +67,25 @@ impl Engine {
             → is_started self.now.connections k ≡ true → listens self.now.connections k ≡ true }
         ensures { IfOk result (λ taken. Finds (memory self.now) what.now taken) }
     {
-        let (What::Bytes(call, _) | What::End(call) | What::Broken(call)) = what else {
+        let Some(call) = call_of(what) else {
             return Ok(None);
         };
-        if self.machine.request(*call).is_none() || !self.connections.is_started(*call) {
+        if self.machine.request(call).is_none() || !self.connections.is_started(call) {
             return Ok(None);
         }
-        let answer = self.connections.answer(self.alloc, *call)?;
-        Ok(answer.map(|reply| Taken { call: *call, reply }))
+        match self.connections.answer(self.alloc, call)? {
+            Some(reply) => Ok(Some(Taken { call, reply })),
+            None => Ok(None),
+        }
+    }
+}
+
+/// The call of which something was heard.
+fn call_of(what: &What) -> Option<u64>
+    ensures { result ≡ call_of what.now }
+{
+    match what {
+        What::Bytes(call, _) | What::End(call) | What::Broken(call) => Some(*call),
+        What::Nothing | What::Visit(_, _) | What::VisitEnd(_) => None,
     }
 }

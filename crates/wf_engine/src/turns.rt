@@ -1,6 +1,6 @@
 // The events of one turn.
 ghost use Rattle.std.specs.List.{AllByRecursion, flat_map};
-ghost use Rattle.std.specs.Prelude.{◌≡◌, ◌≢◌, ◌≤◌, ◌<◌, ◌+◌, ◌-◌, ◌*◌, ◌×◌, ◌++◌, [], List, false, length, None, Some, IfOk, OnOk};
+ghost use Rattle.std.specs.Prelude.{◌≡◌, ◌≢◌, ◌≤◌, ◌<◌, ◌+◌, ◌-◌, ◌*◌, ◌++◌, [], List, false, length, None, Some, IfOk, OnOk};
 ghost use Rattle.wf_deeds.specs.Turns.{turn_of, TakeReading};
 ghost use Rattle.wf_engine.specs.Engine.{spent};
 ghost use Rattle.wf_engine.specs.Fits.{longest_taken};

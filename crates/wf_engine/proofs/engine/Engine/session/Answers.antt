@@ -1,149 +1,144 @@
-use Rattle.std.proofs.Common.{inl, inr, ⊎_elim, refl, sym, ◌∙◌, ap}
-use Rattle.std.proofs.lemmas.List.{append-nil}
-use Rattle.wf_engine.proofs.Sessions.{at_first, busy_active, ends, falls_none, first_of, goes_far, has_ended, is_busy, is_settled_now, is_suspended, lent_active, moments_on, none_fell, not_both, passed_on, result_is_over, rose_later, told_on, turn_takes}
+use Rattle.std.proofs.Common.{◌≡◌, ◌≢◌, ◌+◌, ◌-◌, [], refl, sym, ◌∙◌, ap, arith}
+use Rattle.wf_engine.proofs.Parts.{far_kept, far_moments}
+use Rattle.wf_engine.proofs.Polling.{part_far}
+use Rattle.wf_engine.proofs.Settling.{ends, lent_active, none_fell, result_is_over, told_on}
+use Rattle.wf_engine.proofs.Waiting.{Polled, has_ended, is_suspended, polled_first, polled_more, settled_over}
 use Rattle.wf_engine.proofs.engine.Engine.session.Goals as goal
-use Rattle.wf_engine.specs.Engine.{is_closed, memory}
+use Rattle.wf_engine.specs.Engine.{memory}
 use Rattle.wf_engine.specs.TheLanguage.{the_language}
-use Rattle.wf_engine.specs.declared.fault.EngineFault.TheVariants as fault
-use Rattle.wf_machine.specs.Seen.{state_of}
+use Rattle.wf_model.specs.Config.{Config}
 
-pub loop-self-init : goal.loop-self-init
-loop-self-init g c = record {
-  not_closed = c.if-self.false;
-  holds = λ told. c.requires.kept c.if-self.false told;
-  number = refl;
-  so_far = λ O told. (
-    refl,
-    λ command handed D s.
-        at_first c.laws_of_steps.ensures.moment the_language O c.args.self.now.history (g.H.Host.world c.args.host.now) command handed (memory c.args.self.now) D (λ i d left. g.met.H.Host.only_now c.args.host.now i d told left) (c.requires.kept c.if-self.false told).0
-        (c.args.self.now.ready c.if-self.false).begun s,
-  );
-  tells = refl;
-  counts = falls_none (g.H.Host.faults c.args.host.now);
-  rest = inl (refl, refl);
-}
+-- the first turns
+pub returns-in_err-settle-clause-any_moment : goal.returns-in_err-settle-clause-any_moment
+returns-in_err-settle-clause-any_moment g c = λ O open_now told. c.settle.ensures.any_moment O told
 
-pub turn-requires : goal.turn-requires
-turn-requires g c = record {
-  kept = λ open_now told.
-      c.loop-self.invariant.holds (told_on (g.H.Host.world c.loop-self.host) (g.H.Host.world c.args.host.now) (sym c.loop-self.invariant.tells) told);
-}
+pub returns-in_err-settle-clause-finished : goal.returns-in_err-settle-clause-finished
+returns-in_err-settle-clause-finished g c = λ told over. (c.settle.ensures.finished (settled_over c.args.self.now c.if-self.false over)).1
 
-pub loop-self-smaller : goal.loop-self-smaller
-loop-self-smaller g c =
-    let before = state_of c.loop-self.self.machine in
-    let behind = state_of c.turn.new.self.machine in
-    turn_takes before.program behind.program before.config behind.config c.loop-self.self.session c.turn.new.self.session c.loop-self.self.reading c.turn.new.self.reading
-    (is_busy c.loop-self.self c.is_settled.result c.loop-self.invariant.not_closed c.is_settled.ensures.settled c.loop-self-test.true) c.in_ok-turn.ensures.goes_on
-
-pub loop-self-preserved : goal.loop-self-preserved
-loop-self-preserved g c =
+pub loop-left-init : goal.loop-left-init
+loop-left-init g c =
+    let e = c.args.self.now in
+    let d = c.settle.new.self in
     let w = g.H.Host.world c.args.host.now in
-    let mid = g.H.Host.world c.loop-self.host in
-    let new = g.H.Host.world c.turn.new.host in
-    let so = c.loop-self.invariant in
-    let active = busy_active (memory c.loop-self.self).config (memory c.loop-self.self).reading (is_busy c.loop-self.self c.is_settled.result so.not_closed c.is_settled.ensures.settled c.loop-self-test.true) in
+    let mid = g.H.Host.world c.settle.new.host in
     record {
-      not_closed = c.in_ok-turn.ensures.open;
-      holds = λ told. c.turn.ensures.holds c.in_ok-turn.ensures.open (told_on w mid so.tells told);
-      number = c.turn.ensures.session ∙ so.number;
+      not_closed = c.in_ok-settle.ensures.«open»;
+      settled = c.in_ok-settle.ensures.settled;
+      holds = λ told. c.in_ok-settle.ensures.holds told;
+      number = c.settle.ensures.session;
+      waits = ap (λ n. n + c.args.waits) c.settle.ensures.waits;
       so_far = λ O told.
-          let told1 = told_on w mid so.tells told in
-          let adds = c.in_ok-turn.ensures.adds O told1 in (
-            adds.went.deeds ∙ append-nil mid.deeds ∙ (so.so_far O told).0,
-            λ command handed D s.
-                let far = (so.so_far O told).1 command handed D s in
-                goes_far the_language O command handed (memory c.args.self.now) (memory c.loop-self.self) w mid D far so.number c.turn.new.self.history (memory c.turn.new.self) new
-                (c.turn.ensures.any_moment O so.not_closed told1 command handed D far.stands) (λ t i le now. g.met.H.Host.counts_now c.turn.new.host t i (told_on mid new c.turn.ensures.tells told1) le now)
-                (g.met.H.Host.reads_back c.turn.new.host (told_on mid new c.turn.ensures.tells told1)) (adds.went.stands command handed D far.stands) adds.went.deeds
-                (c.turn.ensures.holds c.in_ok-turn.ensures.open told1).0 (c.turn.new.self.ready c.in_ok-turn.ensures.open).begun,
-          );
-      tells = c.turn.ensures.tells ∙ so.tells;
-      counts = none_fell (g.H.Host.faults c.args.host.now) (g.H.Host.faults c.loop-self.host) (g.H.Host.faults c.turn.new.host) so.counts c.turn.ensures.counts;
-      rest = ⊎_elim (λ same. inr (ap (λ d. d.outcome) (sym same.1) ∙ active)) (λ was. inr was) so.rest;
+          let told_mid = told_on w mid c.settle.ensures.tells told in
+          polled_first O (memory e) (memory d) w mid c.args.waits
+          (part_far O e d w mid [] (λ i deeds left. g.met.H.Host.only_now c.args.host.now i deeds told left) (λ t i le now. g.met.H.Host.counts_now c.settle.new.host t i told_mid le now) (g.met.H.Host.reads_back c.settle.new.host told_mid) c.if-self.false
+          (c.requires.kept c.if-self.false told) c.in_ok-settle.ensures.«open» (c.in_ok-settle.ensures.holds told) (c.settle.ensures.any_moment O told) (c.in_ok-settle.ensures.adds O told));
+      tells = c.settle.ensures.tells;
+      counts = c.settle.ensures.counts;
+      rest = λ over. let same = c.settle.ensures.finished (settled_over e c.if-self.false over) in (same.1, ap (λ x. (memory x).config) same.0);
     }
 
-pub returns-in_err-turn-clause-any_moment : goal.returns-in_err-turn-clause-any_moment
-returns-in_err-turn-clause-any_moment g c = λ O open_now told command handed D s.
+-- it polled so often
+pub returns-then-left-eq0-clause-suspended : goal.returns-then-left-eq0-clause-suspended
+returns-then-left-eq0-clause-suspended g c = λ O told is.
+    let e = c.args.self.now in
+    let d = c.loop-left.self in
+    let so = c.loop-left.invariant in
+    is_suspended O (memory e) (memory d) (g.H.Host.world c.args.host.now) (g.H.Host.world c.loop-left.host) c.args.waits c.loop-left.left (so.so_far O told) (omega (arith, c.if-left-eq0.true)) so.settled
+    (lent_active c.outcome.result (memory d).config.outcome c.outcome.ensures.outcome c.in-Active.is)
+
+pub returns-then-left-eq0-clause-any_moment : goal.returns-then-left-eq0-clause-any_moment
+returns-then-left-eq0-clause-any_moment g c = λ O open_now told.
+    let p = c.loop-left.invariant.so_far O told in
+    far_kept the_language O (memory c.args.self.now) (memory c.loop-left.self) (g.H.Host.world c.args.host.now) (g.H.Host.world c.loop-left.host) p.done p.far
+
+-- a wait failed
+pub returns-in_err-wait-clause-any_moment : goal.returns-in_err-wait-clause-any_moment
+returns-in_err-wait-clause-any_moment g c = λ O open_now told.
     let w = g.H.Host.world c.args.host.now in
-    let mid = g.H.Host.world c.loop-self.host in
-    let so = c.loop-self.invariant in
-    let far = (so.so_far O told).1 command handed D s in
-    moments_on the_language O command handed (memory c.args.self.now) (memory c.loop-self.self) w mid D far so.number (g.H.Host.world c.turn.new.host) (c.turn.ensures.any_moment O so.not_closed (told_on w mid so.tells told) command handed D far.stands)
+    let mid = g.H.Host.world c.loop-left.host in
+    let so = c.loop-left.invariant in
+    let p = so.so_far O told in
+    far_moments the_language O (memory c.args.self.now) (memory c.loop-left.self) w mid (g.H.Host.world c.wait.new.host) p.done p.far so.number (c.wait.ensures.any_moment O (told_on w mid so.tells told))
 
-pub returns-in_err-turn-clause-finished : goal.returns-in_err-turn-clause-finished
-returns-in_err-turn-clause-finished g c = λ told ended.
-    let active = busy_active (memory c.loop-self.self).config (memory c.loop-self.self).reading (is_busy c.loop-self.self c.is_settled.result c.loop-self.invariant.not_closed c.is_settled.ensures.settled c.loop-self-test.true) in
-    absurd (ended (⊎_elim (λ same. ap (λ d. d.outcome) (sym same.1) ∙ active) (λ was. was) c.loop-self.invariant.rest))
+pub returns-in_err-wait-clause-finished : goal.returns-in_err-wait-clause-finished
+returns-in_err-wait-clause-finished g c = λ told over.
+    let d = c.loop-left.self in
+    let active = lent_active c.outcome.result (memory d).config.outcome c.outcome.ensures.outcome c.in-Active.is in
+    absurd (over (sym (ap (λ (x : Config). x.outcome) (c.loop-left.invariant.rest over).1) ∙ active))
 
-pub returns-in_err-turn-clause-session : goal.returns-in_err-turn-clause-session
-returns-in_err-turn-clause-session g c = c.turn.ensures.session ∙ c.loop-self.invariant.number
+-- the turns behind a wait
+pub returns-in_err-settle-2-clause-any_moment : goal.returns-in_err-settle-2-clause-any_moment
+returns-in_err-settle-2-clause-any_moment g c = λ O open_now told.
+    let e = c.args.self.now in
+    let d = c.loop-left.self in
+    let w = g.H.Host.world c.args.host.now in
+    let mid = g.H.Host.world c.loop-left.host in
+    let then = g.H.Host.world c.wait.new.host in
+    let so = c.loop-left.invariant in
+    let told_mid = told_on w mid so.tells told in
+    let told_then = told_on mid then c.wait.ensures.tells told_mid in
+    let wait = c.in_ok-wait.ensures.waits O told_mid in
+    let p =
+    polled_more O e d c.wait.new.self w mid then c.args.waits c.loop-left.left (c.loop-left.left - 1) wait.done (so.so_far O told) so.number (c.wait.ensures.any_moment O told_mid) wait.went (omega (arith, wait.once, c.if-left-eq0.false))
+    (λ t i le now. g.met.H.Host.counts_now c.wait.new.host t i told_then le now) (g.met.H.Host.reads_back c.wait.new.host told_then) c.in_ok-wait.ensures.«open» (c.in_ok-wait.ensures.holds told_mid) in
+    far_moments the_language O (memory e) (memory c.wait.new.self) w then (g.H.Host.world c.settle-in-loop-left.new.host) p.done p.far (c.wait.ensures.session ∙ so.number) (c.settle-in-loop-left.ensures.any_moment O told_then)
 
-pub returns-in_err-turn-clause-disk_fault : goal.returns-in_err-turn-clause-disk_fault
-returns-in_err-turn-clause-disk_fault g c = λ is.
-    rose_later (g.H.Host.faults c.args.host.now).disk (g.H.Host.faults c.loop-self.host).disk (g.H.Host.faults c.turn.new.host).disk c.loop-self.invariant.counts.disk
-    (c.in_err-turn.ensures.disk_fault (passed_on c.from_residual.result c.in_err-turn.field-0.0 fault.DiskFault c.from_residual.ensures is))
+pub returns-in_err-settle-2-clause-finished : goal.returns-in_err-settle-2-clause-finished
+returns-in_err-settle-2-clause-finished g c = λ told over.
+    let d = c.loop-left.self in
+    let active = lent_active c.outcome.result (memory d).config.outcome c.outcome.ensures.outcome c.in-Active.is in
+    absurd (over (sym (ap (λ (x : Config). x.outcome) (c.loop-left.invariant.rest over).1) ∙ active))
 
-pub returns-in_err-turn-clause-closed : goal.returns-in_err-turn-clause-closed
-returns-in_err-turn-clause-closed g c = (
-  λ is. absurd (not_both (is_closed c.loop-self.self) c.loop-self.invariant.not_closed (c.in_err-turn.ensures.closed.0 (passed_on c.from_residual.result c.in_err-turn.field-0.0 fault.Closed c.from_residual.ensures is))),
-  λ shut. absurd (not_both (is_closed c.args.self.now) c.if-self.false shut),
-)
-
-pub returns-in_err-turn-clause-idle : goal.returns-in_err-turn-clause-idle
-returns-in_err-turn-clause-idle g c = λ is. absurd (not_both (is_closed c.loop-self.self) c.loop-self.invariant.not_closed (c.in_err-turn.ensures.closed.0 (passed_on c.from_residual.result c.in_err-turn.field-0.0 fault.Closed c.from_residual.ensures is)))
-
-pub returns-in_err-turn-clause-tells : goal.returns-in_err-turn-clause-tells
-returns-in_err-turn-clause-tells g c = c.turn.ensures.tells ∙ c.loop-self.invariant.tells
-
-pub returns-in_err-turn-clause-counts : goal.returns-in_err-turn-clause-counts
-returns-in_err-turn-clause-counts g c = none_fell (g.H.Host.faults c.args.host.now) (g.H.Host.faults c.loop-self.host) (g.H.Host.faults c.turn.new.host) c.loop-self.invariant.counts c.turn.ensures.counts
-
--- nothing can move, and there is no outcome
-pub returns-in-Active : goal.returns-in-Active
-returns-in-Active g c =
-    let so = c.loop-self.invariant in
-    let active = lent_active c.outcome.result (memory c.loop-self.self).config.outcome c.outcome.ensures.outcome c.in-Active.is in
-    let settled = is_settled_now c.loop-self.self c.is_settled.result so.not_closed c.is_settled.ensures.settled c.loop-self-test.false in
+pub loop-left-preserved : goal.loop-left-preserved
+loop-left-preserved g c =
+    let d = c.loop-left.self in
+    let w = g.H.Host.world c.args.host.now in
+    let mid = g.H.Host.world c.loop-left.host in
+    let then = g.H.Host.world c.wait.new.host in
+    let new = g.H.Host.world c.settle-in-loop-left.new.host in
+    let so = c.loop-left.invariant in
+    let active = lent_active c.outcome.result (memory d).config.outcome c.outcome.ensures.outcome c.in-Active.is in
+    let next = c.settle-in-loop-left.ensures in
+    let went = c.in_ok-settle-2.ensures in
     record {
-      holds = λ open_now told. so.holds told;
-      ended = λ O told. tt;
-      suspended = λ O told _. is_suspended O (memory c.args.self.now) (memory c.loop-self.self) (g.H.Host.world c.args.host.now) (g.H.Host.world c.loop-self.host) (so.so_far O told) settled active;
-      result = tt;
-      any_moment = λ O open_now told command handed D s. ((so.so_far O told).1 command handed D s).begun.moments;
-      finished = λ told ended. first_of so.rest (λ was. ended was);
-      session = so.number;
-      disk_fault = λ is. absurd (cc is);
-      closed = (λ is. absurd (cc is), λ shut. absurd (not_both (is_closed c.args.self.now) c.if-self.false shut));
-      closes = inl refl;
-      idle = λ is. absurd (cc is);
-      «open» = tt;
-      still_open = λ is. so.not_closed;
-      only = inr (inl refl);
-      tells = so.tells;
-      counts = so.counts;
+      not_closed = went.«open»;
+      settled = went.settled;
+      holds = λ told. went.holds (told_on mid then c.wait.ensures.tells (told_on w mid so.tells told));
+      number = next.session ∙ c.wait.ensures.session ∙ so.number;
+      waits = omega (arith, next.waits, c.in_ok-wait.ensures.one, so.waits, c.if-left-eq0.false);
+      so_far = λ O told.
+          let e = c.args.self.now in
+          let d = c.loop-left.self in
+          let w = g.H.Host.world c.args.host.now in
+          let mid = g.H.Host.world c.loop-left.host in
+          let then = g.H.Host.world c.wait.new.host in
+          let so = c.loop-left.invariant in
+          let told_mid = told_on w mid so.tells told in
+          let told_then = told_on mid then c.wait.ensures.tells told_mid in
+          let wait = c.in_ok-wait.ensures.waits O told_mid in
+          let p =
+          polled_more O e d c.wait.new.self w mid then c.args.waits c.loop-left.left (c.loop-left.left - 1) wait.done (so.so_far O told) so.number (c.wait.ensures.any_moment O told_mid) wait.went (omega (arith, wait.once, c.if-left-eq0.false))
+          (λ t i le now. g.met.H.Host.counts_now c.wait.new.host t i told_then le now) (g.met.H.Host.reads_back c.wait.new.host told_then) c.in_ok-wait.ensures.«open» (c.in_ok-wait.ensures.holds told_mid) in
+          let told_new = told_on then new next.tells told_then in
+          polled_more O e c.wait.new.self c.settle-in-loop-left.new.self w then new c.args.waits (c.loop-left.left - 1) (c.loop-left.left - 1) [] p (c.wait.ensures.session ∙ so.number) (next.any_moment O told_then) (went.adds O told_then) (omega arith)
+          (λ t i le now. g.met.H.Host.counts_now c.settle-in-loop-left.new.host t i told_new le now) (g.met.H.Host.reads_back c.settle-in-loop-left.new.host told_new) went.«open» (went.holds told_then);
+      tells = next.tells ∙ c.wait.ensures.tells ∙ so.tells;
+      counts = none_fell (g.H.Host.faults c.args.host.now) (g.H.Host.faults c.wait.new.host) (g.H.Host.faults c.settle-in-loop-left.new.host) (none_fell (g.H.Host.faults c.args.host.now) (g.H.Host.faults c.loop-left.host) (g.H.Host.faults c.wait.new.host) so.counts c.wait.ensures.counts) next.counts;
+      rest = λ over. absurd (over (sym (ap (λ (x : Config). x.outcome) (so.rest over).1) ∙ active));
     }
 
-pub returns-in_default : goal.returns-in_default
-returns-in_default g c =
-    let so = c.loop-self.invariant in
-    let result = ends c.outcome.result (memory c.loop-self.self).config.outcome c.outcome.ensures.outcome (λ is. c.in_default.not-Active is) in
-    let settled = is_settled_now c.loop-self.self c.is_settled.result so.not_closed c.is_settled.ensures.settled c.loop-self-test.false in
-    record {
-      holds = λ open_now told. so.holds told;
-      ended = λ O told. has_ended O (memory c.args.self.now) (memory c.loop-self.self) (g.H.Host.world c.args.host.now) (g.H.Host.world c.loop-self.host) (so.so_far O told) settled (result_is_over (memory c.loop-self.self).config.outcome result);
-      suspended = λ O told is. absurd (cc is);
-      result = result;
-      any_moment = λ O open_now told command handed D s. ((so.so_far O told).1 command handed D s).begun.moments;
-      finished = λ told ended. first_of so.rest (λ was. ended was);
-      session = so.number;
-      disk_fault = λ is. absurd (cc is);
-      closed = (λ is. absurd (cc is), λ shut. absurd (not_both (is_closed c.args.self.now) c.if-self.false shut));
-      closes = tt;
-      idle = λ is. absurd (cc is);
-      «open» = so.not_closed;
-      still_open = λ is. absurd (cc is);
-      only = tt;
-      tells = so.tells;
-      counts = so.counts;
-    }
+-- there is an outcome
+pub returns-in_default-clause-ended : goal.returns-in_default-clause-ended
+returns-in_default-clause-ended g c = λ O told.
+    let d = c.loop-left.self in
+    let so = c.loop-left.invariant in
+    let result = ends c.outcome.result (memory d).config.outcome c.outcome.ensures.outcome (λ is. c.in_default.not-Active is) in
+    has_ended O (memory c.args.self.now) (memory d) (g.H.Host.world c.args.host.now) (g.H.Host.world c.loop-left.host) c.args.waits c.loop-left.left (so.so_far O told) so.settled (result_is_over (memory d).config.outcome result)
+
+pub returns-in_default-clause-result : goal.returns-in_default-clause-result
+returns-in_default-clause-result g c = ends c.outcome.result (memory c.loop-left.self).config.outcome c.outcome.ensures.outcome (λ is. c.in_default.not-Active is)
+
+pub returns-in_default-clause-any_moment : goal.returns-in_default-clause-any_moment
+returns-in_default-clause-any_moment g c = λ O open_now told.
+    let p = c.loop-left.invariant.so_far O told in
+    far_kept the_language O (memory c.args.self.now) (memory c.loop-left.self) (g.H.Host.world c.args.host.now) (g.H.Host.world c.loop-left.host) p.done p.far

@@ -1,14 +1,14 @@
-use Rattle.std.proofs.Common.{◌≡◌, ◌⊎◌}
-use Rattle.wf_engine.proofs.Sessions.{Going, left}
+use Rattle.std.proofs.Common.{◌≡◌, ◌≢◌}
+use Rattle.wf_engine.proofs.Waiting.{Waiting}
 use Rattle.wf_engine.proofs.engine.Engine.session.Given as goal
 use Rattle.wf_engine.specs.Engine.{memory}
 use Rattle.wf_model.specs.Config.{Active}
 
--- nothing was done yet, or there was no outcome
-abbrev pub invariant-loop-self : goal.invariant-loop-self
-invariant-loop-self g l =
-    Going (g.H.Host.world l.fn.host) (g.H.Host.world l.host) (g.H.Host.faults l.fn.host) (g.H.Host.faults l.host) l.fn.self l.self
-    (((l.host ≡ l.fn.host) × ((memory l.self).config ≡ (memory l.fn.self).config)) ⊎ ((memory l.fn.self).config.outcome ≡ Active))
+-- with an outcome nothing was done
+abbrev pub invariant-loop-left : goal.invariant-loop-left
+invariant-loop-left g l =
+    Waiting (g.H.Host.world l.fn.host) (g.H.Host.world l.host) (g.H.Host.faults l.fn.host) (g.H.Host.faults l.host) l.fn.self l.self l.waits l.left
+    ((memory l.fn.self).config.outcome ≢ Active → (l.host ≡ l.fn.host) × ((memory l.self).config ≡ (memory l.fn.self).config))
 
-abbrev pub decreases-loop-self : goal.decreases-loop-self
-decreases-loop-self g l = left (memory l.self)
+abbrev pub decreases-loop-left : goal.decreases-loop-left
+decreases-loop-left g l = l.left

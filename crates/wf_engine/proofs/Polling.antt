@@ -1,0 +1,52 @@
+-- What is sent, and then one poll.
+use Rattle.std.specs.Prelude.{◌≡◌, ◌≢◌, ◌⊎◌, ℕ, Bool, true, false, IsTrue, IsSome, List, [], ◌∷◌, ◌++◌, Option, Some, None}
+use Rattle.std.proofs.Common.{inl, inr, refl, sym, ◌∙◌, ap, subst}
+use Rattle.wf_deeds.specs.Clauses.{IsSending, KeptThroughout, Waits, Went, to_drop, to_start}
+use Rattle.wf_deeds.specs.Deeds.{visit_of}
+use Rattle.wf_deeds.specs.Memory.{IsSettled, Memory}
+use Rattle.wf_deeds.specs.Outside.{Outside}
+use Rattle.wf_engine.proofs.CallsSent.{holds_later}
+use Rattle.wf_engine.proofs.Parts.{Far, OnlyNow, far_at_first, far_on, far_went, polls_once, sending_polls}
+use Rattle.wf_engine.specs.Engine.{Holds, held, is_closed, memory}
+use Rattle.wf_engine.specs.TheLanguage.{the_language}
+use Rattle.wf_engine.specs.declared.engine.Engine.{Engine}
+use Rattle.wf_history.specs.Stands as history
+use Rattle.wf_history.specs.declared.history.History.{History}
+use Rattle.wf_host.specs.Moments.{CountsNow}
+use Rattle.wf_host.specs.World as host
+use Rattle.wf_host.specs.World.{World, Elapses, Same}
+use Rattle.wf_host.specs.declared.data.Deed.{Deed}
+use Rattle.wf_host.specs.declared.data.Deed.TheVariants.{Poll}
+use Rattle.wf_host.specs.declared.data.Heard.{Heard}
+use Rattle.wf_host.specs.declared.data.What.{What}
+use Rattle.wf_host.specs.declared.data.What.TheVariants as what
+use Rattle.wf_journal.specs.Records.{records}
+use Rattle.wf_model.specs.Config.{Active}
+use Rattle.wf_model.specs.Ready.{quiet}
+
+-- a host tells of no visit
+pub no_visit : (w : What) → host.visit_of w ≡ None → visit_of w ≡ None
+no_visit what.Nothing none = refl
+no_visit (what.Bytes k b) none = refl
+no_visit (what.End k) none = refl
+no_visit (what.Broken k) none = refl
+no_visit (what.Visit n b) none = none
+no_visit (what.VisitEnd n) none = none
+
+-- behind a part
+pub part_far : (O : Outside) (e d : Engine) (first mid : World) (done : List Deed) → OnlyNow first → CountsNow mid → mid.may_leave mid.seen → is_closed e ≡ false → Holds e first → is_closed d ≡ false → Holds d mid → KeptThroughout the_language O (memory e) first mid
+    → Went the_language O (memory e) (memory d) first mid done → Far the_language O (memory e) (memory d) first mid done
+part_far O e d first mid done only counts reads open_first holds open_then holds_then moments went =
+    far_on the_language O (memory e) (memory e) (memory d) first first mid [] done (far_at_first the_language O e.history first (memory e) only holds.0 (e.ready open_first).begun) refl moments went d.history counts reads holds_then.0 (d.ready open_then).begun
+
+-- and then it polled once
+pub has_waited : (O : Outside) (m o : Memory) (first now : World) (done : List Deed) (until : ℕ) (h : Heard) → Far the_language O m o first now (done ++ Poll until h ∷ []) → IsSending (to_drop m) (to_start m) done → Waits the_language O m o first now
+has_waited O m o first now done until h far sends = record {
+  done = done ++ Poll until h ∷ [];
+  went = far_went the_language O m o first now (done ++ Poll until h ∷ []) far;
+  once = polls_once done until h (sending_polls sends);
+}
+
+-- the file stays as it was left
+pub still_holds : (d o : Engine) (mid new : World) (deed : List Deed) → held o ≡ held d → Holds d mid → Elapses Same deed mid new → new.seen ≡ mid.seen → CountsNow new → Holds o new
+still_holds d o mid new deed same holds time seen counts = subst (λ (h : History). history.Stands h new × (records new.seen ≢ [])) (sym same) (holds_later d.history mid new deed holds time seen counts)

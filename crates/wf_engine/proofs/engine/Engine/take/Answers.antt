@@ -1,0 +1,30 @@
+use Rattle.std.proofs.Common.{◌≡◌, false, true, ℕ, suc, ◌+◌, max, refl, sym, ◌∙◌, ap, arith}
+use Rattle.wf_connections.specs.Calls.{is_dropped, is_started, told}
+use Rattle.wf_deeds.specs.Deeds.{call_of}
+use Rattle.wf_engine.proofs.Heard.{heard_ready, takable, takes}
+use Rattle.wf_engine.proofs.engine.Engine.take.Goals as goal
+use Rattle.wf_engine.specs.Engine.{memory}
+use Rattle.wf_engine.specs.Taken.{taken_event}
+use Rattle.wf_engine.specs.TheLanguage.{the_language}
+
+-- what it stands for then
+pub returns-clause-takes : goal.returns-clause-takes
+returns-clause-takes c = λ O.
+    let e = c.args.self.now in
+    let m = memory e in
+    let b = c.hear.new.self in
+    let r : c.max-self.result ≡ max e.reading c.args.heard.reading = c.max-self.ensures in
+    let w : e.waits + 1 ≡ suc e.waits = omega arith in
+    takes O m.program m.config m.session m.reading m.waits m.started m.dropped m.told m.taken c.args.heard (is_started b) (is_dropped b) (told b) c.in_ok-self.field-0 c.in_ok-hear.ensures.stands.started c.in_ok-hear.ensures.heard c.laws_of_steps.ensures.hearing the_language
+    c.in_ok-hear.ensures.stands.dropped e.reading c.max-self.result (e.waits + 1) r w (c.requires.settled c.if-self.false) (c.requires.active c.if-self.false) c.requires.of_calls c.in_ok-self.ensures
+
+-- it can go on
+pub invariant_of-self-2 : goal.invariant_of-self-2
+invariant_of-self-2 c =
+    let e = c.args.self.now in
+    let b = c.hear.new.self in
+    record {
+      ready = λ open_now.
+          heard_ready e.history e.machine e.reading c.max-self.result e.connections b e.taken c.in_ok-self.field-0 (e.ready c.if-self.false) (omega (arith, c.max-self.ensures)) c.in_ok-hear.ensures.stands
+          (takable (record (memory e) { started = is_started b; dropped = is_dropped b; told = told b }) (call_of c.args.heard.what) c.in_ok-self.field-0 (c.requires.active c.if-self.false) c.in_ok-self.ensures);
+    }

@@ -1,5 +1,0 @@
-use Rattle.wf_engine.proofs.Sending.{Dropping}
-use Rattle.wf_engine.proofs.sending.Engine.drop_closed.Given as goal
-
-abbrev pub invariant-loop-place : goal.invariant-loop-place
-invariant-loop-place g l = Dropping (g.H.Host.world l.fn.host) (g.H.Host.world l.host) (g.H.Host.faults l.fn.host) (g.H.Host.faults l.host) l.fn.self l.self l.place
