@@ -120,8 +120,8 @@ executing s a b =
     let no : true ≡ false = sym it.1 ∙ it.2 in cc no
 
 -- one that uses a journal, and one that doesn't
-pub using : (s : Scene) → IsLineOf s (λ c. uses_journal c ≡ true) → IsLineOf s (λ c. uses_journal c ≡ false) → ⊥
-using s a b =
+pub not_both_journals : (s : Scene) → IsLineOf s (λ c. uses_journal c ≡ true) → IsLineOf s (λ c. uses_journal c ≡ false) → ⊥
+not_both_journals s a b =
     let it = both s (λ c. uses_journal c ≡ true) (λ c. uses_journal c ≡ false) a b in
     let no : true ≡ false = sym it.1 ∙ it.2 in cc no
 
@@ -179,6 +179,14 @@ one_command s c d a b = let it = both s (λ x. x ≡ c) (λ x. x ≡ d) a b in s
 
 pub not_run_and_resume : (s : Scene) → IsLineOf s (λ c. c ≡ Run) → IsLineOf s (λ c. c ≡ Resume) → ⊥
 not_run_and_resume s a b = let no : Run ≡ Resume = one_command s Run Resume a b in cc no
+
+pub not_run_and_needs : (s : Scene) → IsLineOf s (λ c. c ≡ Run) → IsLineOf s (λ c. needs_history c ≡ true) → ⊥
+not_run_and_needs s a b =
+    let it = both s (λ c. c ≡ Run) (λ c. needs_history c ≡ true) a b in
+    let no : false ≡ true = sym (ap needs_history it.1) ∙ it.2 in cc no
+
+pub resume_needs : (s : Scene) → IsLineOf s (λ c. c ≡ Resume) → IsLineOf s (λ c. needs_history c ≡ true)
+resume_needs s line = line_is s (λ c. c ≡ Resume) (λ c. needs_history c ≡ true) (λ c is. ap needs_history is) line
 
 -- ## Arguments
 -- just `run` has one

@@ -1,7 +1,7 @@
 -- The rows of the statuses, each from how the call ended.
 use Rattle.std.proofs.Common.{◌≡◌, ◌<◌, ◌⊎◌, inl, inr, ⊎_elim, IsTrue, ℕ, Bool, true, false, List, ◌++◌, None, Some, refl, sym, ◌∙◌, ap, subst, arith}
 use Rattle.std.specs.Prelude.{codes, decimal}
-use Rattle.wf_cli.proofs.Causes.{same_ok, same_some, no_bad_line, one_command, executing, using, check_reports, executes_line, format_reports, idle_tells, needs_line, run_executes, reported_idle, reported_line, telling_line, tells_line, Cause, says_cause, says_text, EarlyCause, says_early, text_early, not_said}
+use Rattle.wf_cli.proofs.Causes.{same_ok, same_some, no_bad_line, one_command, executing, not_both_journals, check_reports, executes_line, format_reports, idle_tells, needs_line, run_executes, reported_idle, reported_line, telling_line, tells_line, Cause, says_cause, says_text, EarlyCause, says_early, text_early, not_said}
 use Rattle.wf_cli.proofs.Together.{IsOrBefore, where_bad_line, where_bad_argument, where_told, when_told, where_refused, where_of_file, where_no_history, at_magic, at_started, at_not_started}
 use Rattle.wf_cli.specs.Top.{Call, IsLineOf, IsBadArgument, IsRefused, IsChecked, HasOutcome, IsSuspended, Reported, Gives, IsTaken, IsOfFile, ComesBack, Says, bad_line, bad_argument, refused, reported, of_file, Ends, said, cut, unread, failed, unheard, no_memory, Prints, IsOrYields, Exactly, BadLineRow, BadArgumentRow, ReadFaultRow, RefusedRow, DiskFaultRow, NotAJournalRow, AlreadyStartedRow, NotStartedRow, NotAHistoryRow, WaitsNoMore, SuspendedRow, OutcomeRow, DoneRow, TellingRow, TellsHistory, AcceptedRow, ComesBackRow, PrintFaultRow, PollFaultRow, IsPassed}
 use Rattle.wf_engine.specs.Printed as end
@@ -342,7 +342,7 @@ report_of_says s old new _ _ (bad_line n bad) line is = absurd (cc is)
 report_of_says s old new _ _ (bad_argument why) line is = absurd (cc is)
 report_of_says s old new _ _ (refused r why fine) line is = absurd (cc is)
 report_of_says s old new _ _ (reported text report back) line is = report
-report_of_says s old new _ _ (of_file st text isf line2 accepted gives) line is = absurd (using s line2 line)
+report_of_says s old new _ _ (of_file st text isf line2 accepted gives) line is = absurd (not_both_journals s line2 line)
 
 done_comes : (x : Call) → Ends x → IsLineOf x.scene (λ c. uses_journal c ≡ false) → x.status ≡ status.Done → (text : List ℕ) × Reported x.scene text × Prints x text
 done_comes x (said text says prints) line is = (text, report_of_says x.scene x.old x.new x.status text says line is, prints)
@@ -357,7 +357,7 @@ where_reported s old new shown _ _ report (bad_line n bad) = inr (omega arith)
 where_reported s old new shown _ _ report (bad_argument why) = inr (omega arith)
 where_reported s old new shown _ _ report (refused q why fine) = inr (omega arith)
 where_reported s old new shown _ _ report (reported text report2 back) = inl refl
-where_reported s old new shown _ _ report (of_file st text is line accepted gives) = absurd (using s line (reported_line s shown report))
+where_reported s old new shown _ _ report (of_file st text is line accepted gives) = absurd (not_both_journals s line (reported_line s shown report))
 
 pub done_row : (x : Call) → Ends x → DoneRow x
 done_row x ends = record {
@@ -376,14 +376,14 @@ telling_of_gives L s image D _ _ line (end.not_started why) is = let no : false 
 telling_of_gives L s image D _ _ line (end.not_a_history n why) is = let no : false ≡ true = is in absurd (cc no)
 telling_of_gives L s image D _ _ line (end.suspended why) is = let no : false ≡ true = is in absurd (cc no)
 telling_of_gives L s image D _ _ line (end.ended o st has which) is = absurd (executing s has.0 (idle_tells s line))
-telling_of_gives L s image D _ _ line (end.done text report) is = absurd (using s (needs_line s (tells_line s line)) (reported_line s text report))
+telling_of_gives L s image D _ _ line (end.done text report) is = absurd (not_both_journals s (needs_line s (tells_line s line)) (reported_line s text report))
 telling_of_gives L s image D _ _ line (end.told text tells) is = (tells, refl)
 
 telling_of_says : (s : Scene) (old new : World) (st : Status) (text : List ℕ) → IsTrue old.tells → IsLineOf s (λ c. tells_history c ≡ true) → Says s old new st text → st ≡ status.Done → TellsHistory the_language s text
 telling_of_says s old new _ _ told line (bad_line n bad) is = absurd (cc is)
 telling_of_says s old new _ _ told line (bad_argument why) is = absurd (cc is)
 telling_of_says s old new _ _ told line (refused r why fine) is = absurd (cc is)
-telling_of_says s old new _ _ told line (reported text report back) is = absurd (using s (needs_line s (tells_line s line)) (reported_line s text report))
+telling_of_says s old new _ _ told line (reported text report back) is = absurd (not_both_journals s (needs_line s (tells_line s line)) (reported_line s text report))
 telling_of_says s old new _ _ told line (of_file st text isf line2 accepted gives) is = let g = (gives told).0 in (telling_of_gives the_language s new.seen g.0 st text line g.2 (ap is_outcome is)).0
 
 telling_comes : (x : Call) → IsTrue x.old.tells → Ends x → IsLineOf x.scene (λ c. tells_history c ≡ true) → x.status ≡ status.Done → (text : List ℕ) × TellsHistory the_language x.scene text × Prints x text
@@ -433,7 +433,7 @@ layout_of_says s old new _ _ (bad_line n bad) line is = absurd (cc is)
 layout_of_says s old new _ _ (bad_argument why) line is = absurd (cc is)
 layout_of_says s old new _ _ (refused r why fine) line is = absurd (cc is)
 layout_of_says s old new _ _ (reported text report back) line is = back line
-layout_of_says s old new _ _ (of_file st text isf line2 accepted gives) line is = absurd (using s line2 (format_reports s line))
+layout_of_says s old new _ _ (of_file st text isf line2 accepted gives) line is = absurd (not_both_journals s line2 (format_reports s line))
 
 pub comes_back_row : (x : Call) → Ends x → ComesBackRow x
 comes_back_row x (said text says prints) line is =

@@ -1,7 +1,7 @@
 -- What is said where a cause holds: the status of this cause, or one that is looked at before.
 use Rattle.std.proofs.Common.{◌≡◌, ◌<◌, ◌⊎◌, inl, inr, ⊎_elim, IsTrue, ℕ, true, false, List, None, Some, Result, Err, refl, sym, ◌∙◌, ap, subst, arith}
 use Rattle.std.proofs.lemmas.Bool.{cases_lt}
-use Rattle.wf_cli.proofs.Causes.{same_ok, same_err, both, no_bad_line, using, run_executes, needs_line, reported_idle, reported_line, refused_line, argument_line, no_bad_argument, Cause, gives_cause}
+use Rattle.wf_cli.proofs.Causes.{same_ok, same_err, both, no_bad_line, not_both_journals, run_executes, needs_line, reported_idle, reported_line, refused_line, argument_line, no_bad_argument, Cause, gives_cause}
 use Rattle.wf_cli.specs.Reports.{layout_of, the_reports}
 use Rattle.wf_cli.specs.Top.{IsLineOf, IsBadLine, IsBadArgument, IsRefused, IsNoHistory, Reported, Gives, IsOfFile, IsPassed, Says, bad_line, bad_argument, refused, reported, of_file}
 use Rattle.wf_engine.specs.Printed as end
@@ -175,7 +175,7 @@ pub where_of_file : (s : Scene) (old new : World) (st other : Status) (text : Li
 where_of_file s old new st _ _ told low line never alone (bad_line m is) = inr (omega (arith, low))
 where_of_file s old new st _ _ told low line never alone (bad_argument why) = inr (omega (arith, low))
 where_of_file s old new st _ _ told low line never alone (refused q is fine) = inr (omega (arith, low))
-where_of_file s old new st _ _ told low line never alone (reported text report back) = absurd (using s line (reported_line s text report))
+where_of_file s old new st _ _ told low line never alone (reported text report back) = absurd (not_both_journals s line (reported_line s text report))
 where_of_file s old new st _ _ told low line never alone (of_file other text is runs accepted gives) = ordered st other is (λ high. never other (gives told).1 high) (alone other is)
 
 -- where the records are no history, and the host tells
@@ -183,7 +183,7 @@ pub where_no_history : (s : Scene) (old new : World) (n : ℕ) (other : Status) 
 where_no_history s old new n _ _ told why (bad_line m is) = inr (omega arith)
 where_no_history s old new n _ _ told why (bad_argument bad) = inr (omega arith)
 where_no_history s old new n _ _ told why (refused q is fine) = inr (omega arith)
-where_no_history s old new n _ _ told why (reported text report back) = absurd (using s (needs_line s why.0) (reported_line s text report))
+where_no_history s old new n _ _ told why (reported text report back) = absurd (not_both_journals s (needs_line s why.0) (reported_line s text report))
 where_no_history s old new n _ _ told why (of_file other text is line accepted gives) =
     let g = (gives told).0 in
     ordered (status.NotAHistory n) other is (λ low. (gives told).1.history n low why) (same_history the_language s new.seen g.0 text n other why is g.2)
