@@ -12,7 +12,9 @@ mod Promises
 mod Rows
 mod Safe
 mod Pairs
+mod Readings
 mod Routes
 mod Spelled
+mod Tellings
 mod Together
 mod Works

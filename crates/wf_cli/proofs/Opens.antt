@@ -108,7 +108,7 @@ abbrev pub read_silently : (old new : World) (t : ℕ) → new.deeds ≡ old.dee
 read_silently old new t is = record { done = Now t ∷ []; deeds = is; silent = refl }
 
 -- the first records of what is found are those of an empty front
-no_record_no_history : (L : Language) (J : List (List ℕ)) (st : Standing) → history L J ≡ Ok st → J ≡ [] → ⊥
+pub no_record_no_history : (L : Language) (J : List (List ℕ)) (st : Standing) → history L J ≡ Ok st → J ≡ [] → ⊥
 unfolding history
 no_record_no_history L J st is none = let no : Err 0 ≡ Ok st = ap (history L) (sym none) ∙ is in cc no
 

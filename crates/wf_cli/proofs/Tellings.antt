@@ -5,12 +5,12 @@ use Rattle.std.proofs.lemmas.List.{append-nil}
 use Rattle.std.specs.declared.alloc.Global.{Global}
 use Rattle.wf_cli.proofs.Causes.{both, not_both, needs_line, not_run_and_needs, tells_line, argument_line}
 use Rattle.wf_cli.proofs.Moments.{early_nothing, kept_still, late_found, no_turns_next, no_turns_of_none}
-use Rattle.wf_cli.proofs.Opens.{no_magic, not_of_polls, nothing_silently, passed_all, passed_history, passed_magic, passed_not_started}
+use Rattle.wf_cli.proofs.Opens.{no_magic, no_record_no_history, not_of_polls, nothing_silently, passed_all, passed_history, passed_magic, passed_not_started}
 use Rattle.wf_cli.proofs.Safe.{still_end, plain_end}
 use Rattle.wf_cli.proofs.Together.{where_told}
 use Rattle.wf_cli.proofs.Works.{end_fault, fault_gives, fault_late}
 use Rattle.wf_cli.specs.Reports.{the_reports}
-use Rattle.wf_cli.specs.Said.{FaultHolds, IsEnd, LateNow, MayEndNow, ReadsJournal, SaysFault, SaysReport, Unwritten, Worked}
+use Rattle.wf_cli.specs.Said.{FaultHolds, IsEnd, LateNow, MayEndNow, ReadsJournal, SaysTelling, Unwritten, Worked}
 use Rattle.wf_cli.specs.Top.{HasNoCauseInFile, IsAccepted, IsBehindSync, IsLineOf, IsStarted, IsTaken, Gives, TellsHistory, of_file}
 use Rattle.wf_cli.specs.declared.end.Said.{Said}
 use Rattle.wf_cli.specs.declared.end.Silence.{Silence}
@@ -28,7 +28,7 @@ use Rattle.wf_host.specs.World.{World, Faults, Told, Only, Rose}
 use Rattle.wf_host.specs.declared.data.Deed.{Deed}
 use Rattle.wf_journal.specs.Records.{magic, records}
 use Rattle.wf_journal_laws.specs.At.{journal, next_session, session_turns}
-use Rattle.wf_journal_laws.specs.History.{Standing, history}
+use Rattle.wf_journal_laws.specs.History.{history}
 use Rattle.wf_journal_laws.specs.Laws.{IsHistory}
 use Rattle.wf_journal_laws.specs.Moments.{NextBehindHistory, NoTurnsBehind}
 use Rattle.wf_args.specs.Lines.{PlainLine, line_of}
@@ -52,11 +52,6 @@ sourceless Version needs uses = let no : false ≡ true = uses in cc no
 
 tells_not_resume : (c : Command) → tells_history c ≡ true → c ≡ Resume → ⊥
 tells_not_resume c tells is = let no : false ≡ true = sym (ap tells_history is) ∙ tells in cc no
-
--- a status that a file's reading gives isn't that of a suspended command
-abbrev pub SaysTelling : Result (String Global) EngineFault → Result Said Silence → Type 0
-SaysTelling (Ok text) r = SaysReport (string_bytes text) r
-SaysTelling (Err f) r = SaysFault f r
 
 -- what reading a journal ends with where it fails
 abbrev pub IsReadFault : EngineFault → Type 0
@@ -120,11 +115,6 @@ module _ (s : Scene) (l : PlainLine) (is_line : line_of s.words ≡ Ok l) (tells
     fault_of engine.OutOfMemory is k = tt
 
     -- ## A history
-    -- records that are one have no other cause
-    no_record : (J : List (List ℕ)) (st : Standing) → history the_language J ≡ Ok st → J ≡ [] → ⊥
-    unfolding history
-    no_record J st is none = let no : Err 0 ≡ Ok st = ap (history the_language) (sym none) ∙ is in cc no
-
     causes : (text : String Global) → ReadsJournal l old new (Ok text) → HasNoCauseInFile the_language s
     causes text k =
         let begins = subst (λ f. take 4 f ≡ magic) found k.begins in
@@ -132,7 +122,7 @@ module _ (s : Scene) (l : PlainLine) (is_line : line_of s.words ≡ Ok l) (tells
         record {
           magic = no_magic s (inr begins);
           started = never_started;
-          not_started = λ why. no_record (records s.found) is.0 is.1 why.1;
+          not_started = λ why. no_record_no_history the_language (records s.found) is.0 is.1 why.1;
           history = λ n why. not_both (history the_language (records s.found)) is.0 n is.1 why.1;
         }
 
@@ -185,7 +175,7 @@ module _ (s : Scene) (l : PlainLine) (is_line : line_of s.words ≡ Ok l) (tells
       left_history : OnlyReadings → NoTurnsBehind → NextBehindHistory → (text : String Global) → ReadsJournal l old new (Ok text) → LateNow the_language O s old new
       left_history readings behind next text k = λ fit.
           let is : IsHistory the_language (records s.found) = subst (λ f. IsHistory the_language (records f)) found k.history in
-          left readings (no_turns_next behind next the_language s.found fit (λ none. no_record (records s.found) is.0 is.1 none)) k.settled k.seen k.deeds fit
+          left readings (no_turns_next behind next the_language s.found fit (λ none. no_record_no_history the_language (records s.found) is.0 is.1 none)) k.settled k.seen k.deeds fit
 
       left_fault : OnlyReadings → (f : EngineFault) → IsReadFault f → ReadsJournal l old new (Err f) → (f ≡ engine.AlreadyStarted) ⊎ (f ≡ engine.NotStarted) → LateNow the_language O s old new
       left_fault readings f only k (inl is) = absurd (never_started (fault_of engine.AlreadyStarted (subst IsReadFault is only) (subst (λ x. ReadsJournal l old new (Err x)) is k)).0)

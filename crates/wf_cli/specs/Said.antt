@@ -1,5 +1,5 @@
 -- What the code of a command has found out before it prints.
-use Rattle.std.specs.Prelude.{◌≡◌, ◌≢◌, ◌⊎◌, ◌≤◌, ℕ, true, false, List, [], ◌∷◌, ◌++◌, length, take, Contains, Some, None, Result, Ok, Err, IfOk, IfErr, OnOk, IsErrOf, String, string_bytes}
+use Rattle.std.specs.Prelude.{◌≡◌, ◌≢◌, ◌⊎◌, ◌≤◌, ℕ, true, false, List, [], ◌∷◌, ◌++◌, length, take, Contains, Option, Some, None, Result, Ok, Err, IfOk, IfErr, OnOk, IsErrOf, String, string_bytes}
 use Rattle.std.specs.List.{AllByRecursion}
 use Rattle.wf_ast.specs.Tree.{Program}
 use Rattle.wf_cli.specs.Reports.{the_reports}
@@ -34,17 +34,19 @@ use Rattle.wf_host.specs.declared.data.Deed.{Deed}
 use Rattle.wf_journal.specs.Records.{magic, records}
 use Rattle.wf_journal.specs.Steps.{Moment}
 use Rattle.wf_args.specs.Lines.{PlainLine, line_of}
-use Rattle.wf_args.specs.declared.command.Command.TheVariants.{Resume}
+use Rattle.wf_args.specs.declared.command.Command.{Command}
+use Rattle.wf_args.specs.declared.command.Command.TheVariants.{Resume, Log}
 use Rattle.wf_args.specs.declared.read.LineFault.{LineFault}
 use Rattle.wf_args.specs.declared.read.LineFault.TheVariants as words
 use Rattle.wf_machine.specs.Outcome.{IsResult}
-use Rattle.wf_model.specs.Config.{Outcome, Active}
+use Rattle.wf_model.specs.Config.{Config, Outcome, Active}
 use Rattle.wf_host.specs.Printing.{PrintsFront, PrintsWhole, LeavesSome, TookNothing, PrintedSoFar}
 use Rattle.wf_journal_laws.specs.At.{journal, next_session}
 use Rattle.wf_journal_laws.specs.History.{Standing, history}
 use Rattle.wf_journal_laws.specs.Language.{Language}
 use Rattle.wf_journal_laws.specs.Laws.{IsHistory}
 use Rattle.wf_report.specs.Journals.{MayHaveRecords}
+use Rattle.wf_report.specs.Texts.{logged, shown}
 use Rattle.std.specs.declared.alloc.Global.{Global}
 use Rattle.wf_status.specs.Statuses.{status_code, status_text}
 use Rattle.wf_source.specs.Programs.{IsRefusalOf, IsSourceOf}
@@ -208,6 +210,16 @@ pub record Opening (O : Outside) (command : kept.Command) (s : Scene) (old new :
   pub finished : (st : Standing) → IsLineOf s (λ c. c ≡ Resume) → history the_language (records s.found) ≡ Ok st → st.config.outcome ≢ Active → new.deeds ≡ old.deeds
 
 -- ## Telling of a history
+-- the text of a history that leads to this configuration, under `show` and `log`
+abbrev pub text_by : Command → Option (List ℕ) → Config → List ℕ
+text_by Log grep c = logged grep c.log
+text_by k grep c = shown c
+
+-- what is said of a history that was read, or why nothing is told of it
+abbrev pub SaysTelling : Result (String Global) EngineFault → Result Said Silence → Type 0
+SaysTelling (Ok text) r = SaysReport (string_bytes text) r
+SaysTelling (Err f) r = SaysFault f r
+
 -- a text of a line that tells of a history, where these are the records that are found
 abbrev pub TellsOf : PlainLine → List (List ℕ) → List ℕ → Type 0
 TellsOf l J text = (s : Scene) → end.IsLine s l → records s.found ≡ J → end.TellsHistory the_language the_reports s text

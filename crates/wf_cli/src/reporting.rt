@@ -1,14 +1,16 @@
 // Reports of the execution that stands in the journal.
-ghost use Rattle.std.specs.Prelude.{◌≡◌, ◌⊎◌, ◌<◌, true, ℕ, List, Ok, IfErr, IsErrOf};
-ghost use Rattle.wf_args.specs.Lines.{line_of};
+ghost use Rattle.std.specs.Prelude.{◌≡◌, ◌⊎◌, ◌<◌, true, ℕ, List, Ok, IfErr, IfOk, IsErrOf, string_bytes};
+ghost use Rattle.wf_args.specs.Lines.{line_of, word_of};
 ghost use Rattle.wf_args.specs.Plain.{plain_line};
-ghost use Rattle.wf_cli.specs.Said.{IsEnd, ReadsJournal, Worked};
+ghost use Rattle.wf_args.specs.declared.option.OptionName.TheVariants.{Grep};
+ghost use Rattle.wf_cli.specs.Said.{IsEnd, ReadsJournal, SaysTelling, Worked, text_by};
 ghost use Rattle.wf_engine.specs.Printed.{tells_history};
 ghost use Rattle.wf_engine.specs.Safe.{scene};
 ghost use Rattle.wf_engine.specs.TheOutside.{InTheOutside};
 ghost use Rattle.wf_host.specs.Calls.{DiskFailed, NoCountFalls, TellsAsBefore};
 ghost use Rattle.wf_host.specs.Source.{Rest};
 ghost use Rattle.wf_host.specs.World.{Told};
+ghost use Rattle.wf_machine.specs.Seen.{state_of};
 
 use crate::end::{Said, Silence};
 use std::alloc::Global;
@@ -19,8 +21,9 @@ use wf_deeds::laws_of_rules;
 use wf_engine::EngineFault;
 use wf_host::Host;
 use wf_journal_laws::laws_of_moments;
-use wf_machine::Steps;
+use wf_machine::{Machine, Steps};
 use wf_report::{last_state, log_lines, show, state_at};
+use wf_value::OutOfMemory;
 
 /// Tells of the execution that stands in the journal. Nothing is written, and no clock is read.
 pub(crate) fn report<H: Host>(
@@ -89,7 +92,15 @@ fn report_counted<H: Host, L: Ledger>(
 {
     laws_of_moments();
     laws_of_rules();
-    match text_for(alloc, line, host, steps) {
+    let told = text_for(alloc, line, host, steps);
+    said_of(alloc, told)
+}
+
+/// What is said of a history that was read, or why nothing is told of it.
+fn said_of(alloc: Global, told: Result<String, EngineFault>) -> Result<Said, Silence>
+    ensures { SaysTelling told result }
+{
+    match told {
         Ok(text) => Ok(Said::report(alloc, text.as_str())?),
         Err(fault) => Said::of_fault(alloc, fault),
     }
@@ -114,20 +125,26 @@ fn text_for<H: Host, L: Ledger>(
     ensures counts { NoCountFalls H.faults host.old host.new }
 {
     match line.command() {
-        Command::Show => {
-            let machine = last_state(alloc, host, steps)?;
-            Ok(show(alloc, machine.id(), &machine)?)
-        }
         Command::At => state_at(alloc, host, u64::from(line.turn()), steps),
-        Command::Log => {
+        _ => {
             let machine = last_state(alloc, host, steps)?;
-            Ok(log_lines(alloc, &machine, line.grep())?)
+            Ok(text_of_state(alloc, line, &machine)?)
         }
-        Command::Check
-        | Command::Format
-        | Command::Run
-        | Command::Resume
-        | Command::Help
-        | Command::Version => unreachable!(),
+    }
+}
+
+/// What `show` and `log` tell of a history that leads to this machine.
+fn text_of_state(
+    alloc: Global,
+    line: &Line<'_>,
+    machine: &Machine,
+) -> Result<String, OutOfMemory>
+    ensures { IfOk result (λ text. string_bytes text
+        ≡ text_by (plain_line line.now).command (word_of Grep (plain_line line.now))
+        (state_of machine.now).config) }
+{
+    match line.command() {
+        Command::Log => log_lines(alloc, machine, line.grep()),
+        _ => show(alloc, machine.id(), machine),
     }
 }
