@@ -131,3 +131,23 @@ pub front_read : (l : PlainLine) (old new : World) (q : Result (String Global) E
 front_read l old new (Ok text) k command shows =
     text_read l old new (Ok text) text text k refl (let stands = shows.1 in (stands.whole, stands.is_history)) (tells_stood l (records old.seen) (string_bytes text) command shows)
 front_read l old new (Err f) k command shows = fault_read l old new f k
+
+-- ## The texts
+text_by_other : (k : Command) (grep : Option (List ℕ)) (c : Config) → k ≢ Log → text_by k grep c ≡ texts.shown c
+text_by_other Check grep c other = refl
+text_by_other Format grep c other = refl
+text_by_other Run grep c other = refl
+text_by_other Resume grep c other = refl
+text_by_other Show grep c other = refl
+text_by_other At grep c other = refl
+text_by_other Log grep c other = absurd (other refl)
+text_by_other Help grep c other = refl
+text_by_other Version grep c other = refl
+
+pub shows_by : {E : Type 0} (k : Command) (grep : Option (List ℕ)) (c : Config) (id : List ℕ) (r : Result (String Global) E) → k ≢ Log → id ≡ c.facts.id → IfOk r (λ t. string_bytes t ≡ texts.shown_as id c) → IfOk r (λ t. string_bytes t ≡ text_by k grep c)
+shows_by k grep c id (Ok t) other same is = is ∙ ap (λ i. texts.shown_as i c) same ∙ sym (text_by_other k grep c other)
+shows_by k grep c id (Err e) other same is = tt
+
+pub logs_by : {E : Type 0} (k : Command) (grep word : Option (List ℕ)) (c : Config) (r : Result (String Global) E) → k ≡ Log → word ≡ grep → IfOk r (λ t. string_bytes t ≡ texts.logged word c.log) → IfOk r (λ t. string_bytes t ≡ text_by k grep c)
+logs_by k grep word c (Ok t) command same is = is ∙ ap (λ w. texts.logged w c.log) same ∙ ap (λ q. text_by q grep c) (sym command)
+logs_by k grep word c (Err e) command same is = tt
