@@ -1,8 +1,8 @@
 // Command lines.
 //
 // The tables `lines` and `options` have words as their cases. A line's answer is its command and then each option that it has, as its name
-// and its word as a JSON text; a route as its host and name as JSON texts, and its port; the waits as their number, where that isn't the
-// one without the option. Or it is `BadLine` with the number of the word. The answer to `options` is what the look-ups find, of the journal,
+// and its word as a JSON text; a route as its host and name as JSON texts, and its port; a pair of the environment as its key and its value
+// as JSON texts; the waits and the turn as their numbers, where these aren't those without the options. Or it is `BadLine` with the number of the word. The answer to `options` is what the look-ups find, of the journal,
 // the source and the address for callbacks: a JSON text, or `none`.
 use crate::command::words_of;
 use crate::ended::json_of;
@@ -11,8 +11,8 @@ use wf_args::{Line, LineFault, OptionName, journal_of, listen_of, read_line, sou
 use wf_cases::CaseFault;
 use wf_value::Value;
 
-/// The most routes of a line, and one more.
-const MOST_ROUTES: usize = 21;
+/// The most routes of a line, or pairs of its environment, and one more.
+const MOST_PARTS: usize = 21;
 
 /// How often a command may wait without the option.
 const DEFAULT_WAITS: u32 = 1_000_000;
@@ -34,12 +34,15 @@ fn told(alloc: Global, line: Line<'_>) -> Result<String, CaseFault> {
     push_option(alloc, &mut told, OptionName::Args, line.args())?;
     push_option(alloc, &mut told, OptionName::Id, line.id())?;
     push_routes(alloc, &mut told, line)?;
-    push_waits(&mut told, line.waits())?;
+    push_env(alloc, &mut told, line)?;
+    push_number(&mut told, OptionName::Waits, line.waits(), DEFAULT_WAITS)?;
+    push_number(&mut told, OptionName::Turn, line.turn(), 0)?;
+    push_option(alloc, &mut told, OptionName::Grep, line.grep())?;
     Ok(told)
 }
 
 fn push_routes(alloc: Global, told: &mut String, line: Line<'_>) -> Result<(), CaseFault> {
-    for index in 0..MOST_ROUTES {
+    for index in 0..MOST_PARTS {
         if let Some(route) = line.route(index) {
             let host = json_of(alloc, route.host)?;
             let name = json_of(alloc, route.name)?;
@@ -50,9 +53,26 @@ fn push_routes(alloc: Global, told: &mut String, line: Line<'_>) -> Result<(), C
     Ok(())
 }
 
-fn push_waits(told: &mut String, waits: u32) -> Result<(), CaseFault> {
-    if waits != DEFAULT_WAITS {
-        write!(told, " --waits {waits}")?;
+fn push_env(alloc: Global, told: &mut String, line: Line<'_>) -> Result<(), CaseFault> {
+    for index in 0..MOST_PARTS {
+        if let Some(pair) = line.env(index) {
+            let key = json_of(alloc, pair.key)?;
+            let value = json_of(alloc, pair.value)?;
+            write!(told, " --env {} {}", key.as_str(), value.as_str())?;
+        }
+    }
+    Ok(())
+}
+
+/// The number of an option, where it isn't the one that stands for none.
+fn push_number(
+    told: &mut String,
+    name: OptionName,
+    number: u32,
+    absent: u32,
+) -> Result<(), CaseFault> {
+    if number != absent {
+        write!(told, " {} {number}", name.word())?;
     }
     Ok(())
 }

@@ -8,7 +8,7 @@ use Rattle.std.specs.Prelude.{if◌then◌else◌, nat_lt}
 use Rattle.std.proofs.lemmas.Bool.{lt-ltb, ltb-true}
 use Rattle.wf_alone.specs.Laws.{MainMerges}
 use Rattle.wf_alone.specs.Machine as alone
-use Rattle.wf_alone.specs.Machine.{Rest, config_by, main_at, main_local, main_scene, sent}
+use Rattle.wf_alone.specs.Machine.{Rest, config_by, main_at, main_local, logged, main_scene, sent}
 use Rattle.wf_alone.specs.Plain.{IsReal}
 use Rattle.wf_ast.specs.Tree.{Program}
 use Rattle.wf_model.specs.Config.{After, Config, Item, Layer, NotNow, Outcome, Raised, Task, To, Wait, Wrong, move_limit}
@@ -37,6 +37,8 @@ pub merges : MainMerges
 merges x k ls w = record {
   goes = λ l none. put_here x l l.outer none;
   sends = λ q due l none. put_here (sent q due x) l l.outer none;
+  logs = λ severity v l none. put_here (logged severity v x) l l.outer none;
+  logs_last = λ severity v e l none. ap (λ os. To (finish 0 None e (put_outer os (main_at (logged severity v x) k ls w)))) none;
   ends = λ e l none. ap (λ os. To (finish 0 None e (put_outer os (main_at x k ls w)))) none;
 }
 
@@ -52,7 +54,7 @@ somewhere (Ends e l) c real = tt
 somewhere (Does (Sends q due) m) c real = somewhere m (done 0 (Sends q due) c) real
 somewhere (Does (Creates m) n) c real = absurd real
 somewhere (Does (Takes e) n) c real = absurd real
-somewhere (Does (Logs severity v) n) c real = absurd real
+somewhere (Does (Logs severity v) n) c real = somewhere n (done 0 (Logs severity v) c) real
 somewhere (Breaks kind) c real = tt
 somewhere Not c real = absurd real
 

@@ -14,7 +14,7 @@ use Rattle.wf_ast.specs.Flows.{flow}
 use Rattle.wf_ast.specs.Func.{AwaitCallback, CreateEndpoint, HttpCall, Listing, Special, SpecialListing, SysLog, SysSleep, SysSleepUntil, call_takes, func_named, in_order, special_named, takes}
 use Rattle.wf_ast.specs.declared.Func.{Func}
 use Rattle.wf_ast.specs.Tree.{CallBody, Entry, Flow, OfBranches, OfLoop, Param, parallel, Steps, TryBody, except, loop, LoopBody, no_except, step, no_steps, more, Body, try}
-use Rattle.wf_model.specs.Calls.{bindings, calls_listed, calls_named, calls_special, calls_with, evaluates, fits_call, http_method, issues_call, requests, sleep_due, until_due}
+use Rattle.wf_model.specs.Calls.{bindings, calls_listed, calls_named, calls_special, calls_with, evaluates, fits_call, http_method, issues_call, log_entry, logs, requests, sleep_due, until_due, within_log}
 use Rattle.wf_model.specs.Config.{Await, Awake, Calling, Delay, Item, Do, Entries, Then, Loop, Try, Judge, Mark, Back, Join, Left, Sleep, Wait, call_limit, next_of}
 use Rattle.wf_model.specs.Kinds.{ByCall, ByClock, NextKind, Plainly, next_kind, by_clock, arms_now, body_kind, call_kind, entry_now, fields_now, is_now, listed_kind, over_now, special_kind, template_now}
 use Rattle.wf_model.specs.Layers.{Assigned, Done, Refused, Undeclared, assign, enter, opened, view}
@@ -227,10 +227,14 @@ calls_with_real s w r (Some xs) k l =
 evaluates_real : (s : Scene) (r : Option Text) (f : Func) (vs : List Data) (k : List Item) (l : Local) → IsReal (evaluates s r f vs k l)
 evaluates_real s r f vs k l = on_real s k l (apply (view s l) f vs >>= kept) _ (λ v. gives_real s r v k l)
 
--- a sleep; no step of another kind is one of HTTP
+-- a log, which goes on then
+logs_real : (s : Scene) (r : Option Text) (args : Pairs) (k : List Item) (l : Local) → IsReal (logs s r args k l)
+logs_real s r args k l = on_real s k l (log_entry args >>= within_log s) _ (λ e. gives_real s r null k l)
+
+-- a sleep, or a log; no step of another kind is one of HTTP
 special_real : (s : Scene) (r : Option Text) (x : Special) (args : Pairs) (k : List Item) (l : Local) (clock : Bool) → is_plain_special x ≡ true → (special_kind x clock ≡ ByCall → ⊥) → IsReal (calls_special s r x args k l)
 special_real s r (HttpCall m) args k l clock there plain = absurd (plain refl)
-special_real s r SysLog args k l clock there plain = absurd (cc there)
+special_real s r SysLog args k l clock there plain = logs_real s r args k l
 special_real s r SysSleep args k l clock there plain = on_real s k l (sleep_due s.now args) _ (λ d. tt)
 special_real s r SysSleepUntil args k l clock there plain = on_real s k l (until_due (get (codes "time") args)) _ (λ d. tt)
 special_real s r CreateEndpoint args k l clock there plain = absurd (cc there)

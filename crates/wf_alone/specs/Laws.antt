@@ -1,7 +1,7 @@
 -- Laws of executions in which `main` is the only task, and its control has no parallel steps. It stands at a control k with layers ls, and is
 -- awake, or waits: for an answer, for the end of a sleep, or for its next try.
 use Rattle.std.specs.Prelude.{◌≡◌, ◌<◌, ◌≤◌, ◌+◌, ℕ, false, not, if◌then◌else◌, nat_le, List, [], None, Some, Option, max}
-use Rattle.wf_alone.specs.Machine.{Rest, IsReached, closed, config_by, heard, main_at, main_by, main_local, main_scene, one_more, passed, read_by, read_for, seen_by, sent, step_by}
+use Rattle.wf_alone.specs.Machine.{Rest, IsReached, closed, config_by, heard, logged, main_at, main_by, main_local, main_scene, one_more, passed, read_by, read_for, seen_by, sent, step_by}
 use Rattle.wf_alone.specs.Plain.{ArePlain, CanWake, Moves}
 use Rattle.wf_alone.specs.Waiting.{IsOff, Matches, call_by, call_of, caller, due_for}
 use Rattle.wf_ast.specs.Accept.{Accept}
@@ -10,7 +10,7 @@ use Rattle.wf_model.specs.Choose.{choose, wanted}
 use Rattle.wf_model.specs.Config.{Answered, Awake, Calling, Config, Item, Layer, NotNow, Raised, To, Wait}
 use Rattle.wf_model.specs.Kinds.{NextKind, next_kind}
 use Rattle.wf_model.specs.Law.{NeverWrong}
-use Rattle.wf_model.specs.Local.{Does, End, Ends, Goes, Local, Sends}
+use Rattle.wf_model.specs.Local.{Does, End, Ends, Goes, Local, Logs, Sends}
 use Rattle.wf_model.specs.Move.{due_by, resumed}
 use Rattle.wf_model.specs.Ready.{least_due, quiet}
 use Rattle.wf_model.specs.Run.{initial}
@@ -20,8 +20,10 @@ use Rattle.wf_model.specs.WaitLaws.{Sound}
 use Rattle.wf_shared.specs.Events.{Event, Reply, Start}
 use Rattle.wf_shared.specs.HttpRequest.{Request}
 use Rattle.wf_shared.specs.HttpText.{reply_length, reply_result}
+use Rattle.wf_value.specs.Data.{Data}
 use Rattle.wf_value.specs.Errors.{error_map}
 use Rattle.wf_value.specs.Pairs.{Text}
+use Rattle.wf_value.specs.declared.Severity.{Severity}
 use Rattle.wf_value.specs.declared.Tag.TheVariants.{ResourceLimitError}
 
 -- each program starts
@@ -153,10 +155,12 @@ DuesCanCome =
     → (e : Config) × (next p (main_at x k ls w) (Event.Due 0 r) ≡ To e)
 
 -- ## What a step comes to
--- where no layer stands outside: the task goes on, or waits; it makes a request first; or it has ended
+-- where no layer stands outside: the task goes on, or waits; it makes a request first; it logs a value first; or it has ended
 pub record Merges (x : Rest) (k : List Item) (ls : List Layer) (w : Wait) : Type 0 where
   pub goes : (l : Local) → l.outer ≡ [] → merged 0 None (Goes l) (main_at x k ls w) ≡ To (main_at x l.control l.layers l.wait)
   pub sends : (q : Request) (due : ℕ) (l : Local) → l.outer ≡ [] → merged 0 None (Does (Sends q due) (Goes l)) (main_at x k ls w) ≡ To (main_at (sent q due x) l.control l.layers l.wait)
+  pub logs : (severity : Severity) (v : Data) (l : Local) → l.outer ≡ [] → merged 0 None (Does (Logs severity v) (Goes l)) (main_at x k ls w) ≡ To (main_at (logged severity v x) l.control l.layers l.wait)
+  pub logs_last : (severity : Severity) (v : Data) (e : End) (l : Local) → l.outer ≡ [] → merged 0 None (Does (Logs severity v) (Ends e l)) (main_at x k ls w) ≡ To (config_by (logged severity v x) [] (outcome_of e))
   pub ends : (e : End) (l : Local) → l.outer ≡ [] → merged 0 None (Ends e l) (main_at x k ls w) ≡ To (config_by x [] (outcome_of e))
 
 abbrev pub MainMerges : Type 0

@@ -7,24 +7,26 @@
 --     facts_of, argument_of    what a start tells
 use Rattle.std.specs.Prelude.{ℕ, ◌+◌, List, [], ◌∷◌, ◌++◌, length, None, slice_set, zero, suc, unwrap_or}
 use Rattle.wf_ast.specs.Tree.{Program}
-use Rattle.wf_model.specs.Config.{Active, Call, Calling, Config, Facts, Item, Layer, Open, Outcome, TimedOut, Wait}
+use Rattle.wf_model.specs.Config.{Active, Call, Calling, Config, Facts, Item, Layer, LogEntry, Open, Outcome, TimedOut, Wait}
 use Rattle.wf_model.specs.Config as model
 use Rattle.wf_model.specs.Kinds.{ByCall, ByClock, NextKind, Plainly}
 use Rattle.wf_model.specs.Local.{Local, Main, Moved, Scene}
 use Rattle.wf_model.specs.Move.{issue, move}
 use Rattle.wf_model.specs.Run.{Run}
-use Rattle.wf_model.specs.Taken.{first_visitor}
+use Rattle.wf_model.specs.Taken.{first_visitor, log_total}
 use Rattle.wf_shared.specs.Events.{Event, Start}
 use Rattle.wf_shared.specs.HttpRequest.{Request}
 use Rattle.wf_shared.specs.Queues.{queue_of}
 use Rattle.wf_value.specs.Data.{Data, null}
 use Rattle.wf_value.specs.Decode.{json_value}
+use Rattle.wf_value.specs.declared.Severity.{Severity}
 
--- what a configuration has beside its tasks and its outcome, where one task alone was made, and nothing was awaited or logged
+-- what a configuration has beside its tasks and its outcome, where one task alone was made, and nothing was awaited
 pub record Rest : Type 0 where
   pub facts : Facts
   pub last : ℕ
   pub calls : List Call
+  pub log : List LogEntry
   pub moves : ℕ
   pub bodies : ℕ
 
@@ -40,7 +42,7 @@ config_by rest tasks outcome = record {
   made = 1;
   calls = rest.calls;
   endpoints = [];
-  log = [];
+  log = rest.log;
   moves = rest.moves;
   bodies = rest.bodies;
   last = rest.last;
@@ -68,6 +70,10 @@ one_more x = record x { moves = x.moves + 1 }
 abbrev pub sent : Request → (due : ℕ) → Rest → Rest
 sent q due x = record x { calls = x.calls ++ Open 0 q due ∷ [] }
 
+-- one more logged value, at the last reading
+abbrev pub logged : Severity → Data → Rest → Rest
+logged severity v x = record x { log = x.log ++ record { reading = x.last; severity = severity; value = v } ∷ [] }
+
 -- the calls, with this one in the place of call n
 abbrev pub closed_in : ℕ → Call → List Call → List Call
 closed_in zero y calls = calls
@@ -94,7 +100,7 @@ main_scene program rest now = record {
   facts = rest.facts;
   calls = length rest.calls;
   endpoints = 0;
-  logged = 0;
+  logged = log_total rest.log;
   oldest = λ n. first_visitor (queue_of [] n);
   root = Main;
   nesting = 0;
@@ -136,7 +142,7 @@ facts_of s = record { id = s.id; routes = s.routes; env = s.env; base = s.base; 
 
 -- before the first event
 abbrev pub rest_of : Start → Rest
-rest_of s = record { facts = facts_of s; last = s.reading; calls = []; moves = 0; bodies = 0 }
+rest_of s = record { facts = facts_of s; last = s.reading; calls = []; log = []; moves = 0; bodies = 0 }
 
 -- what `main` is given
 abbrev pub argument_of : Start → Data

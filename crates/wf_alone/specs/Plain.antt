@@ -1,4 +1,4 @@
--- Control without parallel steps, whose calls are those of workflows, of functions that expressions may call too, of HTTP, and sleeps.
+-- Control without parallel steps, whose calls are those of workflows, of functions that expressions may call too, of HTTP, sleeps, and the log.
 --     is_plain, ArePlain   an item of these forms, and a control
 --     has_move, Moves      an item that has something to do, and a control whose innermost item has
 --     IsReal               a move that isn't ruled out
@@ -6,14 +6,15 @@
 use Rattle.std.specs.Prelude.{◌≡◌, Bool, true, false, ◌||◌, is_some, List, [], ◌∷◌, None, Some, Option}
 use Rattle.std.specs.List.{list_all}
 use Rattle.wf_ast.specs.Flows.{flow}
-use Rattle.wf_ast.specs.Func.{HttpCall, Special, SpecialListing, SysSleep, SysSleepUntil, func_named, special_named}
+use Rattle.wf_ast.specs.Func.{HttpCall, Special, SpecialListing, SysLog, SysSleep, SysSleepUntil, func_named, special_named}
 use Rattle.wf_ast.specs.Tree.{Body, Flow, more, step}
 use Rattle.wf_model.specs.Config.{Item, Back, Delay, Do, Entries, Join, Then, Try, Loop, Wait}
-use Rattle.wf_model.specs.Local.{Moved, Goes, Ends, Does, Breaks, Not, Sends}
+use Rattle.wf_model.specs.Local.{Moved, Goes, Ends, Does, Breaks, Not, Logs, Sends}
 
--- of the functions of call steps alone those of HTTP and the sleeps
+-- of the functions of call steps alone those of HTTP, the sleeps and the log
 abbrev pub is_plain_special : Special → Bool
 is_plain_special (HttpCall m) = true
+is_plain_special SysLog = true
 is_plain_special SysSleep = true
 is_plain_special SysSleepUntil = true
 is_plain_special x = false
@@ -22,7 +23,7 @@ abbrev pub is_plain_listed : Option SpecialListing → Bool
 is_plain_listed None = false
 is_plain_listed (Some g) = is_plain_special g.special
 
--- a body of these forms: a call is one of these workflows, of a function that expressions may call too, of HTTP, or a sleep
+-- a body of these forms: a call is one of these workflows, of a function that expressions may call too, of HTTP, a sleep, or the log
 abbrev pub is_plain_body : List Flow → Body → Bool
 is_plain_body fs (Body.Call f) = is_some (flow fs f.name) || is_some (func_named f.name) || is_plain_listed (special_named f.name)
 is_plain_body fs (Body.Parallel p) = false
@@ -50,11 +51,12 @@ abbrev pub Moves : List Flow → List Item → Type 0
 Moves fs [] = ⊥
 Moves fs (i ∷ k) = has_move fs i ≡ true
 
--- a move that isn't ruled out: beside the task it does nothing but make a request
+-- a move that isn't ruled out: beside the task it does nothing but make a request or log a value
 abbrev pub IsReal : Moved → Type 0
 IsReal (Goes l) = Unit {0}
 IsReal (Ends e l) = Unit {0}
 IsReal (Does (Sends q due) m) = IsReal m
+IsReal (Does (Logs severity v) m) = IsReal m
 IsReal (Does x m) = ⊥
 IsReal (Breaks kind) = Unit {0}
 IsReal Not = ⊥

@@ -6,7 +6,7 @@ use Rattle.std.proofs.lemmas.Bool.{ltb-true}
 use Rattle.std.proofs.lemmas.List.Sums.{sum_by-cons}
 use Rattle.wf_args.specs.declared.command.Command.{Command}
 use Rattle.wf_args.specs.declared.option.OptionName.{OptionName}
-use Rattle.wf_args.specs.declared.option.OptionName.TheVariants.{Source, Journal, Args, Id, Route, Waits}
+use Rattle.wf_args.specs.declared.option.OptionName.TheVariants.{Source, Journal, Args, Id, Route, Env, Waits, Turn, Grep}
 use Rattle.wf_args.specs.Lines.{names, same_name, count, most, may_stand, options_of, options_at}
 use Rattle.wf_args.proofs.Names.{same_name-is, count_more}
 use Rattle.wf_args.proofs.Reading.{by_end, by_last, by_pair, both, next_named}
@@ -56,7 +56,10 @@ one_of Journal = refl
 one_of Args = refl
 one_of Id = refl
 one_of Route = refl
+one_of Env = refl
 one_of Waits = refl
+one_of Turn = refl
+one_of Grep = refl
 
 all_count : (options : List (OptionName × List ℕ)) → total (λ n. count n options) names ≡ length options
 all_count [] = refl
@@ -65,24 +68,24 @@ all_count (o ∷ options) =
     omega (arith, sums, one_of o.0, all_count options)
 
 -- the most options that a line has
-most_options : total most names ≡ 25
+most_options : total most names ≡ 47
 most_options = refl
 
-pub few_options : (options : List (OptionName × List ℕ)) → Within options → length options ≤ 25
+pub few_options : (options : List (OptionName × List ℕ)) → Within options → length options ≤ 47
 few_options options within = omega (arith, all_count options, total-le (λ n. count n options) most names within, most_options)
 
 -- so the number of a bad line is small
-pub few_words_are_read : (c : Command) (n : ℕ) (options : List (OptionName × List ℕ)) (words : List (List ℕ)) (m : ℕ) → n ≡ suc (2 * length options) → Within options → options_at c n options words ≡ Err m → m ≤ 52
+pub few_words_are_read : (c : Command) (n : ℕ) (options : List (OptionName × List ℕ)) (words : List (List ℕ)) (m : ℕ) → n ≡ suc (2 * length options) → Within options → options_at c n options words ≡ Err m → m ≤ 96
 few_words_are_read c n options [] m first within =
-    by_end (λ r. r ≡ Err m → m ≤ 52) c n options
+    by_end (λ r. r ≡ Err m → m ≤ 96) c n options
     (λ missing is. let same : n ≡ m = grind (arith, is) in omega (arith, same, first, few_options options within))
     (λ complete is. absurd (grind (arith, is)))
 few_words_are_read c n options (name ∷ []) m first within =
-    by_last (λ r. r ≡ Err m → m ≤ 52) c n options name
+    by_last (λ r. r ≡ Err m → m ≤ 96) c n options name
     (λ unknown is. let same : n ≡ m = grind (arith, is) in omega (arith, same, first, few_options options within))
     (λ o known is. let same : suc n ≡ m = grind (arith, is) in omega (arith, same, first, few_options options within))
 few_words_are_read c n options (name ∷ word ∷ words) m first within =
-    by_pair (λ r. r ≡ Err m → m ≤ 52) c n options name word words
+    by_pair (λ r. r ≡ Err m → m ≤ 96) c n options name word words
     (λ unknown is. let same : n ≡ m = grind (arith, is) in omega (arith, same, first, few_options options within))
     (λ o known unfit is. let same : suc n ≡ m = grind (arith, is) in omega (arith, same, first, few_options options within))
     (λ o known fits is.

@@ -5,9 +5,9 @@ use Rattle.std.specs.List.{list_any, list_all}
 use Rattle.std.specs.Option.{option_map_or}
 use Rattle.std.proofs.lemmas.Bool.{ltb-true, ltb-false, lt-ltb}
 use Rattle.wf_args.specs.declared.command.Command.{Command}
-use Rattle.wf_args.specs.declared.command.Command.TheVariants.{Run}
+use Rattle.wf_args.specs.declared.command.Command.TheVariants.{Check, Format, Run, Resume, Show, At, Log, Help, Version}
 use Rattle.wf_args.specs.declared.option.OptionName.{OptionName}
-use Rattle.wf_args.specs.declared.option.OptionName.TheVariants.{Source, Journal, Args, Id, Route, Waits}
+use Rattle.wf_args.specs.declared.option.OptionName.TheVariants.{Source, Journal, Args, Id, Route, Env, Waits, Turn, Grep}
 use Rattle.wf_args.specs.Lines.{PlainLine, command_of, name_word, options_of, required, most, is_word, same_name, count, may_stand, is_complete, next_name, options_at, line_of}
 use Rattle.wf_args.specs.Laws.{Reads, reads, Begins, IsLeastBadWord}
 use Rattle.wf_args.proofs.Names.{name_of_word, same_name-refl, count_more}
@@ -26,7 +26,9 @@ BeginsAt c n options words = (more : List (List ℕ)) × Reads (options_at c n o
 -- a word that an option may have
 example : OptionName → List ℕ
 example Route = codes "a=b:1"
+example Env = codes "a=b"
 example Waits = codes "1"
+example Turn = codes "1"
 example n = codes "a"
 
 example_fits : (n : OptionName) → is_word n (example n) ≡ true
@@ -36,14 +38,25 @@ example_fits Journal = refl
 example_fits Args = refl
 example_fits Id = refl
 example_fits Route = refl
+example_fits Env = refl
 example_fits Waits = refl
+example_fits Turn = refl
+example_fits Grep = refl
 
 -- a command takes the options that it requires
 takes_one : Command → OptionName → Bool
 takes_one c n = list_any (same_name n) (options_of c) && nat_lt 0 (most n)
 
 takes_required : (c : Command) → list_all (takes_one c) (required c) ≡ true
-takes_required c = refl
+takes_required Check = refl
+takes_required Format = refl
+takes_required Run = refl
+takes_required Resume = refl
+takes_required Show = refl
+takes_required At = refl
+takes_required Log = refl
+takes_required Help = refl
+takes_required Version = refl
 
 pub conjunction : (a b : Bool) → a ≡ true → b ≡ true → (a && b) ≡ true
 conjunction a b first second = (λ i. first i && second i)

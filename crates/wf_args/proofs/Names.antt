@@ -6,7 +6,7 @@ use Rattle.std.specs.Option.{option_map_or}
 use Rattle.std.proofs.lemmas.Slice.Eq.{bytes_eq-Decides}
 use Rattle.std.proofs.lemmas.List.Sums.{sum_by-cons, sum_by-append}
 use Rattle.wf_args.specs.declared.option.OptionName.{OptionName}
-use Rattle.wf_args.specs.declared.option.OptionName.TheVariants.{Source, Journal, Args, Id, Route, Waits}
+use Rattle.wf_args.specs.declared.option.OptionName.TheVariants.{Source, Journal, Args, Id, Route, Env, Waits, Turn, Grep}
 use Rattle.wf_args.specs.Lines.{words_view, names, name_of, name_word, same_name, count, options_in, word_after, first_word}
 
 -- what is found passes
@@ -25,7 +25,10 @@ name_of_word Journal = refl
 name_of_word Args = refl
 name_of_word Id = refl
 name_of_word Route = refl
+name_of_word Env = refl
 name_of_word Waits = refl
+name_of_word Turn = refl
+name_of_word Grep = refl
 
 -- what names an option is its word
 pub named_word : (word : List ℕ) (n : OptionName) → name_of word ≡ Some n → word ≡ name_word n

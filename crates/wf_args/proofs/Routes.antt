@@ -6,15 +6,16 @@ use Rattle.std.specs.Option.{IfSome, option_map, option_map_or}
 use Rattle.std.proofs.lemmas.Bool.{and_from, and_parts}
 use Rattle.wf_args.specs.declared.command.Command.{Command}
 use Rattle.wf_args.specs.declared.option.OptionName.{OptionName}
-use Rattle.wf_args.specs.declared.option.OptionName.TheVariants.{Route, Waits}
+use Rattle.wf_args.specs.declared.option.OptionName.TheVariants.{Env, Route, Turn, Waits}
+use Rattle.wf_args.specs.declared.env.EnvParts.{EnvParts}
 use Rattle.wf_args.specs.declared.route.RouteParts.{RouteParts}
-use Rattle.wf_args.specs.Laws.{IsLine, IsRoute}
-use Rattle.wf_args.specs.Lines.{PlainLine, all_words, count, is_word, name_of, name_word, options_at, options_in, route_in, routes_of, same_name, waits_in, waits_of, word_after, words_after, words_view}
-use Rattle.wf_args.specs.Plain.{plain_route}
+use Rattle.wf_args.specs.Laws.{IsEnv, IsLine, IsRoute}
+use Rattle.wf_args.specs.Lines.{PlainLine, all_words, count, env_in, env_of, is_word, name_of, name_word, options_at, options_in, route_in, routes_of, same_name, turn_in, turn_of, waits_in, waits_of, word_after, words_after, words_view}
+use Rattle.wf_args.specs.Plain.{plain_env, plain_route}
 use Rattle.wf_args.proofs.Counts.{count-cons}
 use Rattle.wf_args.proofs.Names.{found, is_name, same_name-is}
 use Rattle.wf_args.proofs.Spelled.{reads_line}
-use Rattle.wf_args.proofs.Words.{number_tells, route_tells}
+use Rattle.wf_args.proofs.Words.{env_tells, number_tells, route_tells}
 
 -- ## The words behind a name are those of its options
 with_word : (b : Bool) (word : List ℕ) (r : List (List ℕ)) → cond b (word ∷ r) r ≡ cons_option (if b then Some word else None) r
@@ -98,6 +99,29 @@ nth_route c words k o reads is =
 
 pub line_has_few : (c : Command) (words : List (List ℕ)) → is_ok (options_at c 1 [] words) ≡ true → length (routes_of (record { command = c; options = options_in words })) ≤ 20
 line_has_few c words reads = few_routes (record { command = c; options = options_in words }) (reads_line c words reads)
+
+-- ## The environment, in the same way
+pub read_is_env : (word : List ℕ) (r : Option EnvParts) → option_map plain_env r ≡ env_in word → IfSome r (λ p. IsEnv (plain_env p))
+read_is_env word None is = tt
+read_is_env word (Some p) is = (env_tells word (plain_env p) (sym is)).1
+
+pub nth_env : (c : Command) (words : List (List ℕ)) (k : ℕ) (o : Option (List ℕ)) → is_ok (options_at c 1 [] words) ≡ true → o ≡ slice_get (words_after (name_word Env) words) k
+    → option_and_then env_in o ≡ slice_get (env_of (record { command = c; options = options_in words })) k
+nth_env c words k o reads is =
+    let l : PlainLine = record { command = c; options = options_in words } in
+    ap (option_and_then env_in) (is ∙ ap (λ ws. slice_get ws k) (all_after Env words))
+    ∙ sym (each_gives env_in (all_words Env l.options) k (words_all_fit Env l.options (reads_line c words reads).fit))
+
+pub line_has_few_env : (c : Command) (words : List (List ℕ)) → is_ok (options_at c 1 [] words) ≡ true → length (env_of (record { command = c; options = options_in words })) ≤ 20
+line_has_few_env c words reads =
+    let l : PlainLine = record { command = c; options = options_in words } in
+    let counted = words_counted Env l.options in
+    let within = (reads_line c words reads).within Env in
+    omega (arith, fewer env_in (all_words Env l.options), counted, within)
+
+-- ## Numbers
+pub turn_found : (c : Command) (words : List (List ℕ)) (o : Option (List ℕ)) → o ≡ word_after (name_word Turn) words → unwrap_or (option_and_then turn_in o) 0 ≡ turn_of (record { command = c; options = options_in words })
+turn_found c words o is = ap (λ o. unwrap_or (option_and_then turn_in o) 0) (is ∙ found Turn words)
 
 pub waits_found : (c : Command) (words : List (List ℕ)) (o : Option (List ℕ)) → o ≡ word_after (name_word Waits) words → unwrap_or (option_and_then waits_in o) 1000000 ≡ waits_of (record { command = c; options = options_in words })
 waits_found c words o is = ap (λ o. unwrap_or (option_and_then waits_in o) 1000000) (is ∙ found Waits words)

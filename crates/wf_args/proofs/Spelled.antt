@@ -8,7 +8,7 @@ use Rattle.std.proofs.lemmas.List.Folds.{list_all-append}
 use Rattle.std.proofs.lemmas.List.Sums.{sum_by-append}
 use Rattle.std.proofs.lemmas.Slice.Eq.{bytes_eq-Decides}
 use Rattle.wf_args.specs.declared.command.Command.{Command}
-use Rattle.wf_args.specs.declared.command.Command.TheVariants.{Check, Format, Run, Resume, Help, Version}
+use Rattle.wf_args.specs.declared.command.Command.TheVariants.{Check, Format, Run, Resume, Show, At, Log, Help, Version}
 use Rattle.wf_args.specs.declared.option.OptionName.{OptionName}
 use Rattle.wf_args.specs.Lines.{PlainLine, commands, command_of, command_word, name_of, name_word, options_of, most, is_word, same_name, count, is_complete, next_name, options_at, options_in, line_of}
 use Rattle.wf_args.specs.Laws.{spelling, IsLine, LinesAreSpelled}
@@ -86,6 +86,9 @@ command_of_word Check = refl
 command_of_word Format = refl
 command_of_word Run = refl
 command_of_word Resume = refl
+command_of_word Show = refl
+command_of_word At = refl
+command_of_word Log = refl
 command_of_word Help = refl
 command_of_word Version = refl
 

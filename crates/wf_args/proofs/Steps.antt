@@ -1,11 +1,11 @@
 -- The loop that reads the options of a line.
-use Rattle.std.proofs.Common.{◌≡◌, ◌+◌, ◌<◌, ◌≤◌, ℕ, suc, List, [], ◌∷◌, ◌++◌, length, take, drop, get_or, Option, Some, None, Ok, Err, sym, ap, ◌∙◌, arith, append_assoc, drop-cons, String, Global, true, false}
-use Rattle.std.specs.Prelude.{string_bytes, option_and_then}
+use Rattle.std.proofs.Common.{◌≡◌, ◌+◌, ◌<◌, ◌≤◌, ℕ, suc, List, [], ◌∷◌, ◌++◌, length, take, drop, get_or, Option, Some, None, Result, Ok, Err, Bool, sym, ap, ◌∙◌, arith, append_assoc, drop-cons, String, Global, true, false}
+use Rattle.std.specs.Prelude.{string_bytes, option_and_then, if◌then◌else◌}
 use Rattle.std.specs.List.{cons_option}
 use Rattle.std.proofs.lemmas.List.{map-append, take_more, take_all, drop_all}
 use Rattle.wf_args.specs.declared.command.Command.{Command}
 use Rattle.wf_args.specs.declared.option.OptionName.{OptionName}
-use Rattle.wf_args.specs.Lines.{words_view, name_of, is_word, next_name, options_at, options_in}
+use Rattle.wf_args.specs.Lines.{PlainLine, words_view, name_of, is_complete, is_word, next_name, options_at, options_in}
 use Rattle.wf_args.proofs.Reading.{unknown_name, last_named, unfit_word, next_pair, next_named}
 
 -- the options of the words so far
@@ -77,7 +77,16 @@ more_goes_on c xs at s t o within is it pairs known fits on =
     ∙ next_pair c (suc at) (so_far xs at) (string_bytes s) (string_bytes t) (words_view (drop (suc (suc at)) xs)) o known fits
     ∙ ap (λ os. options_at c (suc (suc (suc at))) os (words_view (drop (suc (suc at)) xs))) (sym (more_so_far xs at s t o within is it pairs (next_named c (so_far xs at) (string_bytes s) o known).0))
 
--- all words are read
-pub ends : (c : Command) (xs : List (String Global)) (at : ℕ) → length xs ≤ at → GoesOn c xs at → options_at c 1 [] (words_view xs) ≡ Ok (record { command = c; options = options_in (words_view xs) })
-ends c xs at all on =
+-- all words are read: they are a line, or an option is missing
+abbrev whole : Command → List (String Global) → ℕ → Bool → Result PlainLine ℕ
+whole c xs at b = if b then Ok (record { command = c; options = options_in (words_view xs) }) else Err (suc at)
+
+all_read : (c : Command) (xs : List (String Global)) (at : ℕ) → length xs ≤ at → GoesOn c xs at → options_at c 1 [] (words_view xs) ≡ whole c xs at (is_complete c (options_in (words_view xs)))
+all_read c xs at all on =
     on ∙ (λ i. options_at c (suc at) (options_in (words_view (take_all at xs all i))) (words_view (drop_all at xs all i)))
+
+pub ends : (c : Command) (xs : List (String Global)) (at : ℕ) → length xs ≤ at → GoesOn c xs at → is_complete c (options_in (words_view xs)) ≡ true → options_at c 1 [] (words_view xs) ≡ Ok (record { command = c; options = options_in (words_view xs) })
+ends c xs at all on complete = all_read c xs at all on ∙ ap (whole c xs at) complete
+
+pub ends_missing : (c : Command) (xs : List (String Global)) (at : ℕ) → length xs ≤ at → GoesOn c xs at → is_complete c (options_in (words_view xs)) ≡ false → options_at c 1 [] (words_view xs) ≡ Err (suc at)
+ends_missing c xs at all on missing = all_read c xs at all on ∙ ap (whole c xs at) missing

@@ -1,8 +1,8 @@
 -- Numbers and routes, and the words that spell them.
-use Rattle.std.proofs.Common.{◌≡◌, ◌≢◌, ◌+◌, ◌-◌, ◌*◌, ◌<◌, ◌≤◌, ◌^◌, ℕ, suc, Bool, true, false, cond, List, [], ◌∷◌, ◌++◌, append_assoc, length, take, drop, get_or, Option, Some, None, Result, Ok, Err, refl, sym, ap, ◌∙◌, subst, arith, length-drop, length-take, length-append}
-use Rattle.std.specs.Prelude.{not, ◌&&◌, ◌==◌, nat_lt, nat_le, if◌then◌else◌, decimal, slice_index}
+use Rattle.std.proofs.Common.{◌≡◌, ◌≢◌, ◌+◌, ◌-◌, ◌*◌, ◌<◌, ◌≤◌, ◌^◌, ℕ, zero, suc, Bool, true, false, cond, List, [], ◌∷◌, ◌++◌, append_assoc, length, take, drop, get_or, Option, Some, None, Result, Ok, Err, refl, sym, ap, ◌∙◌, subst, arith, length-drop, length-take, length-append}
+use Rattle.std.specs.Prelude.{not, ◌&&◌, ◌||◌, ◌==◌, bytes_eq, codes, nat_lt, nat_le, if◌then◌else◌, decimal, slice_index}
 use Rattle.std.specs.Char.{digit_value, is_ascii_digit}
-use Rattle.std.specs.List.{list_all, before_first, after_first, position_or_len, prefix_len, take_while}
+use Rattle.std.specs.List.{list_all, list_any, before_first, after_first, position_or_len, prefix_len, take_while}
 use Rattle.std.specs.Option.{option_map}
 use Rattle.std.specs.Result.{OkIff}
 use Rattle.std.specs.Str.{all_ascii_digits}
@@ -12,9 +12,10 @@ use Rattle.std.proofs.lemmas.Bool.{and_from, and_parts, eq-eqb, eqb-false, eqb-t
 use Rattle.std.proofs.lemmas.Bool.Decides.{nat_tests}
 use Rattle.std.proofs.lemmas.Fmt.{decimal-digits_value, digits_decimal, digits_value-decimal, first_decimal}
 use Rattle.std.proofs.lemmas.List.Sums.{passes_at_first, split_at_first, take_while-cons}
+use Rattle.std.proofs.lemmas.Slice.Eq.{bytes_eq-Decides}
 use Rattle.std.proofs.lemmas.Str.Parse.{IsNumeralModel, digits_value-take-le, numerals_by_value, parse_plain, tells_all_ascii_digits}
-use Rattle.wf_args.specs.Laws.{IsRoute, NumbersAreSpelled, RoutesAreSpelled, has_no, route_word}
-use Rattle.wf_args.specs.Lines.{PlainRoute, host_in, is_colon, is_equals, longest_word, name_in, number_to, port_in, route_in}
+use Rattle.wf_args.specs.Laws.{EnvsAreSpelled, IsEnv, IsRoute, NumbersAreSpelled, RoutesAreSpelled, TurnsAreSpelled, env_word, has_no, route_word}
+use Rattle.wf_args.specs.Lines.{PlainRoute, env_in, host_in, is_colon, is_equals, key_in, longest_word, name_in, number_to, port_in, route_in, turn_in, value_in}
 
 -- ## Numbers
 pub own : IsNumeralModel (λ ds. all_ascii_digits ds ≡ true) (digits_value 10)
@@ -154,11 +155,13 @@ is_there c word some =
     let long : length (after_first (λ b. b == c) word) ≡ length word - (position_or_len (λ b. b == c) word + 1) = length-drop (position_or_len (λ b. b == c) word + 1) word in
     omega (arith, long, some)
 
-pub cut : (c : ℕ) (word : List ℕ) → 0 < length (after_first (λ b. b == c) word) → word ≡ before_first (λ b. b == c) word ++ c ∷ after_first (λ b. b == c) word
-cut c word some =
-    let there = is_there c word some in
+pub cut_there : (c : ℕ) (word : List ℕ) → position_or_len (λ b. b == c) word < length word → word ≡ before_first (λ b. b == c) word ++ c ∷ after_first (λ b. b == c) word
+cut_there c word there =
     let at : get_or word (position_or_len (λ b. b == c) word) 0 ≡ c = eqb-true _ c (passes_at_first (λ b. b == c) word 0 there) in
     split_at_first (λ b. b == c) word 0 there ∙ ap (λ b. before_first (λ b. b == c) word ++ b ∷ after_first (λ b. b == c) word) at
+
+pub cut : (c : ℕ) (word : List ℕ) → 0 < length (after_first (λ b. b == c) word) → word ≡ before_first (λ b. b == c) word ++ c ∷ after_first (λ b. b == c) word
+cut c word some = cut_there c word (is_there c word some)
 
 -- ## Routes
 -- what a test lets through of a number
@@ -270,3 +273,104 @@ route_read r is short =
 pub routes_are_spelled : RoutesAreSpelled
 routes_are_spelled word r =
     (route_tells word r, (λ h. ap route_in h.0 ∙ route_read r h.1 (subst (λ w. length w ≤ longest_word) h.0 h.2)))
+
+-- ## Pairs of the environment
+-- where one of the bytes is this one, the first of them stands somewhere
+any_there : (c : ℕ) (word : List ℕ) → list_any (λ b. b == c) word ≡ true → position_or_len (λ b. b == c) word < length word
+any_there c [] is = absurd (cc is)
+any_there c (b ∷ word) is = on (b == c) refl
+  where
+    on : (t : Bool) → (b == c) ≡ t → position_or_len (λ b. b == c) (b ∷ word) < length (b ∷ word)
+    on true e =
+        let here : position_or_len (λ b. b == c) (b ∷ word) ≡ 0 = ap (λ (t : Bool). cond (not t) (1 + prefix_len (λ b. not (b == c)) word) 0) e in
+        omega (arith, here)
+    on false e =
+        let rest = any_there c word (sym (ap (λ (t : Bool). t || list_any (λ b. b == c) word) e) ∙ is) in
+        let here : position_or_len (λ b. b == c) (b ∷ word) ≡ 1 + position_or_len (λ b. b == c) word = ap (λ (t : Bool). cond (not t) (1 + prefix_len (λ b. not (b == c)) word) 0) e in
+        omega (arith, here, rest)
+
+-- and one is where it stands between two parts
+any_between : (c : ℕ) (front rest : List ℕ) → list_any (λ b. b == c) (front ++ c ∷ rest) ≡ true
+any_between c [] rest = ap (λ (t : Bool). t || list_any (λ b. b == c) rest) (eq-eqb c c refl)
+any_between c (b ∷ front) rest = or_on (b == c) (any_between c front rest)
+  where
+    or_on : (t : Bool) {u : Bool} → u ≡ true → (t || u) ≡ true
+    or_on true is = refl
+    or_on false is = is
+
+pub there_any : (c : ℕ) (word : List ℕ) → position_or_len (λ b. b == c) word < length word → list_any (λ b. b == c) word ≡ true
+there_any c word there = ap (list_any (λ b. b == c)) (cut_there c word there) ∙ any_between c (before_first (λ b. b == c) word) (after_first (λ b. b == c) word)
+
+-- and where it is none of them there is no pair
+pub no_env : (word : List ℕ) → position_or_len is_equals word ≡ length word → env_in word ≡ None
+no_env word nowhere = by (list_any is_equals word) refl
+  where
+    by : (t : Bool) → list_any is_equals word ≡ t → env_in word ≡ None
+    by true e = let there = any_there 61 word e in absurd (omega (arith, there, nowhere))
+    by false e = ap (λ (t : Bool). if t && nat_le (length word) longest_word && nat_lt 0 (length (key_in word)) then Some (key_in word, value_in word) else None) e
+
+abbrev env_passes : List ℕ → Bool
+env_passes word = list_any is_equals word && nat_le (length word) longest_word && nat_lt 0 (length (key_in word))
+
+env_spelled : (p : List ℕ × List ℕ) → env_word p ≡ p.0 ++ 61 ∷ p.1
+env_spelled p = append_assoc p.0 (61 ∷ []) p.1
+
+pub env_tells : (word : List ℕ) (p : List ℕ × List ℕ) → env_in word ≡ Some p → (word ≡ env_word p) × IsEnv p
+env_tells word p is =
+    let through = let_through (env_passes word) (key_in word, value_in word) p is in
+    let parts = and_parts (list_any is_equals word && nat_le (length word) longest_word) (nat_lt 0 (length (key_in word))) through.0 in
+    let front = and_parts (list_any is_equals word) (nat_le (length word) longest_word) parts.0 in
+    let within = leb-true (length word) longest_word front.1 in
+    let spelled : word ≡ key_in word ++ 61 ∷ value_in word = cut_there 61 word (any_there 61 word front.0) in
+    let long : length word ≡ length (key_in word) + suc (length (value_in word)) = ap length spelled ∙ length-append (key_in word) (61 ∷ value_in word) in
+    let short : length (key_in word) + length (value_in word) < longest_word = omega (arith, long, within) in
+    subst (λ p. (word ≡ env_word p) × IsEnv p) through.1
+    (spelled ∙ sym (env_spelled (key_in word, value_in word)), record { key = (ltb-true 0 (length (key_in word)) parts.1, none_before 61 word); short = short })
+
+pub env_read : (p : List ℕ × List ℕ) → IsEnv p → env_in (env_word p) ≡ Some p
+env_read p is =
+    let word = env_word p in
+    let key : key_in word ≡ p.0 = ap key_in (env_spelled p) ∙ before_is 61 p.0 p.1 is.key.1 in
+    let value : value_in word ≡ p.1 = ap value_in (env_spelled p) ∙ after_is 61 p.0 p.1 is.key.1 in
+    let long : length word ≡ length p.0 + suc (length p.1) = ap length (env_spelled p) ∙ length-append p.0 (61 ∷ p.1) in
+    let short = is.short in
+    let some = is.key.0 in
+    let within : length word ≤ longest_word = omega (arith, long, short) in
+    let has : list_any is_equals word ≡ true = ap (list_any is_equals) (env_spelled p) ∙ any_between 61 p.0 p.1 in
+    let begins : 0 < length (key_in word) = subst (λ k. 0 < length k) (sym key) some in
+    let passes : env_passes word ≡ true = and_from _ _ (and_from _ _ has (le-leb (length word) longest_word within)) (lt-ltb 0 (length (key_in word)) begins) in
+    ap (λ (t : Bool). if t then Some (key_in word, value_in word) else None) passes ∙ (λ i. Some (key i, value i))
+
+pub envs_are_spelled : EnvsAreSpelled
+envs_are_spelled word p = (env_tells word p, λ h. ap env_in h.0 ∙ env_read p h.1)
+
+-- the parts that are cut make the pair
+pub parts_are_env : (word key value : List ℕ) → key ≡ key_in word → value ≡ value_in word → list_any is_equals word ≡ true → length word ≤ longest_word → 0 < length key → Some (key, value) ≡ env_in word
+parts_are_env word key value key_is value_is has within some =
+    let begins : 0 < length (key_in word) = subst (λ k. 0 < length k) key_is some in
+    let passes : env_passes word ≡ true = and_from _ _ (and_from _ _ has (le-leb (length word) longest_word within)) (lt-ltb 0 (length (key_in word)) begins) in
+    (λ i. Some (key_is i, value_is i)) ∙ sym (ap (λ (t : Bool). if t then Some (key_in word, value_in word) else None) passes)
+
+-- ## Counts of turns
+turn_by : (word : List ℕ) (n : ℕ) (t : Bool) → bytes_eq word (codes "0") ≡ t → (if t then Some 0 else number_to 4294967295 word) ≡ Some n → (word ≡ decimal n) × (n ≤ 4294967295)
+turn_by word n true e is =
+    let zero : 0 ≡ n = grind (arith, is) in
+    ((bytes_eq-Decides word (codes "0")).0 e ∙ ap decimal zero, omega (arith, zero))
+turn_by word n false e is = let t = number_tells 4294967295 word n is in (number_written 4294967295 word n (omega arith) t, t.small)
+
+turn_read : (n : ℕ) → n ≤ 4294967295 → (t : Bool) → bytes_eq (decimal n) (codes "0") ≡ t → (if t then Some 0 else number_to 4294967295 (decimal n)) ≡ Some n
+turn_read n small true e =
+    let value : digits_value 10 (decimal n) ≡ n = digits_value-decimal own n (omega (arith, small)) in
+    let zero : 0 ≡ n = ap (digits_value 10) (sym ((bytes_eq-Decides (decimal n) (codes "0")).0 e)) ∙ value in
+    ap Some zero
+turn_read n small false e = number_read 4294967295 n (omega arith) (some n e) small
+  where
+    some : (n : ℕ) → bytes_eq (decimal n) (codes "0") ≡ false → 1 ≤ n
+    some zero e = absurd (cc e)
+    some (suc n) e = omega arith
+
+pub turns_are_spelled : TurnsAreSpelled
+turns_are_spelled word n = (
+  turn_by word n (bytes_eq word (codes "0")) refl,
+  λ h. ap turn_in h.0 ∙ turn_read n h.1 (bytes_eq (decimal n) (codes "0")) refl,
+)

@@ -2,7 +2,7 @@
 use Rattle.std.specs.Prelude.{◌≡◌, ◌<◌, ◌≤◌, ◌+◌, ◌⊎◌, ◌↔◌, ℕ, suc, Bool, not, ◌==◌, List, [], ◌∷◌, ◌++◌, length, take, flat_map, IsTrue, Some, Result, Ok, Err, codes, decimal, ◌^◌}
 use Rattle.std.specs.List.{list_all, list_any}
 use Rattle.wf_args.specs.declared.option.OptionName.{OptionName}
-use Rattle.wf_args.specs.Lines.{PlainLine, PlainRoute, line_of, command_word, name_word, options_of, most, is_word, same_name, count, is_complete, word_of, word_behind, longest_word, number_to, route_in}
+use Rattle.wf_args.specs.Lines.{PlainLine, PlainRoute, line_of, command_word, name_word, options_of, most, is_word, same_name, count, is_complete, word_of, word_behind, longest_word, env_in, number_to, route_in, turn_in}
 
 -- the words are a line
 pub data Reads : Result PlainLine ℕ → Type 0 where
@@ -50,6 +50,11 @@ pub record IsRoute (r : PlainRoute) : Type 0 where
   pub port : (1 ≤ r.port) × (r.port ≤ 65535)
   pub short : length r.host + length r.name < longest_word
 
+-- a pair of a line: KEY isn't empty and has no `=`, and both fit into a word
+pub record IsEnv (p : List ℕ × List ℕ) : Type 0 where
+  pub key : (0 < length p.0) × IsTrue (has_no 61 p.0)
+  pub short : length p.0 + length p.1 < longest_word
+
 -- a word is read as a number exactly where it is this number in decimal
 abbrev pub NumbersAreSpelled : Type 0
 NumbersAreSpelled =
@@ -64,3 +69,14 @@ abbrev pub RoutesAreSpelled : Type 0
 RoutesAreSpelled =
     (word : List ℕ) (r : PlainRoute)
     → (route_in word ≡ Some r) ↔ ((word ≡ route_word r) × IsRoute r × (length word ≤ longest_word))
+
+-- as a pair exactly where it is KEY, `=` and VALUE
+abbrev pub env_word : List ℕ × List ℕ → List ℕ
+env_word p = p.0 ++ codes "=" ++ p.1
+
+abbrev pub EnvsAreSpelled : Type 0
+EnvsAreSpelled = (word : List ℕ) (p : List ℕ × List ℕ) → (env_in word ≡ Some p) ↔ ((word ≡ env_word p) × IsEnv p)
+
+-- and as a count of turns exactly where it is this number in decimal
+abbrev pub TurnsAreSpelled : Type 0
+TurnsAreSpelled = (word : List ℕ) (n : ℕ) → (turn_in word ≡ Some n) ↔ ((word ≡ decimal n) × (n ≤ 4294967295))

@@ -6,9 +6,9 @@ use Rattle.std.specs.Str.{all_ascii_digits}
 use Rattle.std.specs.Str.Parse.{digits_value}
 use Rattle.std.specs.declared.alloc.Global.{Global}
 use Rattle.wf_args.specs.declared.command.Command.{Command}
-use Rattle.wf_args.specs.declared.command.Command.TheVariants.{Check, Format, Run, Resume, Help, Version}
+use Rattle.wf_args.specs.declared.command.Command.TheVariants.{Check, Format, Run, Resume, Show, At, Log, Help, Version}
 use Rattle.wf_args.specs.declared.option.OptionName.{OptionName}
-use Rattle.wf_args.specs.declared.option.OptionName.TheVariants.{Source, Journal, Args, Id, Route, Waits}
+use Rattle.wf_args.specs.declared.option.OptionName.TheVariants.{Source, Journal, Args, Id, Route, Env, Waits, Turn, Grep}
 
 -- words as their bytes
 abbrev pub words_view : List (String Global) → List (List ℕ)
@@ -23,19 +23,22 @@ pub record PlainLine : Type 0 where
 
 -- the commands, and the word of each
 abbrev pub commands : List Command
-commands = Check ∷ Format ∷ Run ∷ Resume ∷ Help ∷ Version ∷ []
+commands = Check ∷ Format ∷ Run ∷ Resume ∷ Show ∷ At ∷ Log ∷ Help ∷ Version ∷ []
 
 abbrev pub command_word : Command → List ℕ
 command_word Check = codes "check"
 command_word Format = codes "format"
 command_word Run = codes "run"
 command_word Resume = codes "resume"
+command_word Show = codes "show"
+command_word At = codes "at"
+command_word Log = codes "log"
 command_word Help = codes "--help"
 command_word Version = codes "--version"
 
 -- the options, and the name of each
 abbrev pub names : List OptionName
-names = Source ∷ Journal ∷ Args ∷ Id ∷ Route ∷ Waits ∷ []
+names = Source ∷ Journal ∷ Args ∷ Id ∷ Route ∷ Env ∷ Waits ∷ Turn ∷ Grep ∷ []
 
 abbrev pub name_word : OptionName → List ℕ
 name_word Source = codes "--source"
@@ -43,31 +46,39 @@ name_word Journal = codes "--journal"
 name_word Args = codes "--args"
 name_word Id = codes "--id"
 name_word Route = codes "--route"
+name_word Env = codes "--env"
 name_word Waits = codes "--waits"
+name_word Turn = codes "--turn"
+name_word Grep = codes "--grep"
 
 -- the options that a command takes
 abbrev pub options_of : Command → List OptionName
 options_of Check = Source ∷ []
 options_of Format = Source ∷ []
-options_of Run = Source ∷ Journal ∷ Args ∷ Id ∷ Route ∷ Waits ∷ []
+options_of Run = Source ∷ Journal ∷ Args ∷ Id ∷ Route ∷ Env ∷ Waits ∷ []
 options_of Resume = Journal ∷ Waits ∷ []
+options_of Show = Journal ∷ []
+options_of At = Journal ∷ Turn ∷ []
+options_of Log = Journal ∷ Grep ∷ []
 options_of Help = []
 options_of Version = []
 
 -- the options that it can't do without
 abbrev pub required : Command → List OptionName
+required At = Turn ∷ []
 required c = []
 
 -- how often an option may stand
 abbrev pub most : OptionName → ℕ
 most Route = 20
+most Env = 20
 most n = 1
 
 -- a letter, a digit, `.`, `_` or `-`
 abbrev pub is_id_byte : ℕ → Bool
 is_id_byte b = (nat_le 48 b && nat_le b 57) || (nat_le 65 b && nat_le b 90) || (nat_le 97 b && nat_le b 122) || b == 46 || b == 95 || b == 45
 
--- the most bytes of a path, and of the word of a route
+-- the most bytes of a path, of the word of a route or of the environment, and of a text to be found
 abbrev pub longest_word : ℕ
 longest_word = 65536
 
@@ -83,6 +94,10 @@ number_to greatest word =
 -- the number that the word of `--waits` says: 1 to 1,000,000,000
 abbrev pub waits_in : List ℕ → Option ℕ
 waits_in word = number_to 1000000000 word
+
+-- the number that the word of `--turn` says: 0 to 4,294,967,295
+abbrev pub turn_in : List ℕ → Option ℕ
+turn_in word = if bytes_eq word (codes "0") then Some 0 else number_to 4294967295 word
 
 -- a route: calls for this host are sent to this name and port
 pub record PlainRoute : Type 0 where
@@ -116,6 +131,18 @@ route_in word =
     if nat_le (length word) longest_word && has_names word
     then option_map (λ port. record { host = host_in word; name = name_in word; port = port }) (number_to 65535 (port_in word)) else None
 
+-- a pair of the environment: KEY goes up to the first `=`, and VALUE is the rest
+abbrev pub key_in : List ℕ → List ℕ
+key_in word = before_first is_equals word
+
+abbrev pub value_in : List ℕ → List ℕ
+value_in word = after_first is_equals word
+
+-- the pair that the word of `--env` says: there is a `=`, and KEY isn't empty
+abbrev pub env_in : List ℕ → Option (List ℕ × List ℕ)
+env_in word =
+    if list_any is_equals word && nat_le (length word) longest_word && nat_lt 0 (length (key_in word)) then Some (key_in word, value_in word) else None
+
 -- the words that may stand behind an option's name
 abbrev pub is_word : OptionName → List ℕ → Bool
 is_word Source word = is_path word
@@ -123,7 +150,10 @@ is_word Journal word = is_path word
 is_word Args word = true
 is_word Id word = nat_lt 0 (length word) && nat_le (length word) 64 && list_all is_id_byte word
 is_word Route word = is_some (route_in word)
+is_word Env word = is_some (env_in word)
 is_word Waits word = is_some (waits_in word)
+is_word Turn word = is_some (turn_in word)
+is_word Grep word = nat_le (length word) longest_word
 
 -- ## Reading
 
@@ -181,6 +211,14 @@ all_words n options = filter_map (λ o. if same_name o.0 n then Some o.1 else No
 -- the routes of a line, in order
 abbrev pub routes_of : PlainLine → List PlainRoute
 routes_of l = filter_map route_in (all_words Route l.options)
+
+-- the pairs of the environment of a line, in order
+abbrev pub env_of : PlainLine → List (List ℕ × List ℕ)
+env_of l = filter_map env_in (all_words Env l.options)
+
+-- after how many turns: as `--turn` says, or else 0
+abbrev pub turn_of : PlainLine → ℕ
+turn_of l = unwrap_or (option_and_then turn_in (word_of Turn l)) 0
 
 -- how often a command may wait: as often as `--waits` says, or else 1,000,000 times
 abbrev pub waits_of : PlainLine → ℕ

@@ -16,6 +16,12 @@ pub enum Command {
     Run,
     /// Goes on with an execution: the word `resume`.
     Resume,
+    /// Shows what an execution has come to: the word `show`.
+    Show,
+    /// Shows what it had come to after some turns: the word `at`.
+    At,
+    /// Prints what it has logged: the word `log`.
+    Log,
     /// Prints the help: the word `--help`.
     Help,
     /// Prints the program's name and version: the word `--version`.
@@ -32,6 +38,9 @@ impl Command {
             "format" => Some(Command::Format),
             "run" => Some(Command::Run),
             "resume" => Some(Command::Resume),
+            "show" => Some(Command::Show),
+            "at" => Some(Command::At),
+            "log" => Some(Command::Log),
             "--help" => Some(Command::Help),
             "--version" => Some(Command::Version),
             _ => None,
@@ -51,9 +60,13 @@ impl Command {
                     | OptionName::Args
                     | OptionName::Id
                     | OptionName::Route
+                    | OptionName::Env
                     | OptionName::Waits
             ),
             Command::Resume => matches!(name, OptionName::Journal | OptionName::Waits),
+            Command::Show => matches!(name, OptionName::Journal),
+            Command::At => matches!(name, OptionName::Journal | OptionName::Turn),
+            Command::Log => matches!(name, OptionName::Journal | OptionName::Grep),
             Command::Help | Command::Version => false,
         }
     }

@@ -1,5 +1,5 @@
 // Laws of command lines.
-ghost use Rattle.wf_args.specs.Laws.{IsLeastBadWord, LinesAreSpelled, NumbersAreSpelled, OptionsAreFound, RoutesAreSpelled};
+ghost use Rattle.wf_args.specs.Laws.{EnvsAreSpelled, IsLeastBadWord, LinesAreSpelled, NumbersAreSpelled, OptionsAreFound, RoutesAreSpelled, TurnsAreSpelled};
 
 /// Carries a law: the number of a bad line is the least index such that the words up to it begin
 /// no line, or the count of the words where these begin a line and are none.
@@ -21,9 +21,12 @@ pub fn lines_are_spelled()
     ensures { LinesAreSpelled }
 {}
 
-/// Carries laws of single words: one is read as a number exactly where it is this number in decimal,
-/// and as a route exactly where it is its HOST, `=`, its NAME, `:` and its PORT in decimal.
+/// Carries laws of single words: one is read as a number, or as a count of turns, exactly where it is
+/// this number in decimal; as a route exactly where it is its HOST, `=`, its NAME, `:` and its PORT in
+/// decimal; and as a pair of the environment exactly where it is its KEY, `=` and its VALUE.
 pub fn words_are_spelled()
     ensures numbers { NumbersAreSpelled }
+    ensures turns { TurnsAreSpelled }
     ensures routes { RoutesAreSpelled }
+    ensures envs { EnvsAreSpelled }
 {}

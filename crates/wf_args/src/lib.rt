@@ -2,6 +2,7 @@
 #![tactic(auto)]
 
 mod command;
+mod env;
 mod help;
 mod laws;
 mod line;
@@ -14,6 +15,7 @@ mod rows;
 mod waits;
 
 pub use command::Command;
+pub use env::EnvParts;
 pub use help::{help_text, version_text};
 pub use laws::{bad_words_are_least, lines_are_spelled, options_are_found, words_are_spelled};
 pub use line::Line;

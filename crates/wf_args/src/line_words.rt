@@ -1,17 +1,18 @@
 // What a command line says.
 ghost use Rattle.std.specs.Prelude.{◌≡◌, ◌≤◌, IfSome, IsTrue, length, slice_get};
 ghost use Rattle.std.specs.Option.{option_copied, option_map};
-ghost use Rattle.wf_args.specs.Lines.{word_of, is_word, routes_of, waits_of};
-ghost use Rattle.wf_args.specs.Laws.{IsLine, IsRoute};
-ghost use Rattle.wf_args.specs.Plain.{plain_line, plain_route};
-ghost use Rattle.wf_args.specs.declared.option.OptionName.TheVariants.{Source, Journal, Args, Id};
+ghost use Rattle.wf_args.specs.Lines.{env_of, is_word, routes_of, turn_of, waits_of, word_of};
+ghost use Rattle.wf_args.specs.Laws.{IsEnv, IsLine, IsRoute};
+ghost use Rattle.wf_args.specs.Plain.{plain_env, plain_line, plain_route};
+ghost use Rattle.wf_args.specs.declared.option.OptionName.TheVariants.{Args, Grep, Id, Journal, Source};
 
 use crate::command::Command;
+use crate::env::{EnvParts, env_in};
 use crate::line::Line;
 use crate::lookup::{find_in, find_nth};
 use crate::option::OptionName;
 use crate::route::{RouteParts, route_in};
-use crate::waits::waits_in;
+use crate::waits::{turn_in, waits_in};
 
 /// How often a command may wait where the line doesn't say it.
 const DEFAULT_WAITS: u32 = 1_000_000;
@@ -68,6 +69,35 @@ impl<'w> Line<'w> {
             Some(word) => route_in(word),
             None => None,
         }
+    }
+
+    /// The pair with this index among those of the options `--env`, in their order.
+    pub fn env(&self, index: usize) -> Option<EnvParts<'w>>
+        ensures env { option_map plain_env result ≡ slice_get (env_of (plain_line self.now)) index }
+        ensures proper { IfSome result (λ p. IsEnv (plain_env p)) }
+        ensures few { length (env_of (plain_line self.now)) ≤ 20 }
+    {
+        match find_nth(OptionName::Env, index, self.options) {
+            Some(word) => env_in(word),
+            None => None,
+        }
+    }
+
+    /// After how many turns: as the option `--turn` says, or else 0.
+    pub fn turn(&self) -> u32
+        ensures { result ≡ turn_of (plain_line self.now) }
+    {
+        match find_in(OptionName::Turn, self.options) {
+            Some(word) => turn_in(word).unwrap_or(0),
+            None => 0,
+        }
+    }
+
+    /// The text that is to be found, of at most 65,536 bytes, where the option `--grep` stands.
+    pub fn grep(&self) -> Option<&'w str>
+        ensures { option_copied result ≡ word_of Grep (plain_line self.now) }
+    {
+        find_in(OptionName::Grep, self.options)
     }
 
     /// How often the command may wait: as often as the option `--waits` says, or else 1,000,000 times.

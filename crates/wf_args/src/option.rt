@@ -3,8 +3,9 @@ ghost use Rattle.std.specs.Prelude.{◌≡◌};
 ghost use Rattle.std.specs.List.{list_all};
 ghost use Rattle.wf_args.specs.Lines.{name_of, name_word, most, is_word, is_id_byte};
 
+use crate::env::env_in;
 use crate::route::{LONGEST_WORD, route_in};
-use crate::waits::waits_in;
+use crate::waits::{turn_in, waits_in};
 
 /// An option of a command line.
 #[derive(Debug, Clone, Copy, PartialEq, Eq)]
@@ -19,8 +20,14 @@ pub enum OptionName {
     Id,
     /// `--route HOST=NAME:PORT`: where calls for a host are sent.
     Route,
+    /// `--env KEY=VALUE`: what a name stands for in the environment.
+    Env,
     /// `--waits N`: how often the command may wait.
     Waits,
+    /// `--turn N`: after how many turns.
+    Turn,
+    /// `--grep TEXT`: only what holds a text.
+    Grep,
 }
 
 impl OptionName {
@@ -34,7 +41,10 @@ impl OptionName {
             "--args" => Some(OptionName::Args),
             "--id" => Some(OptionName::Id),
             "--route" => Some(OptionName::Route),
+            "--env" => Some(OptionName::Env),
             "--waits" => Some(OptionName::Waits),
+            "--turn" => Some(OptionName::Turn),
+            "--grep" => Some(OptionName::Grep),
             _ => None,
         }
     }
@@ -49,7 +59,10 @@ impl OptionName {
             OptionName::Args => "--args",
             OptionName::Id => "--id",
             OptionName::Route => "--route",
+            OptionName::Env => "--env",
             OptionName::Waits => "--waits",
+            OptionName::Turn => "--turn",
+            OptionName::Grep => "--grep",
         }
     }
 
@@ -58,18 +71,21 @@ impl OptionName {
         ensures { result ≡ most self }
     {
         match self {
-            OptionName::Route => 20,
+            OptionName::Route | OptionName::Env => 20,
             OptionName::Source
             | OptionName::Journal
             | OptionName::Args
             | OptionName::Id
-            | OptionName::Waits => 1,
+            | OptionName::Waits
+            | OptionName::Turn
+            | OptionName::Grep => 1,
         }
     }
 
     /// Whether a word may stand behind the name: for a path one of 1 to 65,536 bytes, for an argument
     /// any, also the empty one, for an id 1 to 64 letters, digits, `.`, `_` and `-`, for a route
-    /// `HOST=NAME:PORT`, and for waits a number of 1 to 1,000,000,000.
+    /// `HOST=NAME:PORT`, for the environment `KEY=VALUE`, for waits a number of 1 to 1,000,000,000, for
+    /// turns one of 0 to 4,294,967,295, and for a text to be found one of at most 65,536 bytes.
     pub(crate) fn fits(self, word: &str) -> bool
         ensures { result ≡ is_word self word.now }
     {
@@ -80,7 +96,10 @@ impl OptionName {
             OptionName::Args => true,
             OptionName::Id => !word.is_empty() && word.len() <= 64 && all_of_ids(word.as_bytes()),
             OptionName::Route => route_in(word).is_some(),
+            OptionName::Env => env_in(word).is_some(),
             OptionName::Waits => waits_in(word).is_some(),
+            OptionName::Turn => turn_in(word).is_some(),
+            OptionName::Grep => word.len() <= LONGEST_WORD,
         }
     }
 }

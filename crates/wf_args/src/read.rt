@@ -1,6 +1,6 @@
 // Reading a command line.
 ghost use Rattle.std.specs.Prelude.{◌≡◌, ◌↔◌, ℕ, suc, [], Ok, Err, min, IsOkAnd, IsErrOf, MatchOption};
-ghost use Rattle.wf_args.specs.Lines.{PlainLine, line_of, words_view, options_at, options_in, next_name, count};
+ghost use Rattle.wf_args.specs.Lines.{PlainLine, count, is_complete, line_of, next_name, options_at, options_in, words_view};
 ghost use Rattle.wf_args.specs.Plain.{plain_line};
 
 use crate::command::Command;
@@ -62,7 +62,28 @@ fn bad_word(command: Command, options: &[String]) -> Option<u32>
         }
         at += 2;
     }
-    None
+    if is_complete(command, options) {
+        None
+    } else {
+        Some(number(options.len()))
+    }
+}
+
+// Whether none of the options is missing that the command can't do without.
+fn is_complete(command: Command, options: &[String]) -> bool
+    ensures { result ≡ is_complete command (options_in (words_view options.now)) }
+{
+    match command {
+        Command::At => 0 < count_of(OptionName::Turn, options),
+        Command::Check
+        | Command::Format
+        | Command::Run
+        | Command::Resume
+        | Command::Show
+        | Command::Log
+        | Command::Help
+        | Command::Version => true,
+    }
 }
 
 // The number, counted from the command, of the word with this index behind it.

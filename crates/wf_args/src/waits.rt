@@ -1,6 +1,6 @@
 // The words of numbers.
 ghost use Rattle.std.specs.Prelude.{◌≡◌, if◌then◌else◌, nat_le, None, Some};
-ghost use Rattle.wf_args.specs.Lines.{number_to, waits_in};
+ghost use Rattle.wf_args.specs.Lines.{number_to, turn_in, waits_in};
 
 /// The number that decimal digits write, of which the first isn't 0, where it is at most so large.
 pub(crate) fn number_to(greatest: u32, word: &str) -> Option<u32>
@@ -24,6 +24,16 @@ fn at_most(greatest: u32, number: u32) -> Option<u32>
     } else {
         None
     }
+}
+
+/// The number that the word of `--turn` says: 0 to 4,294,967,295.
+pub(crate) fn turn_in(word: &str) -> Option<u32>
+    ensures { result ≡ turn_in word.now }
+{
+    if word == "0" {
+        return Some(0);
+    }
+    number_to(u32::MAX, word)
 }
 
 /// The number that the word of `--waits` says: 1 to 1,000,000,000.

@@ -26,13 +26,13 @@ fn uncalled(name: &str) -> Option<&'static str>
     }
 }
 
-// Whether a function of this name that only steps may call is built: a call of HTTP or a sleep.
+// Whether a function of this name that only steps may call is built: a call of HTTP, a sleep, or the log.
 fn is_built(name: &str) -> bool
     ensures { result ≡ forms.is_built (special_named name.now) }
 {
     match name {
         "http.get" | "http.post" | "http.put" | "http.patch" | "http.delete" => true,
-        "http.request" | "sys.sleep" | "sys.sleep_until" => true,
+        "http.request" | "sys.log" | "sys.sleep" | "sys.sleep_until" => true,
         _ => false,
     }
 }

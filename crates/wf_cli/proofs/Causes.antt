@@ -1,15 +1,15 @@
 -- The causes of statuses, and which of them come together.
 use Rattle.std.proofs.Common.{◌≡◌, ◌<◌, inl, inr, IsTrue, ℕ, Bool, true, false, List, Option, None, Some, Result, Ok, Err, refl, sym, ◌∙◌, ap, subst, arith}
-use Rattle.wf_cli.specs.Top.{IsLineOf, IsBadLine, IsBadArgument, IsRefused, HasOtherMagic, IsStarted, IsNotStarted, IsNoHistory, Reported, Gives, IsOfFile, Says, bad_line, bad_argument, refused, reported, of_file}
+use Rattle.wf_cli.specs.Top.{IsLineOf, IsBadLine, IsBadArgument, IsRefused, HasOtherMagic, IsStarted, IsNotStarted, IsNoHistory, Reported, TellsHistory, Gives, IsOfFile, Says, bad_line, bad_argument, refused, reported, of_file}
 use Rattle.wf_engine.specs.Printed as end
-use Rattle.wf_engine.specs.Printed.{Scene, uses_source, uses_journal, executes, status_of}
+use Rattle.wf_engine.specs.Printed.{Scene, uses_source, uses_journal, executes, needs_history, status_of, tells_history}
 use Rattle.wf_engine.specs.Starts.{HasArgument}
 use Rattle.wf_engine.specs.TheLanguage.{the_language}
 use Rattle.wf_host.specs.World.{World}
 use Rattle.wf_host.specs.declared.data.Deed.{Deed}
 use Rattle.wf_args.specs.Lines.{PlainLine, line_of}
 use Rattle.wf_args.specs.declared.command.Command.{Command}
-use Rattle.wf_args.specs.declared.command.Command.TheVariants.{Check, Format, Run, Resume, Help, Version}
+use Rattle.wf_args.specs.declared.command.Command.TheVariants.{Check, Format, Run, Resume, Show, At, Log, Help, Version}
 use Rattle.wf_model.specs.Config.{Outcome, Active, Returned, Raised, Cancelled}
 use Rattle.wf_journal_laws.specs.Language.{Language}
 use Rattle.wf_status.specs.Statuses.{rank, status_text}
@@ -54,18 +54,75 @@ both s P Q (l, is, p) (m, js, q) = (l.command, p, subst (λ (k : PlainLine). Q k
 pub no_bad_line : (s : Scene) (P : Command → Type 0) (n : ℕ) → IsLineOf s P → IsBadLine s n → ⊥
 no_bad_line s P n (l, is, p) bad = not_both (line_of s.words) l n is bad
 
-pub journal_executes : (c : Command) → uses_journal c ≡ true → executes c ≡ true
-journal_executes Check is = let no : false ≡ true = is in cc no
-journal_executes Format is = let no : false ≡ true = is in cc no
-journal_executes Run is = refl
-journal_executes Resume is = refl
-journal_executes Help is = let no : false ≡ true = is in cc no
-journal_executes Version is = let no : false ≡ true = is in cc no
+-- what a command needs that does one or the other
+never : (P : Type 0) → false ≡ true → P
+never P no = absurd (cc no)
+
+executes_uses : (c : Command) → executes c ≡ true → uses_journal c ≡ true
+executes_uses Check is = never (uses_journal Check ≡ true) is
+executes_uses Format is = never (uses_journal Format ≡ true) is
+executes_uses Run is = refl
+executes_uses Resume is = refl
+executes_uses Show is = refl
+executes_uses At is = refl
+executes_uses Log is = refl
+executes_uses Help is = never (uses_journal Help ≡ true) is
+executes_uses Version is = never (uses_journal Version ≡ true) is
+
+needs_uses : (c : Command) → needs_history c ≡ true → uses_journal c ≡ true
+needs_uses Check is = never (uses_journal Check ≡ true) is
+needs_uses Format is = never (uses_journal Format ≡ true) is
+needs_uses Run is = refl
+needs_uses Resume is = refl
+needs_uses Show is = refl
+needs_uses At is = refl
+needs_uses Log is = refl
+needs_uses Help is = never (uses_journal Help ≡ true) is
+needs_uses Version is = never (uses_journal Version ≡ true) is
+
+tells_needs : (c : Command) → tells_history c ≡ true → needs_history c ≡ true
+tells_needs Resume is = refl
+tells_needs Check is = is
+tells_needs Format is = is
+tells_needs Run is = is
+tells_needs Show is = is
+tells_needs At is = is
+tells_needs Log is = is
+tells_needs Help is = is
+tells_needs Version is = is
+
+tells_idle : (c : Command) → tells_history c ≡ true → executes c ≡ false
+tells_idle Check is = refl
+tells_idle Format is = refl
+tells_idle Run is = never (executes Run ≡ false) is
+tells_idle Resume is = never (executes Resume ≡ false) is
+tells_idle Show is = refl
+tells_idle At is = refl
+tells_idle Log is = refl
+tells_idle Help is = refl
+tells_idle Version is = refl
+
+unused_idle : (c : Command) → uses_journal c ≡ false → executes c ≡ false
+unused_idle Check is = refl
+unused_idle Format is = refl
+unused_idle Run is = never (executes Run ≡ false) (sym is)
+unused_idle Resume is = never (executes Resume ≡ false) (sym is)
+unused_idle Show is = refl
+unused_idle At is = refl
+unused_idle Log is = refl
+unused_idle Help is = refl
+unused_idle Version is = refl
 
 -- a line that executes, and one that doesn't
 pub executing : (s : Scene) → IsLineOf s (λ c. executes c ≡ true) → IsLineOf s (λ c. executes c ≡ false) → ⊥
 executing s a b =
     let it = both s (λ c. executes c ≡ true) (λ c. executes c ≡ false) a b in
+    let no : true ≡ false = sym it.1 ∙ it.2 in cc no
+
+-- one that uses a journal, and one that doesn't
+pub not_both_journals : (s : Scene) → IsLineOf s (λ c. uses_journal c ≡ true) → IsLineOf s (λ c. uses_journal c ≡ false) → ⊥
+not_both_journals s a b =
+    let it = both s (λ c. uses_journal c ≡ true) (λ c. uses_journal c ≡ false) a b in
     let no : true ≡ false = sym it.1 ∙ it.2 in cc no
 
 pub line_is : (s : Scene) (P Q : Command → Type 0) → ((c : Command) → P c → Q c) → IsLineOf s P → IsLineOf s Q
@@ -77,17 +134,41 @@ run_executes s line = line_is s (λ c. c ≡ Run) (λ c. executes c ≡ true) (�
 pub resume_executes : (s : Scene) → IsLineOf s (λ c. c ≡ Resume) → IsLineOf s (λ c. executes c ≡ true)
 resume_executes s line = line_is s (λ c. c ≡ Resume) (λ c. executes c ≡ true) (λ c is. ap executes is) line
 
-pub check_reports : (s : Scene) → IsLineOf s (λ c. c ≡ Check) → IsLineOf s (λ c. executes c ≡ false)
-check_reports s line = line_is s (λ c. c ≡ Check) (λ c. executes c ≡ false) (λ c is. ap executes is) line
+pub executes_line : (s : Scene) → IsLineOf s (λ c. executes c ≡ true) → IsLineOf s (λ c. uses_journal c ≡ true)
+executes_line s line = line_is s (λ c. executes c ≡ true) (λ c. uses_journal c ≡ true) executes_uses line
 
-pub format_reports : (s : Scene) → IsLineOf s (λ c. c ≡ Format) → IsLineOf s (λ c. executes c ≡ false)
-format_reports s line = line_is s (λ c. c ≡ Format) (λ c. executes c ≡ false) (λ c is. ap executes is) line
+pub needs_line : (s : Scene) → IsLineOf s (λ c. needs_history c ≡ true) → IsLineOf s (λ c. uses_journal c ≡ true)
+needs_line s line = line_is s (λ c. needs_history c ≡ true) (λ c. uses_journal c ≡ true) needs_uses line
 
-pub reported_line : (s : Scene) (text : List ℕ) → Reported s text → IsLineOf s (λ c. executes c ≡ false)
-reported_line s _ (end.accepted (l, bytes, p, (is, uses, first), command, source)) = (l, is, ap executes command)
-reported_line s text (end.formatted l bytes text2 (is, uses, first) command laid) = (l, is, ap executes command)
-reported_line s _ (end.helped line) = line_is s (λ c. c ≡ Help) (λ c. executes c ≡ false) (λ c is. ap executes is) line
-reported_line s _ (end.versioned line) = line_is s (λ c. c ≡ Version) (λ c. executes c ≡ false) (λ c is. ap executes is) line
+pub tells_line : (s : Scene) → IsLineOf s (λ c. tells_history c ≡ true) → IsLineOf s (λ c. needs_history c ≡ true)
+tells_line s line = line_is s (λ c. tells_history c ≡ true) (λ c. needs_history c ≡ true) tells_needs line
+
+pub idle_tells : (s : Scene) → IsLineOf s (λ c. tells_history c ≡ true) → IsLineOf s (λ c. executes c ≡ false)
+idle_tells s line = line_is s (λ c. tells_history c ≡ true) (λ c. executes c ≡ false) tells_idle line
+
+pub idle_line : (s : Scene) → IsLineOf s (λ c. uses_journal c ≡ false) → IsLineOf s (λ c. executes c ≡ false)
+idle_line s line = line_is s (λ c. uses_journal c ≡ false) (λ c. executes c ≡ false) unused_idle line
+
+pub check_reports : (s : Scene) → IsLineOf s (λ c. c ≡ Check) → IsLineOf s (λ c. uses_journal c ≡ false)
+check_reports s line = line_is s (λ c. c ≡ Check) (λ c. uses_journal c ≡ false) (λ c is. ap uses_journal is) line
+
+pub format_reports : (s : Scene) → IsLineOf s (λ c. c ≡ Format) → IsLineOf s (λ c. uses_journal c ≡ false)
+format_reports s line = line_is s (λ c. c ≡ Format) (λ c. uses_journal c ≡ false) (λ c is. ap uses_journal is) line
+
+pub reported_line : (s : Scene) (text : List ℕ) → Reported s text → IsLineOf s (λ c. uses_journal c ≡ false)
+reported_line s _ (end.accepted (l, bytes, p, (is, uses, first), command, source)) = (l, is, ap uses_journal command)
+reported_line s text (end.formatted l bytes text2 (is, uses, first) command laid) = (l, is, ap uses_journal command)
+reported_line s _ (end.helped line) = line_is s (λ c. c ≡ Help) (λ c. uses_journal c ≡ false) (λ c is. ap uses_journal is) line
+reported_line s _ (end.versioned line) = line_is s (λ c. c ≡ Version) (λ c. uses_journal c ≡ false) (λ c is. ap uses_journal is) line
+
+pub reported_idle : (s : Scene) (text : List ℕ) → Reported s text → IsLineOf s (λ c. executes c ≡ false)
+reported_idle s text report = idle_line s (reported_line s text report)
+
+-- what is told of a history is told by a line that does so
+pub telling_line : (L : Language) (s : Scene) (text : List ℕ) → TellsHistory L s text → IsLineOf s (λ c. tells_history c ≡ true)
+telling_line L s _ (end.shown t line is) = line_is s (λ c. c ≡ Show) (λ c. tells_history c ≡ true) (λ c is. ap tells_history is) line
+telling_line L s _ (end.stood l whole t is command history front) = (l, is, ap tells_history command)
+telling_line L s _ (end.logged l t is command history) = (l, is, ap tells_history command)
 
 pub refused_line : (s : Scene) (r : Refusal) → IsRefused s r → IsLineOf s (λ c. uses_source c ≡ true)
 refused_line s r (l, bytes, (is, uses, first), why) = (l, is, uses)
@@ -98,6 +179,14 @@ one_command s c d a b = let it = both s (λ x. x ≡ c) (λ x. x ≡ d) a b in s
 
 pub not_run_and_resume : (s : Scene) → IsLineOf s (λ c. c ≡ Run) → IsLineOf s (λ c. c ≡ Resume) → ⊥
 not_run_and_resume s a b = let no : Run ≡ Resume = one_command s Run Resume a b in cc no
+
+pub not_run_and_needs : (s : Scene) → IsLineOf s (λ c. c ≡ Run) → IsLineOf s (λ c. needs_history c ≡ true) → ⊥
+not_run_and_needs s a b =
+    let it = both s (λ c. c ≡ Run) (λ c. needs_history c ≡ true) a b in
+    let no : false ≡ true = sym (ap needs_history it.1) ∙ it.2 in cc no
+
+pub resume_needs : (s : Scene) → IsLineOf s (λ c. c ≡ Resume) → IsLineOf s (λ c. needs_history c ≡ true)
+resume_needs s line = line_is s (λ c. c ≡ Resume) (λ c. needs_history c ≡ true) (λ c is. ap needs_history is) line
 
 -- ## Arguments
 -- just `run` has one
@@ -142,6 +231,7 @@ gives_cause L s image D _ _ (end.not_a_history n why) = why
 gives_cause L s image D _ _ (end.suspended why) = tt
 gives_cause L s image D _ _ (end.ended o st has is) = outcome_cause L s o st is
 gives_cause L s image D _ _ (end.done text report) = tt
+gives_cause L s image D _ _ (end.told text tells) = tt
 
 pub says_cause : (s : Scene) (old new : World) (st : Status) (text : List ℕ) → IsTrue old.tells → Says s old new st text → Cause the_language s st
 says_cause s old new _ _ told (bad_line n bad) = bad
@@ -169,6 +259,7 @@ gives_text L s image D _ _ line (end.not_a_history n why) is = same_some (status
 gives_text L s image D _ _ line (end.suspended why) is = same_some (status_text status.Suspended) _ line refl is
 gives_text L s image D _ _ line (end.ended o st has which) is = absurd (outcome_untexted o st line which is)
 gives_text L s image D _ _ line (end.done text report) is = let no : None ≡ Some line = is in cc no
+gives_text L s image D _ _ line (end.told text tells) is = let no : None ≡ Some line = is in cc no
 
 pub says_text : (s : Scene) (old new : World) (st : Status) (text line : List ℕ) → IsTrue old.tells → Says s old new st text → status_text st ≡ Some line → text ≡ line
 says_text s old new _ _ line told (bad_line n bad) is = same_some (status_text (status.BadLine n)) _ line refl is

@@ -1,13 +1,36 @@
 -- Where no cause holds, the command does its work, or there is no memory.
-use Rattle.std.proofs.Common.{◌≡◌, ◌⊎◌, inl, inr, IsTrue, ℕ, false, List, refl, subst}
+use Rattle.std.proofs.Common.{◌≡◌, ◌⊎◌, ⊎_elim, inl, inr, IsTrue, ℕ, Bool, true, false, List, refl, ap, subst}
 use Rattle.wf_cli.proofs.Causes.{not_both, executing, Cause, gives_cause}
 use Rattle.wf_cli.proofs.Rows.{suspended_row}
-use Rattle.wf_cli.specs.Top.{Call, IsLineOf, IsOfFile, Says, bad_line, bad_argument, refused, reported, of_file, Ends, said, cut, unread, failed, unheard, no_memory, HasNoCause, Completes}
-use Rattle.wf_engine.specs.Printed.{executes}
+use Rattle.wf_cli.specs.Top.{Call, IsLineOf, IsOfFile, Gives, Says, bad_line, bad_argument, refused, reported, of_file, Ends, said, cut, unread, failed, unheard, no_memory, HasNoCause, Completes}
+use Rattle.wf_engine.specs.Printed as end
+use Rattle.wf_engine.specs.Printed.{Scene, executes}
 use Rattle.wf_engine.specs.TheLanguage.{the_language}
+use Rattle.wf_host.specs.declared.data.Deed.{Deed}
+use Rattle.wf_journal_laws.specs.Language.{Language}
 use Rattle.wf_args.specs.Lines.{line_of}
 use Rattle.wf_status.specs.declared.Status.{Status}
 use Rattle.wf_status.specs.declared.Status.TheVariants as status
+
+-- a command that executes nothing does its work just with Done
+abbrev is_work : Status → Bool
+is_work status.Done = true
+is_work status.Raised = true
+is_work status.Suspended = true
+is_work st = false
+
+idle_done : (L : Language) (s : Scene) (image : List ℕ) (D : List Deed) (st : Status) (text : List ℕ) → IsLineOf s (λ c. executes c ≡ false) → Gives L s image D st text → is_work st ≡ true → st ≡ status.Done
+idle_done L s image D _ _ line (end.bad_line n bad) is = let no : false ≡ true = is in absurd (cc no)
+idle_done L s image D _ _ line (end.bad_argument why) is = let no : false ≡ true = is in absurd (cc no)
+idle_done L s image D _ _ line (end.refused r why) is = let no : false ≡ true = is in absurd (cc no)
+idle_done L s image D _ _ line (end.not_a_journal why) is = let no : false ≡ true = is in absurd (cc no)
+idle_done L s image D _ _ line (end.already_started why) is = let no : false ≡ true = is in absurd (cc no)
+idle_done L s image D _ _ line (end.not_started why) is = let no : false ≡ true = is in absurd (cc no)
+idle_done L s image D _ _ line (end.not_a_history n why) is = let no : false ≡ true = is in absurd (cc no)
+idle_done L s image D _ _ line (end.suspended why) is = absurd (executing s why.0.0 line)
+idle_done L s image D _ _ line (end.ended o st has which) is = absurd (executing s has.0 line)
+idle_done L s image D _ _ line (end.done text report) is = refl
+idle_done L s image D _ _ line (end.told text tells) is = refl
 
 module _ (x : Call) (none : HasNoCause the_language x) where
   abbrev IsWork : Status → Type 0
@@ -30,12 +53,15 @@ module _ (x : Call) (none : HasNoCause the_language x) where
   says_work _ _ told (reported text report back) = inl refl
   says_work _ _ told (of_file st text is line accepted gives) = let g = (gives told).0 in of_the_file st is (gives_cause the_language x.scene x.new.seen g.0 st text g.2)
 
-  says_done : (st : Status) (text : List ℕ) → IsLineOf x.scene (λ c. executes c ≡ false) → Says x.scene x.old x.new st text → st ≡ status.Done
-  says_done _ _ report (bad_line n bad) = absurd (not_both (line_of x.scene.words) none.line.0 n none.line.1 bad)
-  says_done _ _ report (bad_argument why) = absurd (none.argument why)
-  says_done _ _ report (refused r why fine) = absurd (none.source r why)
-  says_done _ _ report (reported text shown back) = refl
-  says_done _ _ report (of_file st text is line accepted gives) = absurd (executing x.scene line report)
+  says_done : (st : Status) (text : List ℕ) → IsTrue x.old.tells → IsLineOf x.scene (λ c. executes c ≡ false) → Says x.scene x.old x.new st text → st ≡ status.Done
+  says_done _ _ told report (bad_line n bad) = absurd (not_both (line_of x.scene.words) none.line.0 n none.line.1 bad)
+  says_done _ _ told report (bad_argument why) = absurd (none.argument why)
+  says_done _ _ told report (refused r why fine) = absurd (none.source r why)
+  says_done _ _ told report (reported text shown back) = refl
+  says_done _ _ told report (of_file st text is line accepted gives) =
+      let g = (gives told).0 in
+      let work : is_work st ≡ true = ⊎_elim (λ done. ap is_work done) (λ other. ⊎_elim (λ raised. ap is_work raised) (λ suspended. ap is_work suspended) other) (of_the_file st is (gives_cause the_language x.scene x.new.seen g.0 st text g.2)) in
+      idle_done the_language x.scene x.new.seen g.0 st text report g.2 work
 
   abbrev IsOrLacks : Type 0 → Type 0
   IsOrLacks P = P ⊎ (x.status ≡ status.OutOfMemory)
@@ -70,5 +96,5 @@ pub completes : (x : Call) → IsTrue x.old.tells → Ends x → Completes the_l
 completes x told ends = record {
   any = λ none. any_of x told ends none;
   outcome = λ none over. three (λ is. over ((suspended_row x told ends).comes is)) (any_of x told ends none);
-  report = λ none line. said_or_lacks x none (x.status ≡ status.Done) (λ text says. says_done x none x.status text line says) ends;
+  report = λ none line. said_or_lacks x none (x.status ≡ status.Done) (λ text says. says_done x none x.status text told line says) ends;
 }

@@ -11,7 +11,10 @@ mod Outsides
 mod Promises
 mod Rows
 mod Safe
+mod Pairs
+mod Readings
 mod Routes
 mod Spelled
+mod Tellings
 mod Together
 mod Works

@@ -1,7 +1,7 @@
 -- The opening of a file for a line.
 use Rattle.std.proofs.Common.{◌≡◌, ◌≤◌, ◌⊎◌, ◌≢◌, inl, inr, ℕ, true, false, List, [], ◌∷◌, ◌++◌, length, take, None, Result, Ok, Err, IfOk, IfErr, OnOk, IsErrOf, refl, sym, ◌∙◌, ap, subst, arith}
 use Rattle.std.proofs.lemmas.List.{append-nil, append_cancel_left}
-use Rattle.wf_cli.proofs.Causes.{not_both, not_run_and_resume}
+use Rattle.wf_cli.proofs.Causes.{not_both, not_run_and_needs, not_run_and_resume, resume_needs}
 use Rattle.wf_cli.proofs.Moments.{early_nothing, early_now, kept_now, kept_still, late_found, no_turns_of_none, reads_none_of_none}
 use Rattle.wf_cli.proofs.Safe.{of_command}
 use Rattle.wf_cli.specs.Reports.{the_reports}
@@ -47,10 +47,10 @@ pub not_started_by_resume : (s : Scene) → IsLineOf s (λ c. c ≡ Resume) → 
 not_started_by_resume s line why = not_run_and_resume s why.0 line
 
 pub not_resumed_by_run : (s : Scene) → IsLineOf s (λ c. c ≡ Run) → ¬ IsNotStarted s
-not_resumed_by_run s line why = not_run_and_resume s line why.0
+not_resumed_by_run s line why = not_run_and_needs s line why.0
 
 pub no_history_by_run : (L : Language) (s : Scene) (n : ℕ) → IsLineOf s (λ c. c ≡ Run) → ¬ IsNoHistory L s n
-no_history_by_run L s n line why = not_run_and_resume s line why.0
+no_history_by_run L s n line why = not_run_and_needs s line why.0
 
 -- what is passed over before each status
 pub passed_magic : (L : Language) (s : Scene) → IsPassed L s status.NotAJournal
@@ -108,7 +108,7 @@ abbrev pub read_silently : (old new : World) (t : ℕ) → new.deeds ≡ old.dee
 read_silently old new t is = record { done = Now t ∷ []; deeds = is; silent = refl }
 
 -- the first records of what is found are those of an empty front
-no_record_no_history : (L : Language) (J : List (List ℕ)) (st : Standing) → history L J ≡ Ok st → J ≡ [] → ⊥
+pub no_record_no_history : (L : Language) (J : List (List ℕ)) (st : Standing) → history L J ≡ Ok st → J ≡ [] → ⊥
 unfolding history
 no_record_no_history L J st is none = let no : Err 0 ≡ Ok st = ap (history L) (sym none) ∙ is in cc no
 
@@ -192,7 +192,7 @@ module _ (O : Outside) (s : Scene) (old new : World) (line : IsLineOf s (λ c. c
       ((resume_uses s line, why.0, why.1), passed_magic the_language s)
   fault_of (engine.NotAHistory n) k =
       let why = subst (λ f. (history the_language (records f) ≡ Err n) × (records f ≢ []) × (take 4 f ≡ magic)) found (k.not_a_history n refl) in
-      ((line, why.0), passed_history the_language s n (no_magic s (inr why.2)) (not_started_by_resume s line) (λ no. why.1 no.1))
+      ((resume_needs s line, why.0), passed_history the_language s n (no_magic s (inr why.2)) (not_started_by_resume s line) (λ no. why.1 no.1))
   fault_of engine.AlreadyStarted k = absurd (none k.only)
     where
       none : (engine.AlreadyStarted ≡ engine.DiskFault) ⊎ (engine.AlreadyStarted ≡ engine.NotAJournal) ⊎ (engine.AlreadyStarted ≡ engine.NotStarted) ⊎ ((n : ℕ) × (engine.AlreadyStarted ≡ engine.NotAHistory n)) ⊎ (engine.AlreadyStarted ≡ engine.OutOfMemory) → ⊥
@@ -203,7 +203,7 @@ module _ (O : Outside) (s : Scene) (old new : World) (line : IsLineOf s (λ c. c
       none (inr (inr (inr (inr is)))) = cc is
   fault_of engine.NotStarted k =
       let why = subst (λ f. (records f ≡ []) × MayBegin f) found (k.not_started refl) in
-      ((line, why.0), passed_not_started the_language s (no_magic s why.1) (not_started_by_resume s line))
+      ((resume_needs s line, why.0), passed_not_started the_language s (no_magic s why.1) (not_started_by_resume s line))
   fault_of engine.Suspended k = absurd (none k.only)
     where
       none : (engine.Suspended ≡ engine.DiskFault) ⊎ (engine.Suspended ≡ engine.NotAJournal) ⊎ (engine.Suspended ≡ engine.NotStarted) ⊎ ((n : ℕ) × (engine.Suspended ≡ engine.NotAHistory n)) ⊎ (engine.Suspended ≡ engine.OutOfMemory) → ⊥

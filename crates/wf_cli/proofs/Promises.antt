@@ -2,7 +2,7 @@
 use Rattle.std.proofs.Common.{◌≡◌, ◌≤◌, ℕ, Result, ◌∙◌}
 use Rattle.wf_cli.proofs.Completes.{completes}
 use Rattle.wf_cli.proofs.Finish.{only_printed, ends, safe_throughout, safe_at_end, late_at_end, finished_stays, refused_stays, reports_stay, silent_stays}
-use Rattle.wf_cli.proofs.Rows.{bad_line_row, bad_argument_row, read_fault_row, refused_row, disk_fault_row, not_a_journal_row, already_started_row, not_started_row, not_a_history_row, suspended_row, outcome_row, done_row, accepted_row, comes_back_row, print_fault_row, poll_fault_row}
+use Rattle.wf_cli.proofs.Rows.{bad_line_row, bad_argument_row, read_fault_row, refused_row, disk_fault_row, not_a_journal_row, already_started_row, not_started_row, not_a_history_row, suspended_row, outcome_row, done_row, telling_row, accepted_row, comes_back_row, print_fault_row, poll_fault_row}
 use Rattle.wf_cli.specs.Promises.{Promised}
 use Rattle.wf_cli.specs.Said.{IsEnd, Worked, Tells, Printing, text_of}
 use Rattle.wf_cli.specs.Top.{Call, Ends}
@@ -36,6 +36,7 @@ promised x mid reads2 faults2 r is worked tells printing same reads before after
       suspended = λ told. suspended_row x told all;
       outcome = λ told. outcome_row x told all;
       done = done_row x all;
+      telling = λ told. telling_row x told all;
       accepted = accepted_row x all;
       comes_back = comes_back_row x all;
       print_fault = print_fault_row x all;

@@ -15,22 +15,22 @@ use Rattle.wf_record_parts.specs.Spelling.{Each, four, listed, string, two}
 use Rattle.wf_shared.specs.Events as plain
 
 -- ## Lists
-take_more : {X : Type 0} (xs : List X) (k : ℕ) (x : X) → slice_get xs k ≡ Some x → take (suc k) xs ≡ take k xs ++ x ∷ []
+pub take_more : {X : Type 0} (xs : List X) (k : ℕ) (x : X) → slice_get xs k ≡ Some x → take (suc k) xs ≡ take k xs ++ x ∷ []
 take_more [] k x is = absurd (cc is)
 take_more (y ∷ xs) zero x is = let same : y ≡ x = cc is in ap (λ y. y ∷ []) same
 take_more (y ∷ xs) (suc k) x is = ap (λ ys. y ∷ ys) (take_more xs k x is)
 
-none_left : {X : Type 0} (xs : List X) (k : ℕ) → slice_get xs k ≡ None → length xs ≤ k
+pub none_left : {X : Type 0} (xs : List X) (k : ℕ) → slice_get xs k ≡ None → length xs ≤ k
 none_left [] k is = omega arith
 none_left (x ∷ xs) zero is = absurd (cc is)
 none_left (x ∷ xs) (suc k) is = let rest = none_left xs k is in omega (arith, rest)
 
-one_more : {X : Type 0} (P : X → Type 0) (xs : List X) (x : X) → AllByRecursion P xs → P x → AllByRecursion P (xs ++ x ∷ [])
+pub one_more : {X : Type 0} (P : X → Type 0) (xs : List X) (x : X) → AllByRecursion P xs → P x → AllByRecursion P (xs ++ x ∷ [])
 one_more P [] x all it = (it, tt)
 one_more P (y ∷ xs) x all it = (all.0, one_more P xs x all.1 it)
 
 -- ## Lengths
-string_is : (s : List ℕ) → length (string s) ≡ 4 + length s
+pub string_is : (s : List ℕ) → length (string s) ≡ 4 + length s
 string_is s = length-append (four (length s)) s
 
 two_is : (n : ℕ) → length (two n) ≡ 2

@@ -1,11 +1,11 @@
 -- The rows of the statuses, each from how the call ended.
 use Rattle.std.proofs.Common.{◌≡◌, ◌<◌, ◌⊎◌, inl, inr, ⊎_elim, IsTrue, ℕ, Bool, true, false, List, ◌++◌, None, Some, refl, sym, ◌∙◌, ap, subst, arith}
 use Rattle.std.specs.Prelude.{codes, decimal}
-use Rattle.wf_cli.proofs.Causes.{same_ok, same_some, no_bad_line, one_command, executing, journal_executes, check_reports, format_reports, line_is, run_executes, resume_executes, reported_line, Cause, says_cause, says_text, EarlyCause, says_early, text_early, not_said}
+use Rattle.wf_cli.proofs.Causes.{same_ok, same_some, no_bad_line, one_command, executing, not_both_journals, check_reports, executes_line, format_reports, idle_tells, needs_line, run_executes, reported_idle, reported_line, telling_line, tells_line, Cause, says_cause, says_text, EarlyCause, says_early, text_early, not_said}
 use Rattle.wf_cli.proofs.Together.{IsOrBefore, where_bad_line, where_bad_argument, where_told, when_told, where_refused, where_of_file, where_no_history, at_magic, at_started, at_not_started}
-use Rattle.wf_cli.specs.Top.{Call, IsLineOf, IsBadArgument, IsRefused, IsChecked, HasOutcome, IsSuspended, Reported, Gives, IsTaken, IsOfFile, ComesBack, Says, bad_line, bad_argument, refused, reported, of_file, Ends, said, cut, unread, failed, unheard, no_memory, Prints, IsOrYields, Exactly, BadLineRow, BadArgumentRow, ReadFaultRow, RefusedRow, DiskFaultRow, NotAJournalRow, AlreadyStartedRow, NotStartedRow, NotAHistoryRow, WaitsNoMore, SuspendedRow, OutcomeRow, DoneRow, AcceptedRow, ComesBackRow, PrintFaultRow, PollFaultRow, IsPassed}
+use Rattle.wf_cli.specs.Top.{Call, IsLineOf, IsBadArgument, IsRefused, IsChecked, HasOutcome, IsSuspended, Reported, Gives, IsTaken, IsOfFile, ComesBack, Says, bad_line, bad_argument, refused, reported, of_file, Ends, said, cut, unread, failed, unheard, no_memory, Prints, IsOrYields, Exactly, BadLineRow, BadArgumentRow, ReadFaultRow, RefusedRow, DiskFaultRow, NotAJournalRow, AlreadyStartedRow, NotStartedRow, NotAHistoryRow, WaitsNoMore, SuspendedRow, OutcomeRow, DoneRow, TellingRow, TellsHistory, AcceptedRow, ComesBackRow, PrintFaultRow, PollFaultRow, IsPassed}
 use Rattle.wf_engine.specs.Printed as end
-use Rattle.wf_engine.specs.Printed.{Scene, uses_source, uses_journal, executes, status_of, outcome_text, accepted_text}
+use Rattle.wf_engine.specs.Printed.{Scene, uses_source, uses_journal, executes, needs_history, status_of, tells_history, outcome_text, accepted_text}
 use Rattle.wf_engine.specs.Safe.{Since}
 use Rattle.wf_engine.specs.TheLanguage.{the_language}
 use Rattle.wf_host.specs.World.{World, Told}
@@ -27,7 +27,7 @@ use Rattle.wf_yaml_write.specs.Layout.{written}
 -- ## What a status has
 -- a status that comes with each end, unless an earlier cause came
 pub yields : (x : Call) (st : Status) → Ends x → ((other : Status) (text : List ℕ) → Says x.scene x.old x.new other text → IsOrBefore st other) → (IsLineOf x.scene (λ c. uses_source c ≡ true) → ¬ IsBadArgument x.scene → 2 < rank st)
-    → (IsLineOf x.scene (λ c. executes c ≡ true) → IsTaken x.scene → 4 < rank st) → (IsLineOf x.scene (λ c. executes c ≡ true) → IsTaken x.scene → Told x.old (IsPassed the_language x.scene status.PollFault) → 9 < rank st) → IsOrYields x st
+    → (IsLineOf x.scene (λ c. uses_journal c ≡ true) → IsTaken x.scene → 4 < rank st) → (IsLineOf x.scene (λ c. executes c ≡ true) → IsTaken x.scene → Told x.old (IsPassed the_language x.scene status.PollFault) → 9 < rank st) → IsOrYields x st
 yields x st (said text says prints) one reads disk polls = ⊎_elim (λ is. inl is) (λ low. inr (inl low)) (one x.status text says)
 yields x st (cut other text is says why some) one reads disk polls = inr (inr (inl is))
 yields x st (unread is line fine rose prints) one reads disk polls = inr (inl (subst (λ s. rank s < rank st) (sym is) (reads line fine)))
@@ -89,7 +89,7 @@ bad_line_row x ends n =
     record {
       comes = λ is. subst (EarlyCause x.scene) is (cause_early x line (subst (λ s. rank s < 5) (sym is) (omega arith)) ends (texted_as x (status.BadLine n) line refl is));
       only = λ bad. yields x (status.BadLine n) ends (λ other text says. where_bad_line x.scene x.old x.new n other text bad says) (λ run fine. absurd (no_bad_line x.scene (λ c. uses_source c ≡ true) n run bad))
-          (λ runs accepted. absurd (no_bad_line x.scene (λ c. executes c ≡ true) n runs bad)) (λ runs accepted passed. absurd (no_bad_line x.scene (λ c. executes c ≡ true) n runs bad));
+          (λ uses accepted. absurd (no_bad_line x.scene (λ c. uses_journal c ≡ true) n uses bad)) (λ runs accepted passed. absurd (no_bad_line x.scene (λ c. executes c ≡ true) n runs bad));
       prints = λ is. line_early x line (subst (λ s. rank s < 5) (sym is) (omega arith)) ends (texted_as x (status.BadLine n) line refl is);
     }
 
@@ -126,18 +126,17 @@ file_row x st line told ends texted low before never = record {
 pub not_a_journal_row : (x : Call) → IsTrue x.old.tells → Ends x → NotAJournalRow x
 not_a_journal_row x told ends =
     file_row x status.NotAJournal _ told ends refl (omega arith) (λ other text why says.
-    let line = line_is x.scene (λ c. uses_journal c ≡ true) (λ c. executes c ≡ true) journal_executes why.0 in
-    where_of_file x.scene x.old x.new status.NotAJournal other text told (omega arith) line (λ q passed low. passed.magic low why) at_magic says) (λ passed. passed.magic (omega arith))
+    where_of_file x.scene x.old x.new status.NotAJournal other text told (omega arith) why.0 (λ q passed low. passed.magic low why) at_magic says) (λ passed. passed.magic (omega arith))
 
 pub already_started_row : (x : Call) → IsTrue x.old.tells → Ends x → AlreadyStartedRow x
 already_started_row x told ends =
     file_row x status.AlreadyStarted _ told ends refl (omega arith) (λ other text why says.
-    where_of_file x.scene x.old x.new status.AlreadyStarted other text told (omega arith) (run_executes x.scene why.0) (λ q passed low. passed.started low why) at_started says) (λ passed. passed.started (omega arith))
+    where_of_file x.scene x.old x.new status.AlreadyStarted other text told (omega arith) (executes_line x.scene (run_executes x.scene why.0)) (λ q passed low. passed.started low why) at_started says) (λ passed. passed.started (omega arith))
 
 pub not_started_row : (x : Call) → IsTrue x.old.tells → Ends x → NotStartedRow x
 not_started_row x told ends =
     file_row x status.NotStarted _ told ends refl (omega arith) (λ other text why says.
-    where_of_file x.scene x.old x.new status.NotStarted other text told (omega arith) (resume_executes x.scene why.0) (λ q passed low. passed.not_started low why) at_not_started says) (λ passed. passed.not_started (omega arith))
+    where_of_file x.scene x.old x.new status.NotStarted other text told (omega arith) (needs_line x.scene why.0) (λ q passed low. passed.not_started low why) at_not_started says) (λ passed. passed.not_started (omega arith))
 
 pub not_a_history_row : (x : Call) → IsTrue x.old.tells → Ends x → NotAHistoryRow the_language x
 not_a_history_row x told ends n =
@@ -218,14 +217,15 @@ outcome_of_gives L s image D _ _ line (end.not_started why) is = let no : false 
 outcome_of_gives L s image D _ _ line (end.not_a_history n why) is = let no : false ≡ true = is in absurd (cc no)
 outcome_of_gives L s image D _ _ line (end.suspended why) is = let no : false ≡ true = is in absurd (cc no)
 outcome_of_gives L s image D _ _ line (end.ended o st has which) is = (o, has, which, refl)
-outcome_of_gives L s image D _ _ line (end.done text report) is = absurd (executing s line (reported_line s text report))
+outcome_of_gives L s image D _ _ line (end.done text report) is = absurd (executing s line (reported_idle s text report))
+outcome_of_gives L s image D _ _ line (end.told text tells) is = absurd (executing s line (idle_tells s (telling_line L s text tells)))
 
 outcome_of_says : (s : Scene) (old new : World) (st : Status) (text : List ℕ) → IsTrue old.tells → IsLineOf s (λ c. executes c ≡ true) → Says s old new st text → is_outcome st ≡ true
     → (o : Outcome) × HasOutcome the_language s new.seen o × (status_of o ≡ Some st) × (text ≡ outcome_text o)
 outcome_of_says s old new _ _ told line (bad_line n bad) is = let no : false ≡ true = is in absurd (cc no)
 outcome_of_says s old new _ _ told line (bad_argument why) is = let no : false ≡ true = is in absurd (cc no)
 outcome_of_says s old new _ _ told line (refused r why fine) is = let no : false ≡ true = is in absurd (cc no)
-outcome_of_says s old new _ _ told line (reported text report back) is = absurd (executing s line (reported_line s text report))
+outcome_of_says s old new _ _ told line (reported text report back) is = absurd (executing s line (reported_idle s text report))
 outcome_of_says s old new _ _ told line (of_file st text isf line2 accepted gives) is = let g = (gives told).0 in outcome_of_gives the_language s new.seen g.0 st text line g.2 is
 
 outcome_comes : (x : Call) → IsTrue x.old.tells → Ends x → IsLineOf x.scene (λ c. executes c ≡ true) → is_outcome x.status ≡ true
@@ -258,10 +258,10 @@ where_outcome : (s : Scene) (old new : World) (o : Outcome) (st other : Status) 
 where_outcome s old new o st _ _ told which has (bad_line n bad) = inr (let r = outcome_rank st (outcome_status o st which) in omega (arith, r))
 where_outcome s old new o st _ _ told which has (bad_argument why) = inr (let r = outcome_rank st (outcome_status o st which) in omega (arith, r))
 where_outcome s old new o st _ _ told which has (refused q why fine) = inr (let r = outcome_rank st (outcome_status o st which) in omega (arith, r))
-where_outcome s old new o st _ _ told which has (reported text report back) = absurd (executing s has.0 (reported_line s text report))
+where_outcome s old new o st _ _ told which has (reported text report back) = absurd (executing s has.0 (reported_idle s text report))
 where_outcome s old new o st _ _ told which has (of_file other text is line accepted gives) =
     ⊎_elim (λ low. inr low)
-    (λ ends. let g = (gives told).0 in let it = outcome_of_gives the_language s new.seen g.0 other text line g.2 ends in inl (one_status the_language s new.seen o it.0 st other has it.1 which it.2))
+    (λ ends. let g = (gives told).0 in let it = outcome_of_gives the_language s new.seen g.0 other text has.0 g.2 ends in inl (one_status the_language s new.seen o it.0 st other has it.1 which it.2))
     (low_or_outcome other st is (outcome_rank st (outcome_status o st which)))
 
 pub outcome_row : (x : Call) → IsTrue x.old.tells → Ends x → OutcomeRow the_language x
@@ -285,6 +285,7 @@ suspended_of_gives L s image D _ _ (end.not_a_history n why) is = absurd (cc is)
 suspended_of_gives L s image D _ _ (end.suspended why) is = why
 suspended_of_gives L s image D _ _ (end.ended o st has which) is = let no : false ≡ true = ap is_outcome (sym is) ∙ outcome_status o st which in absurd (cc no)
 suspended_of_gives L s image D _ _ (end.done text report) is = absurd (cc is)
+suspended_of_gives L s image D _ _ (end.told text tells) is = absurd (cc is)
 
 suspended_of_says : (s : Scene) (old new : World) (st : Status) (text : List ℕ) → IsTrue old.tells → Says s old new st text → st ≡ status.Suspended → Since old new.deeds (λ D. IsSuspended the_language s new.seen D)
 suspended_of_says s old new _ _ told (bad_line n bad) is = absurd (cc is)
@@ -320,10 +321,10 @@ where_suspended : (s : Scene) (old new : World) (D : List Deed) (other : Status)
 where_suspended s old new D _ _ told why (bad_line n bad) = inr (omega arith)
 where_suspended s old new D _ _ told why (bad_argument bad) = inr (omega arith)
 where_suspended s old new D _ _ told why (refused q is fine) = inr (omega arith)
-where_suspended s old new D _ _ told why (reported text report back) = absurd (executing s why.0.0 (reported_line s text report))
+where_suspended s old new D _ _ told why (reported text report back) = absurd (executing s why.0.0 (reported_idle s text report))
 where_suspended s old new D _ _ told why (of_file other text is line accepted gives) =
     ⊎_elim (λ here. here)
-    (λ over. let g = (gives told).0 in let it = outcome_of_gives the_language s new.seen g.0 other text line g.2 over in absurd (not_an_outcome the_language s new.seen it.0 other why.0 it.1 it.2))
+    (λ over. let g = (gives told).0 in let it = outcome_of_gives the_language s new.seen g.0 other text why.0.0 g.2 over in absurd (not_an_outcome the_language s new.seen it.0 other why.0 it.1 it.2))
     (low_suspended_or_outcome other is)
 
 pub suspended_row : (x : Call) → IsTrue x.old.tells → Ends x → SuspendedRow the_language x
@@ -336,14 +337,14 @@ suspended_row x told ends =
     }
 
 -- ## Reports
-report_of_says : (s : Scene) (old new : World) (st : Status) (text : List ℕ) → Says s old new st text → IsLineOf s (λ c. executes c ≡ false) → st ≡ status.Done → Reported s text
+report_of_says : (s : Scene) (old new : World) (st : Status) (text : List ℕ) → Says s old new st text → IsLineOf s (λ c. uses_journal c ≡ false) → st ≡ status.Done → Reported s text
 report_of_says s old new _ _ (bad_line n bad) line is = absurd (cc is)
 report_of_says s old new _ _ (bad_argument why) line is = absurd (cc is)
 report_of_says s old new _ _ (refused r why fine) line is = absurd (cc is)
 report_of_says s old new _ _ (reported text report back) line is = report
-report_of_says s old new _ _ (of_file st text isf line2 accepted gives) line is = absurd (executing s line2 line)
+report_of_says s old new _ _ (of_file st text isf line2 accepted gives) line is = absurd (not_both_journals s line2 line)
 
-done_comes : (x : Call) → Ends x → IsLineOf x.scene (λ c. executes c ≡ false) → x.status ≡ status.Done → (text : List ℕ) × Reported x.scene text × Prints x text
+done_comes : (x : Call) → Ends x → IsLineOf x.scene (λ c. uses_journal c ≡ false) → x.status ≡ status.Done → (text : List ℕ) × Reported x.scene text × Prints x text
 done_comes x (said text says prints) line is = (text, report_of_says x.scene x.old x.new x.status text says line is, prints)
 done_comes x (cut other text it says why some) line is = let no : status.PrintFault ≡ status.Done = sym it ∙ is in absurd (cc no)
 done_comes x (unread it rline fine rose prints) line is = let no : status.ReadFault ≡ status.Done = sym it ∙ is in absurd (cc no)
@@ -356,12 +357,57 @@ where_reported s old new shown _ _ report (bad_line n bad) = inr (omega arith)
 where_reported s old new shown _ _ report (bad_argument why) = inr (omega arith)
 where_reported s old new shown _ _ report (refused q why fine) = inr (omega arith)
 where_reported s old new shown _ _ report (reported text report2 back) = inl refl
-where_reported s old new shown _ _ report (of_file st text is line accepted gives) = absurd (executing s line (reported_line s shown report))
+where_reported s old new shown _ _ report (of_file st text is line accepted gives) = absurd (not_both_journals s line (reported_line s shown report))
 
 pub done_row : (x : Call) → Ends x → DoneRow x
 done_row x ends = record {
   comes = λ line is. done_comes x ends line is;
   only = λ shown report. yields x status.Done ends (λ other text says. where_reported x.scene x.old x.new shown other text report says) (λ run fine. omega arith) (λ runs taken. omega arith) (λ runs taken passed. omega arith);
+}
+
+-- ## Histories that are told of
+telling_of_gives : (L : Language) (s : Scene) (image : List ℕ) (D : List Deed) (st : Status) (text : List ℕ) → IsLineOf s (λ c. tells_history c ≡ true) → Gives L s image D st text → is_outcome st ≡ true → TellsHistory L s text × (st ≡ status.Done)
+telling_of_gives L s image D _ _ line (end.bad_line n bad) is = let no : false ≡ true = is in absurd (cc no)
+telling_of_gives L s image D _ _ line (end.bad_argument why) is = let no : false ≡ true = is in absurd (cc no)
+telling_of_gives L s image D _ _ line (end.refused r why) is = let no : false ≡ true = is in absurd (cc no)
+telling_of_gives L s image D _ _ line (end.not_a_journal why) is = let no : false ≡ true = is in absurd (cc no)
+telling_of_gives L s image D _ _ line (end.already_started why) is = let no : false ≡ true = is in absurd (cc no)
+telling_of_gives L s image D _ _ line (end.not_started why) is = let no : false ≡ true = is in absurd (cc no)
+telling_of_gives L s image D _ _ line (end.not_a_history n why) is = let no : false ≡ true = is in absurd (cc no)
+telling_of_gives L s image D _ _ line (end.suspended why) is = let no : false ≡ true = is in absurd (cc no)
+telling_of_gives L s image D _ _ line (end.ended o st has which) is = absurd (executing s has.0 (idle_tells s line))
+telling_of_gives L s image D _ _ line (end.done text report) is = absurd (not_both_journals s (needs_line s (tells_line s line)) (reported_line s text report))
+telling_of_gives L s image D _ _ line (end.told text tells) is = (tells, refl)
+
+telling_of_says : (s : Scene) (old new : World) (st : Status) (text : List ℕ) → IsTrue old.tells → IsLineOf s (λ c. tells_history c ≡ true) → Says s old new st text → st ≡ status.Done → TellsHistory the_language s text
+telling_of_says s old new _ _ told line (bad_line n bad) is = absurd (cc is)
+telling_of_says s old new _ _ told line (bad_argument why) is = absurd (cc is)
+telling_of_says s old new _ _ told line (refused r why fine) is = absurd (cc is)
+telling_of_says s old new _ _ told line (reported text report back) is = absurd (not_both_journals s (needs_line s (tells_line s line)) (reported_line s text report))
+telling_of_says s old new _ _ told line (of_file st text isf line2 accepted gives) is = let g = (gives told).0 in (telling_of_gives the_language s new.seen g.0 st text line g.2 (ap is_outcome is)).0
+
+telling_comes : (x : Call) → IsTrue x.old.tells → Ends x → IsLineOf x.scene (λ c. tells_history c ≡ true) → x.status ≡ status.Done → (text : List ℕ) × TellsHistory the_language x.scene text × Prints x text
+telling_comes x told (said text says prints) line is = (text, telling_of_says x.scene x.old x.new x.status text told line says is, prints)
+telling_comes x told (cut other text it says why some) line is = let no : status.PrintFault ≡ status.Done = sym it ∙ is in absurd (cc no)
+telling_comes x told (unread it rline fine rose prints) line is = let no : status.ReadFault ≡ status.Done = sym it ∙ is in absurd (cc no)
+telling_comes x told (failed it rline accepted rose prints) line is = let no : status.DiskFault ≡ status.Done = sym it ∙ is in absurd (cc no)
+telling_comes x told (unheard it rline accepted passed rose prints) line is = let no : status.PollFault ≡ status.Done = sym it ∙ is in absurd (cc no)
+telling_comes x told (no_memory it prints) line is = let no : status.OutOfMemory ≡ status.Done = sym it ∙ is in absurd (cc no)
+
+where_telling : (s : Scene) (old new : World) (shown : List ℕ) (other : Status) (text : List ℕ) → IsTrue old.tells → TellsHistory the_language s shown → Says s old new other text → IsOrBefore status.Done other
+where_telling s old new shown _ _ told tells (bad_line n bad) = inr (omega arith)
+where_telling s old new shown _ _ told tells (bad_argument why) = inr (omega arith)
+where_telling s old new shown _ _ told tells (refused q why fine) = inr (omega arith)
+where_telling s old new shown _ _ told tells (reported text report back) = inl refl
+where_telling s old new shown _ _ told tells (of_file other text is line accepted gives) =
+    ⊎_elim (λ low. inr low)
+    (λ ends. let g = (gives told).0 in inl (telling_of_gives the_language s new.seen g.0 other text (telling_line the_language s shown tells) g.2 ends).1)
+    (low_or_outcome other status.Done is refl)
+
+pub telling_row : (x : Call) → IsTrue x.old.tells → Ends x → TellingRow the_language x
+telling_row x told ends = record {
+  comes = λ line is. telling_comes x told ends line is;
+  only = λ shown tells. yields x status.Done ends (λ other text says. where_telling x.scene x.old x.new shown other text told tells says) (λ run fine. omega arith) (λ runs taken. omega arith) (λ runs taken passed. omega arith);
 }
 
 -- ## Sources that are accepted
@@ -387,7 +433,7 @@ layout_of_says s old new _ _ (bad_line n bad) line is = absurd (cc is)
 layout_of_says s old new _ _ (bad_argument why) line is = absurd (cc is)
 layout_of_says s old new _ _ (refused r why fine) line is = absurd (cc is)
 layout_of_says s old new _ _ (reported text report back) line is = back line
-layout_of_says s old new _ _ (of_file st text isf line2 accepted gives) line is = absurd (executing s line2 (format_reports s line))
+layout_of_says s old new _ _ (of_file st text isf line2 accepted gives) line is = absurd (not_both_journals s line2 (format_reports s line))
 
 pub comes_back_row : (x : Call) → Ends x → ComesBackRow x
 comes_back_row x (said text says prints) line is =

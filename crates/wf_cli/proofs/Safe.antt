@@ -8,7 +8,7 @@ use Rattle.wf_deeds.specs.Deeds.{polls, nows, poll_readings, greatest, reading_b
 use Rattle.wf_deeds.specs.Kept.{Command, Session, Kept, Answers, Decides, config, last_of}
 use Rattle.wf_deeds.specs.Outside.{Outside}
 use Rattle.wf_deeds.specs.Rules.{AnswersStand, RepliesAreMade, MayEnd, DeedKeepsRules, EndKeepsRules}
-use Rattle.wf_engine.specs.Printed.{Scene, Reports, Reads, Gives, bad_line, bad_argument, refused, not_a_journal, already_started, not_started, not_a_history, suspended, ended, done}
+use Rattle.wf_engine.specs.Printed.{Scene, Reports, Reads, Gives, bad_line, bad_argument, refused, not_a_journal, already_started, not_started, not_a_history, suspended, ended, done, told}
 use Rattle.wf_engine.specs.Safe.{IsPrefix, session, StartIsOfTheLine, PrintedIsOutcome, IsLate, Safe}
 use Rattle.wf_engine.specs.Starts.{start_of}
 use Rattle.wf_events.specs.Records.{Started}
@@ -124,6 +124,7 @@ gives_behind L R s image D P _ _ prints (not_a_history n why) = not_a_history n 
 gives_behind L R s image D P _ _ prints (suspended why) = suspended (why.0, (why.1.0, why.1.1, polls_behind D P prints ∙ why.1.2))
 gives_behind L R s image D P _ _ prints (ended o st has is) = ended o st has is
 gives_behind L R s image D P _ _ prints (done text report) = done text report
+gives_behind L R s image D P _ _ prints (told text tells) = told text tells
 
 -- what these prints printed is the front of a text that the command has cause to print behind these deeds
 abbrev pub IsFront : Language → Reports → Scene → List ℕ → List Deed → List Deed → Type 0

@@ -1,11 +1,11 @@
 -- What is said where a cause holds: the status of this cause, or one that is looked at before.
 use Rattle.std.proofs.Common.{◌≡◌, ◌<◌, ◌⊎◌, inl, inr, ⊎_elim, IsTrue, ℕ, true, false, List, None, Some, Result, Err, refl, sym, ◌∙◌, ap, subst, arith}
 use Rattle.std.proofs.lemmas.Bool.{cases_lt}
-use Rattle.wf_cli.proofs.Causes.{same_ok, same_err, both, no_bad_line, executing, run_executes, resume_executes, reported_line, refused_line, argument_line, no_bad_argument, Cause, gives_cause}
+use Rattle.wf_cli.proofs.Causes.{same_ok, same_err, both, no_bad_line, not_both_journals, run_executes, needs_line, reported_idle, reported_line, refused_line, argument_line, no_bad_argument, Cause, gives_cause}
 use Rattle.wf_cli.specs.Reports.{layout_of, the_reports}
 use Rattle.wf_cli.specs.Top.{IsLineOf, IsBadLine, IsBadArgument, IsRefused, IsNoHistory, Reported, Gives, IsOfFile, IsPassed, Says, bad_line, bad_argument, refused, reported, of_file}
 use Rattle.wf_engine.specs.Printed as end
-use Rattle.wf_engine.specs.Printed.{Scene, uses_source, executes, refuses}
+use Rattle.wf_engine.specs.Printed.{Scene, uses_source, uses_journal, executes, refuses}
 use Rattle.wf_engine.specs.TheLanguage.{the_language}
 use Rattle.wf_host.specs.Source.{Rest, IsFirst, WhereTold}
 use Rattle.wf_host.specs.World.{World}
@@ -13,7 +13,7 @@ use Rattle.wf_host.specs.declared.data.Deed.{Deed}
 use Rattle.wf_journal.specs.Records.{records}
 use Rattle.wf_args.specs.Lines.{PlainLine, line_of}
 use Rattle.wf_args.specs.declared.command.Command.{Command}
-use Rattle.wf_args.specs.declared.command.Command.TheVariants.{Check, Format, Run, Resume, Help, Version}
+use Rattle.wf_args.specs.declared.command.Command.TheVariants.{Check, Format, Run, Resume, Show, At, Log, Help, Version}
 use Rattle.wf_journal_laws.specs.History.{history}
 use Rattle.wf_journal_laws.specs.Language.{Language}
 use Rattle.wf_status.specs.Statuses.{rank}
@@ -33,15 +33,15 @@ pub where_bad_line : (s : Scene) (old new : World) (n : ℕ) (other : Status) (t
 where_bad_line s old new n _ _ bad (bad_line m is) = inl (ap status.BadLine (same_err (line_of s.words) m n is bad))
 where_bad_line s old new n _ _ bad (bad_argument why) = absurd (no_bad_line s (λ c. executes c ≡ true) n (run_executes s (argument_line s why)) bad)
 where_bad_line s old new n _ _ bad (refused r why fine) = absurd (no_bad_line s (λ c. uses_source c ≡ true) n (refused_line s r why) bad)
-where_bad_line s old new n _ _ bad (reported text report back) = absurd (no_bad_line s (λ c. executes c ≡ false) n (reported_line s text report) bad)
-where_bad_line s old new n _ _ bad (of_file st text is line accepted gives) = absurd (no_bad_line s (λ c. executes c ≡ true) n line bad)
+where_bad_line s old new n _ _ bad (reported text report back) = absurd (no_bad_line s (λ c. uses_journal c ≡ false) n (reported_line s text report) bad)
+where_bad_line s old new n _ _ bad (of_file st text is line accepted gives) = absurd (no_bad_line s (λ c. uses_journal c ≡ true) n line bad)
 
 -- ## An argument that is bad
 pub where_bad_argument : (s : Scene) (old new : World) (other : Status) (text : List ℕ) → IsBadArgument s → Says s old new other text → IsOrBefore status.BadArgument other
 where_bad_argument s old new _ _ bad (bad_line m is) = inr (omega arith)
 where_bad_argument s old new _ _ bad (bad_argument why) = inl refl
 where_bad_argument s old new _ _ bad (refused r why fine) = absurd (fine bad)
-where_bad_argument s old new _ _ bad (reported text report back) = absurd (no_bad_argument s (reported_line s text report) bad)
+where_bad_argument s old new _ _ bad (reported text report back) = absurd (no_bad_argument s (reported_idle s text report) bad)
 where_bad_argument s old new _ _ bad (of_file st text is line taken gives) = absurd (taken.argument bad)
 
 -- ## A source that is refused
@@ -62,6 +62,9 @@ refuses_once law Check bytes q r is js = law bytes q r is js
 refuses_once law Format bytes q r is js = same_err (read_tree bytes) q r is js
 refuses_once law Run bytes q r is js = law bytes q r is js
 refuses_once law Resume bytes q r is js = absurd is
+refuses_once law Show bytes q r is js = absurd is
+refuses_once law At bytes q r is js = absurd is
+refuses_once law Log bytes q r is js = absurd is
 refuses_once law Help bytes q r is js = absurd is
 refuses_once law Version bytes q r is js = absurd is
 
@@ -167,12 +170,12 @@ same_history L s image D text n other why is gives equal =
     found.1 ∙ ap status.NotAHistory (same_err (history L (records s.found)) found.0 n why2.1 why.1)
 
 -- where a cause of the file holds, and the host tells: nothing behind it comes, and no other status of its rank
-pub where_of_file : (s : Scene) (old new : World) (st other : Status) (text : List ℕ) → IsTrue old.tells → 4 < rank st → IsLineOf s (λ c. executes c ≡ true) → ((q : Status) → IsPassed the_language s q → rank st < rank q → ⊥)
+pub where_of_file : (s : Scene) (old new : World) (st other : Status) (text : List ℕ) → IsTrue old.tells → 4 < rank st → IsLineOf s (λ c. uses_journal c ≡ true) → ((q : Status) → IsPassed the_language s q → rank st < rank q → ⊥)
     → ((q : Status) → IsOfFile q → rank q ≡ rank st → q ≡ st) → Says s old new other text → IsOrBefore st other
 where_of_file s old new st _ _ told low line never alone (bad_line m is) = inr (omega (arith, low))
 where_of_file s old new st _ _ told low line never alone (bad_argument why) = inr (omega (arith, low))
 where_of_file s old new st _ _ told low line never alone (refused q is fine) = inr (omega (arith, low))
-where_of_file s old new st _ _ told low line never alone (reported text report back) = absurd (executing s line (reported_line s text report))
+where_of_file s old new st _ _ told low line never alone (reported text report back) = absurd (not_both_journals s line (reported_line s text report))
 where_of_file s old new st _ _ told low line never alone (of_file other text is runs accepted gives) = ordered st other is (λ high. never other (gives told).1 high) (alone other is)
 
 -- where the records are no history, and the host tells
@@ -180,7 +183,7 @@ pub where_no_history : (s : Scene) (old new : World) (n : ℕ) (other : Status) 
 where_no_history s old new n _ _ told why (bad_line m is) = inr (omega arith)
 where_no_history s old new n _ _ told why (bad_argument bad) = inr (omega arith)
 where_no_history s old new n _ _ told why (refused q is fine) = inr (omega arith)
-where_no_history s old new n _ _ told why (reported text report back) = absurd (executing s (resume_executes s why.0) (reported_line s text report))
+where_no_history s old new n _ _ told why (reported text report back) = absurd (not_both_journals s (needs_line s why.0) (reported_line s text report))
 where_no_history s old new n _ _ told why (of_file other text is line accepted gives) =
     let g = (gives told).0 in
     ordered (status.NotAHistory n) other is (λ low. (gives told).1.history n low why) (same_history the_language s new.seen g.0 text n other why is g.2)

@@ -3,7 +3,7 @@ use Rattle.std.proofs.Common.{◌≡◌, ◌⊎◌, ◌≢◌, inl, inr, ⊎_eli
 use Rattle.std.specs.Prelude.{codes, decimal}
 use Rattle.std.proofs.lemmas.List.{append-nil}
 use Rattle.wf_ast.specs.Tree.{Program}
-use Rattle.wf_cli.proofs.Causes.{same_ok, same_err, same_some, both, not_both, executing, no_argument, good_argument, argument_line, one_command, reported_line}
+use Rattle.wf_cli.proofs.Causes.{same_ok, same_err, same_some, both, not_both, executing, executes_line, not_both_journals, no_argument, good_argument, argument_line, one_command, reported_line}
 use Rattle.wf_cli.proofs.Deeds.{polls_both, printed_both}
 use Rattle.wf_cli.proofs.Safe.{of_command, IsPlainEnd, plain_end, still_end}
 use Rattle.wf_cli.proofs.Together.{where_told, same_bytes}
@@ -25,7 +25,7 @@ use Rattle.wf_deeds.specs.Outside.{Outside}
 use Rattle.wf_deeds.specs.Rules.{MayEnd}
 use Rattle.wf_engine.specs.Engine.{memory}
 use Rattle.wf_engine.specs.Printed as end
-use Rattle.wf_engine.specs.Printed.{Scene, uses_source, executes, status_of, accepted_text}
+use Rattle.wf_engine.specs.Printed.{Scene, uses_source, uses_journal, executes, status_of, accepted_text}
 use Rattle.wf_engine.specs.Safe.{IsFit, Since, SafeAt, session}
 use Rattle.wf_engine.specs.Starts.{HasArgument}
 use Rattle.wf_engine.specs.TheLanguage.{the_language}
@@ -165,7 +165,7 @@ plain_code : (it : Said) (st : Status) → it.status ≡ st → IsPlainEnd (stat
 plain_code it st is plain = subst (λ x. IsPlainEnd (status_code x)) (sym is) plain
 
 -- the status and the line of a fault, of which the rules ask nothing at the end
-fault_gives : (L : Language) (s : Scene) (f : EngineFault) (it : Said) → FaultHolds L s f → SaysFault f (Ok it) → ((image : List ℕ) (D : List Deed) → Gives L s image D it.status it.text.items) × IsPassed L s it.status × IsPlainEnd (status_code it.status)
+pub fault_gives : (L : Language) (s : Scene) (f : EngineFault) (it : Said) → FaultHolds L s f → SaysFault f (Ok it) → ((image : List ℕ) (D : List Deed) → Gives L s image D it.status it.text.items) × IsPassed L s it.status × IsPlainEnd (status_code it.status)
 fault_gives L s engine.DiskFault it holds says = absurd (cc says)
 fault_gives L s engine.PollFault it holds says = absurd holds
 fault_gives L s engine.NotAJournal it holds says =
@@ -187,7 +187,7 @@ no_fit L s n why passed (inr (inl (begins, none))) = passed.not_started (omega a
 no_fit L s n why passed (inr (inr (begins, (st, is)))) = not_both (history L (records s.found)) st n is why.1
 
 -- what a status behind the opening's sync tells
-fault_late : (O : Outside) (s : Scene) (old new : World) (f : EngineFault) (it : Said) → FaultHolds the_language s f → ((f ≡ engine.AlreadyStarted) ⊎ (f ≡ engine.NotStarted) → LateNow the_language O s old new) → SaysFault f (Ok it) → IsBehindSync s it.status → LateNow the_language O s old new
+pub fault_late : (O : Outside) (s : Scene) (old new : World) (f : EngineFault) (it : Said) → FaultHolds the_language s f → ((f ≡ engine.AlreadyStarted) ⊎ (f ≡ engine.NotStarted) → LateNow the_language O s old new) → SaysFault f (Ok it) → IsBehindSync s it.status → LateNow the_language O s old new
 fault_late O s old new engine.DiskFault it holds late says behind = absurd (cc says)
 fault_late O s old new engine.PollFault it holds late says behind = absurd holds
 fault_late O s old new engine.NotAJournal it holds late says behind = absurd (subst (IsBehindSync s) says.status behind)
@@ -228,7 +228,7 @@ fault_silence engine.Suspended e says = inr (inr says)
 fault_silence engine.Closed e says = inr (inr (err_is e silence.OutOfMemory says))
 fault_silence engine.OutOfMemory e says = inr (inr (err_is e silence.OutOfMemory says))
 
-pub end_fault : (s : Scene) (old new : World) (a b : ℕ) (f g : Faults) (why : EngineFault) (r : Result Said Silence) → SaysFault why r → IsLineOf s (λ c. executes c ≡ true) → IsTaken s → Told old (FaultHolds the_language s why) → Told old (DoneSilently old new)
+pub end_fault : (s : Scene) (old new : World) (a b : ℕ) (f g : Faults) (why : EngineFault) (r : Result Said Silence) → SaysFault why r → IsLineOf s (λ c. uses_journal c ≡ true) → IsTaken s → Told old (FaultHolds the_language s why) → Told old (DoneSilently old new)
     → (why ≡ engine.DiskFault → Rose f.disk g.disk) → why ≢ engine.PollFault → IsEnd s old new a b f g r
 end_fault s old new a b f g why (Ok it) says line taken holds silently rose heard =
     of_file it.status it.text.items (fault_of_file why it says) line taken (λ told. let x = fault_gives the_language s why it (holds told) says in let did = silently told in ((did.done, did.deeds, x.0 new.seen did.done), x.1))
@@ -349,9 +349,9 @@ module _ (O : Outside) (s : Scene) (l : PlainLine) (is_line : line_of s.words �
 pub end_going : (s : Scene) (old new : World) (a b : ℕ) (f g h : Faults) (r : Result Said Silence) → SaysResult g h r → IsLineOf s (λ c. executes c ≡ true) → IsTaken s
     → Told old (HasNoCauseInFile the_language s × IfOk r (λ it. Since old new.deeds (λ D. Gives the_language s new.seen D it.status it.text.items))) → (Rose g.disk h.disk → Rose f.disk h.disk) → (Rose g.poll h.poll → Rose f.poll h.poll) → IsEnd s old new a b f h r
 end_going s old new a b f g h (Ok it) says line taken gives rose heard =
-    of_file it.status it.text.items (⊎_elim (λ (o, result, that). outcome_of_file o it.status that.status) (λ that. inr (inr (inr (inr (inl that.status))))) says) line taken (λ told. let x = gives told in (x.1, passed_all the_language s it.status x.0))
+    of_file it.status it.text.items (⊎_elim (λ (o, result, that). outcome_of_file o it.status that.status) (λ that. inr (inr (inr (inr (inl that.status))))) says) (executes_line s line) taken (λ told. let x = gives told in (x.1, passed_all the_language s it.status x.0))
 end_going s old new a b f g h (Err silence.Unread) says line taken gives rose heard = absurd says
-end_going s old new a b f g h (Err silence.DiskFault) says line taken gives rose heard = (line, taken, rose says)
+end_going s old new a b f g h (Err silence.DiskFault) says line taken gives rose heard = (executes_line s line, taken, rose says)
 end_going s old new a b f g h (Err silence.PollFault) says line taken gives rose heard = (line, taken, (λ told. passed_all the_language s status.PollFault (gives told).0), heard says)
 end_going s old new a b f g h (Err silence.OutOfMemory) says line taken gives rose heard = tt
 
@@ -372,7 +372,7 @@ report_end s w a b f g text (Err e) report back says = lack_end s w a b f g e sa
 
 pub report_worked : (O : Outside) (s : Scene) (w : World) (text : List ℕ) (r : Result Said Silence) → Reported s text → SaysReport text r → OnlyNow w → Worked O s w w r
 report_worked O s w text (Ok it) report says only =
-    worked_nothing O s w (Ok it) only (gives_report the_language s text it report says) (λ behind. executing s (subst (IsBehindSync s) says.0 behind) (reported_line s text report))
+    worked_nothing O s w (Ok it) only (gives_report the_language s text it report says) (λ behind. not_both_journals s (subst (IsBehindSync s) says.0 behind) (reported_line s text report))
 report_worked O s w text (Err e) report says only = lack_worked O s w e only
 
 -- words that are no line

@@ -1,5 +1,5 @@
 -- What the top call promises of a call: each row by its name.
-use Rattle.wf_cli.specs.Top.{Call, Ends, BadLineRow, BadArgumentRow, ReadFaultRow, RefusedRow, DiskFaultRow, NotAJournalRow, AlreadyStartedRow, NotStartedRow, NotAHistoryRow, SuspendedRow, OutcomeRow, DoneRow, AcceptedRow, ComesBackRow, PrintFaultRow, PollFaultRow, Completes, FinishedStays, RefusedStays, ReportsStay, SilentStays, SafeThroughout, SafeAtEnd, LateAtEnd}
+use Rattle.wf_cli.specs.Top.{Call, Ends, BadLineRow, BadArgumentRow, ReadFaultRow, RefusedRow, DiskFaultRow, NotAJournalRow, AlreadyStartedRow, NotStartedRow, NotAHistoryRow, SuspendedRow, OutcomeRow, DoneRow, TellingRow, AcceptedRow, ComesBackRow, PrintFaultRow, PollFaultRow, Completes, FinishedStays, RefusedStays, ReportsStay, SilentStays, SafeThroughout, SafeAtEnd, LateAtEnd}
 use Rattle.wf_engine.specs.TheLanguage.{the_language}
 use Rattle.wf_host.specs.World.{Told}
 
@@ -23,16 +23,18 @@ pub record Promised (x : Call) : Type 0 where
   pub not_a_journal : Told x.old (NotAJournalRow x)
   -- `run` finds a first record
   pub already_started : Told x.old (AlreadyStartedRow x)
-  -- `resume` finds none
+  -- a command that needs a history finds none
   pub not_started : Told x.old (NotStartedRow x)
-  -- `resume` finds records that are no history
+  -- a command that needs a history finds records that are none
   pub not_a_history : Told x.old (NotAHistoryRow the_language x)
   -- at the end the journal has no outcome, and the call has polled as often as it may
   pub suspended : Told x.old (SuspendedRow the_language x)
   -- Done and Raised of a command that executes: the outcome that the journal has at the end
   pub outcome : Told x.old (OutcomeRow the_language x)
-  -- Done of another command: its report
+  -- Done of a command that uses no journal: its report
   pub done : DoneRow x
+  -- Done of a command that tells of a history: what is told of the one that was found
+  pub telling : Told x.old (TellingRow the_language x)
   -- `check` prints `accepted` exactly where the checker accepts the source
   pub accepted : AcceptedRow x
   -- the tree is read back from the layout that `format` printed

@@ -1,5 +1,5 @@
 -- What the code of a command has found out before it prints.
-use Rattle.std.specs.Prelude.{◌≡◌, ◌≢◌, ◌⊎◌, ℕ, true, false, List, [], ◌∷◌, ◌++◌, Contains, Some, None, Result, Ok, Err, IfOk, IfErr}
+use Rattle.std.specs.Prelude.{◌≡◌, ◌≢◌, ◌⊎◌, ◌≤◌, ℕ, true, false, List, [], ◌∷◌, ◌++◌, length, take, Contains, Option, Some, None, Result, Ok, Err, IfOk, IfErr, OnOk, IsErrOf, String, string_bytes}
 use Rattle.std.specs.List.{AllByRecursion}
 use Rattle.wf_ast.specs.Tree.{Program}
 use Rattle.wf_cli.specs.Reports.{the_reports}
@@ -17,7 +17,7 @@ use Rattle.wf_deeds.specs.Outside.{Outside}
 use Rattle.wf_deeds.specs.Rules.{MayEnd}
 use Rattle.wf_engine.specs.Engine.{memory}
 use Rattle.wf_engine.specs.Printed as end
-use Rattle.wf_engine.specs.Printed.{Scene, uses_source, executes, status_of, outcome_text, accepted_text}
+use Rattle.wf_engine.specs.Printed.{Scene, uses_source, uses_journal, executes, status_of, outcome_text, accepted_text}
 use Rattle.wf_engine.specs.Safe.{IsFit, Since, SafeAt, LateAt, command_by, session}
 use Rattle.wf_engine.specs.Starts.{start_of}
 use Rattle.wf_engine.specs.TheLanguage.{the_language}
@@ -31,18 +31,23 @@ use Rattle.wf_host.specs.World.{World, Faults, Told, Only, LeavesOnly, Rose}
 use Rattle.wf_host.specs.declared.ReadFault.{ReadFault}
 use Rattle.wf_host.specs.declared.ReadFault.TheVariants as fault
 use Rattle.wf_host.specs.declared.data.Deed.{Deed}
-use Rattle.wf_journal.specs.Records.{records}
+use Rattle.wf_journal.specs.Records.{magic, records}
 use Rattle.wf_journal.specs.Steps.{Moment}
 use Rattle.wf_args.specs.Lines.{PlainLine, line_of}
-use Rattle.wf_args.specs.declared.command.Command.TheVariants.{Resume}
+use Rattle.wf_args.specs.declared.command.Command.{Command}
+use Rattle.wf_args.specs.declared.command.Command.TheVariants.{Resume, Log}
 use Rattle.wf_args.specs.declared.read.LineFault.{LineFault}
 use Rattle.wf_args.specs.declared.read.LineFault.TheVariants as words
 use Rattle.wf_machine.specs.Outcome.{IsResult}
-use Rattle.wf_model.specs.Config.{Outcome, Active}
+use Rattle.wf_model.specs.Config.{Config, Outcome, Active}
 use Rattle.wf_host.specs.Printing.{PrintsFront, PrintsWhole, LeavesSome, TookNothing, PrintedSoFar}
 use Rattle.wf_journal_laws.specs.At.{journal, next_session}
 use Rattle.wf_journal_laws.specs.History.{Standing, history}
 use Rattle.wf_journal_laws.specs.Language.{Language}
+use Rattle.wf_journal_laws.specs.Laws.{IsHistory}
+use Rattle.wf_report.specs.Journals.{MayHaveRecords}
+use Rattle.wf_report.specs.Texts.{logged, shown}
+use Rattle.std.specs.declared.alloc.Global.{Global}
 use Rattle.wf_status.specs.Statuses.{status_code, status_text}
 use Rattle.wf_source.specs.Programs.{IsRefusalOf, IsSourceOf}
 use Rattle.wf_source.specs.Sources.{read_tree}
@@ -204,6 +209,35 @@ pub record Opening (O : Outside) (command : kept.Command) (s : Scene) (old new :
   pub resumed : command ≡ kept.Resume → Unwritten old new
   pub finished : (st : Standing) → IsLineOf s (λ c. c ≡ Resume) → history the_language (records s.found) ≡ Ok st → st.config.outcome ≢ Active → new.deeds ≡ old.deeds
 
+-- ## Telling of a history
+-- the text of a history that leads to this configuration, under `show` and `log`
+abbrev pub text_by : Command → Option (List ℕ) → Config → List ℕ
+text_by Log grep c = logged grep c.log
+text_by k grep c = shown c
+
+-- what is said of a history that was read, or why nothing is told of it
+abbrev pub SaysTelling : Result (String Global) EngineFault → Result Said Silence → Type 0
+SaysTelling (Ok text) r = SaysReport (string_bytes text) r
+SaysTelling (Err f) r = SaysFault f r
+
+-- a text of a line that tells of a history, where these are the records that are found
+abbrev pub TellsOf : PlainLine → List (List ℕ) → List ℕ → Type 0
+TellsOf l J text = (s : Scene) → end.IsLine s l → records s.found ≡ J → end.TellsHistory the_language the_reports s text
+
+-- A journal was read for a report, where the host tells: the text, or why there is none. Nothing else was done.
+pub record ReadsJournal (l : PlainLine) (old new : World) (r : Result (String Global) EngineFault) : Type 0 where
+  pub told : IfOk r (λ text. TellsOf l (records old.seen) (string_bytes text))
+  pub begins : OnOk r (take 4 old.seen ≡ magic)
+  pub history : OnOk r (IsHistory the_language (records old.seen))
+  pub not_a_journal : IsErrOf r engine.NotAJournal → (5 ≤ length old.seen) × (take 4 old.seen ≢ magic)
+  pub not_started : IsErrOf r engine.NotStarted → (records old.seen ≡ []) × MayHaveRecords old.seen
+  pub not_a_history : IfErr r (λ e. (n : ℕ) → e ≡ engine.NotAHistory n → (history the_language (records old.seen) ≡ Err n) × (records old.seen ≢ []) × (take 4 old.seen ≡ magic))
+  pub settled : OnOk r (Only new.seen new.may_leave)
+  pub settled_empty : IsErrOf r engine.NotStarted → Only new.seen new.may_leave
+  pub seen : new.seen ≡ old.seen
+  pub any_moment : LeavesOnly old new (λ c d. old.may_leave c × (d ≡ old.deeds))
+  pub deeds : new.deeds ≡ old.deeds
+
 -- ## Going on to the outcome
 -- an outcome is said, or that there is none yet, or the disk failed, or there was no memory
 abbrev pub SaysResult : Faults → Faults → Result Said Silence → Type 0
@@ -237,7 +271,7 @@ pub record Going (L : Language) (O : Outside) (command : kept.Command) (m : Memo
 abbrev pub IsEnd : Scene → World → World → ℕ → ℕ → Faults → Faults → Result Said Silence → Type 0
 IsEnd s old new reads reads2 faults faults2 (Ok said) = Says s old new said.status said.text.items
 IsEnd s old new reads reads2 faults faults2 (Err silence.Unread) = IsLineOf s (λ c. uses_source c ≡ true) × ¬ IsBadArgument s × Rose reads reads2
-IsEnd s old new reads reads2 faults faults2 (Err silence.DiskFault) = IsLineOf s (λ c. executes c ≡ true) × IsTaken s × Rose faults.disk faults2.disk
+IsEnd s old new reads reads2 faults faults2 (Err silence.DiskFault) = IsLineOf s (λ c. uses_journal c ≡ true) × IsTaken s × Rose faults.disk faults2.disk
 IsEnd s old new reads reads2 faults faults2 (Err silence.PollFault) = IsLineOf s (λ c. executes c ≡ true) × IsTaken s × Told old (IsPassed the_language s status.PollFault) × Rose faults.poll faults2.poll
 IsEnd s old new reads reads2 faults faults2 (Err silence.OutOfMemory) = Unit {0}
 

@@ -6,7 +6,7 @@ use Rattle.std.specs.List.{AllByRecursion}
 use Rattle.wf_cli.specs.Reports.{the_reports}
 use Rattle.wf_deeds.specs.Deeds.{printed}
 use Rattle.wf_engine.specs.Printed as end
-use Rattle.wf_engine.specs.Printed.{Scene, uses_source, executes, status_of, outcome_text, accepted_text}
+use Rattle.wf_engine.specs.Printed.{Scene, uses_source, executes, status_of, outcome_text, accepted_text, uses_journal, tells_history}
 pub use Rattle.wf_engine.specs.Printed.{IsLine, IsBadLine, IsBadArgument, IsLineOf, IsRefused, IsChecked, HasOtherMagic, IsStarted, IsNotStarted}
 use Rattle.wf_engine.specs.Safe.{IsFit, Since, SafeAt, LateAt}
 use Rattle.wf_engine.specs.TheLanguage.{the_language}
@@ -51,6 +51,9 @@ HasOutcome L s image o = end.HasOutcome L the_reports s image o
 
 abbrev pub Reported : Scene → List ℕ → Type 0
 Reported s text = end.Reported the_reports s text
+
+abbrev pub TellsHistory : Language → Scene → List ℕ → Type 0
+TellsHistory L s text = end.TellsHistory L the_reports s text
 
 abbrev pub IsSuspended : Language → Scene → List ℕ → List Deed → Type 0
 IsSuspended L s image D = end.IsSuspended L the_reports s image D
@@ -109,11 +112,11 @@ pub data Says (s : Scene) (old new : World) : Status → List ℕ → Type 0 whe
   bad_argument : IsBadArgument s → Says s old new status.BadArgument (line_end (codes "bad argument"))
   refused : (r : Refusal) → IsRefused s r → ¬ IsBadArgument s → Says s old new (status.Refused r) (line_end (refusal_text r))
   reported : (text : List ℕ) → Reported s text → ReadsBack s text → Says s old new status.Done text
-  of_file : (st : Status) (text : List ℕ) → IsOfFile st → IsLineOf s (λ c. executes c ≡ true) → IsTaken s → Told old (Since old new.deeds (λ D. Gives the_language s new.seen D st text) × IsPassed the_language s st) → Says s old new st text
+  of_file : (st : Status) (text : List ℕ) → IsOfFile st → IsLineOf s (λ c. uses_journal c ≡ true) → IsTaken s → Told old (Since old new.deeds (λ D. Gives the_language s new.seen D st text) × IsPassed the_language s st) → Says s old new st text
 
 -- what the status tells was read behind the opening's sync
 abbrev pub IsBehindSync : Scene → Status → Type 0
-IsBehindSync s status.Done = IsLineOf s (λ c. executes c ≡ true)
+IsBehindSync s status.Done = IsLineOf s (λ c. uses_journal c ≡ true)
 IsBehindSync s status.Raised = IsLineOf s (λ c. executes c ≡ true)
 IsBehindSync s status.AlreadyStarted = Unit {0}
 IsBehindSync s status.NotStarted = Unit {0}
@@ -146,7 +149,7 @@ module _ (x : Call) where
     said : (text : List ℕ) → Says x.scene x.old x.new x.status text → Prints text → Ends
     cut : (st : Status) (text : List ℕ) → x.status ≡ status.PrintFault → Says x.scene x.old x.new st text → Rose x.faults_old.print x.faults_new.print ⊎ TookNothing → PrintsSome text → Ends
     unread : x.status ≡ status.ReadFault → IsLineOf x.scene (λ c. uses_source c ≡ true) → ¬ IsBadArgument x.scene → Rose x.reads_old x.reads_new → Prints [] → Ends
-    failed : x.status ≡ status.DiskFault → IsLineOf x.scene (λ c. executes c ≡ true) → IsTaken x.scene → Rose x.faults_old.disk x.faults_new.disk → Prints [] → Ends
+    failed : x.status ≡ status.DiskFault → IsLineOf x.scene (λ c. uses_journal c ≡ true) → IsTaken x.scene → Rose x.faults_old.disk x.faults_new.disk → Prints [] → Ends
     unheard : x.status ≡ status.PollFault → IsLineOf x.scene (λ c. executes c ≡ true) → IsTaken x.scene → Told x.old (IsPassed the_language x.scene status.PollFault) → Rose x.faults_old.poll x.faults_new.poll → Prints [] → Ends
     no_memory : x.status ≡ status.OutOfMemory → Prints [] → Ends
 
@@ -206,9 +209,9 @@ module _ (L : Language) (x : Call) where
     pub only : (o : Outcome) (st : Status) → status_of o ≡ Some st → HasOutcome L x.scene x.new.seen o → IsOrYields x st
 
 module _ (x : Call) where
-  -- of another command: its report
+  -- of a command that uses no journal: its report
   pub record DoneRow : Type 0 where
-    pub comes : IsLineOf x.scene (λ c. executes c ≡ false) → x.status ≡ status.Done → (text : List ℕ) × Reported x.scene text × Prints x text
+    pub comes : IsLineOf x.scene (λ c. uses_journal c ≡ false) → x.status ≡ status.Done → (text : List ℕ) × Reported x.scene text × Prints x text
     pub only : (text : List ℕ) → Reported x.scene text → IsOrYields x status.Done
 
   -- of `check`: just `accepted`, exactly of a source that is a program which the checker accepts; else the row of refused sources
@@ -222,6 +225,12 @@ module _ (x : Call) where
 
   abbrev pub PrintFaultRow : Type 0
   PrintFaultRow = x.status ≡ status.PrintFault → Rose x.faults_old.print x.faults_new.print ⊎ TookNothing x
+
+module _ (L : Language) (x : Call) where
+  -- of a command that tells of a history: what is told of the one that was found
+  pub record TellingRow : Type 0 where
+    pub comes : IsLineOf x.scene (λ c. tells_history c ≡ true) → x.status ≡ status.Done → (text : List ℕ) × TellsHistory L x.scene text × Prints x text
+    pub only : (text : List ℕ) → TellsHistory L x.scene text → IsOrYields x status.Done
 
 -- ## Completeness
 module _ (L : Language) (x : Call) where

@@ -11,18 +11,18 @@ ghost use Rattle.wf_engine.specs.Starts.{HasArgument, argument_text, kept_routes
 ghost use Rattle.wf_engine.specs.TheLanguage.{the_language};
 ghost use Rattle.wf_engine.specs.TheOutside.{InTheOutside};
 ghost use Rattle.wf_events.specs.Records.{Started};
-ghost use Rattle.wf_events.specs.Spelling.{record_bytes, route, HasSpelling, IsRoute};
+ghost use Rattle.wf_events.specs.Spelling.{record_bytes, route, HasSpelling, IsPair, IsRoute};
 ghost use Rattle.wf_events.specs.View.{route_view, start_view};
 ghost use Rattle.wf_host.specs.Source.{Rest, IsFirst};
 ghost use Rattle.wf_host.specs.Calls.{DiskFailed, NoCountFalls, TellsAsBefore};
 ghost use Rattle.wf_host.specs.World.{Told};
 ghost use Rattle.wf_host.specs.declared.data.Deed.{Deed};
 ghost use Rattle.wf_journal.specs.Records.{records};
-ghost use Rattle.wf_args.specs.Lines.{line_of, word_of};
+ghost use Rattle.wf_args.specs.Lines.{env_of, line_of, word_of};
 ghost use Rattle.wf_args.specs.Plain.{plain_line};
 ghost use Rattle.wf_args.specs.declared.command.Command.TheVariants.{Run, Resume};
 ghost use Rattle.wf_args.specs.declared.option.OptionName.TheVariants.{Id};
-ghost use Rattle.wf_record_parts.specs.Spelling.{Each, listed};
+ghost use Rattle.wf_record_parts.specs.Spelling.{Each, listed, pair};
 ghost use Rattle.wf_source.specs.Programs.{IsSourceOf};
 
 use crate::argument::read_argument;
@@ -85,6 +85,22 @@ fn routes_for(alloc: Global, line: &Line<'_>) -> Result<Routes, OutOfMemory>
     Ok(routes)
 }
 
+/// The environment of the line, in order.
+fn env_for(alloc: Global, line: &Line<'_>) -> Result<Pairs, OutOfMemory>
+    ensures same { IfOk result (λ p. p ≡ env_of (plain_line line.now)) }
+    ensures spelled { IfOk result (λ p. Each IsPair p) }
+    ensures short { IfOk result (λ p. length (listed pair p) ≤ 1310864) }
+{
+    let mut env = Pairs::new(alloc);
+    let mut index = 0;
+    while let Some(parts) = line.env(index) {
+        let key = utf8_text(alloc, parts.key)?;
+        env.push(key, utf8_text(alloc, parts.value)?)?;
+        index += 1;
+    }
+    Ok(env)
+}
+
 /// What an execution of the source is started with, given the text of the line's argument.
 fn start_for(
     alloc: Global,
@@ -107,7 +123,7 @@ fn start_for(
         source: Bytes::new(alloc, source)?,
         argument,
         routes: routes_for(alloc, line)?,
-        env: Pairs::new(alloc),
+        env: env_for(alloc, line)?,
         base: Text::new(alloc, "")?,
         reading,
     })

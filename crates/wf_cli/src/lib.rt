@@ -9,6 +9,7 @@ mod checking;
 mod end;
 mod execution;
 mod formatting;
+mod reporting;
 mod top;
 
 pub use top::{perform, run_line};

@@ -14,6 +14,7 @@ use crate::checking::check;
 use crate::end::{Said, Silence};
 use crate::execution::{resume, run};
 use crate::formatting::format;
+use crate::reporting::report;
 use std::alloc::Global;
 use wf_args::{Command, Line, LineFault, help_text, read_line, version_text};
 use wf_deeds::laws_of_deeds;
@@ -46,7 +47,7 @@ fn tell<H: Host>(host: &mut H, said: Result<Said, Silence>) -> Status
 }
 
 /// A text of the program, to be printed.
-fn report(alloc: Global, text: &str) -> Result<Said, Silence>
+fn text_of_program(alloc: Global, text: &str) -> Result<Said, Silence>
     ensures { SaysReport text.now result }
 {
     Ok(Said::report(alloc, text)?)
@@ -86,8 +87,9 @@ fn execute<S: Source, H: Host>(
         Command::Format => format(alloc, source),
         Command::Run => run(alloc, line, source, host),
         Command::Resume => resume(alloc, line, host),
-        Command::Help => report(alloc, help_text()),
-        Command::Version => report(alloc, version_text()),
+        Command::Show | Command::At | Command::Log => report(alloc, line, host),
+        Command::Help => text_of_program(alloc, help_text()),
+        Command::Version => text_of_program(alloc, version_text()),
     }
 }
 
@@ -118,8 +120,9 @@ pub fn perform<S: Source, H: Host>(
 /// `check` reads the source to its end and prints `accepted` with [`Status::Done`] where it is a program that the checker accepts. `format`
 /// reads the source to its end and prints its tree in one layout, from which the same tree is read back, with [`Status::Done`]. `run` looks
 /// at the argument, reads the source to its end, begins its execution on the journal, and goes on to the outcome; `resume` goes on with the
-/// execution that stands in the journal. A value prints as a line of JSON with [`Status::Done`], an error with [`Status::Raised`]. The
-/// words `--help` and `--version` alone print a text, with [`Status::Done`]. The causes of the other statuses are looked at in this order:
+/// execution that stands in the journal. A value prints as a line of JSON with [`Status::Done`], an error with [`Status::Raised`]. `show`,
+/// `at` and `log` print what the execution that stands in the journal has come to, what it had come to after some turns, and what it has
+/// logged, with [`Status::Done`]. The words `--help` and `--version` alone print a text, with [`Status::Done`]. The causes of the other statuses are looked at in this order:
 ///
 /// - [`Status::BadLine`]: the words are no line.
 /// - [`Status::BadArgument`]: the word of `--args` is no JSON of a value, or its value counts more than 32,768.
@@ -128,8 +131,8 @@ pub fn perform<S: Source, H: Host>(
 ///   the checker accepts.
 /// - [`Status::DiskFault`]: a call of the disk failed.
 /// - [`Status::NotAJournal`]: the file has at least 5 bytes and doesn't begin with `WFJ1`.
-/// - [`Status::AlreadyStarted`]: `run` finds a first record. [`Status::NotStarted`]: `resume` finds none.
-/// - [`Status::NotAHistory`]: `resume` finds records that are no history.
+/// - [`Status::AlreadyStarted`]: `run` finds a first record. [`Status::NotStarted`]: `resume`, `show`, `at` or `log` finds none.
+/// - [`Status::NotAHistory`]: one of these finds records that are no history.
 /// - [`Status::PollFault`]: a poll failed.
 /// - [`Status::Suspended`]: there is no outcome yet, nothing can move, and the command has polled as often as `--waits` says, or 1,000,000
 ///   times.

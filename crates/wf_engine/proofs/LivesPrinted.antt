@@ -5,7 +5,7 @@ use Rattle.wf_deeds.specs.Deeds.{printed}
 use Rattle.wf_deeds.specs.Outside.{Outside}
 use Rattle.wf_engine.proofs.LivesKept.{stay_at}
 use Rattle.wf_engine.specs.Lives.{PairsAreStays, PrintsByACause, PrintsOneLine, PrintsOther, PrintsOutcome, OneLine, Stay, IsStay, stay_scene}
-use Rattle.wf_engine.specs.Printed.{Reports, Gives, bad_line, bad_argument, refused, not_a_journal, already_started, not_started, not_a_history, suspended, ended, done, status_of, outcome_text}
+use Rattle.wf_engine.specs.Printed.{Reports, Gives, bad_line, bad_argument, refused, not_a_journal, already_started, not_started, not_a_history, suspended, ended, done, told, status_of, outcome_text}
 use Rattle.wf_engine.specs.Safe.{IsPrefix, PrintedIsOutcome}
 use Rattle.wf_host.specs.World.{World}
 use Rattle.wf_model.specs.Config.{Outcome, Active}
@@ -33,7 +33,8 @@ module _ (L : Language) (R : Reports) (x : Stay) where
   by_cause st text (not_a_history n is) front = inr (_, _, not_a_history n is, front, inl refl)
   by_cause st text (suspended is) front = inr (_, _, suspended is, front, inl refl)
   by_cause st text (ended o s has is) front = inl (outcome_text o, (o, has, has_ended o s is, refl), front)
-  by_cause st text (done t report) front = inr (_, _, done t report, front, inr report)
+  by_cause st text (done t report) front = inr (_, _, done t report, front, inr (inl report))
+  by_cause st text (told t tells) front = inr (_, _, told t tells, front, inr (inr tells))
 
   by_what : (O : Outside) → PrintedIsOutcome L O R (stay_scene x) x.end x.left x.deeds → (printed x.deeds ≡ []) ⊎ PrintsOutcome L R x ⊎ PrintsOther L R x
   by_what O (inl none) = inl none

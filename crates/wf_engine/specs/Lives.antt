@@ -6,7 +6,7 @@ use Rattle.std.specs.Prelude.{◌≡◌, ◌≢◌, ◌⊎◌, ◌≤◌, ℕ, L
 use Rattle.wf_deeds.specs.Deeds.{printed}
 use Rattle.wf_deeds.specs.Kept.{IsOpen}
 use Rattle.wf_deeds.specs.Outside.{Outside}
-use Rattle.wf_engine.specs.Printed.{Scene, Reports, Reported, Gives, HasOutcome, outcome_text}
+use Rattle.wf_engine.specs.Printed.{Scene, Reports, Reported, TellsHistory, Gives, HasOutcome, outcome_text}
 use Rattle.wf_engine.specs.Safe.{Safe, SafeAt, IsFit, IsPrefix, scene}
 use Rattle.wf_host.specs.Source.{Rest}
 use Rattle.wf_host.specs.World.{World, Only}
@@ -64,10 +64,10 @@ IsOutcomeText L R x text = (o : Outcome) × HasOutcome L R (stay_scene x) x.left
 abbrev pub PrintsOutcome : Language → Reports → Stay → Type 0
 PrintsOutcome L R x = (text : List ℕ) × IsOutcomeText L R x text × IsPrefix (printed x.deeds) text
 
--- or a front of another text that has its cause: that of a status, or the report of a command that executes nothing
+-- or a front of another text that has its cause: that of a status, the report of a command that uses no journal, or what is told of a history
 abbrev pub PrintsOther : Language → Reports → Stay → Type 0
 PrintsOther L R x = (st : Status) × (text : List ℕ) × Gives L R (stay_scene x) x.left x.deeds st text × IsPrefix (printed x.deeds) text
-    × ((status_text st ≡ Some text) ⊎ Reported R (stay_scene x) text)
+    × ((status_text st ≡ Some text) ⊎ Reported R (stay_scene x) text ⊎ TellsHistory L R (stay_scene x) text)
 
 -- ## What holds over all commands of a life
 -- all starts of one number have one address and one request

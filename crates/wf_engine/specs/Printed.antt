@@ -1,16 +1,17 @@
 -- The statuses that print a text, each with its cause.
 --     Scene     what a command meets
 --     Gives     a status whose cause holds, with its text, for the image and the deeds of a moment
-use Rattle.std.specs.Prelude.{◌≡◌, ◌≢◌, ◌≤◌, ℕ, Bool, true, false, List, [], ◌++◌, length, take, Option, Some, None, Ok, Err, codes, decimal}
+use Rattle.std.specs.Prelude.{◌≡◌, ◌≢◌, ◌≤◌, ℕ, suc, Bool, true, false, List, [], ◌++◌, length, take, Option, Some, None, Ok, Err, codes, decimal}
 use Rattle.wf_ast.specs.Tree.{Program}
 use Rattle.wf_deeds.specs.Deeds.{polls}
 use Rattle.wf_host.specs.Source.{Rest, IsFirst}
 use Rattle.wf_host.specs.declared.data.Deed.{Deed}
 use Rattle.wf_journal.specs.Records.{magic, records}
-use Rattle.wf_args.specs.Lines.{PlainLine, line_of, waits_of}
+use Rattle.wf_args.specs.Lines.{PlainLine, line_of, turn_of, waits_of, word_of}
 use Rattle.wf_args.specs.declared.command.Command.{Command}
-use Rattle.wf_args.specs.declared.command.Command.TheVariants.{Check, Format, Run, Resume, Help, Version}
-use Rattle.wf_model.specs.Config.{Outcome, Active, Returned, Raised, Cancelled}
+use Rattle.wf_args.specs.declared.command.Command.TheVariants.{Check, Format, Run, Resume, Show, At, Log, Help, Version}
+use Rattle.wf_args.specs.declared.option.OptionName.TheVariants.{Grep}
+use Rattle.wf_model.specs.Config.{Config, Outcome, Active, Returned, Raised, Cancelled}
 use Rattle.wf_engine.specs.Starts.{HasArgument}
 use Rattle.wf_journal_laws.specs.History.{Standing, history}
 use Rattle.wf_journal_laws.specs.Language.{Language}
@@ -29,10 +30,13 @@ pub record Scene : Type 0 where
   pub source : Rest
   pub found : List ℕ
 
--- what is told of trees and of the program by other parts
+-- what is told of trees, of executions and of the program by other parts
 pub record Reports : Type 0 where
   -- the tree of a source in one layout, where it has one
   pub formatted : List ℕ → Option (List ℕ)
+  -- what an execution has come to, and what it has logged, all or what holds a text
+  pub shown : Config → List ℕ
+  pub logged : Option (List ℕ) → Config → List ℕ
   pub help : List ℕ
   pub version : List ℕ
 
@@ -46,7 +50,22 @@ uses_source c = false
 abbrev pub uses_journal : Command → Bool
 uses_journal Run = true
 uses_journal Resume = true
+uses_journal Show = true
+uses_journal At = true
+uses_journal Log = true
 uses_journal c = false
+
+-- it tells of the history that it finds
+abbrev pub tells_history : Command → Bool
+tells_history Show = true
+tells_history At = true
+tells_history Log = true
+tells_history c = false
+
+-- it finds a history, and goes on with it or tells of it
+abbrev pub needs_history : Command → Bool
+needs_history Resume = true
+needs_history c = tells_history c
 
 -- it goes on to an outcome
 abbrev pub executes : Command → Bool
@@ -110,13 +129,13 @@ module _ (s : Scene) where
   IsStarted = IsLineOf (λ c. c ≡ Run) × (records s.found ≢ [])
 
   abbrev pub IsNotStarted : Type 0
-  IsNotStarted = IsLineOf (λ c. c ≡ Resume) × (records s.found ≡ [])
+  IsNotStarted = IsLineOf (λ c. needs_history c ≡ true) × (records s.found ≡ [])
 
 -- the line that `check` prints of such a source
 abbrev pub accepted_text : List ℕ
 accepted_text = line_end (codes "accepted")
 
--- what a command that executes nothing prints
+-- what a command prints that uses no journal
 pub data Reported (R : Reports) (s : Scene) : List ℕ → Type 0 where
   accepted : IsChecked s → Reported R s accepted_text
   formatted : (l : PlainLine) (bytes text : List ℕ) → Reads s l bytes → l.command ≡ Format → R.formatted bytes ≡ Some text → Reported R s text
@@ -130,7 +149,13 @@ HasPolled s D = (l : PlainLine) × IsLine s l × (polls D ≡ waits_of l)
 -- ## In a language
 module _ (L : Language) (R : Reports) (s : Scene) where
   abbrev pub IsNoHistory : ℕ → Type 0
-  IsNoHistory n = IsLineOf s (λ c. c ≡ Resume) × (history L (records s.found) ≡ Err n)
+  IsNoHistory n = IsLineOf s (λ c. needs_history c ≡ true) × (history L (records s.found) ≡ Err n)
+
+  -- what is told of the history that was found: where it leads, where a front of it leads, or what it has logged
+  pub data TellsHistory : List ℕ → Type 0 where
+    shown : (t : Standing) → IsLineOf s (λ c. c ≡ Show) → history L (records s.found) ≡ Ok t → TellsHistory (R.shown t.config)
+    stood : (l : PlainLine) (whole t : Standing) → IsLine s l → l.command ≡ At → history L (records s.found) ≡ Ok whole → history L (take (suc (turn_of l)) (records s.found)) ≡ Ok t → TellsHistory (R.shown t.config)
+    logged : (l : PlainLine) (t : Standing) → IsLine s l → l.command ≡ Log → history L (records s.found) ≡ Ok t → TellsHistory (R.logged (word_of Grep l) t.config)
 
   -- the records of an image give this outcome
   abbrev pub HasOutcome : List ℕ → Outcome → Type 0
@@ -151,3 +176,4 @@ module _ (L : Language) (R : Reports) (s : Scene) where
     suspended : IsSuspended image D → Gives image D status.Suspended (line_end (codes "suspended"))
     ended : (o : Outcome) (st : Status) → HasOutcome image o → status_of o ≡ Some st → Gives image D st (outcome_text o)
     done : (text : List ℕ) → Reported R s text → Gives image D status.Done text
+    told : (text : List ℕ) → TellsHistory text → Gives image D status.Done text

@@ -1,12 +1,12 @@
 -- What a `run` starts an execution with.
 --     said_argument    the value that the word of `--args` says
 --     HasArgument      it says one, within the limit
---     kept_routes      the routes that its words of `--route` say
+--     kept_routes      the routes that its words of `--route` say; its environment is `env_of`
 --     start_of         the start of a line, of a source and of a reading
 use Rattle.std.specs.Prelude.{◌≡◌, ◌<◌, ◌≤◌, ℕ, List, [], ◌∷◌, length, map, Option, Some, unwrap_or, decimal}
 use Rattle.std.specs.Option.{option_map_or}
 use Rattle.wf_alone.specs.Machine.{argument_of}
-use Rattle.wf_args.specs.Lines.{PlainLine, PlainRoute, routes_of, word_of}
+use Rattle.wf_args.specs.Lines.{PlainLine, PlainRoute, env_of, routes_of, word_of}
 use Rattle.wf_args.specs.declared.option.OptionName.TheVariants.{Args, Id}
 use Rattle.wf_events.specs.Spelling.{IsArgument}
 use Rattle.wf_shared.specs.Events.{Address, Routes, Start}
@@ -37,7 +37,7 @@ abbrev pub kept_routes : PlainLine → Routes
 kept_routes l = map kept_route (routes_of l)
 
 -- ## The start
--- the line's id, or else `w` and the first reading; its argument and its routes; and no environment and address for callbacks yet
+-- the line's id, or else `w` and the first reading; its argument, its routes and its environment; and no address for callbacks yet
 abbrev pub start_of : PlainLine → List ℕ → ℕ → Start
 start_of l source reading = record {
   rules = 1;
@@ -45,7 +45,7 @@ start_of l source reading = record {
   source = source;
   argument = argument_text l;
   routes = kept_routes l;
-  env = [];
+  env = env_of l;
   base = [];
   reading = reading;
 }

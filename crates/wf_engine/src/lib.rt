@@ -16,6 +16,7 @@ mod turns;
 pub use engine::Engine;
 pub use fault::EngineFault;
 pub use lives::{law_of_lives, law_of_stays};
+pub use opening::{first_machine, last_machine};
 pub use rows::worked_histories;
 pub use starts::laws_of_starts;
 pub use taken::Taken;

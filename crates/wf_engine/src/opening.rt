@@ -64,7 +64,7 @@ pub(crate) fn empty_history<H: Host>(alloc: Global, host: &mut H) -> Result<Hist
 }
 
 /// The machine to which all records of a history lead. The history is read to its end, and each of its events is a step.
-pub(crate) fn last_machine<H: Host, L: Ledger>(
+pub fn last_machine<H: Host, L: Ledger>(
     alloc: Global,
     history: &mut History,
     host: &mut H,
@@ -108,7 +108,7 @@ pub(crate) fn last_machine<H: Host, L: Ledger>(
 }
 
 /// The machine of a history's first record, which is read.
-fn first_machine<H: Host>(
+pub fn first_machine<H: Host>(
     alloc: Global,
     history: &mut History,
     host: &mut H,

@@ -1,3 +1,4 @@
+mod Environment
 pub mod Names
 pub mod Owning
 pub mod Placing

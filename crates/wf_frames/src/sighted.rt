@@ -39,13 +39,16 @@ impl Look for Seen<'_> {
 }
 
 // The value of a key, in the first pair that has it.
+#[tactic(auto, using(crate::proofs::Environment::none_in))]
 fn find<'a>(pairs: &'a [(Text, Text)], key: &str) -> Option<&'a str>
     ensures { option_map (λ t. t.now) result ≡ env_in pairs.now key.now }
 {
-    for (name, value) in pairs {
-        if name.as_str() == key {
-            return Some(value.as_str());
+    let mut rest = pairs;
+    while let [pair, more @ ..] = rest {
+        if pair.0.as_str() == key {
+            return Some(pair.1.as_str());
         }
+        rest = more;
     }
     None
 }

@@ -13,7 +13,7 @@ here_or_later true d later x deep rest h =
     omega (arith, ap depth same)
 here_or_later false d later x deep rest h = omega (arith, rest h)
 
-got_depth : (k : List ℕ) (ps : Pairs) (x : Data) → get k ps ≡ Some x → depth x ≤ pairs_depth ps
+pub got_depth : (k : List ℕ) (ps : Pairs) (x : Data) → get k ps ≡ Some x → depth x ≤ pairs_depth ps
 got_depth k no_pairs x h = cc
 got_depth k (pair l d ps) x h = here_or_later (is_at (key_cmp k) l) d (get k ps) x (pairs_depth ps) (got_depth k ps x) h
 

@@ -14,6 +14,7 @@ use Rattle.wf_check.specs.Seen.{program_of}
 use Rattle.wf_machine.proofs.Places.{K, Ls, P, W, X, has_main, here, matches_now}
 use Rattle.wf_machine.proofs.Waiting.{call_of_view, calling_view, has_moment, nothing_passed}
 use Rattle.wf_machine.specs.Causes.{Comes, Stops}
+use Rattle.wf_machine.specs.Log.{entries_of}
 use Rattle.wf_machine.specs.Main.{around, rest_of, tasks_view}
 use Rattle.wf_machine.specs.Seen.{DuesBy, DuesNot, control_by, rest_by, state_of, wait_by}
 use Rattle.wf_machine.specs.declared.ending.Ending.TheVariants as ending
@@ -99,7 +100,7 @@ module _ (m : Machine) (t : Task) (is : m.task ≡ Some t) (run : m.ending ≡ e
     running = run;
     suits = (waits_some, shallow);
     leads =
-        let Y : List Call → Rest = λ cs. rest_of m.facts (tally_at m r (m.tally.bodies + reply_length a)) cs in
+        let Y : List Call → Rest = λ cs. rest_of m.facts (tally_at m r (m.tally.bodies + reply_length a)) cs (entries_of m.log) in
         ap (λ c. next (P m t is) c (Event.Answer n r a)) stands
         ∙ is_answered (P m t is) (X m t is) (K m t is) (Ls m t is) n V r a its le few
         ∙ ap (λ cs. merged 0 None (resumed (main_scene (P m t is) (Y cs) 0) V (reply_result a) (main_local (K m t is) (Ls m t is) (Calling n V))) (main_at (Y cs) (K m t is) (Ls m t is) (Calling n V))) (closed_same n Answered m.calls)
@@ -111,8 +112,8 @@ module _ (m : Machine) (t : Task) (is : m.task ≡ Some t) (run : m.ending ≡ e
   answer_stops r a its le many =
       ap (λ c. next (P m t is) c (Event.Answer n r a)) stands
       ∙ is_flooded (P m t is) (X m t is) (K m t is) (Ls m t is) n V r a its le many
-      ∙ ap (λ w. To (main_by (rest_of m.facts (tally_at m r m.tally.bodies) m.calls) (K m t is) (Ls m t is) w (Raised (error_map ResourceLimitError)))) (sym calling)
-      ∙ ap (λ o. To (config_by (rest_of m.facts (tally_at m r m.tally.bodies) m.calls) (tasks_view (P m t is) o m.scopes) (Raised (error_map ResourceLimitError)))) (sym is)
+      ∙ ap (λ w. To (main_by (rest_of m.facts (tally_at m r m.tally.bodies) m.calls (entries_of m.log)) (K m t is) (Ls m t is) w (Raised (error_map ResourceLimitError)))) (sym calling)
+      ∙ ap (λ o. To (config_by (rest_of m.facts (tally_at m r m.tally.bodies) m.calls (entries_of m.log)) (tasks_view (P m t is) o m.scopes) (Raised (error_map ResourceLimitError)))) (sym is)
 
 -- ## Due moments
 -- the call is closed for whose answer `main` waits
@@ -123,7 +124,7 @@ due_comes m n r dues le e error shallow =
     let is = dues.is in
     let V : Option Text = result_in (around (P m t is)) t.wait in
     let calls : W m t is ≡ Calling n V = calling_view (around (P m t is)) t.wait n dues.waits in
-    let Y : List Call → Rest = λ cs. rest_of m.facts (tally_at m r m.tally.bodies) cs in
+    let Y : List Call → Rest = λ cs. rest_of m.facts (tally_at m r m.tally.bodies) cs (entries_of m.log) in
     record {
       task = t;
       is = is;

@@ -2,7 +2,7 @@
 use Rattle.std.specs.Prelude.{is_some}
 use Rattle.std.proofs.Common.{◌≡◌, ◌≤◌, ◌⊎◌, inl, inr, arith, true, false, Option, List, [], ◌∷◌, Some, None, refl, sym, ap, ◌∙◌, subst}
 use Rattle.wf_alone.proofs.Begun.{begun, begun_ended}
-use Rattle.wf_alone.specs.Machine.{argument_of, config_by, facts_of, main_at, rest_of as rest_from}
+use Rattle.wf_alone.specs.Machine.{Rest, argument_of, config_by, facts_of, main_at, rest_of as rest_from}
 use Rattle.wf_ast.specs.Tree.{Program, Steps, more, no_steps}
 use Rattle.wf_frames.specs.Owned.{control_of, own_of}
 use Rattle.wf_frames.specs.Frames.{control, inner, items}
@@ -10,18 +10,20 @@ use Rattle.wf_frames.specs.declared.frames.Frame.{Frame}
 use Rattle.wf_frames.specs.declared.frames.Frame.TheVariants as frame
 use Rattle.wf_machine.specs.Facts.{facts_view}
 use Rattle.wf_machine.proofs.Waiting.{going_by}
-use Rattle.wf_machine.specs.Main.{Begins, IsStanding, around, config_of, first_local}
+use Rattle.wf_machine.specs.Log.{entries_of}
+use Rattle.wf_machine.specs.Main.{Begins, IsStanding, around, config_of, first_local, rest_of, tasks_view}
 use Rattle.wf_machine.specs.State.{outcome_by, outcome_depth}
 use Rattle.wf_machine.specs.declared.facts.Facts.{Facts}
 use Rattle.wf_machine.specs.declared.ending.Ending.{Ending}
 use Rattle.wf_machine.specs.declared.ending.Ending.TheVariants as ending
+use Rattle.wf_machine.specs.declared.log.Log.{Log}
 use Rattle.wf_machine.specs.declared.machine.Tally.{Tally}
 use Rattle.wf_moves.specs.Going.{Going}
 use Rattle.wf_moves.specs.Waits.{task_local, wait_view}
 use Rattle.wf_nodes.specs.Spots.{Spot, spots}
 use Rattle.wf_nodes.specs.declared.node.Node.{Node}
 use Rattle.wf_value.specs.declared.value.Value.TheVariants as value
-use Rattle.wf_model.specs.Config.{Awake, Call, Do, Item, Returned, To}
+use Rattle.wf_model.specs.Config.{Awake, Call, Do, Item, LogEntry, Returned, To}
 use Rattle.wf_model.specs.Local.{Local, settle}
 use Rattle.wf_model.specs.Run.{initial, main_local, main_steps, main_vars}
 use Rattle.wf_moves.specs.declared.task.Task.{Task}
@@ -100,18 +102,26 @@ ending_for (Some t) e (inr is) = absurd (cc is.0)
 abbrev pub first_tally : Start → Tally
 first_tally s = record { last = s.reading; moves = 0; bodies = 0 }
 
-pub begins_so : (p : Program) (s : Start) (nodes : List Node) (o : Option Task) (x : Scopes) (calls : List Call) (e : Ending) (f : Facts) → Begins p (argument_of s) o x → IsStanding p nodes o x → EndingFor o e → calls ≡ [] → facts_view f ≡ facts_of s
-    → initial p s ≡ To (config_of p f (first_tally s) o x calls e)
-begins_so p s nodes None x calls e f begins stands is none facts =
+pub begins_so : (p : Program) (s : Start) (nodes : List Node) (o : Option Task) (x : Scopes) (calls : List Call) (lg : Log) (e : Ending) (f : Facts) → Begins p (argument_of s) o x → IsStanding p nodes o x → EndingFor o e → calls ≡ [] → entries_of lg ≡ [] → facts_view f ≡ facts_of s
+    → initial p s ≡ To (config_of p f (first_tally s) o x calls lg e)
+begins_so p s nodes None x calls lg e f begins stands is none empty facts =
     stands_ended p s x begins
     ∙ ap (λ k. To (config_by (record (rest_from s) { facts = k }) [] (Returned null))) (sym facts)
-    ∙ ap (λ d. To (config_of p f (first_tally s) None x [] d)) (sym is)
-    ∙ ap (λ cs. To (config_of p f (first_tally s) None x cs e)) (sym none)
-begins_so p s nodes (Some t) x calls e f begins stands is none facts =
+    ∙ ap (λ d. To (config_by (rest_by_log []) (tasks_view p None x) (outcome_by d))) (sym is)
+    ∙ ap (λ es. To (config_by (rest_by_log es) (tasks_view p None x) (outcome_by e))) (sym empty)
+    ∙ ap (λ cs. To (config_of p f (first_tally s) None x cs lg e)) (sym none)
+  where
+    abbrev rest_by_log : List LogEntry → Rest
+    rest_by_log es = rest_of f (first_tally s) [] es
+begins_so p s nodes (Some t) x calls lg e f begins stands is none empty facts =
     stands_first p s t x (some_left (spots p.flows) nodes (inner t.frames) (going_by nodes t begins.1 stands.1)) begins.0
     ∙ ap (λ k. To (main_at (record (rest_from s) { facts = k }) (control_of (around p) t.frames) (own_layers (own_of t.frames) (layers_of x)) (wait_view (around p) t.wait))) (sym facts)
-    ∙ ap (λ d. To (config_of p f (first_tally s) (Some t) x [] d)) (sym is)
-    ∙ ap (λ cs. To (config_of p f (first_tally s) (Some t) x cs e)) (sym none)
+    ∙ ap (λ d. To (config_by (rest_by_log []) (tasks_view p (Some t) x) (outcome_by d))) (sym is)
+    ∙ ap (λ es. To (config_by (rest_by_log es) (tasks_view p (Some t) x) (outcome_by e))) (sym empty)
+    ∙ ap (λ cs. To (config_of p f (first_tally s) (Some t) x cs lg e)) (sym none)
+  where
+    abbrev rest_by_log : List LogEntry → Rest
+    rest_by_log es = rest_of f (first_tally s) [] es
 
 -- one that runs has a task
 pub runs_with : (o : Option Task) (e : Ending) → EndingFor o e → e ≡ ending.Running → is_some o ≡ true

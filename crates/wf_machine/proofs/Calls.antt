@@ -122,20 +122,20 @@ pub no_function : (o : Option Listing) → option_map function_of None ≡ optio
 no_function None e = refl
 no_function (Some l) e = absurd (cc e)
 
--- where no workflow may be called by a name, the function or the call of HTTP may
+-- where no workflow may be called by a name, the function, the call of HTTP or the log may
 pub listed_so : (fs : List Flow) (ns : List Spot) (x : Text) (o : Option Target) → IfSome o (λ t. (gs : List Flow) (ms : List Spot) → is_some (flow gs x) ≡ false → IsTarget gs ms (Some t) x) → is_some (flow fs x) ≡ false
     → IfSome o (λ t. IsTarget fs ns (Some t) x)
 listed_so fs ns x None so free = tt
 listed_so fs ns x (Some t) so free = so fs ns free
 
--- where none of them may, the call of HTTP or the sleep may
+-- where none of them may, the call of HTTP, the sleep or the log may
 pub unlisted_so : (x : Text) (o : Option Target) → IfSome o (λ t. (gs : List Flow) (ms : List Spot) → is_some (flow gs x) ≡ false → is_some (func_named x) ≡ false → IsTarget gs ms (Some t) x) → is_some (func_named x) ≡ false
     → IfSome o (λ t. (gs : List Flow) (ms : List Spot) → is_some (flow gs x) ≡ false → IsTarget gs ms (Some t) x)
 unlisted_so x None so none = tt
 unlisted_so x (Some t) so none = λ gs ms free. so gs ms free none
 
 -- ## What a call comes to
--- a call of HTTP, or a sleep
+-- a call of HTTP, a sleep, or the log
 plain_http : (o : Option SpecialListing) (m : Option Method) → http_method o ≡ Some m → is_plain_listed o ≡ true
 plain_http None m e = absurd (cc e)
 plain_http (Some g) m e = by g.special e
@@ -156,6 +156,10 @@ plain_nap (Some g) b e = let same : g.special ≡ nap_special b = cc e in ap is_
     by nap.For = refl
     by nap.Until = refl
 
+plain_log : (o : Option SpecialListing) → option_map (λ (e : SpecialListing). e.special) o ≡ Some SysLog → is_plain_listed o ≡ true
+plain_log None e = absurd (cc e)
+plain_log (Some g) e = let same : g.special ≡ SysLog = cc e in ap is_plain_special same
+
 pub plain_target : (fs : List Flow) (ns : List Spot) (o : Option Target) (x : Text) → IsTarget fs ns o x → (is_some (flow fs x) || is_some (func_named x) || is_plain_listed (special_named x)) ≡ true
 plain_target fs ns None x h = absurd h
 plain_target fs ns (Some (target.Flow n)) x h = ap (λ (b : Bool). b || is_some (func_named x) || is_plain_listed (special_named x)) h.named
@@ -172,6 +176,10 @@ plain_target fs ns (Some (target.Sleeps b)) x h =
     ap (λ (b : Bool). b || is_some (func_named x) || is_plain_listed (special_named x)) h.free
     ∙ ap (λ (b : Bool). b || is_plain_listed (special_named x)) h.unlisted
     ∙ plain_nap (special_named x) b h.named
+plain_target fs ns (Some target.Log) x h =
+    ap (λ (b : Bool). b || is_some (func_named x) || is_plain_listed (special_named x)) h.free
+    ∙ ap (λ (b : Bool). b || is_plain_listed (special_named x)) h.unlisted
+    ∙ plain_log (special_named x) h.named
 
 -- ## The targets of a table
 -- what stands at the number of each node

@@ -79,8 +79,8 @@ due_by m t is run r (Some d) its by = record { task = t; is = is; running = run;
 pub none_chosen : MainMatches → (m : Machine) (r : ℕ) → StepsNot m → DuesNot m r → choose (program_of m.program) (state_of m).config r ≡ None
 none_chosen law m r steps dues = by m.ending refl m.task refl
   where
-    at : (o : Option Task) (e : Ending) → m.task ≡ o → m.ending ≡ e → choose (program_of m.program) (state_of m).config r ≡ choose (program_of m.program) (config_of (program_of m.program) m.facts m.tally o m.scopes m.calls e) r
-    at o e is run = ap (λ x. choose (program_of m.program) (config_of (program_of m.program) m.facts m.tally x m.scopes m.calls m.ending) r) is ∙ ap (λ x. choose (program_of m.program) (config_of (program_of m.program) m.facts m.tally o m.scopes m.calls x) r) run
+    at : (o : Option Task) (e : Ending) → m.task ≡ o → m.ending ≡ e → choose (program_of m.program) (state_of m).config r ≡ choose (program_of m.program) (config_of (program_of m.program) m.facts m.tally o m.scopes m.calls m.log e) r
+    at o e is run = ap (λ x. choose (program_of m.program) (config_of (program_of m.program) m.facts m.tally x m.scopes m.calls m.log m.ending) r) is ∙ ap (λ x. choose (program_of m.program) (config_of (program_of m.program) m.facts m.tally o m.scopes m.calls x) r) run
 
     by : (e : Ending) → m.ending ≡ e → (o : Option Task) → m.task ≡ o → choose (program_of m.program) (state_of m).config r ≡ None
     by (ending.Returned v) run o is = at o (ending.Returned v) is run
@@ -152,7 +152,7 @@ module _ (m : Machine) (t : Task) (is : m.task ≡ Some t) where
 
   -- where it stands, with or without an outcome
   stands : (state_of m).config ≡ main_by (X m t is) (K m t is) (Ls m t is) (W m t is) (outcome_by m.ending)
-  stands = ap (λ o. config_of (P m t is) m.facts m.tally o m.scopes m.calls m.ending) is
+  stands = ap (λ o. config_of (P m t is) m.facts m.tally o m.scopes m.calls m.log m.ending) is
 
   pub quiet_is : (r : ℕ) → (not (is_awake_in t.wait) && not (is_by r (due_for (X m t is) (W m t is)))) ≡ quiet (state_of m).config r
   quiet_is r = quiet_by t.wait r ∙ sym (ap (λ c. quiet c r) stands)
@@ -177,10 +177,10 @@ module _ (m : Machine) (t : Task) (is : m.task ≡ Some t) where
 
 -- without a task
 pub quiet_none : (m : Machine) → m.task ≡ None → (r : ℕ) → true ≡ quiet (state_of m).config r
-quiet_none m none r = sym (ap (λ o. quiet (config_of (program_of m.program) m.facts m.tally o m.scopes m.calls m.ending) r) none)
+quiet_none m none r = sym (ap (λ o. quiet (config_of (program_of m.program) m.facts m.tally o m.scopes m.calls m.log m.ending) r) none)
 
 pub least_none : (m : Machine) → m.task ≡ None → None ≡ least_due (state_of m).config
-least_none m none = sym (ap (λ o. least_due (config_of (program_of m.program) m.facts m.tally o m.scopes m.calls m.ending)) none)
+least_none m none = sym (ap (λ o. least_due (config_of (program_of m.program) m.facts m.tally o m.scopes m.calls m.log m.ending)) none)
 
 -- where nothing can move something is due
 pub waits_until : MainMatches → (m : Machine) → m.broken ≡ false → (state_of m).config.outcome ≡ Active → (r : ℕ) → IsTrue (quiet (state_of m).config r) → is_some (least_due (state_of m).config) ≡ true

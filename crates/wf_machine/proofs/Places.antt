@@ -96,7 +96,7 @@ module _ (m : Machine) (t : Task) (is : m.task ≡ Some t) where
 
   -- where it runs
   pub here : m.ending ≡ ending.Running → (state_of m).config ≡ main_at X K Ls W
-  here run = ap (λ o. config_of P m.facts m.tally o m.scopes m.calls m.ending) is ∙ ap (λ e. config_of P m.facts m.tally (Some t) m.scopes m.calls e) run
+  here run = ap (λ o. config_of P m.facts m.tally o m.scopes m.calls m.log m.ending) is ∙ ap (λ e. config_of P m.facts m.tally (Some t) m.scopes m.calls m.log e) run
 
   -- the call for which it waits is the only open one
   pub matches_now : MainMatches → m.ending ≡ ending.Running → Matches X W

@@ -10,6 +10,7 @@ use Rattle.wf_check.specs.Seen.{program_of}
 use Rattle.wf_machine.proofs.Places.{K, Ls, P, W, X, here, plain}
 use Rattle.wf_machine.proofs.Waiting.{awake_view, not_awake}
 use Rattle.wf_machine.specs.Causes.{Comes, Stops}
+use Rattle.wf_machine.specs.Log.{entries_of}
 use Rattle.wf_machine.specs.Main.{around, rest_of, tasks_view}
 use Rattle.wf_machine.specs.Seen.{StepsBy, WantsNot, control_by, last_by, rest_by, wait_by}
 use Rattle.wf_machine.specs.declared.ending.Ending.TheVariants as ending
@@ -70,7 +71,7 @@ module _ (m : Machine) (q : NextKind) (steps : StepsBy m q) (r : ℕ) (le : m.ta
   Behind = record { last = Last; moves = m.tally.moves + 1; bodies = m.tally.bodies }
 
   abbrev Y : Rest
-  Y = rest_of m.facts Behind m.calls
+  Y = rest_of m.facts Behind m.calls (entries_of m.log)
 
   behind_is : one_more (read_for q Last (X m T steps.is)) ≡ Y
   behind_is = ap one_more (read_same q r (X m T steps.is))

@@ -8,6 +8,7 @@ use Rattle.wf_alone.specs.Machine.{config_by, main_at, main_local, main_scene}
 use Rattle.wf_calls.specs.Numbers.{closed_at}
 use Rattle.wf_calls.specs.View.{closed_view}
 use Rattle.wf_check.specs.Seen.{program_of}
+use Rattle.wf_machine.specs.Log.{entries_of}
 use Rattle.wf_machine.specs.Main.{around, rest_of, tasks_view}
 use Rattle.wf_machine.specs.Seen.{control_by, layers_by, state_of, wait_by}
 use Rattle.wf_machine.specs.declared.ending.Ending.TheVariants.{Running}
@@ -65,12 +66,12 @@ pub record Comes (m : Machine) (c : Cause) (now : ℕ) (y : Tally) (e : Event) :
   pub suits : SuitsTo c task
   pub leads : next (program_of m.program) (state_of m).config e
       ≡ merged 0 None
-      (does_by c (result_in (around (program_of m.program)) task.wait) (main_scene (program_of m.program) (rest_of m.facts y (calls_by c m.calls)) now)
+      (does_by c (result_in (around (program_of m.program)) task.wait) (main_scene (program_of m.program) (rest_of m.facts y (calls_by c m.calls) (entries_of m.log)) now)
       (main_local (control_by m task) (layers_by m task) (wait_by m task)))
-      (main_at (rest_of m.facts y (calls_by c m.calls)) (control_by m task) (layers_by m task) (wait_by m task))
+      (main_at (rest_of m.facts y (calls_by c m.calls) (entries_of m.log)) (control_by m task) (layers_by m task) (wait_by m task))
 
 -- by an event the execution ends at a limit, and all else stands so then
 abbrev pub Stops : Machine → Tally → Event → Type 0
 Stops m y e =
     next (program_of m.program) (state_of m).config e
-    ≡ To (config_by (rest_of m.facts y m.calls) (tasks_view (program_of m.program) m.task m.scopes) (Raised (error_map ResourceLimitError)))
+    ≡ To (config_by (rest_of m.facts y m.calls (entries_of m.log)) (tasks_view (program_of m.program) m.task m.scopes) (Raised (error_map ResourceLimitError)))

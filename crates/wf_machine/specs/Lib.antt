@@ -5,6 +5,7 @@ pub mod Counts
 pub mod Facts
 pub mod Laws
 pub mod Lent
+pub mod Log
 pub mod Main
 pub mod Outcome
 pub mod Seen

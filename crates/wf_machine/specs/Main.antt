@@ -5,7 +5,7 @@
 use Rattle.std.specs.Prelude.{◌≡◌, ℕ, true, false, List, [], ◌∷◌, ◌++◌, None, Some, Option, is_some, option_map, slice_get}
 use Rattle.std.specs.Coded.{Coded-set, codes, coded_bool, ×_prop, Unit-prop, Π_prop, →_prop}
 use Rattle.wf_ast.specs.Flows.{flow}
-use Rattle.wf_ast.specs.Func.{func_named, special_named}
+use Rattle.wf_ast.specs.Func.{SpecialListing, SysLog, func_named, special_named}
 use Rattle.wf_ast.specs.Tree.{Flow, Program}
 use Rattle.wf_ast.specs.declared.policy.Policy.{Policy}
 use Rattle.wf_ast.specs.declared.policy.Predicate.TheVariants as predicate
@@ -15,22 +15,27 @@ use Rattle.wf_frames.specs.Owned.{Around, control_of, own_of}
 use Rattle.wf_frames.specs.Standing.{Standing, Standing-prop}
 use Rattle.wf_http_ask.specs.View.{request_view}
 use Rattle.wf_machine.specs.Facts.{facts_view}
+use Rattle.wf_machine.specs.Log.{entries_of, logged_at}
 use Rattle.wf_machine.specs.State.{outcome_by}
 use Rattle.wf_machine.specs.declared.ending.Ending.{Ending}
 use Rattle.wf_machine.specs.declared.facts.Facts.{Facts}
+use Rattle.wf_machine.specs.declared.log.Log.{Log}
 use Rattle.wf_machine.specs.declared.machine.Tally.{Tally}
 use Rattle.wf_alone.specs.Machine.{Rest, config_by, main_task}
 use Rattle.wf_model.specs.Calls.{http_method}
 use Rattle.wf_model.specs.Config as model
-use Rattle.wf_model.specs.Config.{Active, Call, Config, Do, Open, Outcome, Raised, Returned, limits}
+use Rattle.wf_model.specs.Config.{Active, Call, Config, Do, LogEntry, Open, Outcome, Raised, Returned, limits}
 use Rattle.wf_model.specs.Local.{Local, settle}
 use Rattle.wf_model.specs.Run.{main_local, main_steps}
 use Rattle.wf_moves.specs.Waits.{CanGoOn, CanGoOn-prop, is_awake_in, task_local, wait_view}
+use Rattle.wf_moves.specs.declared.finish.End.{End}
 use Rattle.wf_moves.specs.declared.finish.End.TheVariants as end
+use Rattle.wf_moves.specs.declared.logging.Behind.{Behind}
+use Rattle.wf_moves.specs.declared.logging.Behind.TheVariants as behind
 use Rattle.wf_moves.specs.declared.task.Move.{Move}
 use Rattle.wf_moves.specs.declared.task.Move.TheVariants as move
 use Rattle.wf_moves.specs.declared.task.Task.{Task}
-use Rattle.wf_value.specs.Data.{Data}
+use Rattle.wf_value.specs.Data.{Data, depth}
 use Rattle.wf_value.specs.Pairs.{Text}
 use Rattle.wf_value.specs.Plain.{plain}
 use Rattle.wf_nodes.specs.Sets.{Part-set}
@@ -43,7 +48,7 @@ use Rattle.wf_nodes.specs.declared.node.TryNode.{TryNode}
 use Rattle.wf_scope.specs.Store.{layers_of}
 use Rattle.wf_scope.specs.Tasks.{own_layers}
 use Rattle.wf_scope.specs.declared.scopes.Scopes.{Scopes}
-use Rattle.wf_steps.specs.Built.{AreTargets, IsAsked, IsFunction, IsHttp, IsNap, IsTarget, IsWorkflow, flow_part, function_parts, listed, nap_special}
+use Rattle.wf_steps.specs.Built.{AreTargets, IsAsked, IsFunction, IsHttp, IsLog, IsNap, IsTarget, IsWorkflow, flow_part, function_parts, listed, nap_special}
 use Rattle.wf_steps.specs.declared.target.Nap.{Nap}
 use Rattle.wf_steps.specs.declared.target.Target.{Target}
 use Rattle.wf_steps.specs.declared.target.Target.TheVariants as target
@@ -82,12 +87,20 @@ IsNap-prop fs b x = λ g h i. record {
   named = Coded-set (hlevel codes) (option_map (λ e. e.special) (special_named x)) (Some (nap_special b)) g.named h.named i;
 }
 
+IsLog-prop : (fs : List Flow) (x : Text) → IsProp (IsLog fs x)
+IsLog-prop fs x = λ g h i. record {
+  free = Coded-set coded_bool (is_some (flow fs x)) false g.free h.free i;
+  unlisted = Coded-set coded_bool (is_some (func_named x)) false g.unlisted h.unlisted i;
+  named = Coded-set (hlevel codes) (option_map (λ (e : SpecialListing). e.special) (special_named x)) (Some SysLog) g.named h.named i;
+}
+
 IsTarget-prop : (fs : List Flow) (ns : List Spot) (o : Option Target) (x : Text) → IsProp (IsTarget fs ns o x)
 IsTarget-prop fs ns None x = λ g h. absurd g
 IsTarget-prop fs ns (Some (target.Flow n)) x = IsWorkflow-prop fs ns n x
 IsTarget-prop fs ns (Some (target.Function f)) x = IsFunction-prop fs f x
 IsTarget-prop fs ns (Some (target.Http m)) x = IsHttp-prop fs m x
 IsTarget-prop fs ns (Some (target.Sleeps b)) x = IsNap-prop fs b x
+IsTarget-prop fs ns (Some target.Log) x = IsLog-prop fs x
 
 IsAsked-prop : (fs : List Flow) (ns : List Spot) (o : Option Target) (x : Text) → IsProp (IsAsked fs ns o x)
 IsAsked-prop fs ns None x = λ g h. absurd g
@@ -95,6 +108,7 @@ IsAsked-prop fs ns (Some (target.Flow n)) x = IsWorkflow-prop fs ns n x
 IsAsked-prop fs ns (Some (target.Function f)) x = λ g h. absurd g
 IsAsked-prop fs ns (Some (target.Http m)) x = λ g h. absurd g
 IsAsked-prop fs ns (Some (target.Sleeps b)) x = λ g h. absurd g
+IsAsked-prop fs ns (Some target.Log) x = λ g h. absurd g
 
 pub Aims-prop : (p : Program) (nodes : List Node) (targets : List Target) → IsProp (Aims p nodes targets)
 Aims-prop p nodes targets = λ g h i. record {
@@ -109,8 +123,8 @@ pub record Says (fs : List Flow) (ns : List Spot) (x : Node) (t : Target) : Type
 
 -- ## The configuration
 -- what it has beside its tasks and its outcome
-abbrev pub rest_of : Facts → Tally → List Call → Rest
-rest_of f y calls = record { facts = facts_view f; last = y.last; calls = calls; moves = y.moves; bodies = y.bodies }
+abbrev pub rest_of : Facts → Tally → List Call → List LogEntry → Rest
+rest_of f y calls log = record { facts = facts_view f; last = y.last; calls = calls; log = log; moves = y.moves; bodies = y.bodies }
 
 abbrev pub task_view : Program → Task → Scopes → model.Task
 task_view p t x = main_task (control_of (around p) t.frames) (own_layers (own_of t.frames) (layers_of x)) (wait_view (around p) t.wait)
@@ -119,8 +133,8 @@ abbrev pub tasks_view : Program → Option Task → Scopes → List (ℕ × mode
 tasks_view p None x = []
 tasks_view p (Some t) x = (0, task_view p t x) ∷ []
 
-abbrev pub config_of : Program → Facts → Tally → Option Task → Scopes → List Call → Ending → Config
-config_of p f y t x calls e = config_by (rest_of f y calls) (tasks_view p t x) (outcome_by e)
+abbrev pub config_of : Program → Facts → Tally → Option Task → Scopes → List Call → Log → Ending → Config
+config_of p f y t x calls log e = config_by (rest_of f y calls (entries_of log)) (tasks_view p t x) (outcome_by e)
 
 -- ## Where it stands
 abbrev pub IsStanding : Program → List Node → Option Task → Scopes → Type 0
@@ -140,13 +154,30 @@ abbrev pub Begins : Program → Data → Option Task → Scopes → Type 0
 Begins p v None x = (first_local p v).control ≡ []
 Begins p v (Some t) x = (first_local p v ≡ task_local (around p) t x) × (is_awake_in t.wait ≡ true)
 
--- the outcome behind what `main` has done, and the calls
+-- the outcome behind an end of `main`, and behind what it has done; the calls; and the log
+abbrev pub outcome_at : End → Outcome
+outcome_at (end.Value v) = Returned (plain v)
+outcome_at (end.Error e) = Raised (plain e)
+
+abbrev pub outcome_then : Behind → Outcome
+outcome_then behind.Goes = Active
+outcome_then (behind.Ended e) = outcome_at e
+
 abbrev pub outcome_behind : Move → Outcome
 outcome_behind move.Went = Active
-outcome_behind (move.Ended (end.Value v)) = Returned (plain v)
-outcome_behind (move.Ended (end.Error e)) = Raised (plain e)
+outcome_behind (move.Ended e) = outcome_at e
 outcome_behind (move.Sent x) = Active
+outcome_behind (move.Logged x w) = outcome_then w
 
 abbrev pub calls_behind : Move → List Call → List Call
 calls_behind (move.Sent x) calls = calls ++ Open 0 (request_view x.request) x.due ∷ []
 calls_behind m calls = calls
+
+abbrev pub log_behind : ℕ → Move → List LogEntry → List LogEntry
+log_behind reading (move.Logged x w) log = log ++ logged_at reading x ∷ []
+log_behind reading m log = log
+
+-- how deep nests what it has logged
+abbrev pub logged_depth : Move → ℕ
+logged_depth (move.Logged x w) = depth (plain x.value)
+logged_depth m = 0

@@ -7,6 +7,7 @@ use Rattle.wf_alone.specs.Machine.{Rest}
 use Rattle.wf_alone.specs.Waiting.{due_for}
 use Rattle.wf_check.specs.Seen.{program_of}
 use Rattle.wf_frames.specs.Owned.{control_of, own_of}
+use Rattle.wf_machine.specs.Log.{entries_of}
 use Rattle.wf_machine.specs.Main.{around, config_of, rest_of}
 use Rattle.wf_machine.specs.State.{State}
 use Rattle.wf_machine.specs.declared.ending.Ending.TheVariants.{Running}
@@ -23,13 +24,13 @@ use Rattle.wf_scope.specs.Tasks.{own_layers}
 abbrev pub state_of : Machine → State
 state_of m = record {
   program = program_of m.program;
-  config = config_of (program_of m.program) m.facts m.tally m.task m.scopes m.calls m.ending;
+  config = config_of (program_of m.program) m.facts m.tally m.task m.scopes m.calls m.log m.ending;
   broken = m.broken;
 }
 
 -- what the configuration has beside its tasks and its outcome
 abbrev pub rest_by : Machine → Rest
-rest_by m = rest_of m.facts m.tally m.calls
+rest_by m = rest_of m.facts m.tally m.calls (entries_of m.log)
 
 -- ## Of a task of it
 -- what it has still to do

@@ -1,10 +1,12 @@
 // How an execution has ended.
-ghost use Rattle.std.specs.Prelude.{◌≡◌, IfOk, OnOk};
-ghost use Rattle.wf_machine.specs.Main.{calls_behind, outcome_behind};
+ghost use Rattle.std.specs.Prelude.{◌≡◌, ◌≤◌, IfOk, OnOk};
+ghost use Rattle.wf_machine.specs.Log.{entries_of};
+ghost use Rattle.wf_machine.specs.Main.{calls_behind, log_behind, logged_depth, outcome_at, outcome_behind};
 ghost use Rattle.wf_machine.specs.State.{is_running, outcome_by};
 
+use crate::log::Log;
 use wf_calls::Calls;
-use wf_moves::{End, Move};
+use wf_moves::{Behind, End, Move};
 use wf_value::{OutOfMemory, Value};
 
 /// How an execution has ended, if it has.
@@ -43,18 +45,42 @@ impl Ending {
     }
 }
 
-/// How an execution stands behind what `main` has done. A request that was made is one more call.
-pub(crate) fn ending_of(did: Move, calls: &mut Calls) -> Result<Ending, OutOfMemory>
+/// How an execution has ended with `main`.
+fn ending_by(end: End) -> Ending
+    ensures { outcome_by result ≡ outcome_at end }
+{
+    match end {
+        End::Value(value) => Ending::Returned(value),
+        End::Error(error) => Ending::Raised(error),
+    }
+}
+
+/// How an execution stands behind what `main` has done at a reading. A request that was made is one more call, and a value that was logged
+/// one more entry.
+pub(crate) fn ending_of(
+    did: Move,
+    reading: u64,
+    calls: &mut Calls,
+    log: &mut Log,
+) -> Result<Ending, OutOfMemory>
+    requires shallow { logged_depth did ≤ 100 }
     ensures outcome { IfOk result (λ e. outcome_by e ≡ outcome_behind did) }
     ensures calls { OnOk result (calls.new ≡ calls_behind did calls.old) }
+    ensures log { OnOk result (entries_of log.new ≡ log_behind reading did (entries_of log.old)) }
 {
     match did {
         Move::Went => Ok(Ending::Running),
-        Move::Ended(End::Value(value)) => Ok(Ending::Returned(value)),
-        Move::Ended(End::Error(error)) => Ok(Ending::Raised(error)),
+        Move::Ended(end) => Ok(ending_by(end)),
         Move::Sent(sent) => {
             calls.send(0, sent.request, sent.due)?;
             Ok(Ending::Running)
+        }
+        Move::Logged(logged, behind) => {
+            log.add(logged, reading)?;
+            match behind {
+                Behind::Goes => Ok(Ending::Running),
+                Behind::Ended(end) => Ok(ending_by(end)),
+            }
         }
     }
 }

@@ -1,7 +1,7 @@
 //! The machine: an execution of a workflow, event by event.
 //!
 //! An execution is a program, what it was started with, and what stands between two events: what `main` has still to do, the layers of
-//! its variables, what it waits for, the calls that were made, the count of events, the bytes of all bodies, the last
+//! its variables, what it waits for, the calls that were made, what was logged, the count of events, the bytes of all bodies, the last
 //! reading of the clock, and the outcome. [`Machine::choose`] tells the event that comes next, [`Machine::apply`] carries it out, and
 //! [`Machine::outcome`] tells how the execution has ended. Nothing is read from a clock or a network: readings and answers come in from
 //! outside. Readings are in milliseconds since 1970.
@@ -14,6 +14,7 @@
 //! the delay before the body of a `try` is tried again. The limits are those of the first rules:
 //! - counted events, which are moves and issues: 100,000 in an execution, of which the last isn't carried out: it raises a
 //!   `ResourceLimitError`;
+//! - logged values: a size of 16,777,216 in all; the call that would pass it raises a `ResourceLimitError`;
 //! - bodies of answers: 67,108,864 bytes in an execution; the answer that would pass it ends the execution with a `ResourceLimitError`;
 //! - variables: 65,536 in all, each counting 2, the bytes of its name and the size of its value;
 //! - calls of workflows in each other: 20, of which the next raises a `RecursionError`;
@@ -29,6 +30,7 @@ mod ending;
 mod events;
 mod facts;
 mod laws;
+mod log;
 mod machine;
 mod moving;
 mod reply;

@@ -11,6 +11,7 @@ ghost use Rattle.wf_steps.specs.Built.{is_table_built};
 use crate::argument::argument_of;
 use crate::ending::{Ending, Outcome};
 use crate::facts::Facts;
+use crate::log::Log;
 use crate::targets::targets_of;
 use crate::task::first_task;
 use std::alloc::Global;
@@ -23,7 +24,7 @@ use wf_http_ask::Request;
 use wf_moves::Task;
 use wf_scope::Scopes;
 use wf_steps::{Target, are_built};
-use wf_value::{OutOfMemory, Value};
+use wf_value::{OutOfMemory, Severity, Value};
 
 /// What all variables together may come to, under the first rules.
 const VARIABLE_LIMIT: u64 = 65_536;
@@ -40,7 +41,7 @@ pub(crate) struct Tally {
 /// An execution of a program, as it stands between two events.
 ///
 /// It holds the program with its table, what it was started with, what `main` has still to do and what it waits for, the layers of its
-/// variables, the calls, the count of events, the sum of bodies, the last reading, and its outcome. It never counts more than 100,000
+/// variables, the calls, what was logged, the count of events, the sum of bodies, the last reading, and its outcome. It never counts more than 100,000
 /// events and 67,108,864 bytes of bodies, and its outcome nests at most 100 deep.
 pub struct Machine {
     pub(crate) alloc: Global,
@@ -53,13 +54,14 @@ pub struct Machine {
     pub(crate) task: Option<Task>,
     pub(crate) scopes: Scopes,
     pub(crate) calls: Calls,
+    pub(crate) log: Log,
     pub(crate) ending: Ending,
     pub(crate) broken: bool,
     ghost built: { is_table_built (nodes_of program) ≡ true },
     ghost aims: { Aims (program_of program) (nodes_of program) targets.items } by { Aims-prop _ _ _ },
     ghost standing: { IsStanding (program_of program) (nodes_of program) task scopes } by { IsStanding-prop _ _ _ _ },
     ghost reached: { ∥ (is_some task ≡ true → IsReached (program_of program)
-        (config_of (program_of program) facts tally task scopes calls ending)) ∥₁ },
+        (config_of (program_of program) facts tally task scopes calls log ending)) ∥₁ },
     ghost running: { broken ≡ false → ending ≡ Running → (is_some task ≡ true) × (tally.moves < 100000) },
     ghost shallow: { outcome_depth (outcome_by ending) ≤ 100 },
     ghost most: { tally.moves ≤ 100000 },
@@ -78,6 +80,7 @@ impl Drop for Machine {
             task: _,
             scopes: _,
             calls: _,
+            log: _,
             ending: _,
             broken: _,
         } = self;
@@ -86,16 +89,19 @@ impl Drop for Machine {
 
 impl Machine {
     ghost use Rattle.std.specs.Option.{option_copied};
-    ghost use Rattle.std.specs.Prelude.{ℕ, ◌↔◌, IfNone, IfSome, IsSome, IsTrue, length, option_map};
+    ghost use Rattle.std.specs.Prelude.{ℕ, ◌↔◌, IfNone, IfSome, IsSome, IsTrue, length, option_map, slice_get};
     ghost use Rattle.wf_calls.specs.NextOpen.{IsNextOpen, NoneOpen, next_open};
     ghost use Rattle.wf_events.specs.View.{start_view};
     ghost use Rattle.wf_http_ask.specs.View.{request_view};
     ghost use Rattle.wf_machine.specs.Lent.{outcome_view};
+    ghost use Rattle.wf_machine.specs.Log.{entry_by};
     ghost use Rattle.wf_machine.specs.Outcome.{IsShallow};
     ghost use Rattle.wf_machine.specs.Seen.{state_of};
     ghost use Rattle.wf_model.specs.Config.{Active, TimedOut, To};
     ghost use Rattle.wf_model.specs.Ready.{call as call_of, least_due, quiet, request_of};
     ghost use Rattle.wf_model.specs.Run.{initial};
+    ghost use Rattle.wf_value.specs.Data.{depth};
+    ghost use Rattle.wf_value.specs.Plain.{plain};
 
     /// Begins an execution: it stands before the first step of `main`, or has returned null where `main` has no steps. The parameter of
     /// `main`, if it has one, is bound to the start's argument. Nothing is counted yet. Without memory there is no machine.
@@ -134,6 +140,7 @@ impl Machine {
             task,
             scopes,
             calls: Calls::new(alloc),
+            log: Log::new(alloc),
             ending,
             broken: false,
         })
@@ -203,6 +210,23 @@ impl Machine {
         ensures { result ≡ length (state_of self.now).config.calls }
     {
         self.calls.count()
+    }
+
+    /// The execution's id, as it was started with it.
+    pub fn id(&self) -> &str
+        ensures { result.now ≡ (state_of self.now).config.facts.id }
+    {
+        self.facts.of_step.id.as_str()
+    }
+
+    /// The logged value with this index: the last reading when it was logged, in milliseconds since 1970, how grave it is, and the value,
+    /// which nests at most 100 deep. None past the last one.
+    pub fn log(&self, index: usize) -> Option<(u64, Severity, &Value)>
+        ensures entry { option_map (λ e. entry_by e.0 e.1 (plain e.2.now)) result
+            ≡ slice_get (state_of self.now).config.log index }
+        ensures shallow { IfSome result (λ e. depth (plain e.2.now) ≤ 100) }
+    {
+        self.log.get(index)
     }
 
     /// The least number above `after` of an open call; none where there is none.

@@ -125,6 +125,7 @@ impl Machine {
         self.facts.of_step.now = now;
         self.facts.of_step.last = tally.last;
         self.facts.sending.calls = self.calls.count();
+        self.facts.sending.logged = self.log.size();
         let Ok(did) = go_on(
             &self.program,
             self.targets.as_slice(),
@@ -137,7 +138,7 @@ impl Machine {
             self.broken = true;
             return Err(OutOfMemory);
         };
-        let Ok(ending) = ending_of(did, &mut self.calls) else {
+        let Ok(ending) = ending_of(did, tally.last, &mut self.calls, &mut self.log) else {
             self.broken = true;
             return Err(OutOfMemory);
         };

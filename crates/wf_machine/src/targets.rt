@@ -1,6 +1,7 @@
 // What calls name.
 ghost use Rattle.std.specs.Prelude.{◌≡◌, IfOk, IfSome, List, None, Some, false, is_some, true};
 ghost use Rattle.wf_ast.specs.Flows.{flow};
+ghost use Rattle.wf_ast.specs.Func.{func_named};
 ghost use Rattle.wf_ast.specs.Tree.{Flow};
 ghost use Rattle.wf_check.specs.Seen.{nodes_of, program_of};
 ghost use Rattle.wf_ast.specs.Func.{func_named};
@@ -20,7 +21,7 @@ use wf_steps::{Target, http_named, nap_named};
 use wf_value::OutOfMemory;
 
 /// What each call names, at the call's own number, and the workflow of each predicate, at that of its `try`; none where a call names
-/// neither a workflow, nor a function of expressions, nor a call of HTTP, nor a sleep, or a predicate no workflow.
+/// neither a workflow, nor a function of expressions, nor a call of HTTP, nor a sleep, nor the log, or a predicate no workflow.
 pub(crate) fn targets_of(
     alloc: Global,
     program: &Checked,
@@ -67,8 +68,8 @@ fn asked(program: &Checked, policy: &Option<Policy>) -> Option<Target>
     }
 }
 
-// What may be called by a name: the workflow of that name, where there is none a function, and where that isn't one either a call of HTTP
-// or a sleep.
+// What may be called by a name: the workflow of that name, where there is none a function, and where that isn't one either a call of
+// HTTP, a sleep, or the log.
 fn named(program: &Checked, name: &str) -> Option<Target>
     ensures { IfSome result (λ t. IsTarget (program_of program.now).flows
         (spots (program_of program.now).flows) (Some t) name.now) }
@@ -79,7 +80,7 @@ fn named(program: &Checked, name: &str) -> Option<Target>
     }
 }
 
-// The function of a name, or the call of HTTP or the sleep.
+// The function of a name, or the call of HTTP, the sleep, or the log.
 fn listed(name: &str) -> Option<Target>
     ensures { IfSome result (λ t. (fs : List Flow) (ns : List Spot)
         → is_some (flow fs name.now) ≡ false → IsTarget fs ns (Some t) name.now) }
@@ -90,12 +91,15 @@ fn listed(name: &str) -> Option<Target>
     }
 }
 
-// The call of HTTP of a name, or the sleep.
+// The call of HTTP of a name, or the sleep, or the log.
 fn special(name: &str) -> Option<Target>
     ensures { IfSome result (λ t. (fs : List Flow) (ns : List Spot)
         → is_some (flow fs name.now) ≡ false → is_some (func_named name.now) ≡ false
         → IsTarget fs ns (Some t) name.now) }
 {
+    if name == "sys.log" {
+        return Some(Target::Log);
+    }
     match http_named(name) {
         Some(method) => Some(Target::Http(method)),
         None => Some(Target::Sleeps(nap_named(name)?)),

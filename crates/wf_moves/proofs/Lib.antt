@@ -6,6 +6,7 @@ pub mod Going
 pub mod Jumps
 pub mod Led
 pub mod Leaving
+pub mod Logging
 pub mod Raised
 pub mod Requesting
 pub mod Retrying

@@ -43,6 +43,7 @@ use Rattle.wf_value.specs.declared.Tag.{Tag}
 broken : (a : Around) (s : Scene) (d : Done) (l : Local) (e : Moved) → e ≡ Breaks BadArgument → IsDone a s e d l
 broken a s (done.Went w) l e is = subst (λ m. IsDone a s m (done.Went w) l) (sym is) tt
 broken a s (done.Sent x w) l e is = subst (λ m. IsDone a s m (done.Sent x w) l) (sym is) tt
+broken a s (done.Logged x w) l e is = subst (λ m. IsDone a s m (done.Logged x w) l) (sym is) tt
 broken a s (done.Waits w) l e is = subst (λ m. IsDone a s m (done.Waits w) l) (sym is) tt
 
 module _ (a : Around) (s : Scene) (b : Nap) (args : Pairs) (n : ℕ) (f : CallBody) (now : ℕ) (k d : List Item) (h : Held) (at : s.now ≡ now) (body : part_body (part_at a.spots n) ≡ Body.Call f) (is : IsNap s.program.flows b f.name) where

@@ -24,8 +24,8 @@ use Rattle.wf_moves.specs.declared.finish.Done.TheVariants as done
 use Rattle.wf_nodes.specs.Spots.{Spot, part_at, part_body}
 use Rattle.wf_scope.specs.Tasks.{Own}
 use Rattle.wf_scope.specs.declared.layer.Layer.{Layer}
-use Rattle.wf_steps.proofs.Clocked.{flow_clock, function_clock, http_asks, nap_reads}
-use Rattle.wf_steps.specs.Built.{IsFunction, IsHttp, IsNap, IsWorkflow}
+use Rattle.wf_steps.proofs.Clocked.{flow_clock, function_clock, http_asks, log_clock, nap_reads}
+use Rattle.wf_steps.specs.Built.{IsFunction, IsHttp, IsLog, IsNap, IsWorkflow}
 use Rattle.wf_steps.specs.Steps.{IsNoCall, IsOrBreaks, Issues, Moves, WantsSame, asks, asks_with, calls_by, come}
 use Rattle.wf_steps.specs.declared.step.Step.{Step}
 use Rattle.wf_steps.specs.declared.target.Nap.{Nap}
@@ -51,6 +51,9 @@ module _ (s : Scene) (fs : List Flow) (f : CallBody) (args : Pairs) (k : List It
 
   pub sleep_leads : (b : Nap) → IsNap fs b f.name → leads_with s (Body.Call f) args k l ≡ calls_by s (Body.Call f) args k l
   sleep_leads b h = leads_plainly true (nap_reads s.program.flows b f.name (fields_now f.args) (subst (λ gs. IsNap gs b f.name) (sym same) h))
+
+  pub log_leads : IsLog fs f.name → leads_with s (Body.Call f) args k l ≡ calls_by s (Body.Call f) args k l
+  log_leads h = leads_plainly (fields_now f.args) (log_clock s.program.flows f.name (fields_now f.args) (subst (λ gs. IsLog gs f.name) (sym same) h))
 
   pub http_leads : (m : Option Method) → IsHttp fs m f.name → leads_with s (Body.Call f) args k l ≡ asks_with s (Body.Call f) args k l
   http_leads m h =
@@ -110,6 +113,7 @@ module _ (a : Around) (old new : List Frame) (st : Step) (s : Scene) (l : Local)
     broken (done.Went w) y (inr b) g = subst (λ z. IsMove s z w m) (sym b.1) tt
     broken (done.Sent x w) y (inr b) g = subst (λ z. IsDone a s z (done.Sent x w) m) (sym b.1) tt
     broken (done.Waits w) y (inr b) g = subst (λ z. IsDone a s z (done.Waits w) m) (sym b.1) tt
+    broken (done.Logged x w) y (inr b) g = subst (λ z. IsDone a s z (done.Logged x w) m) (sym b.1) tt
 
     -- the frames' half of a step, and then the other half
     pub stepped_on : IsDone a s (stepped_at s (control a.spots old) l) d m

@@ -6,8 +6,13 @@ use Rattle.wf_frames.specs.Frames.{inner}
 use Rattle.wf_frames.specs.Owned.{Around, local_of}
 use Rattle.wf_frames.specs.declared.frames.Frames.{Frames}
 use Rattle.wf_moves.proofs.Going.{going}
-use Rattle.wf_moves.specs.Moved.{IsGoing}
+use Rattle.wf_model.specs.Local.{Breaks, Creates, Does, Ends, Goes, Local, Logs, Moved, Not, Scene, Sends, Takes}
+use Rattle.wf_moves.specs.Moved.{IsGoing, IsMove}
+use Rattle.wf_moves.specs.Tasks.{HasLogged, IsBehind, IsLogged}
 use Rattle.wf_moves.specs.Waits.{CanGoOn, GoesFrom, call_in, is_awake_in, is_call_at, is_call_kind, is_call_node, wait_view}
+use Rattle.wf_moves.specs.declared.finish.Went.{Went}
+use Rattle.wf_moves.specs.declared.logging.Behind.{Behind}
+use Rattle.wf_moves.specs.declared.logging.Logged.{Logged}
 use Rattle.wf_moves.specs.declared.task.Task.{Task}
 use Rattle.wf_moves.specs.declared.wait.Wait.{Wait}
 use Rattle.wf_moves.specs.declared.wait.Wait.TheVariants as wait
@@ -59,3 +64,18 @@ went_left nodes t e h = (calls_none t.wait e, subst (λ x. GoesFrom nodes x (inn
 -- a task that waits for nothing
 pub awake_local : (a : Around) (w : Wait) (fs : Frames) (x : Scopes) → is_awake_in w ≡ true → record (local_of a fs x) { wait = wait_view a w } ≡ local_of a fs x
 awake_local a w fs x e = ap (λ v. record (local_of a fs x) { wait = wait_view a v }) (is_awake w e)
+
+-- what it has logged, and then a move
+pub logged_local : (a : Around) (s : Scene) (w : Wait) (fs : Frames) (x : Scopes) (n : Moved) (e : Logged) (v : Went) → is_awake_in w ≡ true → IsLogged s n e v (local_of a fs x) → IsLogged s n e v (record (local_of a fs x) { wait = wait_view a w })
+logged_local a s w fs x n e v awake h = subst (IsLogged s n e v) (sym (awake_local a w fs x awake)) h
+
+-- where the move behind a log leads, as it does by itself
+pub logged_then : (s : Scene) (n : Moved) (e : Logged) (v : Went) (b : Behind) (l o : Local) → IsLogged s n e v l → ((m : Moved) → IsMove s m v l → IsBehind m b o) → HasLogged n e b o
+logged_then s (Breaks kind) e v b l o h f = tt
+logged_then s (Does (Logs severity d) m) e v b l o h f = (h.0, h.1, h.2, f m h.3)
+logged_then s (Does (Sends q d) m) e v b l o h f = absurd h
+logged_then s (Does (Creates x) m) e v b l o h f = absurd h
+logged_then s (Does (Takes x) m) e v b l o h f = absurd h
+logged_then s (Goes m) e v b l o h f = absurd h
+logged_then s (Ends x m) e v b l o h f = absurd h
+logged_then s Not e v b l o h f = absurd h

@@ -1,5 +1,5 @@
 -- The requests of calls of HTTP.
---     Reaches        where URLs lead in a scene, and how many calls it has
+--     Reaches        where URLs lead in a scene, how many calls it has, and how much was logged
 --     request_by     the request for which arguments ask, or their first error
 use Rattle.std.specs.Prelude.{◌≡◌, ◌*◌, ℕ, List, Ok, Option, option_map}
 use Rattle.wf_callbacks.specs.Plain.{plain_method}
@@ -15,10 +15,11 @@ use Rattle.wf_shared.specs.HttpRequest.{Request, asked, request}
 use Rattle.wf_value.specs.Data.{Pairs}
 use Rattle.wf_value.specs.Errors.{Answer, ◌>>=◌, later}
 
--- URLs lead in a scene where these routes say, and it has so many calls
+-- URLs lead in a scene where these routes say, it has so many calls, and so much was logged
 pub record Reaches (s : Scene) (x : Sending) : Type 0 where
   pub routes : s.facts.routes ≡ routes_view x.routes
   pub calls : s.calls ≡ x.calls
+  pub logged : s.logged ≡ x.logged
 
 -- a request, and until when its answer is waited for
 abbrev pub sent_view : Sent → Request × ℕ

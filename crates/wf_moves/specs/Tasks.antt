@@ -2,8 +2,8 @@
 --     begun       a task before a workflow, with its argument
 --     argued      a layer with the argument in it
 --     Names       a node is a call of such a name
---     MovesSo     a move or a request of the model, by what a call gives and leaves
-use Rattle.std.specs.Prelude.{◌≡◌, ℕ, Bool, true, false, List, [], ◌∷◌, Some, None, is_some}
+--     MovesSo     a move, a request or a log of the model, by what a call gives and leaves
+use Rattle.std.specs.Prelude.{◌≡◌, ◌≤◌, ℕ, Bool, true, false, List, [], ◌∷◌, Some, None, is_some}
 use Rattle.wf_ast.specs.Tree.{Flow, Param, no_steps}
 use Rattle.wf_frames.specs.Fits.{IsCall, view_at}
 use Rattle.wf_frames.specs.Frames.{inner}
@@ -16,7 +16,7 @@ use Rattle.wf_frames.specs.declared.frames.Frame.{Frame}
 use Rattle.wf_frames.specs.declared.frames.Frames.{Frames}
 use Rattle.wf_http_ask.specs.View.{request_view}
 use Rattle.wf_model.specs.Config.{Awake, Do, Item}
-use Rattle.wf_model.specs.Local.{Breaks, Does, Goes, Local, Moved, Scene, Sends, settle}
+use Rattle.wf_model.specs.Local.{Breaks, Does, Goes, Local, Logs, Moved, Scene, Sends, settle}
 use Rattle.wf_model.specs.Run.{argument_in}
 use Rattle.wf_moves.specs.Moved.{IsEnd, IsLeft, IsMove, IsWent}
 use Rattle.wf_moves.specs.Requests.{Reaches}
@@ -25,6 +25,10 @@ use Rattle.wf_moves.specs.declared.finish.Done.{Done}
 use Rattle.wf_moves.specs.declared.finish.Done.TheVariants as done
 use Rattle.wf_moves.specs.declared.task.Move.{Move}
 use Rattle.wf_moves.specs.declared.task.Move.TheVariants as move
+use Rattle.wf_moves.specs.declared.finish.Went.{Went}
+use Rattle.wf_moves.specs.declared.logging.Behind.{Behind}
+use Rattle.wf_moves.specs.declared.logging.Behind.TheVariants as behind
+use Rattle.wf_moves.specs.declared.logging.Logged.{Logged}
 use Rattle.wf_moves.specs.declared.sending.Sending.{Sending}
 use Rattle.wf_moves.specs.declared.sending.Sent.{Sent}
 use Rattle.wf_moves.specs.declared.task.Task.{Task}
@@ -37,8 +41,9 @@ use Rattle.wf_scope.specs.Layers.{put_at}
 use Rattle.wf_scope.specs.Store.{layers_of}
 use Rattle.wf_scope.specs.declared.layer.Layer.{Layer}
 use Rattle.wf_scope.specs.declared.scopes.Scopes.{Scopes}
-use Rattle.wf_value.specs.Data.{Data}
+use Rattle.wf_value.specs.Data.{Data, depth}
 use Rattle.wf_value.specs.Pairs.{Text}
+use Rattle.wf_value.specs.Plain.{plain}
 
 -- ## The start
 -- the node is a workflow
@@ -101,27 +106,52 @@ IsRequest (Breaks kind) x l = Unit {0}
 IsRequest (Does (Sends q d) m) x l = (q ≡ request_view x.request) × (d ≡ x.due) × (m ≡ Goes l)
 IsRequest m x l = ⊥
 
--- the model's move or request, by what a call gives and leaves
+-- the model's log, and its move then, where it isn't one that no accepted program makes
+abbrev pub IsLogged : Scene → Moved → Logged → Went → Local → Type 0
+IsLogged s (Breaks kind) x w l = Unit {0}
+IsLogged s (Does (Logs severity v) m) x w l = (severity ≡ x.severity) × (v ≡ plain x.value) × (depth (plain x.value) ≤ 100) × IsMove s m w l
+IsLogged s m x w l = ⊥
+
+-- the model's move behind a log
+abbrev pub IsBehind : Moved → Behind → Local → Type 0
+IsBehind m behind.Goes l = IsWent m l
+IsBehind m (behind.Ended e) l = IsEnd m e l
+
+-- the model's log, and where the move then leads
+abbrev pub HasLogged : Moved → Logged → Behind → Local → Type 0
+HasLogged (Breaks kind) x b l = Unit {0}
+HasLogged (Does (Logs severity v) m) x b l = (severity ≡ x.severity) × (v ≡ plain x.value) × (depth (plain x.value) ≤ 100) × IsBehind m b l
+HasLogged m x b l = ⊥
+
+-- the model's move, request or log, by what a call gives and leaves
 abbrev pub MovesSo : Moved → Move → Local → Type 0
 MovesSo m move.Went l = IsWent m l
 MovesSo m (move.Ended e) l = IsEnd m e l
 MovesSo m (move.Sent x) l = IsRequest m x l
+MovesSo m (move.Logged x b) l = HasLogged m x b l
 
 abbrev pub is_sent : Move → Bool
 is_sent (move.Sent x) = true
 is_sent m = false
+
+-- behind a log a task that goes on or waits can go on, and of one that has ended no frame is left
+abbrev pub StaysBehind : List Node → Behind → Task → Type 0
+StaysBehind nodes behind.Goes t = (call_in t.wait ≡ None) × CanGoOn nodes t
+StaysBehind nodes (behind.Ended e) t = inner t.frames ≡ []
 
 -- a task that goes on or waits can go on, and makes no request, and of one that has ended no frame is left
 abbrev pub Stays : List Node → Move → Task → Type 0
 Stays nodes move.Went t = (call_in t.wait ≡ None) × CanGoOn nodes t
 Stays nodes (move.Ended e) t = inner t.frames ≡ []
 Stays nodes (move.Sent x) t = (is_some (call_in t.wait) ≡ true) × CanGoOn nodes t
+Stays nodes (move.Logged x b) t = StaysBehind nodes b t
 
--- ## Moves and requests within a call
--- the model's move or request, of a task that goes on so or waits
+-- ## Moves, requests and logs within a call
+-- the model's move, request or log, of a task that goes on so or waits
 abbrev pub IsDone : Around → Scene → Moved → Done → Local → Type 0
 IsDone a s m (done.Went w) l = IsMove s m w l
 IsDone a s m (done.Sent x w) l = IsRequest m x (record l { wait = wait_view a w })
+IsDone a s m (done.Logged x w) l = IsLogged s m x w l
 IsDone a s m (done.Waits w) l = IsWent m (record l { wait = wait_view a w })
 
 -- it is this one, whatever the scene that has these facts, and agrees on the limit, the rest and the workflows
@@ -132,7 +162,12 @@ DoesBy a f g m h d fs x = (s : Scene) (c : List Item) → Sees s f → Reaches s
 abbrev pub SleepsBy : Around → Facts → (Scene → Local → Moved) → Held → Done → Frames → Scopes → Type 0
 SleepsBy a f m h d fs x = (s : Scene) (c : List Item) → Sees s f → Agrees s a → IsDone a s (m s (standing c h)) d (local_of a fs x)
 
+-- the same of a scene whose facts don't matter
+abbrev pub LogsBy : Around → Sending → (Scene → Local → Moved) → Held → Done → Frames → Scopes → Type 0
+LogsBy a g m h d fs x = (s : Scene) (c : List Item) → Reaches s g → Agrees s a → IsDone a s (m s (standing c h)) d (local_of a fs x)
+
 abbrev pub IsLeftSo : List Node → Done → List Frame → Type 0
 IsLeftSo nodes (done.Went w) fs = IsLeft nodes w fs
 IsLeftSo nodes (done.Sent x w) fs = (is_some (call_in w) ≡ true) × GoesFrom nodes w fs
+IsLeftSo nodes (done.Logged x w) fs = IsLeft nodes w fs
 IsLeftSo nodes (done.Waits w) fs = (call_in w ≡ None) × GoesFrom nodes w fs

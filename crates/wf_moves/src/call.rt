@@ -19,6 +19,7 @@ ghost use Rattle.wf_value.specs.Plain.{plain};
 
 use crate::back::give;
 use crate::finish::{Done, Went, goes};
+use crate::logging::logs;
 use crate::raising::{fails, raises_tag};
 use crate::sending::{Sending, sends};
 use crate::sleeping::sleeps;
@@ -198,5 +199,6 @@ pub(crate) fn call(
             alloc, nodes, n, *method, args, frames, scopes, facts, sending,
         ),
         Target::Sleeps(nap) => sleeps(alloc, nodes, n, *nap, args, frames, scopes, facts),
+        Target::Log => logs(alloc, nodes, n, args, frames, scopes, sending),
     }
 }

@@ -12,6 +12,7 @@ ghost use Rattle.wf_moves.specs.Moved.{HasMove, IsLeft, IsMove, IsSettled, IsThr
 ghost use Rattle.wf_nodes.specs.Spots.{Spot};
 ghost use Rattle.wf_nodes.specs.declared.node.Node.{Node};
 
+use crate::logging::Logged;
 use crate::sending::Sent;
 use crate::wait::Wait;
 use wf_frames::{Frame, Frames, leave};
@@ -38,11 +39,13 @@ pub(crate) enum Went {
     Says(bool),
 }
 
-/// What a move gives, the request that the task has made, with its wait, or a wait alone.
+/// What a move gives; the request that the task has made, with its wait; what it has logged, with what the move gives then; or a wait
+/// alone.
 #[derive(Drop)]
 pub(crate) enum Done {
     Went(Went),
     Sent(Sent, Wait),
+    Logged(Logged, Went),
     Waits(Wait),
 }
 

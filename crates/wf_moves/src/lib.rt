@@ -12,6 +12,7 @@ mod finish;
 mod judging;
 mod jump;
 mod leading;
+mod logging;
 mod moves;
 mod raising;
 mod sending;
@@ -23,5 +24,6 @@ mod unwind;
 mod wait;
 
 pub use finish::End;
+pub use logging::{Behind, Logged};
 pub use sending::{Sending, Sent};
 pub use task::{Move, Task};

@@ -27,10 +27,12 @@ use wf_nodes::Node;
 use wf_scope::Scopes;
 use wf_value::{Map, OutOfMemory, Raise};
 
-/// What a request depends on beside the facts of its execution: where URLs lead, and how many calls were made before.
+/// What a step does outside depends on beside the facts of its execution: where URLs lead, how many calls were made before, and the size
+/// of all values that were logged.
 pub struct Sending {
     pub routes: Routes,
     pub calls: u64,
+    pub logged: u64,
 }
 
 // Written, and not derived: it is one call wherever it is let go.
@@ -39,6 +41,7 @@ impl Drop for Sending {
         let Sending {
             routes: _,
             calls: _,
+            logged: _,
         } = self;
     }
 }

@@ -17,6 +17,7 @@ use crate::back::give;
 use crate::finish::{Done, End, Went, settle};
 use crate::judging::try_again;
 use crate::leading::{Led, lead};
+use crate::logging::{Behind, Logged};
 use crate::moves::advance;
 use crate::sending::{Sending, Sent};
 use crate::start::{first_layer, params};
@@ -37,6 +38,8 @@ pub enum Move {
     Ended(End),
     /// It has made a request, and waits for the answer.
     Sent(Sent),
+    /// It has logged a value, and goes on, or waits for its next try, or has ended.
+    Logged(Logged, Behind),
 }
 
 /// A task: what it has still to do, the layers of its own, and what it waits for.
@@ -56,7 +59,7 @@ impl Task {
     ghost use Rattle.wf_model.specs.Move.{due, resumed};
     ghost use Rattle.wf_moves.specs.Requests.{Reaches};
     ghost use Rattle.wf_moves.specs.Stepped.{stepped};
-    ghost use Rattle.wf_moves.specs.Tasks.{IsFirst, IsFlow, MovesSo, Stays, first, has_ended, is_sent};
+    ghost use Rattle.wf_moves.specs.Tasks.{IsBehind, IsFirst, IsFlow, MovesSo, Stays, StaysBehind, first, has_ended, is_sent};
     ghost use Rattle.wf_moves.specs.Waits.{CanGoOn, answer_view, call_in, is_awake_in, is_call_at, moment_in, result_in, task_local};
 
     /// The first task, awake, which stands before the steps of a workflow: that of the node with this number. Its first layer is made, and holds
@@ -185,6 +188,10 @@ impl Task {
             Done::Sent(sent, wait) => {
                 self.wait = wait;
                 Ok(Move::Sent(sent))
+            }
+            Done::Logged(entry, went) => {
+                let behind = self.stand(nodes, targets, scopes, facts, went)?;
+                Ok(Move::Logged(entry, behind))
             }
         }
     }
@@ -331,6 +338,46 @@ impl Task {
             Led::Waits(wait) => {
                 self.wait = wait;
                 Ok(Move::Went)
+            }
+        }
+    }
+
+    // How it stands behind what it has logged, where a move leads then: its error goes outward, and so does what a predicate has said.
+    fn stand(
+        &mut self,
+        nodes: &[Node],
+        targets: &[Target],
+        scopes: &mut Scopes,
+        facts: &Facts,
+        went: Went,
+    ) -> Result<Behind, OutOfMemory>
+        ghost around: { Around }
+        requires tells { Tells around.spots nodes.now }
+        requires targets { AreTargets around.flows around.spots nodes.now targets.now }
+        requires stands { Stands around nodes.now self.old.frames scopes.old }
+        requires left { IsLeft nodes.now went (inner self.old.frames) }
+        requires awake { is_awake_in self.old.wait ≡ true }
+        ensures moved { IfOk result (λ b. (s : Scene) (m : Moved) → Sees s facts.entry.now
+            → Agrees s around → IsMove s m went (task_local around self.old scopes.old)
+            → IsBehind m b (task_local around self.new scopes.new)) }
+        ensures stands { OnOk result (Stands around nodes.now self.new.frames scopes.new) }
+        ensures left { IfOk result (λ b. StaysBehind nodes.now b self.new) }
+    {
+        let led = lead(
+            self.alloc,
+            nodes,
+            targets,
+            facts.last,
+            went,
+            &mut self.frames,
+            scopes,
+        )?;
+        match led {
+            Led::Goes => Ok(Behind::Goes),
+            Led::Ended(end) => Ok(Behind::Ended(end)),
+            Led::Waits(wait) => {
+                self.wait = wait;
+                Ok(Behind::Goes)
             }
         }
     }

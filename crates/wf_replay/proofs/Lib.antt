@@ -1,5 +1,6 @@
 mod Applied
 mod Events
 mod Faults
+mod Fronts
 mod Replays
 mod Steps

@@ -1,15 +1,26 @@
 -- How records that a history lends are passed.
-use Rattle.std.specs.Prelude.{◌≡◌, ℕ, List, ◌∷◌, Some, None, Err}
-use Rattle.std.proofs.Common.{sym, ◌∙◌, ap}
+use Rattle.std.specs.Prelude.{◌≡◌, ◌×◌, ℕ, suc, List, ◌∷◌, Option, Some, None, Err}
+use Rattle.std.proofs.Common.{sym, ◌∙◌, ap, ap₂}
 use Rattle.wf_events.specs.Reading.{meaning}
 use Rattle.wf_events.specs.Records.{Record}
-use Rattle.wf_history.specs.Stands.{IsBadAt}
+use Rattle.wf_history.specs.Stands.{IsBadAt, last_after}
 use Rattle.wf_journal_laws.proofs.Steps.{off, on}
 use Rattle.wf_journal_laws.specs.History.{Standing, goes_on, goes_to, told}
+use Rattle.wf_machine.specs.declared.machine.Machine.{Machine}
+use Rattle.wf_replay.specs.Standing.{Passes, stands_at}
 
 -- a record that was read
 pub passes : (s t : Standing) (b : List ℕ) (rest ahead : List (List ℕ)) (r : Record) → ahead ≡ b ∷ rest → meaning b ≡ Some r → goes_on s (Some r) ≡ Some t → goes_to s ahead ≡ goes_to t rest
 passes s t b rest ahead r next meant goes = ap (λ l. goes_to s l) next ∙ on s t b rest (ap (λ m. goes_on s m) meant ∙ goes)
+
+-- the same as a fact of this record, where the history stands behind it
+pub passes_one : (number after : ℕ) (last now : Option (ℕ × ℕ)) (m n : Machine) (b : List ℕ) (rest ahead : List (List ℕ)) (r : Record) → ahead ≡ b ∷ rest → meaning b ≡ Some r
+    → goes_on (stands_at number last m) (Some r) ≡ Some (stands_at (suc number) (last_after last r) n) → after ≡ suc number → now ≡ last_after last r → Passes (stands_at number last m) (stands_at after now n) ahead rest
+passes_one number after last now m n b rest ahead r next meant goes place turn = record {
+  payload = b;
+  next = next;
+  on = ap (λ x. goes_on (stands_at number last m) x) meant ∙ goes ∙ ap₂ (λ p l. Some (stands_at p l n)) (sym place) (sym turn);
+}
 
 pub stops : (s : Standing) (b : List ℕ) (rest ahead : List (List ℕ)) (r : Record) (n : ℕ) → ahead ≡ b ∷ rest → meaning b ≡ Some r → goes_on s (Some r) ≡ None → n ≡ told s.number → goes_to s ahead ≡ Err n
 stops s b rest ahead r n next meant goes number = ap (λ l. goes_to s l) next ∙ off s b rest (ap (λ m. goes_on s m) meant ∙ goes) ∙ ap (λ i. Err i) (sym number)

@@ -1,10 +1,11 @@
 -- Where a history that was read and its machine stand.
-use Rattle.std.specs.Prelude.{ℕ, Option, Some, None}
+use Rattle.std.specs.Prelude.{◌≡◌, ℕ, List, ◌∷◌, Option, Some, None}
+use Rattle.wf_events.specs.Reading.{meaning}
 use Rattle.wf_history.specs.Stands.{place, last}
 use Rattle.wf_history.specs.declared.history.History as history
 use Rattle.wf_machine.specs.Seen.{state_of}
 use Rattle.wf_machine.specs.declared.machine.Machine as machine
-use Rattle.wf_journal_laws.specs.History.{Standing}
+use Rattle.wf_journal_laws.specs.History.{Standing, goes_on}
 
 abbrev pub session_of : Option (ℕ × ℕ) → ℕ
 session_of None = 0
@@ -27,3 +28,9 @@ stands_at number last m = record {
 -- the same behind the records that a history has read
 abbrev pub standing : history.History → machine.Machine → Standing
 standing h m = stands_at (place h) (last h) m
+
+-- the first of the records that come next goes on, and the others come next behind it
+pub record Passes (s t : Standing) (ahead rest : List (List ℕ)) : Type 0 where
+  pub payload : List ℕ
+  pub next : ahead ≡ payload ∷ rest
+  pub on : goes_on s (meaning payload) ≡ Some t

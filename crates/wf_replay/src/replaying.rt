@@ -1,5 +1,5 @@
 // Replaying a history.
-ghost use Rattle.std.specs.Prelude.{◌≡◌, ◌⊎◌, ◌↔◌, ◌&&◌, ◌<◌, ◌+◌, [], true, false, ℕ, suc, length, Some, None, Ok, Err, IfOk, IfErr, OnOk, IsErrOf};
+ghost use Rattle.std.specs.Prelude.{◌≡◌, ◌⊎◌, ◌↔◌, ◌&&◌, ◌<◌, ◌+◌, [], true, false, ℕ, suc, drop, length, take, Some, None, Ok, Err, IfOk, IfErr, OnOk, IsErrOf};
 ghost use Rattle.wf_events.specs.View.{events_view, record_view, turn_view};
 ghost use Rattle.wf_history.specs.Stands.{ahead, at_end, is_closed, is_new, last_after, unread, Stands};
 ghost use Rattle.wf_host.specs.Calls.{AtAnyMoment, DiskFailed, DoesNoDeed, NoCountFalls, ReadsAsBefore, TellsAsBefore};
@@ -10,7 +10,7 @@ ghost use Rattle.wf_model.specs.Config.{Config, To};
 ghost use Rattle.wf_model.specs.Run.{run_on};
 ghost use Rattle.wf_journal_laws.specs.At.{applied_by, events_of};
 ghost use Rattle.wf_journal_laws.specs.History.{goes_on, goes_on_at, goes_to, is_numbered, told};
-ghost use Rattle.wf_replay.specs.Standing.{session_of, standing, stands_at, waits_of};
+ghost use Rattle.wf_replay.specs.Standing.{Passes, session_of, standing, stands_at, waits_of};
 
 use crate::ReplayFault;
 use std::alloc::Global;
@@ -72,6 +72,61 @@ pub fn replay<H: Host, L: Ledger>(
     Ok(machine)
 }
 
+/// Applies so many of the turns that a history has left to the machine, which stands where the records that were read so far lead, or all
+/// of them where there are fewer. Then the machine stands where the records lead that were read, and the other turns come next. Each event
+/// of the turns that were applied counts one step. The faults are those of [`replay`], of these turns alone.
+#[tactic(auto, using(crate::proofs::Fronts::one_further, crate::proofs::Fronts::all_gone, crate::proofs::Fronts::none_left))]
+pub fn replay_turns<H: Host, L: Ledger>(
+    alloc: Global,
+    history: &mut History,
+    host: &mut H,
+    machine: Machine,
+    turns: u64,
+    steps: &mut Steps<L>,
+) -> Result<Machine, ReplayFault>
+    requires whole { (state_of machine).broken ≡ false }
+    requires kept { is_closed history.old ≡ false
+        → Told (H.world host.old) (Stands history.old (H.world host.old)) }
+    ensures stands { is_closed history.new ≡ false
+        → Told (H.world host.old) (Stands history.new (H.world host.new)) }
+    ensures replayed { Told (H.world host.old)
+        (IfOk result (λ m. goes_to (standing history.old machine)
+        (take turns (ahead history.old (H.world host.old).seen)) ≡ Ok (standing history.new m))) }
+    ensures left { Told (H.world host.old)
+        (OnOk result (ahead history.new (H.world host.old).seen
+        ≡ drop turns (ahead history.old (H.world host.old).seen))) }
+    ensures steps { Told (H.world host.old)
+        (OnOk result (steps.new + applied_by (ahead history.new (H.world host.old).seen)
+        ≡ steps.old + applied_by (ahead history.old (H.world host.old).seen))) }
+    ensures whole { IfOk result (λ m. (state_of m).broken ≡ false) }
+    ensures bad_event { Told (H.world host.old)
+        (IfErr result (λ e. (n : ℕ) → e ≡ ReplayFault.BadEvent n
+        → goes_to (standing history.old machine) (ahead history.old (H.world host.old).seen)
+        ≡ Err n)) }
+    ensures new { is_new history.new ≡ is_new history.old }
+    ensures seen { ReadsAsBefore H.world host.old host.new }
+    ensures any_moment { is_closed history.old ≡ false
+        → AtAnyMoment H.world host.old host.new (Stays (H.world host.old)) }
+    ensures disk_fault { IsErrOf result ReplayFault.DiskFault
+        → DiskFailed H.faults host.old host.new }
+    ensures closed { IsErrOf result ReplayFault.Closed → is_closed history.old ≡ true }
+    ensures closes { (is_closed history.new ≡ true)
+        ↔ ((is_closed history.old ≡ true) ⊎ IsErrOf result ReplayFault.DiskFault) }
+    ensures deeds { DoesNoDeed H.world host.old host.new }
+    ensures tells { TellsAsBefore H.world host.old host.new }
+    ensures counts { NoCountFalls H.faults host.old host.new }
+{
+    let mut machine = machine;
+    let mut left = turns;
+    while left > 0 {
+        if !replay_next(alloc, history, host, &mut machine, steps)? {
+            return Ok(machine);
+        }
+        left -= 1;
+    }
+    Ok(machine)
+}
+
 /// Applies the next turn, if there is one.
 fn replay_next<H: Host, L: Ledger>(
     alloc: Global,
@@ -94,6 +149,13 @@ fn replay_next<H: Host, L: Ledger>(
         ≡ steps.old + applied_by (ahead history.old (H.world host.old).seen))) }
     ensures last { Told (H.world host.old)
         (IfOk result (λ more. more ≡ false → ahead history.new (H.world host.old).seen ≡ [])) }
+    ensures one { Told (H.world host.old)
+        (IfOk result (λ more. more ≡ true
+        → Passes (standing history.old machine.old) (standing history.new machine.new)
+        (ahead history.old (H.world host.old).seen) (ahead history.new (H.world host.old).seen))) }
+    ensures none_more { Told (H.world host.old)
+        (IfOk result (λ more. more ≡ false → (ahead history.old (H.world host.old).seen ≡ [])
+        × (standing history.new machine.new ≡ standing history.old machine.old))) }
     ensures whole { OnOk result ((state_of machine.new).broken ≡ false) }
     ensures ended { IfOk result (λ more. more ≡ false → at_end history.new ≡ true) }
     ensures shorter { IfOk result (λ more. more ≡ true → unread history.new < unread history.old) }

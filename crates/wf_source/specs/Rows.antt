@@ -34,4 +34,4 @@ pub record WorkedSources : Type 0 where
   pub flow_of_yaml : IsRefused (codes "{a: 1}") NotJson Source
   pub operand_is_missing : IsRefused (codes "- a:\n    return: ${1 +}\n") Syntax (Within (in_step (codes "return")) 3)
   pub name_of_no_variable : IsRefused (codes "- a:\n    return: ${x}\n") UnknownName (Path (in_step (codes "return")))
-  pub form_to_come : IsRefused (codes "- a:\n    call: sys.log\n    args:\n      text: a\n") NotYet (Path (in_step (codes "call")))
+  pub form_to_come : IsRefused (codes "- a:\n    call: events.create_callback_endpoint\n    args:\n      http_callback_method: POST\n") NotYet (Path (in_step (codes "call")))

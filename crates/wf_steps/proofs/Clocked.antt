@@ -19,7 +19,7 @@ use Rattle.wf_model.specs.Kinds.{ByCall, ByClock, Plainly, body_kind, by_clock, 
 use Rattle.wf_steps.proofs.Advancing.{entries_next, from_next}
 use Rattle.wf_steps.proofs.Lists.{drop_end, entries_long, from_end}
 use Rattle.wf_steps.proofs.Parts.{as_part, entries_is, list_is, part_is}
-use Rattle.wf_steps.specs.Built.{IsFunction, IsHttp, IsNap, IsWorkflow, function_parts, listed, nap_special}
+use Rattle.wf_steps.specs.Built.{IsFunction, IsHttp, IsLog, IsNap, IsWorkflow, function_parts, listed, nap_special}
 use Rattle.wf_steps.specs.declared.target.Nap.{Nap}
 use Rattle.wf_steps.specs.declared.target.Nap.TheVariants as nap
 use Rattle.wf_nodes.specs.Kinds.{Listed, entry_by, kind_by}
@@ -152,6 +152,22 @@ nap_reads fs n x b h = by (flow fs x) h.free ∙ in_library (func_named x) h.unl
     special : (g : Option SpecialListing) → option_map (λ e. e.special) g ≡ Some (nap_special n) → listed_kind None g b ≡ ByClock
     special None e = absurd (cc e)
     special (Some g) e = let same : g.special ≡ nap_special n = cc e in ap (λ y. special_kind y b) same ∙ naps n
+
+-- a log reads the clock where an argument does
+pub log_clock : (fs : List Flow) (x : Text) (b : Bool) → IsLog fs x → call_kind (flow fs x) x b ≡ by_clock b
+log_clock fs x b h = by (flow fs x) h.free ∙ in_library (func_named x) h.unlisted ∙ special (special_named x) h.named
+  where
+    by : (o : Option Flow) → is_some o ≡ false → call_kind o x b ≡ listed_kind (func_named x) (special_named x) b
+    by (Some w) t = absurd (cc t)
+    by None t = refl
+
+    in_library : (o : Option Listing) → is_some o ≡ false → listed_kind o (special_named x) b ≡ listed_kind None (special_named x) b
+    in_library (Some e) t = absurd (cc t)
+    in_library None t = refl
+
+    special : (g : Option SpecialListing) → option_map (λ (e : SpecialListing). e.special) g ≡ Some SysLog → listed_kind None g b ≡ by_clock b
+    special None e = absurd (cc e)
+    special (Some g) e = let same : g.special ≡ SysLog = cc e in ap (λ (y : Special). special_kind y b) same
 
 -- a test or another
 pub either_true : (a b v : Bool) → a ≡ true → v ≡ true → v ≡ (a || b)

@@ -1,11 +1,11 @@
 -- Tables whose steps are built.
 --     is_table_built     none is parallel
 --     Tells              such a table tells of a program's parts
---     AreTargets         what its calls name: workflows, functions, calls of HTTP and sleeps; and the workflows of its predicates
+--     AreTargets         what its calls name: workflows, functions, calls of HTTP, sleeps and the log; and the workflows of its predicates
 use Rattle.std.specs.Prelude.{◌≡◌, ℕ, Bool, true, false, not, List, map, option_map, slice_get, is_some, Some, None, Option}
 use Rattle.std.specs.List.{list_all}
 use Rattle.wf_ast.specs.Flows.{flow}
-use Rattle.wf_ast.specs.Func.{Listing, Special, SpecialListing, SysSleep, SysSleepUntil, func_named, special_named}
+use Rattle.wf_ast.specs.Func.{Listing, Special, SpecialListing, SysLog, SysSleep, SysSleepUntil, func_named, special_named}
 use Rattle.wf_ast.specs.Tree.{Flow}
 use Rattle.wf_ast.specs.declared.Func.{Func}
 use Rattle.wf_ast.specs.declared.policy.Policy.{Policy}
@@ -91,6 +91,12 @@ pub record IsNap (fs : List Flow) (b : Nap) (x : Text) : Type 0 where
   pub unlisted : is_some (func_named x) ≡ false
   pub named : option_map (λ e. e.special) (special_named x) ≡ Some (nap_special b)
 
+-- nor has a workflow nor a function of expressions this name, but the log
+pub record IsLog (fs : List Flow) (x : Text) : Type 0 where
+  pub free : is_some (flow fs x) ≡ false
+  pub unlisted : is_some (func_named x) ≡ false
+  pub named : option_map (λ (e : SpecialListing). e.special) (special_named x) ≡ Some SysLog
+
 -- a call of this name comes to this
 abbrev pub IsTarget : List Flow → List Spot → Option Target → Text → Type 0
 IsTarget fs ns None x = ⊥
@@ -98,6 +104,7 @@ IsTarget fs ns (Some (target.Flow n)) x = IsWorkflow fs ns n x
 IsTarget fs ns (Some (target.Function g)) x = IsFunction fs g x
 IsTarget fs ns (Some (target.Http m)) x = IsHttp fs m x
 IsTarget fs ns (Some (target.Sleeps b)) x = IsNap fs b x
+IsTarget fs ns (Some target.Log) x = IsLog fs x
 
 -- a predicate of this name comes to this
 abbrev pub IsAsked : List Flow → List Spot → Option Target → Text → Type 0

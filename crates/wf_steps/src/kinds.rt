@@ -135,6 +135,7 @@ fn call_kind(targets: &[Target], n: u32, clock: bool) -> Kind
         Target::Function(function) => by_clock(is_now(function.func) || clock),
         Target::Http(_) => Kind::Call,
         Target::Sleeps(_) => Kind::Clock,
+        Target::Log => by_clock(clock),
     }
 }
 

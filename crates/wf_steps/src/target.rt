@@ -16,13 +16,14 @@ pub enum Nap {
 }
 
 /// What a call names: the workflow of the node with this number, a function, a call of HTTP, whose name tells its method, or none where
-/// the method is among the arguments, or a sleep.
+/// the method is among the arguments, a sleep, or the log.
 #[derive(Clone, Copy)]
 pub enum Target {
     Flow(u32),
     Function(Function),
     Http(Option<Method>),
     Sleeps(Nap),
+    Log,
 }
 
 /// The sleep of a name; none where the name is that of no sleep.

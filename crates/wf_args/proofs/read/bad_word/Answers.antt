@@ -4,7 +4,7 @@ use Rattle.std.proofs.lemmas.Bool.{ltb-false}
 use Rattle.wf_args.specs.Lines.{words_view, next_name, is_word}
 use Rattle.wf_args.proofs.Reading.{next_named}
 use Rattle.wf_args.proofs.Counts.{none_within, few_words_are_read}
-use Rattle.wf_args.proofs.Steps.{so_far, Along, ends_unknown, ends_incomplete, ends_unfit, more_pairs, more_goes_on, ends}
+use Rattle.wf_args.proofs.Steps.{so_far, Along, ends_unknown, ends_incomplete, ends_unfit, more_pairs, more_goes_on, ends, ends_missing}
 use Rattle.wf_args.proofs.read.bad_word.Goals as goal
 
 pub returns-in_default : goal.returns-in_default
@@ -54,5 +54,13 @@ loop-at-preserved c =
     subst (Along c.args.command c.args.options.now) (let e : suc (suc c.loop-at.at) ≡ c.loop-at.at + 2 = omega arith in e)
     (record { within = omega (arith, below); pairs = pairs; goes_on = on })
 
-pub returns : goal.returns
-returns c = ends c.args.command c.args.options.now c.loop-at.at (omega (arith, c.loop-at-test.false)) c.loop-at.invariant.goes_on
+pub returns-then-is_complete : goal.returns-then-is_complete
+returns-then-is_complete c =
+    ends c.args.command c.args.options.now c.loop-at.at (omega (arith, c.loop-at-test.false)) c.loop-at.invariant.goes_on (sym c.is_complete.ensures ∙ c.if-is_complete.true)
+
+pub returns-else-is_complete : goal.returns-else-is_complete
+returns-else-is_complete c =
+    let bad = ends_missing c.args.command c.args.options.now c.loop-at.at (omega (arith, c.loop-at-test.false)) c.loop-at.invariant.goes_on (sym c.is_complete.ensures ∙ c.if-is_complete.false) in
+    let few = few_words_are_read c.args.command 1 [] (words_view c.args.options.now) (suc c.loop-at.at) (omega arith) none_within bad in
+    let told : suc c.loop-at.at ≡ c.number-else-is_complete.result = omega (arith, few, c.loop-at-test.false, c.loop-at.invariant.within, c.number-else-is_complete.ensures) in
+    bad ∙ ap Err told

@@ -1,7 +1,7 @@
 use Rattle.std.proofs.Common.{◌≡◌, ◌∙◌, ℕ, List, IsTrue, Ok, Err, ap, refl, subst}
 use Rattle.wf_cli.proofs.Causes.{resume_executes}
 use Rattle.wf_cli.proofs.Finish.{rose_from, none_fell}
-use Rattle.wf_cli.proofs.Opens.{not_of_polls, opening_by_resume}
+use Rattle.wf_cli.proofs.Opens.{not_of_polls, opening_by_resume, resume_uses}
 use Rattle.wf_cli.proofs.Works.{end_fault, worked_fault, worked_going, end_going, resume_taken, given_seen}
 use Rattle.wf_cli.proofs.Outsides.{some_outside}
 use Rattle.wf_cli.specs.Said.{Going, Opening, Worked}
@@ -79,7 +79,7 @@ returns-in-Err g c =
     })) in
     record {
       end = λ words rest reads reads2 is.
-          end_fault (scene words rest old) old new reads reads2 (g.H.Host.faults c.args.host.now) (g.H.Host.faults c.open.new.host) c.in-Err.fault c.of_fault.result c.of_fault.ensures (resume_executes (scene words rest old) (l, is, c.requires.command))
+          end_fault (scene words rest old) old new reads reads2 (g.H.Host.faults c.args.host.now) (g.H.Host.faults c.open.new.host) c.in-Err.fault c.of_fault.result c.of_fault.ensures (resume_uses (scene words rest old) (l, is, c.requires.command))
           (resume_taken (scene words rest old) (l, is, c.requires.command)) (λ told. (opening some_outside told words rest is).fault) (λ told. (opening some_outside told words rest is).silently) (λ it. k.disk_fault (c.in-Err.is ∙ ap Err it)) (not_of_polls c.in-Err.fault c.in-Err.ensures.only);
       worked = λ O told words rest is. worked_fault O (scene words rest old) kept.Resume old new c.in-Err.fault c.of_fault.result (opening O told words rest is) c.of_fault.ensures (resume_executes (scene words rest old) (l, is, c.requires.command)) (resume_taken (scene words rest old) (l, is, c.requires.command)) (λ _. refl);
       tells = k.tells;

@@ -2,6 +2,7 @@ use Rattle.std.proofs.Common.{◌≡◌, ◌∙◌, ℕ, List, IsTrue, Ok, Err, 
 use Rattle.wf_check.specs.Seen.{program_of}
 use Rattle.wf_cli.proofs.Causes.{run_executes, not_run_and_resume}
 use Rattle.wf_cli.proofs.Finish.{rose_from, none_fell}
+use Rattle.wf_cli.proofs.Opens.{run_uses}
 use Rattle.wf_cli.proofs.Works.{end_fault, worked_fault, worked_going, end_going, is_taken, given_seen}
 use Rattle.wf_cli.proofs.Outsides.{some_outside}
 use Rattle.wf_cli.specs.Said.{Going, Opening, Worked}
@@ -56,7 +57,7 @@ returns-in-Err g c =
     record {
       end = λ words rest reads reads2 is first.
           end_fault (scene words rest old) old new reads reads2 (g.H.Host.faults c.args.host.now) (g.H.Host.faults c.begin.new.host) c.in-Err.fault c.of_fault.result c.of_fault.ensures
-          (run_executes (scene words rest old) (l, is, c.requires.command)) (is_taken c.laws_of_sources.ensures.not_both (scene words rest old) l c.args.source.now (program_of c.args.program) (is, ap uses_source c.requires.command, first) c.requires.command c.requires.program c.requires.has)
+          (run_uses (scene words rest old) (l, is, c.requires.command)) (is_taken c.laws_of_sources.ensures.not_both (scene words rest old) l c.args.source.now (program_of c.args.program) (is, ap uses_source c.requires.command, first) c.requires.command c.requires.program c.requires.has)
           (λ told. (opening some_outside told words rest is first).fault) (λ told. (opening some_outside told words rest is first).silently) (λ it. k.disk_fault (c.in-Err.is ∙ ap Err it)) (λ it. k.polls (c.in-Err.is ∙ ap Err it));
       worked = λ O told words rest is first.
           worked_fault O (scene words rest old) kept.Run old new c.in-Err.fault c.of_fault.result (opening O told words rest is first) c.of_fault.ensures (run_executes (scene words rest old) (l, is, c.requires.command))

@@ -11,7 +11,7 @@ Plain c =
       source = c.in_ok-new.field-0;
       argument = c.argument.inside.bytes.value.items;
       routes = c.in_ok-routes_for.field-0;
-      env = c.new-2.result;
+      env = c.in_ok-env_for.field-0;
       base = c.in_ok-new-2.field-0;
       reading = c.args.reading;
     }))
@@ -25,7 +25,8 @@ is_plain c = record {
   argument = subst IsShortArgument (sym c.requires.text ∙ sym c.argument.view_is) (c.laws_of_starts.ensures.spelled (plain_line c.args.line.now) c.requires.has);
   routes = c.in_ok-routes_for.ensures.spelled;
   few = c.in_ok-routes_for.ensures.short;
-  env = c.new-2.ensures;
+  env = c.in_ok-env_for.ensures.spelled;
+  few_pairs = c.in_ok-env_for.ensures.short;
   base = c.in_ok-new-2.ensures;
   reading = c.ranges.reading.fits;
 }

@@ -3,7 +3,7 @@ use Rattle.std.specs.Prelude.{Option, slice_get}
 use Rattle.std.proofs.lemmas.Option.{slice_get-get_or}
 use Rattle.wf_moves.proofs.Calling.{target_within}
 use Rattle.wf_frames.specs.Owned.{beside, control_of, local_of}
-use Rattle.wf_moves.proofs.Stepping.{flow_leads, function_leads, http_leads, sleep_leads}
+use Rattle.wf_moves.proofs.Stepping.{flow_leads, function_leads, http_leads, log_leads, sleep_leads}
 use Rattle.wf_moves.specs.Moved.{IsMove}
 use Rattle.wf_moves.specs.Stepped.{leads_with}
 use Rattle.wf_moves.specs.Tasks.{IsDone}
@@ -131,3 +131,31 @@ returns-in-Sleeps-clause-moved g c =
     (sym (ap (λ b. leads_with s b args k l) body ∙ sleep_leads s g.around.flows (call_by f.1.node.codes.items.items f.0) args k l agrees.2 c.in-Sleeps.nap so ∙ sym (ap (λ b. calls_by s b args k l) body)))
     (h s d sees agrees))
     c.sleeps.ensures.moved
+
+pub logs-requires : goal.logs-requires
+logs-requires g c =
+    let f = c.requires.1.1.1.0 in
+    let aim = c.requires.1.0.calls c.args.n f.1.node f.0 f.1.at f.1.is in
+    let lt = target_within g.around.flows g.around.spots c.args.targets.now c.args.n f.0.name aim in
+    let found : slice_get c.args.targets.now c.args.n ≡ Some target.Log =
+    slice_get-get_or c.args.targets.now c.args.n (target.Flow 0) lt ∙ ap (λ (t : Target). Some t) c.in-Log.is in
+    (c.requires.0, (c.requires.1.1.0, ((f.0, f.1, subst (λ (o : Option Target). IsTarget g.around.flows g.around.spots o f.0.name) found aim), c.requires.1.1.1.1)))
+
+pub returns-in-Log-clause-moved : goal.returns-in-Log-clause-moved
+returns-in-Log-clause-moved g c =
+    let f = c.requires.1.1.1.0 in
+    let aim = c.requires.1.0.calls c.args.n f.1.node f.0 f.1.at f.1.is in
+    let lt = target_within g.around.flows g.around.spots c.args.targets.now c.args.n f.0.name aim in
+    let found : slice_get c.args.targets.now c.args.n ≡ Some target.Log =
+    slice_get-get_or c.args.targets.now c.args.n (target.Flow 0) lt ∙ ap (λ (t : Target). Some t) c.in-Log.is in
+    let so = subst (λ (o : Option Target). IsTarget g.around.flows g.around.spots o f.0.name) found aim in
+    let body = ap part_body (as_part g.around.spots c.args.nodes.now c.args.n f.1.node (kind.Call f.0) c.requires.0.resolves f.1.at f.1.is) in
+    let args = pairs_of c.args.args.now in
+    let k = control_of g.around c.args.frames.now in
+    with_ok _ _ c.logs.result
+    (λ w h s d sees reaches agrees.
+    let l = beside d g.around c.args.frames.now c.args.scopes.now in
+    subst (λ y. IsDone g.around s y w (local_of g.around c.logs.new.frames c.logs.new.scopes))
+    (sym (ap (λ b. leads_with s b args k l) body ∙ log_leads s g.around.flows (call_by f.1.node.codes.items.items f.0) args k l agrees.2 so ∙ sym (ap (λ b. calls_by s b args k l) body)))
+    (h s d reaches agrees))
+    c.logs.ensures.moved

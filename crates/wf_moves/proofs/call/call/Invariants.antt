@@ -11,3 +11,6 @@ ghost-sends g a = g.around
 
 abbrev pub ghost-sleeps : goal.ghost-sleeps
 ghost-sleeps g a = g.around
+
+abbrev pub ghost-logs : goal.ghost-logs
+ghost-logs g a = g.around

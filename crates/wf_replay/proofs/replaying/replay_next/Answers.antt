@@ -1,11 +1,14 @@
-use Rattle.std.proofs.Common.{◌≡◌, ℕ, List, [], ◌∷◌, Some, subst, subst₂}
+use Rattle.std.proofs.Common.{◌≡◌, ℕ, suc, List, [], ◌∷◌, Some, subst, subst₂}
 use Rattle.std.specs.Prelude.{MatchOption}
 use Rattle.wf_events.specs.Reading.{meaning}
 use Rattle.wf_events.specs.View.{record_view}
-use Rattle.wf_history.specs.Stands.{ahead, last, place}
+use Rattle.wf_history.specs.Stands.{ahead, last, last_after, place}
+use Rattle.wf_journal_laws.specs.History.{goes_on}
 use Rattle.wf_replay.proofs.Applied.{passed}
 use Rattle.wf_replay.proofs.Faults.{IsToldAt, at_no_record, at_record}
+use Rattle.wf_replay.proofs.Steps.{passes_one}
 use Rattle.wf_replay.proofs.replaying.replay_next.Goals as goal
+use Rattle.wf_replay.specs.Standing.{stands_at}
 
 -- src/replaying.rt:77:24
 pub returns-in_err-record-clause-bad_event : goal.returns-in_err-record-clause-bad_event
@@ -26,3 +29,13 @@ returns-clause-steps g c = λ told.
     let w = g.H.Host.world c.args.host.now in
     let found = subst (λ o. MatchOption o (ahead c.args.history.now w.seen ≡ []) (λ r. (payload : List ℕ) × (ahead c.args.history.now w.seen ≡ payload ∷ ahead c.next.new.self w.seen) × (meaning payload ≡ Some (record_view r)))) c.in-Some.is (c.in_ok-record.ensures.record told) in
     passed (record_view c.in-Some.record) found.0 (ahead c.next.new.self w.seen) (ahead c.args.history.now w.seen) c.args.steps.now c.replay_record.new.steps found.1 found.2 c.in_ok-replay_record.ensures.steps
+
+pub returns-clause-one : goal.returns-clause-one
+returns-clause-one g c = λ told _.
+    let w = g.H.Host.world c.args.host.now in
+    let r = record_view c.in-Some.record in
+    let found = subst (λ o. MatchOption o (ahead c.args.history.now w.seen ≡ []) (λ r. (payload : List ℕ) × (ahead c.args.history.now w.seen ≡ payload ∷ ahead c.next.new.self w.seen) × (meaning payload ≡ Some (record_view r)))) c.in-Some.is (c.in_ok-record.ensures.record told) in
+    let number = subst (λ o. MatchOption o (place c.next.new.self ≡ place c.args.history.now) (λ _. place c.next.new.self ≡ suc (place c.args.history.now))) c.in-Some.is (c.in_ok-record.ensures.place told) in
+    let turn = subst (λ o. MatchOption o (last c.next.new.self ≡ last c.args.history.now) (λ r. last c.next.new.self ≡ last_after (last c.args.history.now) (record_view r))) c.in-Some.is c.in_ok-record.ensures.last in
+    passes_one (place c.args.history.now) (place c.next.new.self) (last c.args.history.now) (last c.next.new.self) c.args.machine.now c.replay_record.new.machine found.0 (ahead c.next.new.self w.seen) (ahead c.args.history.now w.seen) r found.1 found.2
+    (subst₂ (λ p l. goes_on (stands_at p l c.args.machine.now) (Some r) ≡ Some (stands_at (suc p) (last_after l r) c.replay_record.new.machine)) c.place-number.ensures c.last-last.ensures c.in_ok-replay_record.ensures.goes_on) number turn

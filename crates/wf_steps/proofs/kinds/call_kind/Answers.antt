@@ -3,7 +3,7 @@ use Rattle.std.specs.Prelude.{◌||◌, Option, slice_get}
 use Rattle.std.proofs.lemmas.Bool.{ltb-true}
 use Rattle.std.proofs.lemmas.Option.{slice_get_read}
 use Rattle.wf_model.specs.Kinds.{by_clock, is_now}
-use Rattle.wf_steps.proofs.Clocked.{either_false, either_true, function_clock, http_asks, nap_reads}
+use Rattle.wf_steps.proofs.Clocked.{either_false, either_true, function_clock, http_asks, log_clock, nap_reads}
 use Rattle.wf_steps.specs.Built.{IsTarget}
 use Rattle.wf_steps.specs.declared.target.Target.{Target}
 use Rattle.wf_steps.specs.declared.target.Target.TheVariants as target
@@ -33,3 +33,9 @@ returns-in-Sleeps c fs ns x h =
     let found : slice_get c.args.targets.now c.args.n ≡ Some (target.Sleeps c.in-Sleeps.field-0) =
     slice_get_read c.args.targets.now (length c.args.targets.now) c.args.n c.in-Some.target.now refl (ltb-true c.args.n (length c.args.targets.now) (sym c.in-Some.ensures.lookup.0)) c.in-Some.ensures.lookup.1 ∙ ap (λ (t : Target). Some t) c.in-Sleeps.is in
     sym (nap_reads fs c.in-Sleeps.field-0 x c.args.clock (subst (λ (o : Option Target). IsTarget fs ns o x) found h))
+
+pub returns-in-Log : goal.returns-in-Log
+returns-in-Log c fs ns x h =
+    let found : slice_get c.args.targets.now c.args.n ≡ Some target.Log =
+    slice_get_read c.args.targets.now (length c.args.targets.now) c.args.n c.in-Some.target.now refl (ltb-true c.args.n (length c.args.targets.now) (sym c.in-Some.ensures.lookup.0)) c.in-Some.ensures.lookup.1 ∙ ap (λ (t : Target). Some t) c.in-Log.is in
+    c.by_clock-in-Log.ensures ∙ sym (log_clock fs x c.args.clock (subst (λ (o : Option Target). IsTarget fs ns o x) found h))

@@ -4,7 +4,7 @@ use Rattle.std.specs.Prelude.{is_some}
 use Rattle.wf_alone.proofs.Reached.{reached_next}
 use Rattle.wf_check.specs.Seen.{nodes_of, program_of}
 use Rattle.wf_frames.proofs.Standing.{standing}
-use Rattle.wf_machine.proofs.Going.{goes_on, has_ended, shallow, suits_here}
+use Rattle.wf_machine.proofs.Going.{goes_on, has_ended, logged_shallow, shallow, suits_here}
 use Rattle.wf_machine.proofs.Moves.{not_running, stays_on}
 use Rattle.wf_machine.proofs.Places.{can_go_on, stands_now, tells_of}
 use Rattle.wf_machine.proofs.machine.Machine.carry_on.Goals as goal
@@ -20,17 +20,21 @@ go_on-requires c =
     let is = sym c.in-Some.ensures.value in
     (tells_of m.program m.built, (subst (Aims (program_of m.program) (nodes_of m.program)) (sym c.as_slice.ensures.value) m.aims, (stands_now m t is, (can_go_on m t is, suits_here m c.args.cause c.args.now c.args.tally c.requires.comes.0 c.requires.comes.1 t is))))
 
+pub ending_of-requires : goal.ending_of-requires
+ending_of-requires c =
+    logged_shallow c.never_wrong.ensures c.args.self.now c.args.cause c.args.now c.args.tally c.requires.comes.0 c.requires.comes.1 c.in-Some.task (sym c.in-Some.ensures.value) c.count-self.result c.count-self.ensures.count c.size-self.result c.size-self.ensures c.go_on.new.task c.go_on.new.scopes c.in-Ok.did c.in-Ok.ensures.moved
+
 pub returns-then-is_running-clause-moved : goal.returns-then-is_running-clause-moved
 returns-then-is_running-clause-moved c = λ e comes.
-    goes_on c.never_wrong.ensures c.args.self.now c.args.cause c.args.now c.args.tally e comes c.in-Some.task (sym c.in-Some.ensures.value) c.count-self.result c.count-self.ensures.count c.go_on.new.task c.go_on.new.scopes c.in-Ok.did c.in-Ok.ensures.moved
-    c.in-Ok-ending_of.ending c.ending_of.new.calls c.in-Ok-ending_of.ensures.outcome (c.in-Ok-ending_of.ensures.calls ∙ ap (calls_behind c.in-Ok.did) c.in-Ok.ensures.calls) (sym c.is_running.ensures ∙ c.if-is_running.true)
+    goes_on c.never_wrong.ensures c.args.self.now c.args.cause c.args.now c.args.tally e comes c.in-Some.task (sym c.in-Some.ensures.value) c.count-self.result c.count-self.ensures.count c.size-self.result c.size-self.ensures c.go_on.new.task c.go_on.new.scopes c.in-Ok.did c.in-Ok.ensures.moved
+    c.in-Ok-ending_of.ending c.ending_of.new.calls c.ending_of.new.log c.in-Ok-ending_of.ensures.outcome (c.in-Ok-ending_of.ensures.calls ∙ ap (calls_behind c.in-Ok.did) c.in-Ok.ensures.calls) c.in-Ok-ending_of.ensures.log (sym c.is_running.ensures ∙ c.if-is_running.true)
 
 pub returns-else-is_running-clause-moved : goal.returns-else-is_running-clause-moved
 returns-else-is_running-clause-moved c = λ e comes.
     let m = c.args.self.now in
-    has_ended c.never_wrong.ensures c.args.self.now c.args.cause c.args.now c.args.tally e comes c.in-Some.task (sym c.in-Some.ensures.value) c.count-self.result c.count-self.ensures.count c.go_on.new.task c.go_on.new.scopes c.in-Ok.did c.in-Ok.ensures.moved
-    c.in-Ok-ending_of.ending c.ending_of.new.calls c.in-Ok-ending_of.ensures.outcome (c.in-Ok-ending_of.ensures.calls ∙ ap (calls_behind c.in-Ok.did) c.in-Ok.ensures.calls) (sym c.is_running.ensures ∙ c.if-is_running.false)
-    ∙ sym (ap (λ o. To (config_of (program_of m.program) m.facts c.args.tally o c.go_on.new.scopes c.ending_of.new.calls c.in-Ok-ending_of.ending)) c.take.ensures.after)
+    has_ended c.never_wrong.ensures c.args.self.now c.args.cause c.args.now c.args.tally e comes c.in-Some.task (sym c.in-Some.ensures.value) c.count-self.result c.count-self.ensures.count c.size-self.result c.size-self.ensures c.go_on.new.task c.go_on.new.scopes c.in-Ok.did c.in-Ok.ensures.moved
+    c.in-Ok-ending_of.ending c.ending_of.new.calls c.ending_of.new.log c.in-Ok-ending_of.ensures.outcome (c.in-Ok-ending_of.ensures.calls ∙ ap (calls_behind c.in-Ok.did) c.in-Ok.ensures.calls) c.in-Ok-ending_of.ensures.log (sym c.is_running.ensures ∙ c.if-is_running.false)
+    ∙ sym (ap (λ o. To (config_of (program_of m.program) m.facts c.args.tally o c.go_on.new.scopes c.ending_of.new.calls c.ending_of.new.log c.in-Ok-ending_of.ending)) c.take.ensures.after)
 
 pub invariant_of-self-then-is_running-clause-standing : goal.invariant_of-self-then-is_running-clause-standing
 invariant_of-self-then-is_running-clause-standing c =
@@ -42,9 +46,9 @@ pub invariant_of-self-then-is_running-clause-reached : goal.invariant_of-self-th
 invariant_of-self-then-is_running-clause-reached c =
     let m = c.args.self.now in
     let p = program_of m.program in
-    ∥∥₁_map m.reached (λ reached some. reached_next p (state_of m).config (config_of p m.facts c.args.tally (Some c.go_on.new.task) c.go_on.new.scopes c.ending_of.new.calls c.in-Ok-ending_of.ending) c.requires.comes.0 (reached (ap is_some (sym c.in-Some.ensures.value)))
-    (goes_on c.never_wrong.ensures c.args.self.now c.args.cause c.args.now c.args.tally c.requires.comes.0 c.requires.comes.1 c.in-Some.task (sym c.in-Some.ensures.value) c.count-self.result c.count-self.ensures.count c.go_on.new.task c.go_on.new.scopes c.in-Ok.did c.in-Ok.ensures.moved
-    c.in-Ok-ending_of.ending c.ending_of.new.calls c.in-Ok-ending_of.ensures.outcome (c.in-Ok-ending_of.ensures.calls ∙ ap (calls_behind c.in-Ok.did) c.in-Ok.ensures.calls) (sym c.is_running.ensures ∙ c.if-is_running.true)))
+    ∥∥₁_map m.reached (λ reached some. reached_next p (state_of m).config (config_of p m.facts c.args.tally (Some c.go_on.new.task) c.go_on.new.scopes c.ending_of.new.calls c.ending_of.new.log c.in-Ok-ending_of.ending) c.requires.comes.0 (reached (ap is_some (sym c.in-Some.ensures.value)))
+    (goes_on c.never_wrong.ensures c.args.self.now c.args.cause c.args.now c.args.tally c.requires.comes.0 c.requires.comes.1 c.in-Some.task (sym c.in-Some.ensures.value) c.count-self.result c.count-self.ensures.count c.size-self.result c.size-self.ensures c.go_on.new.task c.go_on.new.scopes c.in-Ok.did c.in-Ok.ensures.moved
+    c.in-Ok-ending_of.ending c.ending_of.new.calls c.ending_of.new.log c.in-Ok-ending_of.ensures.outcome (c.in-Ok-ending_of.ensures.calls ∙ ap (calls_behind c.in-Ok.did) c.in-Ok.ensures.calls) c.in-Ok-ending_of.ensures.log (sym c.is_running.ensures ∙ c.if-is_running.true)))
 
 pub invariant_of-self-then-is_running-clause-running : goal.invariant_of-self-then-is_running-clause-running
 invariant_of-self-then-is_running-clause-running c = λ whole run. (refl, c.requires.below)
@@ -52,7 +56,7 @@ invariant_of-self-then-is_running-clause-running c = λ whole run. (refl, c.requ
 pub invariant_of-self-then-is_running-clause-shallow : goal.invariant_of-self-then-is_running-clause-shallow
 invariant_of-self-then-is_running-clause-shallow c =
     subst (λ o. outcome_depth o ≤ 100) (sym c.in-Ok-ending_of.ensures.outcome)
-    (shallow c.never_wrong.ensures c.args.self.now c.args.cause c.args.now c.args.tally c.requires.comes.0 c.requires.comes.1 c.in-Some.task (sym c.in-Some.ensures.value) c.count-self.result c.count-self.ensures.count c.go_on.new.task c.go_on.new.scopes c.in-Ok.did c.in-Ok.ensures.moved)
+    (shallow c.never_wrong.ensures c.args.self.now c.args.cause c.args.now c.args.tally c.requires.comes.0 c.requires.comes.1 c.in-Some.task (sym c.in-Some.ensures.value) c.count-self.result c.count-self.ensures.count c.size-self.result c.size-self.ensures c.go_on.new.task c.go_on.new.scopes c.in-Ok.did c.in-Ok.ensures.moved)
 
 pub invariant_of-self-then-is_running-clause-most : goal.invariant_of-self-then-is_running-clause-most
 invariant_of-self-then-is_running-clause-most c = let lt = c.requires.below in omega (arith, lt)
@@ -71,7 +75,7 @@ invariant_of-self-else-is_running-clause-running c = λ whole run. absurd (not_r
 pub invariant_of-self-else-is_running-clause-shallow : goal.invariant_of-self-else-is_running-clause-shallow
 invariant_of-self-else-is_running-clause-shallow c =
     subst (λ o. outcome_depth o ≤ 100) (sym c.in-Ok-ending_of.ensures.outcome)
-    (shallow c.never_wrong.ensures c.args.self.now c.args.cause c.args.now c.args.tally c.requires.comes.0 c.requires.comes.1 c.in-Some.task (sym c.in-Some.ensures.value) c.count-self.result c.count-self.ensures.count c.go_on.new.task c.go_on.new.scopes c.in-Ok.did c.in-Ok.ensures.moved)
+    (shallow c.never_wrong.ensures c.args.self.now c.args.cause c.args.now c.args.tally c.requires.comes.0 c.requires.comes.1 c.in-Some.task (sym c.in-Some.ensures.value) c.count-self.result c.count-self.ensures.count c.size-self.result c.size-self.ensures c.go_on.new.task c.go_on.new.scopes c.in-Ok.did c.in-Ok.ensures.moved)
 
 pub invariant_of-self-else-is_running-clause-most : goal.invariant_of-self-else-is_running-clause-most
 invariant_of-self-else-is_running-clause-most c = let lt = c.requires.below in omega (arith, lt)

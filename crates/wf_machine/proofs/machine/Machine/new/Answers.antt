@@ -26,8 +26,8 @@ invariant_of-result-clause-reached c =
     let s = start_view c.args.start.now in
     let p = program_of c.args.program in
     let e : EndingFor c.in_ok-task.task c.if-is_some.ending = ending_for c.in_ok-task.task c.if-is_some.ending (elim c.if-is_some.branch [ then-is_some w ↦ inl (sym c.is_some.ensures ∙ w.if-is_some.true, w.ending-is) | else-is_some w ↦ inr (sym c.is_some.ensures ∙ w.if-is_some.false, w.ending-is) ]) in
-    ∣ (λ some. reached_first p s (config_of p c.in_ok-facts.facts (first_tally s) c.in_ok-task.task c.first_task.new.scopes c.new-2.result c.if-is_some.ending)
-    (begins_so p s (nodes_of c.args.program) c.in_ok-task.task c.first_task.new.scopes c.new-2.result c.if-is_some.ending c.in_ok-facts.facts (subst (λ v. Begins p v c.in_ok-task.task c.first_task.new.scopes) c.in_ok-argument.ensures c.in_ok-task.ensures.begins) c.in_ok-task.ensures.standing e c.new-2.ensures c.in_ok-facts.ensures)) ∣₁
+    ∣ (λ some. reached_first p s (config_of p c.in_ok-facts.facts (first_tally s) c.in_ok-task.task c.first_task.new.scopes c.new-2.result c.new-3.result c.if-is_some.ending)
+    (begins_so p s (nodes_of c.args.program) c.in_ok-task.task c.first_task.new.scopes c.new-2.result c.new-3.result c.if-is_some.ending c.in_ok-facts.facts (subst (λ v. Begins p v c.in_ok-task.task c.first_task.new.scopes) c.in_ok-argument.ensures c.in_ok-task.ensures.begins) c.in_ok-task.ensures.standing e c.new-2.ensures c.new-3.ensures c.in_ok-facts.ensures)) ∣₁
 
 pub invariant_of-result-clause-running : goal.invariant_of-result-clause-running
 invariant_of-result-clause-running c =
@@ -45,8 +45,8 @@ pub returns-clause-initial : goal.returns-clause-initial
 returns-clause-initial c =
     let s = start_view c.args.start.now in
     let p = program_of c.args.program in
-    begins_so p s (nodes_of c.args.program) c.in_ok-task.task c.first_task.new.scopes c.new-2.result c.if-is_some.ending c.in_ok-facts.facts (subst (λ v. Begins p v c.in_ok-task.task c.first_task.new.scopes) c.in_ok-argument.ensures c.in_ok-task.ensures.begins) c.in_ok-task.ensures.standing
-    (ending_for c.in_ok-task.task c.if-is_some.ending (elim c.if-is_some.branch [ then-is_some w ↦ inl (sym c.is_some.ensures ∙ w.if-is_some.true, w.ending-is) | else-is_some w ↦ inr (sym c.is_some.ensures ∙ w.if-is_some.false, w.ending-is) ])) c.new-2.ensures c.in_ok-facts.ensures
+    begins_so p s (nodes_of c.args.program) c.in_ok-task.task c.first_task.new.scopes c.new-2.result c.new-3.result c.if-is_some.ending c.in_ok-facts.facts (subst (λ v. Begins p v c.in_ok-task.task c.first_task.new.scopes) c.in_ok-argument.ensures c.in_ok-task.ensures.begins) c.in_ok-task.ensures.standing
+    (ending_for c.in_ok-task.task c.if-is_some.ending (elim c.if-is_some.branch [ then-is_some w ↦ inl (sym c.is_some.ensures ∙ w.if-is_some.true, w.ending-is) | else-is_some w ↦ inr (sym c.is_some.ensures ∙ w.if-is_some.false, w.ending-is) ])) c.new-2.ensures c.new-3.ensures c.in_ok-facts.ensures
 
 pub invariant_of-result-clause-aims : goal.invariant_of-result-clause-aims
 invariant_of-result-clause-aims c =

@@ -1,10 +1,10 @@
 use Rattle.std.proofs.Common.{sym, subst}
 use Rattle.wf_frames.specs.Frames.{inner}
 use Rattle.wf_frames.specs.Owned.{control_of, local_of}
-use Rattle.wf_moves.proofs.Waiting.{awake_local}
+use Rattle.wf_moves.proofs.Waiting.{awake_local, logged_local, logged_then}
 use Rattle.wf_moves.specs.Moved.{IsMove, IsWent}
 use Rattle.wf_moves.specs.Stepped.{stepped, stepped_at}
-use Rattle.wf_moves.specs.Tasks.{IsDone, IsLeftSo, IsRequest, MovesSo}
+use Rattle.wf_moves.specs.Tasks.{HasLogged, IsDone, IsLeftSo, IsRequest, MovesSo}
 use Rattle.wf_moves.specs.Waits.{task_local, wait_view}
 use Rattle.wf_steps.proofs.Performed.{with_ok}
 use Rattle.wf_moves.proofs.task.Task.advance.Goals as goal
@@ -53,3 +53,27 @@ returns-in-Sent-clause-moved g c s sees reaches agrees =
 
 pub returns-in-Sent-clause-left : goal.returns-in-Sent-clause-left
 returns-in-Sent-clause-left g c = subst (λ x. IsLeftSo c.args.nodes.now x (inner c.advance.new.frames)) c.in-Sent.is c.in_ok-done.ensures.left
+
+pub stand-requires : goal.stand-requires
+stand-requires g c = (
+  c.requires.0,
+  (
+    c.requires.1.0,
+    (c.in_ok-done.ensures.stands, (subst (λ x. IsLeftSo c.args.nodes.now x (inner c.advance.new.frames)) c.in-Logged.is c.in_ok-done.ensures.left, c.requires.1.1.1.1)),
+  ),
+)
+
+pub returns-in_ok-stand-in-Logged-clause-moved : goal.returns-in_ok-stand-in-Logged-clause-moved
+returns-in_ok-stand-in-Logged-clause-moved g c s sees reaches agrees =
+    let w = c.args.self.now.wait in
+    let old = c.args.self.now.frames in
+    let mid = c.advance.new.frames in
+    let awake = c.requires.1.1.1.1 in
+    let n = stepped s (local_of g.around old c.args.scopes.now) in
+    let last = task_local g.around c.stand.new.self c.stand.new.scopes in
+    let b = c.in_ok-stand-in-Logged.behind in
+    subst (λ l. HasLogged (stepped s l) c.in-Logged.entry b last) (sym (awake_local g.around w old c.args.scopes.now awake))
+    (logged_then s n c.in-Logged.entry c.in-Logged.went b (record (local_of g.around mid c.advance.new.scopes) { wait = wait_view g.around w }) last
+    (logged_local g.around s w mid c.advance.new.scopes n c.in-Logged.entry c.in-Logged.went awake
+    (subst (λ x. IsDone g.around s (stepped_at s (control_of g.around old) (local_of g.around old c.args.scopes.now)) x (local_of g.around mid c.advance.new.scopes)) c.in-Logged.is (c.in_ok-done.ensures.moved s (control_of g.around old) sees reaches agrees)))
+    (λ m h. c.in_ok-stand-in-Logged.ensures.moved s m sees agrees h))

@@ -1,0 +1,149 @@
+// What steps log.
+ghost use Rattle.std.specs.Prelude.{◌≡◌, ◌≤◌, IfOk, OnOk, Ok, option_map};
+ghost use Rattle.wf_eval.specs.Answers.{Answers};
+ghost use Rattle.wf_frames.specs.Frames.{inner};
+ghost use Rattle.wf_frames.specs.Owned.{Around, control_of, held_by};
+ghost use Rattle.wf_frames.specs.Stands.{Stands};
+ghost use Rattle.wf_model.specs.Calls as calls;
+ghost use Rattle.wf_moves.specs.Logs.{logged_view, severity_told, within_log};
+ghost use Rattle.wf_moves.specs.Tasks.{IsLeftSo, LogsBy, Names};
+ghost use Rattle.wf_nodes.specs.Spots.{part_at, part_body};
+ghost use Rattle.wf_shared.specs.Events.{severity_named};
+ghost use Rattle.wf_steps.specs.Built.{IsLog, Tells};
+ghost use Rattle.wf_steps.specs.Steps.{calls_by};
+ghost use Rattle.wf_value.specs.Data.{pairs_depth, pairs_of};
+ghost use Rattle.wf_value.specs.Errors.{◌>>=◌};
+ghost use Rattle.wf_value.specs.Plain.{plain};
+
+use crate::back::give;
+use crate::finish::{Done, End};
+use crate::raising::fails;
+use crate::sending::Sending;
+use std::alloc::Global;
+use wf_eval::copied;
+use wf_frames::Frames;
+use wf_nodes::Node;
+use wf_scope::Scopes;
+use wf_value::{Map, OutOfMemory, Raise, Severity, Tag, Value};
+
+/// What all logged values together may come to.
+const LOG_LIMIT: u64 = 16_777_216;
+
+/// A value that a step logs, and how grave it is.
+#[derive(Drop)]
+pub struct Logged {
+    pub severity: Severity,
+    pub value: Value,
+}
+
+/// How a task stands behind what it has logged: it goes on, or waits for its next try, or has ended.
+#[derive(Drop)]
+pub enum Behind {
+    Goes,
+    Ended(End),
+}
+
+// The severity of a name, in upper case.
+fn severity_named(name: &str) -> Option<Severity>
+    ensures { result ≡ severity_named name.now }
+{
+    match name {
+        "DEFAULT" => Some(Severity::Default),
+        "DEBUG" => Some(Severity::Debug),
+        "INFO" => Some(Severity::Info),
+        "NOTICE" => Some(Severity::Notice),
+        "WARNING" => Some(Severity::Warning),
+        "ERROR" => Some(Severity::Error),
+        "CRITICAL" => Some(Severity::Critical),
+        "ALERT" => Some(Severity::Alert),
+        "EMERGENCY" => Some(Severity::Emergency),
+        _ => None,
+    }
+}
+
+// The severity that the argument of this name says: `DEFAULT` where it is absent.
+fn severity_of(severity: Option<&Value>) -> Result<Severity, Raise>
+    ensures { Answers (λ s. s) result
+        (severity_told (option_map (λ v. plain v.now) severity)) }
+{
+    match severity {
+        None => Ok(Severity::Default),
+        Some(Value::Text(name)) => match severity_named(name.as_str()) {
+            Some(severity) => Ok(severity),
+            None => Err(Raise::Error(Tag::ValueError)),
+        },
+        Some(_) => Err(Raise::Error(Tag::TypeError)),
+    }
+}
+
+// The value of `data` or `json`, which may be any.
+fn any_logged(alloc: Global, args: &Map) -> Result<Value, Raise>
+    ensures { Answers plain result (Ok (calls.logged_any (pairs_of args.now))) }
+{
+    let value = match args.get("data") {
+        Some(data) => Some(data),
+        None => args.get("json"),
+    };
+    match value {
+        Some(value) => copied(alloc, value),
+        None => Ok(Value::Null),
+    }
+}
+
+// The value of `text`, which must be a text, or else that of `data` or `json`.
+fn logged_value(alloc: Global, args: &Map) -> Result<Value, Raise>
+    ensures { Answers plain result (calls.logged_value (pairs_of args.now)) }
+{
+    match args.get("text") {
+        Some(Value::Text(text)) => match text.copy() {
+            Ok(text) => Ok(Value::Text(text)),
+            Err(_) => Err(Raise::OutOfMemory),
+        },
+        Some(_) => Err(Raise::Error(Tag::TypeError)),
+        None => any_logged(alloc, args),
+    }
+}
+
+// The entry for which the arguments ask, where so much was logged before. One that would pass the limit isn't logged.
+fn entry_of(alloc: Global, args: &Map, logged: u64) -> Result<Logged, Raise>
+    ensures { Answers logged_view result
+        (calls.log_entry (pairs_of args.now) >>= within_log logged) }
+{
+    let value = logged_value(alloc, args)?;
+    let severity = severity_of(args.get("severity"))?;
+    if value.size() > LOG_LIMIT.saturating_sub(logged) {
+        return Err(Raise::Error(Tag::ResourceLimitError));
+    }
+    Ok(Logged { severity, value })
+}
+
+/// The log of a step's call, with its arguments; null goes into the call's result. An error in them is raised, and nothing is logged.
+pub(crate) fn logs(
+    alloc: Global,
+    nodes: &[Node],
+    n: u32,
+    args: &Map,
+    frames: &mut Frames,
+    scopes: &mut Scopes,
+    sending: &Sending,
+) -> Result<Done, OutOfMemory>
+    ghost around: { Around }
+    requires tells { Tells around.spots nodes.now }
+    requires stands { Stands around nodes.now frames.old scopes.old }
+    requires names { Names nodes.now n (IsLog around.flows) }
+    requires shallow { pairs_depth (pairs_of args.now) ≤ 100 }
+    ensures moved { IfOk result (λ d. LogsBy around sending.now
+        (λ s l. calls_by s (part_body (part_at around.spots n)) (pairs_of args.now)
+        (control_of around frames.old) l)
+        (held_by around frames.old scopes.old) d frames.new scopes.new) }
+    ensures stands { OnOk result (Stands around nodes.now frames.new scopes.new) }
+    ensures left { IfOk result (λ d. IsLeftSo nodes.now d (inner frames.new)) }
+{
+    match entry_of(alloc, args, sending.logged) {
+        Ok(entry) => {
+            let went = give(alloc, nodes, Some(n), Value::Null, frames, scopes)?;
+            Ok(Done::Logged(entry, went))
+        }
+        Err(raise) => Ok(Done::Went(fails(alloc, raise)?)),
+    }
+}

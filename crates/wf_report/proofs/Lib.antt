@@ -1,0 +1,4 @@
+mod Found
+mod Fronts
+mod Opened
+mod Lines

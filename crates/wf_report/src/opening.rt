@@ -1,0 +1,157 @@
+// Reading a journal for a report.
+ghost use Rattle.std.specs.Prelude.{◌≡◌, ◌≢◌, ◌⊎◌, ◌≤◌, ◌+◌, [], false, ℕ, Err, None, OnOk, IfOk, IfErr, IsErrOf, length, string_bytes, take};
+ghost use Rattle.wf_engine.specs.TheLanguage.{the_language};
+ghost use Rattle.wf_history.specs.Stands.{ahead, is_closed, is_new, last, place, Stands};
+ghost use Rattle.wf_host.specs.Calls.{AtAnyMoment, DiskFailed, DoesNoDeed, NoCountFalls, ReadsAsBefore, TellsAsBefore};
+ghost use Rattle.wf_host.specs.World.{Only, Told};
+ghost use Rattle.wf_journal.specs.Journal.{Stays};
+ghost use Rattle.wf_journal.specs.Records.{magic, records};
+ghost use Rattle.wf_journal_laws.specs.At.{applied_by};
+ghost use Rattle.wf_journal_laws.specs.History.{history as history_of};
+ghost use Rattle.wf_machine.specs.Seen.{state_of};
+ghost use Rattle.wf_report.specs.Journals.{LeadsTo, MayHaveRecords, Shows};
+
+use crate::show::show;
+use std::alloc::Global;
+use std::sync::ledger::Ledger;
+use wf_engine::{EngineFault, first_machine, last_machine};
+use wf_history::History;
+use wf_host::Host;
+use wf_machine::{Machine, Steps};
+use wf_replay::{replay, replay_turns};
+
+/// The machine to which the records of a file lead. Each of their events is applied once, and is a step. Nothing is written.
+///
+/// The error is `DiskFault` where a disk call failed; `NotAJournal` exactly where the file has at least 5 bytes and another magic;
+/// `NotStarted` exactly where it has no record; `NotAHistory` exactly where its records are no history, with the number of the first one
+/// against it; or `OutOfMemory`.
+pub fn last_state<H: Host, L: Ledger>(
+    alloc: Global,
+    host: &mut H,
+    steps: &mut Steps<L>,
+) -> Result<Machine, EngineFault>
+    ensures leads { Told (H.world host.old)
+        (IfOk result (λ m. LeadsTo the_language (records (H.world host.old).seen)
+        (state_of m).config)) }
+    ensures steps { Told (H.world host.old)
+        (OnOk result (steps.new ≡ steps.old + applied_by (records (H.world host.old).seen))) }
+    ensures whole { IfOk result (λ m. (state_of m).broken ≡ false) }
+    ensures begins { Told (H.world host.old)
+        (OnOk result (take 4 (H.world host.old).seen ≡ magic)) }
+    ensures seen { ReadsAsBefore H.world host.old host.new }
+    ensures any_moment { AtAnyMoment H.world host.old host.new
+        (λ c d. (H.world host.old).may_leave c × (d ≡ (H.world host.old).deeds)) }
+    ensures disk_fault { IsErrOf result EngineFault.DiskFault
+        → DiskFailed H.faults host.old host.new }
+    ensures not_a_journal { Told (H.world host.old) (IsErrOf result EngineFault.NotAJournal
+        → (5 ≤ length (H.world host.old).seen) × (take 4 (H.world host.old).seen ≢ magic)) }
+    ensures not_started { Told (H.world host.old) (IsErrOf result EngineFault.NotStarted
+        → (records (H.world host.old).seen ≡ []) × MayHaveRecords (H.world host.old).seen) }
+    // what a history tells, or that there is none, was read behind the opening's sync
+    ensures settled { Told (H.world host.old)
+        (OnOk result (Only (H.world host.new).seen (H.world host.new).may_leave)) }
+    ensures settled_empty { Told (H.world host.old) (IsErrOf result EngineFault.NotStarted
+        → Only (H.world host.new).seen (H.world host.new).may_leave) }
+    ensures not_a_history { Told (H.world host.old)
+        (IfErr result (λ e. (n : ℕ) → e ≡ EngineFault.NotAHistory n
+        → (history_of the_language (records (H.world host.old).seen) ≡ Err n)
+        × (records (H.world host.old).seen ≢ []) × (take 4 (H.world host.old).seen ≡ magic))) }
+    ensures only { IfErr result (λ e. (e ≡ EngineFault.DiskFault)
+        ⊎ (e ≡ EngineFault.NotAJournal) ⊎ (e ≡ EngineFault.NotStarted)
+        ⊎ ((n : ℕ) × (e ≡ EngineFault.NotAHistory n)) ⊎ (e ≡ EngineFault.OutOfMemory)) }
+    ensures deeds { DoesNoDeed H.world host.old host.new }
+    ensures tells { TellsAsBefore H.world host.old host.new }
+    ensures counts { NoCountFalls H.faults host.old host.new }
+{
+    let mut history = History::open(host)?;
+    last_machine(alloc, &mut history, host, steps)
+}
+
+/// What an execution had come to after so many of its turns, or after all where there are fewer: the lines of [`show`]. All records are
+/// looked at, and each of their events is applied once, and is a step. Nothing is written. The errors are those of [`last_state`].
+pub fn state_at<H: Host, L: Ledger>(
+    alloc: Global,
+    host: &mut H,
+    turns: u64,
+    steps: &mut Steps<L>,
+) -> Result<String, EngineFault>
+    ensures shows { Told (H.world host.old)
+        (IfOk result (λ text. Shows the_language (records (H.world host.old).seen) turns
+        (string_bytes text))) }
+    ensures steps { Told (H.world host.old)
+        (OnOk result (steps.new ≡ steps.old + applied_by (records (H.world host.old).seen))) }
+    ensures begins { Told (H.world host.old)
+        (OnOk result (take 4 (H.world host.old).seen ≡ magic)) }
+    ensures seen { ReadsAsBefore H.world host.old host.new }
+    ensures any_moment { AtAnyMoment H.world host.old host.new
+        (λ c d. (H.world host.old).may_leave c × (d ≡ (H.world host.old).deeds)) }
+    ensures disk_fault { IsErrOf result EngineFault.DiskFault
+        → DiskFailed H.faults host.old host.new }
+    ensures not_a_journal { Told (H.world host.old) (IsErrOf result EngineFault.NotAJournal
+        → (5 ≤ length (H.world host.old).seen) × (take 4 (H.world host.old).seen ≢ magic)) }
+    ensures not_started { Told (H.world host.old) (IsErrOf result EngineFault.NotStarted
+        → (records (H.world host.old).seen ≡ []) × MayHaveRecords (H.world host.old).seen) }
+    // what a history tells, or that there is none, was read behind the opening's sync
+    ensures settled { Told (H.world host.old)
+        (OnOk result (Only (H.world host.new).seen (H.world host.new).may_leave)) }
+    ensures settled_empty { Told (H.world host.old) (IsErrOf result EngineFault.NotStarted
+        → Only (H.world host.new).seen (H.world host.new).may_leave) }
+    ensures not_a_history { Told (H.world host.old)
+        (IfErr result (λ e. (n : ℕ) → e ≡ EngineFault.NotAHistory n
+        → (history_of the_language (records (H.world host.old).seen) ≡ Err n)
+        × (records (H.world host.old).seen ≢ []) × (take 4 (H.world host.old).seen ≡ magic))) }
+    ensures only { IfErr result (λ e. (e ≡ EngineFault.DiskFault)
+        ⊎ (e ≡ EngineFault.NotAJournal) ⊎ (e ≡ EngineFault.NotStarted)
+        ⊎ ((n : ℕ) × (e ≡ EngineFault.NotAHistory n)) ⊎ (e ≡ EngineFault.OutOfMemory)) }
+    ensures deeds { DoesNoDeed H.world host.old host.new }
+    ensures tells { TellsAsBefore H.world host.old host.new }
+    ensures counts { NoCountFalls H.faults host.old host.new }
+{
+    let mut history = History::open(host)?;
+    front_state(alloc, &mut history, host, turns, steps)
+}
+
+/// The same of a history of which nothing was read yet. It is read to its end.
+fn front_state<H: Host, L: Ledger>(
+    alloc: Global,
+    history: &mut History,
+    host: &mut H,
+    turns: u64,
+    steps: &mut Steps<L>,
+) -> Result<String, EngineFault>
+    requires open { is_closed history.old ≡ false }
+    requires first { place history.old ≡ 0 }
+    requires none_read { last history.old ≡ None }
+    requires kept { Told (H.world host.old) (Stands history.old (H.world host.old)) }
+    ensures stands { Told (H.world host.old) (OnOk result (Stands history.new (H.world host.new))) }
+    ensures shows { Told (H.world host.old)
+        (IfOk result (λ text. Shows the_language (ahead history.old (H.world host.old).seen) turns
+        (string_bytes text))) }
+    ensures steps { Told (H.world host.old)
+        (OnOk result (steps.new
+        ≡ steps.old + applied_by (ahead history.old (H.world host.old).seen))) }
+    ensures some { Told (H.world host.old)
+        (OnOk result (ahead history.old (H.world host.old).seen ≢ [])) }
+    ensures new { is_new history.new ≡ is_new history.old }
+    ensures seen { ReadsAsBefore H.world host.old host.new }
+    ensures any_moment { AtAnyMoment H.world host.old host.new (Stays (H.world host.old)) }
+    ensures disk_fault { IsErrOf result EngineFault.DiskFault
+        → DiskFailed H.faults host.old host.new }
+    ensures not_started { Told (H.world host.old) (IsErrOf result EngineFault.NotStarted
+        → ahead history.old (H.world host.old).seen ≡ []) }
+    ensures not_a_history { Told (H.world host.old)
+        (IfErr result (λ e. (n : ℕ) → e ≡ EngineFault.NotAHistory n
+        → (history_of the_language (ahead history.old (H.world host.old).seen) ≡ Err n)
+        × (ahead history.old (H.world host.old).seen ≢ []))) }
+    ensures only { IfErr result (λ e. (e ≡ EngineFault.DiskFault) ⊎ (e ≡ EngineFault.NotStarted)
+        ⊎ ((n : ℕ) × (e ≡ EngineFault.NotAHistory n)) ⊎ (e ≡ EngineFault.OutOfMemory)) }
+    ensures deeds { DoesNoDeed H.world host.old host.new }
+    ensures tells { TellsAsBefore H.world host.old host.new }
+    ensures counts { NoCountFalls H.faults host.old host.new }
+{
+    let machine = first_machine(alloc, history, host)?;
+    let stood = replay_turns(alloc, history, host, machine, turns, steps)?;
+    let text = show(alloc, stood.id(), &stood)?;
+    replay(alloc, history, host, stood, steps)?;
+    Ok(text)
+}
