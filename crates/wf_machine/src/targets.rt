@@ -4,7 +4,6 @@ ghost use Rattle.wf_ast.specs.Flows.{flow};
 ghost use Rattle.wf_ast.specs.Func.{func_named};
 ghost use Rattle.wf_ast.specs.Tree.{Flow};
 ghost use Rattle.wf_check.specs.Seen.{nodes_of, program_of};
-ghost use Rattle.wf_ast.specs.Func.{func_named};
 ghost use Rattle.wf_ast.specs.declared.policy.Policy as declared;
 ghost use Rattle.wf_ast.specs.declared.policy.Predicate.TheVariants as predicate;
 ghost use Rattle.wf_machine.specs.Main.{Aims, Says};

@@ -3,7 +3,7 @@ use Rattle.std.proofs.Common.{◌≡◌, ◌≤◌, ℕ, List, Bool, true, false
 use Rattle.std.specs.Prelude.{Option, ◌+◌, codes, is_some, nat_le, option_map, unwrap_or}
 use Rattle.wf_ast.specs.Accept.{BadArgument}
 use Rattle.wf_ast.specs.Flows.{flow}
-use Rattle.wf_ast.specs.Func.{Listing, Special, SpecialListing, SysLog, call_takes, func_named, special_named}
+use Rattle.wf_ast.specs.Func.{Listing, Special, SpecialListing, SysLog, func_named, special_named}
 use Rattle.wf_ast.specs.Tree.{Body, CallBody, Flow}
 use Rattle.wf_eval.specs.Answers as eval
 use Rattle.wf_frames.specs.Frames.{body_result, result_of}
@@ -32,7 +32,6 @@ use Rattle.wf_steps.specs.Steps.{calls_by}
 use Rattle.wf_value.specs.Data.{Data, Pairs, depth, null, pairs_depth, size, text}
 use Rattle.wf_value.specs.Errors.{Answer, ◌>>=◌, error_map, or_error}
 use Rattle.wf_value.specs.Pairs.{Text, get}
-use Rattle.wf_value.specs.Plain.{plain}
 use Rattle.wf_value.specs.declared.Raise.TheVariants.{Error}
 use Rattle.wf_value.specs.declared.Severity.{Severity}
 use Rattle.wf_value.specs.declared.Tag.{Tag}

@@ -1,7 +1,7 @@
 use Rattle.std.proofs.Common.{◌≡◌, ◌∙◌, ap, sym, codes}
 use Rattle.std.proofs.lemmas.Slice.Eq.{bytes_eq-Decides}
 use Rattle.std.specs.Prelude.{is_some, option_map}
-use Rattle.wf_ast.specs.Func.{SpecialListing, func_named, special_named}
+use Rattle.wf_ast.specs.Func.{SpecialListing, special_named}
 use Rattle.wf_machine.proofs.targets.special.Goals as goal
 
 pub returns-then-eq : goal.returns-then-eq
