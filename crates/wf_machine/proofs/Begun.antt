@@ -102,26 +102,24 @@ ending_for (Some t) e (inr is) = absurd (cc is.0)
 abbrev pub first_tally : Start → Tally
 first_tally s = record { last = s.reading; moves = 0; bodies = 0 }
 
+-- what it has beside its tasks and its outcome, with so much logged
+abbrev rest_by_log : Facts → Start → List LogEntry → Rest
+rest_by_log f s es = rest_of f (first_tally s) [] es
+
 pub begins_so : (p : Program) (s : Start) (nodes : List Node) (o : Option Task) (x : Scopes) (calls : List Call) (lg : Log) (e : Ending) (f : Facts) → Begins p (argument_of s) o x → IsStanding p nodes o x → EndingFor o e → calls ≡ [] → entries_of lg ≡ [] → facts_view f ≡ facts_of s
     → initial p s ≡ To (config_of p f (first_tally s) o x calls lg e)
 begins_so p s nodes None x calls lg e f begins stands is none empty facts =
     stands_ended p s x begins
     ∙ ap (λ k. To (config_by (record (rest_from s) { facts = k }) [] (Returned null))) (sym facts)
-    ∙ ap (λ d. To (config_by (rest_by_log []) (tasks_view p None x) (outcome_by d))) (sym is)
-    ∙ ap (λ es. To (config_by (rest_by_log es) (tasks_view p None x) (outcome_by e))) (sym empty)
+    ∙ ap (λ d. To (config_by (rest_by_log f s []) (tasks_view p None x) (outcome_by d))) (sym is)
+    ∙ ap (λ es. To (config_by (rest_by_log f s es) (tasks_view p None x) (outcome_by e))) (sym empty)
     ∙ ap (λ cs. To (config_of p f (first_tally s) None x cs lg e)) (sym none)
-  where
-    abbrev rest_by_log : List LogEntry → Rest
-    rest_by_log es = rest_of f (first_tally s) [] es
 begins_so p s nodes (Some t) x calls lg e f begins stands is none empty facts =
     stands_first p s t x (some_left (spots p.flows) nodes (inner t.frames) (going_by nodes t begins.1 stands.1)) begins.0
     ∙ ap (λ k. To (main_at (record (rest_from s) { facts = k }) (control_of (around p) t.frames) (own_layers (own_of t.frames) (layers_of x)) (wait_view (around p) t.wait))) (sym facts)
-    ∙ ap (λ d. To (config_by (rest_by_log []) (tasks_view p (Some t) x) (outcome_by d))) (sym is)
-    ∙ ap (λ es. To (config_by (rest_by_log es) (tasks_view p (Some t) x) (outcome_by e))) (sym empty)
+    ∙ ap (λ d. To (config_by (rest_by_log f s []) (tasks_view p (Some t) x) (outcome_by d))) (sym is)
+    ∙ ap (λ es. To (config_by (rest_by_log f s es) (tasks_view p (Some t) x) (outcome_by e))) (sym empty)
     ∙ ap (λ cs. To (config_of p f (first_tally s) (Some t) x cs lg e)) (sym none)
-  where
-    abbrev rest_by_log : List LogEntry → Rest
-    rest_by_log es = rest_of f (first_tally s) [] es
 
 -- one that runs has a task
 pub runs_with : (o : Option Task) (e : Ending) → EndingFor o e → e ≡ ending.Running → is_some o ≡ true

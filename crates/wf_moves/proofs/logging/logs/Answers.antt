@@ -20,12 +20,12 @@ give-requires g c =
     let f = c.requires.1.1.0 in
     (c.requires.0, (c.requires.1.0, (f.0, f.1)))
 
-pub returns-in-Ok-clause-moved : goal.returns-in-Ok-clause-moved
-returns-in-Ok-clause-moved g c s d reaches agrees =
+pub returns-in_ok-went-in-Ok-clause-moved : goal.returns-in_ok-went-in-Ok-clause-moved
+returns-in_ok-went-in-Ok-clause-moved g c s d reaches agrees =
     let f = c.requires.1.1.0 in
     let body = ap part_body (as_part g.around.spots c.args.nodes.now c.args.n f.1.node (kind.Call f.0) c.requires.0.resolves f.1.at f.1.is) in
     entry_logged g.around s d (control_of g.around c.args.frames.now) (held_by g.around c.args.frames.now c.args.scopes.now) c.args.n (call_by f.1.node.codes.items.items f.0) (pairs_of c.args.args.now) c.args.sending.now
-    body c.requires.1.1.1 (subst (λ fs. IsLog fs f.0.name) (sym agrees.2) f.2) reaches c.in-Ok.entry c.in_ok-went.went (local_of g.around c.give.new.frames c.give.new.scopes) c.in-Ok.ensures (c.in_ok-went.ensures.moved s d agrees)
+    body c.requires.1.1.1 (subst (λ fs. IsLog fs f.0.name) (sym agrees.2) f.2) reaches c.in-Ok.entry c.in_ok-went-in-Ok.went (local_of g.around c.give.new.frames c.give.new.scopes) c.in-Ok.ensures (c.in_ok-went-in-Ok.ensures.moved s d agrees)
 
 pub returns-in_ok-fails-in-Err-clause-moved : goal.returns-in_ok-fails-in-Err-clause-moved
 returns-in_ok-fails-in-Err-clause-moved g c s d reaches agrees =
