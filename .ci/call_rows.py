@@ -13,7 +13,7 @@ import sys
 import tempfile
 import time
 
-from call_rounds import calls_of
+from call_rounds import Folder, calls_of
 from service import Service, wait_for_close
 
 HOST = "service.test"
@@ -23,23 +23,16 @@ REQUEST = b"GET /x HTTP/1.1\r\nHost: service.test\r\nConnection: close\r\nX-Work
 STEPS = [{"a": {"call": "http.get", "args": {"url": f"http://{HOST}/x"}, "result": "r"}}, {"b": {"return": "${r.body.n}"}}]
 
 
-class Rows:
+class Rows(Folder):
     """The program, its folder, and the service, which answers as the row says."""
 
     def __init__(self, program, folder):
-        self.program, self.folder, self.count, self.heard = program, folder, 0, 0
+        super().__init__(folder)
+        self.program, self.count, self.heard = program, 0, 0
         self.answer = None
         self.service = Service(lambda request, connection: self.answer(connection))
         self.route = ["--route", f"{HOST}=127.0.0.1:{self.service.port}"]
         self.write("source", json.dumps(STEPS).encode())
-
-    def write(self, name, content):
-        with open(f"{self.folder}/{name}", "wb") as file:
-            file.write(content)
-
-    def journal(self):
-        with open(f"{self.folder}/journal", "rb") as file:
-            return file.read()
 
     def call(self, *words):
         ended = subprocess.run([self.program, *words], cwd=self.folder, stdin=subprocess.DEVNULL, stdout=subprocess.PIPE, timeout=60)
