@@ -210,11 +210,27 @@ def skip_answer(turn):
         turn.skip_text()
 
 
-class Round:
+class Folder:
+    """A folder with files, the journal among them."""
+
+    def __init__(self, folder):
+        self.folder = folder
+
+    def write(self, name, content):
+        with open(f"{self.folder}/{name}", "wb") as file:
+            file.write(content)
+
+    def journal(self):
+        with open(f"{self.folder}/journal", "rb") as file:
+            return file.read()
+
+
+class Round(Folder):
     """A workflow whose calls are answered in these ways, its service, its journal and the commands on it."""
 
     def __init__(self, program, folder, ways):
-        self.program, self.folder, self.ways = program, folder, ways
+        super().__init__(folder)
+        self.program, self.ways = program, ways
         self.service, self.printed = Service(self.answer), []
         self.clear()
         self.write("source", source_of(ways))
@@ -224,14 +240,6 @@ class Round:
         routes = [word for host, address in addresses.items() for word in ("--route", f"{host}={address}")]
         self.run = ["run", "--source", "source", "--journal", "journal", "--id", ID, *routes]
         self.resume = ["resume", "--journal", "journal"]
-
-    def write(self, name, content):
-        with open(f"{self.folder}/{name}", "wb") as file:
-            file.write(content)
-
-    def journal(self):
-        with open(f"{self.folder}/journal", "rb") as file:
-            return file.read()
 
     def close(self):
         self.service.close()
