@@ -22,9 +22,9 @@ none_left (x ∷ xs) (suc k) is = let rest = none_left xs k is in omega (arith, 
 abbrev pub so_far : Option (List ℕ) → List LogEntry → ℕ → List ℕ
 so_far grep es k = flat_map (told_of grep) (take k es)
 
-pub line_more : (grep : Option (List ℕ)) (es : List LogEntry) (k : ℕ) (e : LogEntry) (text new : List ℕ) → text ≡ so_far grep es k → slice_get es k ≡ Some e → new ≡ text ++ told_of grep e → new ≡ so_far grep es (k + 1)
-line_more grep es k e text new before at more =
-    let next : suc k ≡ k + 1 = omega arith in
+pub line_more : (grep : Option (List ℕ)) (es : List LogEntry) (k n : ℕ) (e : LogEntry) (text new : List ℕ) → n ≡ k + 1 → text ≡ so_far grep es k → slice_get es k ≡ Some e → new ≡ text ++ told_of grep e → new ≡ so_far grep es n
+line_more grep es k n e text new one before at more =
+    let next : suc k ≡ n = omega (arith, one) in
     more ∙ ap (λ l. l ++ told_of grep e) before ∙ ap (λ l. so_far grep es k ++ l) (sym (append-nil (told_of grep e)))
     ∙ sym (flat_map-append (told_of grep) (take k es) (e ∷ [])) ∙ ap (flat_map (told_of grep)) (sym (take_more es k e at)) ∙ ap (so_far grep es) next
 
@@ -32,5 +32,5 @@ pub all_lines : (grep : Option (List ℕ)) (es : List LogEntry) (k : ℕ) (text 
 unfolding logged
 all_lines grep es k text is past = is ∙ ap (flat_map (told_of grep)) (take_all k es (none_left es k past))
 
-pub fewer_left : (es : List LogEntry) (k : ℕ) (e : LogEntry) → slice_get es k ≡ Some e → length es - (k + 1) < length es - k
-fewer_left es k e is = let inside = slice_get_within es k e is in omega (arith, inside)
+pub fewer_left : (es : List LogEntry) (k n : ℕ) (e : LogEntry) → n ≡ k + 1 → slice_get es k ≡ Some e → length es - n < length es - k
+fewer_left es k n e one is = let inside = slice_get_within es k e is in omega (arith, inside, one)

@@ -6,8 +6,8 @@
 
 mod log;
 mod opening;
-mod show;
+mod showing;
 
 pub use log::log_lines;
 pub use opening::{last_state, state_at};
-pub use show::show;
+pub use showing::show;

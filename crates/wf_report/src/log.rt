@@ -31,7 +31,7 @@ fn severity_name(severity: Severity) -> &'static str
 
 /// Whether an entry with this JSON is wanted: one that holds the text, if there is one.
 fn is_wanted(grep: Option<&str>, json: &str) -> bool
-    ensures { result ≡ is_wanted (option_copied grep) json.now }
+    ensures { result ≡ is_wanted (option_copied grep.entry) json.now }
 {
     match grep {
         None => true,
@@ -55,15 +55,16 @@ fn json_of(alloc: Global, value: &Value) -> Result<String, OutOfMemory>
 /// Adds the line of an entry, if it is wanted.
 fn add_line(
     alloc: Global,
-    entry: (u64, Severity, &Value),
+    item: (u64, Severity, &Value),
     grep: Option<&str>,
     text: &mut String,
 ) -> Result<(), OutOfMemory>
-    requires { depth (plain entry.2.now) ≤ 100 }
+    requires { depth (plain item.2.now) ≤ 100 }
     ensures { OnOk result (string_bytes text.new ≡ string_bytes text.old
-        ++ told_of (option_copied grep) (entry_by entry.0 entry.1 (plain entry.2.now))) }
+        ++ told_of (option_copied grep.entry)
+        (entry_by item.entry.0 item.entry.1 (plain item.entry.2.now))) }
 {
-    let (reading, severity, value) = entry;
+    let (reading, severity, value) = item;
     let json = json_of(alloc, value)?;
     if !is_wanted(grep, json.as_str()) {
         return Ok(());
@@ -87,13 +88,16 @@ pub fn log_lines(
     grep: Option<&str>,
 ) -> Result<String, OutOfMemory>
     ensures { IfOk result (λ text. string_bytes text
-        ≡ logged (option_copied grep) (state_of machine.now).config.log) }
+        ≡ logged (option_copied grep.entry) (state_of machine.now).config.log) }
 {
     let mut text = String::new(alloc);
     let mut index = 0;
     while let Some(entry) = machine.log(index) {
         add_line(alloc, entry, grep, &mut text)?;
-        index += 1;
+        let Some(next) = index.checked_add(1) else {
+            return Err(OutOfMemory);
+        };
+        index = next;
     }
     Ok(text)
 }

@@ -11,7 +11,7 @@ ghost use Rattle.wf_journal_laws.specs.History.{history as history_of};
 ghost use Rattle.wf_machine.specs.Seen.{state_of};
 ghost use Rattle.wf_report.specs.Journals.{LeadsTo, MayHaveRecords, Shows};
 
-use crate::show::show;
+use crate::showing::show;
 use std::alloc::Global;
 use std::sync::ledger::Ledger;
 use wf_engine::{EngineFault, first_machine, last_machine};
