@@ -57,16 +57,17 @@ impl Log {
         self.size
     }
 
-    /// One more value, logged at a reading.
+    /// One more value, logged at a reading. Where the sizes would pass what 64 bits count, it is answered as if there were no memory.
     pub(crate) fn add(&mut self, logged: Logged, reading: u64) -> Result<(), OutOfMemory>
         requires shallow { depth (plain logged.value) ≤ 100 }
         ensures { OnOk result (entries_of self.new
             ≡ entries_of self.old ++ logged_at reading logged ∷ []) }
     {
         let Logged { severity, value } = logged;
-        let Some(size) = self.size.checked_add(value.size()) else {
+        let size = self.size.saturating_add(value.size());
+        if size == u64::MAX {
             return Err(OutOfMemory);
-        };
+        }
         let entry = Entry {
             reading,
             severity,
