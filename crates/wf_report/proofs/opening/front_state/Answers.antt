@@ -1,6 +1,4 @@
 use Rattle.std.proofs.Common.{◌≡◌, ◌∙◌, ◌+◌, ap, sym, Ok, take, drop, arith}
-use Rattle.wf_engine.proofs.FirstRecords.{applied_in_all, at_first_record, at_later_record}
-use Rattle.wf_engine.proofs.StillOpen.{some_first, still_open, tells_still}
 use Rattle.wf_engine.specs.TheLanguage.{the_language}
 use Rattle.wf_history.specs.Stands.{ahead, is_closed}
 use Rattle.wf_journal_laws.specs.At.{applied_by}
@@ -9,6 +7,8 @@ use Rattle.wf_machine.specs.Seen.{state_of}
 use Rattle.wf_replay.specs.Standing.{standing}
 use Rattle.wf_replay.specs.declared.fault.ReplayFault.TheVariants as fault
 use Rattle.wf_report.proofs.Fronts.{config_is, rest_stops, stands}
+use Rattle.wf_report.proofs.Opened.{still_open, tells_still}
+use Rattle.wf_report.proofs.Records.{applied_in_all, at_first_record, at_later_record, some_first}
 use Rattle.wf_report.specs.Texts.{shown_as}
 use Rattle.wf_report.proofs.opening.front_state.Goals as goal
 
@@ -25,8 +25,7 @@ returns-in_err-stood-clause-not_a_history g c = λ told.
     let h1 = c.first_machine.new.history in
     let s = standing h1 c.in_ok-machine.machine in
     let (payload, next, first) = c.in_ok-machine.ensures.leads told in
-    at_later_record the_language (ahead c.args.history.now w.seen) (ahead h1 w.seen) s c.from_residual-in_err-stood.result c.in_err-stood.field-0.0 c.from_residual-in_err-stood.ensures
-    (record { payload = payload; next = next; first = first })
+    at_later_record the_language (ahead c.args.history.now w.seen) payload (ahead h1 w.seen) s c.from_residual-in_err-stood.result c.in_err-stood.field-0.0 c.from_residual-in_err-stood.ensures next first
     (λ n is. ap (λ f. goes_to s (ahead h1 f)) (sym seen1) ∙ c.in_err-stood.ensures.bad_event told1 n is)
 
 pub returns-in_err-replay-clause-not_a_history : goal.returns-in_err-replay-clause-not_a_history
@@ -46,7 +45,7 @@ returns-in_err-replay-clause-not_a_history g c = λ told.
     let front : goes_to s (take c.args.turns (ahead h1 w.seen)) ≡ Ok s2 = ap (λ f. goes_to s (take c.args.turns (ahead h1 f))) (sym seen1) ∙ c.in_ok-stood.ensures.replayed told1 in
     let behind : goes_to s2 (drop c.args.turns (ahead h1 w.seen)) ≡ goes_to s2 (ahead h2 m2.seen) =
     ap (λ f. goes_to s2 (drop c.args.turns (ahead h1 f))) (sym seen1) ∙ ap (goes_to s2) (sym (c.in_ok-stood.ensures.left told1)) ∙ ap (λ f. goes_to s2 (ahead h2 f)) (sym seen2) in
-    rest_stops the_language (ahead c.args.history.now w.seen) payload (ahead h1 w.seen) c.args.turns s s2 next first front c.from_residual-in_err-replay.result c.in_err-replay.field-0.0 c.from_residual-in_err-replay.ensures
+    rest_stops c.laws_of_histories.ensures.records_go_on the_language (ahead c.args.history.now w.seen) payload (ahead h1 w.seen) c.args.turns s s2 next first front c.from_residual-in_err-replay.result c.in_err-replay.field-0.0 c.from_residual-in_err-replay.ensures
     (λ n is. behind ∙ c.in_err-replay.ensures.bad_event told2 n is)
 
 pub returns-clause-shows : goal.returns-clause-shows
@@ -68,7 +67,7 @@ returns-clause-shows g c = λ told.
     ap (λ f. goes_to s2 (drop c.args.turns (ahead h1 f))) (sym seen1) ∙ ap (goes_to s2) (sym (c.in_ok-stood.ensures.left told1)) ∙ ap (λ f. goes_to s2 (ahead h2 f)) (sym seen2) in
     let config = (state_of c.in_ok-stood.stood).config in (
       config,
-      stands the_language (ahead c.args.history.now w.seen) payload (ahead h1 w.seen) c.args.turns s s2 next first front (standing c.replay.new.history c.in_ok-replay.field-0) config (behind ∙ c.in_ok-replay.ensures.replayed told2) (config_is h2 c.in_ok-stood.stood),
+      stands c.laws_of_histories.ensures.records_go_on the_language (ahead c.args.history.now w.seen) payload (ahead h1 w.seen) c.args.turns s s2 next first front (standing c.replay.new.history c.in_ok-replay.field-0) config (behind ∙ c.in_ok-replay.ensures.replayed told2) (config_is h2 c.in_ok-stood.stood),
       c.in_ok-text.ensures ∙ ap (λ i. shown_as i config) c.id.ensures,
     )
 
