@@ -32,6 +32,10 @@ pub quiet_stays : (w mid new : World) → LeavesOnly w mid (Quiet w) → LeavesO
 quiet_stays w mid new so_far more seen deeds reads =
     joined w mid new (Quiet w) (Stays mid) so_far more (λ c d is. (subst w.may_leave (sym (is.0 ∙ seen)) reads, is.1 ∙ deeds))
 
+-- two calls that only read are one
+pub stays_on : (w mid new : World) → LeavesOnly w mid (Stays w) → LeavesOnly mid new (Stays mid) → mid.seen ≡ w.seen → mid.deeds ≡ w.deeds → LeavesOnly w new (Stays w)
+stays_on w mid new so_far more seen deeds = joined w mid new (Stays w) (Stays mid) so_far more (λ c d is. (is.0 ∙ seen, is.1 ∙ deeds))
+
 -- behind a call that only reads, a crash leaves what reads
 pub settled_behind : (mid new : World) → LeavesOnly mid new (Stays mid) → CountsNow new → new.seen ≡ mid.seen → Only new.seen new.may_leave
 settled_behind mid new run counts seen c may = (run.each c new.deeds (counts mid.moment c run.later may)).0 ∙ sym seen

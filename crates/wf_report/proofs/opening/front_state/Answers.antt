@@ -7,7 +7,7 @@ use Rattle.wf_machine.specs.Seen.{state_of}
 use Rattle.wf_replay.specs.Standing.{standing}
 use Rattle.wf_replay.specs.declared.fault.ReplayFault.TheVariants as fault
 use Rattle.wf_report.proofs.Fronts.{config_is, rest_stops, stands}
-use Rattle.wf_report.proofs.Opened.{still_open, tells_still}
+use Rattle.wf_report.proofs.Opened.{stays_on, still_open, tells_still}
 use Rattle.wf_report.proofs.Records.{applied_in_all, at_first_record, at_later_record, some_first}
 use Rattle.wf_report.specs.Texts.{shown_as}
 use Rattle.wf_report.proofs.opening.front_state.Goals as goal
@@ -113,3 +113,31 @@ returns-clause-stands g c = λ told.
     let told2 = tells_still m1 m2 c.replay_turns.ensures.tells told1 in
     let open2 = still_open (is_closed c.first_machine.new.history) (is_closed c.replay_turns.new.history) fault.DiskFault c.replay_turns.result c.in_ok-stood.stood c.in_ok-stood.was c.in_ok-machine.ensures.still_open c.replay_turns.ensures.closes in
     c.replay.ensures.stands (still_open (is_closed c.replay_turns.new.history) (is_closed c.replay.new.history) fault.DiskFault c.replay.result c.in_ok-replay.field-0 c.in_ok-replay.was open2 c.replay.ensures.closes) told2
+
+pub returns-in_err-replay-clause-any_moment : goal.returns-in_err-replay-clause-any_moment
+returns-in_err-replay-clause-any_moment g c = λ told.
+    let w = g.H.Host.world c.args.host.now in
+    let m1 = g.H.Host.world c.first_machine.new.host in
+    let m2 = g.H.Host.world c.replay_turns.new.host in
+    let m3 = g.H.Host.world c.replay.new.host in
+    let told1 = tells_still w m1 c.first_machine.ensures.tells told in
+    let told2 = tells_still m1 m2 c.replay_turns.ensures.tells told1 in
+    let seen1 = c.first_machine.ensures.seen told in
+    let deeds1 = c.first_machine.ensures.deeds told in
+    let both = stays_on w m1 m2 (c.first_machine.ensures.any_moment told) (c.replay_turns.ensures.any_moment c.in_ok-machine.ensures.still_open told1) seen1 deeds1 in
+    let open2 = still_open (is_closed c.first_machine.new.history) (is_closed c.replay_turns.new.history) fault.DiskFault c.replay_turns.result c.in_ok-stood.stood c.in_ok-stood.was c.in_ok-machine.ensures.still_open c.replay_turns.ensures.closes in
+    stays_on w m2 m3 both (c.replay.ensures.any_moment open2 told2) (c.replay_turns.ensures.seen told1 ∙ seen1) (c.replay_turns.ensures.deeds told1 ∙ deeds1)
+
+pub returns-clause-any_moment : goal.returns-clause-any_moment
+returns-clause-any_moment g c = λ told.
+    let w = g.H.Host.world c.args.host.now in
+    let m1 = g.H.Host.world c.first_machine.new.host in
+    let m2 = g.H.Host.world c.replay_turns.new.host in
+    let m3 = g.H.Host.world c.replay.new.host in
+    let told1 = tells_still w m1 c.first_machine.ensures.tells told in
+    let told2 = tells_still m1 m2 c.replay_turns.ensures.tells told1 in
+    let seen1 = c.first_machine.ensures.seen told in
+    let deeds1 = c.first_machine.ensures.deeds told in
+    let both = stays_on w m1 m2 (c.first_machine.ensures.any_moment told) (c.replay_turns.ensures.any_moment c.in_ok-machine.ensures.still_open told1) seen1 deeds1 in
+    let open2 = still_open (is_closed c.first_machine.new.history) (is_closed c.replay_turns.new.history) fault.DiskFault c.replay_turns.result c.in_ok-stood.stood c.in_ok-stood.was c.in_ok-machine.ensures.still_open c.replay_turns.ensures.closes in
+    stays_on w m2 m3 both (c.replay.ensures.any_moment open2 told2) (c.replay_turns.ensures.seen told1 ∙ seen1) (c.replay_turns.ensures.deeds told1 ∙ deeds1)
