@@ -1,22 +1,21 @@
 -- A front of a history, and the rest.
 use Rattle.std.proofs.Common.{◌≡◌, ◌≢◌, ◌∙◌, ◌+◌, ℕ, List, [], ◌∷◌, ◌++◌, take, drop, Some, Result, Ok, Err, IfErr, refl, sym, ap, subst, arith}
-use Rattle.std.proofs.lemmas.List.{take_drop}
+use Rattle.std.proofs.lemmas.List.{take-append-drop}
 use Rattle.std.specs.Prelude.{IsErr, IsErrAnd, suc}
-use Rattle.wf_engine.proofs.FirstRecords.{IsNone, records_lead}
 use Rattle.wf_engine.specs.Faults.{replay_fault}
 use Rattle.wf_engine.specs.declared.fault.EngineFault.{EngineFault}
-use Rattle.wf_engine.specs.declared.fault.EngineFault.TheVariants.{NotAHistory}
 use Rattle.wf_events.specs.Reading.{meaning}
 use Rattle.wf_history.specs.declared.history.History.{History}
-use Rattle.wf_journal_laws.proofs.Histories.{records_go_on}
 use Rattle.wf_journal_laws.specs.History.{Standing, first_standing, goes_to, history}
 use Rattle.wf_journal_laws.specs.Language.{Language}
+use Rattle.wf_journal_laws.specs.Laws.{RecordsGoOn}
 use Rattle.wf_machine.specs.Seen.{state_of}
 use Rattle.wf_machine.specs.declared.machine.Machine.{Machine}
 use Rattle.wf_model.specs.Config.{Config}
 use Rattle.wf_replay.specs.Standing.{standing, stands_at}
 use Rattle.wf_replay.specs.declared.fault.ReplayFault.{ReplayFault}
 use Rattle.wf_replay.specs.declared.fault.ReplayFault.TheVariants as cause
+use Rattle.wf_report.proofs.Records.{IsNone, records_lead, same_number, some_first}
 use Rattle.wf_report.specs.Journals.{StandsAt}
 
 -- the configuration of a machine that stands somewhere
@@ -24,16 +23,16 @@ pub config_is : (h : History) (m : Machine) → (standing h m).config ≡ (state
 unfolding stands_at
 config_is h m = refl
 
-module _ (L : Language) (J : List (List ℕ)) (b : List ℕ) (A : List (List ℕ)) (turns : ℕ) (s s2 : Standing) (is : J ≡ b ∷ A) (first : first_standing L (meaning b) ≡ Some s) (front : goes_to s (take turns A) ≡ Ok s2) where
+module _ (go_on : RecordsGoOn) (L : Language) (J : List (List ℕ)) (b : List ℕ) (A : List (List ℕ)) (turns : ℕ) (s s2 : Standing) (is : J ≡ b ∷ A) (first : first_standing L (meaning b) ≡ Some s) (front : goes_to s (take turns A) ≡ Ok s2) where
   lead : history L (b ∷ take turns A) ≡ Ok s2
   lead = records_lead L (b ∷ take turns A) b (take turns A) s (Ok s2) refl first front
 
   parts : (b ∷ take turns A) ++ drop turns A ≡ b ∷ A
-  parts = ap (λ l. b ∷ l) (take_drop turns A)
+  parts = ap (λ l. b ∷ l) (take-append-drop turns A)
 
   -- all of them lead where the rest leads from there
   pub rest_leads : history L J ≡ goes_to s2 (drop turns A)
-  rest_leads = ap (history L) (is ∙ sym parts) ∙ records_go_on L (b ∷ take turns A) (drop turns A) s2 lead
+  rest_leads = ap (history L) (is ∙ sym parts) ∙ go_on L (b ∷ take turns A) (drop turns A) s2 lead
 
   pub stands : (s3 : Standing) (c : Config) → goes_to s2 (drop turns A) ≡ Ok s3 → s2.config ≡ c → StandsAt L J turns c
   stands s3 c rest same = record {
@@ -42,14 +41,8 @@ module _ (L : Language) (J : List (List ℕ)) (b : List ℕ) (A : List (List ℕ
     front = (s2, ap (λ K. history L (take (suc turns) K)) is ∙ lead, same);
   }
 
-  some : J ≢ []
-  some none = let no : b ∷ A ≡ [] = sym is ∙ none in cc no
-
-  same_number : (m n : ℕ) → NotAHistory m ≡ NotAHistory n → m ≡ n
-  same_number m n same = cc same
-
   stops : (e : ReplayFault) → ((n : ℕ) → e ≡ cause.BadEvent n → goes_to s2 (drop turns A) ≡ Err n) → IsNone L (replay_fault e) J
-  stops (cause.BadEvent m) bad = λ n same. (rest_leads ∙ bad m refl ∙ ap Err (same_number m n same), some)
+  stops (cause.BadEvent m) bad = λ n same. (rest_leads ∙ bad m refl ∙ ap Err (same_number m n same), some_first J A b is)
   stops cause.DiskFault bad = λ n same. absurd (cc same)
   stops cause.Closed bad = λ n same. absurd (cc same)
   stops cause.OutOfMemory bad = λ n same. absurd (cc same)

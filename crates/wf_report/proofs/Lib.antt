@@ -1,4 +1,5 @@
 mod Found
+mod Records
 mod Fronts
 mod Opened
 mod Lines

@@ -17,6 +17,7 @@ use std::sync::ledger::Ledger;
 use wf_engine::{EngineFault, first_machine, last_machine};
 use wf_history::History;
 use wf_host::Host;
+use wf_journal_laws::laws_of_histories;
 use wf_machine::{Machine, Steps};
 use wf_replay::{replay, replay_turns};
 
@@ -149,6 +150,7 @@ fn front_state<H: Host, L: Ledger>(
     ensures tells { TellsAsBefore H.world host.old host.new }
     ensures counts { NoCountFalls H.faults host.old host.new }
 {
+    laws_of_histories();
     let machine = first_machine(alloc, history, host)?;
     let stood = replay_turns(alloc, history, host, machine, turns, steps)?;
     let text = show(alloc, stood.id(), &stood)?;

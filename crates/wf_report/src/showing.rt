@@ -10,7 +10,7 @@ use wf_value::OutOfMemory;
 
 /// The word for how an execution has ended, or that it hasn't.
 fn state_word(outcome: Outcome<'_>) -> &'static str
-    ensures { result.now ≡ state_word (outcome_view outcome) }
+    ensures { result.now ≡ state_word (outcome_view outcome.entry) }
 {
     match outcome {
         Outcome::Active => "active",

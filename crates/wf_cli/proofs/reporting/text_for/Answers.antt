@@ -59,3 +59,20 @@ returns-in_default-clause-reads g c = λ told.
       any_moment = k.any_moment told;
       deeds = k.deeds told;
     }) c.in_ok-machine.was (leads.0, leads.1) (tells_whole l (records old.seen) (state_of m).config _ c.requires.command (λ at. c.in_default.not-At (c.command.ensures.command ∙ at)) leads c.in_ok-text_of_state.ensures)
+
+pub returns-in_err-text_of_state-in_default-clause-reads : goal.returns-in_err-text_of_state-in_default-clause-reads
+returns-in_err-text_of_state-in_default-clause-reads g c = λ told.
+    let old = g.H.Host.world c.args.host.now in
+    let new = g.H.Host.world c.last_state.new.host in
+    let k = c.last_state.ensures in
+    lacks_read (plain_line c.args.line.now) old new c.last_state.result c.from_residual-in_err-text_of_state.result (record {
+      begins = k.begins told;
+      not_a_journal = k.not_a_journal told;
+      not_started = k.not_started told;
+      not_a_history = k.not_a_history told;
+      settled = k.settled told;
+      settled_empty = k.settled_empty told;
+      seen = k.seen told;
+      any_moment = k.any_moment told;
+      deeds = k.deeds told;
+    }) c.from_residual-in_err-text_of_state.ensures
