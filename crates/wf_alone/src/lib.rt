@@ -1,5 +1,5 @@
 //! Laws of an execution in which `main` is the only task, and what it has still to do has no parallel steps. It may make HTTP calls, and
-//! wait for their answers; it may sleep; and it may wait until the body of a `try` is tried again.
+//! wait for their answers; it may log values; it may sleep; and it may wait until the body of a `try` is tried again.
 //!
 //! The laws are about the definitions of wf_model; the functions here do nothing and carry them as clauses. The machine above stands
 //! on the lemmas in proofs/.

@@ -48,6 +48,7 @@ takes_one : Command → OptionName → Bool
 takes_one c n = list_any (same_name n) (options_of c) && nat_lt 0 (most n)
 
 takes_required : (c : Command) → list_all (takes_one c) (required c) ≡ true
+unfolding takes_one
 takes_required Check = refl
 takes_required Format = refl
 takes_required Run = refl

@@ -278,16 +278,16 @@ routes_are_spelled word r =
 -- where one of the bytes is this one, the first of them stands somewhere
 any_there : (c : ℕ) (word : List ℕ) → list_any (λ b. b == c) word ≡ true → position_or_len (λ b. b == c) word < length word
 any_there c [] is = absurd (cc is)
-any_there c (b ∷ word) is = on (b == c) refl
+any_there c (b ∷ word) is = there_on (b == c) refl (λ later. any_there c word later)
   where
-    on : (t : Bool) → (b == c) ≡ t → position_or_len (λ b. b == c) (b ∷ word) < length (b ∷ word)
-    on true e =
+    there_on : (t : Bool) → (b == c) ≡ t → (list_any (λ b. b == c) word ≡ true → position_or_len (λ b. b == c) word < length word) → position_or_len (λ b. b == c) (b ∷ word) < length (b ∷ word)
+    there_on true e rest =
         let here : position_or_len (λ b. b == c) (b ∷ word) ≡ 0 = ap (λ (t : Bool). cond (not t) (1 + prefix_len (λ b. not (b == c)) word) 0) e in
         omega (arith, here)
-    on false e =
-        let rest = any_there c word (sym (ap (λ (t : Bool). t || list_any (λ b. b == c) word) e) ∙ is) in
+    there_on false e rest =
+        let later = rest (sym (ap (λ (t : Bool). t || list_any (λ b. b == c) word) e) ∙ is) in
         let here : position_or_len (λ b. b == c) (b ∷ word) ≡ 1 + position_or_len (λ b. b == c) word = ap (λ (t : Bool). cond (not t) (1 + prefix_len (λ b. not (b == c)) word) 0) e in
-        omega (arith, here, rest)
+        omega (arith, here, later)
 
 -- and one is where it stands between two parts
 any_between : (c : ℕ) (front rest : List ℕ) → list_any (λ b. b == c) (front ++ c ∷ rest) ≡ true
@@ -352,10 +352,13 @@ parts_are_env word key value key_is value_is has within some =
     (λ i. Some (key_is i, value_is i)) ∙ sym (ap (λ (t : Bool). if t then Some (key_in word, value_in word) else None) passes)
 
 -- ## Counts of turns
+zero_written : decimal 0 ≡ codes "0"
+zero_written = decimal-digits_value own (codes "0") refl (omega arith) (λ zero. refl) (omega arith)
+
 turn_by : (word : List ℕ) (n : ℕ) (t : Bool) → bytes_eq word (codes "0") ≡ t → (if t then Some 0 else number_to 4294967295 word) ≡ Some n → (word ≡ decimal n) × (n ≤ 4294967295)
 turn_by word n true e is =
     let zero : 0 ≡ n = grind (arith, is) in
-    ((bytes_eq-Decides word (codes "0")).0 e ∙ ap decimal zero, omega (arith, zero))
+    ((bytes_eq-Decides word (codes "0")).0 e ∙ sym zero_written ∙ ap decimal zero, omega (arith, zero))
 turn_by word n false e is = let t = number_tells 4294967295 word n is in (number_written 4294967295 word n (omega arith) t, t.small)
 
 turn_read : (n : ℕ) → n ≤ 4294967295 → (t : Bool) → bytes_eq (decimal n) (codes "0") ≡ t → (if t then Some 0 else number_to 4294967295 (decimal n)) ≡ Some n
@@ -366,7 +369,7 @@ turn_read n small true e =
 turn_read n small false e = number_read 4294967295 n (omega arith) (some n e) small
   where
     some : (n : ℕ) → bytes_eq (decimal n) (codes "0") ≡ false → 1 ≤ n
-    some zero e = absurd (cc e)
+    some zero e = let same = (bytes_eq-Decides (decimal 0) (codes "0")).1 zero_written in absurd (grind (arith, e, same))
     some (suc n) e = omega arith
 
 pub turns_are_spelled : TurnsAreSpelled

@@ -1,10 +1,10 @@
 -- Lines carried out by the check.
 use Rattle.std.specs.Prelude.{◌≡◌, ℕ, List, [], ◌∷◌, Ok, Err, Some, None, codes}
 use Rattle.wf_args.specs.declared.command.Command.{Command}
-use Rattle.wf_args.specs.declared.command.Command.TheVariants.{Check, Run, Resume, Help}
+use Rattle.wf_args.specs.declared.command.Command.TheVariants.{Check, Run, Resume, Show, At, Log, Help}
 use Rattle.wf_args.specs.declared.option.OptionName.{OptionName}
-use Rattle.wf_args.specs.declared.option.OptionName.TheVariants.{Source, Journal, Args, Route, Waits}
-use Rattle.wf_args.specs.Lines.{line_of, route_in, waits_in}
+use Rattle.wf_args.specs.declared.option.OptionName.TheVariants.{Source, Journal, Args, Route, Env, Waits, Turn, Grep}
+use Rattle.wf_args.specs.Lines.{env_in, line_of, route_in, turn_in, waits_in}
 
 -- the words are this line
 abbrev pub IsLineOf : List (List ℕ) → Command → List (OptionName × List ℕ) → Type 0
@@ -45,6 +45,15 @@ pub record WorkedLines : Type 0 where
   pub two_routes : IsLineOf (codes "run" ∷ codes "--route" ∷ codes "a=b:1" ∷ codes "--route" ∷ codes "a=b:1" ∷ []) Run ((Route, codes "a=b:1") ∷ (Route, codes "a=b:1") ∷ [])
   pub route_without_a_port : IsBadAt (codes "run" ∷ codes "--route" ∷ codes "a=b" ∷ []) 2
   pub route_of_resume : IsBadAt (codes "resume" ∷ codes "--route" ∷ codes "a=b:1" ∷ []) 1
+  pub equal_keys : IsLineOf (codes "run" ∷ codes "--env" ∷ codes "a=1" ∷ codes "--env" ∷ codes "a=2" ∷ []) Run ((Env, codes "a=1") ∷ (Env, codes "a=2") ∷ [])
+  pub key_without_a_value : IsBadAt (codes "run" ∷ codes "--env" ∷ codes "a" ∷ []) 2
+  pub environment_of_resume : IsBadAt (codes "resume" ∷ codes "--env" ∷ codes "a=1" ∷ []) 1
+  pub show : IsLineOf (codes "show" ∷ codes "--journal" ∷ codes "j" ∷ []) Show ((Journal, codes "j") ∷ [])
+  pub turn_of_show : IsBadAt (codes "show" ∷ codes "--turn" ∷ codes "1" ∷ []) 1
+  pub at_turn_0 : IsLineOf (codes "at" ∷ codes "--turn" ∷ codes "0" ∷ []) At ((Turn, codes "0") ∷ [])
+  pub at_without_a_turn : IsBadAt (codes "at" ∷ codes "--journal" ∷ codes "j" ∷ []) 3
+  pub two_turns : IsBadAt (codes "at" ∷ codes "--turn" ∷ codes "1" ∷ codes "--turn" ∷ codes "2" ∷ []) 3
+  pub log : IsLineOf (codes "log" ∷ codes "--grep" ∷ codes "" ∷ []) Log ((Grep, codes "") ∷ [])
 
 -- the word is this route
 abbrev pub IsRouteOf : List ℕ → List ℕ → List ℕ → ℕ → Type 0
@@ -70,3 +79,12 @@ pub record WorkedWords : Type 0 where
   pub most_waits : waits_in (codes "1000000000") ≡ Some 1000000000
   pub signed_waits : waits_in (codes "+1") ≡ None
   pub waits_without_digits : waits_in [] ≡ None
+  pub turn_0 : turn_in (codes "0") ≡ Some 0
+  pub last_turn : turn_in (codes "4294967295") ≡ Some 4294967295
+  pub turn_too_late : turn_in (codes "4294967296") ≡ None
+  pub turn_with_a_zero_in_front : turn_in (codes "01") ≡ None
+  pub pair : env_in (codes "a=b") ≡ Some (codes "a", codes "b")
+  pub pair_without_a_value : env_in (codes "a=") ≡ Some (codes "a", codes "")
+  pub value_with_equals : env_in (codes "a=b=c") ≡ Some (codes "a", codes "b=c")
+  pub pair_without_a_key : env_in (codes "=b") ≡ None
+  pub pair_without_equals : env_in (codes "a") ≡ None

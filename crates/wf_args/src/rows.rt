@@ -7,7 +7,7 @@ pub fn worked_lines()
     ensures { WorkedLines }
 {}
 
-/// Carries worked examples of the words of `--route` and `--waits`.
+/// Carries worked examples of the words of `--route`, `--waits`, `--turn` and `--env`.
 pub fn worked_words()
     ensures { WorkedWords }
 {}

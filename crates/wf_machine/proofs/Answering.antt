@@ -14,7 +14,7 @@ use Rattle.wf_check.specs.Seen.{program_of}
 use Rattle.wf_machine.proofs.Places.{K, Ls, P, W, X, has_main, here, matches_now}
 use Rattle.wf_machine.proofs.Waiting.{call_of_view, calling_view, has_moment, nothing_passed}
 use Rattle.wf_machine.specs.Causes.{Comes, Stops}
-use Rattle.wf_machine.specs.Log.{entries_of}
+use Rattle.wf_machine.specs.Entries.{entries_of}
 use Rattle.wf_machine.specs.Main.{around, rest_of, tasks_view}
 use Rattle.wf_machine.specs.Seen.{DuesBy, DuesNot, control_by, rest_by, state_of, wait_by}
 use Rattle.wf_machine.specs.declared.ending.Ending.TheVariants as ending

@@ -10,7 +10,7 @@ use Rattle.wf_frames.specs.declared.frames.Frame.{Frame}
 use Rattle.wf_frames.specs.declared.frames.Frame.TheVariants as frame
 use Rattle.wf_machine.specs.Facts.{facts_view}
 use Rattle.wf_machine.proofs.Waiting.{going_by}
-use Rattle.wf_machine.specs.Log.{entries_of}
+use Rattle.wf_machine.specs.Entries.{entries_of}
 use Rattle.wf_machine.specs.Main.{Begins, IsStanding, around, config_of, first_local, rest_of, tasks_view}
 use Rattle.wf_machine.specs.State.{outcome_by, outcome_depth}
 use Rattle.wf_machine.specs.declared.facts.Facts.{Facts}

@@ -16,9 +16,7 @@ use Rattle.wf_model.specs.Calls.{http_method}
 use Rattle.wf_nodes.specs.Spots.{FlowAt, Spot, flow_spots, flows_spots, spot, spot_part, spots, steps_size}
 use Rattle.wf_shared.specs.Events.{Method}
 use Rattle.wf_shared.specs.HttpUrl.{first_of_two}
-use Rattle.wf_nodes.specs.declared.node.CallNode.{CallNode}
 use Rattle.wf_nodes.specs.declared.node.Node.{Node}
-use Rattle.wf_nodes.specs.declared.node.NodeKind.TheVariants as kind
 use Rattle.wf_steps.specs.Built.{AreTargets, IsAsked, IsTarget, IsWorkflow, flow_part, function_parts, listed, nap_special}
 use Rattle.wf_steps.specs.declared.target.Nap.{Nap}
 use Rattle.wf_steps.specs.declared.target.Nap.TheVariants as nap

@@ -80,7 +80,7 @@ pub none_chosen : MainMatches → (m : Machine) (r : ℕ) → StepsNot m → Due
 none_chosen law m r steps dues = by m.ending refl m.task refl
   where
     at : (o : Option Task) (e : Ending) → m.task ≡ o → m.ending ≡ e → choose (program_of m.program) (state_of m).config r ≡ choose (program_of m.program) (config_of (program_of m.program) m.facts m.tally o m.scopes m.calls m.log e) r
-    at o e is run = ap (λ x. choose (program_of m.program) (config_of (program_of m.program) m.facts m.tally x m.scopes m.calls m.log m.ending) r) is ∙ ap (λ x. choose (program_of m.program) (config_of (program_of m.program) m.facts m.tally o m.scopes m.calls x) r) run
+    at o e is run = ap (λ x. choose (program_of m.program) (config_of (program_of m.program) m.facts m.tally x m.scopes m.calls m.log m.ending) r) is ∙ ap (λ x. choose (program_of m.program) (config_of (program_of m.program) m.facts m.tally o m.scopes m.calls m.log x) r) run
 
     by : (e : Ending) → m.ending ≡ e → (o : Option Task) → m.task ≡ o → choose (program_of m.program) (state_of m).config r ≡ None
     by (ending.Returned v) run o is = at o (ending.Returned v) is run

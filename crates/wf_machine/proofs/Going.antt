@@ -13,7 +13,7 @@ use Rattle.wf_frames.specs.Turns.{Agrees}
 use Rattle.wf_machine.proofs.Moves.{Came, came, comes_to, logged_behind, shallow_behind, tasks_behind, tasks_off, tasks_on}
 use Rattle.wf_machine.proofs.Places.{goes_right}
 use Rattle.wf_machine.specs.Causes.{Comes, ReachesFor, SuitsTo, calls_by, does_by}
-use Rattle.wf_machine.specs.Log.{entries_of}
+use Rattle.wf_machine.specs.Entries.{entries_of}
 use Rattle.wf_machine.specs.Main.{around, calls_behind, config_of, log_behind, logged_depth, outcome_behind, rest_of, tasks_view}
 use Rattle.wf_machine.specs.Seen.{control_by, layers_by, state_of, wait_by}
 use Rattle.wf_machine.specs.State.{is_running, outcome_by, outcome_depth}

@@ -8,6 +8,7 @@ pub mod Choice
 pub mod Counts
 pub mod First
 pub mod Going
+pub mod Logs
 pub mod Moves
 pub mod Places
 pub mod Plainly

@@ -10,7 +10,7 @@ use Rattle.wf_check.specs.Seen.{program_of}
 use Rattle.wf_machine.proofs.Places.{K, Ls, P, W, X, here, plain}
 use Rattle.wf_machine.proofs.Waiting.{awake_view, not_awake}
 use Rattle.wf_machine.specs.Causes.{Comes, Stops}
-use Rattle.wf_machine.specs.Log.{entries_of}
+use Rattle.wf_machine.specs.Entries.{entries_of}
 use Rattle.wf_machine.specs.Main.{around, rest_of, tasks_view}
 use Rattle.wf_machine.specs.Seen.{StepsBy, WantsNot, control_by, last_by, rest_by, wait_by}
 use Rattle.wf_machine.specs.declared.ending.Ending.TheVariants as ending

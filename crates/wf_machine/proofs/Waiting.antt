@@ -2,7 +2,7 @@
 --     can_go, going_by       of a task that is awake
 --     awake_view ..          its wait, by the call that it waits for
 --     moment_is ..           when that wait ends, where it is for no call
-use Rattle.std.proofs.Common.{◌≡◌, ℕ, true, false, List, [], ◌∷◌, Option, None, Some, refl, ap}
+use Rattle.std.proofs.Common.{◌≡◌, ℕ, true, false, List, [], ◌∷◌, None, Some, refl, ap}
 use Rattle.std.specs.Prelude.{is_some}
 use Rattle.wf_alone.specs.Machine.{Rest, passed}
 use Rattle.wf_alone.specs.Plain.{CanWake, is_before_try}

@@ -8,7 +8,7 @@ use Rattle.wf_alone.specs.Machine.{config_by, main_at, main_local, main_scene}
 use Rattle.wf_calls.specs.Numbers.{closed_at}
 use Rattle.wf_calls.specs.View.{closed_view}
 use Rattle.wf_check.specs.Seen.{program_of}
-use Rattle.wf_machine.specs.Log.{entries_of}
+use Rattle.wf_machine.specs.Entries.{entries_of}
 use Rattle.wf_machine.specs.Main.{around, rest_of, tasks_view}
 use Rattle.wf_machine.specs.Seen.{control_by, layers_by, state_of, wait_by}
 use Rattle.wf_machine.specs.declared.ending.Ending.TheVariants.{Running}

@@ -2,6 +2,7 @@
 pub mod Applied
 pub mod Causes
 pub mod Counts
+pub mod Entries
 pub mod Facts
 pub mod Laws
 pub mod Lent

@@ -1,10 +1,11 @@
 -- What an execution has logged.
---     entry_view, entries_of     as the definition of steps has it
---     entry_by                   an entry, by its parts
---     logged_at                  what a step logs, at a reading
-use Rattle.std.specs.Prelude.{◌≤◌, ℕ, List, map}
+--     entry_by       an entry, by its parts
+--     entry_view     as the definition of steps has it
+--     logged_at      what a step logs, at a reading
+use Rattle.std.specs.Coded.{le_prop}
+use Rattle.std.specs.List.{AllByRecursion, AllByRecursion-prop}
+use Rattle.std.specs.Prelude.{◌≤◌, ℕ, List}
 use Rattle.wf_machine.specs.declared.log.Entry.{Entry}
-use Rattle.wf_machine.specs.declared.log.Log.{Log}
 use Rattle.wf_model.specs.Config.{LogEntry}
 use Rattle.wf_moves.specs.declared.logging.Logged.{Logged}
 use Rattle.wf_value.specs.Data.{Data, depth}
@@ -17,12 +18,12 @@ entry_by reading severity value = record { reading = reading; severity = severit
 abbrev pub entry_view : Entry → LogEntry
 entry_view e = entry_by e.reading e.severity (plain e.value)
 
-abbrev pub entries_of : Log → List LogEntry
-entries_of l = map entry_view l.entries.items
-
 abbrev pub logged_at : ℕ → Logged → LogEntry
 logged_at reading e = entry_by reading e.severity (plain e.value)
 
 -- its value nests at most 100 deep
 abbrev pub IsShallow : Entry → Type 0
 IsShallow e = depth (plain e.value) ≤ 100
+
+pub AreShallow-prop : (es : List Entry) → IsProp (AllByRecursion IsShallow es)
+AreShallow-prop es = AllByRecursion-prop IsShallow (λ e. le_prop) es

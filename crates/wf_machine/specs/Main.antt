@@ -15,7 +15,8 @@ use Rattle.wf_frames.specs.Owned.{Around, control_of, own_of}
 use Rattle.wf_frames.specs.Standing.{Standing, Standing-prop}
 use Rattle.wf_http_ask.specs.View.{request_view}
 use Rattle.wf_machine.specs.Facts.{facts_view}
-use Rattle.wf_machine.specs.Log.{entries_of, logged_at}
+use Rattle.wf_machine.specs.Entries.{entries_of}
+use Rattle.wf_machine.specs.Log.{logged_at}
 use Rattle.wf_machine.specs.State.{outcome_by}
 use Rattle.wf_machine.specs.declared.ending.Ending.{Ending}
 use Rattle.wf_machine.specs.declared.facts.Facts.{Facts}

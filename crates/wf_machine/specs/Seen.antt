@@ -7,7 +7,7 @@ use Rattle.wf_alone.specs.Machine.{Rest}
 use Rattle.wf_alone.specs.Waiting.{due_for}
 use Rattle.wf_check.specs.Seen.{program_of}
 use Rattle.wf_frames.specs.Owned.{control_of, own_of}
-use Rattle.wf_machine.specs.Log.{entries_of}
+use Rattle.wf_machine.specs.Entries.{entries_of}
 use Rattle.wf_machine.specs.Main.{around, config_of, rest_of}
 use Rattle.wf_machine.specs.State.{State}
 use Rattle.wf_machine.specs.declared.ending.Ending.TheVariants.{Running}

@@ -1,6 +1,6 @@
 // How an execution has ended.
 ghost use Rattle.std.specs.Prelude.{◌≡◌, ◌≤◌, IfOk, OnOk};
-ghost use Rattle.wf_machine.specs.Log.{entries_of};
+ghost use Rattle.wf_machine.specs.Entries.{entries_of};
 ghost use Rattle.wf_machine.specs.Main.{calls_behind, log_behind, logged_depth, outcome_at, outcome_behind};
 ghost use Rattle.wf_machine.specs.State.{is_running, outcome_by};
 

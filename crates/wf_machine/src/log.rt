@@ -1,7 +1,7 @@
 // What an execution has logged.
 ghost use Rattle.std.specs.List.{AllByRecursion};
 ghost use Rattle.std.specs.Prelude.{◌≡◌, ◌∷◌, ◌++◌, [], ◌≤◌, IfSome, OnOk, map, option_map, slice_get};
-ghost use Rattle.wf_machine.specs.Log.{IsShallow, entries_of, entry_by, entry_view, logged_at};
+ghost use Rattle.wf_machine.specs.Log.{AreShallow-prop, IsShallow, entry_by, entry_view, logged_at};
 ghost use Rattle.wf_model.specs.Taken.{log_total};
 ghost use Rattle.wf_value.specs.Data.{depth};
 ghost use Rattle.wf_value.specs.Plain.{plain};
@@ -24,7 +24,7 @@ pub(crate) struct Log {
     /// The size of all values.
     size: u64,
     ghost total: { size ≡ log_total (map entry_view entries.items) },
-    ghost shallow: { AllByRecursion IsShallow entries.items },
+    ghost shallow: { AllByRecursion IsShallow entries.items } by { AreShallow-prop _ },
 }
 
 // Written, and not derived: it is one call wherever a log is let go.
@@ -38,6 +38,8 @@ impl Drop for Log {
 }
 
 impl Log {
+    ghost use Rattle.wf_machine.specs.Entries.{entries_of};
+
     /// Nothing.
     pub(crate) fn new(alloc: Global) -> Log
         ensures { entries_of result ≡ [] }
@@ -55,16 +57,17 @@ impl Log {
         self.size
     }
 
-    /// One more value, logged at a reading.
+    /// One more value, logged at a reading. Where the sizes would pass what 64 bits count, it is answered as if there were no memory.
     pub(crate) fn add(&mut self, logged: Logged, reading: u64) -> Result<(), OutOfMemory>
         requires shallow { depth (plain logged.value) ≤ 100 }
         ensures { OnOk result (entries_of self.new
             ≡ entries_of self.old ++ logged_at reading logged ∷ []) }
     {
         let Logged { severity, value } = logged;
-        let Some(size) = self.size.checked_add(value.size()) else {
+        let size = self.size.saturating_add(value.size());
+        if size == u64::MAX {
             return Err(OutOfMemory);
-        };
+        }
         let entry = Entry {
             reading,
             severity,

@@ -6,7 +6,8 @@ pub mod Going
 pub mod Jumps
 pub mod Led
 pub mod Leaving
-pub mod Logging
+pub mod LogCalls
+pub mod LogEntries
 pub mod Raised
 pub mod Requesting
 pub mod Retrying

@@ -1,24 +1,27 @@
 // What steps log.
-ghost use Rattle.std.specs.Prelude.{◌≡◌, ◌≤◌, IfOk, OnOk, Ok, option_map};
+ghost use Rattle.std.specs.Prelude.{◌≡◌, ◌≤◌, ◌+◌, IfOk, Ok, OnOk, codes, nat_le, option_map, unwrap_or};
 ghost use Rattle.wf_eval.specs.Answers.{Answers};
 ghost use Rattle.wf_frames.specs.Frames.{inner};
 ghost use Rattle.wf_frames.specs.Owned.{Around, control_of, held_by};
 ghost use Rattle.wf_frames.specs.Stands.{Stands};
 ghost use Rattle.wf_model.specs.Calls as calls;
-ghost use Rattle.wf_moves.specs.Logs.{logged_view, severity_told, within_log};
+ghost use Rattle.wf_model.specs.Config.{log_limit};
+ghost use Rattle.wf_moves.specs.Logs.{entry_within, logged_view, severity_told, text_told, within_log};
 ghost use Rattle.wf_moves.specs.Tasks.{IsLeftSo, LogsBy, Names};
 ghost use Rattle.wf_nodes.specs.Spots.{part_at, part_body};
 ghost use Rattle.wf_shared.specs.Events.{severity_named};
+ghost use Rattle.wf_shared.specs.HttpUrl.{first_of_two};
 ghost use Rattle.wf_steps.specs.Built.{IsLog, Tells};
 ghost use Rattle.wf_steps.specs.Steps.{calls_by};
-ghost use Rattle.wf_value.specs.Data.{pairs_depth, pairs_of};
-ghost use Rattle.wf_value.specs.Errors.{◌>>=◌};
+ghost use Rattle.wf_value.specs.Data.{null, pairs_depth, pairs_of, size};
+ghost use Rattle.wf_value.specs.Pairs.{get};
 ghost use Rattle.wf_value.specs.Plain.{plain};
 
 use crate::back::give;
 use crate::finish::{Done, End};
 use crate::raising::fails;
 use crate::sending::Sending;
+use crate::sleeping::argument;
 use std::alloc::Global;
 use wf_eval::copied;
 use wf_frames::Frames;
@@ -64,7 +67,7 @@ fn severity_named(name: &str) -> Option<Severity>
 // The severity that the argument of this name says: `DEFAULT` where it is absent.
 fn severity_of(severity: Option<&Value>) -> Result<Severity, Raise>
     ensures { Answers (λ s. s) result
-        (severity_told (option_map (λ v. plain v.now) severity)) }
+        (severity_told (option_map (λ v. plain v.now) severity.entry)) }
 {
     match severity {
         None => Ok(Severity::Default),
@@ -76,17 +79,46 @@ fn severity_of(severity: Option<&Value>) -> Result<Severity, Raise>
     }
 }
 
+// The argument `data`, or else `json`.
+fn data_in(args: &Map) -> Option<&Value>
+    ensures { option_map (λ v. plain v.now) result
+        ≡ first_of_two (get (codes "data") (pairs_of args.now))
+        (get (codes "json") (pairs_of args.now)) }
+{
+    match argument(args, "data") {
+        Some(data) => Some(data),
+        None => argument(args, "json"),
+    }
+}
+
+// An equal value, or null where there is none.
+fn copied_or_null(alloc: Global, value: Option<&Value>) -> Result<Value, Raise>
+    ensures { Answers plain result
+        (Ok (unwrap_or (option_map (λ v. plain v.now) value.entry) null)) }
+{
+    match value {
+        Some(value) => copied(alloc, value),
+        None => Ok(Value::Null),
+    }
+}
+
 // The value of `data` or `json`, which may be any.
 fn any_logged(alloc: Global, args: &Map) -> Result<Value, Raise>
     ensures { Answers plain result (Ok (calls.logged_any (pairs_of args.now))) }
 {
-    let value = match args.get("data") {
-        Some(data) => Some(data),
-        None => args.get("json"),
-    };
+    copied_or_null(alloc, data_in(args))
+}
+
+// A value that must be a text.
+fn text_of(value: &Value) -> Result<Value, Raise>
+    ensures { Answers plain result (text_told (plain value.now)) }
+{
     match value {
-        Some(value) => copied(alloc, value),
-        None => Ok(Value::Null),
+        Value::Text(text) => match text.copy() {
+            Ok(text) => Ok(Value::Text(text)),
+            Err(_) => Err(Raise::OutOfMemory),
+        },
+        _ => Err(Raise::Error(Tag::TypeError)),
     }
 }
 
@@ -94,27 +126,37 @@ fn any_logged(alloc: Global, args: &Map) -> Result<Value, Raise>
 fn logged_value(alloc: Global, args: &Map) -> Result<Value, Raise>
     ensures { Answers plain result (calls.logged_value (pairs_of args.now)) }
 {
-    match args.get("text") {
-        Some(Value::Text(text)) => match text.copy() {
-            Ok(text) => Ok(Value::Text(text)),
-            Err(_) => Err(Raise::OutOfMemory),
-        },
-        Some(_) => Err(Raise::Error(Tag::TypeError)),
+    match argument(args, "text") {
+        Some(value) => text_of(value),
         None => any_logged(alloc, args),
+    }
+}
+
+// Whether all that is logged keeps its limit with a value more, where so much was logged before.
+fn is_within(logged: u64, value: &Value) -> bool
+    ensures { result ≡ nat_le (logged + size (plain value.now)) log_limit }
+{
+    logged.saturating_add(value.size()) <= LOG_LIMIT
+}
+
+// The entry, where it doesn't pass that limit.
+fn within_log(logged: u64, entry: Logged) -> Result<Logged, Raise>
+    ensures { Answers logged_view result (within_log logged (logged_view entry)) }
+{
+    if is_within(logged, &entry.value) {
+        Ok(entry)
+    } else {
+        Err(Raise::Error(Tag::ResourceLimitError))
     }
 }
 
 // The entry for which the arguments ask, where so much was logged before. One that would pass the limit isn't logged.
 fn entry_of(alloc: Global, args: &Map, logged: u64) -> Result<Logged, Raise>
-    ensures { Answers logged_view result
-        (calls.log_entry (pairs_of args.now) >>= within_log logged) }
+    ensures { Answers logged_view result (entry_within logged (pairs_of args.now)) }
 {
     let value = logged_value(alloc, args)?;
-    let severity = severity_of(args.get("severity"))?;
-    if value.size() > LOG_LIMIT.saturating_sub(logged) {
-        return Err(Raise::Error(Tag::ResourceLimitError));
-    }
-    Ok(Logged { severity, value })
+    let severity = severity_of(argument(args, "severity"))?;
+    within_log(logged, Logged { severity, value })
 }
 
 /// The log of a step's call, with its arguments; null goes into the call's result. An error in them is raised, and nothing is logged.

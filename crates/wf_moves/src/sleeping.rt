@@ -30,8 +30,8 @@ use wf_value::{Map, OutOfMemory, Raise, Tag, Value};
 /// The longest sleep, in seconds.
 const LONGEST_SLEEP: i64 = 31_536_000;
 
-// The argument of this name.
-fn argument<'a>(args: &'a Map, name: &str) -> Option<&'a Value>
+/// The argument of this name.
+pub(crate) fn argument<'a>(args: &'a Map, name: &str) -> Option<&'a Value>
     ensures { option_map (λ v. plain v.now) result ≡ get name.now (pairs_of args.now) }
 {
     args.get(name)

@@ -1,6 +1,6 @@
 -- A loop that replays the first turns of a history.
-use Rattle.std.specs.Prelude.{◌≡◌, ◌≤◌, ◌+◌, ◌-◌, ℕ, zero, suc, List, [], ◌∷◌, take, drop, Option, Some, None, Result, Ok, Err}
-use Rattle.std.proofs.Common.{refl, sym, ◌∙◌, ap, arith}
+use Rattle.std.specs.Prelude.{◌≡◌, ◌≤◌, ◌+◌, ◌-◌, IsTrue, ℕ, zero, suc, List, [], ◌∷◌, take, drop, Option, Some, None, Result, Ok, Err}
+use Rattle.std.proofs.Common.{refl, sym, ◌∙◌, ap, arith, subst}
 use Rattle.wf_events.specs.Reading.{meaning}
 use Rattle.wf_history.specs.Stands.{ahead}
 use Rattle.wf_history.specs.declared.history.History.{History}
@@ -17,6 +17,10 @@ pub record GoneSoFar (first : World) (h g : History) (m n : Machine) (turns left
 
 abbrev pub Gone : World → History → History → Machine → Machine → ℕ → ℕ → Type 0
 Gone first h g m n turns left = Told first (GoneSoFar first h g m n turns left)
+
+-- what is told of where the loop stands, of the file as it read at first
+pub as_at_first : (first now : World) (P : List ℕ → Type 0) → now.tells ≡ first.tells → (IsTrue first.tells → now.seen ≡ first.seen) → Told now (P now.seen) → Told first (P first.seen)
+as_at_first first now P tells seen is = λ told. subst P (seen told) (is (subst IsTrue (sym tells) told))
 
 -- ## Before the first turn
 pub none_gone : (first : World) (h : History) (m : Machine) (turns : ℕ) → Gone first h h m m turns turns

@@ -1,5 +1,5 @@
 -- How records that a history lends are passed.
-use Rattle.std.specs.Prelude.{◌≡◌, ◌×◌, ℕ, suc, List, ◌∷◌, Option, Some, None, Err}
+use Rattle.std.specs.Prelude.{◌≡◌, ℕ, suc, List, ◌∷◌, Option, Some, None, Err}
 use Rattle.std.proofs.Common.{sym, ◌∙◌, ap, ap₂}
 use Rattle.wf_events.specs.Reading.{meaning}
 use Rattle.wf_events.specs.Records.{Record}

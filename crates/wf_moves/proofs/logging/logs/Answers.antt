@@ -3,7 +3,7 @@ use Rattle.wf_eval.specs.Answers.{Answers}
 use Rattle.wf_frames.specs.Frames.{inner}
 use Rattle.wf_frames.specs.Owned.{control_of, held_by, local_of}
 use Rattle.wf_model.specs.Calls.{log_entry}
-use Rattle.wf_moves.proofs.Logging.{entry_logged, log_failed}
+use Rattle.wf_moves.proofs.LogCalls.{entry_logged, log_failed}
 use Rattle.wf_moves.proofs.Raised.{raised, raised_left}
 use Rattle.wf_moves.specs.Logs.{logged_view, within_log}
 use Rattle.wf_nodes.specs.Kinds.{call_by}

@@ -1,7 +1,9 @@
-use Rattle.std.proofs.Common.{refl, arith}
-use Rattle.wf_replay.proofs.Fronts.{none_gone}
+use Rattle.std.proofs.Common.{◌≡◌, ◌-◌, [], true, false, rules, refl, arith}
+use Rattle.wf_history.specs.Stands.{ahead}
+use Rattle.wf_replay.proofs.Fronts.{as_at_first, none_gone, none_left, one_further}
 use Rattle.wf_replay.proofs.Replays.{starts, none_fell}
 use Rattle.wf_replay.proofs.replaying.replay_turns.Goals as goal
+use Rattle.wf_replay.specs.Standing.{Passes, standing}
 
 pub loop-left-init : goal.loop-left-init
 loop-left-init g c = record {
@@ -17,3 +19,41 @@ loop-left-init g c = record {
   };
   gone = none_gone (g.H.Host.world c.args.host.now) c.args.history.now c.args.machine c.args.turns;
 }
+
+pub loop-left-preserved : goal.loop-left-preserved
+loop-left-preserved g c =
+    let first = g.H.Host.world c.args.host.now in
+    let now = g.H.Host.world c.loop-left.host in
+    let more : c.in_ok-replay_next.field-0 ≡ true = search rules in
+    record {
+      within = omega arith;
+      kept = search rules;
+      gone = one_further first c.args.history.now c.loop-left.history c.replay_next.new.history c.args.machine c.loop-left.machine c.replay_next.new.machine c.args.turns c.loop-left.left (c.loop-left.left - 1) c.loop-left.invariant.gone
+          (as_at_first first now (λ file. Passes (standing c.loop-left.history c.loop-left.machine) (standing c.replay_next.new.history c.replay_next.new.machine) (ahead c.loop-left.history file) (ahead c.replay_next.new.history file))
+          c.loop-left.invariant.kept.tells (λ told. (c.loop-left.invariant.kept.so_far told).seen) (λ told. c.in_ok-replay_next.ensures.one told more))
+          c.loop-left.invariant.within (omega arith);
+    }
+
+pub returns-then-not-branch-clause-replayed : goal.returns-then-not-branch-clause-replayed
+returns-then-not-branch-clause-replayed g c = λ told.
+    let first = g.H.Host.world c.args.host.now in
+    let now = g.H.Host.world c.loop-left.host in
+    let none : c.in_ok-replay_next.field-0 ≡ false = search rules in
+    (none_left first c.args.history.now c.loop-left.history c.replay_next.new.history c.args.machine c.loop-left.machine c.replay_next.new.machine c.args.turns c.loop-left.left c.loop-left.invariant.gone
+    (as_at_first first now (λ file. (ahead c.loop-left.history file ≡ []) × (standing c.replay_next.new.history c.replay_next.new.machine ≡ standing c.loop-left.history c.loop-left.machine))
+    c.loop-left.invariant.kept.tells (λ told. (c.loop-left.invariant.kept.so_far told).seen) (λ told. c.in_ok-replay_next.ensures.none_more told none))
+    (as_at_first first now (λ file. ahead c.replay_next.new.history file ≡ [])
+    c.loop-left.invariant.kept.tells (λ told. (c.loop-left.invariant.kept.so_far told).seen) (λ told. c.in_ok-replay_next.ensures.last told none))
+    told).0
+
+pub returns-then-not-branch-clause-left : goal.returns-then-not-branch-clause-left
+returns-then-not-branch-clause-left g c = λ told.
+    let first = g.H.Host.world c.args.host.now in
+    let now = g.H.Host.world c.loop-left.host in
+    let none : c.in_ok-replay_next.field-0 ≡ false = search rules in
+    (none_left first c.args.history.now c.loop-left.history c.replay_next.new.history c.args.machine c.loop-left.machine c.replay_next.new.machine c.args.turns c.loop-left.left c.loop-left.invariant.gone
+    (as_at_first first now (λ file. (ahead c.loop-left.history file ≡ []) × (standing c.replay_next.new.history c.replay_next.new.machine ≡ standing c.loop-left.history c.loop-left.machine))
+    c.loop-left.invariant.kept.tells (λ told. (c.loop-left.invariant.kept.so_far told).seen) (λ told. c.in_ok-replay_next.ensures.none_more told none))
+    (as_at_first first now (λ file. ahead c.replay_next.new.history file ≡ [])
+    c.loop-left.invariant.kept.tells (λ told. (c.loop-left.invariant.kept.so_far told).seen) (λ told. c.in_ok-replay_next.ensures.last told none))
+    told).1

@@ -22,7 +22,7 @@ go_on-requires c =
 
 pub ending_of-requires : goal.ending_of-requires
 ending_of-requires c =
-    logged_shallow c.never_wrong.ensures c.args.self.now c.args.cause c.args.now c.args.tally c.requires.comes.0 c.requires.comes.1 c.in-Some.task (sym c.in-Some.ensures.value) c.count-self.result c.count-self.ensures.count c.size-self.result c.size-self.ensures c.go_on.new.task c.go_on.new.scopes c.in-Ok.did c.in-Ok.ensures.moved
+    record { shallow = logged_shallow c.never_wrong.ensures c.args.self.now c.args.cause c.args.now c.args.tally c.requires.comes.0 c.requires.comes.1 c.in-Some.task (sym c.in-Some.ensures.value) c.count-self.result c.count-self.ensures.count c.size-self.result c.size-self.ensures c.go_on.new.task c.go_on.new.scopes c.in-Ok.did c.in-Ok.ensures.moved }
 
 pub returns-then-is_running-clause-moved : goal.returns-then-is_running-clause-moved
 returns-then-is_running-clause-moved c = λ e comes.

@@ -4,7 +4,7 @@ use Rattle.wf_alone.proofs.Reached.{reached_next}
 use Rattle.wf_alone.specs.Machine.{config_by}
 use Rattle.wf_check.specs.Seen.{program_of}
 use Rattle.wf_machine.proofs.machine.Machine.stop.Goals as goal
-use Rattle.wf_machine.specs.Log.{entries_of}
+use Rattle.wf_machine.specs.Entries.{entries_of}
 use Rattle.wf_machine.specs.Main.{config_of, rest_of, tasks_view}
 use Rattle.wf_machine.specs.Seen.{state_of}
 use Rattle.wf_machine.specs.declared.ending.Ending.TheVariants as ending

@@ -89,7 +89,7 @@ any_shallow args small = by (get (codes "data") args) (get (codes "json") args) 
 value_shallow : (args : Pairs) (w : Data) → pairs_depth args ≤ 100 → logged_value args ≡ Ok w → depth w ≤ 100
 value_shallow args w small is = by (get (codes "text") args) is
   where
-    by : (o : Option Data) → (elim o [ None ↦ Ok (logged_any args) | Some v ↦ as_text (Some v) >>= λ t. Ok (text t) ]) ≡ Ok w → depth w ≤ 100
+    by : (o : Option Data) → ◌≡◌ {A = Answer Data} (elim o [ None ↦ Ok (logged_any args) | Some v ↦ as_text (Some v) >>= λ t. Ok (text t) ]) (Ok w) → depth w ≤ 100
     by None is = subst (λ (x : Data). depth x ≤ 100) (let same : logged_any args ≡ w = cc is in same) (any_shallow args small)
     by (Some v) is = text_shallow v w is
 
