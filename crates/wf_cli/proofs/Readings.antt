@@ -72,7 +72,7 @@ abbrev as_err : {T : Type 0} → EngineFault → Result T EngineFault
 as_err e = Err e
 
 -- a fault that is passed on
-fault_read : {T : Type 0} (l : PlainLine) (old new : World) (f : EngineFault) → ReadsFile old new (as_err {T} f) → ReadsJournal l old new (Err f)
+fault_read : {T : Type 0} (l : PlainLine) (old new : World) (f : EngineFault) → ReadsFile old new (as_err {T = T} f) → ReadsJournal l old new (Err f)
 fault_read l old new f k = record {
   told = tt;
   begins = tt;
