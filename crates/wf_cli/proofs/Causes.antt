@@ -56,7 +56,7 @@ no_bad_line s P n (l, is, p) bad = not_both (line_of s.words) l n is bad
 
 -- what a command needs that does one or the other
 never : (P : Type 0) → false ≡ true → P
-never P no = absurd (cc no)
+never P isnt = absurd (cc isnt)
 
 executes_uses : (c : Command) → executes c ≡ true → uses_journal c ≡ true
 executes_uses Check is = never (uses_journal Check ≡ true) is

@@ -72,11 +72,11 @@ abbrev as_err : {T : Type 0} → EngineFault → Result T EngineFault
 as_err e = Err e
 
 -- a fault that is passed on
-fault_read : {T : Type 0} (l : PlainLine) (old new : World) (f : EngineFault) → ReadsFile old new (as_err {T} f) → ReadsJournal l old new (Err f)
+fault_read : {T : Type 0} (l : PlainLine) (old new : World) (f : EngineFault) → ReadsFile old new (as_err {T = T} f) → ReadsJournal l old new (Err f)
 fault_read l old new f k = record {
   told = tt;
   begins = tt;
-  history = tt;
+  is_history = tt;
   not_a_journal = λ is. let same : f ≡ engine.NotAJournal = cc is in k.not_a_journal (ap Err same);
   not_started = λ is. let same : f ≡ engine.NotStarted = cc is in k.not_started (ap Err same);
   not_a_history = k.not_a_history;
@@ -97,7 +97,7 @@ lacks_read l old new q (Ok x) k gives = absurd gives.0
 lacks_read l old new q (Err e) k gives = record {
   told = tt;
   begins = tt;
-  history = tt;
+  is_history = tt;
   not_a_journal = λ is. let no : engine.OutOfMemory ≡ engine.NotAJournal = sym gives.1 ∙ cc is in absurd (cc no);
   not_started = λ is. let no : engine.OutOfMemory ≡ engine.NotStarted = sym gives.1 ∙ cc is in absurd (cc no);
   not_a_history = λ n is. let no : engine.OutOfMemory ≡ engine.NotAHistory n = sym gives.1 ∙ is in absurd (cc no);
@@ -115,7 +115,7 @@ text_read l old new q x text k is history tells =
     record {
       told = tells;
       begins = j.begins;
-      history = history;
+      is_history = history;
       not_a_journal = λ no. absurd (cc no);
       not_started = λ no. absurd (cc no);
       not_a_history = tt;

@@ -118,7 +118,7 @@ module _ (s : Scene) (l : PlainLine) (is_line : line_of s.words ≡ Ok l) (tells
     causes : (text : String Global) → ReadsJournal l old new (Ok text) → HasNoCauseInFile the_language s
     causes text k =
         let begins = subst (λ f. take 4 f ≡ magic) found k.begins in
-        let is : IsHistory the_language (records s.found) = subst (λ f. IsHistory the_language (records f)) found k.history in
+        let is : IsHistory the_language (records s.found) = subst (λ f. IsHistory the_language (records f)) found k.is_history in
         record {
           magic = no_magic s (inr begins);
           started = never_started;
@@ -174,7 +174,7 @@ module _ (s : Scene) (l : PlainLine) (is_line : line_of s.words ≡ Ok l) (tells
 
       left_history : OnlyReadings → NoTurnsBehind → NextBehindHistory → (text : String Global) → ReadsJournal l old new (Ok text) → LateNow the_language O s old new
       left_history readings behind next text k = λ fit.
-          let is : IsHistory the_language (records s.found) = subst (λ f. IsHistory the_language (records f)) found k.history in
+          let is : IsHistory the_language (records s.found) = subst (λ f. IsHistory the_language (records f)) found k.is_history in
           left readings (no_turns_next behind next the_language s.found fit (λ none. no_record_no_history the_language (records s.found) is.0 is.1 none)) k.settled k.seen k.deeds fit
 
       left_fault : OnlyReadings → (f : EngineFault) → IsReadFault f → ReadsJournal l old new (Err f) → (f ≡ engine.AlreadyStarted) ⊎ (f ≡ engine.NotStarted) → LateNow the_language O s old new

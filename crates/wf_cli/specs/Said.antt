@@ -228,7 +228,7 @@ TellsOf l J text = (s : Scene) → end.IsLine s l → records s.found ≡ J → 
 pub record ReadsJournal (l : PlainLine) (old new : World) (r : Result (String Global) EngineFault) : Type 0 where
   pub told : IfOk r (λ text. TellsOf l (records old.seen) (string_bytes text))
   pub begins : OnOk r (take 4 old.seen ≡ magic)
-  pub history : OnOk r (IsHistory the_language (records old.seen))
+  pub is_history : OnOk r (IsHistory the_language (records old.seen))
   pub not_a_journal : IsErrOf r engine.NotAJournal → (5 ≤ length old.seen) × (take 4 old.seen ≢ magic)
   pub not_started : IsErrOf r engine.NotStarted → (records old.seen ≡ []) × MayHaveRecords old.seen
   pub not_a_history : IfErr r (λ e. (n : ℕ) → e ≡ engine.NotAHistory n → (history the_language (records old.seen) ≡ Err n) × (records old.seen ≢ []) × (take 4 old.seen ≡ magic))

@@ -4,8 +4,8 @@ use Rattle.wf_args.specs.Plain.{plain_line}
 use Rattle.wf_cli.proofs.Pairs.{SoFar}
 use Rattle.wf_cli.proofs.execution.env_for.Given as goal
 
-abbrev pub invariant-loop-parts : goal.invariant-loop-parts
-invariant-loop-parts l = SoFar (plain_line l.line) l.env l.index
+abbrev pub invariant-loop-env : goal.invariant-loop-env
+invariant-loop-env l = SoFar (plain_line l.line) l.env l.index
 
-abbrev pub decreases-loop-parts : goal.decreases-loop-parts
-decreases-loop-parts l = length (env_of (plain_line l.line)) - l.index
+abbrev pub decreases-loop-env : goal.decreases-loop-env
+decreases-loop-env l = length (env_of (plain_line l.line)) - l.index
