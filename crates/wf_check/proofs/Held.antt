@@ -1,10 +1,9 @@
 -- What forms hold, of their parts as the code holds them.
-use Rattle.std.proofs.Common.{◌≡◌, ℕ, suc, ◌+◌, ◌<◌, [], ◌∷◌, ◌++◌, List, codes, length, take, get_or, map, reverse, sym, ap, ◌∙◌}
+use Rattle.std.proofs.Common.{◌≡◌, ℕ, suc, ◌<◌, [], ◌∷◌, ◌++◌, List, codes, length, take, get_or, map, reverse, sym, ap, ◌∙◌}
 use Rattle.std.proofs.Math.Seq.{take-suc}
 use Rattle.std.proofs.lemmas.List.{map-append, reverse-append}
 use Rattle.wf_ast.proofs.Views.{branch_level, except_level, loop_level, steps_level, try_level}
 use Rattle.wf_ast.specs.Nodes.{Around, BodyPart, Path, below, body_nodes, except_nodes, in_block, in_layer, in_loop, in_task, loop_binds, loop_nodes, node, parallel_loop_nodes, steps_nodes, try_nodes, InParallelLoop}
-use Rattle.wf_ast.specs.Tree as tree
 use Rattle.wf_ast.specs.View.{body_view, branch_view, except_option_view, except_view, loop_view, steps_in, try_view}
 use Rattle.wf_ast.specs.declared.body.Body.{Body}
 use Rattle.wf_ast.specs.declared.body.Body.TheViews.{out-Branch, out-Except, out-LoopBody, out-TryBody}

@@ -1,15 +1,13 @@
 -- What some JSON is as a source: its tree, or that it nests too deep.
-use Rattle.std.proofs.Common.{◌≡◌, ◌<◌, ◌≤◌, ℕ, List, Bool, true, false, nat_le, if◌then◌else◌, Option, Some, None, Result, Ok, Err, refl, sym, ap, ◌∙◌, arith}
+use Rattle.std.proofs.Common.{◌≡◌, ◌<◌, ◌≤◌, ℕ, List, true, false, nat_le, if◌then◌else◌, Option, Some, None, Ok, Err, refl, ap, ◌∙◌, arith}
 use Rattle.std.proofs.lemmas.Bool.Decides.{nat_tests}
 use Rattle.serde_json.specs.Read.{read}
 use Rattle.wf_source.specs.Sources.{json_tree, of_json, refused}
-use Rattle.wf_status.specs.declared.Refusal.{Refusal}
 use Rattle.wf_status.specs.declared.RefusalKind.TheVariants as kind
 use Rattle.wf_tree.specs.Decode.{shallow}
-use Rattle.wf_tree.specs.Json.{IsTree, IsTooDeep, tree_of, first_decimal}
+use Rattle.wf_tree.specs.Json.{IsTree, IsTooDeep, first_decimal}
 use Rattle.wf_tree.specs.JsonLaws.{NoTwoHold}
 use Rattle.wf_tree.specs.Trees.{Tree, depth}
-use Rattle.wf_value.specs.declared.path.PathPart.{PathPart}
 
 none_or : {A : Type 0} (o : Option A) → ((a : A) → o ≡ Some a → ⊥) → o ≡ None
 none_or None other = refl
