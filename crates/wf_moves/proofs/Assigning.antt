@@ -1,8 +1,7 @@
 -- Assignments.
-use Rattle.std.proofs.Common.{◌≡◌, inl, inr, ℕ, Bool, true, false, List, [], ◌∷◌, map, take, Some, None, Ok, Err, refl, sym, ap, subst, ◌∙◌, zero, suc}
+use Rattle.std.proofs.Common.{◌≡◌, inl, inr, ℕ, Bool, true, false, List, [], map, Some, None, Ok, Err, refl, sym, ap, subst, ◌∙◌}
 use Rattle.std.specs.Prelude.{◌⊎◌, ◌&&◌, if◌then◌else◌, nat_le, Vec}
 use Rattle.std.specs.declared.alloc.Global.{Global}
-use Rattle.std.proofs.lemmas.Bool.{and_parts}
 use Rattle.wf_ast.specs.Apply.{View}
 use Rattle.wf_ast.specs.Eval.{eval_all, fill}
 use Rattle.wf_ast.specs.Tree.{Entry}
@@ -24,7 +23,6 @@ use Rattle.wf_value.specs.Data.{Data, depth}
 use Rattle.wf_value.specs.Errors.{Answer, ◌>>=◌, error_map}
 use Rattle.wf_value.specs.Pairs.{Text}
 use Rattle.wf_value.specs.Plain.{plain}
-use Rattle.wf_nodes.specs.Shapes.{Compiled}
 use Rattle.wf_value.specs.declared.Raise.{Raise}
 use Rattle.wf_value.specs.declared.Raise.TheVariants.{Error, OutOfMemory}
 use Rattle.wf_value.specs.declared.Tag.{Tag}

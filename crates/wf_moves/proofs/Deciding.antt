@@ -1,9 +1,8 @@
 -- What comes of a move that may be one that no accepted program makes.
-use Rattle.std.proofs.Common.{◌≡◌, ◌≤◌, List, [], refl, sym, ap, subst, ◌∙◌, inl, inr}
-use Rattle.std.specs.Prelude.{◌⊎◌}
+use Rattle.std.proofs.Common.{◌≡◌, ◌≤◌, List, [], refl, sym, subst, ◌∙◌, inl, inr}
 use Rattle.wf_ast.specs.Accept.{Kind}
 use Rattle.wf_frames.specs.Frames.{inner}
-use Rattle.wf_frames.specs.Owned.{Around, beside, control_of, local_of}
+use Rattle.wf_frames.specs.Owned.{Around, beside, local_of}
 use Rattle.wf_frames.specs.declared.frames.Frames.{Frames}
 use Rattle.wf_model.specs.Config.{Item}
 use Rattle.wf_model.specs.Local.{Breaks, Ends, Fails, Local, Moved, Scene}

@@ -1,5 +1,5 @@
 -- Where a move leads.
-use Rattle.std.proofs.Common.{◌≡◌, Bool, List, refl, sym, subst, inl, inr}
+use Rattle.std.proofs.Common.{◌≡◌, Bool, List, sym, subst, inl, inr}
 use Rattle.std.specs.Prelude.{◌⊎◌}
 use Rattle.wf_ast.specs.Accept.{Kind}
 use Rattle.wf_frames.specs.Owned.{Around, beside, control_of, local_of}

@@ -1,10 +1,9 @@
 -- Retries, and the workflows that are asked.
 use Rattle.std.proofs.Common.{◌≡◌, ◌≤◌, ◌<◌, ◌⊎◌, inl, inr, ℕ, suc, Bool, true, false, List, [], ◌∷◌, length, map, Some, None, refl, sym, ap, subst, ◌∙◌, arith, get_or}
-use Rattle.std.specs.Prelude.{Option, is_some, nat_le, nat_lt, slice_get, if◌then◌else◌}
-use Rattle.std.proofs.lemmas.Bool.{leb-true, leb-false}
+use Rattle.std.specs.Prelude.{Option, nat_le, nat_lt, slice_get, if◌then◌else◌}
 use Rattle.wf_ast.specs.Accept.{BadArgument, Kind}
 use Rattle.wf_ast.specs.Flows.{flow}
-use Rattle.wf_ast.specs.Tree.{Flow, Param, Steps, except, try}
+use Rattle.wf_ast.specs.Tree.{Flow, Param, try}
 use Rattle.wf_ast.specs.View.{policy_option_view, policy_view, predicate_view, param_view}
 use Rattle.wf_ast.specs.declared.policy.Policy.{Policy}
 use Rattle.wf_ast.specs.declared.policy.Predicate.{Predicate}
@@ -13,14 +12,14 @@ use Rattle.wf_frames.proofs.Owning.{owned_other}
 use Rattle.wf_frames.specs.Fits.{Fits, IsTry, reach, outside_at, view_outside}
 use Rattle.wf_frames.specs.Frames.{calls_of, control, inner, items, mark_of, own, owned, topped}
 use Rattle.wf_frames.specs.Held.{Held, standing}
-use Rattle.wf_frames.specs.Owned.{Around, IsLinked, beside, control_of, held_by, held_of, local_of, own_of}
+use Rattle.wf_frames.specs.Owned.{Around, IsLinked, control_of, held_by, held_of, local_of, own_of}
 use Rattle.wf_frames.specs.Stands.{Stands}
 use Rattle.wf_frames.specs.Turns.{Agrees, Enters, with_layer, Leaves, dropped}
 use Rattle.wf_frames.specs.declared.frames.Frame.{Frame}
 use Rattle.wf_frames.specs.declared.frames.Frame.TheVariants as frame
 use Rattle.wf_frames.specs.declared.frames.Frames.{Frames}
 use Rattle.wf_model.specs.Config.{Back, Delay, Do, Item, Judge, Try, call_limit}
-use Rattle.wf_model.specs.Layers.{enter, opened}
+use Rattle.wf_model.specs.Layers.{opened}
 use Rattle.wf_model.specs.Local.{Breaks, Goes, Local, Moved, Scene, goes, waits, Does, Ends, Not, settled}
 use Rattle.wf_model.specs.Move.{entered, retries}
 use Rattle.wf_model.specs.Unwind.{Asks, Judgement, Says, asked_one, asks, called, calls_in, decided, handled, judged, judgement, policy_of, retried, unwind, answered}
@@ -37,9 +36,8 @@ use Rattle.wf_value.specs.Plain.{plain}
 use Rattle.wf_value.specs.declared.Value.{Value}
 use Rattle.wf_moves.proofs.Unwinding.{try_is}
 use Rattle.wf_moves.specs.Retries.{IsLed, LeadsBy, TriedAt, ask_at, asked_by, decide_at, retry_at, try_at, verdict_of, verdict_said, Asked}
-use Rattle.wf_moves.specs.Moved.{IsEnd, IsJudgeTop, IsWent, IsMove}
+use Rattle.wf_moves.specs.Moved.{IsEnd, IsWent, IsMove}
 use Rattle.wf_moves.specs.Waits.{is_at_try, wait_view}
-use Rattle.wf_moves.specs.declared.judging.Verdict.{Verdict}
 use Rattle.wf_moves.specs.declared.judging.Verdict.TheVariants as verdict
 use Rattle.wf_moves.specs.declared.leading.Led.{Led}
 use Rattle.wf_moves.specs.declared.leading.Led.TheVariants as led

@@ -1,26 +1,25 @@
 -- Sleeps.
 use Rattle.std.proofs.Common.{◌≡◌, ℕ, Bool, true, false, List, Ok, Err, None, Some, refl, sym, ap, subst, ◌∙◌}
-use Rattle.std.specs.Prelude.{◌*◌, ℤ, pos, Option, Result, codes, if◌then◌else◌, is_some, option_map}
+use Rattle.std.specs.Prelude.{◌*◌, pos, Option, Result, if◌then◌else◌, is_some, option_map}
 use Rattle.wf_ast.specs.Accept.{BadArgument}
 use Rattle.wf_ast.specs.Flows.{flow}
-use Rattle.wf_ast.specs.Func.{Listing, Special, SpecialListing, SysSleep, SysSleepUntil, call_takes, func_named, special_named}
+use Rattle.wf_ast.specs.Func.{Listing, Special, SpecialListing, call_takes, func_named, special_named}
 use Rattle.wf_ast.specs.Tree.{Body, CallBody, Flow}
 use Rattle.wf_eval.specs.Answers.{Answers}
 use Rattle.wf_lib_time.specs.Gives.{Gives}
-use Rattle.wf_frames.specs.Frames.{body_result, result_of}
+use Rattle.wf_frames.specs.Frames.{body_result}
 use Rattle.wf_frames.specs.Held.{Held, standing}
 use Rattle.wf_frames.specs.Owned.{Around}
 use Rattle.wf_model.specs.Calls.{calls_listed, calls_named, calls_special, sleep_due, sleeps, until_due}
 use Rattle.wf_model.specs.Config.{Item, Sleep}
-use Rattle.wf_model.specs.Leave.{on, raises}
-use Rattle.wf_model.specs.Local.{Breaks, Local, Moved, Scene, waits}
-use Rattle.wf_moves.specs.Moved.{IsMove, IsWent}
+use Rattle.wf_model.specs.Leave.{raises}
+use Rattle.wf_model.specs.Local.{Breaks, Local, Moved, Scene}
+use Rattle.wf_moves.specs.Moved.{IsMove}
 use Rattle.wf_moves.specs.Naps.{nap_due}
 use Rattle.wf_moves.specs.Tasks.{IsDone}
 use Rattle.wf_moves.specs.declared.finish.Done.{Done}
 use Rattle.wf_moves.specs.declared.finish.Done.TheVariants as done
 use Rattle.wf_moves.specs.declared.finish.Went.{Went}
-use Rattle.wf_moves.specs.declared.wait.Wait.{Wait}
 use Rattle.wf_moves.specs.declared.wait.Wait.TheVariants as wait
 use Rattle.wf_nodes.specs.Spots.{part_at, part_body}
 use Rattle.wf_steps.proofs.Evaluated.{failed, gave}
@@ -31,7 +30,7 @@ use Rattle.wf_steps.specs.declared.target.Nap.TheVariants as nap
 use Rattle.wf_shared.specs.LibTime.{parsed_time, time_parse}
 use Rattle.wf_value.specs.Data.{Data, Pairs, boolean, bytes, integer, list, map, null, text}
 use Rattle.wf_value.specs.Errors.{Answer, ◌>>=◌, error_map, or_error}
-use Rattle.wf_value.specs.Pairs.{Text, get, keys}
+use Rattle.wf_value.specs.Pairs.{Text, keys}
 use Rattle.wf_value.specs.Plain.{plain}
 use Rattle.wf_value.specs.declared.Raise.{Raise}
 use Rattle.wf_value.specs.declared.Raise.TheVariants.{Error, OutOfMemory}

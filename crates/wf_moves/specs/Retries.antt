@@ -7,7 +7,7 @@ use Rattle.std.specs.Prelude.{◌≡◌, ◌≤◌, ℕ, Bool, true, false, List
 use Rattle.wf_ast.specs.Flows.{flow}
 use Rattle.wf_ast.specs.Tree.{TryBody}
 use Rattle.wf_frames.specs.Fits.{IsTry, reach}
-use Rattle.wf_frames.specs.Frames.{body_try, control, inner}
+use Rattle.wf_frames.specs.Frames.{body_try}
 use Rattle.wf_frames.specs.Held.{Held, standing}
 use Rattle.wf_frames.specs.Owned.{Around, control_of, held_by, local_of}
 use Rattle.wf_frames.specs.Turns.{Agrees}

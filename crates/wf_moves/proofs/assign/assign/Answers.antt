@@ -1,4 +1,4 @@
-use Rattle.std.proofs.Common.{Ok, Err, ap, sym, subst, ◌∙◌}
+use Rattle.std.proofs.Common.{Ok, Err, sym, subst}
 use Rattle.wf_moves.proofs.Assigning.{entry_failed, entry_given}
 use Rattle.wf_steps.proofs.Clocked.{entry_there}
 use Rattle.wf_steps.proofs.Parts.{node_at}

@@ -1,4 +1,4 @@
-use Rattle.std.proofs.Common.{map, ap, subst, ◌∙◌, take, Ok}
+use Rattle.std.proofs.Common.{map, subst, take, Ok}
 use Rattle.wf_ast.specs.Eval.{eval_all, fill}
 use Rattle.wf_ast.specs.Tree.{exprs}
 use Rattle.wf_eval.specs.Answers.{Answers}

@@ -1,6 +1,5 @@
 use Rattle.std.proofs.Common.{◌≡◌, ◌∷◌, [], ℕ, List, Some, inl, length, map, None, refl, true, sym, ap, subst, ◌∙◌, arith}
 use Rattle.std.specs.Prelude.{Option}
-use Rattle.wf_ast.specs.Tree.{Param}
 use Rattle.wf_ast.specs.View.{param_view}
 use Rattle.wf_frames.specs.Bound.{bindings_of}
 use Rattle.wf_frames.specs.Frames.{control, inner, own}

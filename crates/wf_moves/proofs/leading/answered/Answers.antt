@@ -1,4 +1,4 @@
-use Rattle.std.proofs.Common.{◌≤◌, true, false, sym, ap, subst, ◌∙◌}
+use Rattle.std.proofs.Common.{◌≤◌, sym, ap, subst, ◌∙◌}
 use Rattle.wf_frames.specs.Frames.{inner}
 use Rattle.wf_frames.specs.Owned.{beside, control_of, held_by, local_of}
 use Rattle.wf_moves.proofs.Leaving.{fits_after}

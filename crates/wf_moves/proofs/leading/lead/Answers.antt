@@ -1,4 +1,4 @@
-use Rattle.std.proofs.Common.{sym, subst}
+use Rattle.std.proofs.Common.{subst}
 use Rattle.wf_frames.specs.Frames.{inner}
 use Rattle.wf_frames.specs.Owned.{local_of}
 use Rattle.wf_moves.proofs.Led.{ends_lead, goes_leads, raised_leads, said_leads}

@@ -1,9 +1,6 @@
-use Rattle.std.proofs.Common.{◌≡◌, ◌≤◌, List, length, refl, sym, ap, subst, ◌∙◌, inl, inr, arith}
-use Rattle.std.specs.Prelude.{◌⊎◌}
-use Rattle.wf_ast.specs.Accept.{Kind}
+use Rattle.std.proofs.Common.{length, sym, ap, subst, ◌∙◌, arith}
 use Rattle.wf_frames.specs.Frames.{inner}
 use Rattle.wf_frames.specs.Owned.{beside, control_of, local_of}
-use Rattle.wf_model.specs.Local.{Breaks, Moved}
 use Rattle.wf_model.specs.Unwind.{unwind}
 use Rattle.wf_moves.proofs.Deciding.{breaks_on, ended_out, led_or_broken}
 use Rattle.wf_moves.specs.Retries.{IsDecided, IsDecidedSo, IsLed, Rests, caught_at, decide_at}

@@ -1,4 +1,4 @@
-use Rattle.std.proofs.Common.{Ok, Some, None, subst}
+use Rattle.std.proofs.Common.{subst}
 use Rattle.std.specs.Prelude.{Option}
 use Rattle.wf_eval.specs.Answers.{Answers}
 use Rattle.wf_moves.proofs.LogEntries.{value_in}

@@ -1,4 +1,4 @@
-use Rattle.std.proofs.Common.{◌≡◌, List, Err, sym, ap, subst, ◌∙◌}
+use Rattle.std.proofs.Common.{List, Err, sym, ap, subst}
 use Rattle.wf_ast.specs.Tree.{Flow}
 use Rattle.wf_eval.specs.Answers.{Answers}
 use Rattle.wf_frames.specs.Frames.{inner}

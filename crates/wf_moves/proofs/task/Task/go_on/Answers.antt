@@ -1,4 +1,4 @@
-use Rattle.std.proofs.Common.{Some, refl, sym, ap, subst, ◌∙◌, true}
+use Rattle.std.proofs.Common.{Some, refl, sym, ap, subst}
 use Rattle.std.specs.Prelude.{Option, Result}
 use Rattle.wf_frames.specs.Frames.{inner, result_of}
 use Rattle.wf_frames.specs.Owned.{control_of, held_by, local_of}

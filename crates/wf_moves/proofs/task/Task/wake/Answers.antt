@@ -1,8 +1,7 @@
-use Rattle.std.proofs.Common.{◌≡◌, None, Some, refl, sym, ap, subst, ◌∙◌}
+use Rattle.std.proofs.Common.{refl, sym, subst}
 use Rattle.wf_frames.specs.Frames.{inner}
 use Rattle.wf_frames.specs.Owned.{control_of, local_of}
-use Rattle.wf_model.specs.Local.{Local}
-use Rattle.wf_model.specs.Move.{due, due_by, retries}
+use Rattle.wf_model.specs.Move.{due_by, retries}
 use Rattle.wf_moves.specs.Tasks.{MovesSo}
 use Rattle.wf_moves.specs.Waits.{GoesFrom, task_local, wait_view}
 use Rattle.wf_moves.specs.declared.wait.Wait.{Wait}
