@@ -88,12 +88,12 @@ fault_read l old new f k = record {
 }
 
 pub passed_read : {T : Type 0} (l : PlainLine) (old new : World) (q : Result T EngineFault) (f : EngineFault) (r : Result (String Global) EngineFault) → ReadsFile old new q → q ≡ Err f → IsErr r × IsErrAnd r (λ e. e ≡ f) → ReadsJournal l old new r
-passed_read l old new q f (Ok x) k is gives = absurd gives.0
+passed_read l old new q f (Ok x) k is gives = absurd gives.1
 passed_read l old new q f (Err e) k is gives = subst (λ x. ReadsJournal l old new (Err x)) (sym gives.1) (fault_read l old new f (subst (ReadsFile old new) is k))
 
 -- where there was no memory for the text
 pub lacks_read : {T : Type 0} (l : PlainLine) (old new : World) (q : Result T EngineFault) (r : Result (String Global) EngineFault) → ReadsFile old new q → IsErr r × IsErrAnd r (λ e. e ≡ engine.OutOfMemory) → ReadsJournal l old new r
-lacks_read l old new q (Ok x) k gives = absurd gives.0
+lacks_read l old new q (Ok x) k gives = absurd gives.1
 lacks_read l old new q (Err e) k gives = record {
   told = tt;
   begins = tt;
