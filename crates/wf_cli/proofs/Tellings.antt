@@ -14,7 +14,6 @@ use Rattle.wf_cli.specs.Said.{FaultHolds, IsEnd, LateNow, MayEndNow, ReadsJourna
 use Rattle.wf_cli.specs.Top.{HasNoCauseInFile, IsAccepted, IsBehindSync, IsLineOf, IsStarted, IsTaken, Gives, TellsHistory, of_file}
 use Rattle.wf_cli.specs.declared.end.Said.{Said}
 use Rattle.wf_cli.specs.declared.end.Silence.{Silence}
-use Rattle.wf_cli.specs.declared.end.Silence.TheVariants as silence
 use Rattle.wf_deeds.specs.Laws.{OnlyReadings}
 use Rattle.wf_deeds.specs.Outside.{Outside}
 use Rattle.wf_engine.specs.Printed as end
