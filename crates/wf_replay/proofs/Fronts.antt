@@ -1,5 +1,5 @@
 -- A loop that replays the first turns of a history.
-use Rattle.std.specs.Prelude.{◌≡◌, ◌≤◌, ◌+◌, ◌-◌, IsTrue, ℕ, zero, suc, List, [], ◌∷◌, take, drop, Option, Some, None, Result, Ok, Err}
+use Rattle.std.specs.Prelude.{◌≡◌, ◌≤◌, ◌-◌, IsTrue, ℕ, zero, suc, List, [], ◌∷◌, take, drop, Some, None, Ok, Err}
 use Rattle.std.proofs.Common.{refl, sym, ◌∙◌, ap, arith, subst}
 use Rattle.wf_events.specs.Reading.{meaning}
 use Rattle.wf_history.specs.Stands.{ahead}
