@@ -1,17 +1,17 @@
 -- A journal that is read for a report.
-use Rattle.std.proofs.Common.{◌≡◌, ◌≤◌, ◌⊎◌, ◌≢◌, ℕ, suc, true, false, List, [], length, take, Option, Result, Ok, Err, IfOk, refl, sym, ◌∙◌, ap, subst}
+use Rattle.std.proofs.Common.{◌≡◌, ◌≤◌, ◌≢◌, ℕ, suc, true, false, List, [], length, take, Option, Result, Ok, Err, IfOk, refl, sym, ◌∙◌, ap, subst}
 use Rattle.std.specs.Prelude.{IfErr, IsErr, IsErrAnd, IsErrOf, OnOk, String, string_bytes}
 use Rattle.std.specs.declared.alloc.Global.{Global}
 use Rattle.wf_cli.specs.Reports.{the_reports}
 use Rattle.wf_cli.specs.Said.{ReadsJournal, TellsOf, text_by}
 use Rattle.wf_engine.specs.Printed as end
-use Rattle.wf_engine.specs.Printed.{Scene, TellsHistory, tells_history}
+use Rattle.wf_engine.specs.Printed.{TellsHistory, tells_history}
 use Rattle.wf_engine.specs.TheLanguage.{the_language}
 use Rattle.wf_engine.specs.declared.fault.EngineFault.{EngineFault}
 use Rattle.wf_engine.specs.declared.fault.EngineFault.TheVariants as engine
 use Rattle.wf_host.specs.World.{World, Only, LeavesOnly}
 use Rattle.wf_journal.specs.Records.{magic, records}
-use Rattle.wf_journal_laws.specs.History.{Standing, history}
+use Rattle.wf_journal_laws.specs.History.{history}
 use Rattle.wf_journal_laws.specs.Laws.{IsHistory}
 use Rattle.wf_args.specs.Lines.{PlainLine, turn_of, word_of}
 use Rattle.wf_args.specs.declared.command.Command.{Command}

@@ -5,7 +5,7 @@ use Rattle.wf_cli.proofs.Causes.{same_ok, same_some, no_bad_line, one_command, e
 use Rattle.wf_cli.proofs.Together.{IsOrBefore, where_bad_line, where_bad_argument, where_told, when_told, where_refused, where_of_file, where_no_history, at_magic, at_started, at_not_started}
 use Rattle.wf_cli.specs.Top.{Call, IsLineOf, IsBadArgument, IsRefused, IsChecked, HasOutcome, IsSuspended, Reported, Gives, IsTaken, IsOfFile, ComesBack, Says, bad_line, bad_argument, refused, reported, of_file, Ends, said, cut, unread, failed, unheard, no_memory, Prints, IsOrYields, Exactly, BadLineRow, BadArgumentRow, ReadFaultRow, RefusedRow, DiskFaultRow, NotAJournalRow, AlreadyStartedRow, NotStartedRow, NotAHistoryRow, WaitsNoMore, SuspendedRow, OutcomeRow, DoneRow, TellingRow, TellsHistory, AcceptedRow, ComesBackRow, PrintFaultRow, PollFaultRow, IsPassed}
 use Rattle.wf_engine.specs.Printed as end
-use Rattle.wf_engine.specs.Printed.{Scene, uses_source, uses_journal, executes, needs_history, status_of, tells_history, outcome_text, accepted_text}
+use Rattle.wf_engine.specs.Printed.{Scene, uses_source, uses_journal, executes, status_of, tells_history, outcome_text, accepted_text}
 use Rattle.wf_engine.specs.Safe.{Since}
 use Rattle.wf_engine.specs.TheLanguage.{the_language}
 use Rattle.wf_host.specs.World.{World, Told}

@@ -14,7 +14,6 @@ use Rattle.wf_cli.specs.Said.{FaultHolds, IsEnd, LateNow, MayEndNow, ReadsJourna
 use Rattle.wf_cli.specs.Top.{HasNoCauseInFile, IsAccepted, IsBehindSync, IsLineOf, IsStarted, IsTaken, Gives, TellsHistory, of_file}
 use Rattle.wf_cli.specs.declared.end.Said.{Said}
 use Rattle.wf_cli.specs.declared.end.Silence.{Silence}
-use Rattle.wf_cli.specs.declared.end.Silence.TheVariants as silence
 use Rattle.wf_deeds.specs.Laws.{OnlyReadings}
 use Rattle.wf_deeds.specs.Outside.{Outside}
 use Rattle.wf_engine.specs.Printed as end
@@ -81,11 +80,11 @@ module _ (s : Scene) (l : PlainLine) (is_line : line_of s.words ≡ Ok l) (tells
     fault_of engine.PollFault is k = absurd (none is)
       where
         none : IsReadFault engine.PollFault → ⊥
-        none (inl no) = cc no
-        none (inr (inl no)) = cc no
-        none (inr (inr (inl no))) = cc no
-        none (inr (inr (inr (inl (n, no))))) = cc no
-        none (inr (inr (inr (inr no)))) = cc no
+        none (inl isnt) = cc isnt
+        none (inr (inl isnt)) = cc isnt
+        none (inr (inr (inl isnt))) = cc isnt
+        none (inr (inr (inr (inl (n, isnt))))) = cc isnt
+        none (inr (inr (inr (inr isnt)))) = cc isnt
     fault_of engine.NotAJournal is k =
         let why = subst (λ f. (5 ≤ length f) × (take 4 f ≢ magic)) found (k.not_a_journal refl) in
         ((needs_line s needs, why.0, why.1), passed_magic the_language s)
@@ -95,22 +94,22 @@ module _ (s : Scene) (l : PlainLine) (is_line : line_of s.words ≡ Ok l) (tells
     fault_of engine.AlreadyStarted is k = absurd (none is)
       where
         none : IsReadFault engine.AlreadyStarted → ⊥
-        none (inl no) = cc no
-        none (inr (inl no)) = cc no
-        none (inr (inr (inl no))) = cc no
-        none (inr (inr (inr (inl (n, no))))) = cc no
-        none (inr (inr (inr (inr no)))) = cc no
+        none (inl isnt) = cc isnt
+        none (inr (inl isnt)) = cc isnt
+        none (inr (inr (inl isnt))) = cc isnt
+        none (inr (inr (inr (inl (n, isnt))))) = cc isnt
+        none (inr (inr (inr (inr isnt)))) = cc isnt
     fault_of engine.NotStarted is k =
         let why = subst (λ f. (records f ≡ []) × ((length f ≤ 4) ⊎ (take 4 f ≡ magic))) found (k.not_started refl) in
         ((needs, why.0), passed_not_started the_language s (no_magic s why.1) never_started)
     fault_of engine.Suspended is k = absurd (none is)
       where
         none : IsReadFault engine.Suspended → ⊥
-        none (inl no) = cc no
-        none (inr (inl no)) = cc no
-        none (inr (inr (inl no))) = cc no
-        none (inr (inr (inr (inl (n, no))))) = cc no
-        none (inr (inr (inr (inr no)))) = cc no
+        none (inl isnt) = cc isnt
+        none (inr (inl isnt)) = cc isnt
+        none (inr (inr (inl isnt))) = cc isnt
+        none (inr (inr (inr (inl (n, isnt))))) = cc isnt
+        none (inr (inr (inr (inr isnt)))) = cc isnt
     fault_of engine.Closed is k = tt
     fault_of engine.OutOfMemory is k = tt
 

@@ -1,5 +1,5 @@
 -- What was read of a file that was opened.
-use Rattle.std.proofs.Common.{◌≡◌, ◌≢◌, ◌⊎◌, ◌↔◌, inl, inr, ⊎_elim, ◌∙◌, ℕ, Bool, true, false, IsTrue, List, [], length, take, Result, Ok, Err, IfOk, IfErr, OnOk, String, Global, refl, ap, sym, subst}
+use Rattle.std.proofs.Common.{◌≡◌, ◌≢◌, ◌⊎◌, ◌↔◌, inl, inr, ⊎_elim, ◌∙◌, ℕ, Bool, true, false, IsTrue, List, [], take, Result, Ok, Err, IfOk, IfErr, OnOk, String, Global, refl, ap, sym, subst}
 use Rattle.std.specs.Prelude.{IsErrOf, string_bytes}
 use Rattle.wf_engine.specs.declared.fault.EngineFault.{EngineFault}
 use Rattle.wf_engine.specs.declared.fault.EngineFault.TheVariants as fault

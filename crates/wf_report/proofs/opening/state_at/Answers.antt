@@ -1,6 +1,7 @@
-use Rattle.std.proofs.Common.{◌≡◌, ◌∙◌, ◌+◌, ap, sym, subst, Ok}
+use Rattle.std.proofs.Common.{◌∙◌, ◌+◌, ap, sym}
 use Rattle.wf_engine.specs.TheLanguage.{the_language}
 use Rattle.wf_history.specs.Stands.{ahead}
+use Rattle.wf_host.specs.World.{Only}
 use Rattle.wf_journal.specs.Records.{records}
 use Rattle.wf_journal_laws.specs.At.{applied_by}
 use Rattle.wf_report.proofs.Opened.{magic_found, no_history_for, on_ok_map, quiet_stays, settled_behind, shows_found, tells_still}
@@ -36,7 +37,7 @@ returns-clause-settled g c = λ told.
     let mid = g.H.Host.world c.open.new.host in
     let late = g.H.Host.world c.front_state.new.host in
     let told_mid = tells_still w mid c.open.ensures.tells told in
-    on_ok_map c.front_state.result (λ stands. stands.journal.settled) (c.front_state.ensures.stands told_mid)
+    on_ok_map {Q = Only late.seen late.may_leave} c.front_state.result (λ stands. stands.journal.settled) (c.front_state.ensures.stands told_mid)
 
 pub returns-clause-settled_empty : goal.returns-clause-settled_empty
 returns-clause-settled_empty g c = λ told is.
