@@ -4,6 +4,8 @@
 An example is examples/NAME.yaml with what `run` prints in NAME.out and its exit status in NAME.status (0 where there is none). It is run with
 a journal, and then resumed: that prints the same. Its layout by `format` is run too, and gives the same. `check` accepts it.
 
+NAME.show has what `show` prints of the journal then, and NAME.log what `log` does, without the readings of the clock that begin its lines.
+
 NAME.args has further words of its command line, one in each line. NAME.service.json is a map of a `host`, and of `calls`: the bytes that are
 `sent` to it and the `answer`, in their order. A service on loopback answers them; a run sends these and no others, and a resumption nothing.
 """
@@ -61,6 +63,17 @@ def call(source, *words):
     return ended.returncode, ended.stdout
 
 
+def look_at_reports(name, journal):
+    """Looks at what is told of a journal, where the example has it."""
+    for command in ("show", "log"):
+        if os.path.exists(f"{name}.{command}"):
+            code, told = call(b"", command, "--journal", journal)
+            lines = told.splitlines(keepends=True)
+            if command == "log":
+                lines = [line.partition(b" ")[2] for line in lines]
+            assert (code, b"".join(lines)) == (0, read(f"{name}.{command}")), (name, command, code, told)
+
+
 def one_example(name, path, journal):
     """Tries an example."""
     status = int(read(f"{name}.status")) if os.path.exists(f"{name}.status") else 0
@@ -73,6 +86,7 @@ def one_example(name, path, journal):
     said = call(b"", "resume", "--journal", journal)
     answers.look(1)
     assert said == (status, printed), (path, "resumed", said)
+    look_at_reports(name, journal)
     said = call(b"", "check", "--source", path)
     assert said == (0, b"accepted\n"), (path, "check", said)
     laid_out = call(source, "format")
