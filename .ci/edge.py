@@ -20,6 +20,7 @@ SOURCE = b'[{"a":{"assign":[{"t":"${sys.now()}"}]}},{"b":{"return":"${t}"}}]'
 SEVEN = b'[{"a":{"return":7}}]'
 ROUNDS = 60
 LONGEST = 131_072
+REPORTS = (("show",), ("at", "--turn", "1"), ("log",))
 MOST_INSTRUCTIONS = 3_000_000_000
 NOBODY = 65534
 
@@ -71,7 +72,8 @@ def held_journal(folder):
     before = read(folder, "j")
     with open(f"{folder}/j", "rb") as file:
         fcntl.flock(file, fcntl.LOCK_EX)
-        for words in (("resume", "--journal", "j"), ("run", "--source", "s.json", "--journal", "j")):
+        reports = [(*words, "--journal", "j") for words in REPORTS]
+        for words in (("resume", "--journal", "j"), ("run", "--source", "s.json", "--journal", "j"), *reports):
             status, printed, said = call(folder, *words)
             assert (status, printed, said) == (9, b"", b"workflow: another process uses j\n"), (status, printed, said)
     assert read(folder, "j") == before
@@ -110,6 +112,7 @@ def no_file_is_made(folder):
         (("run", "--source", "s.json", "--jurnal", "j"), 2),
         (("run", "--journal", "j", "x"), 2),
         (("resume", "--journal", "j"), 6),
+        *(((*words, "--journal", "j"), 6) for words in REPORTS),
     ]
     for words, wanted in rows:
         status, _, _ = call(folder, *words)
@@ -123,7 +126,7 @@ def no_file_is_made(folder):
 
 
 def read_only(folder):
-    """A finished journal that can only be read is resumed; one that isn't finished can't be gone on with, and stays as it is."""
+    """A finished journal that can only be read is resumed, and told of; one that isn't finished is told of, can't be gone on with, and stays."""
     write(folder, "s.json", SEVEN)
     assert call(folder, "run", "--source", "s.json", "--journal", "j")[:2] == (0, b"7\n")
     whole = read(folder, "j")
@@ -139,6 +142,11 @@ def read_only(folder):
     before = read(folder, "k")
     ended = subprocess.run([*words, "k"], cwd=folder, stdin=subprocess.DEVNULL, stdout=subprocess.PIPE, timeout=60, **how)
     assert (ended.returncode, ended.stdout) == (9, b""), ended
+    for name, state in (("j", b"succeeded"), ("k", b"active")):
+        for report in REPORTS:
+            words = [f"{folder}/program", *report, "--journal", name]
+            ended = subprocess.run(words, cwd=folder, stdin=subprocess.DEVNULL, stdout=subprocess.PIPE, timeout=60, **how)
+            assert ended.returncode == 0 and (state in ended.stdout or report == ("log",) and not ended.stdout), ended
     assert read(folder, "k") == before and read(folder, "j") == whole
 
 

@@ -72,6 +72,9 @@ def look_at_reports(name, journal):
             if command == "log":
                 lines = [line.partition(b" ")[2] for line in lines]
             assert (code, b"".join(lines)) == (0, read(f"{name}.{command}")), (name, command, code, told)
+            if command == "show":
+                # (behind all turns it had come to what it has come to)
+                assert call(b"", "at", "--turn", "4294967295", "--journal", journal) == (code, told), (name, "at")
 
 
 def one_example(name, path, journal):
