@@ -2,7 +2,7 @@
 ghost use Rattle.std.specs.Prelude.{◌≡◌, ◌++◌, map, option_map};
 ghost use Rattle.wf_syntax_rules.specs.Rules as rules;
 ghost use Rattle.wf_shared.specs.HttpRequest.{is_among as among};
-ghost use Rattle.wf_syntax.specs.Forms.{count_of, first_fields};
+ghost use Rattle.wf_syntax.specs.Forms.{count_of, first_fields, later_forms};
 ghost use Rattle.wf_tree.specs.Plain.{plain_tree};
 ghost use Rattle.wf_tree.specs.Trees.{pairs_of};
 
@@ -172,7 +172,18 @@ fn has_only_of_first(fields: &TreeMap, others: &[&str]) -> bool
         has_only(fields, others, &["next", "parallel"])
     } else if has(fields, "raise") {
         has_only(fields, others, &["raise"])
-    } else if has(fields, "return") {
+    } else {
+        has_only_of_later(fields, others)
+    }
+}
+
+// The same for a map without the first five forms, by the first of the later ones.
+fn has_only_of_later(fields: &TreeMap, others: &[&str]) -> bool
+    ensures { result ≡ rules.has_only
+        (map (λ k. k.now) others.now ++ first_fields later_forms (pairs_of fields.now))
+        (pairs_of fields.now) }
+{
+    if has(fields, "return") {
         has_only(fields, others, &["return"])
     } else if has(fields, "steps") {
         has_only(fields, others, &["next", "steps"])
