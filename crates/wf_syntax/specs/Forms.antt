@@ -1,5 +1,5 @@
 -- The forms of steps: those that a body has, counted; the parts of a body before one of them is taken; and what the maps and lists of steps are.
-use Rattle.std.specs.Prelude.{◌≡◌, ℕ, ◌+◌, List, [], ◌∷◌, ◌++◌, Option, Some, None, drop, option_map, codes, if◌then◌else◌}
+use Rattle.std.specs.Prelude.{◌≡◌, ℕ, ◌+◌, List, [], ◌∷◌, ◌++◌, Option, Some, None, option_map, codes, if◌then◌else◌}
 use Rattle.wf_ast.specs.Tree as t
 use Rattle.wf_ast.specs.Tree.{fields as fields_of, no_fields}
 use Rattle.wf_ast.specs.View.{arms_in, body_view, entries_view, except_option_view, fields_view, loop_view, policy_option_view, steps_in, template_view, texts_view, work_view}
@@ -29,10 +29,6 @@ count_of fs (k ∷ ks) = (if has k fs then 1 else 0) + count_of fs ks
 abbrev pub first_fields : List (Text × List Text) → Pairs → List Text
 first_fields [] fs = codes "next" ∷ []
 first_fields (form ∷ more) fs = let rest = first_fields more fs in if has form.0 fs then form.1 else rest
-
--- the forms behind `raise`
-abbrev pub later_forms : List (Text × List Text)
-later_forms = drop 5 rules.forms
 
 -- ## Trees of steps
 -- what a step does, and where it goes on

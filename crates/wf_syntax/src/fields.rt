@@ -2,7 +2,7 @@
 ghost use Rattle.std.specs.Prelude.{◌≡◌, ◌++◌, map, option_map};
 ghost use Rattle.wf_syntax_rules.specs.Rules as rules;
 ghost use Rattle.wf_shared.specs.HttpRequest.{is_among as among};
-ghost use Rattle.wf_syntax.specs.Forms.{count_of, first_fields, later_forms};
+ghost use Rattle.wf_syntax.specs.Forms.{count_of, first_fields};
 ghost use Rattle.wf_tree.specs.Plain.{plain_tree};
 ghost use Rattle.wf_tree.specs.Trees.{pairs_of};
 
@@ -162,37 +162,33 @@ fn has_only_of_first(fields: &TreeMap, others: &[&str]) -> bool
         (map (λ k. k.now) others.now ++ first_fields rules.forms (pairs_of fields.now))
         (pairs_of fields.now) }
 {
-    if has(fields, "assign") {
-        has_only(fields, others, &["assign", "next"])
-    } else if has(fields, "call") {
-        has_only(fields, others, &["args", "call", "next", "result"])
-    } else if has(fields, "for") {
-        has_only(fields, others, &["for", "next"])
-    } else if has(fields, "parallel") {
-        has_only(fields, others, &["next", "parallel"])
-    } else if has(fields, "raise") {
-        has_only(fields, others, &["raise"])
-    } else {
-        has_only_of_later(fields, others)
-    }
+    has_only(fields, others, fields_of_first(fields))
 }
 
-// The same for a map without the first five forms, by the first of the later ones.
-fn has_only_of_later(fields: &TreeMap, others: &[&str]) -> bool
-    ensures { result ≡ rules.has_only
-        (map (λ k. k.now) others.now ++ first_fields later_forms (pairs_of fields.now))
-        (pairs_of fields.now) }
+// The fields of the first form that a map has.
+fn fields_of_first(fields: &TreeMap) -> &'static [&'static str]
+    ensures { map (λ k. k.now) result.now ≡ first_fields rules.forms (pairs_of fields.now) }
 {
-    if has(fields, "return") {
-        has_only(fields, others, &["return"])
+    if has(fields, "assign") {
+        &["assign", "next"]
+    } else if has(fields, "call") {
+        &["args", "call", "next", "result"]
+    } else if has(fields, "for") {
+        &["for", "next"]
+    } else if has(fields, "parallel") {
+        &["next", "parallel"]
+    } else if has(fields, "raise") {
+        &["raise"]
+    } else if has(fields, "return") {
+        &["return"]
     } else if has(fields, "steps") {
-        has_only(fields, others, &["next", "steps"])
+        &["next", "steps"]
     } else if has(fields, "switch") {
-        has_only(fields, others, &["next", "switch"])
+        &["next", "switch"]
     } else if has(fields, "try") {
-        has_only(fields, others, &["except", "next", "retry", "try"])
+        &["except", "next", "retry", "try"]
     } else {
-        has_only(fields, others, &["next"])
+        &["next"]
     }
 }
 

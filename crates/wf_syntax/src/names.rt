@@ -50,7 +50,7 @@ fn are_name_bytes(bytes: &[u8]) -> bool
 pub(crate) fn is_step_name(text: &str) -> bool
     ensures { result ≡ names.is_step_name text.now }
 {
-    !(text.is_empty() || text == "end" || text == "break" || text == "continue")
+    !(text.is_empty() || is_among(text, &["end", "break", "continue"]))
 }
 
 // The text without the marks `${` and `}` around it, if it has both.
