@@ -6,7 +6,7 @@ use Rattle.std.proofs.lemmas.Map.Text.{is_eq-slice_cmp}
 use Rattle.std.specs.Prelude.{bytes_eq, slice_get, is_some, option_map}
 use Rattle.wf_syntax_rules.specs.Rules.{field, has, has_all, has_only, is_empty, single_of}
 use Rattle.wf_tree.specs.Plain.{plain_pairs}
-use Rattle.wf_syntax.specs.Forms.{count_of}
+use Rattle.wf_syntax.specs.Forms.{count_of, first_fields}
 use Rattle.wf_tree.specs.Trees as trees
 use Rattle.wf_tree.specs.Trees.{Tree, Pairs, pairs_of}
 use Rattle.wf_tree.specs.declared.tree.Tree.{Tree as Node}
@@ -49,6 +49,32 @@ only_those ks ps = has_only ks (pairs_of (plain_pairs ps))
 -- ## Keys that are counted
 abbrev pub count_those : Pairs → List (Bor Text) → ℕ
 count_those fs ks = count_of fs (map (λ k. k.now) ks)
+
+-- ## The first form of a table that is there
+abbrev pub Row : Type 0
+Row = Bor Text × Bor (List (Bor Text))
+
+abbrev pub plain_row : Row → Text × List Text
+plain_row r = (r.0.now, map (λ k. k.now) r.1.now)
+
+abbrev pub first_row : Pairs → List Row → List Text
+first_row fs rs = first_fields (map plain_row rs) fs
+
+row_next : (fs : Pairs) (rs : List Row) (i : ℕ) (d : Row) (r : Bool) → i < length rs → r ≡ has (get_or rs i d).0.now fs
+    → first_row fs (drop i rs) ≡ cond r (map (λ k. k.now) (get_or rs i d).1.now) (first_row fs (drop (i + 1) rs))
+row_next fs rs i d r lt is =
+    let k : Row = get_or rs i d in
+    ap (first_row fs) (item_at rs i k lt (get_or_default rs i d k lt)) ∙ ap (λ b. cond b (map (λ k. k.now) k.1.now) (first_row fs (drop (i + 1) rs))) (sym is)
+
+pub row_there : (fs : Pairs) (rs : List Row) (i : ℕ) (d : Row) (r : Bool) (all : List Text) → all ≡ first_row fs (drop i rs) → i < length rs → r ≡ has (get_or rs i d).0.now fs
+    → r ≡ true → map (λ k. k.now) (get_or rs i d).1.now ≡ all
+row_there fs rs i d r all before lt is one =
+    sym (before ∙ row_next fs rs i d r lt is ∙ ap (λ b. cond b (map (λ k. k.now) (get_or rs i d).1.now) (first_row fs (drop (i + 1) rs))) one)
+
+pub row_more : (fs : Pairs) (rs : List Row) (i : ℕ) (d : Row) (r : Bool) (all : List Text) → all ≡ first_row fs (drop i rs) → i < length rs → r ≡ has (get_or rs i d).0.now fs
+    → r ≡ false → all ≡ first_row fs (drop (i + 1) rs)
+row_more fs rs i d r all before lt is none =
+    before ∙ row_next fs rs i d r lt is ∙ ap (λ b. cond b (map (λ k. k.now) (get_or rs i d).1.now) (first_row fs (drop (i + 1) rs))) none
 
 -- ## A map of one pair
 is_some-option_map : {A B : Type 0} (f : A → B) (o : Option A) → is_some (option_map f o) ≡ is_some o

@@ -130,6 +130,19 @@ const FORMS: [&str; 9] = [
     "assign", "call", "for", "parallel", "raise", "return", "steps", "switch", "try",
 ];
 
+// The forms of a body, each with its fields.
+const FORM_FIELDS: [(&str, &[&str]); 9] = [
+    ("assign", &["assign", "next"]),
+    ("call", &["args", "call", "next", "result"]),
+    ("for", &["for", "next"]),
+    ("parallel", &["next", "parallel"]),
+    ("raise", &["raise"]),
+    ("return", &["return"]),
+    ("steps", &["next", "steps"]),
+    ("switch", &["next", "switch"]),
+    ("try", &["except", "next", "retry", "try"]),
+];
+
 // How many of these keys a map has.
 fn count_of(fields: &TreeMap, keys: &[&str]) -> usize
     ensures { result ≡ count_of (pairs_of fields.now) (map (λ k. k.now) keys.now) }
@@ -169,27 +182,12 @@ fn has_only_of_first(fields: &TreeMap, others: &[&str]) -> bool
 fn fields_of_first(fields: &TreeMap) -> &'static [&'static str]
     ensures { map (λ k. k.now) result.now ≡ first_fields rules.forms (pairs_of fields.now) }
 {
-    if has(fields, "assign") {
-        &["assign", "next"]
-    } else if has(fields, "call") {
-        &["args", "call", "next", "result"]
-    } else if has(fields, "for") {
-        &["for", "next"]
-    } else if has(fields, "parallel") {
-        &["next", "parallel"]
-    } else if has(fields, "raise") {
-        &["raise"]
-    } else if has(fields, "return") {
-        &["return"]
-    } else if has(fields, "steps") {
-        &["next", "steps"]
-    } else if has(fields, "switch") {
-        &["next", "switch"]
-    } else if has(fields, "try") {
-        &["except", "next", "retry", "try"]
-    } else {
-        &["next"]
+    for form in &FORM_FIELDS {
+        if has(fields, form.0) {
+            return form.1;
+        }
     }
+    &["next"]
 }
 
 fn is_empty(fields: &TreeMap) -> bool
