@@ -142,7 +142,6 @@ impl Arms {
 
 /// A loop.
 #[cycle(body)]
-#[derive(Drop)]
 pub struct LoopBody {
     pub value: Text,
     pub index: Option<Text>,
@@ -150,13 +149,37 @@ pub struct LoopBody {
     pub steps: StepList,
 }
 
+// Written, and not derived: it is one call wherever a loop is let go.
+impl Drop for LoopBody {
+    #[cycle(body)]
+    fn drop(self) {
+        let LoopBody {
+            value: _,
+            index: _,
+            over: _,
+            steps: _,
+        } = self;
+    }
+}
+
 /// Branches or iterations that run at the same time, with the limit on how many at once, where there is one.
 #[cycle(body)]
-#[derive(Drop)]
 pub struct ParallelBody {
     pub shared: Texts,
     pub limit: Option<u32>,
     pub work: Work,
+}
+
+// Written, and not derived: it is one call wherever a parallel step is let go.
+impl Drop for ParallelBody {
+    #[cycle(body)]
+    fn drop(self) {
+        let ParallelBody {
+            shared: _,
+            limit: _,
+            work: _,
+        } = self;
+    }
 }
 
 /// What runs in parallel.
@@ -221,8 +244,15 @@ pub struct TryBody {
 
 /// The steps that take an error, and the variable that holds it.
 #[cycle(body)]
-#[derive(Drop)]
 pub struct Except {
     pub name: Text,
     pub steps: StepList,
+}
+
+// Written, and not derived: it is one call wherever a handler is let go.
+impl Drop for Except {
+    #[cycle(body)]
+    fn drop(self) {
+        let Except { name: _, steps: _ } = self;
+    }
 }

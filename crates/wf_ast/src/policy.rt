@@ -11,9 +11,19 @@ pub enum Predicate {
 }
 
 /// When and how often a failed body is tried again.
-#[derive(Drop)]
 pub struct Policy {
     pub predicate: Predicate,
     pub max_retries: u32,
     pub backoff: Backoff,
+}
+
+// Written, and not derived: it is one call wherever a policy is let go.
+impl Drop for Policy {
+    fn drop(self) {
+        let Policy {
+            predicate: _,
+            max_retries: _,
+            backoff: _,
+        } = self;
+    }
 }
