@@ -87,11 +87,11 @@ pub(crate) fn map_fault(fields: &TreeMap, musts: &[&str], mays: &[&str]) -> Opti
 pub(crate) fn loop_fault(fields: &TreeMap) -> Option<SyntaxKind>
     ensures { result ≡ rules.loop_fault (pairs_of fields.now) }
 {
-    let both = has(fields, "in") && has(fields, "range");
-    let one = has(fields, "in") || has(fields, "range");
-    if !has_only(fields, &["in", "range"], &["steps", "value", "index"]) || both {
+    let list = has(fields, "in");
+    let range = has(fields, "range");
+    if !has_only(fields, &["in", "range"], &["steps", "value", "index"]) || list && range {
         Some(SyntaxKind::UnknownField)
-    } else if !one || !has_all(fields, &["steps", "value"]) {
+    } else if !(list || range) || !has_all(fields, &["steps", "value"]) {
         Some(SyntaxKind::MissingField)
     } else {
         None
@@ -102,12 +102,12 @@ pub(crate) fn loop_fault(fields: &TreeMap) -> Option<SyntaxKind>
 pub(crate) fn parallel_fault(fields: &TreeMap) -> Option<SyntaxKind>
     ensures { result ≡ rules.parallel_fault (pairs_of fields.now) }
 {
-    let both = has(fields, "branches") && has(fields, "for");
-    let one = has(fields, "branches") || has(fields, "for");
+    let branches = has(fields, "branches");
+    let repeated = has(fields, "for");
     let mays = ["concurrency_limit", "exception_policy", "shared"];
-    if !has_only(fields, &["branches", "for"], &mays) || both {
+    if !has_only(fields, &["branches", "for"], &mays) || branches && repeated {
         Some(SyntaxKind::UnknownField)
-    } else if !one {
+    } else if !(branches || repeated) {
         Some(SyntaxKind::MissingField)
     } else {
         None
