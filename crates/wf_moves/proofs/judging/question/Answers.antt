@@ -4,7 +4,7 @@ use Rattle.wf_ast.specs.View.{param_view}
 use Rattle.wf_frames.specs.Bound.{bindings_of}
 use Rattle.wf_frames.specs.Frames.{control, inner, own}
 use Rattle.wf_frames.specs.Held.{standing}
-use Rattle.wf_frames.specs.Owned.{IsLinked, beside, control_of, held_by, held_of, local_of, own_of}
+use Rattle.wf_frames.specs.Owned.{IsLinked, control_of, held_by, held_of, local_of, own_of}
 use Rattle.wf_frames.specs.Turns.{Enters, with_own}
 use Rattle.wf_frames.specs.declared.frames.Frame.TheVariants as frame
 use Rattle.wf_model.specs.Local.{goes}

@@ -1,12 +1,10 @@
-use Rattle.std.proofs.Common.{◌≡◌, ◌+◌, ℕ, List, ◌∷◌, Some, false, sym, ap, ◌∙◌, subst, pos}
-use Rattle.std.specs.Prelude.{Option, option_map}
-use Rattle.wf_frames.specs.Frames.{control, inner, left_view, own}
+use Rattle.std.proofs.Common.{◌+◌, ℕ, List, ◌∷◌, Some, false, sym, ap, ◌∙◌, subst, pos}
+use Rattle.std.specs.Prelude.{Option}
+use Rattle.wf_frames.specs.Frames.{control, inner, own}
 use Rattle.wf_frames.specs.Held.{standing}
 use Rattle.wf_frames.specs.Owned.{IsLinked, control_of, held_by, held_of, local_of, own_of}
 use Rattle.wf_frames.specs.Turns.{Enters, names_of, with_own}
 use Rattle.wf_frames.specs.declared.frames.Frame.TheVariants as frame
-use Rattle.wf_frames.specs.declared.frames.Left.{Left}
-use Rattle.wf_model.specs.Config.{next_of}
 use Rattle.wf_model.specs.Local.{goes}
 use Rattle.wf_steps.proofs.Performed.{with_ok}
 use Rattle.wf_moves.proofs.Raised.{raised, raised_left}
@@ -17,7 +15,6 @@ use Rattle.wf_scope.specs.Tasks.{Own}
 use Rattle.wf_value.specs.Plain.{plain}
 use Rattle.wf_value.specs.Errors.{error_map}
 use Rattle.wf_value.specs.declared.Tag.TheVariants.{ResourceLimitError}
-use Rattle.wf_value.specs.declared.Value.{Value}
 use Rattle.wf_moves.proofs.turn.iterate.Goals as goal
 
 pub returns-in_default-clause-stands : goal.returns-in_default-clause-stands

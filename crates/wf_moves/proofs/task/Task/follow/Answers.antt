@@ -1,4 +1,4 @@
-use Rattle.std.proofs.Common.{false, sym, ap, subst, ◌∙◌}
+use Rattle.std.proofs.Common.{sym, ap, subst, ◌∙◌}
 use Rattle.wf_moves.proofs.Waiting.{behind_moves, behind_stays, behind_unsent}
 use Rattle.wf_moves.specs.Tasks.{MovesSo, Stays, is_sent}
 use Rattle.wf_moves.specs.Waits.{task_local}
