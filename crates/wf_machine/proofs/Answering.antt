@@ -2,7 +2,7 @@
 --     answer_comes, answer_stops     where an answer leads, within the limit on bodies and past it
 --     due_comes, moment_comes        where the due moment leads, of that call and of a sleep or a next try
 --     answer_off, due_off            what can't come
-use Rattle.std.proofs.Common.{◌≡◌, ◌<◌, ◌≤◌, ◌+◌, ◌⊎◌, inl, inr, ℕ, zero, suc, true, false, List, [], Option, None, Some, Result, Err, refl, sym, ap, ◌∙◌, subst}
+use Rattle.std.proofs.Common.{◌≡◌, ◌<◌, ◌≤◌, ◌+◌, ◌⊎◌, inl, inr, ℕ, zero, suc, true, false, List, [], Option, None, Some, Result, Err, refl, sym, ap, ◌∙◌, subst, arith}
 use Rattle.std.specs.Prelude.{IfErr, is_some}
 use Rattle.wf_alone.proofs.Waiting.{is_answered, is_due, is_flooded}
 use Rattle.wf_alone.specs.Laws.{MainMatches}
@@ -99,6 +99,7 @@ module _ (m : Machine) (t : Task) (is : m.task ≡ Some t) (run : m.ending ≡ e
     is = is;
     running = run;
     suits = (waits_some, shallow);
+    tallies = record { counted = omega arith; last = refl };
     leads =
         let Y : List Call → Rest = λ cs. rest_of m.facts (tally_at m r (m.tally.bodies + reply_length a)) cs (entries_of m.log) in
         ap (λ c. next (P m t is) c (Event.Answer n r a)) stands
@@ -109,11 +110,13 @@ module _ (m : Machine) (t : Task) (is : m.task ≡ Some t) (run : m.ending ≡ e
   }
 
   pub answer_stops : (r : ℕ) (a : Reply) → caller (call_by (X m t is) n) ≡ Some 0 → m.tally.last ≤ r → 67108864 < m.tally.bodies + reply_length a → Stops m (tally_at m r m.tally.bodies) (Event.Answer n r a)
-  answer_stops r a its le many =
-      ap (λ c. next (P m t is) c (Event.Answer n r a)) stands
-      ∙ is_flooded (P m t is) (X m t is) (K m t is) (Ls m t is) n V r a its le many
-      ∙ ap (λ w. To (main_by (rest_of m.facts (tally_at m r m.tally.bodies) m.calls (entries_of m.log)) (K m t is) (Ls m t is) w (Raised (error_map ResourceLimitError)))) (sym calling)
-      ∙ ap (λ o. To (config_by (rest_of m.facts (tally_at m r m.tally.bodies) m.calls (entries_of m.log)) (tasks_view (P m t is) o m.scopes) (Raised (error_map ResourceLimitError)))) (sym is)
+  answer_stops r a its le many = record {
+    tallies = record { counted = omega arith; last = refl };
+    leads = ap (λ c. next (P m t is) c (Event.Answer n r a)) stands
+        ∙ is_flooded (P m t is) (X m t is) (K m t is) (Ls m t is) n V r a its le many
+        ∙ ap (λ w. To (main_by (rest_of m.facts (tally_at m r m.tally.bodies) m.calls (entries_of m.log)) (K m t is) (Ls m t is) w (Raised (error_map ResourceLimitError)))) (sym calling)
+        ∙ ap (λ o. To (config_by (rest_of m.facts (tally_at m r m.tally.bodies) m.calls (entries_of m.log)) (tasks_view (P m t is) o m.scopes) (Raised (error_map ResourceLimitError)))) (sym is);
+  }
 
 -- ## Due moments
 -- the call is closed for whose answer `main` waits
@@ -130,6 +133,7 @@ due_comes m n r dues le e error shallow =
       is = is;
       running = dues.running;
       suits = (ap is_some dues.waits, shallow);
+      tallies = record { counted = omega arith; last = refl };
       leads =
           ap (λ c. next (P m t is) c (Event.Due 0 r)) (here m t is dues.running ∙ ap (main_at (X m t is) (K m t is) (Ls m t is)) calls)
           ∙ is_due (P m t is) (X m t is) (K m t is) (Ls m t is) (Calling n V) dues.moment r (sym (ap (due_for (X m t is)) calls) ∙ dues.due) le dues.come
@@ -148,6 +152,7 @@ moment_comes m b r zero_is dues le =
       is = is;
       running = dues.running;
       suits = has_moment (around (P m t is)) (X m t is) t.wait dues.moment dues.waits dues.due;
+      tallies = record { counted = omega arith; last = refl };
       leads =
           ap (λ c. next (P m t is) c (Event.Due 0 r)) (here m t is dues.running)
           ∙ is_due (P m t is) (X m t is) (K m t is) (Ls m t is) (W m t is) dues.moment r dues.due le dues.come

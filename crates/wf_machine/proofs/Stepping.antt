@@ -7,9 +7,10 @@ use Rattle.wf_alone.specs.Machine.{Rest, config_by, main_at, main_by, main_local
 use Rattle.wf_alone.specs.Waiting.{IsOff, IsOffStep}
 use Rattle.wf_ast.specs.Tree.{Program}
 use Rattle.wf_check.specs.Seen.{program_of}
+use Rattle.wf_machine.proofs.Counts.{counts_one, reads_last}
 use Rattle.wf_machine.proofs.Places.{K, Ls, P, W, X, here, plain}
 use Rattle.wf_machine.proofs.Waiting.{awake_view, not_awake}
-use Rattle.wf_machine.specs.Causes.{Comes, Stops}
+use Rattle.wf_machine.specs.Causes.{Comes, Stops, Tallies}
 use Rattle.wf_machine.specs.Entries.{entries_of}
 use Rattle.wf_machine.specs.Main.{around, rest_of, tasks_view}
 use Rattle.wf_machine.specs.Seen.{StepsBy, WantsNot, control_by, last_by, rest_by, wait_by}
@@ -79,6 +80,9 @@ module _ (m : Machine) (q : NextKind) (steps : StepsBy m q) (r : ℕ) (le : m.ta
   awake : W m T steps.is ≡ Awake
   awake = awake_view (around (P m T steps.is)) T.wait steps.awake
 
+  tallies : Tallies m Behind (wanted q 0 r)
+  tallies = record { counted = ap (λ n. m.tally.moves + n) (sym (counts_one q 0 r)); last = reads_last q 0 r m.tally.last }
+
   -- it is carried out
   below : m.tally.moves + 1 < 100000 → next (P m T steps.is) (main_at (X m T steps.is) KT (Ls m T steps.is) Awake) (wanted q 0 r)
       ≡ merged 0 None (stepped (main_scene (P m T steps.is) Y (seen_by q r)) (main_local KT (Ls m T steps.is) Awake)) (main_at Y KT (Ls m T steps.is) Awake)
@@ -95,6 +99,7 @@ module _ (m : Machine) (q : NextKind) (steps : StepsBy m q) (r : ℕ) (le : m.ta
     is = steps.is;
     running = steps.running;
     suits = steps.awake;
+    tallies = tallies;
     leads = ap (λ c. next (P m T steps.is) c (wanted q 0 r)) (here m T steps.is steps.running)
         ∙ subst
         (λ w. next (P m T steps.is) (main_at (X m T steps.is) KT (Ls m T steps.is) w) (wanted q 0 r)
@@ -104,14 +109,16 @@ module _ (m : Machine) (q : NextKind) (steps : StepsBy m q) (r : ℕ) (le : m.ta
 
   -- or is the last one
   stops : 100000 ≤ m.tally.moves + 1 → Stops m Behind (wanted q 0 r)
-  stops many =
-      ap (λ c. next (P m T steps.is) c (wanted q 0 r)) (here m T steps.is steps.running)
-      ∙ ap (λ w. next (P m T steps.is) (main_at (X m T steps.is) KT (Ls m T steps.is) w) (wanted q 0 r)) awake
-      ∙ ap (next (P m T steps.is) (main_at (X m T steps.is) KT (Ls m T steps.is) Awake)) (sym (wanted_same q 0 r m.tally.last))
-      ∙ main_is_stopped (P m T steps.is) (X m T steps.is) KT (Ls m T steps.is) q Last (plain m T steps.is) steps.wanted le many
-      ∙ ap (λ y. To (main_by y KT (Ls m T steps.is) Awake (Raised (error_map ResourceLimitError)))) behind_is
-      ∙ ap (λ w. To (main_by Y KT (Ls m T steps.is) w (Raised (error_map ResourceLimitError)))) (sym awake)
-      ∙ ap (λ o. To (config_by Y (tasks_view (P m T steps.is) o m.scopes) (Raised (error_map ResourceLimitError)))) (sym steps.is)
+  stops many = record {
+    tallies = tallies;
+    leads = ap (λ c. next (P m T steps.is) c (wanted q 0 r)) (here m T steps.is steps.running)
+        ∙ ap (λ w. next (P m T steps.is) (main_at (X m T steps.is) KT (Ls m T steps.is) w) (wanted q 0 r)) awake
+        ∙ ap (next (P m T steps.is) (main_at (X m T steps.is) KT (Ls m T steps.is) Awake)) (sym (wanted_same q 0 r m.tally.last))
+        ∙ main_is_stopped (P m T steps.is) (X m T steps.is) KT (Ls m T steps.is) q Last (plain m T steps.is) steps.wanted le many
+        ∙ ap (λ y. To (main_by y KT (Ls m T steps.is) Awake (Raised (error_map ResourceLimitError)))) behind_is
+        ∙ ap (λ w. To (main_by Y KT (Ls m T steps.is) w (Raised (error_map ResourceLimitError)))) (sym awake)
+        ∙ ap (λ o. To (config_by Y (tasks_view (P m T steps.is) o m.scopes) (Raised (error_map ResourceLimitError)))) (sym steps.is);
+  }
 
 -- by what the code finds
 abbrev pub tally_by : Machine → ℕ → Tally

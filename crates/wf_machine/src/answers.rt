@@ -93,19 +93,18 @@ impl Machine {
         tally.last = reading;
         let length = reply_length(reply);
         if length > BODY_LIMIT - tally.bodies {
-            return Ok(self.stop(tally)?);
+            return self.stop(tally);
         }
         tally.bodies += length;
         let Ok(with) = reply_result(self.alloc, reply) else {
-            self.broken = true;
-            return Err(ApplyFault::OutOfMemory);
+            return self.break_off();
         };
         let heard = Heard {
             call,
             how: Closed::Answered,
             with,
         };
-        Ok(self.carry_on(Cause::Heard(heard), 0, tally)?)
+        self.carry_on(Cause::Heard(heard), 0, tally)
     }
 
     /// Ends the wait of a task at its due moment, where it is `main` and that has come: a sleep ends, the body of a `try` is tried again, or
@@ -124,7 +123,7 @@ impl Machine {
         let mut tally = self.tally;
         tally.last = reading;
         match waited {
-            None => Ok(self.carry_on(Cause::Due, reading, tally)?),
+            None => self.carry_on(Cause::Due, reading, tally),
             Some(call) => self.time_out(call, reading, tally),
         }
     }
@@ -138,14 +137,13 @@ impl Machine {
         ensures { Applied (state_of self.old) (state_of self.new) (AnyEvent.Due 0 reading) result }
     {
         let Ok(error) = error_map(self.alloc, Tag::TimeoutError) else {
-            self.broken = true;
-            return Err(ApplyFault::OutOfMemory);
+            return self.break_off();
         };
         let heard = Heard {
             call,
             how: Closed::TimedOut,
             with: Err(error),
         };
-        Ok(self.carry_on(Cause::Heard(heard), reading, tally)?)
+        self.carry_on(Cause::Heard(heard), reading, tally)
     }
 }

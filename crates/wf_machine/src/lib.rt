@@ -25,6 +25,7 @@
 
 mod answers;
 mod argument;
+mod beginning;
 mod choosing;
 mod ending;
 mod events;

@@ -8,12 +8,10 @@ ghost use Rattle.wf_machine.specs.State.{outcome_by, outcome_depth};
 ghost use Rattle.wf_machine.specs.declared.ending.Ending.TheVariants.{Running};
 ghost use Rattle.wf_steps.specs.Built.{is_table_built};
 
-use crate::argument::argument_of;
+use crate::beginning::beginning_of;
 use crate::ending::{Ending, Outcome};
 use crate::facts::Facts;
 use crate::log::Log;
-use crate::targets::targets_of;
-use crate::task::first_task;
 use std::alloc::Global;
 use wf_alone::laws_of_waiting;
 use wf_ast::Program;
@@ -23,11 +21,8 @@ use wf_events::Start;
 use wf_http_ask::Request;
 use wf_moves::Task;
 use wf_scope::Scopes;
-use wf_steps::{Target, are_built};
+use wf_steps::Target;
 use wf_value::{OutOfMemory, Severity, Value};
-
-/// What all variables together may come to, under the first rules.
-const VARIABLE_LIMIT: u64 = 65_536;
 
 /// What events count: the last reading of the clock, in milliseconds since 1970; the counted events; and the bytes of the bodies of all
 /// answers.
@@ -111,18 +106,8 @@ impl Machine {
             ≡ To (state_of m).config) }
         ensures whole { IfOk result (λ m. (state_of m).broken ≡ false) }
     {
-        if !are_built(program.nodes()) {
-            return Err(OutOfMemory);
-        }
-        let found = targets_of(alloc, &program)?;
-        let Some(targets) = found else {
-            return Err(OutOfMemory);
-        };
-        let facts = Facts::of(alloc, start)?;
-        let argument = argument_of(alloc, start)?;
-        let mut scopes = Scopes::new(alloc, VARIABLE_LIMIT)?;
-        let task = first_task(alloc, &program, argument, &mut scopes)?;
-        let ending = if task.is_some() {
+        let begun = beginning_of(alloc, start, &program)?;
+        let ending = if begun.task.is_some() {
             Ending::Running
         } else {
             Ending::Returned(Value::Null)
@@ -130,15 +115,15 @@ impl Machine {
         Ok(Machine {
             alloc,
             program,
-            targets,
-            facts,
+            targets: begun.targets,
+            facts: begun.facts,
             tally: Tally {
                 last: start.reading,
                 moves: 0,
                 bodies: 0,
             },
-            task,
-            scopes,
+            task: begun.task,
+            scopes: begun.scopes,
             calls: Calls::new(alloc),
             log: Log::new(alloc),
             ending,

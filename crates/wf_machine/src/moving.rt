@@ -1,12 +1,10 @@
 // Steps that `main` takes.
-ghost use Rattle.std.specs.Prelude.{◌≡◌, ◌<◌, ◌≤◌, ◌↔◌, true, false, IfSome, IsErr, IsFalse, IsNone, IsTrue, OnOk};
+ghost use Rattle.std.specs.Prelude.{◌≡◌, ◌<◌, ◌≤◌, false, IfSome, IsFalse, IsNone, IsTrue};
 ghost use Rattle.wf_alone.specs.Machine.{seen_by};
 ghost use Rattle.wf_machine.specs.Applied.{Applied};
 ghost use Rattle.wf_machine.specs.Causes.{Comes, Stops};
 ghost use Rattle.wf_machine.specs.Seen.{StepsBy, StepsNot, WantsNot, last_by, state_of};
 ghost use Rattle.wf_model.specs.Choose.{wanted};
-ghost use Rattle.wf_model.specs.Config.{To};
-ghost use Rattle.wf_model.specs.Step.{next};
 ghost use Rattle.wf_shared.specs.Events.{Event as AnyEvent};
 ghost use Rattle.wf_steps.specs.Kinds.{kind_view};
 
@@ -16,7 +14,7 @@ use crate::machine::{Machine, Tally};
 use crate::task::{Cause, go_on, kind_of};
 use wf_never_wrong::never_wrong;
 use wf_steps::Kind;
-use wf_value::{OutOfMemory, Tag, error_map};
+use wf_value::{Tag, error_map};
 
 /// The counted event with this number isn't carried out: it ends the execution with a `ResourceLimitError`.
 const MOVE_LIMIT: u64 = 100_000;
@@ -94,9 +92,9 @@ impl Machine {
             bodies: self.tally.bodies,
         };
         if tally.moves < MOVE_LIMIT {
-            Ok(self.carry_on(Cause::Step, readings.now, tally)?)
+            self.carry_on(Cause::Step, readings.now, tally)
         } else {
-            Ok(self.stop(tally)?)
+            self.stop(tally)
         }
     }
 
@@ -106,27 +104,25 @@ impl Machine {
         cause: Cause,
         now: u64,
         tally: Tally,
-    ) -> Result<(), OutOfMemory>
+    ) -> Result<(), ApplyFault>
         requires whole { self.old.broken ≡ false }
         requires comes { (e : AnyEvent) × Comes self.old cause now tally e }
         requires below { tally.moves < 100000 }
         requires bounded { tally.bodies ≤ 67108864 }
-        ensures moved { OnOk result ((e : AnyEvent) → Comes self.old cause now tally e
-            → next (state_of self.old).program (state_of self.old).config e
-            ≡ To (state_of self.new).config) }
-        ensures program { (state_of self.new).program ≡ (state_of self.old).program }
-        ensures tally { OnOk result (self.new.tally ≡ tally) }
-        ensures broken { (self.new.broken ≡ true) ↔ IsErr result }
+        ensures { (e : AnyEvent) → Comes self.old cause now tally e
+            → Applied (state_of self.old) (state_of self.new) e result }
     {
         never_wrong();
         let Some(mut task) = self.task.take() else {
             unreachable!()
         };
+        // until it has gone on
+        self.broken = true;
         self.facts.of_step.now = now;
         self.facts.of_step.last = tally.last;
         self.facts.sending.calls = self.calls.count();
         self.facts.sending.logged = self.log.size();
-        let Ok(did) = go_on(
+        let did = go_on(
             &self.program,
             self.targets.as_slice(),
             &self.facts,
@@ -134,14 +130,9 @@ impl Machine {
             &mut self.scopes,
             &mut self.calls,
             cause,
-        ) else {
-            self.broken = true;
-            return Err(OutOfMemory);
-        };
-        let Ok(ending) = ending_of(did, tally.last, &mut self.calls, &mut self.log) else {
-            self.broken = true;
-            return Err(OutOfMemory);
-        };
+        )?;
+        let ending = ending_of(did, tally.last, &mut self.calls, &mut self.log)?;
+        self.broken = false;
         self.tally = tally;
         self.ending = ending;
         if self.ending.is_running() {
@@ -151,17 +142,13 @@ impl Machine {
     }
 
     /// The end at a limit: nothing of the event is carried out. Without memory the machine is broken.
-    pub(crate) fn stop(&mut self, tally: Tally) -> Result<(), OutOfMemory>
+    pub(crate) fn stop(&mut self, tally: Tally) -> Result<(), ApplyFault>
         requires whole { self.old.broken ≡ false }
         requires comes { (e : AnyEvent) × Stops self.old tally e }
         requires most { tally.moves ≤ 100000 }
         requires bounded { tally.bodies ≤ 67108864 }
-        ensures moved { OnOk result ((e : AnyEvent) → Stops self.old tally e
-            → next (state_of self.old).program (state_of self.old).config e
-            ≡ To (state_of self.new).config) }
-        ensures program { (state_of self.new).program ≡ (state_of self.old).program }
-        ensures tally { OnOk result (self.new.tally ≡ tally) }
-        ensures broken { (self.new.broken ≡ true) ↔ IsErr result }
+        ensures { (e : AnyEvent) → Stops self.old tally e
+            → Applied (state_of self.old) (state_of self.new) e result }
     {
         match error_map(self.alloc, Tag::ResourceLimitError) {
             Ok(error) => {
@@ -169,10 +156,15 @@ impl Machine {
                 self.ending = Ending::Raised(error);
                 Ok(())
             }
-            Err(_) => {
-                self.broken = true;
-                Err(OutOfMemory)
-            }
+            Err(_) => self.break_off(),
         }
+    }
+
+    /// There was no memory for an event: the machine is broken.
+    pub(crate) fn break_off(&mut self) -> Result<(), ApplyFault>
+        ensures { (e : AnyEvent) → Applied (state_of self.old) (state_of self.new) e result }
+    {
+        self.broken = true;
+        Err(ApplyFault::OutOfMemory)
     }
 }

@@ -35,7 +35,7 @@ use Rattle.std.proofs.lemmas.Option.{slice_get-get_or, slice_get_within}
 use Rattle.wf_value.specs.Plain.{plain}
 use Rattle.wf_value.specs.declared.Value.{Value}
 use Rattle.wf_moves.proofs.Unwinding.{try_is}
-use Rattle.wf_moves.specs.Retries.{IsLed, LeadsBy, TriedAt, ask_at, asked_by, decide_at, retry_at, try_at, verdict_of, verdict_said, Asked}
+use Rattle.wf_moves.specs.Retries.{IsLed, LeadsBy, TriedAt, ask_at, asked_by, decide_at, retry_at, try_at, verdict_of, verdict_said, Asked, AsksFlow}
 use Rattle.wf_moves.specs.Moved.{IsEnd, IsWent, IsMove}
 use Rattle.wf_moves.specs.Waits.{is_at_try, wait_view}
 use Rattle.wf_moves.specs.declared.judging.Verdict.TheVariants as verdict
@@ -320,6 +320,12 @@ asked_within a ts r e h = by (slice_get ts r.node) refl h.2
     by : (o : Option Target) → slice_get ts r.node ≡ o → IsAsked a.flows a.spots o h.0 → r.node < length ts
     by None p q = absurd q
     by (Some t) p q = slice_get_within ts r.node t p
+
+pub asks_flow : (a : Around) (ts : List Target) (r : Tried) (e : Data) (h : Asked a ts r e) (n : ℕ) → get_or ts r.node (target.Flow 0) ≡ target.Flow n → AsksFlow a n r e
+asks_flow a ts r e h n is = (
+    let found : slice_get ts r.node ≡ Some (target.Flow n) = slice_get-get_or ts r.node (target.Flow 0) (asked_within a ts r e h) ∙ ap (λ (t : Target). Some t) is in
+    (h.0, h.1, asked_flow a.flows a.spots (slice_get ts r.node) n h.0 found h.2)
+    )
 
 pub asked_begun : (a : Around) (nodes : List Node) (tells : Tells a.spots nodes) (ts : List Target) (r : Tried) (e : Data) (h : Asked a ts r e) (n : ℕ) → get_or ts r.node (target.Flow 0) ≡ target.Flow n → Begun a.flows a.spots nodes n h.0
 asked_begun a nodes tells ts r e h n is = (

@@ -32,7 +32,7 @@ use Rattle.wf_nodes.specs.declared.node.ExceptNode.{ExceptNode}
 use Rattle.wf_nodes.specs.declared.node.Node.{Node}
 use Rattle.wf_nodes.specs.declared.node.TryNode.{TryNode}
 use Rattle.wf_scope.specs.declared.scopes.Scopes.{Scopes}
-use Rattle.wf_steps.specs.Built.{IsAsked}
+use Rattle.wf_steps.specs.Built.{IsAsked, IsWorkflow}
 use Rattle.wf_steps.specs.Steps.{IsOrBreaks}
 use Rattle.wf_steps.specs.declared.target.Target.{Target}
 use Rattle.wf_value.specs.Data.{Data, depth}
@@ -105,6 +105,10 @@ verdict_of (Asks f) = verdict.Asks
 -- the policy asks a workflow about an error, and it stands at the number of the `try`
 abbrev pub Asked : Around → List Target → Tried → Data → Type 0
 Asked a targets t e = (f : Text) × (judged (policy_of (try_at a.spots t.node)) t.tries e ≡ Asks f) × IsAsked a.flows a.spots (slice_get targets t.node) f
+
+-- the policy asks this workflow about an error
+abbrev pub AsksFlow : Around → ℕ → Tried → Data → Type 0
+AsksFlow a n t e = (f : Text) × (judged (policy_of (try_at a.spots t.node)) t.tries e ≡ Asks f) × IsWorkflow a.flows a.spots n f
 
 -- ## Where a move leads
 -- the model's move, by what a call gives and leaves

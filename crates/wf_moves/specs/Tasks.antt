@@ -146,6 +146,11 @@ Stays nodes (move.Ended e) t = inner t.frames ≡ []
 Stays nodes (move.Sent x) t = (is_some (call_in t.wait) ≡ true) × CanGoOn nodes t
 Stays nodes (move.Logged x b) t = StaysBehind nodes b t
 
+-- the move of a task that stands so behind it
+abbrev pub move_by : Behind → Move
+move_by behind.Goes = move.Went
+move_by (behind.Ended e) = move.Ended e
+
 -- ## Moves, requests and logs within a call
 -- the model's move, request or log, of a task that goes on so or waits
 abbrev pub IsDone : Around → Scene → Moved → Done → Local → Type 0

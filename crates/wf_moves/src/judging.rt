@@ -1,14 +1,17 @@
 // What a `try` does with an error: the policy decides.
-ghost use Rattle.std.specs.Prelude.{◌≡◌, ◌≤◌, ℕ, IfOk, OnOk, true};
-ghost use Rattle.wf_ast.specs.View.{policy_option_view};
-ghost use Rattle.wf_frames.specs.Frames.{inner};
+ghost use Rattle.std.specs.Prelude.{◌≡◌, ◌≤◌, ◌<◌, ◌∷◌, [], ℕ, IfOk, OnOk, true};
+ghost use Rattle.wf_ast.specs.View.{param_view, policy_option_view};
+ghost use Rattle.wf_frames.specs.Bound.{bindings_of};
+ghost use Rattle.wf_frames.specs.Frames.{calls_of, inner};
 ghost use Rattle.wf_frames.specs.Owned.{Around, control_of, held_by};
 ghost use Rattle.wf_frames.specs.Stands.{Stands};
 ghost use Rattle.wf_model.specs.Move.{retries};
 ghost use Rattle.wf_model.specs.Unwind.{judged};
 ghost use Rattle.wf_moves.specs.Moved.{IsLeft, MovesBy};
-ghost use Rattle.wf_moves.specs.Retries.{DecidesBy, Asked, IsDecidedSo, IsLedSo, LeadsBy, Rests, TriedAt, ask_at, decide_at, retry_at, verdict_of, verdict_said};
+ghost use Rattle.wf_moves.specs.Retries.{DecidesBy, Asked, AsksFlow, IsDecidedSo, IsLedSo, LeadsBy, Rests, TriedAt, ask_at, decide_at, retry_at, verdict_of, verdict_said};
+ghost use Rattle.wf_moves.specs.Tasks.{part_params};
 ghost use Rattle.wf_moves.specs.Waits.{is_at_try};
+ghost use Rattle.wf_nodes.specs.Spots.{part_at};
 ghost use Rattle.wf_steps.specs.Built.{AreTargets, Tells};
 ghost use Rattle.wf_value.specs.Data.{depth};
 ghost use Rattle.wf_value.specs.Plain.{plain};
@@ -20,7 +23,7 @@ use crate::start::params;
 use crate::unwind::{Tried, take};
 use crate::wait::Wait;
 use std::alloc::Global;
-use wf_ast::{Policy, Predicate};
+use wf_ast::{Param, Policy, Predicate};
 use wf_frames::{Bindings, Frame, Frames, enter_call};
 use wf_nodes::Node;
 use wf_retry::{default_says, next_delay};
@@ -29,7 +32,7 @@ use wf_steps::{Target, body_frame, map_of, try_node};
 use wf_value::{OutOfMemory, Tag, Value};
 
 /// What a policy says of an error: that the body is tried again, that it isn't, or that a workflow is asked.
-#[derive(Debug, Clone, Copy, PartialEq, Eq)]
+#[derive(Clone, Copy)]
 pub(crate) enum Verdict {
     Yes,
     No,
@@ -127,6 +130,52 @@ pub(crate) fn try_again(
     Ok(goes(frames, nodes, scopes))
 }
 
+// The parameter of the workflow that is asked, with the error.
+fn with_error(alloc: Global, param: &Param, error: &Value) -> Result<Bindings, OutOfMemory>
+    ensures { IfOk result (λ b. bindings_of b ≡ (param.now.name, plain error.now) ∷ []) }
+{
+    let mut bindings = Bindings::new(alloc);
+    bindings.put_first(param.name.copy()?, error.copy(alloc)?)?;
+    Ok(bindings)
+}
+
+// The workflow that is asked about an error is called with it. Where the variables would pass their limit, that is the error.
+fn question(
+    alloc: Global,
+    nodes: &[Node],
+    tried: Tried,
+    flow: u32,
+    param: &Param,
+    error: Value,
+    frames: &mut Frames,
+    scopes: &mut Scopes,
+) -> Result<Decided, OutOfMemory>
+    ghost around: { Around }
+    requires tells { Tells around.spots nodes.now }
+    requires asked { AsksFlow around flow tried (plain error) }
+    requires stands { Stands around nodes.now frames.old scopes.old }
+    requires at { TriedAt around.spots nodes.now tried (inner frames.old) }
+    requires shallow { depth (plain error) ≤ 100 }
+    requires param { part_params (part_at around.spots flow) ≡ param_view param.now ∷ [] }
+    requires few { calls_of (inner frames.old) < 20 }
+    ensures moved { IfOk result (λ d. (last : ℕ) → DecidesBy around last
+        (λ s l. ask_at around.spots tried s (plain error) (control_of around frames.old) l)
+        (held_by around frames.old scopes.old) d frames.new scopes.new) }
+    ensures same { IfOk result (λ d. Rests d (inner frames.old) (inner frames.new)) }
+    ensures stands { OnOk result (Stands around nodes.now frames.new scopes.new) }
+    ensures left { IfOk result (λ d. IsDecidedSo nodes.now d (inner frames.new)) }
+{
+    let bindings = with_error(alloc, param, &error)?;
+    match enter_call(frames, scopes, bindings)? {
+        Some(layer) => {
+            frames.push(Frame::Judge(tried.node, tried.tries, tried.delay, error, layer))?;
+            frames.push(Frame::Do(flow, 0))?;
+            Ok(Decided::Led(lead_on(frames, nodes, scopes)))
+        }
+        None => Ok(Decided::Raises(map_of(alloc, Tag::ResourceLimitError)?)),
+    }
+}
+
 // A workflow is asked about an error: it is called with it, and what it returns decides. Where it would be one call too many in each
 // other, or the variables would pass their limit, that is the error.
 fn ask(
@@ -164,16 +213,7 @@ fn ask(
     if frames.calls() >= CALL_LIMIT {
         return Ok(Decided::Raises(map_of(alloc, Tag::RecursionError)?));
     }
-    let mut bindings = Bindings::new(alloc);
-    bindings.put_first(param.name.copy()?, error.copy(alloc)?)?;
-    match enter_call(frames, scopes, bindings)? {
-        Some(layer) => {
-            frames.push(Frame::Judge(tried.node, tried.tries, tried.delay, error, layer))?;
-            frames.push(Frame::Do(*flow, 0))?;
-            Ok(Decided::Led(lead_on(frames, nodes, scopes)))
-        }
-        None => Ok(Decided::Raises(map_of(alloc, Tag::ResourceLimitError)?)),
-    }
+    question(alloc, nodes, tried, *flow, param, error, frames, scopes)
 }
 
 /// An error comes to a `try`, whose frame was left: the body is to be tried again, a workflow is asked, or the `try` is through with it.

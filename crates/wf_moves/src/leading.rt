@@ -1,9 +1,10 @@
 // Where a move leads: its error goes outward, and so does what a predicate has said.
-ghost use Rattle.std.specs.Prelude.{◌≡◌, ◌≤◌, IfOk, List, OnOk};
-ghost use Rattle.wf_frames.specs.Frames.{inner};
+ghost use Rattle.std.specs.Prelude.{◌≡◌, ◌≤◌, ℕ, IfOk, List, OnOk, Some};
+ghost use Rattle.wf_frames.specs.Frames.{inner, topped};
 ghost use Rattle.wf_frames.specs.Owned.{Around, beside, control_of, held_by, local_of};
 ghost use Rattle.wf_frames.specs.Stands.{Stands};
 ghost use Rattle.wf_frames.specs.Turns.{Agrees};
+ghost use Rattle.wf_frames.specs.declared.frames.Frame.TheVariants as frame;
 ghost use Rattle.wf_model.specs.Config.{Item};
 ghost use Rattle.wf_model.specs.Leave.{returns};
 ghost use Rattle.wf_model.specs.Local as local;
@@ -84,6 +85,27 @@ fn outward(
     Ok(Led::Ended(End::Error(error)))
 }
 
+// The `try` and the error on which a workflow was asked, whose call is the innermost frame.
+fn asked_on(alloc: Global, frames: &Frames) -> Result<(Tried, Value), OutOfMemory>
+    requires { IsJudgeTop (inner frames.now) }
+    ensures { IfOk result (λ p. (m : ℕ) × (topped (inner frames.now)
+        ≡ Some (frame.Judge p.0.node p.0.tries p.0.delay p.1 m))) }
+{
+    let Some(frame) = frames.top() else {
+        unreachable!()
+    };
+    let Frame::Judge(node, tries, delay, error, _) = frame else {
+        unreachable!()
+    };
+    let tried = Tried {
+        node: *node,
+        tries: *tries,
+        delay: *delay,
+    };
+    let error = error.copy(alloc)?;
+    Ok((tried, error))
+}
+
 // The workflow that was asked about an error has answered: the body is to be tried again, or the `try` is through with it.
 fn answered(
     alloc: Global,
@@ -105,18 +127,8 @@ fn answered(
     ensures stands { OnOk result (Stands around nodes.now frames.new scopes.new) }
     ensures left { IfOk result (λ d. IsLedSo nodes.now d (inner frames.new)) }
 {
-    let Some(frame) = frames.top() else {
-        unreachable!()
-    };
-    let Frame::Judge(node, tries, delay, error, _) = frame else {
-        unreachable!()
-    };
-    let tried = Tried {
-        node: *node,
-        tries: *tries,
-        delay: *delay,
-    };
-    let error = error.copy(alloc)?;
+    let asked = asked_on(alloc, frames)?;
+    let (tried, error) = asked;
     leave(frames, scopes);
     if yes {
         return retry(nodes, tried, last, frames, scopes);

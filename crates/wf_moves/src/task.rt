@@ -9,6 +9,7 @@ ghost use Rattle.wf_frames.specs.Turns.{Agrees};
 ghost use Rattle.wf_model.specs.Local.{Moved, Scene};
 ghost use Rattle.wf_steps.specs.Built.{AreTargets, Tells};
 ghost use Rattle.wf_moves.specs.Moved.{IsLeft, IsMove, IsSettled};
+ghost use Rattle.wf_moves.specs.Tasks.{move_by};
 ghost use Rattle.wf_nodes.specs.Spots.{part_at};
 ghost use Rattle.wf_value.specs.Data.{depth};
 ghost use Rattle.wf_value.specs.Plain.{plain};
@@ -40,6 +41,16 @@ pub enum Move {
     Sent(Sent),
     /// It has logged a value, and goes on, or waits for its next try, or has ended.
     Logged(Logged, Behind),
+}
+
+// The move of a task that stands so behind it.
+fn move_by(behind: Behind) -> Move
+    ensures { result ≡ move_by behind }
+{
+    match behind {
+        Behind::Goes => Move::Went,
+        Behind::Ended(end) => Move::Ended(end),
+    }
 }
 
 /// A task: what it has still to do, the layers of its own, and what it waits for.
@@ -323,26 +334,11 @@ impl Task {
         ensures left { IfOk result (λ d. Stays nodes.now d self.new) }
         ensures nothing_sent { IfOk result (λ d. is_sent d ≡ false) }
     {
-        let led = lead(
-            self.alloc,
-            nodes,
-            targets,
-            facts.last,
-            went,
-            &mut self.frames,
-            scopes,
-        )?;
-        match led {
-            Led::Goes => Ok(Move::Went),
-            Led::Ended(end) => Ok(Move::Ended(end)),
-            Led::Waits(wait) => {
-                self.wait = wait;
-                Ok(Move::Went)
-            }
-        }
+        let behind = self.stand(nodes, targets, scopes, facts, went)?;
+        Ok(move_by(behind))
     }
 
-    // How it stands behind what it has logged, where a move leads then: its error goes outward, and so does what a predicate has said.
+    // How it stands where a move leads: its error goes outward, and so does what a predicate has said.
     fn stand(
         &mut self,
         nodes: &[Node],

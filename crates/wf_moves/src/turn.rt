@@ -1,10 +1,11 @@
 // The turns of a loop.
-ghost use Rattle.std.specs.Prelude.{◌≡◌, ◌+ℤ◌, ◌∷◌, [], IfOk, OnOk, if◌then◌else◌, int_lt, option_map, pos};
+ghost use Rattle.std.specs.Prelude.{◌≡◌, ◌<◌, ◌+ℤ◌, ◌∷◌, [], IfOk, OnOk, Some, if◌then◌else◌, int_lt, option_map, pos};
 ghost use Rattle.wf_frames.specs.Fits.{Fits, IsLoop};
 ghost use Rattle.wf_frames.specs.Frames.{control, inner, left_view};
 ghost use Rattle.wf_frames.specs.Owned.{Around, held_by};
 ghost use Rattle.wf_frames.specs.Stands.{Stands};
 ghost use Rattle.wf_frames.specs.declared.frames.Frame.TheVariants as frame;
+ghost use Rattle.wf_frames.specs.declared.frames.Left.{Left};
 ghost use Rattle.wf_frames.specs.declared.frames.Left.TheVariants as left;
 ghost use Rattle.wf_model.specs.Config.{OfList, OfRange, next_of};
 ghost use Rattle.wf_model.specs.Move.{moves};
@@ -60,6 +61,40 @@ fn next_item(alloc: Global, list: List, at: usize) -> Result<Option<(Value, Left
     Ok(Some((item, Left::Items(list, at + 1))))
 }
 
+// The loop's next iteration, with this value, and so much left behind it.
+fn iterate(
+    alloc: Global,
+    nodes: &[Node],
+    n: u32,
+    body: &LoopNode,
+    value: Value,
+    rest: Left,
+    index: u64,
+    frames: &mut Frames,
+    scopes: &mut Scopes,
+) -> Result<Went, OutOfMemory>
+    ghost around: { Around }
+    requires tells { Tells around.spots nodes.now }
+    requires stands { Stands around nodes.now frames.old scopes.old }
+    requires is { IsLoop nodes.now n body.now }
+    requires below { index < 9223372036854775808 }
+    ensures moved { IfOk result (λ w. (left : Left)
+        → next_of (left_view left) ≡ Some (plain value, left_view rest) → MovesBy around
+        (λ s l. moves s (control around.spots (frame.Loop n left index ∷ inner frames.old)) l)
+        (held_by around frames.old scopes.old) w frames.new scopes.new) }
+    ensures stands { OnOk result (Stands around nodes.now frames.new scopes.new) }
+    ensures left { IfOk result (λ w. IsLeft nodes.now w (inner frames.new)) }
+{
+    let entered = enter(frames, scopes, &body.value, value, &body.index, index)?;
+    let Some(layer) = entered else {
+        return raises_tag(alloc, Tag::ResourceLimitError);
+    };
+    frames.push(Frame::Loop(n, rest, index + 1))?;
+    frames.push(Frame::Mark(layer))?;
+    frames.push(Frame::Do(n, 0))?;
+    Ok(goes(frames, nodes, scopes))
+}
+
 /// The loop's next iteration, or its end. Its frame was taken.
 pub(crate) fn turn(
     alloc: Global,
@@ -89,12 +124,5 @@ pub(crate) fn turn(
     if index >= INDEX_LIMIT {
         return Err(OutOfMemory);
     }
-    let entered = enter(frames, scopes, &body.value, value, &body.index, index)?;
-    let Some(layer) = entered else {
-        return raises_tag(alloc, Tag::ResourceLimitError);
-    };
-    frames.push(Frame::Loop(n, rest, index + 1))?;
-    frames.push(Frame::Mark(layer))?;
-    frames.push(Frame::Do(n, 0))?;
-    Ok(goes(frames, nodes, scopes))
+    iterate(alloc, nodes, n, body, value, rest, index, frames, scopes)
 }

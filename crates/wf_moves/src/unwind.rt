@@ -24,7 +24,7 @@ use wf_steps::{map_of, try_node};
 use wf_value::{OutOfMemory, Tag, Value};
 
 /// A `try` whose body has raised an error: its node, the retries used, and the last delay in milliseconds.
-#[derive(Debug, Clone, Copy, PartialEq, Eq)]
+#[derive(Clone, Copy)]
 pub(crate) struct Tried {
     pub(crate) node: u32,
     pub(crate) tries: u64,

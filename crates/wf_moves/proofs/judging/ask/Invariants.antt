@@ -6,5 +6,5 @@ ghost-params g a = g.around.spots
 abbrev pub ghost-lead_on : goal.ghost-lead_on
 ghost-lead_on g a = g.around
 
-abbrev pub ghost-enter_call : goal.ghost-enter_call
-ghost-enter_call g a = g.around
+abbrev pub ghost-question : goal.ghost-question
+ghost-question g a = g.around

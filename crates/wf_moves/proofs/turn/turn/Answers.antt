@@ -1,74 +1,14 @@
-use Rattle.std.proofs.Common.{◌≡◌, ◌+◌, ℕ, List, ◌∷◌, Some, false, sym, ap, ◌∙◌, subst, pos}
-use Rattle.std.specs.Prelude.{Option, option_map}
-use Rattle.wf_frames.specs.Frames.{control, inner, left_view, own}
-use Rattle.wf_frames.specs.Held.{standing}
-use Rattle.wf_frames.specs.Owned.{IsLinked, control_of, held_by, held_of, local_of, own_of}
-use Rattle.wf_frames.specs.Turns.{Enters, names_of, with_own}
-use Rattle.wf_frames.specs.declared.frames.Frame.TheVariants as frame
+use Rattle.std.proofs.Common.{◌≡◌, Some, sym, ap, ◌∙◌}
+use Rattle.std.specs.Prelude.{option_map}
+use Rattle.wf_frames.specs.Frames.{left_view}
 use Rattle.wf_frames.specs.declared.frames.Left.{Left}
 use Rattle.wf_model.specs.Config.{next_of}
-use Rattle.wf_model.specs.Local.{goes}
 use Rattle.wf_steps.proofs.Performed.{with_ok}
-use Rattle.wf_moves.proofs.Raised.{raised, raised_left}
-use Rattle.wf_moves.proofs.Turning.{turn_entered, turn_fits, turn_owned, turn_refused}
-use Rattle.wf_moves.specs.Moved.{IsMove}
-use Rattle.wf_scope.specs.Store.{layers_of}
-use Rattle.wf_scope.specs.Tasks.{Own}
 use Rattle.wf_value.specs.Plain.{plain}
-use Rattle.wf_value.specs.Errors.{error_map}
-use Rattle.wf_value.specs.declared.Tag.TheVariants.{ResourceLimitError}
 use Rattle.wf_value.specs.declared.Value.{Value}
 use Rattle.wf_moves.proofs.turn.turn.Goals as goal
 
-pub returns-in_default-entered-clause-stands : goal.returns-in_default-entered-clause-stands
-returns-in_default-entered-clause-stands g c =
-    with_ok _ _ c.raises_tag.result
-    (λ w m. record { fits = c.requires.1.0.fits; linked = subst (λ o. IsLinked g.around (with_own false o (own_of c.args.frames.now)) c.enter.new.scopes) c.in_default-entered.is c.in_ok-entered.ensures.linked })
-    c.raises_tag.ensures
-
-pub returns-in_default-entered-clause-left : goal.returns-in_default-entered-clause-left
-returns-in_default-entered-clause-left g c = with_ok _ _ c.raises_tag.result (λ w m. raised_left c.args.nodes.now (inner c.args.frames.now) (error_map ResourceLimitError) w m) c.raises_tag.ensures
-
-pub returns-in_default-entered-clause-moved : goal.returns-in_default-entered-clause-moved
-returns-in_default-entered-clause-moved g c =
-    let is = c.requires.1.1 in
-    let h = held_by g.around c.args.frames.now c.args.scopes.now in
-    let names = names_of c.args.body.now.value (plain c.in-Some.both.0) c.args.body.now.index (pos c.args.index) in
-    let next : next_of (left_view c.args.left) ≡ Some (plain c.in-Some.both.0, left_view c.in-Some.both.1) = sym c.in_ok-found.ensures ∙ ap (option_map (λ (p : Value × Left). (plain p.0, left_view p.1))) c.in-Some.is in
-    with_ok _ _ c.raises_tag.result
-    (λ w m s d agrees. turn_refused g.around.spots c.args.n c.args.left c.args.index (inner c.args.frames.now) s d h c.args.nodes.now is.node c.args.body.now c.requires.0.resolves is.at is.is (plain c.in-Some.both.0) c.in-Some.both.1 next
-    (held_by g.around c.args.frames.now c.enter.new.scopes) w (local_of g.around c.args.frames.now c.enter.new.scopes)
-    (subst (λ (o : Option ℕ). Enters false s o h names (held_of g.around.keys (with_own false o (own_of c.args.frames.now)) (layers_of c.enter.new.scopes))) c.in_default-entered.is (c.in_ok-entered.ensures.entered s agrees))
-    (raised s (control_of g.around c.args.frames.now) d (held_by g.around c.args.frames.now c.enter.new.scopes) (error_map ResourceLimitError) w m))
-    c.raises_tag.ensures
-
-pub goes-requires-2 : goal.goes-requires-2
-goes-requires-2 g c =
-    let layer = c.in-Some-entered.layer in
-    let old = inner c.args.frames.now in
-    let owned_is = turn_owned c.args.frames.now.first c.push-3.new.self.first c.args.n layer (c.args.index + 1) c.in-Some.both.1 old (inner c.push.new.self) (inner c.push-2.new.self) (inner c.push-3.new.self)
-    c.in_ok-push.ensures.pushed c.in_ok-push-2.ensures.pushed c.in_ok-push-3.ensures.pushed (c.in_ok-push-3.ensures.first ∙ c.in_ok-push-2.ensures.first ∙ c.in_ok-push.ensures.first) in (
-      c.requires.0,
-      record {
-        fits = turn_fits g.around.spots c.args.nodes.now c.args.n (c.args.index + 1) layer c.args.body.now c.in-Some.both.1 old (inner c.push.new.self) (inner c.push-2.new.self) (inner c.push-3.new.self) c.requires.1.1
-            c.in_ok-push.ensures.pushed c.in_ok-push-2.ensures.pushed c.in_ok-push-3.ensures.pushed c.requires.1.0.fits;
-        linked = subst (λ os. IsLinked g.around os c.enter.new.scopes) (sym owned_is)
-            (subst (λ o. IsLinked g.around (with_own false o (own_of c.args.frames.now)) c.enter.new.scopes) c.in-Some-entered.is c.in_ok-entered.ensures.linked);
-      },
-    )
-
 pub returns-clause-moved : goal.returns-clause-moved
-returns-clause-moved g c s d agrees =
-    let is = c.requires.1.1 in
-    let layer = c.in-Some-entered.layer in
-    let old = inner c.args.frames.now in
-    let h = held_by g.around c.args.frames.now c.args.scopes.now in
-    let names = names_of c.args.body.now.value (plain c.in-Some.both.0) c.args.body.now.index (pos c.args.index) in
+returns-clause-moved g c =
     let next : next_of (left_view c.args.left) ≡ Some (plain c.in-Some.both.0, left_view c.in-Some.both.1) = sym c.in_ok-found.ensures ∙ ap (option_map (λ (p : Value × Left). (plain p.0, left_view p.1))) c.in-Some.is in
-    let owned_is = turn_owned c.args.frames.now.first c.push-3.new.self.first c.args.n layer (c.args.index + 1) c.in-Some.both.1 old (inner c.push.new.self) (inner c.push-2.new.self) (inner c.push-3.new.self)
-    c.in_ok-push.ensures.pushed c.in_ok-push-2.ensures.pushed c.in_ok-push-3.ensures.pushed (c.in_ok-push-3.ensures.first ∙ c.in_ok-push-2.ensures.first ∙ c.in_ok-push.ensures.first) in
-    turn_entered g.around.spots c.args.n c.args.left c.args.index old s d h c.args.nodes.now is.node c.args.body.now c.requires.0.resolves is.at is.is (plain c.in-Some.both.0) c.in-Some.both.1 next
-    layer (held_of g.around.keys (own layer false ∷ own_of c.args.frames.now) (layers_of c.enter.new.scopes)) c.goes-2.result (local_of g.around c.goes-2.new.frames c.goes-2.new.scopes) (inner c.push-3.new.self)
-    (subst (λ (o : Option ℕ). Enters false s o h names (held_of g.around.keys (with_own false o (own_of c.args.frames.now)) (layers_of c.enter.new.scopes))) c.in-Some-entered.is (c.in_ok-entered.ensures.entered s agrees))
-    (c.in_ok-push-3.ensures.pushed ∙ ap (λ fs. frame.Do c.args.n 0 ∷ fs) (c.in_ok-push-2.ensures.pushed ∙ ap (λ fs. frame.Mark layer ∷ fs) c.in_ok-push.ensures.pushed))
-    (subst (λ (os : List Own). IsMove s (goes (control g.around.spots (inner c.push-3.new.self)) (standing d (held_of g.around.keys os (layers_of c.enter.new.scopes)))) c.goes-2.result (local_of g.around c.goes-2.new.frames c.goes-2.new.scopes)) owned_is (c.goes-2.ensures.moved s d))
+    with_ok _ _ c.iterate.result (λ w h. h c.args.left next) c.iterate.ensures.moved

@@ -1,9 +1,7 @@
-use Rattle.std.proofs.Common.{sym, ap, ◌∙◌, arith}
+use Rattle.std.proofs.Common.{sym, ◌∙◌, arith}
 use Rattle.wf_machine.proofs.Answering.{Answerable, answerable, body_comes, body_stops}
-use Rattle.wf_machine.proofs.Applying.{done}
 use Rattle.wf_machine.proofs.Moves.{runs}
 use Rattle.wf_machine.proofs.machine.Machine.apply_answer.Goals as goal
-use Rattle.wf_machine.specs.Seen.{state_of}
 use Rattle.wf_record_parts.specs.View.{reply_view}
 use Rattle.wf_shared.specs.Events.{Event}
 
@@ -23,10 +21,7 @@ returns-then-length-tally c =
     let many = c.if-length-tally.true in
     let bounded = m.bounded in
     let waits : Answerable m c.args.call = answerable c.laws_of_waiting.ensures.matches c.numbers_are_those_of_steps.ensures m c.requires (runs m.ending (sym c.is_running.ensures ∙ c.if-not-is_running.false)) c.args.call c.task.result c.task.ensures c.if-is_none.ensures in
-    let made = c.in_ok-stop.ensures in
-    done (state_of m) (state_of c.stop.new.self) (Event.Answer c.args.call c.args.reading a)
-    (made.moved (Event.Answer c.args.call c.args.reading a) (body_stops m c.args.call waits c.args.reading a c.reply_length-length.result c.reply_length-length.ensures c.if-reading-self.false (omega (arith, many, bounded))))
-    made.program (ap (λ y. y.moves) made.tally ∙ omega arith) (ap (λ y. y.last) made.tally) (λ is. absurd (cc (made.broken.0 is)))
+    c.stop.ensures (Event.Answer c.args.call c.args.reading a) (body_stops m c.args.call waits c.args.reading a c.reply_length-length.result c.reply_length-length.ensures c.if-reading-self.false (omega (arith, many, bounded)))
 
 pub carry_on-requires-clause-comes : goal.carry_on-requires-clause-comes
 carry_on-requires-clause-comes c =
@@ -44,8 +39,8 @@ returns c =
     let few = c.if-length-tally.false in
     let bounded = m.bounded in
     let waits : Answerable m c.args.call = answerable c.laws_of_waiting.ensures.matches c.numbers_are_those_of_steps.ensures m c.requires (runs m.ending (sym c.is_running.ensures ∙ c.if-not-is_running.false)) c.args.call c.task.result c.task.ensures c.if-is_none.ensures in
-    let made = c.in_ok-carry_on.ensures in
-    done (state_of m) (state_of c.carry_on.new.self) (Event.Answer c.args.call c.args.reading a)
-    (made.moved (Event.Answer c.args.call c.args.reading a)
-    (body_comes m c.args.call waits c.args.reading a c.in-Ok.with c.reply_length-length.result c.reply_length-length.ensures c.if-reading-self.false (omega (arith, few, bounded)) c.in-Ok.ensures.result c.in-Ok.ensures.shallow))
-    made.program (ap (λ y. y.moves) made.tally ∙ omega arith) (ap (λ y. y.last) made.tally) (λ is. absurd (cc (made.broken.0 is)))
+    c.carry_on.ensures (Event.Answer c.args.call c.args.reading a)
+    (body_comes m c.args.call waits c.args.reading a c.in-Ok.with c.reply_length-length.result c.reply_length-length.ensures c.if-reading-self.false (omega (arith, few, bounded)) c.in-Ok.ensures.result c.in-Ok.ensures.shallow)
+
+pub returns-in_default : goal.returns-in_default
+returns-in_default c = c.break_off.ensures (Event.Answer c.args.call c.args.reading (reply_view c.args.reply.now))

@@ -4,6 +4,7 @@ use Rattle.std.specs.Prelude.{is_some}
 use Rattle.wf_alone.proofs.Reached.{reached_next}
 use Rattle.wf_check.specs.Seen.{nodes_of, program_of}
 use Rattle.wf_frames.proofs.Standing.{standing}
+use Rattle.wf_machine.proofs.Applying.{done}
 use Rattle.wf_machine.proofs.Going.{goes_on, has_ended, logged_shallow, shallow, suits_here}
 use Rattle.wf_machine.proofs.Moves.{not_running, stays_on}
 use Rattle.wf_machine.proofs.Places.{can_go_on, stands_now, tells_of}
@@ -22,41 +23,45 @@ go_on-requires c =
 
 pub ending_of-requires : goal.ending_of-requires
 ending_of-requires c =
-    record { shallow = logged_shallow c.never_wrong.ensures c.args.self.now c.args.cause c.args.now c.args.tally c.requires.comes.0 c.requires.comes.1 c.in-Some.task (sym c.in-Some.ensures.value) c.count-self.result c.count-self.ensures.count c.size-self.result c.size-self.ensures c.go_on.new.task c.go_on.new.scopes c.in-Ok.did c.in-Ok.ensures.moved }
+    record { shallow = logged_shallow c.never_wrong.ensures c.args.self.now c.args.cause c.args.now c.args.tally c.requires.comes.0 c.requires.comes.1 c.in-Some.task (sym c.in-Some.ensures.value) c.count-self.result c.count-self.ensures.count c.size-self.result c.size-self.ensures c.go_on.new.task c.go_on.new.scopes c.in_ok-did.did c.in_ok-did.ensures.moved }
 
-pub returns-then-is_running-clause-moved : goal.returns-then-is_running-clause-moved
-returns-then-is_running-clause-moved c = λ e comes.
-    goes_on c.never_wrong.ensures c.args.self.now c.args.cause c.args.now c.args.tally e comes c.in-Some.task (sym c.in-Some.ensures.value) c.count-self.result c.count-self.ensures.count c.size-self.result c.size-self.ensures c.go_on.new.task c.go_on.new.scopes c.in-Ok.did c.in-Ok.ensures.moved
-    c.in-Ok-ending_of.ending c.ending_of.new.calls c.ending_of.new.log c.in-Ok-ending_of.ensures.outcome (c.in-Ok-ending_of.ensures.calls ∙ ap (calls_behind c.in-Ok.did) c.in-Ok.ensures.calls) c.in-Ok-ending_of.ensures.log (sym c.is_running.ensures ∙ c.if-is_running.true)
+pub returns-then-is_running : goal.returns-then-is_running
+returns-then-is_running c = λ e comes.
+    done _ _ e
+    (goes_on c.never_wrong.ensures c.args.self.now c.args.cause c.args.now c.args.tally e comes c.in-Some.task (sym c.in-Some.ensures.value) c.count-self.result c.count-self.ensures.count c.size-self.result c.size-self.ensures c.go_on.new.task c.go_on.new.scopes c.in_ok-did.did c.in_ok-did.ensures.moved
+    c.in_ok-ending.ending c.ending_of.new.calls c.ending_of.new.log c.in_ok-ending.ensures.outcome (c.in_ok-ending.ensures.calls ∙ ap (calls_behind c.in_ok-did.did) c.in_ok-did.ensures.calls) c.in_ok-ending.ensures.log (sym c.is_running.ensures ∙ c.if-is_running.true))
+    refl comes.tallies.counted comes.tallies.last (λ is. cc is)
 
-pub returns-else-is_running-clause-moved : goal.returns-else-is_running-clause-moved
-returns-else-is_running-clause-moved c = λ e comes.
+pub returns-else-is_running : goal.returns-else-is_running
+returns-else-is_running c = λ e comes.
     let m = c.args.self.now in
-    has_ended c.never_wrong.ensures c.args.self.now c.args.cause c.args.now c.args.tally e comes c.in-Some.task (sym c.in-Some.ensures.value) c.count-self.result c.count-self.ensures.count c.size-self.result c.size-self.ensures c.go_on.new.task c.go_on.new.scopes c.in-Ok.did c.in-Ok.ensures.moved
-    c.in-Ok-ending_of.ending c.ending_of.new.calls c.ending_of.new.log c.in-Ok-ending_of.ensures.outcome (c.in-Ok-ending_of.ensures.calls ∙ ap (calls_behind c.in-Ok.did) c.in-Ok.ensures.calls) c.in-Ok-ending_of.ensures.log (sym c.is_running.ensures ∙ c.if-is_running.false)
-    ∙ sym (ap (λ o. To (config_of (program_of m.program) m.facts c.args.tally o c.go_on.new.scopes c.ending_of.new.calls c.ending_of.new.log c.in-Ok-ending_of.ending)) c.take.ensures.after)
+    done _ _ e
+    (has_ended c.never_wrong.ensures c.args.self.now c.args.cause c.args.now c.args.tally e comes c.in-Some.task (sym c.in-Some.ensures.value) c.count-self.result c.count-self.ensures.count c.size-self.result c.size-self.ensures c.go_on.new.task c.go_on.new.scopes c.in_ok-did.did c.in_ok-did.ensures.moved
+    c.in_ok-ending.ending c.ending_of.new.calls c.ending_of.new.log c.in_ok-ending.ensures.outcome (c.in_ok-ending.ensures.calls ∙ ap (calls_behind c.in_ok-did.did) c.in_ok-did.ensures.calls) c.in_ok-ending.ensures.log (sym c.is_running.ensures ∙ c.if-is_running.false)
+    ∙ sym (ap (λ o. To (config_of (program_of m.program) m.facts c.args.tally o c.go_on.new.scopes c.ending_of.new.calls c.ending_of.new.log c.in_ok-ending.ending)) c.take.ensures.after))
+    refl comes.tallies.counted comes.tallies.last (λ is. cc is)
 
 pub invariant_of-self-then-is_running-clause-standing : goal.invariant_of-self-then-is_running-clause-standing
 invariant_of-self-then-is_running-clause-standing c =
     let m = c.args.self.now in
     let u = c.go_on.new.task in
-    (standing (around (program_of m.program)) (nodes_of m.program) u.frames c.go_on.new.scopes c.in-Ok.ensures.stands, stays_on (nodes_of m.program) c.in-Ok.did u c.in-Ok-ending_of.ending c.in-Ok-ending_of.ensures.outcome (sym c.is_running.ensures ∙ c.if-is_running.true) c.in-Ok.ensures.left)
+    (standing (around (program_of m.program)) (nodes_of m.program) u.frames c.go_on.new.scopes c.in_ok-did.ensures.stands, stays_on (nodes_of m.program) c.in_ok-did.did u c.in_ok-ending.ending c.in_ok-ending.ensures.outcome (sym c.is_running.ensures ∙ c.if-is_running.true) c.in_ok-did.ensures.left)
 
 pub invariant_of-self-then-is_running-clause-reached : goal.invariant_of-self-then-is_running-clause-reached
 invariant_of-self-then-is_running-clause-reached c =
     let m = c.args.self.now in
     let p = program_of m.program in
-    ∥∥₁_map m.reached (λ reached some. reached_next p (state_of m).config (config_of p m.facts c.args.tally (Some c.go_on.new.task) c.go_on.new.scopes c.ending_of.new.calls c.ending_of.new.log c.in-Ok-ending_of.ending) c.requires.comes.0 (reached (ap is_some (sym c.in-Some.ensures.value)))
-    (goes_on c.never_wrong.ensures c.args.self.now c.args.cause c.args.now c.args.tally c.requires.comes.0 c.requires.comes.1 c.in-Some.task (sym c.in-Some.ensures.value) c.count-self.result c.count-self.ensures.count c.size-self.result c.size-self.ensures c.go_on.new.task c.go_on.new.scopes c.in-Ok.did c.in-Ok.ensures.moved
-    c.in-Ok-ending_of.ending c.ending_of.new.calls c.ending_of.new.log c.in-Ok-ending_of.ensures.outcome (c.in-Ok-ending_of.ensures.calls ∙ ap (calls_behind c.in-Ok.did) c.in-Ok.ensures.calls) c.in-Ok-ending_of.ensures.log (sym c.is_running.ensures ∙ c.if-is_running.true)))
+    ∥∥₁_map m.reached (λ reached some. reached_next p (state_of m).config (config_of p m.facts c.args.tally (Some c.go_on.new.task) c.go_on.new.scopes c.ending_of.new.calls c.ending_of.new.log c.in_ok-ending.ending) c.requires.comes.0 (reached (ap is_some (sym c.in-Some.ensures.value)))
+    (goes_on c.never_wrong.ensures c.args.self.now c.args.cause c.args.now c.args.tally c.requires.comes.0 c.requires.comes.1 c.in-Some.task (sym c.in-Some.ensures.value) c.count-self.result c.count-self.ensures.count c.size-self.result c.size-self.ensures c.go_on.new.task c.go_on.new.scopes c.in_ok-did.did c.in_ok-did.ensures.moved
+    c.in_ok-ending.ending c.ending_of.new.calls c.ending_of.new.log c.in_ok-ending.ensures.outcome (c.in_ok-ending.ensures.calls ∙ ap (calls_behind c.in_ok-did.did) c.in_ok-did.ensures.calls) c.in_ok-ending.ensures.log (sym c.is_running.ensures ∙ c.if-is_running.true)))
 
 pub invariant_of-self-then-is_running-clause-running : goal.invariant_of-self-then-is_running-clause-running
 invariant_of-self-then-is_running-clause-running c = λ whole run. (refl, c.requires.below)
 
 pub invariant_of-self-then-is_running-clause-shallow : goal.invariant_of-self-then-is_running-clause-shallow
 invariant_of-self-then-is_running-clause-shallow c =
-    subst (λ o. outcome_depth o ≤ 100) (sym c.in-Ok-ending_of.ensures.outcome)
-    (shallow c.never_wrong.ensures c.args.self.now c.args.cause c.args.now c.args.tally c.requires.comes.0 c.requires.comes.1 c.in-Some.task (sym c.in-Some.ensures.value) c.count-self.result c.count-self.ensures.count c.size-self.result c.size-self.ensures c.go_on.new.task c.go_on.new.scopes c.in-Ok.did c.in-Ok.ensures.moved)
+    subst (λ o. outcome_depth o ≤ 100) (sym c.in_ok-ending.ensures.outcome)
+    (shallow c.never_wrong.ensures c.args.self.now c.args.cause c.args.now c.args.tally c.requires.comes.0 c.requires.comes.1 c.in-Some.task (sym c.in-Some.ensures.value) c.count-self.result c.count-self.ensures.count c.size-self.result c.size-self.ensures c.go_on.new.task c.go_on.new.scopes c.in_ok-did.did c.in_ok-did.ensures.moved)
 
 pub invariant_of-self-then-is_running-clause-most : goal.invariant_of-self-then-is_running-clause-most
 invariant_of-self-then-is_running-clause-most c = let lt = c.requires.below in omega (arith, lt)
@@ -70,12 +75,12 @@ pub invariant_of-self-else-is_running-clause-reached : goal.invariant_of-self-el
 invariant_of-self-else-is_running-clause-reached c = ∥∥₁_map c.args.self.now.reached (λ reached some. absurd (let no : false ≡ true = sym (ap is_some c.take.ensures.after) ∙ some in cc no))
 
 pub invariant_of-self-else-is_running-clause-running : goal.invariant_of-self-else-is_running-clause-running
-invariant_of-self-else-is_running-clause-running c = λ whole run. absurd (not_running c.in-Ok-ending_of.ending (sym c.is_running.ensures ∙ c.if-is_running.false) run)
+invariant_of-self-else-is_running-clause-running c = λ whole run. absurd (not_running c.in_ok-ending.ending (sym c.is_running.ensures ∙ c.if-is_running.false) run)
 
 pub invariant_of-self-else-is_running-clause-shallow : goal.invariant_of-self-else-is_running-clause-shallow
 invariant_of-self-else-is_running-clause-shallow c =
-    subst (λ o. outcome_depth o ≤ 100) (sym c.in-Ok-ending_of.ensures.outcome)
-    (shallow c.never_wrong.ensures c.args.self.now c.args.cause c.args.now c.args.tally c.requires.comes.0 c.requires.comes.1 c.in-Some.task (sym c.in-Some.ensures.value) c.count-self.result c.count-self.ensures.count c.size-self.result c.size-self.ensures c.go_on.new.task c.go_on.new.scopes c.in-Ok.did c.in-Ok.ensures.moved)
+    subst (λ o. outcome_depth o ≤ 100) (sym c.in_ok-ending.ensures.outcome)
+    (shallow c.never_wrong.ensures c.args.self.now c.args.cause c.args.now c.args.tally c.requires.comes.0 c.requires.comes.1 c.in-Some.task (sym c.in-Some.ensures.value) c.count-self.result c.count-self.ensures.count c.size-self.result c.size-self.ensures c.go_on.new.task c.go_on.new.scopes c.in_ok-did.did c.in_ok-did.ensures.moved)
 
 pub invariant_of-self-else-is_running-clause-most : goal.invariant_of-self-else-is_running-clause-most
 invariant_of-self-else-is_running-clause-most c = let lt = c.requires.below in omega (arith, lt)

@@ -1,41 +1,16 @@
-use Rattle.std.proofs.Common.{sym, subst}
-use Rattle.wf_frames.specs.Frames.{inner}
-use Rattle.wf_frames.specs.Owned.{local_of}
-use Rattle.wf_moves.proofs.Waiting.{awake_local, went_left}
-use Rattle.wf_moves.specs.Moved.{IsEnd, IsMove, IsWent}
-use Rattle.wf_moves.specs.Retries.{IsLed, IsLedSo}
-use Rattle.wf_moves.specs.declared.task.Task.{Task}
+use Rattle.std.proofs.Common.{sym, ap, subst, ◌∙◌}
+use Rattle.wf_moves.proofs.Waiting.{behind_moves, behind_stays, behind_unsent}
+use Rattle.wf_moves.specs.Tasks.{MovesSo, Stays, is_sent}
+use Rattle.wf_moves.specs.Waits.{task_local}
 use Rattle.wf_moves.proofs.task.Task.follow.Goals as goal
 
-pub returns-in-Goes-clause-moved : goal.returns-in-Goes-clause-moved
-returns-in-Goes-clause-moved g c s m sees agrees h =
-    let w = c.args.self.now.wait in
-    let awake = c.requires.1.1.1.1 in
-    let here = subst (λ l. IsMove s m c.args.went l) (awake_local g.around w c.args.self.now.frames c.args.scopes.now awake) h in
-    subst (IsWent m) (sym (awake_local g.around w c.lead.new.frames c.lead.new.scopes awake))
-    (subst (λ d. IsLed g.around m d (local_of g.around c.lead.new.frames c.lead.new.scopes)) c.in-Goes.is (c.in_ok-led.ensures.moved s m sees.last agrees here))
+pub returns-clause-moved : goal.returns-clause-moved
+returns-clause-moved g c s m sees agrees h =
+    let l = task_local g.around c.stand.new.self c.stand.new.scopes in
+    subst (λ d. MovesSo m d l) (sym c.move_by.ensures) (behind_moves m c.in_ok-behind.behind l (c.in_ok-behind.ensures.moved s m sees agrees h))
 
-pub returns-in-Goes-clause-left : goal.returns-in-Goes-clause-left
-returns-in-Goes-clause-left g c =
-    let t : Task = record { alloc = c.args.self.now.alloc; frames = c.lead.new.frames; wait = c.args.self.now.wait } in
-    went_left c.args.nodes.now t c.requires.1.1.1.1 (subst (λ d. IsLedSo c.args.nodes.now d (inner c.lead.new.frames)) c.in-Goes.is c.in_ok-led.ensures.left)
+pub returns-clause-left : goal.returns-clause-left
+returns-clause-left g c = subst (λ d. Stays c.args.nodes.now d c.stand.new.self) (sym c.move_by.ensures) (behind_stays c.args.nodes.now c.in_ok-behind.behind c.stand.new.self c.in_ok-behind.ensures.left)
 
-pub returns-in-Ended-clause-moved : goal.returns-in-Ended-clause-moved
-returns-in-Ended-clause-moved g c s m sees agrees h =
-    let w = c.args.self.now.wait in
-    let awake = c.requires.1.1.1.1 in
-    let here = subst (λ l. IsMove s m c.args.went l) (awake_local g.around w c.args.self.now.frames c.args.scopes.now awake) h in
-    subst (IsEnd m c.in-Ended.end) (sym (awake_local g.around w c.lead.new.frames c.lead.new.scopes awake))
-    (subst (λ d. IsLed g.around m d (local_of g.around c.lead.new.frames c.lead.new.scopes)) c.in-Ended.is (c.in_ok-led.ensures.moved s m sees.last agrees here))
-
-pub returns-in-Ended-clause-left : goal.returns-in-Ended-clause-left
-returns-in-Ended-clause-left g c = subst (λ d. IsLedSo c.args.nodes.now d (inner c.lead.new.frames)) c.in-Ended.is c.in_ok-led.ensures.left
-
-pub returns-in-Waits-clause-moved : goal.returns-in-Waits-clause-moved
-returns-in-Waits-clause-moved g c s m sees agrees h =
-    let w = c.args.self.now.wait in
-    let here = subst (λ l. IsMove s m c.args.went l) (awake_local g.around w c.args.self.now.frames c.args.scopes.now c.requires.1.1.1.1) h in
-    subst (λ d. IsLed g.around m d (local_of g.around c.lead.new.frames c.lead.new.scopes)) c.in-Waits.is (c.in_ok-led.ensures.moved s m sees.last agrees here)
-
-pub returns-in-Waits-clause-left : goal.returns-in-Waits-clause-left
-returns-in-Waits-clause-left g c = subst (λ d. IsLedSo c.args.nodes.now d (inner c.lead.new.frames)) c.in-Waits.is c.in_ok-led.ensures.left
+pub returns-clause-nothing_sent : goal.returns-clause-nothing_sent
+returns-clause-nothing_sent g c = ap is_sent c.move_by.ensures ∙ behind_unsent c.in_ok-behind.behind

@@ -1,4 +1,4 @@
 use Rattle.wf_moves.proofs.task.Task.follow.Given as goal
 
-abbrev pub ghost-lead : goal.ghost-lead
-ghost-lead g a = g.around
+abbrev pub ghost-stand : goal.ghost-stand
+ghost-stand g a = g.around

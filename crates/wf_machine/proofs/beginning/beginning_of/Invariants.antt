@@ -1,5 +1,5 @@
 use Rattle.wf_check.specs.Seen.{program_of}
-use Rattle.wf_machine.proofs.machine.Machine.new.Given as goal
+use Rattle.wf_machine.proofs.beginning.beginning_of.Given as goal
 
 abbrev pub ghost-first_task : goal.ghost-first_task
 ghost-first_task a = program_of a.program.now

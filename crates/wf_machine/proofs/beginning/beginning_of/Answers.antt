@@ -1,0 +1,23 @@
+use Rattle.std.proofs.Common.{refl, sym, ap, ◌∙◌, subst}
+use Rattle.std.specs.Prelude.{IfSome}
+use Rattle.wf_check.specs.Seen.{nodes_of, program_of}
+use Rattle.wf_machine.proofs.Places.{tells_of}
+use Rattle.wf_machine.proofs.beginning.beginning_of.Goals as goal
+use Rattle.wf_machine.specs.Main.{Aims, Begins}
+use Rattle.wf_steps.specs.Built.{is_table_built}
+
+pub first_task-requires : goal.first_task-requires
+first_task-requires c =
+    let built = ap is_table_built (sym c.nodes.ensures.nodes) ∙ sym c.are_built.ensures ∙ c.if-not-are_built.false in
+    (tells_of c.args.program.now built, record { empty = c.in_ok-scopes.ensures.empty; keys = refl; others = refl; limit = c.in_ok-scopes.ensures.limit })
+
+pub returns-clause-built : goal.returns-clause-built
+returns-clause-built c = ap is_table_built (sym c.nodes.ensures.nodes) ∙ sym c.are_built.ensures ∙ c.if-not-are_built.false
+
+pub returns-clause-aims : goal.returns-clause-aims
+returns-clause-aims c =
+    let p = c.args.program.now in
+    subst (λ o. IfSome o (λ v. Aims (program_of p) (nodes_of p) v.items)) c.in-Some.is c.in_ok-found.ensures
+
+pub returns-clause-begins : goal.returns-clause-begins
+returns-clause-begins c = subst (λ v. Begins (program_of c.args.program.now) v c.in_ok-task.task c.first_task.new.scopes) c.in_ok-argument.ensures c.in_ok-task.ensures.begins

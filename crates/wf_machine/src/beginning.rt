@@ -1,0 +1,68 @@
+// What a machine begins with.
+ghost use Rattle.std.specs.Prelude.{◌≡◌, true, IfOk, OnOk};
+ghost use Rattle.wf_alone.specs.Machine.{argument_of};
+ghost use Rattle.wf_check.specs.Seen.{nodes_of, program_of};
+ghost use Rattle.wf_events.specs.View.{start_view};
+ghost use Rattle.wf_machine.specs.Facts.{facts_of, facts_view};
+ghost use Rattle.wf_machine.specs.Main.{Aims, Begins, IsStanding};
+ghost use Rattle.wf_steps.specs.Built.{is_table_built};
+
+use crate::argument::argument_of;
+use crate::facts::Facts;
+use crate::targets::targets_of;
+use crate::task::first_task;
+use std::alloc::Global;
+use wf_check::Checked;
+use wf_events::Start;
+use wf_moves::Task;
+use wf_scope::Scopes;
+use wf_steps::{Target, are_built};
+use wf_value::OutOfMemory;
+
+/// What all variables together may come to, under the first rules.
+const VARIABLE_LIMIT: u64 = 65_536;
+
+/// What a machine begins with beside its program: what calls name, what is kept of the start, `main` before its first step if it has one,
+/// and the layers of its variables.
+#[derive(Drop)]
+pub(crate) struct Beginning {
+    pub(crate) targets: Vec<Target>,
+    pub(crate) facts: Facts,
+    pub(crate) task: Option<Task>,
+    pub(crate) scopes: Scopes,
+}
+
+/// What a machine begins with at a start. A form whose moves aren't built, and a call that names nothing, are answered as if there were no
+/// memory: the checker refuses them.
+pub(crate) fn beginning_of(
+    alloc: Global,
+    start: &Start,
+    program: &Checked,
+) -> Result<Beginning, OutOfMemory>
+    ensures built { OnOk result (is_table_built (nodes_of program.now) ≡ true) }
+    ensures aims { IfOk result (λ b. Aims (program_of program.now) (nodes_of program.now)
+        b.targets.items) }
+    ensures facts { IfOk result (λ b. facts_view b.facts ≡ facts_of (start_view start.now)) }
+    ensures begins { IfOk result (λ b. Begins (program_of program.now)
+        (argument_of (start_view start.now)) b.task b.scopes) }
+    ensures standing { IfOk result (λ b. IsStanding (program_of program.now)
+        (nodes_of program.now) b.task b.scopes) }
+{
+    if !are_built(program.nodes()) {
+        return Err(OutOfMemory);
+    }
+    let found = targets_of(alloc, program)?;
+    let Some(targets) = found else {
+        return Err(OutOfMemory);
+    };
+    let facts = Facts::of(alloc, start)?;
+    let argument = argument_of(alloc, start)?;
+    let mut scopes = Scopes::new(alloc, VARIABLE_LIMIT)?;
+    let task = first_task(alloc, program, argument, &mut scopes)?;
+    Ok(Beginning {
+        targets,
+        facts,
+        task,
+        scopes,
+    })
+}
