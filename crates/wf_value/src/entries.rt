@@ -12,6 +12,7 @@ use crate::measure::Measure;
 use crate::sharing::own_entries;
 use crate::value::Entries;
 use crate::{OutOfMemory, Text, Value};
+use std::cmp::Ordering;
 use std::mem;
 use std::rc::Rc;
 
@@ -126,7 +127,27 @@ fn seek(pairs: &[(Text, Value)], key: &str) -> Result<usize, usize>
     ensures place { result ≡ seek (key_cmp key.now) pairs.now }
     ensures within { IsSearchInRange result (length pairs.now) }
 {
-    pairs.binary_search_by(|pair| pair.0.as_str().cmp(&key))
+    pairs.binary_search_by(|pair| order(pair.0.as_str(), key))
+}
+
+// The order of two keys. Most are settled by their first bytes, which `cmp` doesn't look at first.
+fn order(a: &str, b: &str) -> Ordering
+    ensures { result ≡ key_cmp a.now b.now }
+{
+    let (x, y) = (a.as_bytes(), b.as_bytes());
+    if x.is_empty() || y.is_empty() {
+        return a.cmp(b);
+    }
+    if x[0] < y[0] {
+        return Ordering::Less;
+    }
+    if x[0] > y[0] {
+        return Ordering::Greater;
+    }
+    if x.len() == 1 && y.len() == 1 {
+        return Ordering::Equal;
+    }
+    a.cmp(b)
 }
 
 fn put(
