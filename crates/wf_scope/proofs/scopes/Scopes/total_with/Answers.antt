@@ -3,8 +3,8 @@ use Rattle.wf_scope.proofs.Numbers.{live_found}
 use Rattle.wf_scope.proofs.Totals.{counted_within, total_put}
 use Rattle.wf_scope.proofs.scopes.Scopes.total_with.Goals as goal
 
-pub overflow_sub-self-counted : goal.overflow_sub-self-counted
-overflow_sub-self-counted c =
+pub overflow_sub-rest : goal.overflow_sub-rest
+overflow_sub-rest c =
     let s = c.args.self.now in
     counted_within c.args.number c.args.name.now s.layers.items c.args.counted s.total c.requires.live s.counted c.requires.counted
 
