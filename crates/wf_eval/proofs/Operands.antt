@@ -6,7 +6,6 @@ use Rattle.wf_postfix.specs.Machine.{Next, Stack, act, exec}
 use Rattle.wf_postfix.specs.declared.code.Instr.{Instr}
 use Rattle.wf_value.specs.Data.{Data}
 use Rattle.wf_value.specs.Errors.{Answer, ◌>>=◌}
-use Rattle.wf_value.specs.Plain.{plain}
 use Rattle.wf_value.specs.declared.errors.Raise.{Raise}
 use Rattle.wf_value.specs.declared.errors.Raise.TheVariants.{Error, OutOfMemory}
 use Rattle.wf_value.specs.declared.value.Value.{Value}
