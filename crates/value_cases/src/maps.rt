@@ -31,6 +31,10 @@ fn called(alloc: Global, map: &mut Map, call: &Value) -> Result<String, CaseFaul
             let old = map.insert(key.copy()?, value.copy(alloc)?)?;
             written_if(alloc, old.as_ref())
         }
+        ("put", [Value::Text(key), value]) => {
+            let old = map.put(alloc, key.as_str(), value.copy(alloc)?)?;
+            written_if(alloc, old.as_ref())
+        }
         ("remove", [Value::Text(key)]) => {
             let old = map.remove(key.as_str())?;
             written_if(alloc, old.as_ref())

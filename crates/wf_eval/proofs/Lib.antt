@@ -5,3 +5,4 @@ pub mod Digits
 pub mod Arguments
 pub mod Filled
 pub mod Library
+pub mod Operands

@@ -9,6 +9,7 @@ use Rattle.wf_value.specs.declared.errors.Raise.{Raise}
 use Rattle.wf_value.specs.declared.errors.Raise.TheVariants.{Error, OutOfMemory}
 use Rattle.wf_value.specs.declared.errors.Tag.TheVariants.{TypeError}
 use Rattle.wf_value.specs.declared.value.Value.{Value}
+use Rattle.wf_eval.specs.Sight.{Sight, seen}
 
 -- the stack, the topmost first
 abbrev pub tops : List Value → Stack
@@ -27,6 +28,20 @@ Steps s i st r after = Leads (λ next. act s i next st) r after
 -- a value goes on the stack, if it keeps within the limits
 abbrev pub settled : Answer Data → Stack → Next → Answer Stack
 settled d st next = d >>= kept >>= λ x. next 0 (x ∷ st)
+
+-- nothing comes next
+abbrev pub alone : Next
+alone k st = Ok st
+
+-- this value is left alone, or the error comes
+abbrev pub Leaves : Result Value Raise → Answer Stack → Type 0
+Leaves (Ok v) a = a ≡ Ok (plain v ∷ [])
+Leaves (Err (Error t)) a = a ≡ Err t
+Leaves (Err OutOfMemory) a = Unit {0}
+
+-- an instruction puts this value on the stack, and does nothing else
+abbrev pub IsOperand : Sight → Instr → Data → Type 0
+IsOperand s i d = (now : ℕ) (next : Next) (st : Stack) → act (seen s now) i next st ≡ next 0 (d ∷ st)
 
 -- a value that was put on the stack
 abbrev pub Pushes : Result ℕ Raise → Stack → Stack → Type 0

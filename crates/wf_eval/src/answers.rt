@@ -1,5 +1,5 @@
 //! Values as answers.
-ghost use Rattle.std.specs.Prelude.{Ok};
+ghost use Rattle.std.specs.Prelude.{◌≡◌, IsTrue, Ok};
 ghost use Rattle.wf_ast.specs.Eval.{truth, whole};
 ghost use Rattle.wf_value.specs.Data.{text};
 ghost use Rattle.wf_value.specs.Errors.{kept};
@@ -23,6 +23,13 @@ pub fn keep(v: Value) -> Result<Value, Raise>
     } else {
         Err(Raise::Error(Tag::ResourceLimitError))
     }
+}
+
+/// Whether the value keeps within the limits.
+pub(crate) fn is_kept(v: &Value) -> bool
+    ensures { IsTrue result → kept (plain v.now) ≡ Ok (plain v.now) }
+{
+    v.size() <= MAX_SIZE && v.depth() <= MAX_DEPTH
 }
 
 /// A truth value.

@@ -9,6 +9,7 @@ mod look;
 mod machine;
 mod members;
 mod operators;
+mod short;
 
 pub use answers::{copied, keep, owned};
 pub use calling::apply;

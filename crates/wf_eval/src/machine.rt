@@ -20,6 +20,7 @@ use crate::calling::apply;
 use crate::look::Look;
 use crate::members::{at_index, at_key};
 use crate::operators::operate;
+use crate::short::short;
 use std::alloc::Global;
 use wf_ast::{Func, Op};
 use wf_postfix::{Instr, Postfix, code_means};
@@ -31,6 +32,9 @@ pub fn eval<K: Look>(alloc: Global, e: &Postfix, look: &K, now: u64) -> Result<V
         → Gives result (meaning.eval x (seen (K.sight look.now) now)) }
 {
     code_means();
+    if let Some(value) = short(alloc, e.items(), look) {
+        return value;
+    }
     let mut stack = Vec::new(alloc);
     let mut skip = 0;
     for i in e.items() {

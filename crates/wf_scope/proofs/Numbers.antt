@@ -91,6 +91,18 @@ search_misses n ls i h live parted =
       | inr behind ↦ let more = ranked (get_or ls j l).number n Greater (sym (parts.1 j l behind within)) in omega (arith, more, number)
     ]
 
+-- a layer that was read at its place
+pub placed : (n : ℕ) (ls : List Layer) (i : ℕ) (l : Layer) → rises ls ≡ true → slice_get ls i ≡ Some l → l.number ≡ n → slice_get ls i ≡ find n ls
+placed n [] i l h e m = cc
+placed n (x ∷ ls) zero l h e m =
+    let same : x ≡ l = cc in
+    sym (find_head n x ls (eq-eqb x.number n (ap (λ (y : Layer). y.number) same ∙ m)))
+placed n (x ∷ ls) (suc i) l h e m =
+    let two = and_parts (all_above x.number ls) (rises ls) h in
+    let above = above_at x.number ls i l two.0 (slice_get_within ls i l e) in
+    let number = ap (λ (y : Layer). y.number) (get_or_from_slice_get ls i l l e) in
+    placed n ls i l two.1 e m ∙ sym (find_tail n x ls (ne_eqb x.number n (λ s. omega (arith, above, number, m, s))))
+
 -- what a search of some layers answers
 pub searched : (n : ℕ) (ls xs : List Layer) (i : ℕ) (r : Result ℕ ℕ) → xs ≡ ls → r ≡ Ok i → rises ls ≡ true → IsSearchInRange r (length xs) → IsBinarySearchResult (λ l. nat_cmp l.number n) xs r → slice_get ls i ≡ find n ls
 searched n ls xs i r e f h bound at =

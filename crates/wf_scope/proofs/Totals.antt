@@ -12,10 +12,10 @@ use Rattle.std.proofs.lemmas.Map.Keys.{sorted_tail}
 use Rattle.wf_value.specs.Data.{Data, size, pairs_size, pairs_of}
 use Rattle.wf_value.specs.Maps.{IsInOrder, key_cmp, value_at, with_value}
 use Rattle.wf_value.specs.Pairs.{Text}
-use Rattle.wf_scope.specs.Layers.{closed, find, put_at, total_of, variable_size, vars_at, with_variable}
+use Rattle.wf_scope.specs.Layers.{IsLive, closed, find, put_at, total_of, variable_size, vars_at, with_variable}
 use Rattle.wf_scope.specs.declared.layer.Layer.{Layer}
 use Rattle.wf_scope.proofs.Kept.{closed_head, closed_tail}
-use Rattle.wf_scope.proofs.Numbers.{found_cases}
+use Rattle.wf_scope.proofs.Numbers.{found_cases, live_found}
 use Rattle.wf_scope.proofs.Seen.{vars_found}
 
 -- ## Layers
@@ -71,13 +71,27 @@ put_total n x v (l ∷ ls) d e o = elim (found_cases n l ls d e) [
 
 -- what a variable counts, where its layer has been found
 pub counted_some : (n : ℕ) (x : Text) (v : Data) (ls : List Layer) (l : Layer) (r total : ℕ) → find n ls ≡ Some l → value_at x l.vars ≡ Some v → total ≡ total_of ls → total ≤ 18446744073709551613 → r ≡ min (2 + length x + size v) 18446744073709551615
-    → (r ≡ variable_size x (value_at x (vars_at n ls))) × (r ≤ total)
+    → r ≡ variable_size x (value_at x (vars_at n ls))
 counted_some n x v ls l r total f e t room is =
     let here : variable_size x (value_at x l.vars) ≡ 2 + length x + size v = ap (variable_size x) e in
     let there : variable_size x (value_at x (vars_at n ls)) ≡ variable_size x (value_at x l.vars) = ap (λ ps. variable_size x (value_at x ps)) (vars_found n ls l f) in
     let within = variable_within x l.vars in
     let all = total_closed n ls l f in
-    (omega (arith, here, there, within, all, is, room, t), omega (arith, here, within, all, is, room, t))
+    omega (arith, here, there, within, all, is, room, t)
+
+-- the same of a live layer
+pub counted_held : (n : ℕ) (x : Text) (v : Data) (ls : List Layer) (r total : ℕ) → IsLive n ls → value_at x (vars_at n ls) ≡ Some v → total ≡ total_of ls → total ≤ 18446744073709551613 → r ≡ min (2 + length x + size v) 18446744073709551615
+    → r ≡ variable_size x (value_at x (vars_at n ls))
+counted_held n x v ls r total live e t room is =
+    let found = live_found n ls live in
+    counted_some n x v ls found.0 r total found.1 (sym (ap (value_at x) (vars_found n ls found.0 found.1)) ∙ e) t room is
+
+-- it is at most what all count
+pub counted_within : (n : ℕ) (x : Text) (ls : List Layer) (r total : ℕ) → IsLive n ls → total ≡ total_of ls → r ≡ variable_size x (value_at x (vars_at n ls)) → r ≤ total
+counted_within n x ls r total live t is =
+    let found = live_found n ls live in
+    let there : variable_size x (value_at x (vars_at n ls)) ≡ variable_size x (value_at x found.0.vars) = ap (λ ps. variable_size x (value_at x ps)) (vars_found n ls found.0 found.1) in
+    omega (arith, there, variable_within x found.0.vars, total_closed n ls found.0 found.1, is, t)
 
 pub counted_none : (n : ℕ) (x : Text) (ls : List Layer) (l : Layer) → find n ls ≡ Some l → value_at x l.vars ≡ None → 0 ≡ variable_size x (value_at x (vars_at n ls))
 counted_none n x ls l f e = sym (ap (λ ps. variable_size x (value_at x ps)) (vars_found n ls l f) ∙ ap (variable_size x) e)

@@ -4,7 +4,7 @@ ghost use Rattle.wf_scope.specs.Layers.{with_variable};
 ghost use Rattle.wf_value.specs.Plain.{plain};
 
 use std::alloc::Global;
-use wf_value::{Map, OutOfMemory, Text, Value};
+use wf_value::{Map, OutOfMemory, Value};
 
 /// Variables by their names. A layer has a number, that of the layer outside it, if there is one, and the count of those around it.
 #[derive(Drop)]
@@ -21,8 +21,7 @@ impl Layer {
         ensures { self.new ≡ (if is_ok result then with_variable name.now (plain value) self.old
             else self.old) }
     {
-        let name = Text::new(alloc, name)?;
-        self.vars.insert(name, value)?;
+        self.vars.put(alloc, name, value)?;
         Ok(())
     }
 }

@@ -1,5 +1,5 @@
 // The layers of an execution.
-ghost use Rattle.std.specs.Prelude.{true, suc, ◌≡◌, ◌≤◌, ◌<◌, ◌+◌, [], length, map, min, IfOk, IfSome, OnErr, OnOk, is_ok, if◌then◌else◌, option_map, Some, None, slice_get};
+ghost use Rattle.std.specs.Prelude.{true, suc, ◌≡◌, ◌≤◌, ◌<◌, ◌+◌, [], length, map, min, IfNone, IfOk, IfSome, OnErr, OnOk, is_ok, if◌then◌else◌, option_map, Some, None, slice_get};
 ghost use Rattle.wf_value.specs.Data.{size};
 ghost use Rattle.wf_value.specs.Maps.{IsInOrder, value_at};
 ghost use Rattle.wf_value.specs.Plain.{plain};
@@ -42,8 +42,7 @@ pub struct Scopes {
 }
 
 impl Scopes {
-    ghost use Rattle.wf_scope.specs.Changes.{Answers, assigned, bound, changed, target};
-    ghost use Rattle.wf_scope.specs.Faults.{Gives, faulted};
+    ghost use Rattle.wf_scope.specs.Changes.{Answers, assigned, bound};
     ghost use Rattle.wf_scope.specs.Places.{key_data};
     ghost use Rattle.wf_scope.specs.Store.{layers_of};
 
@@ -135,24 +134,8 @@ impl Scopes {
         ensures stay { StayLive (layers_of self.old) (layers_of self.new) }
         ensures apart { StayInnermost (layers_of self.old) (layers_of self.new) }
     {
-        let total = self.total_with(c.number, name, &v);
-        if total > self.limit {
-            return Err(AssignFault::TooLarge);
-        }
-        if total > MOST {
-            return Err(AssignFault::OutOfMemory);
-        }
-        if v.depth() > NESTING_LIMIT {
-            return Err(AssignFault::TooDeep);
-        }
-        let place = self.place(c.number);
-        match put(self.alloc, &mut self.layers, place, name, v) {
-            Ok(()) => {
-                self.total = total;
-                Ok(())
-            }
-            Err(_) => Err(AssignFault::OutOfMemory),
-        }
+        let counted = self.counted(c.number, name);
+        self.bind_counted(c.number, counted, name, v)
     }
 
     /// Assigns a value to a name, or to the places below it. A variable that is seen from the layer is changed where it stands; else it is
@@ -177,19 +160,31 @@ impl Scopes {
         ensures stay { StayLive (layers_of self.old) (layers_of self.new) }
         ensures apart { StayInnermost (layers_of self.old) (layers_of self.new) }
     {
-        let target = self.target(c.number, name);
-        match self.changed(target, name, path, v) {
-            Ok(value) => self.bind(Chain { number: target }, name, value),
-            Err(fault) => Err(fault),
+        match self.holder(c.number, name) {
+            Some((number, old)) => {
+                let counted = size_of_variable(name, old);
+                match written(self.alloc, path, old, v) {
+                    Ok(value) => self.bind_counted(number, counted, name, value),
+                    Err(fault) => Err(fault),
+                }
+            }
+            None => match path {
+                [] => self.bind(c, name, v),
+                [_, ..] => Err(AssignFault::MissingKey),
+            },
         }
     }
 
-    // Where a live layer stands.
+    // Where a live layer stands: mostly at its number.
     fn place(&self, number: u64) -> usize
         requires { IsLive number (layers_of self.now) }
         ensures within { result < length (layers_of self.now) }
         ensures found { slice_get (layers_of self.now) result ≡ find number (layers_of self.now) }
     {
+        let guess = number as usize;
+        if guess < self.layers.len() && self.layers[guess].number == number {
+            return guess;
+        }
         match self
             .layers
             .binary_search_by_key(&number, |layer| layer.number)
@@ -214,53 +209,24 @@ impl Scopes {
         }
     }
 
-    // The number of the innermost layer that has the name, of those that are seen.
-    fn holder(&self, number: u64, name: &str) -> Option<u64>
+    // The number of the innermost layer that has the name, of those that are seen, and the value there.
+    fn holder(&self, number: u64, name: &str) -> Option<(u64, &Value)>
         requires { IsLive number (layers_of self.now) }
-        ensures holder { result ≡ holder_in name.now (chain number (layers_of self.now)) }
-        ensures live { IfSome result (λ n. IsLive n (layers_of self.now)) }
+        ensures holder { option_map (λ h. h.0) result
+            ≡ holder_in name.now (chain number (layers_of self.now)) }
+        ensures live { IfSome result (λ h. IsLive h.0 (layers_of self.now)) }
+        ensures order { IfSome result (λ h. IsInOrder (vars_at h.0 (layers_of self.now))) }
+        ensures value { IfSome result (λ h. value_at name.now (vars_at h.0 (layers_of self.now))
+            ≡ Some (plain h.1.now)) }
+        ensures absent { IfNone result (value_at name.now (vars_at number (layers_of self.now))
+            ≡ None) }
     {
         let layer = &self.layers[self.place(number)];
         match layer.vars.get(name) {
-            Some(_) => Some(number),
+            Some(value) => Some((number, value)),
             None => match layer.outer {
                 Some(outer) => self.holder(outer, name),
                 None => None,
-            },
-        }
-    }
-
-    // The layer that an assignment changes.
-    fn target(&self, number: u64, name: &str) -> u64
-        requires { IsLive number (layers_of self.now) }
-        ensures target { result ≡ target name.now number (layers_of self.now) }
-        ensures live { IsLive result (layers_of self.now) }
-    {
-        match self.holder(number, name) {
-            Some(holder) => holder,
-            None => number,
-        }
-    }
-
-    // The value of a layer's variable, behind an assignment to it or to the places below it.
-    fn changed(
-        &self,
-        number: u64,
-        name: &str,
-        path: &[Key],
-        new: Value,
-    ) -> Result<Value, AssignFault>
-        requires { IsLive number (layers_of self.now) }
-        ensures { Gives result (faulted
-            (changed (value_at name.now (vars_at number (layers_of self.now)))
-            (map key_data path.now) (plain new))) }
-    {
-        let layer = &self.layers[self.place(number)];
-        match layer.vars.get(name) {
-            Some(old) => written(self.alloc, path, old, new),
-            None => match path {
-                [] => Ok(new),
-                [_, ..] => Err(AssignFault::MissingKey),
             },
         }
     }
@@ -270,7 +236,6 @@ impl Scopes {
         requires { IsLive number (layers_of self.now) }
         ensures size { result ≡ variable_size name.now
             (value_at name.now (vars_at number (layers_of self.now))) }
-        ensures within { result ≤ self.now.total }
         ensures order { IsInOrder (vars_at number (layers_of self.now)) }
     {
         let layer = &self.layers[self.place(number)];
@@ -280,14 +245,56 @@ impl Scopes {
         }
     }
 
-    // The total once this layer's variable has the value.
-    fn total_with(&self, number: u64, name: &str, value: &Value) -> u64
-        requires { IsLive number (layers_of self.now) }
+    // The total once this layer's variable, which counts so much, has the value.
+    fn total_with(&self, number: u64, counted: u64, name: &str, value: &Value) -> u64
+        requires live { IsLive number (layers_of self.now) }
+        requires counted { counted ≡ variable_size name.now
+            (value_at name.now (vars_at number (layers_of self.now))) }
+        requires order { IsInOrder (vars_at number (layers_of self.now)) }
         ensures { result ≡ min (total_of
             (put_at number name.now (plain value.now) (layers_of self.now))) 18446744073709551615 }
     {
-        let rest = self.total - self.counted(number, name);
+        let rest = self.total - counted;
         rest.saturating_add(size_of_variable(name, value))
+    }
+
+    // Makes or changes a variable of a layer, which counts so much.
+    fn bind_counted(
+        &mut self,
+        number: u64,
+        counted: u64,
+        name: &str,
+        v: Value,
+    ) -> Result<(), AssignFault>
+        requires live { IsLive number (layers_of self.old) }
+        requires counted { counted ≡ variable_size name.now
+            (value_at name.now (vars_at number (layers_of self.old))) }
+        requires order { IsInOrder (vars_at number (layers_of self.old)) }
+        ensures outcome { Answers result (layers_of self.new)
+            (bound self.old.limit number name.now (plain v) (layers_of self.old)) }
+        ensures kept { OnErr result (layers_of self.new ≡ layers_of self.old) }
+        ensures limit { self.new.limit ≡ self.old.limit }
+        ensures stay { StayLive (layers_of self.old) (layers_of self.new) }
+        ensures apart { StayInnermost (layers_of self.old) (layers_of self.new) }
+    {
+        let total = self.total_with(number, counted, name, &v);
+        if total > self.limit {
+            return Err(AssignFault::TooLarge);
+        }
+        if total > MOST {
+            return Err(AssignFault::OutOfMemory);
+        }
+        if v.depth() > NESTING_LIMIT {
+            return Err(AssignFault::TooDeep);
+        }
+        let place = self.place(number);
+        match put(self.alloc, &mut self.layers, place, name, v) {
+            Ok(()) => {
+                self.total = total;
+                Ok(())
+            }
+            Err(_) => Err(AssignFault::OutOfMemory),
+        }
     }
 
     // A number above those of all live layers.

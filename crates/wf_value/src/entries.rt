@@ -1,5 +1,5 @@
 // The pairs of a map, in the order of their keys.
-ghost use Rattle.std.specs.Prelude.{◌≡◌, IfOk, is_ok, length, if◌then◌else◌};
+ghost use Rattle.std.specs.Prelude.{◌≡◌, Err, IfOk, None, Ok, Some, is_ok, length, if◌then◌else◌};
 ghost use Rattle.std.specs.List.Sorted.{IsSearchInRange};
 ghost use Rattle.std.specs.Option.{option_copied};
 ghost use Rattle.std_collections.specs.Layout.BTreeMap.{seek};
@@ -12,6 +12,8 @@ use crate::measure::Measure;
 use crate::sharing::own_entries;
 use crate::value::Entries;
 use crate::{OutOfMemory, Text, Value};
+use std::alloc::Global;
+use std::cmp::Ordering;
 use std::mem;
 use std::rc::Rc;
 
@@ -44,7 +46,31 @@ pub(crate) fn insert_pair(
 {
     own_entries(entries)?;
     match Rc::get_mut(entries) {
-        Some(own) => put_measured(own, key, value),
+        Some(own) => insert_measured(own, key, value),
+        None => Err(OutOfMemory),
+    }
+}
+
+// The same. The key is made only where it isn't there.
+pub(crate) fn put_pair(
+    alloc: Global,
+    entries: &mut Rc<Entries>,
+    key: &str,
+    value: Value,
+) -> Result<Option<Value>, OutOfMemory>
+    requires order { IsInOrder entries.old.value.pairs.items }
+    requires measured { IsMeasure entries.old.value.measure
+        (map (pairs_of (plain_pairs entries.old.value.pairs.items))) }
+    ensures after { entries.new.value.pairs.items
+        ≡ (if is_ok result then with_value key.now value entries.old.value.pairs.items else
+        entries.old.value.pairs.items) }
+    ensures old { IfOk result (λ v. v ≡ value_at key.now entries.old.value.pairs.items) }
+    ensures measure { IsMeasure entries.new.value.measure
+        (map (pairs_of (plain_pairs entries.new.value.pairs.items))) }
+{
+    own_entries(entries)?;
+    match Rc::get_mut(entries) {
+        Some(own) => put_measured(alloc, own, key, value),
         None => Err(OutOfMemory),
     }
 }
@@ -74,7 +100,7 @@ pub(crate) fn remove_pair(
     }
 }
 
-fn put_measured(
+fn insert_measured(
     entries: &mut Entries,
     key: Text,
     value: Value,
@@ -89,23 +115,82 @@ fn put_measured(
     ensures measure { IsMeasure entries.new.measure
         (map (pairs_of (plain_pairs entries.new.pairs.items))) }
 {
-    let new = Measure::of_value(&value);
-    let with_pair = entries.measure.with_pair(&key, new);
-    match put(&mut entries.pairs, key, value)? {
-        None => {
-            entries.measure = with_pair;
+    match seek(entries.pairs.as_slice(), key.as_str()) {
+        Ok(i) => Ok(Some(replace_at(entries, i, key.as_str(), value))),
+        Err(i) => {
+            insert_at(entries, i, key, value)?;
             Ok(None)
         }
-        Some(replaced) => {
-            let old = Measure::of_value(&replaced);
-            let Some(measure) = entries.measure.with_new(old, new) else {
-                entries.measure = Measure::of_pairs(entries.pairs.as_slice());
-                return Ok(Some(replaced));
-            };
-            entries.measure = measure;
-            Ok(Some(replaced))
+    }
+}
+
+fn put_measured(
+    alloc: Global,
+    entries: &mut Entries,
+    key: &str,
+    value: Value,
+) -> Result<Option<Value>, OutOfMemory>
+    requires order { IsInOrder entries.old.pairs.items }
+    requires measured { IsMeasure entries.old.measure
+        (map (pairs_of (plain_pairs entries.old.pairs.items))) }
+    ensures after { entries.new.pairs.items
+        ≡ (if is_ok result then with_value key.now value entries.old.pairs.items else
+        entries.old.pairs.items) }
+    ensures old { IfOk result (λ v. v ≡ value_at key.now entries.old.pairs.items) }
+    ensures measure { IsMeasure entries.new.measure
+        (map (pairs_of (plain_pairs entries.new.pairs.items))) }
+{
+    match seek(entries.pairs.as_slice(), key) {
+        Ok(i) => Ok(Some(replace_at(entries, i, key, value))),
+        Err(i) => {
+            let key = Text::new(alloc, key)?;
+            insert_at(entries, i, key, value)?;
+            Ok(None)
         }
     }
+}
+
+// Puts the value at the key, which stands at this place, and gives what was there.
+fn replace_at(entries: &mut Entries, i: usize, key: &str, value: Value) -> Value
+    requires place { Ok i ≡ seek (key_cmp key.now) entries.old.pairs.items }
+    requires order { IsInOrder entries.old.pairs.items }
+    requires measured { IsMeasure entries.old.measure
+        (map (pairs_of (plain_pairs entries.old.pairs.items))) }
+    ensures after { entries.new.pairs.items ≡ with_value key.now value entries.old.pairs.items }
+    ensures old { Some result ≡ value_at key.now entries.old.pairs.items }
+    ensures measure { IsMeasure entries.new.measure
+        (map (pairs_of (plain_pairs entries.new.pairs.items))) }
+{
+    let new = Measure::of_value(&value);
+    let replaced = mem::replace(&mut entries.pairs[i].1, value);
+    let old = Measure::of_value(&replaced);
+    let Some(measure) = entries.measure.with_new(old, new) else {
+        entries.measure = Measure::of_pairs(entries.pairs.as_slice());
+        return replaced;
+    };
+    entries.measure = measure;
+    replaced
+}
+
+// Puts the pair at this place, where its key belongs.
+fn insert_at(entries: &mut Entries, i: usize, key: Text, value: Value) -> Result<(), OutOfMemory>
+    requires place { Err i ≡ seek (key_cmp key) entries.old.pairs.items }
+    requires order { IsInOrder entries.old.pairs.items }
+    requires measured { IsMeasure entries.old.measure
+        (map (pairs_of (plain_pairs entries.old.pairs.items))) }
+    ensures after { entries.new.pairs.items
+        ≡ (if is_ok result then with_value key value entries.old.pairs.items else
+        entries.old.pairs.items) }
+    ensures old { value_at key entries.old.pairs.items ≡ None }
+    ensures measure { IsMeasure entries.new.measure
+        (map (pairs_of (plain_pairs entries.new.pairs.items))) }
+{
+    let measure = entries.measure.with_pair(&key, Measure::of_value(&value));
+    let Ok(()) = entries.pairs.insert(i, (key, value)) else {
+        return Err(OutOfMemory);
+    };
+    entries.measure = measure;
+    Ok(())
 }
 
 fn take_measured(entries: &mut Entries, key: &str) -> Option<Value>
@@ -126,28 +211,27 @@ fn seek(pairs: &[(Text, Value)], key: &str) -> Result<usize, usize>
     ensures place { result ≡ seek (key_cmp key.now) pairs.now }
     ensures within { IsSearchInRange result (length pairs.now) }
 {
-    pairs.binary_search_by(|pair| pair.0.as_str().cmp(&key))
+    pairs.binary_search_by(|pair| order(pair.0.as_str(), key))
 }
 
-fn put(
-    pairs: &mut Vec<(Text, Value)>,
-    key: Text,
-    value: Value,
-) -> Result<Option<Value>, OutOfMemory>
-    requires { IsInOrder pairs.old.items }
-    ensures after { pairs.new.items ≡ (if is_ok result then with_value key value pairs.old.items
-        else pairs.old.items) }
-    ensures old { IfOk result (λ v. v ≡ value_at key pairs.old.items) }
+// The order of two keys. Most are settled by their first bytes, which `cmp` doesn't look at first.
+fn order(a: &str, b: &str) -> Ordering
+    ensures { result ≡ key_cmp a.now b.now }
 {
-    match seek(pairs.as_slice(), key.as_str()) {
-        Ok(i) => Ok(Some(mem::replace(&mut pairs[i].1, value))),
-        Err(i) => {
-            let Ok(()) = pairs.insert(i, (key, value)) else {
-                return Err(OutOfMemory);
-            };
-            Ok(None)
-        }
+    let (x, y) = (a.as_bytes(), b.as_bytes());
+    if x.is_empty() || y.is_empty() {
+        return a.cmp(b);
     }
+    if x[0] < y[0] {
+        return Ordering::Less;
+    }
+    if x[0] > y[0] {
+        return Ordering::Greater;
+    }
+    if x.len() == 1 && y.len() == 1 {
+        return Ordering::Equal;
+    }
+    a.cmp(b)
 }
 
 fn take(pairs: &mut Vec<(Text, Value)>, key: &str) -> Option<Value>

@@ -6,7 +6,7 @@ ghost use Rattle.wf_value.specs.Maps.{IsInOrder, value_at, with_value, without};
 ghost use Rattle.wf_value.specs.Measures.{IsMeasure};
 ghost use Rattle.wf_value.specs.Plain.{plain, plain_items, plain_pairs};
 
-use crate::entries::{find, insert_pair, remove_pair};
+use crate::entries::{find, insert_pair, put_pair, remove_pair};
 use crate::items::push_item;
 use crate::measure::Measure;
 use crate::{Bytes, OutOfMemory, Text};
@@ -224,6 +224,21 @@ impl Map {
         ensures old { IfOk result (λ v. option_map plain v ≡ value_at key self.old) }
     {
         insert_pair(&mut self.entries, key, value)
+    }
+
+    /// The same as `insert`, with a key that is made only where it isn't there. Where it is, no key
+    /// is made, and none is let go.
+    pub fn put(
+        &mut self,
+        alloc: Global,
+        key: &str,
+        value: Value,
+    ) -> Result<Option<Value>, OutOfMemory>
+        ensures after { self.new ≡ (if is_ok result then with_value key.now (plain value) self.old
+            else self.old) }
+        ensures old { IfOk result (λ v. option_map plain v ≡ value_at key.now self.old) }
+    {
+        put_pair(alloc, &mut self.entries, key, value)
     }
 
     /// Takes a key and its value away, and gives the value. Without memory the map stays.

@@ -11,8 +11,8 @@ returns-in-Some c =
     let s = c.args.self.now in
     let l = c.index-layer.result.now in
     let here = layer_at c.args.number s.layers.items c.place.result l c.place.ensures.within c.index-layer.ensures c.place.ensures.found in
-    let two = counted_some c.args.number c.args.name.now (plain c.in-Some.value.now) s.layers.items l c.size_of_variable.result s.total here (sym c.in-Some.ensures.value) s.counted s.room c.size_of_variable.ensures in
-    record { size = two.0; within = two.1; order = subst (λ ps. IsInOrder ps) (sym (vars_found c.args.number s.layers.items l here)) c.get.ensures.order }
+    let size = counted_some c.args.number c.args.name.now (plain c.in-Some.value.now) s.layers.items l c.size_of_variable.result s.total here (sym c.in-Some.ensures.value) s.counted s.room c.size_of_variable.ensures in
+    record { size = size; order = subst (λ ps. IsInOrder ps) (sym (vars_found c.args.number s.layers.items l here)) c.get.ensures.order }
 
 pub returns-in-None-clause-size : goal.returns-in-None-clause-size
 returns-in-None-clause-size c =

@@ -1,0 +1,52 @@
+-- What short code leaves on an empty stack.
+use Rattle.std.proofs.Common.{◌≡◌, ◌<◌, ◌≤◌, ℕ, List, [], ◌∷◌, length, get_or, Option, Some, None, IfSome, Result, Ok, Err, sym, ap, subst, ◌∙◌, arith}
+use Rattle.wf_ast.specs.Apply.{View}
+use Rattle.wf_postfix.specs.Instrs.{instr, instrs}
+use Rattle.wf_postfix.specs.Machine.{Next, Stack, act, exec}
+use Rattle.wf_postfix.specs.declared.code.Instr.{Instr}
+use Rattle.wf_value.specs.Data.{Data}
+use Rattle.wf_value.specs.Errors.{Answer, ◌>>=◌}
+use Rattle.wf_value.specs.declared.errors.Raise.{Raise}
+use Rattle.wf_value.specs.declared.errors.Raise.TheVariants.{Error, OutOfMemory}
+use Rattle.wf_value.specs.declared.value.Value.{Value}
+use Rattle.wf_eval.specs.Answers.{Gives}
+use Rattle.wf_eval.specs.Sight.{Sight, seen}
+use Rattle.wf_eval.specs.Steps.{IsOperand, Leaves, alone}
+
+module _ {X : Type 0} where
+  pub one_item : (xs : List X) (a : X) → 1 ≤ length xs → length xs < 2 → a ≡ get_or xs 0 a → xs ≡ a ∷ []
+  one_item [] a l m e = absurd (omega (arith, l))
+  one_item (x ∷ []) a l m e = ap (λ u. u ∷ []) (sym e)
+  one_item (x ∷ y ∷ ys) a l m e = absurd (omega (arith, m))
+
+  pub three_items : (xs : List X) (a b c : X) → 3 ≤ length xs → length xs < 4 → a ≡ get_or xs 0 a → b ≡ get_or xs 1 b → c ≡ get_or xs 2 c → xs ≡ a ∷ b ∷ c ∷ []
+  three_items [] a b c l m e f g = absurd (omega (arith, l))
+  three_items (x ∷ []) a b c l m e f g = absurd (omega (arith, l))
+  three_items (x ∷ y ∷ []) a b c l m e f g = absurd (omega (arith, l))
+  three_items (x ∷ y ∷ z ∷ []) a b c l m e f g = ap (λ u. u ∷ y ∷ z ∷ []) (sym e) ∙ ap (λ u. a ∷ u ∷ z ∷ []) (sym f) ∙ ap (λ u. a ∷ b ∷ u ∷ []) (sym g)
+  three_items (x ∷ y ∷ z ∷ w ∷ ws) a b c l m e f g = absurd (omega (arith, m))
+
+ends : (s : View) → exec s [] ≡ alone
+ends s = λ j k st. Ok st
+
+pub one_leaves : (r : Option (Result Value Raise)) (is : List Instr) (a : Instr) (s : Sight) → is ≡ a ∷ [] → IfSome r (λ q. (now : ℕ) → Leaves q (act (seen s now) (instr a) alone []))
+    → IfSome r (λ q. (now : ℕ) → Leaves q (exec (seen s now) (instrs is) 0 []))
+one_leaves None is a s e h = tt
+one_leaves (Some q) is a s e h =
+    λ now. subst (λ (js : List Instr). Leaves q (exec (seen s now) (instrs js) 0 [])) (sym e) (subst (λ (k : Next). Leaves q (act (seen s now) (instr a) k [])) (sym (ends (seen s now))) (h now))
+
+pub three_leaves : (r : Option (Result Value Raise)) (is : List Instr) (a b c : Instr) (s : Sight) (v w : Data) → is ≡ a ∷ b ∷ c ∷ [] → IsOperand s (instr a) v → IsOperand s (instr b) w → IfSome r (λ q. (t : View) → Leaves q (act t (instr c) alone (w ∷ v ∷ [])))
+    → IfSome r (λ q. (now : ℕ) → Leaves q (exec (seen s now) (instrs is) 0 []))
+three_leaves None is a b c s v w e p o h = tt
+three_leaves (Some q) is a b c s v w e p o h =
+    λ now. subst (λ (js : List Instr). Leaves q (exec (seen s now) (instrs js) 0 [])) (sym e)
+    (subst (λ (d : Answer Stack). Leaves q d) (sym (p now (exec (seen s now) (instr b ∷ instr c ∷ [])) [] ∙ o now (exec (seen s now) (instr c ∷ [])) (v ∷ [])))
+    (subst (λ (k : Next). Leaves q (act (seen s now) (instr c) k (w ∷ v ∷ []))) (sym (ends (seen s now))) (h (seen s now))))
+
+-- what is left is the value of the expression
+pub short_gives : (r : Result Value Raise) (d : Answer Data) (a : Answer Stack) → Leaves r a → a ≡ (d >>= λ v. Ok (v ∷ [])) → Gives r d
+short_gives (Ok v) (Ok w) a l e = cc
+short_gives (Ok v) (Err t) a l e = cc
+short_gives (Err OutOfMemory) d a l e = tt
+short_gives (Err (Error t)) (Ok w) a l e = cc
+short_gives (Err (Error t)) (Err u) a l e = cc

@@ -1,0 +1,80 @@
+//! Code of one operand, or of two and what is done with them, which needs no stack.
+ghost use Rattle.std.specs.Prelude.{◌≡◌, ◌∷◌, [], ℕ, IfSome};
+ghost use Rattle.wf_value.specs.Data.{Data};
+ghost use Rattle.wf_value.specs.Errors.{Answer};
+ghost use Rattle.wf_value.specs.Plain.{plain};
+ghost use Rattle.wf_ast.specs.Apply.{View};
+ghost use Rattle.wf_postfix.specs.Instrs.{instr, instrs};
+ghost use Rattle.wf_postfix.specs.Machine.{act, exec};
+ghost use Rattle.wf_eval.specs.Answers.{Gives};
+ghost use Rattle.wf_eval.specs.Sight.{seen};
+ghost use Rattle.wf_eval.specs.Steps.{IsOperand, Leaves, alone, settled};
+
+use crate::answers::{copied, is_kept, keep};
+use crate::look::Look;
+use crate::members::at_index;
+use crate::operators::operate;
+use std::alloc::Global;
+use wf_postfix::Instr;
+use wf_value::{Raise, Value};
+
+/// What short code leaves on an empty stack. None where it isn't short, or where an operand can't be had.
+pub(crate) fn short<K: Look>(
+    alloc: Global,
+    items: &[Instr],
+    look: &K,
+) -> Option<Result<Value, Raise>>
+    ensures { IfSome result (λ r. (now : ℕ)
+        → Leaves r (exec (seen (K.sight look.now) now) (instrs items.now) 0 [])) }
+{
+    match items {
+        [a] => one(alloc, a, look),
+        [a, b, last] => {
+            let v = operand(a, look)?;
+            let w = operand(b, look)?;
+            two(alloc, last, v, w)
+        }
+        _ => None,
+    }
+}
+
+// What one operand leaves.
+fn one<K: Look>(alloc: Global, i: &Instr, look: &K) -> Option<Result<Value, Raise>>
+    ensures { IfSome result (λ r. (now : ℕ)
+        → Leaves r (act (seen (K.sight look.now) now) (instr i.now) alone [])) }
+{
+    let v = operand(i, look)?;
+    Some(copied(alloc, v))
+}
+
+// The value that an instruction puts on the stack, if it does nothing else and keeps within the limits.
+fn operand<'a, K: Look>(i: &'a Instr, look: &'a K) -> Option<&'a Value>
+    ensures { IfSome result (λ v. IsOperand (K.sight look.now) (instr i.now) (plain v.now)) }
+{
+    let value = match i {
+        Instr::Push(v) => v,
+        Instr::Load(x) => look.look(x.as_str())?,
+        _ => return None,
+    };
+    if is_kept(value) { Some(value) } else { None }
+}
+
+// What an instruction leaves of the two values that are there alone, the first one below.
+fn two(alloc: Global, i: &Instr, v: &Value, w: &Value) -> Option<Result<Value, Raise>>
+    ensures { IfSome result (λ r. (s : View)
+        → Leaves r (act s (instr i.now) alone (plain w.now ∷ plain v.now ∷ []))) }
+{
+    match i {
+        Instr::Combine(op) => Some(within(operate(alloc, *op, v, w))),
+        Instr::Index => Some(within(at_index(alloc, v, w))),
+        _ => None,
+    }
+}
+
+// The value, if it keeps within the limits.
+fn within(value: Result<Value, Raise>) -> Result<Value, Raise>
+    ensures { (d : Answer Data) → Gives value d
+        → Leaves result (settled d [] alone) }
+{
+    keep(value?)
+}

@@ -1,0 +1,18 @@
+use Rattle.std.proofs.Common.{ap, ◌∙◌}
+use Rattle.std.specs.Result.{is_ok}
+use Rattle.wf_value.specs.Maps.{with_value}
+use Rattle.wf_value.specs.Plain.{plain}
+use Rattle.wf_value.proofs.Order.{in_order_kept, in_order_with_value}
+use Rattle.wf_value.proofs.PairTrees.{plain_kept, plain_old, plain_with_value}
+use Rattle.wf_value.proofs.value.Map.put.Goals as goal
+
+pub invariant_of-self : goal.invariant_of-self
+invariant_of-self c = (in_order_kept (is_ok c.put_pair.result) _ _ _ c.put_pair.ensures.after c.self.invariant.0 (in_order_with_value c.args.key.now c.args.value _ c.self.invariant.0), c.put_pair.ensures.measure)
+
+pub returns-clause-after : goal.returns-clause-after
+returns-clause-after c =
+    let ps = c.self.inside.entries.value.pairs.items in
+    plain_kept (is_ok c.put_pair.result) ps _ _ _ _ c.put_pair.ensures.after c.self.view_is (plain_with_value c.args.key.now c.args.value ps ∙ ap (λ ds. with_value c.args.key.now (plain c.args.value) ds) c.self.view_is)
+
+pub returns-clause-old : goal.returns-clause-old
+returns-clause-old c = plain_old c.put_pair.result c.args.key.now c.self.inside.entries.value.pairs.items c.args.self.now c.put_pair.ensures.old c.self.view_is
