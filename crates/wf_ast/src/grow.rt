@@ -10,18 +10,13 @@ pub fn add<T: Drop>(items: &mut Vec<T>, item: T) -> Result<(), OutOfMemory>
     ensures { items.new.items ≡ (if is_ok result then items.old.items
         ++ item ∷ [] else items.old.items) }
 {
-    match items.push(item) {
-        Ok(()) => Ok(()),
-        Err(_) => Err(OutOfMemory),
-    }
+    items.push(item)?;
+    Ok(())
 }
 
 /// The item in a box. Without memory it is let go here, where nothing of its type is known.
 pub fn boxed<T: Drop>(alloc: Global, item: T) -> Result<Box<T>, OutOfMemory>
     ensures { IfOk result (λ held. held.value ≡ item) }
 {
-    match Box::new(alloc, item) {
-        Ok(held) => Ok(held),
-        Err(_) => Err(OutOfMemory),
-    }
+    Ok(Box::new(alloc, item)?)
 }

@@ -44,10 +44,8 @@ impl Endpoints {
         ensures kept { OnErr result (self.new ≡ self.old) }
     {
         let alloc = *self.endpoints.allocator();
-        match self.endpoints.push(Endpoint::new(alloc, method)) {
-            Ok(()) => Ok(self.endpoints.len() as u64),
-            Err(_) => Err(OutOfMemory),
-        }
+        self.endpoints.push(Endpoint::new(alloc, method))?;
+        Ok(self.endpoints.len() as u64)
     }
 
     /// Puts a request at the end of the queue of endpoint `n`, where `bytes_left` bytes are left for bodies. On a fault the endpoints

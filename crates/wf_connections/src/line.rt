@@ -51,13 +51,11 @@ impl Line {
         ensures heard { IfOk result (λ l. l.heard.items ≡ []) }
         ensures read { IfOk result (λ l. (k : ℕ) → IsRead k l) }
     {
-        match Box::new(alloc, Reading::new(alloc)) {
-            Ok(reading) => Ok(Line {
-                state: State::Heard(reading),
-                heard: Log::new(),
-            }),
-            Err(_) => Err(OutOfMemory),
-        }
+        let reading = Box::new(alloc, Reading::new(alloc))?;
+        Ok(Line {
+            state: State::Heard(reading),
+            heard: Log::new(),
+        })
     }
 
     // Whether its call was started.

@@ -14,9 +14,7 @@ pub(crate) fn reach(lines: &mut Vec<Line>, i: usize) -> Result<(), OutOfMemory>
     ensures read { AreRead lines.old.items → AreRead lines.new.items }
 {
     while lines.len() <= i {
-        let Ok(()) = lines.push(Line::unused()) else {
-            return Err(OutOfMemory);
-        };
+        lines.push(Line::unused())?;
     }
     Ok(())
 }

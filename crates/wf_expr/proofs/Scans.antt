@@ -1,5 +1,5 @@
 -- The faults of symbols, one symbol after the other.
-use Rattle.std.proofs.Common.{◌≡◌, nat_le, ◌&&◌, ℕ, Bool, true, false, List, [], ◌∷◌, ◌++◌, drop, codes, Option, Some, None, option_map, not, if◌then◌else◌, refl, sym, ap, ◌∙◌}
+use Rattle.std.proofs.Common.{◌≡◌, nat_le, ◌&&◌, ℕ, Bool, true, false, List, [], ◌∷◌, ◌++◌, drop, codes, Option, Some, None, option_map, if◌then◌else◌, refl, sym, ap, ◌∙◌}
 use Rattle.std.specs.List.{AllByRecursion}
 use Rattle.wf_ast.specs.Func.{Listing, func_named}
 use Rattle.wf_expr.specs.Callees.{callee_of}
@@ -40,18 +40,13 @@ name_called at x (s.left_paren ∷ ss) h = refl
 name_called at x ss h = let p : ⊥ = cc in absurd p
 
 -- ## Texts that grow
-pushed : (done fails : Bool) (after before more : Text) → after ≡ (if done then before ++ more else before) → done ≡ not fails → fails ≡ false → after ≡ before ++ more
-pushed true fails after before more h k l = h
-pushed false true after before more h k l = let x : ⊥ = cc in absurd x
-pushed false false after before more h k l = let x : ⊥ = cc in absurd x
-
 -- a name with one more behind a point
-pub joined : (d1 d2 e1 e2 : Bool) (x1 x2 x p w y : Text) → x1 ≡ (if d1 then x ++ p else x) → d1 ≡ not e1 → e1 ≡ false → p ≡ codes "." → x2 ≡ (if d2 then x1 ++ w else x1) → d2 ≡ not e2 → e2 ≡ false → w ≡ y → x2 ≡ x ++ codes "." ++ y
-joined d1 d2 e1 e2 x1 x2 x p w y a b c d e f g h =
-    pushed d2 e2 x2 x1 w e f g
-    ∙ ap (λ l. l ++ w) (pushed d1 e1 x1 x p a b c)
-    ∙ ap (λ l. (x ++ l) ++ w) d
-    ∙ ap (λ l. (x ++ codes ".") ++ l) h
+pub joined : (x1 x2 x p w y : Text) → x1 ≡ x ++ p → p ≡ codes "." → x2 ≡ x1 ++ w → w ≡ y → x2 ≡ x ++ codes "." ++ y
+joined x1 x2 x p w y a b c d =
+    c
+    ∙ ap (λ l. l ++ w) a
+    ∙ ap (λ l. (x ++ l) ++ w) b
+    ∙ ap (λ l. (x ++ codes ".") ++ l) d
 
 pub joined_faults : (at : ℕ) (x1 x y : Text) (s1 s2 ss : List Sym) (l : List ExprFault) → x1 ≡ x ++ codes "." ++ y → s1 ≡ drop 1 ss → s2 ≡ drop 1 s1 → key_behind ss ≡ Some y → name_faults at x ss ≡ l → name_faults at x1 s2 ≡ l
 joined_faults at x1 x y s1 s2 ss l a b c d e =

@@ -71,29 +71,20 @@ pub(crate) fn leaf(alloc: Global, symbols: &[Symbol]) -> Result<Option<Expr>, St
 pub(crate) fn boxed(alloc: Global, e: Expr) -> Result<Box<Expr>, Stop>
     ensures { MatchResult result (λ b. b.value ≡ e) (λ f. f ≡ stop.OutOfMemory) }
 {
-    match Box::new(alloc, e) {
-        Ok(held) => Ok(held),
-        Err(_) => Err(Stop::OutOfMemory),
-    }
+    Ok(Box::new(alloc, e)?)
 }
 
 pub(crate) fn copied(text: &Text) -> Result<Text, Stop>
     ensures { MatchResult result (λ t. t ≡ text.now) (λ f. f ≡ stop.OutOfMemory) }
 {
-    match text.copy() {
-        Ok(copy) => Ok(copy),
-        Err(_) => Err(Stop::OutOfMemory),
-    }
+    Ok(text.copy()?)
 }
 
 // A text as it stands in the source.
 pub(crate) fn written(alloc: Global, text: &str) -> Result<Text, Stop>
     ensures { MatchResult result (λ t. t ≡ text.now) (λ f. f ≡ stop.OutOfMemory) }
 {
-    match Text::new(alloc, text) {
-        Ok(copy) => Ok(copy),
-        Err(_) => Err(Stop::OutOfMemory),
-    }
+    Ok(Text::new(alloc, text)?)
 }
 
 // The name that the symbols begin with.
@@ -103,10 +94,7 @@ pub(crate) fn first_name(alloc: Global, symbols: &[Symbol]) -> Result<Option<Str
 {
     match name(symbols) {
         None => Ok(None),
-        Some(text) => match String::from_str(alloc, text.as_str()) {
-            Ok(copy) => Ok(Some(copy)),
-            Err(_) => Err(Stop::OutOfMemory),
-        },
+        Some(text) => Ok(Some(String::from_str(alloc, text.as_str())?)),
     }
 }
 
@@ -118,29 +106,23 @@ pub(crate) fn longer(chain: Option<String>, key: &Text) -> Result<Option<String>
     let Some(mut name) = chain else {
         return Ok(None);
     };
-    if name.push_str(".").is_err() || name.push_str(key.as_str()).is_err() {
-        return Err(Stop::OutOfMemory);
-    }
+    name.push_str(".")?;
+    name.push_str(key.as_str())?;
     Ok(Some(name))
 }
 
 pub(crate) fn no_args(alloc: Global) -> Result<Exprs, Stop>
     ensures { MatchResult result (λ es. exprs_view es ≡ []) (λ f. f ≡ stop.OutOfMemory) }
 {
-    match Exprs::new(alloc) {
-        Ok(args) => Ok(args),
-        Err(_) => Err(Stop::OutOfMemory),
-    }
+    Ok(Exprs::new(alloc)?)
 }
 
 pub(crate) fn add(args: &mut Exprs, arg: Expr) -> Result<(), Stop>
     ensures { MatchResult result (λ _. exprs_view args.new
         ≡ exprs_view args.old ++ expr_view arg ∷ []) (λ f. f ≡ stop.OutOfMemory) }
 {
-    match args.push(arg) {
-        Ok(()) => Ok(()),
-        Err(_) => Err(Stop::OutOfMemory),
-    }
+    args.push(arg)?;
+    Ok(())
 }
 
 // The call of a function. One of a name that no function has is none that is accepted, and is read as null.

@@ -36,10 +36,8 @@ pub(crate) fn symbols_of(alloc: Global, tokens: &Tokens<'_>) -> Result<Vec<Symbo
 fn add(symbols: &mut Vec<Symbol>, symbol: Symbol) -> Result<(), OutOfMemory>
     ensures { IfOk result (λ _. symbols.new.items ≡ symbols.old.items ++ symbol ∷ []) }
 {
-    match symbols.push(symbol) {
-        Ok(()) => Ok(()),
-        Err(_) => Err(OutOfMemory),
-    }
+    symbols.push(symbol)?;
+    Ok(())
 }
 
 // The symbol of the token at an index, and the index of the token behind it.

@@ -37,10 +37,8 @@ pub(crate) fn said(alloc: Global, text: &str) -> Result<Text, OutOfMemory>
 fn push(out: &mut String, c: char) -> Result<(), OutOfMemory>
     ensures { IfOk result (λ _. string_bytes out.new ≡ string_bytes out.old ++ encode_utf8 c) }
 {
-    match out.push(c) {
-        Ok(()) => Ok(()),
-        Err(_) => Err(OutOfMemory),
-    }
+    out.push(c)?;
+    Ok(())
 }
 
 // The character that an escape's letter stands for.

@@ -85,14 +85,11 @@ fn name_fault(
 ) -> Result<Option<ExprFault>, OutOfMemory>
     ensures { IfOk result (λ f. f ≡ first_of (name_faults at name.now (syms_of symbols.now))) }
 {
-    let Ok(mut joined) = String::from_str(alloc, name.as_str()) else {
-        return Err(OutOfMemory);
-    };
+    let mut joined = String::from_str(alloc, name.as_str())?;
     let mut rest = symbols;
     'join: while let Some(key) = key(rest) {
-        if joined.push_str(".").is_err() || joined.push_str(key.as_str()).is_err() {
-            return Err(OutOfMemory);
-        }
+        joined.push_str(".")?;
+        joined.push_str(key.as_str())?;
         rest = tail(tail(rest));
     }
     if begins_left_paren(rest) {

@@ -51,10 +51,8 @@ impl<R: Files<File = File> + Clock + Print + Drop> FileHost<R> {
     pub fn with_journal(alloc: Global, rt: R, path: &str) -> Result<FileHost<R>, OutOfMemory>
         ensures { IfOk result (λ h. file_host_faults h ≡ no_faults) }
     {
-        match String::from_str(alloc, path) {
-            Ok(path) => Ok(FileHost::on(alloc, rt, Disk::Journal(JournalFile::new(path)))),
-            Err(_) => Err(OutOfMemory),
-        }
+        let path = String::from_str(alloc, path)?;
+        Ok(FileHost::on(alloc, rt, Disk::Journal(JournalFile::new(path))))
     }
 
     /// Whether another process holds the journal, so that each disk call fails.

@@ -32,10 +32,8 @@ impl<R: Files<File = File> + Drop> FileSource<LateFile<R>> {
     pub fn at(alloc: Global, rt: R, path: &str) -> Result<FileSource<LateFile<R>>, OutOfMemory>
         ensures { IfOk result (λ s. file_source_faults s ≡ 0) }
     {
-        match String::from_str(alloc, path) {
-            Ok(path) => Ok(FileSource::new(LateFile::new(rt, path))),
-            Err(_) => Err(OutOfMemory),
-        }
+        let path = String::from_str(alloc, path)?;
+        Ok(FileSource::new(LateFile::new(rt, path)))
     }
 }
 

@@ -69,17 +69,13 @@ impl Sockets {
     ) -> Result<(), OutOfMemory> {
         let request = Bytes::new(alloc, bytes)?;
         let addresses = addresses_of(alloc, net, to)?;
-        if self.connections.reserve(1).is_err() {
-            return Err(OutOfMemory);
-        }
+        self.connections.reserve(1)?;
         let token = self.next_token;
         self.next_token = token.wrapping_add(1);
         let registry = self.poll.registry();
         let connection = Connection::new(net, registry, token, call, addresses, request);
-        match self.connections.push(connection) {
-            Ok(()) => Ok(()),
-            Err(_) => Err(OutOfMemory),
-        }
+        self.connections.push(connection)?;
+        Ok(())
     }
 
     /// Waits at most so many milliseconds for a report, then tells what has come of one call.

@@ -29,10 +29,8 @@ impl Bindings {
     pub fn put_first(&mut self, name: Text, value: Value) -> Result<(), OutOfMemory>
         ensures { OnOk result (bindings_of self.new ≡ (name, plain value) ∷ bindings_of self.old) }
     {
-        match self.items.push((name, value)) {
-            Ok(()) => Ok(()),
-            Err(_) => Err(OutOfMemory),
-        }
+        self.items.push((name, value))?;
+        Ok(())
     }
 
     /// Takes the first.

@@ -93,10 +93,8 @@ impl Frames {
             ≡ (if is_ok result then frame ∷ inner self.old else inner self.old) }
         ensures first { self.new.first ≡ self.old.first }
     {
-        match self.items.push(frame) {
-            Ok(()) => Ok(()),
-            Err(_) => Err(OutOfMemory),
-        }
+        self.items.push(frame)?;
+        Ok(())
     }
 
     /// Takes the innermost frame.

@@ -32,9 +32,7 @@ pub(crate) fn keys_of(alloc: Global, places: &[Value]) -> Result<Option<Vec<Key>
         let Some(key) = found else {
             return Ok(None);
         };
-        let Ok(()) = keys.push(key) else {
-            return Err(OutOfMemory);
-        };
+        keys.push(key)?;
     }
     Ok(Some(keys))
 }

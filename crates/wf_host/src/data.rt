@@ -150,10 +150,8 @@ impl Routes {
         ensures ok { OnOk result (self.new ≡ self.old ++ (host, to) ∷ []) }
         ensures err { OnErr result (self.new ≡ self.old) }
     {
-        match self.pairs.push((host, to)) {
-            Ok(()) => Ok(()),
-            Err(_) => Err(OutOfMemory),
-        }
+        self.pairs.push((host, to))?;
+        Ok(())
     }
 
     /// The pairs.

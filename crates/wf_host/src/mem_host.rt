@@ -60,26 +60,24 @@ impl MemHost {
         ensures faults { IfOk result (λ h. mem_faults h ≡ no_faults) }
         ensures short { IfOk result (λ h. mem_short h ≡ 0) }
     {
-        match CallRecord::new(alloc, plan.image) {
-            Ok(log) => Ok(MemHost {
-                alloc,
-                log,
-                printed: Vec::new(alloc),
-                progress: Progress::new(
-                    plan.clock,
-                    plan.fail,
-                    plan.stop,
-                    plan.print_room,
-                    plan.services,
-                ),
-                outlook: Outlook::new(alloc),
-                disk_faults: 0,
-                poll_faults: 0,
-                print_faults: 0,
-                short: 0,
-            }),
-            Err(AllocError) => Err(OutOfMemory),
-        }
+        let log = CallRecord::new(alloc, plan.image)?;
+        Ok(MemHost {
+            alloc,
+            log,
+            printed: Vec::new(alloc),
+            progress: Progress::new(
+                plan.clock,
+                plan.fail,
+                plan.stop,
+                plan.print_room,
+                plan.services,
+            ),
+            outlook: Outlook::new(alloc),
+            disk_faults: 0,
+            poll_faults: 0,
+            print_faults: 0,
+            short: 0,
+        })
     }
 
     /// The file as it reads.
@@ -122,10 +120,7 @@ impl MemHost {
         } else {
             self.log.synced(alloc)
         };
-        match left {
-            Ok(image) => Ok(image),
-            Err(AllocError) => Err(OutOfMemory),
-        }
+        Ok(left?)
     }
 
     fn disk_fault(&mut self) -> Failed
@@ -347,13 +342,9 @@ impl Host for MemHost {
         // A reading of the clock can't fail, but it counts as a call.
         let _fails = self.progress.begin_call();
         let reading = self.progress.reading();
-        match self.log.act(Deed::Now(reading)) {
-            Ok(()) => {
-                self.progress.count_reading();
-                Ok(reading)
-            }
-            Err(AllocError) => Err(OutOfMemory),
-        }
+        self.log.act(Deed::Now(reading))?;
+        self.progress.count_reading();
+        Ok(reading)
     }
 
     /// Starts a call, which counts as a call of the host that can't fail by the plan. It fails only without memory.
@@ -375,10 +366,8 @@ impl Host for MemHost {
             .outlook
             .answer(self.alloc, services, self.log.deeds(), call, to)?;
         let deed = Deed::Start(call, to.copy()?, Bytes::new(self.alloc, bytes)?);
-        match self.outlook.start(&mut self.log, speaker, deed) {
-            Ok(()) => Ok(()),
-            Err(AllocError) => Err(OutOfMemory),
-        }
+        self.outlook.start(&mut self.log, speaker, deed)?;
+        Ok(())
     }
 
     /// Hears what the plan says. It fails exactly where the plan says, or without memory, and then takes no reading.
@@ -443,13 +432,9 @@ impl Host for MemHost {
         ensures stable { mem_stable self.new ≡ mem_stable self.old }
     {
         let _fails = self.progress.begin_call();
-        match self.log.act(Deed::Drop(call)) {
-            Ok(()) => {
-                self.outlook.drop_call(call);
-                Ok(())
-            }
-            Err(AllocError) => Err(OutOfMemory),
-        }
+        self.log.act(Deed::Drop(call))?;
+        self.outlook.drop_call(call);
+        Ok(())
     }
 
     /// Takes as many bytes as the plan has room for. It fails exactly where the plan says, or without memory.

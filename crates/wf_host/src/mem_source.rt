@@ -28,12 +28,8 @@ impl MemSource {
         ensures reads { IfOk result (λ s. source_reads s ≡ 0) }
         ensures faults { IfOk result (λ s. source_faults s ≡ 0) }
     {
-        let Ok(bytes) = Vec::from_slice(alloc, bytes) else {
-            return Err(OutOfMemory);
-        };
-        let Ok(fail) = Vec::from_slice(alloc, fail) else {
-            return Err(OutOfMemory);
-        };
+        let bytes = Vec::from_slice(alloc, bytes)?;
+        let fail = Vec::from_slice(alloc, fail)?;
         Ok(MemSource {
             bytes,
             at: 0,

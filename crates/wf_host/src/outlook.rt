@@ -155,9 +155,7 @@ fn pieces_of(alloc: Global, call: u64, found: &[Vec<u8>]) -> Result<Vec<What>, O
     let mut rest = found;
     while let [piece, after @ ..] = rest {
         let bytes = Bytes::new(alloc, piece)?;
-        let Ok(()) = things.push(What::Bytes(call, bytes)) else {
-            return Err(OutOfMemory);
-        };
+        things.push(What::Bytes(call, bytes))?;
         rest = after;
     }
     Ok(things)
@@ -242,9 +240,7 @@ impl Outlook {
             Close::Silent => None,
         };
         if let Some(what) = last {
-            let Ok(()) = things.push(what) else {
-                return Err(OutOfMemory);
-            };
+            things.push(what)?;
         }
         Ok(Speaker {
             of: call,
@@ -291,9 +287,7 @@ impl Outlook {
             (λ _. Elapses Same (deed ∷ []) (record_world log.old) (record_world log.new))
             (λ _. Elapses Same [] (record_world log.old) (record_world log.new)) }
     {
-        let Ok(()) = self.calls.reserve(1) else {
-            return Err(AllocError);
-        };
+        self.calls.reserve(1)?;
         log.act(deed)?;
         match speaker {
             Some(speaker) => {

@@ -48,12 +48,8 @@ pub fn asked_of(alloc: Global, method: Option<Method>, args: &Map) -> Result<Ask
         return Err(Raise::Error(Tag::ValueError));
     };
     let timeout = timeout_of(seconds)?;
-    let Ok(url) = url.copy() else {
-        return Err(Raise::OutOfMemory);
-    };
-    let Ok(body) = body_at(alloc, args) else {
-        return Err(Raise::OutOfMemory);
-    };
+    let url = url.copy()?;
+    let body = body_at(alloc, args)?;
     Ok(Asked {
         method,
         url,

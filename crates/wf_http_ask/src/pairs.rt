@@ -24,12 +24,8 @@ pub(crate) fn texts_of(alloc: Global, map: &Map, place: Place) -> Result<Pairs, 
     let mut pairs = Pairs::new(alloc);
     while let Some((key, value)) = map.entry(pairs.items().len()) {
         let text = text_of(alloc, value, place)?;
-        let Ok(key) = Text::new(alloc, key) else {
-            return Err(Raise::OutOfMemory);
-        };
-        let Ok(()) = pairs.push(key, text) else {
-            return Err(Raise::OutOfMemory);
-        };
+        let key = Text::new(alloc, key)?;
+        pairs.push(key, text)?;
     }
     Ok(pairs)
 }
@@ -44,10 +40,7 @@ fn text_of(alloc: Global, value: &Value, place: Place) -> Result<Text, Raise>
         (Place::Query, Value::Bool(truth)) => Text::new(alloc, truth_name(*truth)),
         _ => return Err(Raise::Error(Tag::TypeError)),
     };
-    match text {
-        Ok(text) => Ok(text),
-        Err(_) => Err(Raise::OutOfMemory),
-    }
+    Ok(text?)
 }
 
 fn shown(alloc: Global, number: i64) -> Result<Text, OutOfMemory>

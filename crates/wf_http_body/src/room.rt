@@ -14,8 +14,6 @@ pub fn add(bytes: &mut Vec<u8>, more: &[u8]) -> Result<(), OutOfMemory>
     ensures added { OnOk result (bytes.new.items ≡ bytes.old.items ++ more.now) }
     ensures kept { OnErr result (bytes.new.items ≡ bytes.old.items) }
 {
-    match bytes.extend_from_slice(more) {
-        Ok(()) => Ok(()),
-        Err(_) => Err(OutOfMemory),
-    }
+    bytes.extend_from_slice(more)?;
+    Ok(())
 }

@@ -69,9 +69,7 @@ fn glance_in_large_room(alloc: Global, front: &[u8]) -> Result<Glance, OutOfMemo
     requires many { SectionOverflows 100 front.now }
     ensures { IfOk result (IsGlance front.now) }
 {
-    let Ok(mut room) = Vec::from_elem(alloc, EMPTY_HEADER_SPAN, LARGE_ROOM) else {
-        return Err(OutOfMemory);
-    };
+    let mut room = Vec::from_elem(alloc, EMPTY_HEADER_SPAN, LARGE_ROOM)?;
     Ok(glance_in(front, room.as_mut_slice()))
 }
 

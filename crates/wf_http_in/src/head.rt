@@ -92,9 +92,7 @@ fn fields_of(
     for span in spans {
         let name = Bytes::new(alloc, span.name.of(front))?;
         let value = Bytes::new(alloc, span.value.of(front))?;
-        let Ok(()) = fields.push((name, value)) else {
-            return Err(OutOfMemory);
-        };
+        fields.push((name, value))?;
     }
     Ok(fields)
 }

@@ -91,16 +91,10 @@ fn parts_of(alloc: Global, uri: &Uri) -> Result<Parts, OutFault>
 fn target(alloc: Global, path: &str, query: Option<&str>) -> Result<Text, OutOfMemory>
     ensures { IfOk result (λ t. t ≡ path.now ++ query_text (option_copied query.entry)) }
 {
-    let Ok(mut target) = String::from_str(alloc, path) else {
-        return Err(OutOfMemory);
-    };
+    let mut target = String::from_str(alloc, path)?;
     if let Some(query) = query {
-        let Ok(()) = target.push('?') else {
-            return Err(OutOfMemory);
-        };
-        let Ok(()) = target.push_str(query) else {
-            return Err(OutOfMemory);
-        };
+        target.push('?')?;
+        target.push_str(query)?;
     }
     Text::new(alloc, target.as_str())
 }

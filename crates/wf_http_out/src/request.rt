@@ -60,14 +60,10 @@ fn written(
         id.now k) }
 {
     let payload = payload_of(alloc, &asked.body)?;
-    let Ok(head) = head_of(alloc, goal, asked, id, k, &payload) else {
-        return Err(OutOfMemory);
-    };
+    let head = head_of(alloc, goal, asked, id, k, &payload)?;
     let mut bytes = head.into_bytes();
     if let Some(payload) = &payload {
-        let Ok(()) = bytes.extend_from_slice(payload.bytes.as_slice()) else {
-            return Err(OutOfMemory);
-        };
+        bytes.extend_from_slice(payload.bytes.as_slice())?;
     }
     Bytes::new(alloc, bytes.as_slice())
 }

@@ -25,18 +25,12 @@ pub(crate) fn sized(value: Value) -> Result<Value, Raise>
 pub(crate) fn sized_text(alloc: Global, s: &str) -> Result<Value, Raise>
     ensures { Gives result (sized (text s.now)) }
 {
-    match Text::new(alloc, s) {
-        Ok(owned) => sized(Value::Text(owned)),
-        Err(_) => Err(Raise::OutOfMemory),
-    }
+    sized(Value::Text(Text::new(alloc, s)?))
 }
 
 // The bytes as a value, if they keep within the limit on size.
 pub(crate) fn sized_bytes(alloc: Global, b: &[u8]) -> Result<Value, Raise>
     ensures { Gives result (sized (bytes b.now)) }
 {
-    match Bytes::new(alloc, b) {
-        Ok(owned) => sized(Value::Bytes(owned)),
-        Err(_) => Err(Raise::OutOfMemory),
-    }
+    sized(Value::Bytes(Bytes::new(alloc, b)?))
 }

@@ -20,10 +20,10 @@ pub fn base64_encode(alloc: Global, data: &Value) -> Result<Value, Raise>
     ensures { Gives result (base64_encode (plain data.now)) }
 {
     match data {
-        Value::Bytes(b) => match STANDARD.encode(alloc, b.as_slice()) {
-            Ok(code) => sized_text(alloc, code.as_str()),
-            Err(_) => Err(Raise::OutOfMemory),
-        },
+        Value::Bytes(b) => {
+            let code = STANDARD.encode(alloc, b.as_slice())?;
+            sized_text(alloc, code.as_str())
+        }
         _ => Err(Raise::Error(Tag::TypeError)),
     }
 }

@@ -19,10 +19,8 @@ pub fn json_encode(alloc: Global, data: &Value) -> Result<Value, Raise>
     requires { depth (plain data.now) ≤ 100 }
     ensures { Gives result (json_encode (plain data.now)) }
 {
-    match to_json(alloc, data) {
-        Ok(json) => sized_bytes(alloc, json.as_slice()),
-        Err(_) => Err(Raise::OutOfMemory),
-    }
+    let json = to_json(alloc, data)?;
+    sized_bytes(alloc, json.as_slice())
 }
 
 /// `json.encode_to_string`: the compact JSON of a value (RFC 8259), as a text. Bytes in it are
@@ -33,9 +31,7 @@ pub fn json_encode_to_string(alloc: Global, data: &Value) -> Result<Value, Raise
     requires { depth (plain data.now) ≤ 100 }
     ensures { Gives result (json_encode_to_string (plain data.now)) }
 {
-    let Ok(json) = to_json(alloc, data) else {
-        return Err(Raise::OutOfMemory);
-    };
+    let json = to_json(alloc, data)?;
     // JSON is UTF-8.
     match std::str::from_utf8(json.as_slice()) {
         Ok(s) => sized_text(alloc, s),

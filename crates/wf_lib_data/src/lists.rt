@@ -15,14 +15,10 @@ use wf_value::{List, OutOfMemory, Raise, Tag, Value};
 pub fn list_concat(alloc: Global, objs: &Value, val: &Value) -> Result<Value, Raise>
     ensures { Gives result (list_concat (plain objs.now) (plain val.now)) }
 {
-    let (Ok(mut longer), Ok(last)) = (objs.copy(alloc), val.copy(alloc)) else {
-        return Err(Raise::OutOfMemory);
-    };
+    let mut longer = objs.copy(alloc)?;
+    let last = val.copy(alloc)?;
     match &mut longer {
-        Value::List(items) => match items.push(last) {
-            Ok(()) => {}
-            Err(_) => return Err(Raise::OutOfMemory),
-        },
+        Value::List(items) => items.push(last)?,
         _ => return Err(Raise::Error(Tag::TypeError)),
     }
     sized(longer)
@@ -36,10 +32,7 @@ pub fn list_prepend(alloc: Global, objs: &Value, val: &Value) -> Result<Value, R
     ensures { Gives result (list_prepend (plain objs.now) (plain val.now)) }
 {
     match objs {
-        Value::List(list) => match behind(alloc, val, list.items()) {
-            Ok(longer) => sized(Value::List(longer)),
-            Err(_) => Err(Raise::OutOfMemory),
-        },
+        Value::List(list) => sized(Value::List(behind(alloc, val, list.items())?)),
         _ => Err(Raise::Error(Tag::TypeError)),
     }
 }

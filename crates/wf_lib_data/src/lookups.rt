@@ -57,8 +57,5 @@ fn found(alloc: Global, value: Option<&Value>) -> Result<Value, Raise>
     let Some(value) = value else {
         return sized(Value::Null);
     };
-    match value.copy(alloc) {
-        Ok(copy) => sized(copy),
-        Err(_) => Err(Raise::OutOfMemory),
-    }
+    sized(value.copy(alloc)?)
 }

@@ -25,14 +25,11 @@ pub fn map_delete(alloc: Global, map: &Value, key: &Value) -> Result<Value, Rais
 fn without(alloc: Global, map: &Value, key: &str) -> Result<Value, Raise>
     ensures { Gives result (map_delete (plain map.now) (text key.now)) }
 {
-    let Ok(mut rest) = map.copy(alloc) else {
-        return Err(Raise::OutOfMemory);
-    };
+    let mut rest = map.copy(alloc)?;
     match &mut rest {
-        Value::Map(pairs) => match pairs.remove(key) {
-            Ok(Some(_)) => {}
-            Ok(None) => return Err(Raise::Error(Tag::KeyError)),
-            Err(_) => return Err(Raise::OutOfMemory),
+        Value::Map(pairs) => match pairs.remove(key)? {
+            Some(_) => {}
+            None => return Err(Raise::Error(Tag::KeyError)),
         },
         _ => return Err(Raise::Error(Tag::TypeError)),
     }

@@ -20,10 +20,9 @@ pub fn map_merge(alloc: Global, first: &Value, second: &Value) -> Result<Value, 
     ensures { Gives result (map_merge (plain first.now) (plain second.now)) }
 {
     match (first, second) {
-        (Value::Map(first), Value::Map(second)) => match merged(alloc, first, second) {
-            Ok(whole) => sized(Value::Map(whole)),
-            Err(_) => Err(Raise::OutOfMemory),
-        },
+        (Value::Map(first), Value::Map(second)) => {
+            sized(Value::Map(merged(alloc, first, second)?))
+        }
         _ => Err(Raise::Error(Tag::TypeError)),
     }
 }

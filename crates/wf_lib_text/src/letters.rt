@@ -40,9 +40,7 @@ pub fn text_to_lower(alloc: Global, source: &Value) -> Result<Value, Raise>
 fn upper(alloc: Global, s: &str) -> Result<Value, Raise>
     ensures { Gives result (sized (text (map to_ascii_uppercase s.now))) }
 {
-    let Ok(mut changed) = String::from_str(alloc, s) else {
-        return Err(Raise::OutOfMemory);
-    };
+    let mut changed = String::from_str(alloc, s)?;
     changed.make_ascii_uppercase();
     sized_text(alloc, changed.as_str())
 }
@@ -50,9 +48,7 @@ fn upper(alloc: Global, s: &str) -> Result<Value, Raise>
 fn lower(alloc: Global, s: &str) -> Result<Value, Raise>
     ensures { Gives result (sized (text (map to_ascii_lowercase s.now))) }
 {
-    let Ok(mut changed) = String::from_str(alloc, s) else {
-        return Err(Raise::OutOfMemory);
-    };
+    let mut changed = String::from_str(alloc, s)?;
     changed.make_ascii_lowercase();
     sized_text(alloc, changed.as_str())
 }

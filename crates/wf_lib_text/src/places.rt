@@ -29,10 +29,7 @@ fn find(alloc: Global, s: &str, part: &str) -> Result<Value, Raise>
     if part.is_empty() {
         return Err(Raise::Error(Tag::ValueError));
     }
-    match starts(alloc, s, part) {
-        Ok(starts) => sized(Value::List(starts)),
-        Err(_) => Err(Raise::OutOfMemory),
-    }
+    sized(Value::List(starts(alloc, s, part)?))
 }
 
 fn starts(alloc: Global, s: &str, part: &str) -> Result<List, OutOfMemory>

@@ -68,8 +68,6 @@ fn add(out: &mut String, s: &str) -> Result<(), Raise>
     if out.len().saturating_add(s.len()) > MAX_LENGTH {
         return Err(Raise::Error(Tag::ResourceLimitError));
     }
-    match out.push_str(s) {
-        Ok(()) => Ok(()),
-        Err(_) => Err(Raise::OutOfMemory),
-    }
+    out.push_str(s)?;
+    Ok(())
 }

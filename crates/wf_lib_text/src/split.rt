@@ -29,10 +29,7 @@ fn split(alloc: Global, s: &str, separator: &str) -> Result<Value, Raise>
     if separator.is_empty() {
         return Err(Raise::Error(Tag::ValueError));
     }
-    match parts(alloc, s, separator) {
-        Ok(parts) => sized(Value::List(parts)),
-        Err(_) => Err(Raise::OutOfMemory),
-    }
+    sized(Value::List(parts(alloc, s, separator)?))
 }
 
 fn parts(alloc: Global, s: &str, separator: &str) -> Result<List, OutOfMemory>

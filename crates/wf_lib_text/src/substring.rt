@@ -37,10 +37,8 @@ fn substring(alloc: Global, s: &str, start: i64, end: i64) -> Result<Value, Rais
     let Some((from, to)) = range_in(char_count(s), start, end) else {
         return Err(Raise::Error(Tag::IndexError));
     };
-    match characters(alloc, s, from, to) {
-        Ok(part) => sized_text(alloc, part.as_str()),
-        Err(_) => Err(Raise::OutOfMemory),
-    }
+    let part = characters(alloc, s, from, to)?;
+    sized_text(alloc, part.as_str())
 }
 
 // The range as places of a text with so many characters.

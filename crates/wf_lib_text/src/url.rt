@@ -31,10 +31,10 @@ pub fn text_url_encode(alloc: Global, source: &Value) -> Result<Value, Raise>
     ensures { Gives result (text_url_encode (plain source.now)) }
 {
     match source {
-        Value::Text(s) => match escaped(alloc, s.as_str()) {
-            Ok(escaped) => sized_text(alloc, escaped.as_str()),
-            Err(_) => Err(Raise::OutOfMemory),
-        },
+        Value::Text(s) => {
+            let escaped = escaped(alloc, s.as_str())?;
+            sized_text(alloc, escaped.as_str())
+        }
         _ => Err(Raise::Error(Tag::TypeError)),
     }
 }
@@ -48,10 +48,10 @@ pub fn text_url_decode(alloc: Global, source: &Value) -> Result<Value, Raise>
     ensures { Gives result (text_url_decode (plain source.now)) }
 {
     match source {
-        Value::Text(s) => match unescaped(alloc, s.as_str()) {
-            Ok(b) => decoded(alloc, b.as_slice()),
-            Err(_) => Err(Raise::OutOfMemory),
-        },
+        Value::Text(s) => {
+            let bytes = unescaped(alloc, s.as_str())?;
+            decoded(alloc, bytes.as_slice())
+        }
         _ => Err(Raise::Error(Tag::TypeError)),
     }
 }

@@ -8,10 +8,8 @@ pub fn add<T: Drop>(items: &mut Vec<T>, item: T) -> Result<(), OutOfMemory>
     ensures { items.new.items ≡ (if is_ok result then items.old.items
         ++ item ∷ [] else items.old.items) }
 {
-    match items.push(item) {
-        Ok(()) => Ok(()),
-        Err(_) => Err(OutOfMemory),
-    }
+    items.push(item)?;
+    Ok(())
 }
 
 /// Adds an item at the end, and says its number.

@@ -169,18 +169,14 @@ fn emit_all(alloc: Global, items: &mut Vec<Instr>, es: &[Expr]) -> Result<(), Ou
 fn put(items: &mut Vec<Instr>, instr: Instr) -> Result<(), OutOfMemory>
     ensures { OnOk result (items.new.items ≡ items.old.items ++ instr ∷ []) }
 {
-    match items.push(instr) {
-        Ok(()) => Ok(()),
-        Err(_) => Err(OutOfMemory),
-    }
+    items.push(instr)?;
+    Ok(())
 }
 
 // More instructions.
 fn put_all(items: &mut Vec<Instr>, mut more: Vec<Instr>) -> Result<(), OutOfMemory>
     ensures { OnOk result (items.new.items ≡ items.old.items ++ more.items) }
 {
-    match items.append(&mut more) {
-        Ok(()) => Ok(()),
-        Err(_) => Err(OutOfMemory),
-    }
+    items.append(&mut more)?;
+    Ok(())
 }

@@ -39,17 +39,13 @@ impl Place {
 fn line_text(alloc: Global, line: u32) -> Result<Text, OutOfMemory>
     ensures { IfOk result (λ t. t ≡ codes "line " ++ decimal line) }
 {
-    match format!(in alloc; "line {line}") {
-        Ok(text) => Text::new(alloc, text.as_str()),
-        Err(_) => Err(OutOfMemory),
-    }
+    let text = format!(in alloc; "line {line}")?;
+    Text::new(alloc, text.as_str())
 }
 
 fn offset_text(alloc: Global, path: &str, offset: u32) -> Result<Text, OutOfMemory>
     ensures { IfOk result (λ t. t ≡ path.now ++ codes ":" ++ decimal offset) }
 {
-    match format!(in alloc; "{path}:{offset}") {
-        Ok(text) => Text::new(alloc, text.as_str()),
-        Err(_) => Err(OutOfMemory),
-    }
+    let text = format!(in alloc; "{path}:{offset}")?;
+    Text::new(alloc, text.as_str())
 }

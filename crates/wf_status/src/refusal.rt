@@ -20,10 +20,7 @@ impl Refusal {
         ensures { IfOk result (λ t. t ≡ line_end (refusal_text self.now)) }
     {
         let place = self.place.print(alloc)?;
-        let line = format!(in alloc; "refused {} at {}\n", self.kind.name(), place.as_str());
-        match line {
-            Ok(text) => Text::new(alloc, text.as_str()),
-            Err(_) => Err(OutOfMemory),
-        }
+        let text = format!(in alloc; "refused {} at {}\n", self.kind.name(), place.as_str())?;
+        Text::new(alloc, text.as_str())
     }
 }

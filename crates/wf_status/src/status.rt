@@ -96,8 +96,6 @@ impl Status {
 fn numbered(alloc: Global, what: &str, number: u32) -> Result<Text, OutOfMemory>
     ensures { IfOk result (λ t. t ≡ what.now ++ line_end (decimal number)) }
 {
-    match format!(in alloc; "{what}{number}\n") {
-        Ok(text) => Text::new(alloc, text.as_str()),
-        Err(_) => Err(OutOfMemory),
-    }
+    let text = format!(in alloc; "{what}{number}\n")?;
+    Text::new(alloc, text.as_str())
 }

@@ -62,10 +62,8 @@ impl Scopes {
         ensures kept { OnErr result (Still self.old self.new) }
     {
         let names = own_names(alloc, steps)?;
-        match self.blocks.insert(0, Block { names, is_closed }) {
-            Ok(()) => Ok(()),
-            Err(_) => Err(OutOfMemory),
-        }
+        self.blocks.insert(0, Block { names, is_closed })?;
+        Ok(())
     }
 
     /// Goes out of the innermost block; outside of all it does nothing.
@@ -82,10 +80,8 @@ impl Scopes {
         ensures bound { OnOk result (IsBound self.old self.new layer) }
         ensures kept { OnErr result (Still self.old self.new) }
     {
-        match self.layers.insert(0, layer) {
-            Ok(()) => Ok(()),
-            Err(_) => Err(OutOfMemory),
-        }
+        self.layers.insert(0, layer)?;
+        Ok(())
     }
 
     /// Goes out of the innermost layer; outside of all it does nothing.

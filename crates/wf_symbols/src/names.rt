@@ -40,13 +40,8 @@ impl Names {
             ≡ (bytes_eq x name.now || is_among x (names_of self.old))) }
         ensures kept { OnErr result (names_of self.new ≡ names_of self.old) }
     {
-        let Ok(copy) = String::from_str(self.alloc, name) else {
-            return Err(OutOfMemory);
-        };
-        match self.names.insert(copy) {
-            Ok(_) => {}
-            Err(_) => return Err(OutOfMemory),
-        }
+        let copy = String::from_str(self.alloc, name)?;
+        self.names.insert(copy)?;
         Ok(())
     }
 }

@@ -48,13 +48,8 @@ impl Names {
             Some(_) => return Ok(()),
             None => {}
         }
-        let Ok(copy) = String::from_str(self.alloc, name) else {
-            return Err(OutOfMemory);
-        };
-        match self.numbers.insert(copy, number) {
-            Ok(_) => {}
-            Err(_) => return Err(OutOfMemory),
-        }
+        let copy = String::from_str(self.alloc, name)?;
+        self.numbers.insert(copy, number)?;
         Ok(())
     }
 

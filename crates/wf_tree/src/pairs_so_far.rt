@@ -51,10 +51,7 @@ impl PairsSoFar {
             else self.old) }
         ensures old { IfOk result (λ t. option_map plain_tree t ≡ value_at key self.old) }
     {
-        match self.pairs.insert(Key { text: key }, item) {
-            Ok(old) => Ok(old),
-            Err(_) => Err(OutOfMemory),
-        }
+        Ok(self.pairs.insert(Key { text: key }, item)?)
     }
 
     /// The map of these pairs.
@@ -62,13 +59,9 @@ impl PairsSoFar {
         ensures { IfOk result (λ m. m ≡ self) }
     {
         let PairsSoFar { alloc, pairs: tree } = self;
-        let Ok(mut pairs) = Vec::with_capacity(alloc, tree.len()) else {
-            return Err(OutOfMemory);
-        };
+        let mut pairs = Vec::with_capacity(alloc, tree.len())?;
         for (key, item) in tree {
-            let Ok(()) = pairs.push((key.text, item)) else {
-                return Err(OutOfMemory);
-            };
+            pairs.push((key.text, item))?;
         }
         Ok(TreeMap::of_pairs(pairs))
     }

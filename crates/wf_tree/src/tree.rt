@@ -111,10 +111,8 @@ impl TreeList {
     pub fn push(&mut self, item: Tree) -> Result<(), OutOfMemory>
         ensures { self.new ≡ (if is_ok result then self.old ++ plain_tree item ∷ [] else self.old) }
     {
-        match self.items.push(item) {
-            Ok(()) => Ok(()),
-            Err(_) => Err(OutOfMemory),
-        }
+        self.items.push(item)?;
+        Ok(())
     }
 
     /// The items, the first one first.

@@ -35,9 +35,7 @@ fn push(items: &mut Items, item: Value) -> Result<(), OutOfMemory>
         (list (items_of (plain_items items.new.values.items))) }
 {
     let measure = items.measure.with_item(Measure::of_value(&item));
-    let Ok(()) = items.values.push(item) else {
-        return Err(OutOfMemory);
-    };
+    items.values.push(item)?;
     items.measure = measure;
     Ok(())
 }

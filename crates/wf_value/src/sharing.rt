@@ -17,25 +17,16 @@ pub(crate) fn own_items(items: &mut Rc<Items>) -> Result<(), OutOfMemory>
     let alloc = *items.values.allocator();
     let values = copy_items(alloc, items.values.as_slice())?;
     let measure = items.measure;
-    match Rc::new(alloc, Items { values, measure }) {
-        Ok(own) => {
-            *items = own;
-            Ok(())
-        }
-        Err(_) => Err(OutOfMemory),
-    }
+    *items = Rc::new(alloc, Items { values, measure })?;
+    Ok(())
 }
 
 fn copy_items(alloc: Global, items: &[Value]) -> Result<Vec<Value>, OutOfMemory>
     ensures { IfOk result (λ v. v.items ≡ items.now) }
 {
-    let Ok(mut copies) = Vec::with_capacity(alloc, items.len()) else {
-        return Err(OutOfMemory);
-    };
+    let mut copies = Vec::with_capacity(alloc, items.len())?;
     for item in items {
-        let Ok(()) = copies.push(item.share()?) else {
-            return Err(OutOfMemory);
-        };
+        copies.push(item.share()?)?;
     }
     Ok(copies)
 }
@@ -51,27 +42,18 @@ pub(crate) fn own_entries(entries: &mut Rc<Entries>) -> Result<(), OutOfMemory>
     let alloc = *entries.pairs.allocator();
     let pairs = copy_pairs(alloc, entries.pairs.as_slice())?;
     let measure = entries.measure;
-    match Rc::new(alloc, Entries { pairs, measure }) {
-        Ok(own) => {
-            *entries = own;
-            Ok(())
-        }
-        Err(_) => Err(OutOfMemory),
-    }
+    *entries = Rc::new(alloc, Entries { pairs, measure })?;
+    Ok(())
 }
 
 fn copy_pairs(alloc: Global, pairs: &[(Text, Value)]) -> Result<Vec<(Text, Value)>, OutOfMemory>
     ensures { IfOk result (λ v. v.items ≡ pairs.now) }
 {
-    let Ok(mut copies) = Vec::with_capacity(alloc, pairs.len()) else {
-        return Err(OutOfMemory);
-    };
+    let mut copies = Vec::with_capacity(alloc, pairs.len())?;
     for pair in pairs {
         let key = pair.0.copy()?;
         let value = pair.1.share()?;
-        let Ok(()) = copies.push((key, value)) else {
-            return Err(OutOfMemory);
-        };
+        copies.push((key, value))?;
     }
     Ok(copies)
 }

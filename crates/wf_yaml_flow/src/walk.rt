@@ -51,10 +51,8 @@ fn open_frame(frames: &mut Vec<Frame>, frame: Option<Frame>) -> Result<(), OutOf
     let Some(frame) = frame else {
         return Ok(());
     };
-    match frames.push(frame) {
-        Ok(()) => Ok(()),
-        Err(_) => Err(OutOfMemory),
-    }
+    frames.push(frame)?;
+    Ok(())
 }
 
 // Reads what is next, under all that is open.

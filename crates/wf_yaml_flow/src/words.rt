@@ -138,15 +138,12 @@ fn unquoted(alloc: Global, s: &[char], n: usize) -> Result<FlowWord<'_>, OutOfMe
         ≡ flows.word (take n s.now) false true (drop n s.now)) }
 {
     let (front, rest) = s.split_at(n);
-    match front.to_vec(alloc) {
-        Ok(chars) => Ok(FlowWord {
-            chars,
-            quoted: false,
-            good: true,
-            rest,
-        }),
-        Err(_) => Err(OutOfMemory),
-    }
+    Ok(FlowWord {
+        chars: front.to_vec(alloc)?,
+        quoted: false,
+        good: true,
+        rest,
+    })
 }
 
 fn quoted_word(alloc: Global, s: &[char]) -> Result<Option<FlowWord<'_>>, OutOfMemory>

@@ -39,12 +39,8 @@ impl KeySet {
             → is_one_of (keys_of self.new) k ≡ (is_same key k || is_one_of (keys_of self.old) k)) }
         ensures kept { OnErr result (keys_of self.new ≡ keys_of self.old) }
     {
-        let Ok(copy) = String::from_str(self.alloc, key.as_str()) else {
-            return Err(OutOfMemory);
-        };
-        match self.keys.insert(copy) {
-            Ok(_) => Ok(()),
-            Err(_) => Err(OutOfMemory),
-        }
+        let copy = String::from_str(self.alloc, key.as_str())?;
+        self.keys.insert(copy)?;
+        Ok(())
     }
 }

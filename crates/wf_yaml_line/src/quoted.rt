@@ -23,10 +23,8 @@ pub struct Quoted<'a> {
 fn push(chars: &mut Vec<char>, c: char) -> Result<(), OutOfMemory>
     ensures { IfOk result (λ _. chars.new.items ≡ chars.old.items ++ c ∷ []) }
 {
-    match chars.push(c) {
-        Ok(()) => Ok(()),
-        Err(_) => Err(OutOfMemory),
-    }
+    chars.push(c)?;
+    Ok(())
 }
 
 // What stands behind the opening single quote.

@@ -19,9 +19,7 @@ pub fn text_of(alloc: Global, chars: &[char]) -> Result<Text, OutOfMemory>
 {
     let mut text = String::new(alloc);
     for c in chars {
-        let Ok(()) = text.push(*c) else {
-            return Err(OutOfMemory);
-        };
+        text.push(*c)?;
     }
     Text::new(alloc, text.as_str())
 }

@@ -6,10 +6,10 @@ use Rattle.wf_host.proofs.Printed.{prints_go_on}
 use Rattle.wf_host.proofs.Foreseen.{foreseen_goes_on, foreseen_at, same_services_read}
 use Rattle.wf_host.proofs.mem_host.MemHostHost.now.Goals as goal
 
-pub invariant_of-self : goal.invariant_of-self
-invariant_of-self c =
+pub invariant_of-self-2 : goal.invariant_of-self-2
+invariant_of-self-2 c =
     let h = c.args.self.now in
     record {
-      shown = prints_go_on Same _ (record_world h.log) (record_world c.act.new.self) h.printed.items h.printed.items [] c.in-Ok.ensures.time h.shown (sym (append-nil h.printed.items)) refl;
-      foreseen = foreseen_at h.progress c.count_reading.new.self h.outlook (record_world c.act.new.self).deeds (same_services_read _ _ _ c.begin_call-fails.ensures.counts c.count_reading.ensures) (foreseen_goes_on h.progress.services Same _ (record_world h.log) (record_world c.act.new.self) h.outlook h.outlook c.in-Ok.ensures.time h.foreseen refl);
+      shown = prints_go_on Same _ (record_world h.log) (record_world c.act.new.self) h.printed.items h.printed.items [] c.in_ok-act.ensures.time h.shown (sym (append-nil h.printed.items)) refl;
+      foreseen = foreseen_at h.progress c.count_reading.new.self h.outlook (record_world c.act.new.self).deeds (same_services_read _ _ _ c.begin_call-fails.ensures.counts c.count_reading.ensures) (foreseen_goes_on h.progress.services Same _ (record_world h.log) (record_world c.act.new.self) h.outlook h.outlook c.in_ok-act.ensures.time h.foreseen refl);
     }

@@ -6,5 +6,5 @@ use Rattle.wf_shared.specs.HttpRequest.{is_among}
 
 pub returns-clause-added : goal.returns-clause-added
 returns-clause-added c = λ k.
-    with_key k c.in-Ok.copy c.args.self.now.names c.insert.new.self c.in-Ok-insert.ensures.updates
-    ∙ ap (λ l. bytes_eq k l || is_among k (names_of c.args.self.now)) c.in-Ok.ensures.ok
+    with_key k c.in_ok-copy.copy c.args.self.now.names c.insert.new.self c.in_ok-insert.ensures.updates
+    ∙ ap (λ l. bytes_eq k l || is_among k (names_of c.args.self.now)) c.in_ok-copy.ensures.ok

@@ -8,5 +8,5 @@ returns-in-Some c = λ x. keeps_number c.args.self.now x c.args.name.now c.args.
 
 pub returns : goal.returns
 returns c = λ x.
-    takes_number c.args.self.now (record { alloc = c.args.self.now.alloc; numbers = c.insert.new.self }) (string_bytes c.in-Ok.copy) x c.args.name.now c.args.number c.in-Ok.ensures.ok (sym c.find.ensures ∙ c.in-None.is)
-    (btree_map_updates_text (string_bytes c.in-Ok.copy) c.args.self.now.numbers c.insert.new.self _ c.in-Ok-insert.ensures.updates x)
+    takes_number c.args.self.now (record { alloc = c.args.self.now.alloc; numbers = c.insert.new.self }) (string_bytes c.in_ok-copy.copy) x c.args.name.now c.args.number c.in_ok-copy.ensures.ok (sym c.find.ensures ∙ c.in-None.is)
+    (btree_map_updates_text (string_bytes c.in_ok-copy.copy) c.args.self.now.numbers c.insert.new.self _ c.in_ok-insert.ensures.updates x)
