@@ -113,6 +113,11 @@ fn told(alloc: Global, mut visit: Visit, is_ended: bool) -> Result<String, CaseF
     if is_ended {
         visit.end();
     }
+    state_text(alloc, &visit)
+}
+
+/// What is known of a visit, which is lent: so that it is let go is proved once, and not for each way out of here.
+fn state_text(alloc: Global, visit: &Visit) -> Result<String, CaseFault> {
     match visit.state() {
         VisitState::NotYet => Ok(String::from_str(alloc, "not yet")?),
         VisitState::Bad => Ok(String::from_str(alloc, "Bad")?),
