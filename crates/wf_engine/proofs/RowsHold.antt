@@ -8,7 +8,6 @@ use lib.Utf8.{encode}
 use Rattle.wf_ast.specs.Accept.{fault, rules}
 use Rattle.wf_ast.specs.Nodes.{nodes}
 use Rattle.wf_engine.specs.Rows.{WorkedHistories}
-use Rattle.wf_engine.specs.TheLanguage.{the_language}
 use Rattle.wf_events.specs.Reading.{meaning, record_of, whole_at, record_at, start_at, turn_at, events_at, event_at, argument_at, is_argument}
 use Rattle.wf_events.specs.Spelling.{record_bytes}
 use Rattle.wf_expr.specs.Parser.{parse, parse_target}
@@ -17,6 +16,7 @@ use Rattle.wf_syntax_rules.specs.Built.{built}
 use Rattle.wf_syntax_rules.specs.First.{fault_within}
 use Rattle.wf_syntax_rules.specs.Made.{body_within}
 use Rattle.wf_record_parts.specs.Reading.{text_at, string_at, list_at, items_at}
+use Rattle.wf_replay.specs.TheLanguage.{the_language}
 use Rattle.wf_source.specs.Function.{source_of}
 use Rattle.wf_source.specs.Sources.{read_tree}
 use Rattle.wf_span.specs.Lexer.{lex_within}
