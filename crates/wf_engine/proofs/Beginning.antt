@@ -3,11 +3,11 @@ use Rattle.std.specs.Prelude.{◌≡◌, ◌≢◌, ◌⊎◌, ◌≤◌, ℕ, L
 use Rattle.std.proofs.Common.{inl, inr, ⊎_elim, refl, sym, ◌∙◌, ap, subst, arith}
 use Rattle.wf_engine.specs.Engine.{OpeningMoment}
 use Rattle.wf_history.specs.Stands.{HasNoneOrThis}
-use Rattle.wf_host.specs.Moments.{CountsNow, started, joined, weaker}
+use Rattle.wf_host.specs.Moments.{started, joined, weaker}
 use Rattle.wf_host.specs.World.{World, LeavesOnly, Only, Rose}
 use Rattle.wf_host.specs.declared.data.Deed.{Deed}
 use Rattle.wf_host.specs.declared.data.Deed.TheVariants.{Now}
-use Rattle.wf_journal.specs.Journal.{IsJournal, Stays}
+use Rattle.wf_journal.specs.Journal.{IsJournal}
 use Rattle.wf_journal.specs.Records.{magic, records}
 use Rattle.wf_replay.proofs.OnlyReads.{Quiet}
 
