@@ -12,7 +12,6 @@ use Rattle.wf_engine.specs.Engine.{memory, OpeningMoment}
 use Rattle.wf_deeds.specs.Kept as kept
 use Rattle.wf_deeds.specs.Laws.{OnlyReadings}
 use Rattle.wf_deeds.specs.Outside.{Outside}
-use Rattle.wf_engine.proofs.Language.{of_program}
 use Rattle.wf_engine.specs.Printed.{Scene, uses_source}
 use Rattle.wf_engine.specs.Starts.{start_of}
 use Rattle.wf_events.specs.Laws.{MeaningOfSpelling}
@@ -25,12 +24,9 @@ use Rattle.wf_journal_laws.specs.Language.{Language}
 use Rattle.wf_journal_laws.specs.Laws.{StartIsAHistory}
 use Rattle.wf_journal_laws.specs.Moments.{NoTurnsBehind, NextBehindHistory}
 use Rattle.wf_engine.specs.Safe.{SafeAt}
-use Rattle.wf_engine.specs.TheLanguage.{the_language}
 use Rattle.wf_source.specs.Function.{SourceIsIt}
 use Rattle.wf_source.specs.Programs.{IsSourceOf}
 use Rattle.wf_engine.specs.declared.engine.Engine.{Engine}
-use Rattle.wf_engine.specs.declared.fault.EngineFault.{EngineFault}
-use Rattle.wf_engine.specs.declared.fault.EngineFault.TheVariants as engine
 use Rattle.wf_history.specs.Stands.{HasNoneOrThis}
 use Rattle.wf_host.specs.Moments.{CountsNow, started, goes_on, goes_on_same, same_deeds, joined, weaker}
 use Rattle.wf_host.specs.World.{World, LeavesOnly, Only, Elapses, Same}
@@ -39,6 +35,10 @@ use Rattle.wf_host.specs.declared.data.Deed.TheVariants.{Now}
 use Rattle.wf_journal.specs.Records.{magic, records}
 use Rattle.wf_args.specs.declared.command.Command.TheVariants.{Run}
 use Rattle.wf_journal_laws.specs.At.{journal, next_session}
+use Rattle.wf_replay.proofs.Language.{of_program}
+use Rattle.wf_replay.specs.TheLanguage.{the_language}
+use Rattle.wf_replay.specs.declared.engine_fault.EngineFault.TheVariants as engine
+use Rattle.wf_replay.specs.declared.engine_fault.EngineFault.{EngineFault}
 
 -- ## The first reading of the clock
 -- since this moment there is no other pair

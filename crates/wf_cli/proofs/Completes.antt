@@ -5,10 +5,10 @@ use Rattle.wf_cli.proofs.Rows.{suspended_row}
 use Rattle.wf_cli.specs.Top.{Call, IsLineOf, IsOfFile, Gives, Says, bad_line, bad_argument, refused, reported, of_file, Ends, said, cut, unread, failed, unheard, no_memory, HasNoCause, Completes}
 use Rattle.wf_engine.specs.Printed as end
 use Rattle.wf_engine.specs.Printed.{Scene, executes}
-use Rattle.wf_engine.specs.TheLanguage.{the_language}
 use Rattle.wf_host.specs.declared.data.Deed.{Deed}
 use Rattle.wf_journal_laws.specs.Language.{Language}
 use Rattle.wf_args.specs.Lines.{line_of}
+use Rattle.wf_replay.specs.TheLanguage.{the_language}
 use Rattle.wf_status.specs.declared.Status.{Status}
 use Rattle.wf_status.specs.declared.Status.TheVariants as status
 

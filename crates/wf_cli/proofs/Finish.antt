@@ -20,7 +20,6 @@ use Rattle.wf_deeds.specs.Outside.{Outside}
 use Rattle.wf_deeds.specs.Rules.{MayEnd, DeedKeepsRules, EndKeepsRules}
 use Rattle.wf_engine.specs.Printed.{Scene, executes}
 use Rattle.wf_engine.specs.Safe.{IsFit, IsLate, Safe, SafeAt, LateAt, session}
-use Rattle.wf_engine.specs.TheLanguage.{the_language}
 use Rattle.wf_engine.specs.TheOutside.{InTheOutside}
 use Rattle.wf_host.specs.Moments.{CountsNow, joined}
 use Rattle.wf_host.specs.World.{World, Faults, Told, NoneFell, Rose}
@@ -29,6 +28,7 @@ use Rattle.wf_host.specs.declared.data.Deed.TheVariants.{Print}
 use Rattle.wf_host.specs.Printing as printing
 use Rattle.wf_host.specs.Printing.{PrintsFront, PrintedSoFar}
 use Rattle.wf_journal_laws.specs.Language.{Language}
+use Rattle.wf_replay.specs.TheLanguage.{the_language}
 use Rattle.wf_status.specs.Statuses.{status_code}
 use Rattle.wf_status.specs.declared.Refusal.{Refusal}
 use Rattle.wf_status.specs.declared.Status.{Status}

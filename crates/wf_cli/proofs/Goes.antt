@@ -17,8 +17,6 @@ use Rattle.wf_deeds.specs.Steps.{EndIsKept}
 use Rattle.wf_engine.specs.Engine.{Holds}
 use Rattle.wf_engine.specs.Printed.{status_of}
 use Rattle.wf_engine.specs.declared.engine.Engine.{Engine}
-use Rattle.wf_engine.specs.declared.fault.EngineFault.{EngineFault}
-use Rattle.wf_engine.specs.declared.fault.EngineFault.TheVariants as engine
 use Rattle.wf_host.specs.Moments.{CountsNow}
 use Rattle.wf_host.specs.World.{World, LeavesOnly, Only}
 use Rattle.wf_host.specs.declared.data.Deed.{Deed}
@@ -27,6 +25,8 @@ use Rattle.wf_journal.specs.Steps.{Moment}
 use Rattle.wf_model.specs.Config.{Outcome, Active, Returned, Raised, Cancelled}
 use Rattle.wf_model.specs.Ready.{quiet}
 use Rattle.wf_journal_laws.specs.Language.{Language}
+use Rattle.wf_replay.specs.declared.engine_fault.EngineFault.TheVariants as engine
+use Rattle.wf_replay.specs.declared.engine_fault.EngineFault.{EngineFault}
 use Rattle.wf_status.specs.Statuses.{status_code}
 use Rattle.wf_status.specs.declared.Status.{Status}
 use Rattle.wf_status.specs.declared.Status.TheVariants as status

@@ -17,7 +17,6 @@ use Rattle.wf_deeds.specs.Outside.{Outside}
 use Rattle.wf_engine.specs.Printed.{Scene, Reads}
 use Rattle.wf_engine.specs.Safe.{IsFit, SafeAt, LateAt, command_by}
 use Rattle.wf_engine.specs.Starts.{start_of}
-use Rattle.wf_engine.specs.TheLanguage.{the_language}
 use Rattle.wf_engine.specs.declared.engine.Engine.{Engine}
 use Rattle.wf_events.specs.Reading.{meaning}
 use Rattle.wf_events.specs.Records.{Started, Turned}
@@ -37,6 +36,7 @@ use Rattle.wf_journal_laws.specs.Language.{Language}
 use Rattle.wf_journal_laws.specs.Laws.{IsHistory}
 use Rattle.wf_journal_laws.specs.Moments.{NoTurnsBehind, NextBehindHistory}
 use Rattle.wf_ast.specs.Tree.{Program}
+use Rattle.wf_replay.specs.TheLanguage.{the_language}
 use Rattle.wf_shared.specs.Events.{Turn, Start}
 
 -- a moment at which nothing was opened yet: a file as at entry, and no deed or one reading of the clock

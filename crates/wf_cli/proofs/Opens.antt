@@ -17,10 +17,7 @@ use Rattle.wf_deeds.specs.Outside.{Outside}
 use Rattle.wf_engine.specs.Engine.{memory, OpeningMoment}
 use Rattle.wf_engine.specs.Printed.{Scene, uses_journal}
 use Rattle.wf_engine.specs.Safe.{SafeAt, command_of, command_by}
-use Rattle.wf_engine.specs.TheLanguage.{the_language}
 use Rattle.wf_engine.specs.declared.engine.Engine.{Engine}
-use Rattle.wf_engine.specs.declared.fault.EngineFault.{EngineFault}
-use Rattle.wf_engine.specs.declared.fault.EngineFault.TheVariants as engine
 use Rattle.wf_host.specs.Moments.{weaker}
 use Rattle.wf_host.specs.World.{World, LeavesOnly, Only}
 use Rattle.wf_host.specs.declared.data.Deed.{Deed}
@@ -32,6 +29,9 @@ use Rattle.wf_model.specs.Config.{Active}
 use Rattle.wf_journal_laws.specs.At.{journal, next_session}
 use Rattle.wf_journal_laws.specs.History.{Standing, history}
 use Rattle.wf_journal_laws.specs.Language.{Language}
+use Rattle.wf_replay.specs.TheLanguage.{the_language}
+use Rattle.wf_replay.specs.declared.engine_fault.EngineFault.TheVariants as engine
+use Rattle.wf_replay.specs.declared.engine_fault.EngineFault.{EngineFault}
 use Rattle.wf_status.specs.declared.Status.{Status}
 use Rattle.wf_status.specs.declared.Status.TheVariants as status
 

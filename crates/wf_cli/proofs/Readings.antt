@@ -6,9 +6,6 @@ use Rattle.wf_cli.specs.Reports.{the_reports}
 use Rattle.wf_cli.specs.Said.{ReadsJournal, TellsOf, text_by}
 use Rattle.wf_engine.specs.Printed as end
 use Rattle.wf_engine.specs.Printed.{TellsHistory, tells_history}
-use Rattle.wf_engine.specs.TheLanguage.{the_language}
-use Rattle.wf_engine.specs.declared.fault.EngineFault.{EngineFault}
-use Rattle.wf_engine.specs.declared.fault.EngineFault.TheVariants as engine
 use Rattle.wf_host.specs.World.{World, Only, LeavesOnly}
 use Rattle.wf_journal.specs.Records.{magic, records}
 use Rattle.wf_journal_laws.specs.History.{history}
@@ -18,6 +15,9 @@ use Rattle.wf_args.specs.declared.command.Command.{Command}
 use Rattle.wf_args.specs.declared.command.Command.TheVariants.{Check, Format, Run, Resume, Show, At, Log, Help, Version}
 use Rattle.wf_args.specs.declared.option.OptionName.TheVariants.{Grep}
 use Rattle.wf_model.specs.Config.{Config}
+use Rattle.wf_replay.specs.TheLanguage.{the_language}
+use Rattle.wf_replay.specs.declared.engine_fault.EngineFault.TheVariants as engine
+use Rattle.wf_replay.specs.declared.engine_fault.EngineFault.{EngineFault}
 use Rattle.wf_report.specs.Journals.{LeadsTo, MayHaveRecords, Shows}
 use Rattle.wf_report.specs.Texts as texts
 

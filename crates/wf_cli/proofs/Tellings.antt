@@ -19,9 +19,6 @@ use Rattle.wf_deeds.specs.Outside.{Outside}
 use Rattle.wf_engine.specs.Printed as end
 use Rattle.wf_engine.specs.Printed.{Scene, uses_source, needs_history, tells_history}
 use Rattle.wf_engine.specs.Safe.{SafeAt, command_by, session}
-use Rattle.wf_engine.specs.TheLanguage.{the_language}
-use Rattle.wf_engine.specs.declared.fault.EngineFault.{EngineFault}
-use Rattle.wf_engine.specs.declared.fault.EngineFault.TheVariants as engine
 use Rattle.wf_host.specs.Moments.{weaker}
 use Rattle.wf_host.specs.World.{World, Faults, Told, Only, Rose}
 use Rattle.wf_host.specs.declared.data.Deed.{Deed}
@@ -33,6 +30,9 @@ use Rattle.wf_journal_laws.specs.Moments.{NextBehindHistory, NoTurnsBehind}
 use Rattle.wf_args.specs.Lines.{PlainLine, line_of}
 use Rattle.wf_args.specs.declared.command.Command.{Command}
 use Rattle.wf_args.specs.declared.command.Command.TheVariants.{Check, Format, Run, Resume, Show, At, Log, Help, Version}
+use Rattle.wf_replay.specs.TheLanguage.{the_language}
+use Rattle.wf_replay.specs.declared.engine_fault.EngineFault.TheVariants as engine
+use Rattle.wf_replay.specs.declared.engine_fault.EngineFault.{EngineFault}
 use Rattle.wf_status.specs.Statuses.{status_code}
 use Rattle.wf_status.specs.declared.Status.TheVariants as status
 

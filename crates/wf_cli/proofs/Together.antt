@@ -6,7 +6,6 @@ use Rattle.wf_cli.specs.Reports.{layout_of, the_reports}
 use Rattle.wf_cli.specs.Top.{IsLineOf, IsBadLine, IsBadArgument, IsRefused, IsNoHistory, Reported, Gives, IsOfFile, IsPassed, Says, bad_line, bad_argument, refused, reported, of_file}
 use Rattle.wf_engine.specs.Printed as end
 use Rattle.wf_engine.specs.Printed.{Scene, uses_source, uses_journal, executes, refuses}
-use Rattle.wf_engine.specs.TheLanguage.{the_language}
 use Rattle.wf_host.specs.Source.{Rest, IsFirst, WhereTold}
 use Rattle.wf_host.specs.World.{World}
 use Rattle.wf_host.specs.declared.data.Deed.{Deed}
@@ -16,6 +15,7 @@ use Rattle.wf_args.specs.declared.command.Command.{Command}
 use Rattle.wf_args.specs.declared.command.Command.TheVariants.{Check, Format, Run, Resume, Show, At, Log, Help, Version}
 use Rattle.wf_journal_laws.specs.History.{history}
 use Rattle.wf_journal_laws.specs.Language.{Language}
+use Rattle.wf_replay.specs.TheLanguage.{the_language}
 use Rattle.wf_status.specs.Statuses.{rank}
 use Rattle.wf_status.specs.declared.Refusal.{Refusal}
 use Rattle.wf_status.specs.declared.Status.{Status}

@@ -28,10 +28,7 @@ use Rattle.wf_engine.specs.Printed as end
 use Rattle.wf_engine.specs.Printed.{Scene, uses_source, uses_journal, executes, status_of, accepted_text}
 use Rattle.wf_engine.specs.Safe.{IsFit, Since, SafeAt, session}
 use Rattle.wf_engine.specs.Starts.{HasArgument}
-use Rattle.wf_engine.specs.TheLanguage.{the_language}
 use Rattle.wf_engine.specs.declared.engine.Engine.{Engine}
-use Rattle.wf_engine.specs.declared.fault.EngineFault.{EngineFault}
-use Rattle.wf_engine.specs.declared.fault.EngineFault.TheVariants as engine
 use Rattle.wf_host.specs.Moments.{CountsNow, started, joined}
 use Rattle.wf_host.specs.World.{World, Faults, Told, Rose}
 use Rattle.wf_host.specs.declared.data.Deed.{Deed}
@@ -48,6 +45,9 @@ use Rattle.wf_model.specs.Config.{Outcome, Active, Returned, Raised, Cancelled}
 use Rattle.wf_journal_laws.specs.At.{journal, next_session}
 use Rattle.wf_journal_laws.specs.History.{Standing, history}
 use Rattle.wf_journal_laws.specs.Language.{Language}
+use Rattle.wf_replay.specs.TheLanguage.{the_language}
+use Rattle.wf_replay.specs.declared.engine_fault.EngineFault.TheVariants as engine
+use Rattle.wf_replay.specs.declared.engine_fault.EngineFault.{EngineFault}
 use Rattle.wf_source.specs.Laws.{NotBoth}
 use Rattle.wf_source.specs.Programs.{IsRefusalOf, IsSourceOf}
 use Rattle.wf_source.specs.Sources.{read_tree}

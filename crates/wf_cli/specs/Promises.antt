@@ -1,7 +1,7 @@
 -- What the top call promises of a call: each row by its name.
 use Rattle.wf_cli.specs.Top.{Call, Ends, BadLineRow, BadArgumentRow, ReadFaultRow, RefusedRow, DiskFaultRow, NotAJournalRow, AlreadyStartedRow, NotStartedRow, NotAHistoryRow, SuspendedRow, OutcomeRow, DoneRow, TellingRow, AcceptedRow, ComesBackRow, PrintFaultRow, PollFaultRow, Completes, FinishedStays, RefusedStays, ReportsStay, SilentStays, SafeThroughout, SafeAtEnd, LateAtEnd}
-use Rattle.wf_engine.specs.TheLanguage.{the_language}
 use Rattle.wf_host.specs.World.{Told}
+use Rattle.wf_replay.specs.TheLanguage.{the_language}
 
 pub record Promised (x : Call) : Type 0 where
   -- it ends in one of these ways, and exactly that was printed

@@ -20,10 +20,7 @@ use Rattle.wf_engine.specs.Printed as end
 use Rattle.wf_engine.specs.Printed.{Scene, uses_source, uses_journal, executes, status_of, outcome_text, accepted_text}
 use Rattle.wf_engine.specs.Safe.{IsFit, Since, SafeAt, LateAt, command_by, session}
 use Rattle.wf_engine.specs.Starts.{start_of}
-use Rattle.wf_engine.specs.TheLanguage.{the_language}
 use Rattle.wf_engine.specs.declared.engine.Engine.{Engine}
-use Rattle.wf_engine.specs.declared.fault.EngineFault.{EngineFault}
-use Rattle.wf_engine.specs.declared.fault.EngineFault.TheVariants as engine
 use Rattle.wf_events.specs.Records.{Started}
 use Rattle.wf_events.specs.Spelling.{record_bytes}
 use Rattle.wf_host.specs.Source.{Rest, IsFirst}
@@ -48,6 +45,9 @@ use Rattle.wf_journal_laws.specs.Laws.{IsHistory}
 use Rattle.wf_report.specs.Journals.{MayHaveRecords}
 use Rattle.wf_report.specs.Texts.{logged, shown}
 use Rattle.std.specs.declared.alloc.Global.{Global}
+use Rattle.wf_replay.specs.TheLanguage.{the_language}
+use Rattle.wf_replay.specs.declared.engine_fault.EngineFault.TheVariants as engine
+use Rattle.wf_replay.specs.declared.engine_fault.EngineFault.{EngineFault}
 use Rattle.wf_status.specs.Statuses.{status_code, status_text}
 use Rattle.wf_source.specs.Programs.{IsRefusalOf, IsSourceOf}
 use Rattle.wf_source.specs.Sources.{read_tree}

@@ -9,7 +9,6 @@ use Rattle.wf_engine.specs.Printed as end
 use Rattle.wf_engine.specs.Printed.{Scene, uses_source, executes, status_of, outcome_text, accepted_text, uses_journal, tells_history}
 pub use Rattle.wf_engine.specs.Printed.{IsLine, IsBadLine, IsBadArgument, IsLineOf, IsRefused, IsChecked, HasOtherMagic, IsStarted, IsNotStarted}
 use Rattle.wf_engine.specs.Safe.{IsFit, Since, SafeAt, LateAt}
-use Rattle.wf_engine.specs.TheLanguage.{the_language}
 use Rattle.wf_engine.specs.TheOutside.{InTheOutside}
 use Rattle.wf_host.specs.Source.{IsFirst, WhereTold}
 use Rattle.wf_host.specs.World.{World, Faults, Told, LeavesOnly, Rose}
@@ -21,6 +20,7 @@ use Rattle.wf_args.specs.declared.command.Command.TheVariants.{Check, Format, Re
 use Rattle.wf_model.specs.Config.{Outcome, Active}
 use Rattle.wf_journal_laws.specs.History.{Standing, history}
 use Rattle.wf_journal_laws.specs.Language.{Language}
+use Rattle.wf_replay.specs.TheLanguage.{the_language}
 use Rattle.wf_source.specs.Sources.{read_tree}
 use Rattle.wf_status.specs.Refusals.{refusal_text}
 use Rattle.wf_status.specs.Statuses.{line_end, rank}

@@ -8,7 +8,6 @@ ghost use Rattle.wf_deeds.specs.Memory.{StandsFor};
 ghost use Rattle.wf_engine.specs.Engine.{memory, is_closed, Holds};
 ghost use Rattle.wf_engine.specs.Safe.{scene};
 ghost use Rattle.wf_engine.specs.Starts.{HasArgument, argument_text, kept_routes, start_of};
-ghost use Rattle.wf_engine.specs.TheLanguage.{the_language};
 ghost use Rattle.wf_engine.specs.TheOutside.{InTheOutside};
 ghost use Rattle.wf_events.specs.Records.{Started};
 ghost use Rattle.wf_events.specs.Spelling.{record_bytes, route, HasSpelling, IsPair, IsRoute};
@@ -23,6 +22,7 @@ ghost use Rattle.wf_args.specs.Plain.{plain_line};
 ghost use Rattle.wf_args.specs.declared.command.Command.TheVariants.{Run, Resume};
 ghost use Rattle.wf_args.specs.declared.option.OptionName.TheVariants.{Id};
 ghost use Rattle.wf_record_parts.specs.Spelling.{Each, listed, pair};
+ghost use Rattle.wf_replay.specs.TheLanguage.{the_language};
 ghost use Rattle.wf_source.specs.Programs.{IsSourceOf};
 
 use crate::argument::read_argument;

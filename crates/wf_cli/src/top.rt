@@ -122,7 +122,8 @@ pub fn perform<S: Source, H: Host>(
 /// at the argument, reads the source to its end, begins its execution on the journal, and goes on to the outcome; `resume` goes on with the
 /// execution that stands in the journal. A value prints as a line of JSON with [`Status::Done`], an error with [`Status::Raised`]. `show`,
 /// `at` and `log` print what the execution that stands in the journal has come to, what it had come to after some turns, and what it has
-/// logged, with [`Status::Done`]. The words `--help` and `--version` alone print a text, with [`Status::Done`]. The causes of the other statuses are looked at in this order:
+/// logged, with [`Status::Done`]. The words `--help` and `--version` alone print a text, with [`Status::Done`]. The causes of the other
+/// statuses are looked at in this order:
 ///
 /// - [`Status::BadLine`]: the words are no line.
 /// - [`Status::BadArgument`]: the word of `--args` is no JSON of a value, or its value counts more than 32,768.

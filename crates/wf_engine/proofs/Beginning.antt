@@ -3,32 +3,21 @@ use Rattle.std.specs.Prelude.{◌≡◌, ◌≢◌, ◌⊎◌, ◌≤◌, ℕ, L
 use Rattle.std.proofs.Common.{inl, inr, ⊎_elim, refl, sym, ◌∙◌, ap, subst, arith}
 use Rattle.wf_engine.specs.Engine.{OpeningMoment}
 use Rattle.wf_history.specs.Stands.{HasNoneOrThis}
-use Rattle.wf_host.specs.Moments.{CountsNow, started, joined, weaker}
+use Rattle.wf_host.specs.Moments.{started, joined, weaker}
 use Rattle.wf_host.specs.World.{World, LeavesOnly, Only, Rose}
 use Rattle.wf_host.specs.declared.data.Deed.{Deed}
 use Rattle.wf_host.specs.declared.data.Deed.TheVariants.{Now}
-use Rattle.wf_journal.specs.Journal.{IsJournal, Stays}
+use Rattle.wf_journal.specs.Journal.{IsJournal}
 use Rattle.wf_journal.specs.Records.{magic, records}
+use Rattle.wf_replay.proofs.OnlyReads.{Quiet}
 
 -- the host's law of the present moment
 abbrev pub OnlyNow : World → Type 0
 OnlyNow w = (c : List ℕ) (d : List Deed) → w.left_since w.moment c d → w.may_leave c × (d ≡ w.deeds)
 
 -- ## Nothing is written and nothing done
-abbrev pub Quiet : World → List ℕ → List Deed → Type 0
-Quiet w c d = w.may_leave c × (d ≡ w.deeds)
-
 pub quiet_at_once : (w : World) → OnlyNow w → LeavesOnly w w (Quiet w)
 quiet_at_once w only = started w (Quiet w) only (λ c now. (now, refl))
-
--- a call more that changes nothing
-pub quiet_stays : (w mid new : World) → LeavesOnly w mid (Quiet w) → LeavesOnly mid new (Stays mid) → mid.seen ≡ w.seen → mid.deeds ≡ w.deeds → w.may_leave w.seen → LeavesOnly w new (Quiet w)
-quiet_stays w mid new so_far more seen deeds reads =
-    joined w mid new (Quiet w) (Stays mid) so_far more (λ c d is. (subst w.may_leave (sym (is.0 ∙ seen)) reads, is.1 ∙ deeds))
-
--- behind a call that only reads, a crash leaves what reads
-pub settled_behind : (mid new : World) → LeavesOnly mid new (Stays mid) → CountsNow new → new.seen ≡ mid.seen → Only new.seen new.may_leave
-settled_behind mid new run counts seen c may = (run.each c new.deeds (counts mid.moment c run.later may)).0 ∙ sym seen
 
 -- ## A beginning
 -- nothing yet, or on a file without a record the start alone or none

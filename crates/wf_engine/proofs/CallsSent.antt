@@ -11,7 +11,6 @@ use Rattle.wf_engine.proofs.Sent.{Goes, OnlyNow, kept_before, kept_then, went_by
 use Rattle.wf_engine.proofs.SentLists.{drops_starts, drops_then, just_this, silent_sending, starts_then, those_on, those_same, this_same}
 use Rattle.wf_engine.specs.Engine.{Holds, is_closed, memory}
 use Rattle.wf_engine.specs.Sending.{DropsAll, DropsOne, SameButSent, Sends, Sent, StartsAll, StartsOne, is_to_drop, is_to_start}
-use Rattle.wf_engine.specs.TheLanguage.{the_language}
 use Rattle.wf_engine.specs.TheOutside.{InTheOutside}
 use Rattle.wf_engine.specs.declared.engine.Engine.{Engine}
 use Rattle.wf_history.specs.Stands as history
@@ -26,6 +25,7 @@ use Rattle.wf_journal.specs.Standing.{stands_after}
 use Rattle.wf_journal_laws.specs.Language.{Language}
 use Rattle.wf_model.specs.Config.{Active, Answered, Call, Config, Open, TimedOut}
 use Rattle.wf_model.specs.Ready.{call, quiet, request_in, request_of}
+use Rattle.wf_replay.specs.TheLanguage.{the_language}
 use Rattle.wf_shared.specs.HttpRequest.{Request}
 
 pub told_then : (w new : World) → new.tells ≡ w.tells → IsTrue w.tells → IsTrue new.tells

@@ -5,10 +5,8 @@ mod Bringing
 mod Chosen
 mod Clock
 mod Connected
-mod FirstRecords
 mod FreshEngine
 mod Heard
-pub mod Language
 mod LivesKept
 mod LivesPrinted
 mod LivesRuns
@@ -21,7 +19,6 @@ mod CallsSent
 mod Sent
 mod SentLists
 mod Settling
-mod StillOpen
 mod Turning
 mod TurnsAdded
 mod Waiting

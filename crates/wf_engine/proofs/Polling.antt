@@ -8,7 +8,6 @@ use Rattle.wf_deeds.specs.Outside.{Outside}
 use Rattle.wf_engine.proofs.CallsSent.{holds_later}
 use Rattle.wf_engine.proofs.Parts.{Far, OnlyNow, far_at_first, far_on, far_went, polls_once, sending_polls}
 use Rattle.wf_engine.specs.Engine.{Holds, held, is_closed, memory}
-use Rattle.wf_engine.specs.TheLanguage.{the_language}
 use Rattle.wf_engine.specs.declared.engine.Engine.{Engine}
 use Rattle.wf_history.specs.Stands as history
 use Rattle.wf_history.specs.declared.history.History.{History}
@@ -21,6 +20,7 @@ use Rattle.wf_host.specs.declared.data.Heard.{Heard}
 use Rattle.wf_host.specs.declared.data.What.{What}
 use Rattle.wf_host.specs.declared.data.What.TheVariants as what
 use Rattle.wf_journal.specs.Records.{records}
+use Rattle.wf_replay.specs.TheLanguage.{the_language}
 
 -- a host tells of no visit
 pub no_visit : (w : What) → host.visit_of w ≡ None → visit_of w ≡ None

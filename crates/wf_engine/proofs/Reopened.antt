@@ -7,22 +7,23 @@ use Rattle.wf_deeds.specs.Laws.{OnlyReadings}
 use Rattle.wf_deeds.specs.Outside.{Outside}
 use Rattle.wf_deeds.specs.Steps.{FreshStands, fresh}
 use Rattle.wf_engine.specs.Openings.{ReadsClock}
-use Rattle.wf_engine.specs.declared.fault.EngineFault.{EngineFault}
-use Rattle.wf_engine.specs.declared.fault.EngineFault.TheVariants.{NotAHistory}
 use Rattle.wf_history.specs.Stands.{Stands, ahead, last}
 use Rattle.wf_history.specs.declared.history.History.{History}
 use Rattle.wf_host.specs.World.{World, Only, longest}
 use Rattle.wf_host.specs.declared.data.Deed.TheVariants.{Now}
 use Rattle.wf_journal.specs.Journal.{IsJournal}
 use Rattle.wf_journal.specs.Records.{magic, records, payloads, is_open, length_of}
-use Rattle.wf_journal.specs.Standing.{new_none, stands_where}
+use Rattle.wf_journal.specs.Standing.{stands_where}
 use Rattle.wf_machine.specs.Seen.{state_of}
 use Rattle.wf_machine.specs.declared.machine.Machine.{Machine}
 use Rattle.wf_model.specs.Config.{Config, Active}
 use Rattle.wf_journal_laws.specs.History.{Standing, history}
 use Rattle.wf_journal_laws.specs.Language.{Language}
 use Rattle.wf_journal_laws.specs.Moments.{HistoryStandsBefore, NoTurnsBehind, NumberIsCount, SessionIsNumbered}
+use Rattle.wf_replay.proofs.OnlyReads.{magic_found}
 use Rattle.wf_replay.specs.Standing.{session_of, standing, stands_at}
+use Rattle.wf_replay.specs.declared.engine_fault.EngineFault.TheVariants.{NotAHistory}
+use Rattle.wf_replay.specs.declared.engine_fault.EngineFault.{EngineFault}
 
 -- ## What stands
 program_at : (n : ℕ) (l : Option (ℕ × ℕ)) (m : Machine) → (stands_at n l m).program ≡ (state_of m).program
@@ -89,11 +90,6 @@ pub deeds_on : (old mid new : World) → mid.deeds ≡ old.deeds → (new.deeds 
 deeds_on old mid new same (inl none) = inl (none ∙ same)
 deeds_on old mid new same (inr (t, one)) = inr (t, one ∙ ap (λ l. l ++ Now t ∷ []) same)
 
--- a file with a record that is a journal begins with the magic
-begins : (file : List ℕ) → IsJournal file → records file ≢ [] → take 4 file ≡ magic
-begins file (inl short) some = absurd (some (new_none file short))
-begins file (inr is) some = is
-
 -- what was found to be no history is none, in a file with a record
 pub no_history_told : {T : Type 0} (L : Language) (file : List ℕ) (J : List (List ℕ)) (r : Result T EngineFault) (cause : EngineFault) → IsErr r × IsErrAnd r (λ e. e ≡ cause) → J ≡ records file → IsJournal file
     → ((n : ℕ) → cause ≡ NotAHistory n → (history L J ≡ Err n) × (J ≢ [])) → IfErr r (λ e. (n : ℕ) → e ≡ NotAHistory n → (history L (records file) ≡ Err n) × (records file ≢ []) × (take 4 file ≡ magic))
@@ -101,7 +97,7 @@ no_history_told L file J (Ok x) cause gives same fit why = absurd gives.1
 no_history_told L file J (Err e) cause gives same fit why = λ n is.
     let it = why n (sym gives.1 ∙ is) in
     let some : records file ≢ [] = λ none. it.1 (same ∙ none) in
-    (ap (λ K. history L K) (sym same) ∙ it.0, some, begins file fit some)
+    (ap (λ K. history L K) (sym same) ∙ it.0, some, magic_found file fit some)
 
 -- a history with an outcome is that of its machine
 pub has_ended : (L : Language) (J : List (List ℕ)) (h : History) (m : Machine) (s : Standing) → history L J ≡ Ok (standing h m) → history L J ≡ Ok s → s.config.outcome ≢ Active → (state_of m).config.outcome ≢ Active

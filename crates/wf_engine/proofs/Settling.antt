@@ -4,7 +4,6 @@ use Rattle.std.proofs.Common.{inl, inr, refl, sym, ◌∙◌, ap, subst, arith}
 use Rattle.wf_deeds.specs.Memory.{IsSettled, Memory}
 use Rattle.wf_engine.proofs.Parts.{Far}
 use Rattle.wf_engine.specs.Engine.{Holds, is_closed, memory, spent}
-use Rattle.wf_engine.specs.TheLanguage.{the_language}
 use Rattle.wf_engine.specs.TheOutside.{InTheOutside}
 use Rattle.wf_engine.specs.declared.engine.Engine.{Engine}
 use Rattle.wf_host.specs.World.{World, Told, Faults, NoneFell, Rose}
@@ -15,6 +14,7 @@ use Rattle.wf_machine.specs.declared.Outcome.TheVariants as outcome
 use Rattle.wf_model.specs.Config as plain
 use Rattle.wf_model.specs.Config.{Active, Config}
 use Rattle.wf_model.specs.Ready.{quiet}
+use Rattle.wf_replay.specs.TheLanguage.{the_language}
 use Rattle.wf_shared.specs.Events.{Event}
 
 -- ## Counts and errors

@@ -9,7 +9,6 @@ use Rattle.wf_deeds.specs.Outside.{Outside}
 use Rattle.wf_engine.proofs.Parts.{Far, far_on, far_went}
 use Rattle.wf_engine.specs.Engine.{Holds, is_closed, memory}
 use Rattle.wf_engine.specs.Taken.{taken_event}
-use Rattle.wf_engine.specs.TheLanguage.{the_language}
 use Rattle.wf_engine.specs.TheOutside.{InTheOutside}
 use Rattle.wf_engine.specs.declared.engine.Engine.{Engine}
 use Rattle.wf_engine.specs.declared.taken.Taken.{Taken}
@@ -17,6 +16,7 @@ use Rattle.wf_host.specs.Moments.{CountsNow}
 use Rattle.wf_host.specs.World.{World, Told, Faults, NoneFell}
 use Rattle.wf_host.specs.declared.data.Deed.{Deed}
 use Rattle.wf_model.specs.Config.{Active}
+use Rattle.wf_replay.specs.TheLanguage.{the_language}
 
 -- it polled as often as it has used up of what it may
 pub record Polled (O : Outside) (m n : Memory) (first now : World) (bound left : ℕ) : Type 0 where

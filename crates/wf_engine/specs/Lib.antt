@@ -3,11 +3,9 @@ pub mod Printed
 pub mod Safe
 pub mod Sending
 pub mod Lives
-pub mod TheLanguage
 pub mod TheOutside
 pub mod Ready
 pub mod Engine
-pub mod Faults
 pub mod Fits
 pub mod Openings
 pub mod Rows

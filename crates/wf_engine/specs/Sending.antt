@@ -8,13 +8,13 @@ use Rattle.wf_deeds.specs.Clauses.{IsSending, KeptThroughout, Went, is_timed_out
 use Rattle.wf_deeds.specs.Memory.{Memory}
 use Rattle.wf_deeds.specs.Outside.{Outside}
 use Rattle.wf_engine.specs.Engine.{Holds, is_closed, memory}
-use Rattle.wf_engine.specs.TheLanguage.{the_language}
 use Rattle.wf_engine.specs.TheOutside.{InTheOutside}
 use Rattle.wf_engine.specs.declared.engine.Engine.{Engine}
 use Rattle.wf_host.specs.World.{World, Faults, NoneFell, Told}
 use Rattle.wf_host.specs.declared.data.Deed.{Deed}
 use Rattle.wf_journal_laws.specs.Language.{Language}
 use Rattle.wf_model.specs.Ready.{call, request_of}
+use Rattle.wf_replay.specs.TheLanguage.{the_language}
 
 -- the execution and the session stay, and what was started and told of it
 pub record SameButSent (m n : Memory) : Type 0 where

@@ -4,8 +4,7 @@ ghost use Rattle.std.specs.Coded.{→_prop};
 ghost use Rattle.wf_engine.specs.Ready.{IsReady, IsReady-prop};
 
 use crate::choose_turn;
-use crate::fault::EngineFault;
-use crate::opening::{empty_history, last_machine, session_reading};
+use crate::opening::{empty_history, session_reading};
 use crate::taken::Taken;
 use std::alloc::Global;
 use std::sync::ledger::Ledger;
@@ -18,6 +17,7 @@ use wf_host::Host;
 use wf_journal_laws::{laws_of_histories, laws_of_moments};
 use wf_machine::{Machine, Outcome, Steps};
 use wf_model::{laws_of_calls, laws_of_runs};
+use wf_replay::{EngineFault, last_machine};
 use wf_source::each_source_is_one;
 
 /// Carries that the numbers of a turn have a spelling.
@@ -59,7 +59,6 @@ impl Engine {
     ghost use Rattle.wf_deeds.specs.Memory.{IsSettled, StandsFor};
     ghost use Rattle.wf_deeds.specs.Turns.{turn_of};
     ghost use Rattle.wf_engine.specs.Engine.{memory, is_closed, Holds, OpeningMoment, spent};
-    ghost use Rattle.wf_engine.specs.TheLanguage.{the_language};
     ghost use Rattle.wf_engine.specs.TheOutside.{InTheOutside};
     ghost use Rattle.wf_events.specs.Records.{Started};
     ghost use Rattle.wf_events.specs.Spelling.{record_bytes, HasSpelling};
@@ -76,6 +75,7 @@ impl Engine {
     ghost use Rattle.wf_model.specs.Config.{Active};
     ghost use Rattle.wf_journal_laws.specs.At.{applied_by, journal, next_session};
     ghost use Rattle.wf_journal_laws.specs.History.{Standing, history as history_of};
+    ghost use Rattle.wf_replay.specs.TheLanguage.{the_language};
     ghost use Rattle.wf_source.specs.Programs.{IsSourceOf};
 
     /// Begins an execution on a file without a record, with its start, whose source has this program. The start's reading is that of the

@@ -2,7 +2,6 @@
 #![tactic(auto)]
 
 mod engine;
-mod fault;
 mod lives;
 mod opening;
 mod rows;
@@ -14,10 +13,9 @@ mod taking;
 mod turns;
 
 pub use engine::Engine;
-pub use fault::EngineFault;
 pub use lives::{law_of_lives, law_of_stays};
-pub use opening::{first_machine, last_machine};
 pub use rows::worked_histories;
 pub use starts::laws_of_starts;
 pub use taken::Taken;
 pub use turns::choose_turn;
+pub use wf_replay::EngineFault;

@@ -1,9 +1,9 @@
 // What is sent.
 use crate::engine::Engine;
-use crate::fault::EngineFault;
 use wf_deeds::laws_of_steps;
 use wf_host::Host;
 use wf_machine::Outcome;
+use wf_replay::EngineFault;
 
 impl Engine {
     ghost use Rattle.std.specs.Prelude.{◌≡◌, ◌≢◌, ◌⊎◌, ◌↔◌, [], true, false, IfErr, IsErrOf, OnErr, OnOk};
@@ -11,11 +11,11 @@ impl Engine {
     ghost use Rattle.wf_deeds.specs.Memory.{AllIsSent, IsSettled};
     ghost use Rattle.wf_engine.specs.Engine.{Holds, is_closed, memory};
     ghost use Rattle.wf_engine.specs.Sending.{DropsAll, DropsOne, SameButSent, Sent, StartsAll, StartsOne, is_to_drop, is_to_start};
-    ghost use Rattle.wf_engine.specs.TheLanguage.{the_language};
     ghost use Rattle.wf_engine.specs.TheOutside.{InTheOutside};
     ghost use Rattle.wf_host.specs.Calls.{NoCountFalls, ReadsAsBefore, TellsAsBefore};
     ghost use Rattle.wf_host.specs.World.{Told};
     ghost use Rattle.wf_model.specs.Config.{Active};
+    ghost use Rattle.wf_replay.specs.TheLanguage.{the_language};
 
     /// Drops each started call that timed out, and starts each open call that this engine hasn't started, in the order of their numbers.
     /// With an outcome it does nothing.

@@ -1,21 +1,21 @@
 // A session: turns, what is sent, and waits.
 use crate::engine::Engine;
-use crate::fault::EngineFault;
 use wf_deeds::laws_of_steps;
 use wf_host::Host;
 use wf_machine::Outcome;
+use wf_replay::EngineFault;
 
 impl Engine {
     ghost use Rattle.std.specs.Prelude.{◌≡◌, ◌≢◌, ◌⊎◌, ◌↔◌, ◌+◌, ◌<◌, ◌^◌, true, false, IfErr, IsErrOf, IsTrue, OnErr, OnOk};
     ghost use Rattle.wf_deeds.specs.Clauses.{AddsTurns, KeptThroughout, Sessions, Waits};
     ghost use Rattle.wf_deeds.specs.Memory.{IsSettled};
     ghost use Rattle.wf_engine.specs.Engine.{Holds, is_closed, memory};
-    ghost use Rattle.wf_engine.specs.TheLanguage.{the_language};
     ghost use Rattle.wf_engine.specs.TheOutside.{InTheOutside};
     ghost use Rattle.wf_host.specs.Calls.{DiskFailed, NoCountFalls, TellsAsBefore};
     ghost use Rattle.wf_host.specs.World.{Rose, Told};
     ghost use Rattle.wf_machine.specs.Outcome.{IsResult};
     ghost use Rattle.wf_model.specs.Config.{Active};
+    ghost use Rattle.wf_replay.specs.TheLanguage.{the_language};
 
     /// Adds turns, sends what is open and polls until the least due moment, again and again, until there is an outcome. It polls at most
     /// `waits` times.

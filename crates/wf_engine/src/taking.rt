@@ -3,10 +3,10 @@ ghost use Rattle.std.specs.Prelude.{◌≡◌};
 ghost use Rattle.wf_deeds.specs.Deeds.{call_of};
 
 use crate::engine::Engine;
-use crate::fault::EngineFault;
 use crate::taken::Taken;
 use wf_deeds::laws_of_steps;
 use wf_host::{Heard, What};
+use wf_replay::EngineFault;
 use wf_value::OutOfMemory;
 
 impl Engine {
@@ -17,10 +17,10 @@ impl Engine {
     ghost use Rattle.wf_deeds.specs.Memory.{IsSettled};
     ghost use Rattle.wf_engine.specs.Engine.{held, is_closed, memory};
     ghost use Rattle.wf_engine.specs.Hearing.{Finds, SameBut};
-    ghost use Rattle.wf_engine.specs.TheLanguage.{the_language};
     ghost use Rattle.wf_engine.specs.TheOutside.{InTheOutside};
     ghost use Rattle.wf_model.specs.Config.{Active};
     ghost use Rattle.wf_model.specs.Ready.{request_of};
+    ghost use Rattle.wf_replay.specs.TheLanguage.{the_language};
 
     /// Hears what a poll has heard, or what was handed over in its place. An answer that it makes whole waits for the next turn.
     ///

@@ -147,8 +147,8 @@ fn bring<L: Ledger>(
     requires whole { (state_of machine.old).broken ≡ false }
     requires takable { IsTakable (state_of machine.old).config taken }
     requires last { (state_of machine.old).config.last ≤ reading }
-    ensures brought { IfOk result (λ event. IsBrought (state_of machine.old) (state_of machine.new) reading
-        taken (event_view event)) }
+    ensures brought { IfOk result (λ event. IsBrought (state_of machine.old)
+        (state_of machine.new) reading taken (event_view event)) }
     ensures steps { OnOk result (steps.new ≡ steps.old + 1) }
 {
     answers_lead(machine);

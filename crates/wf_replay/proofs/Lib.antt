@@ -4,3 +4,7 @@ mod Faults
 mod Fronts
 mod Replays
 mod Steps
+pub mod FirstRecords
+pub mod Language
+pub mod OnlyReads
+pub mod StillOpen

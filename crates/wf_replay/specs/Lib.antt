@@ -1,2 +1,5 @@
+pub mod EngineFaults
 pub mod Faults
+pub mod Openings
 pub mod Standing
+pub mod TheLanguage

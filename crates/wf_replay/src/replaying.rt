@@ -74,7 +74,8 @@ pub fn replay<H: Host, L: Ledger>(
 
 /// Applies so many of the turns that a history has left to the machine, which stands where the records that were read so far lead, or all
 /// of them where there are fewer. Then the machine stands where the records lead that were read, and the other turns come next. Each event
-/// of the turns that were applied counts one step. The faults are those of [`replay`], of these turns alone.
+/// of the turns that were applied counts one step. The faults are those of [`replay`]: a `BadEvent` tells the first of all records left
+/// that doesn't go on, as there.
 #[tactic(auto, using(crate::proofs::Fronts::all_gone))]
 pub fn replay_turns<H: Host, L: Ledger>(
     alloc: Global,

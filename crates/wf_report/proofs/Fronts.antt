@@ -2,8 +2,6 @@
 use Rattle.std.proofs.Common.{◌≡◌, ◌∙◌, ◌+◌, ℕ, List, [], ◌∷◌, ◌++◌, take, drop, Some, Result, Ok, Err, IfErr, refl, sym, ap, subst}
 use Rattle.std.proofs.lemmas.List.{take-append-drop}
 use Rattle.std.specs.Prelude.{IsErr, IsErrAnd, suc}
-use Rattle.wf_engine.specs.Faults.{replay_fault}
-use Rattle.wf_engine.specs.declared.fault.EngineFault.{EngineFault}
 use Rattle.wf_events.specs.Reading.{meaning}
 use Rattle.wf_history.specs.declared.history.History.{History}
 use Rattle.wf_journal_laws.specs.History.{Standing, first_standing, goes_to, history}
@@ -12,10 +10,13 @@ use Rattle.wf_journal_laws.specs.Laws.{RecordsGoOn}
 use Rattle.wf_machine.specs.Seen.{state_of}
 use Rattle.wf_machine.specs.declared.machine.Machine.{Machine}
 use Rattle.wf_model.specs.Config.{Config}
+use Rattle.wf_replay.proofs.FirstRecords.{IsNone, records_lead, same_number}
+use Rattle.wf_replay.proofs.StillOpen.{some_first}
+use Rattle.wf_replay.specs.EngineFaults.{replay_fault}
 use Rattle.wf_replay.specs.Standing.{standing, stands_at}
-use Rattle.wf_replay.specs.declared.fault.ReplayFault.{ReplayFault}
+use Rattle.wf_replay.specs.declared.engine_fault.EngineFault.{EngineFault}
 use Rattle.wf_replay.specs.declared.fault.ReplayFault.TheVariants as cause
-use Rattle.wf_report.proofs.Records.{IsNone, records_lead, same_number, some_first}
+use Rattle.wf_replay.specs.declared.fault.ReplayFault.{ReplayFault}
 use Rattle.wf_report.specs.Journals.{StandsAt}
 
 -- the configuration of a machine that stands somewhere

@@ -1,5 +1,4 @@
 mod Found
-mod Records
 mod Fronts
 mod Opened
 mod Lines

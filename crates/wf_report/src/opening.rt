@@ -1,6 +1,5 @@
 // Reading a journal for a report.
 ghost use Rattle.std.specs.Prelude.{◌≡◌, ◌≢◌, ◌⊎◌, ◌≤◌, ◌+◌, [], false, ℕ, Err, None, OnOk, IfOk, IfErr, IsErrOf, length, string_bytes, take};
-ghost use Rattle.wf_engine.specs.TheLanguage.{the_language};
 ghost use Rattle.wf_history.specs.Stands.{ahead, is_closed, is_new, last, place, Stands};
 ghost use Rattle.wf_host.specs.Calls.{AtAnyMoment, DiskFailed, DoesNoDeed, NoCountFalls, ReadsAsBefore, TellsAsBefore};
 ghost use Rattle.wf_host.specs.World.{Only, Told};
@@ -9,17 +8,17 @@ ghost use Rattle.wf_journal.specs.Records.{magic, records};
 ghost use Rattle.wf_journal_laws.specs.At.{applied_by};
 ghost use Rattle.wf_journal_laws.specs.History.{history as history_of};
 ghost use Rattle.wf_machine.specs.Seen.{state_of};
+ghost use Rattle.wf_replay.specs.TheLanguage.{the_language};
 ghost use Rattle.wf_report.specs.Journals.{LeadsTo, MayHaveRecords, Shows};
 
 use crate::showing::show;
 use std::alloc::Global;
 use std::sync::ledger::Ledger;
-use wf_engine::{EngineFault, first_machine, last_machine};
 use wf_history::History;
 use wf_host::Host;
 use wf_journal_laws::laws_of_histories;
 use wf_machine::{Machine, Steps};
-use wf_replay::{replay, replay_turns};
+use wf_replay::{EngineFault, first_machine, last_machine, replay, replay_turns};
 
 /// The machine to which the records of a file lead. Each of their events is applied once, and is a step. Nothing is written.
 ///

@@ -11,7 +11,6 @@ use Rattle.wf_cli.specs.Top.{IsLineOf}
 use Rattle.wf_args.specs.declared.command.Command.TheVariants.{Run}
 use Rattle.wf_deeds.specs.Kept as kept
 use Rattle.wf_engine.specs.Safe.{scene}
-use Rattle.wf_engine.specs.TheLanguage.{the_language}
 use Rattle.wf_events.specs.Records.{Started}
 use Rattle.wf_events.specs.Spelling.{HasSpelling, record_bytes}
 use Rattle.wf_events.specs.View.{start_view}
@@ -19,6 +18,7 @@ use Rattle.wf_args.specs.Plain.{plain_line}
 use Rattle.wf_shared.specs.Events.{Start}
 use Rattle.wf_source.specs.Programs.{IsSourceOf}
 use Rattle.wf_cli.proofs.execution.begin.Goals as goal
+use Rattle.wf_replay.specs.TheLanguage.{the_language}
 
 pub start_for-requires : goal.start_for-requires
 start_for-requires g c = record { text = c.requires.text; has = c.requires.has; short = c.laws_of_sources.ensures.short c.args.source.now (program_of c.args.program) c.requires.program }

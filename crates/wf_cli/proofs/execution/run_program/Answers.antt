@@ -13,9 +13,9 @@ use Rattle.wf_args.specs.Lines.{line_of}
 use Rattle.wf_deeds.specs.Kept as kept
 use Rattle.wf_engine.specs.Printed.{uses_source}
 use Rattle.wf_engine.specs.Safe.{scene}
-use Rattle.wf_engine.specs.TheLanguage.{the_language}
 use Rattle.wf_args.specs.Plain.{plain_line}
 use Rattle.wf_cli.proofs.execution.run_program.Goals as goal
+use Rattle.wf_replay.specs.TheLanguage.{the_language}
 
 pub returns-in-Ok : goal.returns-in-Ok
 returns-in-Ok g c =

@@ -3,9 +3,9 @@ use Rattle.wf_cli.proofs.Goes.{going, fault_said, says_outcome, SaysEnd, settled
 use Rattle.wf_cli.proofs.Works.{no_said, still_unwritten}
 use Rattle.wf_cli.specs.Said.{Unwritten}
 use Rattle.wf_engine.specs.Engine.{memory}
-use Rattle.wf_engine.specs.TheLanguage.{the_language}
 use Rattle.wf_machine.specs.Lent.{outcome_view}
 use Rattle.wf_cli.proofs.execution.to_outcome.Goals as goal
+use Rattle.wf_replay.specs.TheLanguage.{the_language}
 
 pub returns-in_err-outcome-in-Ok-clause-going : goal.returns-in_err-outcome-in-Ok-clause-going
 returns-in_err-outcome-in-Ok-clause-going g c = λ O told command D stands.

@@ -4,9 +4,9 @@ use Rattle.wf_args.specs.Lines.{turn_of}
 use Rattle.wf_args.specs.Plain.{plain_line}
 use Rattle.wf_cli.proofs.Readings.{front_read, lacks_read, passed_read, tells_whole, text_read}
 use Rattle.wf_cli.proofs.reporting.text_for.Goals as goal
-use Rattle.wf_engine.specs.TheLanguage.{the_language}
 use Rattle.wf_journal.specs.Records.{records}
 use Rattle.wf_machine.specs.Seen.{state_of}
+use Rattle.wf_replay.specs.TheLanguage.{the_language}
 use Rattle.wf_report.specs.Journals.{Shows}
 
 pub returns-in-At-clause-reads : goal.returns-in-At-clause-reads

@@ -1,8 +1,8 @@
 use Rattle.wf_engine.proofs.Clock.{settled_still}
-use Rattle.wf_engine.proofs.StillOpen.{tells_still}
 use Rattle.wf_engine.proofs.opening.session_reading.Goals as goal
 use Rattle.std.proofs.Common.{[], ◌∷◌}
 use Rattle.wf_host.specs.declared.data.Deed.TheVariants.{Now}
+use Rattle.wf_replay.proofs.StillOpen.{tells_still}
 
 pub returns-in_err-now-in-Active-clause-settled : goal.returns-in_err-now-in-Active-clause-settled
 returns-in_err-now-in-Active-clause-settled g c = λ told only.

@@ -1,14 +1,15 @@
 use Rattle.std.proofs.Common.{◌≡◌, ◌∙◌, ◌+◌, ap, sym, Ok, take, drop}
-use Rattle.wf_engine.specs.TheLanguage.{the_language}
 use Rattle.wf_history.specs.Stands.{ahead, is_closed}
 use Rattle.wf_journal_laws.specs.At.{applied_by}
 use Rattle.wf_journal_laws.specs.History.{goes_to}
 use Rattle.wf_machine.specs.Seen.{state_of}
+use Rattle.wf_replay.proofs.FirstRecords.{applied_in_all, at_first_record, at_later_record}
+use Rattle.wf_replay.proofs.StillOpen.{some_first, still_open, tells_still}
 use Rattle.wf_replay.specs.Standing.{standing}
+use Rattle.wf_replay.specs.TheLanguage.{the_language}
 use Rattle.wf_replay.specs.declared.fault.ReplayFault.TheVariants as fault
 use Rattle.wf_report.proofs.Fronts.{config_is, rest_stops, stands}
-use Rattle.wf_report.proofs.Opened.{stays_on, still_open, tells_still}
-use Rattle.wf_report.proofs.Records.{applied_in_all, at_first_record, at_later_record, some_first}
+use Rattle.wf_report.proofs.Opened.{stays_on}
 use Rattle.wf_report.specs.Texts.{shown_as}
 use Rattle.wf_report.proofs.opening.front_state.Goals as goal
 
@@ -25,7 +26,7 @@ returns-in_err-stood-clause-not_a_history g c = λ told.
     let h1 = c.first_machine.new.history in
     let s = standing h1 c.in_ok-machine.machine in
     let (payload, next, first) = c.in_ok-machine.ensures.leads told in
-    at_later_record the_language (ahead c.args.history.now w.seen) payload (ahead h1 w.seen) s c.from_residual-in_err-stood.result c.in_err-stood.field-0.0 c.from_residual-in_err-stood.ensures next first
+    at_later_record the_language (ahead c.args.history.now w.seen) (ahead h1 w.seen) s c.from_residual-in_err-stood.result c.in_err-stood.field-0.0 c.from_residual-in_err-stood.ensures (record { payload = payload; next = next; first = first })
     (λ n is. ap (λ f. goes_to s (ahead h1 f)) (sym seen1) ∙ c.in_err-stood.ensures.bad_event told1 n is)
 
 pub returns-in_err-replay-clause-not_a_history : goal.returns-in_err-replay-clause-not_a_history

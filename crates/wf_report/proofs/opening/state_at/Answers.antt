@@ -1,10 +1,12 @@
 use Rattle.std.proofs.Common.{◌∙◌, ◌+◌, ap, sym}
-use Rattle.wf_engine.specs.TheLanguage.{the_language}
 use Rattle.wf_history.specs.Stands.{ahead}
 use Rattle.wf_host.specs.World.{Only}
 use Rattle.wf_journal.specs.Records.{records}
 use Rattle.wf_journal_laws.specs.At.{applied_by}
-use Rattle.wf_report.proofs.Opened.{magic_found, no_history_for, on_ok_map, quiet_stays, settled_behind, shows_found, tells_still}
+use Rattle.wf_replay.proofs.OnlyReads.{magic_found, quiet_stays, settled_behind}
+use Rattle.wf_replay.proofs.StillOpen.{tells_still}
+use Rattle.wf_replay.specs.TheLanguage.{the_language}
+use Rattle.wf_report.proofs.Opened.{no_history_for, on_ok_map, shows_found}
 use Rattle.wf_report.proofs.opening.state_at.Goals as goal
 
 pub returns-clause-any_moment : goal.returns-clause-any_moment

@@ -3,14 +3,11 @@ use Rattle.wf_check.specs.Seen.{program_of}
 use Rattle.wf_connections.specs.Calls.{is_dropped, is_started, told}
 use Rattle.wf_engine.proofs.Beginning.{then_begins}
 use Rattle.wf_engine.proofs.FreshEngine.{stands_as_fresh}
-use Rattle.wf_engine.proofs.Language.{of_program}
 use Rattle.wf_engine.proofs.NewSessions.{stands_begun}
-use Rattle.wf_engine.proofs.StillOpen.{tells_still}
 use Rattle.wf_engine.proofs.engine.Engine.begin.Goals as goal
 use Rattle.wf_deeds.specs.Kept.{Run}
 use Rattle.wf_deeds.specs.Memory.{StandsFor}
 use Rattle.wf_deeds.specs.Steps.{fresh}
-use Rattle.wf_engine.specs.TheLanguage.{the_language}
 use Rattle.wf_events.specs.Records.{Started}
 use Rattle.wf_events.specs.Spelling.{record_bytes}
 use Rattle.wf_events.specs.View.{start_view}
@@ -19,6 +16,9 @@ use Rattle.wf_host.specs.declared.data.Deed.TheVariants.{Now}
 use Rattle.wf_machine.specs.Seen.{state_of}
 use Rattle.wf_model.specs.Config.{To}
 use Rattle.wf_model.specs.Run.{initial}
+use Rattle.wf_replay.proofs.Language.{of_program}
+use Rattle.wf_replay.proofs.StillOpen.{tells_still}
+use Rattle.wf_replay.specs.TheLanguage.{the_language}
 
 pub returns-clause-stands : goal.returns-clause-stands
 returns-clause-stands g c = λ O here handed.

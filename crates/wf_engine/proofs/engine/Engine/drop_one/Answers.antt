@@ -7,9 +7,9 @@ use Rattle.wf_engine.proofs.SentLists.{not_this}
 use Rattle.wf_engine.proofs.engine.Engine.drop_one.Goals as goal
 use Rattle.wf_engine.specs.Engine.{memory}
 use Rattle.wf_engine.specs.Sending.{is_to_drop}
-use Rattle.wf_engine.specs.TheLanguage.{the_language}
 use Rattle.wf_host.specs.declared.data.Deed.TheVariants.{Drop}
 use Rattle.wf_model.specs.Ready.{request_of}
+use Rattle.wf_replay.specs.TheLanguage.{the_language}
 
 -- it is open
 pub returns-then-is_some-clause-sent : goal.returns-then-is_some-clause-sent

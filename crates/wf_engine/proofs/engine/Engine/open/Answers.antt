@@ -2,19 +2,20 @@ use Rattle.std.proofs.Common.{◌≡◌, ◌∙◌, ◌+◌, ap, inl, sym, subst
 use Rattle.std.specs.Prelude.{unwrap_or}
 use Rattle.wf_connections.specs.Calls as calls
 use Rattle.wf_connections.specs.Calls.{is_dropped, is_started}
-use Rattle.wf_engine.proofs.Beginning.{opens_quietly, quiet_stays, settled_behind, then_reads}
+use Rattle.wf_engine.proofs.Beginning.{opens_quietly, then_reads}
 use Rattle.wf_engine.proofs.FreshEngine.{opened_as_fresh}
 use Rattle.wf_engine.proofs.Reopened.{deeds_on, has_ended, next_number, no_history_told, opened, still_stands}
-use Rattle.wf_engine.proofs.StillOpen.{tells_still}
 use Rattle.wf_engine.proofs.engine.Engine.open.Goals as goal
-use Rattle.wf_engine.specs.TheLanguage.{the_language}
 use Rattle.wf_history.specs.Stands.{ahead}
 use Rattle.wf_journal.specs.Records.{records}
 use Rattle.wf_journal.specs.Standing.{new_none}
 use Rattle.wf_journal_laws.specs.At.{applied_by}
 use Rattle.wf_journal_laws.specs.History.{history}
 use Rattle.wf_machine.specs.Seen.{state_of}
+use Rattle.wf_replay.proofs.OnlyReads.{quiet_stays, settled_behind}
+use Rattle.wf_replay.proofs.StillOpen.{tells_still}
 use Rattle.wf_replay.specs.Standing.{standing}
+use Rattle.wf_replay.specs.TheLanguage.{the_language}
 
 pub returns-then-at_end-clause-not_started : goal.returns-then-at_end-clause-not_started
 returns-then-at_end-clause-not_started g c = λ told _.

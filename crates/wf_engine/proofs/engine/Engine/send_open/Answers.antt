@@ -5,8 +5,8 @@ use Rattle.wf_engine.proofs.CallsSent.{all_same, moments_then, sends_over, sends
 use Rattle.wf_engine.proofs.Sent.{kept_before}
 use Rattle.wf_engine.proofs.engine.Engine.send_open.Goals as goal
 use Rattle.wf_engine.specs.Engine.{memory}
-use Rattle.wf_engine.specs.TheLanguage.{the_language}
 use Rattle.wf_model.specs.Config.{Config}
+use Rattle.wf_replay.specs.TheLanguage.{the_language}
 
 -- there is an outcome
 pub returns-in_default-clause-sends : goal.returns-in_default-clause-sends

@@ -5,8 +5,8 @@ use Rattle.wf_engine.proofs.Settling.{ends, lent_active, none_fell, result_is_ov
 use Rattle.wf_engine.proofs.Waiting.{has_ended, is_suspended, polled_first, polled_more, settled_over}
 use Rattle.wf_engine.proofs.engine.Engine.session.Goals as goal
 use Rattle.wf_engine.specs.Engine.{memory}
-use Rattle.wf_engine.specs.TheLanguage.{the_language}
 use Rattle.wf_model.specs.Config.{Config}
+use Rattle.wf_replay.specs.TheLanguage.{the_language}
 
 -- the first turns
 pub returns-in_err-settle-clause-any_moment : goal.returns-in_err-settle-clause-any_moment

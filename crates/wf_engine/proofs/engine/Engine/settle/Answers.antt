@@ -4,8 +4,8 @@ use Rattle.wf_engine.proofs.Parts.{far_at_first, far_kept, far_moments, far_on, 
 use Rattle.wf_engine.proofs.Settling.{falls_none, first_of, is_busy, is_settled_now, none_fell, not_settled, passed_on, rose_later, told_on, turn_takes}
 use Rattle.wf_engine.proofs.engine.Engine.settle.Goals as goal
 use Rattle.wf_engine.specs.Engine.{memory}
-use Rattle.wf_engine.specs.TheLanguage.{the_language}
-use Rattle.wf_engine.specs.declared.fault.EngineFault.TheVariants as fault
+use Rattle.wf_replay.specs.TheLanguage.{the_language}
+use Rattle.wf_replay.specs.declared.engine_fault.EngineFault.TheVariants as fault
 
 pub loop-self-init : goal.loop-self-init
 loop-self-init g c = record {

@@ -7,8 +7,8 @@ use Rattle.wf_engine.proofs.SentLists.{not_this}
 use Rattle.wf_engine.proofs.engine.Engine.start_one.Goals as goal
 use Rattle.wf_engine.specs.Engine.{memory}
 use Rattle.wf_engine.specs.Sending.{is_to_start}
-use Rattle.wf_engine.specs.TheLanguage.{the_language}
 use Rattle.wf_host.specs.declared.data.Deed.TheVariants.{Start}
+use Rattle.wf_replay.specs.TheLanguage.{the_language}
 
 -- it was started before
 pub returns-then-is_started-clause-sent : goal.returns-then-is_started-clause-sent

@@ -4,7 +4,7 @@ use Rattle.wf_deeds.specs.Deeds.{call_of}
 use Rattle.wf_engine.proofs.Heard.{heard_ready, takable, takes}
 use Rattle.wf_engine.proofs.engine.Engine.take.Goals as goal
 use Rattle.wf_engine.specs.Engine.{memory}
-use Rattle.wf_engine.specs.TheLanguage.{the_language}
+use Rattle.wf_replay.specs.TheLanguage.{the_language}
 
 -- what it stands for then
 pub returns-clause-takes : goal.returns-clause-takes

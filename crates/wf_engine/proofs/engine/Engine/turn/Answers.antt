@@ -8,12 +8,12 @@ use Rattle.wf_engine.proofs.TurnsAdded.{added, goes_on, idle, still_of}
 use Rattle.wf_engine.proofs.engine.Engine.turn.Goals as goal
 use Rattle.wf_engine.specs.Engine.{memory}
 use Rattle.wf_engine.specs.Taken.{taken_event}
-use Rattle.wf_engine.specs.TheLanguage.{the_language}
 use Rattle.wf_engine.specs.declared.taken.Taken.{Taken}
 use Rattle.wf_events.specs.View.{events_view}
 use Rattle.wf_journal.specs.Records.{records}
 use Rattle.wf_machine.specs.Counts.{counts_of}
 use Rattle.wf_machine.specs.Seen.{state_of}
+use Rattle.wf_replay.specs.TheLanguage.{the_language}
 
 -- a list to which something was added
 added_some : {A : Type 0} (xs : List A) (x : A) → xs ++ x ∷ [] ≡ [] → ⊥

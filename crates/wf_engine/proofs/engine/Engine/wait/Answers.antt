@@ -4,9 +4,9 @@ use Rattle.wf_engine.proofs.Parts.{MayPollNow, far_kept, far_poll, poll_moments,
 use Rattle.wf_engine.proofs.Polling.{has_waited, part_far, still_holds}
 use Rattle.wf_engine.proofs.engine.Engine.wait.Goals as goal
 use Rattle.wf_engine.specs.Engine.{memory}
-use Rattle.wf_engine.specs.TheLanguage.{the_language}
 use Rattle.wf_host.specs.declared.data.Deed.TheVariants.{Poll}
 use Rattle.wf_model.specs.Config.{Config}
+use Rattle.wf_replay.specs.TheLanguage.{the_language}
 
 -- nothing was sent
 pub returns-in_err-send_open-clause-any_moment : goal.returns-in_err-send_open-clause-any_moment

@@ -1,12 +1,12 @@
 -- The faults of an engine, by those of its history, of replaying and of polls.
-use Rattle.wf_engine.specs.declared.fault.EngineFault.{EngineFault}
-use Rattle.wf_engine.specs.declared.fault.EngineFault.TheVariants as engine
-use Rattle.wf_history.specs.declared.fault.HistoryFault.{HistoryFault}
 use Rattle.wf_history.specs.declared.fault.HistoryFault.TheVariants as history
-use Rattle.wf_host.specs.declared.data.PollError.{PollError}
+use Rattle.wf_history.specs.declared.fault.HistoryFault.{HistoryFault}
 use Rattle.wf_host.specs.declared.data.PollError.TheVariants as poll
-use Rattle.wf_replay.specs.declared.fault.ReplayFault.{ReplayFault}
+use Rattle.wf_host.specs.declared.data.PollError.{PollError}
+use Rattle.wf_replay.specs.declared.engine_fault.EngineFault.TheVariants as engine
+use Rattle.wf_replay.specs.declared.engine_fault.EngineFault.{EngineFault}
 use Rattle.wf_replay.specs.declared.fault.ReplayFault.TheVariants as replay
+use Rattle.wf_replay.specs.declared.fault.ReplayFault.{ReplayFault}
 
 -- a record that is none is against the history
 abbrev pub fault_of : HistoryFault → EngineFault

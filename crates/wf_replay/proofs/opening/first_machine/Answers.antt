@@ -1,16 +1,16 @@
 use Rattle.std.proofs.Common.{◌≡◌, ◌∙◌, ap, subst, List, ℕ, [], ◌∷◌, Some, None}
 use Rattle.std.proofs.lemmas.Result.{IfOk-weaker}
 use Rattle.std.specs.Prelude.{MatchOption, suc}
-use Rattle.wf_engine.proofs.FirstRecords.{at_bad_record, at_no_start, behind_first, on_ok}
-use Rattle.wf_engine.proofs.StillOpen.{some_first}
-use Rattle.wf_engine.proofs.opening.first_machine.Goals as goal
-use Rattle.wf_engine.specs.TheLanguage.{the_language}
 use Rattle.wf_events.specs.Reading.{meaning}
 use Rattle.wf_events.specs.View.{record_view}
 use Rattle.wf_history.specs.Stands.{ahead, last, last_after, place}
 use Rattle.wf_machine.specs.declared.machine.Machine.{Machine}
 use Rattle.wf_journal_laws.specs.History.{first_standing}
+use Rattle.wf_replay.proofs.FirstRecords.{at_bad_record, at_no_start, behind_first, on_ok}
+use Rattle.wf_replay.proofs.StillOpen.{some_first}
+use Rattle.wf_replay.proofs.opening.first_machine.Goals as goal
 use Rattle.wf_replay.specs.Standing.{standing, stands_at}
+use Rattle.wf_replay.specs.TheLanguage.{the_language}
 
 pub returns-in_err-record-clause-not_a_history : goal.returns-in_err-record-clause-not_a_history
 returns-in_err-record-clause-not_a_history g c = λ told.

@@ -1,8 +1,8 @@
 -- What a source is in the language, by what it was found to be.
 use Rattle.std.proofs.Common.{◌≡◌, ℕ, List, Option, Some, None, ap}
 use Rattle.wf_ast.specs.Tree.{Program}
-use Rattle.wf_engine.specs.Openings.{Accepts}
-use Rattle.wf_engine.specs.TheLanguage.{accepted, the_language}
+use Rattle.wf_replay.specs.Openings.{Accepts}
+use Rattle.wf_replay.specs.TheLanguage.{accepted, the_language}
 use Rattle.wf_source.specs.Function.{SourceIsIt}
 use Rattle.wf_source.specs.Programs.{IsRefusalOf, IsSourceOf}
 use Rattle.wf_status.specs.declared.Refusal.{Refusal}

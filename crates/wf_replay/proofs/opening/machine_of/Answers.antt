@@ -1,13 +1,13 @@
 use Rattle.std.proofs.Common.{◌∙◌, ap, sym, subst, Some, None}
 use Rattle.std.specs.Prelude.{option_map}
 use Rattle.wf_check.specs.Seen.{program_of}
-use Rattle.wf_engine.proofs.FirstRecords.{none_of, start_leads, start_refused}
-use Rattle.wf_engine.proofs.Language.{accepts}
-use Rattle.wf_engine.proofs.opening.machine_of.Goals as goal
-use Rattle.wf_engine.specs.Openings.{Accepts}
-use Rattle.wf_engine.specs.TheLanguage.{the_language}
 use Rattle.wf_events.specs.View.{record_view, start_view}
 use Rattle.wf_journal_laws.specs.History.{first_standing}
+use Rattle.wf_replay.proofs.FirstRecords.{none_of, start_leads, start_refused}
+use Rattle.wf_replay.proofs.Language.{accepts}
+use Rattle.wf_replay.proofs.opening.machine_of.Goals as goal
+use Rattle.wf_replay.specs.Openings.{Accepts}
+use Rattle.wf_replay.specs.TheLanguage.{the_language}
 
 pub returns-in_default-2-clause-none : goal.returns-in_default-2-clause-none
 returns-in_default-2-clause-none c = λ _.

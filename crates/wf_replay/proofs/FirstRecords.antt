@@ -2,10 +2,6 @@
 use Rattle.std.specs.Prelude.{◌≡◌, ◌≢◌, ◌⊎◌, ◌+◌, ℕ, length, List, [], ◌∷◌, Option, Some, None, Result, Ok, Err, IfErr, OnOk, IsErr, IsErrAnd, IsErrOf, option_and_then}
 use Rattle.std.proofs.Common.{inl, inr, refl, sym, ◌∙◌, ap, subst}
 use Rattle.wf_ast.specs.Tree.{Program}
-use Rattle.wf_engine.specs.Faults.{fault_of, replay_fault}
-use Rattle.wf_engine.specs.Openings.{NoFirst}
-use Rattle.wf_engine.specs.declared.fault.EngineFault.{EngineFault}
-use Rattle.wf_engine.specs.declared.fault.EngineFault.TheVariants.{NotAHistory, OutOfMemory}
 use Rattle.wf_events.specs.Reading.{meaning}
 use Rattle.wf_events.specs.Records.{Record, Started, Turned, Kept, Upgrade, Packed, StartedTwo}
 use Rattle.wf_history.specs.Faults.{told}
@@ -19,9 +15,13 @@ use Rattle.wf_model.specs.Run.{initial}
 use Rattle.wf_journal_laws.specs.At.{applied_by, turns_in, with_turn}
 use Rattle.wf_journal_laws.specs.History.{Standing, events, first_standing, goes_to, history, history_from, started}
 use Rattle.wf_journal_laws.specs.Language.{Language}
+use Rattle.wf_replay.specs.EngineFaults.{fault_of, replay_fault}
+use Rattle.wf_replay.specs.Openings.{NoFirst}
 use Rattle.wf_replay.specs.Standing.{stands_at}
-use Rattle.wf_replay.specs.declared.fault.ReplayFault.{ReplayFault}
+use Rattle.wf_replay.specs.declared.engine_fault.EngineFault.TheVariants.{NotAHistory, OutOfMemory}
+use Rattle.wf_replay.specs.declared.engine_fault.EngineFault.{EngineFault}
 use Rattle.wf_replay.specs.declared.fault.ReplayFault.TheVariants as replay_fault_of
+use Rattle.wf_replay.specs.declared.fault.ReplayFault.{ReplayFault}
 use Rattle.wf_shared.specs.Events.{Start, Turn}
 
 -- ## A first record
@@ -100,7 +100,7 @@ on_ok (Ok a) it = it
 on_ok (Err e) it = tt
 
 -- ## Faults
-same_number : (m n : ℕ) → NotAHistory m ≡ NotAHistory n → m ≡ n
+pub same_number : (m n : ℕ) → NotAHistory m ≡ NotAHistory n → m ≡ n
 same_number m n is = cc is
 
 bad_cause : (L : Language) (ahead : List (List ℕ)) (place : ℕ) (cause : HistoryFault) → place ≡ 0 → ((n : ℕ) → cause ≡ history_fault.BadRecord n → IsBadAt n place ahead) → (n : ℕ) → fault_of cause ≡ NotAHistory n → NoFirst L n ahead

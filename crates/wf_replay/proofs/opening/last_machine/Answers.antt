@@ -1,12 +1,12 @@
 use Rattle.std.proofs.Common.{◌∙◌, ◌+◌, ap, sym, Ok}
-use Rattle.wf_engine.proofs.FirstRecords.{applied_in_all, at_first_record, at_later_record, records_lead}
-use Rattle.wf_engine.proofs.StillOpen.{still_open, tells_still}
-use Rattle.wf_engine.proofs.opening.last_machine.Goals as goal
-use Rattle.wf_engine.specs.TheLanguage.{the_language}
 use Rattle.wf_history.specs.Stands.{ahead, is_closed}
 use Rattle.wf_journal_laws.specs.At.{applied_by}
 use Rattle.wf_journal_laws.specs.History.{goes_to}
+use Rattle.wf_replay.proofs.FirstRecords.{applied_in_all, at_first_record, at_later_record, records_lead}
+use Rattle.wf_replay.proofs.StillOpen.{still_open, tells_still}
+use Rattle.wf_replay.proofs.opening.last_machine.Goals as goal
 use Rattle.wf_replay.specs.Standing.{standing}
+use Rattle.wf_replay.specs.TheLanguage.{the_language}
 use Rattle.wf_replay.specs.declared.fault.ReplayFault.TheVariants as fault
 
 pub returns-in_err-machine-clause-not_a_history : goal.returns-in_err-machine-clause-not_a_history

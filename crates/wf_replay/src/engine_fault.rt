@@ -1,12 +1,12 @@
 // What can keep an engine from its work.
 ghost use Rattle.std.specs.Prelude.{◌≡◌};
-ghost use Rattle.wf_engine.specs.Faults.{fault_of, poll_fault, replay_fault};
-ghost use Rattle.wf_engine.specs.declared.fault.EngineFault.TheVariants as variant;
+ghost use Rattle.wf_replay.specs.EngineFaults.{fault_of, poll_fault, replay_fault};
+ghost use Rattle.wf_replay.specs.declared.engine_fault.EngineFault.TheVariants as variant;
 
+use crate::fault::ReplayFault;
 use thiserror::Error;
 use wf_history::HistoryFault;
 use wf_host::PollError;
-use wf_replay::ReplayFault;
 use wf_value::OutOfMemory;
 
 /// Why a call of an engine gave nothing.
