@@ -3,9 +3,8 @@ use crate::answers::{fault_text, value_text};
 use crate::shown::{shown, shown_target, shown_template};
 use std::alloc::Global;
 use wf_cases::CaseFault;
-use wf_expr::{ExprFault, parse, parse_target};
+use wf_expr::{ExprFault, has_expressions, parse, parse_target, parse_template};
 use wf_span::{Token, TokenKind, Tokens, tokens};
-use wf_template::{has_expressions, parse_template};
 use wf_value::{List, Text, Value};
 
 /// What a table wants of a source.

@@ -3,12 +3,10 @@ use crate::answers::{fault_text, outcome};
 use crate::names::{Names, names_of};
 use crate::trees::{DEEPEST, expression, template};
 use std::alloc::Global;
-use wf_ast::{Expr, NamedTemplate, NamedTemplates, Template, Templates};
+use wf_ast::{Expr, NamedTemplate, NamedTemplates, Postfix, Template, Templates, compile};
 use wf_cases::{Case, CaseFault};
 use wf_eval::{eval, fill};
-use wf_expr::parse;
-use wf_postfix::{Postfix, compile};
-use wf_template::parse_template;
+use wf_expr::{parse, parse_template};
 use wf_value::{Text, Value};
 
 // The clock's reading, where a case has one.

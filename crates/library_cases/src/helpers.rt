@@ -1,9 +1,9 @@
 // The functions without a point in their name. No crate has them as calls: an expression that calls one is evaluated.
 use std::alloc::Global;
+use wf_ast::compile;
 use wf_cases::CaseFault;
 use wf_eval::{Look, eval};
 use wf_expr::parse;
-use wf_postfix::compile;
 use wf_value::{Map, Raise, Text, Value};
 
 /// The arguments, by the names under which the expression has them.

@@ -2,7 +2,7 @@
 use std::alloc::Global;
 use wf_ast::Texts;
 use wf_cases::CaseFault;
-use wf_nodes::{
+use wf_model::{
     Block, CallNode, LoopNode, Node, NodeKind, OverShape, ParallelNode, TryNode, WorkNode,
 };
 

@@ -3,7 +3,7 @@ use crate::kinds;
 use crate::programs::program_of;
 use std::alloc::Global;
 use wf_cases::CaseFault;
-use wf_nodes::Node;
+use wf_model::Node;
 use wf_table::table_of;
 
 // A line for each node, in the order of their numbers, and one with the workflows and their numbers.

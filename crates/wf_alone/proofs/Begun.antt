@@ -9,7 +9,7 @@ use Rattle.wf_model.specs.Config.{After, Awake, Config, Do, Item, Returned, To}
 use Rattle.wf_model.specs.Local.{Local, ended, goes, settle}
 use Rattle.wf_model.specs.Run.{empty, initial, main_steps, main_vars}
 use Rattle.wf_model.specs.Taken.{merged}
-use Rattle.wf_shared.specs.Events.{Start}
+use Rattle.wf_value.specs.Events.{Start}
 use Rattle.wf_value.specs.Data.{Pairs, null}
 
 -- whether a control has ended or not

@@ -16,7 +16,7 @@ use Rattle.wf_model.specs.Move.{due}
 use Rattle.wf_model.specs.Ready.{begins, call, call_due, due_of, is_awake, is_by, is_due, is_ready, may_begin, stands_waiting}
 use Rattle.wf_model.specs.Step.{for_task, read_at, replied, replied_to, same_kind, timed_out, wants, when}
 use Rattle.wf_model.specs.Taken.{by_itself}
-use Rattle.wf_shared.specs.Events.{Event, Reply}
+use Rattle.wf_value.specs.Events.{Event, Reply}
 
 -- ## What is ruled out
 -- nothing comes of what isn't enabled

@@ -27,8 +27,8 @@ use Rattle.wf_model.specs.Run.{initial, run_on}
 use Rattle.wf_model.specs.Step.{next, stopped}
 use Rattle.wf_model.specs.Taken.{by_itself, merged}
 use Rattle.wf_model.specs.WaitLaws.{Sound, SoundAtFirst, StepsStaySound}
-use Rattle.wf_shared.specs.Events.{Event, Reply, Start}
-use Rattle.wf_shared.specs.HttpText.{reply_length, reply_result}
+use Rattle.wf_value.specs.Events.{Event, Reply, Start}
+use Rattle.wf_value.specs.HttpText.{reply_length, reply_result}
 use Rattle.wf_value.specs.Errors.{error_map}
 use Rattle.wf_value.specs.Pairs.{Text}
 use Rattle.wf_value.specs.declared.Tag.TheVariants.{ResourceLimitError}

@@ -23,8 +23,8 @@ use Rattle.wf_model.specs.Local.{Local, Root, Main, Branch, Iteration, Scene, Mo
 use Rattle.wf_model.specs.Move.{assigns, awake, chosen, due_by, entered, in_arm, issues, loop_names, loop_steps, moves, over, performs, raised, resumed, retries, steps_on, then_item, timeout_error, turns}
 use Rattle.wf_model.specs.Ready.{stands_waiting, begins, is_awake}
 use Rattle.wf_model.specs.Unwind.{Asks, Found, Judgement, Says, Stands, AtEnd, NotFound, answered, asked_one, asks, called, calls_in, decided, excepted, handled, judged, policy_of, retried, to_back, to_loop, to_step, unwind}
-use Rattle.wf_shared.specs.Events.{Method}
-use Rattle.wf_shared.specs.HttpRequest.{asked, request}
+use Rattle.wf_value.specs.Events.{Method}
+use Rattle.wf_value.specs.HttpRequest.{asked, request}
 use Rattle.wf_value.specs.Data.{Data, Pairs, boolean, bytes, integer, list, map, null, text}
 use Rattle.wf_value.specs.Errors.{Answer, ◌>>=◌, error_map, kept}
 use Rattle.wf_value.specs.Pairs.{Text, get, keys}

@@ -17,8 +17,8 @@ use Rattle.wf_model.specs.Move.{issue, move}
 use Rattle.wf_model.specs.Ready.{begins, stands_waiting}
 use Rattle.wf_model.specs.Step.{counted, next, same_kind, wants, when}
 use Rattle.wf_model.specs.Taken.{by_itself}
-use Rattle.wf_shared.specs.Events.{Event}
-use Rattle.wf_shared.specs.HttpUrl.{first_of_two}
+use Rattle.wf_value.specs.Events.{Event}
+use Rattle.wf_value.specs.HttpUrl.{first_of_two}
 
 module _ (p : Program) (x : Rest) (k : List Item) (ls : List Layer) where
   -- `main` stands at this control

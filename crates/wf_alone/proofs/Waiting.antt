@@ -21,10 +21,10 @@ use Rattle.wf_model.specs.Ready.{begins, call, due_of, is_awake, is_by, least_in
 use Rattle.wf_model.specs.Step.{close, next, replied_to, timed_out, when}
 use Rattle.wf_model.specs.Taken.{by_itself, merged}
 use Rattle.wf_model.specs.WaitLaws.{Info, Sound, info, info_at}
-use Rattle.wf_shared.specs.Events.{Event, Reply}
-use Rattle.wf_shared.specs.HttpRequest.{Request}
-use Rattle.wf_shared.specs.HttpText.{reply_length, reply_result}
-use Rattle.wf_shared.specs.HttpUrl.{first_of_two}
+use Rattle.wf_value.specs.Events.{Event, Reply}
+use Rattle.wf_value.specs.HttpRequest.{Request}
+use Rattle.wf_value.specs.HttpText.{reply_length, reply_result}
+use Rattle.wf_value.specs.HttpUrl.{first_of_two}
 use Rattle.wf_value.specs.Errors.{error_map}
 use Rattle.wf_value.specs.Pairs.{Text}
 use Rattle.wf_value.specs.declared.Tag.TheVariants.{ResourceLimitError}

@@ -17,9 +17,9 @@ use Rattle.wf_model.specs.Run.{initial}
 use Rattle.wf_model.specs.Step.{next}
 use Rattle.wf_model.specs.Taken.{merged, outcome_of}
 use Rattle.wf_model.specs.WaitLaws.{Sound}
-use Rattle.wf_shared.specs.Events.{Event, Reply, Start}
-use Rattle.wf_shared.specs.HttpRequest.{Request}
-use Rattle.wf_shared.specs.HttpText.{reply_length, reply_result}
+use Rattle.wf_value.specs.Events.{Event, Reply, Start}
+use Rattle.wf_value.specs.HttpRequest.{Request}
+use Rattle.wf_value.specs.HttpText.{reply_length, reply_result}
 use Rattle.wf_value.specs.Data.{Data}
 use Rattle.wf_value.specs.Errors.{error_map}
 use Rattle.wf_value.specs.Pairs.{Text}

@@ -14,9 +14,9 @@ use Rattle.wf_model.specs.Local.{Local, Main, Moved, Scene}
 use Rattle.wf_model.specs.Move.{issue, move}
 use Rattle.wf_model.specs.Run.{Run}
 use Rattle.wf_model.specs.Taken.{first_visitor, log_total}
-use Rattle.wf_shared.specs.Events.{Event, Start}
-use Rattle.wf_shared.specs.HttpRequest.{Request}
-use Rattle.wf_shared.specs.Queues.{queue_of}
+use Rattle.wf_value.specs.Events.{Event, Start}
+use Rattle.wf_value.specs.HttpRequest.{Request}
+use Rattle.wf_value.specs.Queues.{queue_of}
 use Rattle.wf_value.specs.Data.{Data, null}
 use Rattle.wf_value.specs.Decode.{json_value}
 use Rattle.wf_value.specs.declared.Severity.{Severity}

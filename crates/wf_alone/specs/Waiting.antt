@@ -9,7 +9,7 @@ use Rattle.wf_ast.specs.Tree.{Program}
 use Rattle.wf_model.specs.Config.{Active, Call, Calling, Item, Open, Wait}
 use Rattle.wf_model.specs.Kinds.{ByCall, ByClock, NextKind, Plainly, next_kind}
 use Rattle.wf_model.specs.Ready.{call, due_of, is_awake, is_by}
-use Rattle.wf_shared.specs.Events.{Event}
+use Rattle.wf_value.specs.Events.{Event}
 
 -- ## Calls
 -- a call by its number from 1; one that there isn't counts as closed

@@ -1,6 +1,6 @@
 -- The worked rows hold: each side computes to the same.
 use Rattle.std.specs.Prelude.{refl}
-use Rattle.wf_shared.proofs.OnLiterals.{on_literals}
+use Rattle.wf_value.proofs.OnLiterals.{on_literals}
 use Rattle.wf_ast.specs.Rows.{WorkedRows, TruncatesTowardZero, RestHasLeftSign, JoinsParts, ComparesAndDenies, SplitsToThree, EncodesBase64, EncodesBlank, FormatsZero, ParsesDay, DividesExactly, RefusesZero, RefusesTwoKinds, RefusesUnknownName, RestOfLeast, QuotientOfLeast, ReadsClock, ReadsId, DecodesJson, GetsWithin, LooksAtKindsFirst, RefusesRange}
 
 truncates : TruncatesTowardZero

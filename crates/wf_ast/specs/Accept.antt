@@ -10,8 +10,8 @@ use Rattle.wf_ast.specs.Func.{Signature, call_signature, takes, call_takes}
 use Rattle.wf_ast.specs.Nodes.{Path, Names, Around, NodePart, FlowPart, StepPart, ArmPart, BodyPart, EntryPart, BranchPart, part_body, Node, below, nth, param_names, nodes}
 use Rattle.wf_ast.specs.Reads.{part_reads}
 use Rattle.wf_ast.specs.Tree.{CallBody, FlowNamed, Policy, Body, Arms, no_arms, arm, LoopBody, loop, parallel, Work, OfBranches, OfLoop, Branches, no_branches, branch, try, Except, no_except, except, Param, Flow, Program, field_names}
-use Rattle.wf_shared.specs.HttpRequest.{is_among}
-use Rattle.wf_shared.specs.HttpUrl.{first_of_two}
+use Rattle.wf_value.specs.HttpRequest.{is_among}
+use Rattle.wf_value.specs.HttpUrl.{first_of_two}
 use Rattle.wf_value.specs.Pairs.{Text}
 
 -- the rules by name, in the order of their numbers 1 to 12

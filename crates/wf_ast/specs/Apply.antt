@@ -12,9 +12,9 @@ use Rattle.wf_ast.specs.declared.expr.Func.{Func}
 use Rattle.wf_value.specs.Data.{Data, null, boolean, integer, text, bytes, list, map, items_of}
 use Rattle.wf_value.specs.Errors.{Answer, ◌>>=◌}
 use Rattle.wf_value.specs.declared.Tag.TheVariants.{KeyError, TypeError, ValueError}
-use Rattle.wf_shared.specs.LibData.{list_concat, list_prepend, map_get, map_delete, map_merge, json_encode, json_encode_to_string, json_decode, base64_encode, base64_decode}
-use Rattle.wf_shared.specs.LibText.{text_split, text_replace_all, text_substring, text_find_all, text_to_upper, text_to_lower, text_url_encode, text_url_decode, text_encode, text_decode}
-use Rattle.wf_shared.specs.LibTime.{time_format, time_parse}
+use Rattle.wf_value.specs.LibData.{list_concat, list_prepend, map_get, map_delete, map_merge, json_encode, json_encode_to_string, json_decode, base64_encode, base64_decode}
+use Rattle.wf_value.specs.LibText.{text_split, text_replace_all, text_substring, text_find_all, text_to_upper, text_to_lower, text_url_encode, text_url_decode, text_encode, text_decode}
+use Rattle.wf_value.specs.LibTime.{time_format, time_parse}
 use Rattle.wf_value.specs.Numbers.{in_64_bits, as_answer}
 use Rattle.wf_value.specs.Pairs.{Text, items, keys}
 

@@ -2,7 +2,7 @@
 use Rattle.std.specs.Prelude.{Bool, true, false, not, ◌&&◌, ◌||◌, List, [], ◌∷◌, Some, None, codes, bytes_eq, Option}
 use Rattle.wf_ast.specs.Nodes.{Path, Inside, NoLoop, InLoop, InParallelLoop, Around, NodePart, FlowPart, StepPart, ArmPart, BodyPart, EntryPart, BranchPart, part_body, below}
 use Rattle.wf_ast.specs.Tree.{step, Steps, no_steps, more, Body, LoopBody, loop, parallel, Work, OfBranches, OfLoop, no_branches, branch, try, Except, no_except, except}
-use Rattle.wf_shared.specs.HttpRequest.{is_among}
+use Rattle.wf_value.specs.HttpRequest.{is_among}
 use Rattle.wf_value.specs.Pairs.{Text}
 
 -- the first that is there

@@ -6,9 +6,9 @@ use Rattle.wf_ast.specs.declared.expr.Func.{Func}
 use Rattle.std.specs.Prelude.{Bool, not, ◌&&◌, ◌||◌, List, [], ◌∷◌, ◌++◌, length, if◌then◌else◌, ◌==◌, Some, None, codes, bytes_eq, filter, Option, option_map}
 use Rattle.std.specs.List.{list_all}
 use Rattle.wf_value.specs.Data.{Data, Pairs}
-use Rattle.wf_shared.specs.Events.{Method, Get, Post, Put, Patch, Delete}
-use Rattle.wf_shared.specs.HttpRequest.{is_among}
-use Rattle.wf_shared.specs.HttpUrl.{first_of_two}
+use Rattle.wf_value.specs.Events.{Method, Get, Post, Put, Patch, Delete}
+use Rattle.wf_value.specs.HttpRequest.{is_among}
+use Rattle.wf_value.specs.HttpUrl.{first_of_two}
 use Rattle.wf_value.specs.Pairs.{Text, get}
 
 -- the functions that only call steps may call

@@ -4,8 +4,8 @@ use Rattle.std.proofs.lemmas.List.{set-get_or}
 use Rattle.std.proofs.lemmas.Option.{slice_get_read, slice_get_past, get_or_from_slice_get}
 use Rattle.std.specs.List.{slice_get}
 use Rattle.wf_callbacks.specs.Turns.{joined, shortened, taken}
-use Rattle.wf_shared.specs.Events.{Visitor}
-use Rattle.wf_shared.specs.Queues.{Endpoint, endpoint_at, with_queue, arrived, queue_of}
+use Rattle.wf_value.specs.Events.{Visitor}
+use Rattle.wf_value.specs.Queues.{Endpoint, endpoint_at, with_queue, arrived, queue_of}
 
 -- a new queue is put at the endpoint's place
 queue_put : (es : List Endpoint) (i : ℕ) (e : Endpoint) (vs : List Visitor) → slice_get es i ≡ Some e → with_queue (suc i) vs es ≡ slice_set es i (record e { queue = vs })

@@ -1,7 +1,7 @@
 -- What methods, requests and endpoints are, as plain data, and what an answer refuses.
 use Rattle.std.specs.Prelude.{List, map, Option, Some, None, Result, Ok, Err}
-use Rattle.wf_shared.specs.Events as events
-use Rattle.wf_shared.specs.Queues as queues
+use Rattle.wf_value.specs.Events as events
+use Rattle.wf_value.specs.Queues as queues
 use Rattle.wf_callbacks.specs.declared.fault.ArriveFault.{ArriveFault}
 use Rattle.wf_callbacks.specs.declared.fault.ArriveFault.TheVariants as fault
 use Rattle.wf_callbacks.specs.declared.method.Method.{Method}

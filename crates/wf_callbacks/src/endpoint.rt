@@ -2,7 +2,7 @@
 ghost use Rattle.std.specs.Prelude.{◌≡◌, Some, OnErr, OnOk, option_map};
 ghost use Rattle.wf_callbacks.specs.Plain.{plain_method, plain_visitor, told};
 ghost use Rattle.wf_callbacks.specs.Turns.{fresh, joined, oldest, shortened};
-ghost use Rattle.wf_shared.specs.Queues.{fault_at};
+ghost use Rattle.wf_value.specs.Queues.{fault_at};
 
 use crate::{ArriveFault, Method, Visitor};
 use std::alloc::Global;
@@ -20,7 +20,7 @@ pub(crate) struct Endpoint {
 }
 
 impl Model for Endpoint {
-    ghost use Rattle.wf_shared.specs.Queues.{Endpoint as Plain};
+    ghost use Rattle.wf_value.specs.Queues.{Endpoint as Plain};
 
     ghost Value = { Plain };
 

@@ -3,7 +3,7 @@ ghost use Rattle.std.specs.Option.{SomeIff};
 ghost use Rattle.std.specs.Prelude.{◌≡◌, ◌<◌, ◌≤◌, ◌-◌, ◌+◌, ◌∷◌, [], ◌++◌, IfOk, OnErr, OnOk, length, option_map};
 ghost use Rattle.wf_callbacks.specs.Plain.{plain_method, plain_visitor, told};
 ghost use Rattle.wf_callbacks.specs.Turns.{fresh, oldest, taken};
-ghost use Rattle.wf_shared.specs.Queues.{arrive_fault, arrived, queue_of};
+ghost use Rattle.wf_value.specs.Queues.{arrive_fault, arrived, queue_of};
 
 use crate::endpoint::Endpoint;
 use crate::{ArriveFault, Method, Visitor};
@@ -20,7 +20,7 @@ pub struct Endpoints {
 
 impl Model for Endpoints {
     ghost use Rattle.std.specs.Prelude.{List};
-    ghost use Rattle.wf_shared.specs.Queues.{Endpoint as Plain};
+    ghost use Rattle.wf_value.specs.Queues.{Endpoint as Plain};
 
     ghost Value = { List Plain };
 

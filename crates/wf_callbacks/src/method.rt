@@ -1,7 +1,7 @@
 // The methods of requests.
 ghost use Rattle.std.specs.Prelude.{◌≡◌, option_map};
 ghost use Rattle.wf_callbacks.specs.Plain.{plain_method};
-ghost use Rattle.wf_shared.specs.Events.{method_name, method_named};
+ghost use Rattle.wf_value.specs.Events.{method_name, method_named};
 
 /// A method of HTTP (RFC 9110, section 9; RFC 5789): those that calls and callback endpoints have.
 #[derive(Debug, Clone, Copy, PartialEq, Eq)]

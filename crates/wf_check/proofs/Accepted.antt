@@ -9,7 +9,7 @@ use Rattle.wf_check_expressions.specs.Forms.{not_yet}
 use Rattle.wf_diagnostics.specs.Said.{Said, as_said}
 use Rattle.wf_check.specs.Said.{first_said, is_accepted, node_built, program_built, said, said_among, said_of}
 use Rattle.wf_diagnostics.specs.declared.kind.CheckKind.TheVariants as kinds
-use Rattle.wf_shared.specs.HttpUrl.{first_of_two}
+use Rattle.wf_value.specs.HttpUrl.{first_of_two}
 use Rattle.wf_value.specs.Pairs.{Text}
 
 none_of_both : (o p : Option Said) → first_of_two o p ≡ None → (o ≡ None) × (p ≡ None)

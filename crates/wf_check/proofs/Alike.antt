@@ -9,7 +9,7 @@ use Rattle.wf_check_expressions.specs.Forms.{not_yet}
 use Rattle.wf_diagnostics.specs.Said.{as_said}
 use Rattle.wf_check.specs.Said.{said, said_of}
 use Rattle.wf_diagnostics.specs.declared.kind.CheckKind.TheVariants as kinds
-use Rattle.wf_shared.specs.HttpUrl.{first_of_two}
+use Rattle.wf_value.specs.HttpUrl.{first_of_two}
 use Rattle.wf_symbols.specs.Around.{Alike, AlikeLayers, SameNames, SameShared}
 use Rattle.wf_value.specs.Pairs.{Text}
 

@@ -12,7 +12,7 @@ use Rattle.wf_diagnostics.specs.Said.{Said, as_said}
 use Rattle.wf_check.specs.Said.{kind_of, said, said_of}
 use Rattle.wf_diagnostics.specs.declared.kind.CheckKind.TheVariants as kinds
 use Rattle.wf_diagnostics.specs.declared.stop.Stop.{Stop}
-use Rattle.wf_shared.specs.HttpUrl.{first_of_two}
+use Rattle.wf_value.specs.HttpUrl.{first_of_two}
 use Rattle.wf_value.specs.Pairs.{Text}
 
 -- what each rule says of a node, and the forms

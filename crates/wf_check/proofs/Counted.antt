@@ -8,7 +8,7 @@ use Rattle.wf_check.specs.Walks.{Counts, Walks, after}
 use Rattle.wf_check.specs.declared.progress.Progress.{Progress}
 use Rattle.wf_diagnostics.specs.declared.stop.Stop.{Stop}
 use Rattle.wf_diagnostics.specs.declared.stop.Stop.TheVariants as stop
-use Rattle.wf_shared.specs.HttpUrl.{first_of_two}
+use Rattle.wf_value.specs.HttpUrl.{first_of_two}
 use Rattle.wf_value.specs.Pairs.{Text}
 use Rattle.wf_check.specs.Said.{said_among}
 

@@ -10,7 +10,7 @@ use Rattle.wf_check_expressions.specs.Forms.{not_yet}
 pub use Rattle.wf_diagnostics.specs.Said.{Said, as_said}
 use Rattle.wf_diagnostics.specs.declared.kind.CheckKind.{CheckKind}
 use Rattle.wf_diagnostics.specs.declared.kind.CheckKind.TheVariants as kinds
-use Rattle.wf_shared.specs.HttpUrl.{first_of_two}
+use Rattle.wf_value.specs.HttpUrl.{first_of_two}
 use Rattle.wf_value.specs.Pairs.{Text}
 
 -- the rule's kind

@@ -4,7 +4,7 @@ use Rattle.wf_ast.specs.Tree as tree
 use Rattle.wf_ast.specs.View.{program_view}
 use Rattle.wf_ast.specs.declared.program.Program.{Program}
 use Rattle.wf_check.specs.declared.checked.Checked.{Checked}
-use Rattle.wf_nodes.specs.declared.node.Node.{Node}
+use Rattle.wf_model.specs.declared.node.Node.{Node}
 use Rattle.wf_table.specs.Built.{node_list}
 
 -- the program that was checked, as the code holds it

@@ -4,13 +4,13 @@ ghost use Rattle.wf_ast.specs.Accept.{Accept};
 ghost use Rattle.wf_ast.specs.View.{program_view};
 ghost use Rattle.wf_check.specs.Numbered.{IsNumbered, IsNumbered-prop};
 ghost use Rattle.wf_check.specs.Said.{is_accepted, program_built};
-ghost use Rattle.wf_nodes.specs.Spots.{spots};
-ghost use Rattle.wf_nodes.specs.Table.{Resolves};
-ghost use Rattle.wf_nodes.specs.Told.{Told, Told-prop};
+ghost use Rattle.wf_model.specs.Spots.{spots};
+ghost use Rattle.wf_model.specs.Table.{Resolves};
+ghost use Rattle.wf_model.specs.Told.{Told, Told-prop};
 ghost use Rattle.wf_table.specs.Built.{flow_number, node_list};
 
 use wf_ast::Program;
-use wf_nodes::Node;
+use wf_model::Node;
 use wf_table::Table;
 
 /// A program that was checked: the rules accept it, it uses only forms that are built, and it has its table. `check` alone makes it.

@@ -11,8 +11,7 @@ ghost use Rattle.wf_check.specs.Said.{said};
 use crate::progress::Progress;
 use std::alloc::Global;
 use wf_ast::Flow;
-use wf_check_calls::{bad_argument, unknown_call};
-use wf_check_expressions::{not_yet, unknown_name};
+use wf_check_expressions::{bad_argument, not_yet, unknown_call, unknown_name};
 use wf_check_scopes::{
     double, empty, out_of_scope, outside_loop, return_in_branch, too_many, undeclared_write,
     unknown_shared, unknown_step,

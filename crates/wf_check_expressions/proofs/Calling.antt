@@ -2,8 +2,8 @@
 use Rattle.std.proofs.Common.{◌≡◌, Bool, true, false, Option, Some, None, if◌then◌else◌, option_map, codes, refl, sym, ap, ◌∙◌}
 use Rattle.wf_ast.specs.Func.{Listing, SpecialListing}
 use Rattle.wf_check_expressions.specs.Forms.{is_built, uncalled}
-use Rattle.wf_library.specs.Functions.{Callable, callable, function_of}
-use Rattle.wf_library.specs.declared.functions.Function.{Function}
+use Rattle.wf_ast.specs.Functions.{Callable, callable, function_of}
+use Rattle.wf_ast.specs.declared.functions.Function.{Function}
 use Rattle.wf_value.specs.Pairs.{Text}
 
 -- the key, by the function that expressions may call, and by whether there is one that only steps may call, and it is built

@@ -9,7 +9,7 @@ use Rattle.wf_ast.specs.Reads.{all_read, body_reads, expr_reads, exprs_read, fie
 use Rattle.wf_ast.specs.Tree.{Body, Exprs, no_exprs, expr, Part, Said, Hole, Template, Scalar, Whole, Joined, Listed, Mapped, Templates, no_templates, template, Fields, no_fields, field, Over, InList, InRange, loop, parallel, OfBranches, OfLoop}
 use Rattle.wf_check_expressions.specs.Expressions.{are_fine, body_failing, failing, fields_failing, is_part_fine, items_failing, over_failing, part_failing}
 use Rattle.wf_check_expressions.specs.Tests.{sees}
-use Rattle.wf_shared.specs.HttpUrl.{first_of_two}
+use Rattle.wf_value.specs.HttpUrl.{first_of_two}
 use Rattle.wf_value.specs.Pairs.{Text}
 
 cases : (b : Bool) (p : Path) (all some rest : Option Path) → all ≡ first_of_two some rest → (if b then all else Some p) ≡ first_of_two (if b then some else Some p) rest

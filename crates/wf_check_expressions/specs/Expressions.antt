@@ -6,7 +6,7 @@ use Rattle.std.specs.List.{list_all}
 use Rattle.wf_ast.specs.Blocks.{at_if}
 use Rattle.wf_ast.specs.Nodes.{Path, NodePart, ArmPart, EntryPart, part_body, below, nth}
 use Rattle.wf_ast.specs.Tree.{Expr, Exprs, no_exprs, expr, Part, Said, Hole, Template, Scalar, Whole, Joined, Listed, Mapped, Templates, no_templates, template, Fields, no_fields, field, Over, InList, InRange, Body, LoopBody, loop, parallel, OfLoop}
-use Rattle.wf_shared.specs.HttpUrl.{first_of_two}
+use Rattle.wf_value.specs.HttpUrl.{first_of_two}
 
 -- each of the expressions passes
 abbrev pub are_fine : (Expr → Bool) → Exprs → Bool

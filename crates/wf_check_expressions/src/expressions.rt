@@ -12,7 +12,7 @@ ghost use Rattle.wf_diagnostics.specs.Parts.{part_view};
 ghost use Rattle.wf_diagnostics.specs.Said.{as_said};
 ghost use Rattle.wf_check_expressions.specs.Tests.{sees};
 ghost use Rattle.wf_diagnostics.specs.declared.kind.CheckKind.TheVariants as kinds;
-ghost use Rattle.wf_shared.specs.HttpUrl.{first_of_two};
+ghost use Rattle.wf_value.specs.HttpUrl.{first_of_two};
 
 use crate::reads::sees_expr;
 use std::alloc::Global;

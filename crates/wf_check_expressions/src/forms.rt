@@ -8,11 +8,10 @@ ghost use Rattle.wf_diagnostics.specs.Parts.{part_view};
 ghost use Rattle.wf_diagnostics.specs.Said.{as_said};
 ghost use Rattle.wf_diagnostics.specs.declared.kind.CheckKind.TheVariants as kinds;
 
+use crate::flow_named;
 use std::alloc::Global;
-use wf_ast::{Body, Flow};
-use wf_check_calls::flow_named;
+use wf_ast::{Body, Flow, function_named};
 use wf_diagnostics::{CheckKind, Part, Stop, speak_at};
-use wf_library::function_named;
 
 // The key of a call that names no workflow: none where its function is built.
 fn uncalled(name: &str) -> Option<&'static str>

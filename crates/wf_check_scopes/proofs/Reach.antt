@@ -6,7 +6,7 @@ use Rattle.wf_symbols.proofs.Surrounds.{has_named}
 use Rattle.wf_symbols.specs.Around.{reach}
 use Rattle.wf_symbols.specs.Names.{names_of}
 use Rattle.wf_symbols.specs.declared.around.Block.{Block}
-use Rattle.wf_shared.specs.HttpRequest.{is_among}
+use Rattle.wf_value.specs.HttpRequest.{is_among}
 use Rattle.wf_value.specs.Pairs.{Text}
 
 pub reach_next : (x : Text) (bs : List Block) (i : ℕ) (b : Block) (has closed : Bool) → i < length bs → b ≡ get_or bs i b → has ≡ is_among x (names_of b.names) → closed ≡ b.is_closed

@@ -15,7 +15,7 @@ use Rattle.wf_ast.specs.declared.body.LoopBody.{LoopBody}
 use Rattle.wf_ast.specs.declared.body.Step.{Step}
 use Rattle.wf_symbols.proofs.Bodies.{branch_named}
 use Rattle.wf_symbols.proofs.Places.{item_at}
-use Rattle.wf_shared.specs.HttpRequest.{is_among}
+use Rattle.wf_value.specs.HttpRequest.{is_among}
 use Rattle.wf_value.specs.Pairs.{Text}
 
 pub none_there : (xs : List Step) → has_no_steps (tree.steps (map step_view xs)) ≡ (length xs == 0)

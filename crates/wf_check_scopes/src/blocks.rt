@@ -7,7 +7,7 @@ ghost use Rattle.wf_diagnostics.specs.Answers.{Tells};
 ghost use Rattle.wf_symbols.specs.Around.{inside_view, reach};
 ghost use Rattle.wf_symbols.specs.Names.{names_of};
 ghost use Rattle.wf_diagnostics.specs.Parts.{names_before, part_view};
-ghost use Rattle.wf_shared.specs.HttpRequest.{is_among};
+ghost use Rattle.wf_value.specs.HttpRequest.{is_among};
 ghost use Rattle.wf_diagnostics.specs.Said.{as_said};
 ghost use Rattle.wf_diagnostics.specs.declared.kind.CheckKind.TheVariants as kinds;
 

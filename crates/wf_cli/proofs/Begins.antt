@@ -20,9 +20,9 @@ use Rattle.wf_events.specs.Spelling.{record_bytes, HasSpelling}
 use Rattle.wf_host.specs.Source.{IsFirst}
 use Rattle.wf_args.specs.Lines.{PlainLine, line_of}
 use Rattle.wf_alone.proofs.Begun.{initial_to}
-use Rattle.wf_journal_laws.specs.Language.{Language}
-use Rattle.wf_journal_laws.specs.Laws.{StartIsAHistory}
-use Rattle.wf_journal_laws.specs.Moments.{NoTurnsBehind, NextBehindHistory}
+use Rattle.wf_deeds.specs.Language.{Language}
+use Rattle.wf_deeds.specs.HistoryLaws.{StartIsAHistory}
+use Rattle.wf_deeds.specs.Moments.{NoTurnsBehind, NextBehindHistory}
 use Rattle.wf_engine.specs.Safe.{SafeAt}
 use Rattle.wf_source.specs.Function.{SourceIsIt}
 use Rattle.wf_source.specs.Programs.{IsSourceOf}
@@ -34,7 +34,7 @@ use Rattle.wf_host.specs.declared.data.Deed.{Deed}
 use Rattle.wf_host.specs.declared.data.Deed.TheVariants.{Now}
 use Rattle.wf_journal.specs.Records.{magic, records}
 use Rattle.wf_args.specs.declared.command.Command.TheVariants.{Run}
-use Rattle.wf_journal_laws.specs.At.{journal, next_session}
+use Rattle.wf_deeds.specs.At.{journal, next_session}
 use Rattle.wf_replay.proofs.Language.{of_program}
 use Rattle.wf_replay.specs.TheLanguage.{the_language}
 use Rattle.wf_replay.specs.declared.engine_fault.EngineFault.TheVariants as engine

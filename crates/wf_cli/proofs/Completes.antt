@@ -6,7 +6,7 @@ use Rattle.wf_cli.specs.Top.{Call, IsLineOf, IsOfFile, Gives, Says, bad_line, ba
 use Rattle.wf_engine.specs.Printed as end
 use Rattle.wf_engine.specs.Printed.{Scene, executes}
 use Rattle.wf_host.specs.declared.data.Deed.{Deed}
-use Rattle.wf_journal_laws.specs.Language.{Language}
+use Rattle.wf_deeds.specs.Language.{Language}
 use Rattle.wf_args.specs.Lines.{line_of}
 use Rattle.wf_replay.specs.TheLanguage.{the_language}
 use Rattle.wf_status.specs.declared.Status.{Status}

@@ -27,7 +27,7 @@ use Rattle.wf_host.specs.declared.data.Deed.{Deed}
 use Rattle.wf_host.specs.declared.data.Deed.TheVariants.{Print}
 use Rattle.wf_host.specs.Printing as printing
 use Rattle.wf_host.specs.Printing.{PrintsFront, PrintedSoFar}
-use Rattle.wf_journal_laws.specs.Language.{Language}
+use Rattle.wf_deeds.specs.Language.{Language}
 use Rattle.wf_replay.specs.TheLanguage.{the_language}
 use Rattle.wf_status.specs.Statuses.{status_code}
 use Rattle.wf_status.specs.declared.Refusal.{Refusal}

@@ -24,7 +24,7 @@ use Rattle.wf_journal.specs.Records.{records}
 use Rattle.wf_journal.specs.Steps.{Moment}
 use Rattle.wf_model.specs.Config.{Outcome, Active, Returned, Raised, Cancelled}
 use Rattle.wf_model.specs.Ready.{quiet}
-use Rattle.wf_journal_laws.specs.Language.{Language}
+use Rattle.wf_deeds.specs.Language.{Language}
 use Rattle.wf_replay.specs.declared.engine_fault.EngineFault.TheVariants as engine
 use Rattle.wf_replay.specs.declared.engine_fault.EngineFault.{EngineFault}
 use Rattle.wf_status.specs.Statuses.{status_code}

@@ -30,14 +30,14 @@ use Rattle.wf_journal.specs.Standing.{magic_of_records, new_none}
 use Rattle.wf_journal.specs.Steps.{Moment}
 use Rattle.wf_args.specs.Lines.{PlainLine, line_of}
 use Rattle.wf_model.specs.Config.{Config, Active}
-use Rattle.wf_journal_laws.specs.At.{journal, begins, config_before, next_session, session_turns}
-use Rattle.wf_journal_laws.specs.History.{history}
-use Rattle.wf_journal_laws.specs.Language.{Language}
-use Rattle.wf_journal_laws.specs.Laws.{IsHistory}
-use Rattle.wf_journal_laws.specs.Moments.{NoTurnsBehind, NextBehindHistory}
+use Rattle.wf_deeds.specs.At.{journal, begins, config_before, next_session, session_turns}
+use Rattle.wf_deeds.specs.History.{history}
+use Rattle.wf_deeds.specs.Language.{Language}
+use Rattle.wf_deeds.specs.HistoryLaws.{IsHistory}
+use Rattle.wf_deeds.specs.Moments.{NoTurnsBehind, NextBehindHistory}
 use Rattle.wf_ast.specs.Tree.{Program}
 use Rattle.wf_replay.specs.TheLanguage.{the_language}
-use Rattle.wf_shared.specs.Events.{Turn, Start}
+use Rattle.wf_value.specs.Events.{Turn, Start}
 
 -- a moment at which nothing was opened yet: a file as at entry, and no deed or one reading of the clock
 pub early_nothing : (L : Language) (O : Outside) (s : Scene) (old : World) (c : List ℕ) (d : List Deed) → old.may_leave c → d ≡ old.deeds → SafeAt L O the_reports s None old c d

@@ -26,9 +26,9 @@ use Rattle.wf_journal.specs.Records.{magic, records}
 use Rattle.wf_args.specs.Lines.{line_of}
 use Rattle.wf_args.specs.declared.command.Command.TheVariants.{Run, Resume}
 use Rattle.wf_model.specs.Config.{Active}
-use Rattle.wf_journal_laws.specs.At.{journal, next_session}
-use Rattle.wf_journal_laws.specs.History.{Standing, history}
-use Rattle.wf_journal_laws.specs.Language.{Language}
+use Rattle.wf_deeds.specs.At.{journal, next_session}
+use Rattle.wf_deeds.specs.History.{Standing, history}
+use Rattle.wf_deeds.specs.Language.{Language}
 use Rattle.wf_replay.specs.TheLanguage.{the_language}
 use Rattle.wf_replay.specs.declared.engine_fault.EngineFault.TheVariants as engine
 use Rattle.wf_replay.specs.declared.engine_fault.EngineFault.{EngineFault}

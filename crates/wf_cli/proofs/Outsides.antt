@@ -2,7 +2,7 @@
 use Rattle.std.specs.Prelude.{false}
 use Rattle.wf_deeds.specs.Outside.{Outside, Refuses}
 use Rattle.wf_engine.specs.TheOutside.{InTheOutside}
-use Rattle.wf_shared.specs.HttpText.{BadRequest}
+use Rattle.wf_value.specs.HttpText.{BadRequest}
 
 -- no visit asks anything
 pub some_outside : Outside

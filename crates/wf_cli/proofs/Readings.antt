@@ -8,8 +8,8 @@ use Rattle.wf_engine.specs.Printed as end
 use Rattle.wf_engine.specs.Printed.{TellsHistory, tells_history}
 use Rattle.wf_host.specs.World.{World, Only, LeavesOnly}
 use Rattle.wf_journal.specs.Records.{magic, records}
-use Rattle.wf_journal_laws.specs.History.{history}
-use Rattle.wf_journal_laws.specs.Laws.{IsHistory}
+use Rattle.wf_deeds.specs.History.{history}
+use Rattle.wf_deeds.specs.HistoryLaws.{IsHistory}
 use Rattle.wf_args.specs.Lines.{PlainLine, turn_of, word_of}
 use Rattle.wf_args.specs.declared.command.Command.{Command}
 use Rattle.wf_args.specs.declared.command.Command.TheVariants.{Check, Format, Run, Resume, Show, At, Log, Help, Version}

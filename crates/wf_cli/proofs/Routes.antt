@@ -12,7 +12,7 @@ use Rattle.wf_events.specs.Spelling.{IsRoute, route}
 use Rattle.wf_events.specs.View.{route_view}
 use Rattle.wf_host.specs.declared.data.Address.{Address}
 use Rattle.wf_record_parts.specs.Spelling.{Each, four, listed, string, two}
-use Rattle.wf_shared.specs.Events as plain
+use Rattle.wf_value.specs.Events as plain
 
 -- ## Lists
 pub take_more : {X : Type 0} (xs : List X) (k : ℕ) (x : X) → slice_get xs k ≡ Some x → take (suc k) xs ≡ take k xs ++ x ∷ []

@@ -16,8 +16,8 @@ use Rattle.wf_events.specs.Spelling.{record_bytes}
 use Rattle.wf_host.specs.declared.data.Deed.{Deed}
 use Rattle.wf_host.specs.declared.data.Deed.TheVariants.{Start, Poll, Now, Reply, Drop, Print}
 use Rattle.wf_args.specs.Lines.{PlainLine}
-use Rattle.wf_journal_laws.specs.At.{journal, config_before}
-use Rattle.wf_journal_laws.specs.Language.{Language}
+use Rattle.wf_deeds.specs.At.{journal, config_before}
+use Rattle.wf_deeds.specs.Language.{Language}
 use Rattle.wf_model.specs.Ready.{quiet}
 use Rattle.wf_status.specs.Statuses.{status_code}
 use Rattle.wf_status.specs.declared.Status.{Status}

@@ -5,7 +5,7 @@ use Rattle.std.proofs.lemmas.Str.{IsUtf8-from_ascii}
 use Rattle.wf_events.specs.Records.{Started}
 use Rattle.wf_events.specs.Spelling.{record_bytes, HasSpelling, IsArgument, IsRoute, IsPair, route}
 use Rattle.wf_record_parts.specs.Spelling.{Each, IsText, string, eight, four, listed, pair}
-use Rattle.wf_shared.specs.Events.{Start}
+use Rattle.wf_value.specs.Events.{Start}
 
 -- an argument that may stand in a record, and is short
 abbrev pub IsShortArgument : List ℕ → Type 0

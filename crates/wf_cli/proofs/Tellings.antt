@@ -23,10 +23,10 @@ use Rattle.wf_host.specs.Moments.{weaker}
 use Rattle.wf_host.specs.World.{World, Faults, Told, Only, Rose}
 use Rattle.wf_host.specs.declared.data.Deed.{Deed}
 use Rattle.wf_journal.specs.Records.{magic, records}
-use Rattle.wf_journal_laws.specs.At.{journal, next_session, session_turns}
-use Rattle.wf_journal_laws.specs.History.{history}
-use Rattle.wf_journal_laws.specs.Laws.{IsHistory}
-use Rattle.wf_journal_laws.specs.Moments.{NextBehindHistory, NoTurnsBehind}
+use Rattle.wf_deeds.specs.At.{journal, next_session, session_turns}
+use Rattle.wf_deeds.specs.History.{history}
+use Rattle.wf_deeds.specs.HistoryLaws.{IsHistory}
+use Rattle.wf_deeds.specs.Moments.{NextBehindHistory, NoTurnsBehind}
 use Rattle.wf_args.specs.Lines.{PlainLine, line_of}
 use Rattle.wf_args.specs.declared.command.Command.{Command}
 use Rattle.wf_args.specs.declared.command.Command.TheVariants.{Check, Format, Run, Resume, Show, At, Log, Help, Version}

@@ -13,8 +13,8 @@ use Rattle.wf_journal.specs.Records.{records}
 use Rattle.wf_args.specs.Lines.{PlainLine, line_of}
 use Rattle.wf_args.specs.declared.command.Command.{Command}
 use Rattle.wf_args.specs.declared.command.Command.TheVariants.{Check, Format, Run, Resume, Show, At, Log, Help, Version}
-use Rattle.wf_journal_laws.specs.History.{history}
-use Rattle.wf_journal_laws.specs.Language.{Language}
+use Rattle.wf_deeds.specs.History.{history}
+use Rattle.wf_deeds.specs.Language.{Language}
 use Rattle.wf_replay.specs.TheLanguage.{the_language}
 use Rattle.wf_status.specs.Statuses.{rank}
 use Rattle.wf_status.specs.declared.Refusal.{Refusal}

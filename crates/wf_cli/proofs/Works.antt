@@ -42,9 +42,9 @@ use Rattle.wf_args.specs.declared.command.Command.TheVariants.{Check, Format, Ru
 use Rattle.wf_args.specs.declared.read.LineFault.{LineFault}
 use Rattle.wf_args.specs.declared.read.LineFault.TheVariants as words
 use Rattle.wf_model.specs.Config.{Outcome, Active, Returned, Raised, Cancelled}
-use Rattle.wf_journal_laws.specs.At.{journal, next_session}
-use Rattle.wf_journal_laws.specs.History.{Standing, history}
-use Rattle.wf_journal_laws.specs.Language.{Language}
+use Rattle.wf_deeds.specs.At.{journal, next_session}
+use Rattle.wf_deeds.specs.History.{Standing, history}
+use Rattle.wf_deeds.specs.Language.{Language}
 use Rattle.wf_replay.specs.TheLanguage.{the_language}
 use Rattle.wf_replay.specs.declared.engine_fault.EngineFault.TheVariants as engine
 use Rattle.wf_replay.specs.declared.engine_fault.EngineFault.{EngineFault}

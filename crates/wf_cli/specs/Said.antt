@@ -38,10 +38,10 @@ use Rattle.wf_args.specs.declared.read.LineFault.TheVariants as words
 use Rattle.wf_machine.specs.Outcome.{IsResult}
 use Rattle.wf_model.specs.Config.{Config, Outcome, Active}
 use Rattle.wf_host.specs.Printing.{PrintsFront, PrintsWhole, LeavesSome, TookNothing, PrintedSoFar}
-use Rattle.wf_journal_laws.specs.At.{journal, next_session}
-use Rattle.wf_journal_laws.specs.History.{Standing, history}
-use Rattle.wf_journal_laws.specs.Language.{Language}
-use Rattle.wf_journal_laws.specs.Laws.{IsHistory}
+use Rattle.wf_deeds.specs.At.{journal, next_session}
+use Rattle.wf_deeds.specs.History.{Standing, history}
+use Rattle.wf_deeds.specs.Language.{Language}
+use Rattle.wf_deeds.specs.HistoryLaws.{IsHistory}
 use Rattle.wf_report.specs.Journals.{MayHaveRecords}
 use Rattle.wf_report.specs.Texts.{logged, shown}
 use Rattle.std.specs.declared.alloc.Global.{Global}

@@ -18,8 +18,8 @@ use Rattle.wf_journal.specs.Records.{records}
 use Rattle.wf_args.specs.Lines.{PlainLine}
 use Rattle.wf_args.specs.declared.command.Command.TheVariants.{Check, Format, Resume}
 use Rattle.wf_model.specs.Config.{Outcome, Active}
-use Rattle.wf_journal_laws.specs.History.{Standing, history}
-use Rattle.wf_journal_laws.specs.Language.{Language}
+use Rattle.wf_deeds.specs.History.{Standing, history}
+use Rattle.wf_deeds.specs.Language.{Language}
 use Rattle.wf_replay.specs.TheLanguage.{the_language}
 use Rattle.wf_source.specs.Sources.{read_tree}
 use Rattle.wf_status.specs.Refusals.{refusal_text}

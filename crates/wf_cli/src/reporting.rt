@@ -1,5 +1,5 @@
 // Reports of the execution that stands in the journal.
-ghost use Rattle.std.specs.Prelude.{◌≡◌, ◌⊎◌, ◌<◌, true, ℕ, List, Ok, IfErr, IfOk, IsErrOf, string_bytes};
+ghost use Rattle.std.specs.Prelude.{◌≡◌, ◌<◌, true, ℕ, List, Ok, IfOk, IsErrOf, string_bytes, ◌∷◌, []};
 ghost use Rattle.wf_args.specs.Lines.{line_of, word_of};
 ghost use Rattle.wf_args.specs.Plain.{plain_line};
 ghost use Rattle.wf_args.specs.declared.option.OptionName.TheVariants.{Grep};
@@ -7,7 +7,7 @@ ghost use Rattle.wf_cli.specs.Said.{IsEnd, ReadsJournal, SaysTelling, Worked, te
 ghost use Rattle.wf_engine.specs.Printed.{tells_history};
 ghost use Rattle.wf_engine.specs.Safe.{scene};
 ghost use Rattle.wf_engine.specs.TheOutside.{InTheOutside};
-ghost use Rattle.wf_host.specs.Calls.{DiskFailed, NoCountFalls, TellsAsBefore};
+ghost use Rattle.wf_host.specs.Calls.{DiskFailed, NoCountFalls, OnlyErrorsOr, TellsAsBefore};
 ghost use Rattle.wf_host.specs.Source.{Rest};
 ghost use Rattle.wf_host.specs.World.{Told};
 ghost use Rattle.wf_machine.specs.Seen.{state_of};
@@ -17,10 +17,9 @@ use std::alloc::Global;
 use std::marker::Brand;
 use std::sync::ledger::{Blank, Ledger};
 use wf_args::{Command, Line};
-use wf_deeds::laws_of_rules;
+use wf_deeds::{laws_of_moments, laws_of_rules};
 use wf_engine::EngineFault;
 use wf_host::Host;
-use wf_journal_laws::laws_of_moments;
 use wf_machine::{Machine, Steps};
 use wf_report::{last_state, log_lines, show, state_at};
 use wf_value::OutOfMemory;
@@ -114,9 +113,8 @@ fn text_for<H: Host, L: Ledger>(
         (ReadsJournal (plain_line line.now) (H.world host.old) (H.world host.new) result) }
     ensures disk_fault { IsErrOf result EngineFault.DiskFault
         → DiskFailed H.faults host.old host.new }
-    ensures only { IfErr result (λ e. (e ≡ EngineFault.DiskFault)
-        ⊎ (e ≡ EngineFault.NotAJournal) ⊎ (e ≡ EngineFault.NotStarted)
-        ⊎ ((n : ℕ) × (e ≡ EngineFault.NotAHistory n)) ⊎ (e ≡ EngineFault.OutOfMemory)) }
+    ensures only { OnlyErrorsOr EngineFault.NotAHistory result (EngineFault.DiskFault ∷
+        EngineFault.NotAJournal ∷ EngineFault.NotStarted ∷ EngineFault.OutOfMemory ∷ []) }
     ensures tells { TellsAsBefore H.world host.old host.new }
     ensures counts { NoCountFalls H.faults host.old host.new }
 {

@@ -2,7 +2,7 @@
 use Rattle.std.proofs.Common.{◌≡◌, ℕ, zero, suc, ◌+◌, ◌-◌, ◌<◌, ◌≤◌, List, [], ◌∷◌, ◌++◌, length, take, Some, None, sym, ap, ◌∙◌, arith, slice_get, length-append, take_all}
 use Rattle.std.proofs.lemmas.List.{take_more}
 use Rattle.std.proofs.lemmas.Option.{get_or_from_slice_get, slice_get_within}
-use Rattle.wf_shared.specs.Events.{Headers}
+use Rattle.wf_value.specs.Events.{Headers}
 
 one_longer : (xs ys : Headers) (f : List ℕ × List ℕ) → ys ≡ xs ++ f ∷ [] → length ys ≡ length xs + 1
 one_longer xs ys f push = ap length push ∙ length-append xs (f ∷ [])

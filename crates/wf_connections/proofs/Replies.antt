@@ -9,7 +9,7 @@ use Rattle.wf_http_in.specs.AnswerOf.{AnswersAreSmall, IsSmall, IsSmallResponse,
 use Rattle.wf_record_parts.specs.Spelling.{IsField, IsReply, four, headers, pair, reply, string, two}
 use Rattle.wf_record_parts.specs.View.{reply_view}
 use Rattle.wf_record_parts.specs.declared.reply.Reply.{Reply as Stored}
-use Rattle.wf_shared.specs.Events.{Headers, Reply, Response, Broken, TooLong}
+use Rattle.wf_value.specs.Events.{Headers, Reply, Response, Broken, TooLong}
 
 -- being small has at most one proof
 small_response_prop : (code : ℕ) (fields : Headers) (body : List ℕ) → IsProp (IsSmallResponse code fields body)

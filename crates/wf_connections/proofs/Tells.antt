@@ -10,7 +10,7 @@ use Rattle.wf_host.specs.declared.data.What.{What}
 use Rattle.wf_host.specs.declared.data.What.TheVariants as what
 use Rattle.wf_http_in.specs.Stages.{HasHeard}
 use Rattle.wf_http_in.specs.declared.reading.Reading.{Reading}
-use Rattle.wf_shared.specs.HttpBody.{Close, Ended, Broke}
+use Rattle.wf_value.specs.HttpBody.{Close, Ended, Broke}
 
 pub told_more : (k : ℕ) (heard : Heard) (w : What) → told_by k (heard ++ (w, tt) ∷ []) ≡ tells k w (told_by k heard)
 told_more k heard w = fold-append (λ (t : Told) (h : What × Unit {0}). tells k h.0 t) nothing_told heard ((w, tt) ∷ [])

@@ -4,7 +4,7 @@ ghost use Rattle.wf_http_in.specs.AnswerOf.{AnswerOf};
 ghost use Rattle.wf_http_in.specs.Stages.{HasHeard};
 ghost use Rattle.wf_http_in.specs.View.{answer_view};
 ghost use Rattle.wf_record_parts.specs.View.{reply_view};
-ghost use Rattle.wf_shared.specs.HttpBody.{Close};
+ghost use Rattle.wf_value.specs.HttpBody.{Close};
 
 use std::alloc::Global;
 use wf_callbacks::Fields;

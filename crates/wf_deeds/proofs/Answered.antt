@@ -4,7 +4,7 @@ use Rattle.std.proofs.Math.Logic.{∥∥₁_elim}
 use Rattle.std.specs.Coded.{Coded, Coded-set, code_by, coded_bool, coded_list, coded_option, coded_ℕ, coded×, coded⊎}
 use Rattle.wf_deeds.specs.Deeds.{Told, nothing_told, IsAnswered}
 use Rattle.wf_http_in.specs.AnswerOf.{HasOneAnswer, NoneAtFirst}
-use Rattle.wf_shared.specs.Events.{Headers, Reply, Response, Broken, TooLong}
+use Rattle.wf_value.specs.Events.{Headers, Reply, Response, Broken, TooLong}
 
 -- ## Answers are data
 abbrev Parts : Type 0

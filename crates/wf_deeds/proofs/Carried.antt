@@ -10,9 +10,9 @@ use Rattle.wf_host.specs.declared.data.Deed.{Deed}
 use Rattle.wf_host.specs.declared.data.What.{What}
 use Rattle.wf_model.specs.Config.{Config}
 use Rattle.wf_model.specs.Ready.{quiet}
-use Rattle.wf_journal_laws.specs.Language.{Language}
-use Rattle.wf_shared.specs.Events as plain
-use Rattle.wf_shared.specs.Events.{Event, Turn}
+use Rattle.wf_deeds.specs.Language.{Language}
+use Rattle.wf_value.specs.Events as plain
+use Rattle.wf_value.specs.Events.{Event, Turn}
 
 -- ## Turns
 -- what stands first among some turns stands first among more

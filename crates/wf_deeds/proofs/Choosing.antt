@@ -19,8 +19,8 @@ use Rattle.wf_model.specs.Ready.{quiet}
 use Rattle.wf_model.specs.ReadingLaws.{StepsRead, IsFromInside, ChosenIsFromInside}
 use Rattle.wf_model.specs.Run.{run_on}
 use Rattle.wf_model.specs.Step.{next}
-use Rattle.wf_journal_laws.specs.Language.{Language}
-use Rattle.wf_shared.specs.Events.{Event, Move, MoveAt, Begin, Issue, Answer, Due, Arrive, Cancel}
+use Rattle.wf_deeds.specs.Language.{Language}
+use Rattle.wf_value.specs.Events.{Event, Move, MoveAt, Begin, Issue, Answer, Due, Arrive, Cancel}
 
 pub record ChoiceLaws : Type 0 where
   pub takes : ChoiceTakesTheReading

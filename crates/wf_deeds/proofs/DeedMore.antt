@@ -12,9 +12,9 @@ use Rattle.wf_deeds.specs.Outside.{Outside, Arrives}
 use Rattle.wf_deeds.specs.Rules.{with_deed, with_end, MayDo, AnswersStand, RepliesAreMade, DeedKeepsRules, EndKeepsRules}
 use Rattle.wf_host.specs.declared.data.Deed.{Deed}
 use Rattle.wf_host.specs.declared.data.Deed.TheVariants.{Start, Poll, Now, Reply, Drop, Print}
-use Rattle.wf_journal_laws.specs.At.{config_before}
-use Rattle.wf_journal_laws.specs.Language.{Language}
-use Rattle.wf_shared.specs.Events.{Event, Turn}
+use Rattle.wf_deeds.specs.At.{config_before}
+use Rattle.wf_deeds.specs.Language.{Language}
+use Rattle.wf_value.specs.Events.{Event, Turn}
 
 pub no_end : (x : Session) (status : ℕ) → x.end ≡ None → x.end ≡ Some status → ⊥
 no_end x status none is = let no : None ≡ Some status = sym none ∙ is in cc no

@@ -12,8 +12,8 @@ use Rattle.wf_deeds.specs.Steps.{FreshStands, EndIsKept, fresh}
 use Rattle.wf_host.specs.declared.data.Deed.{Deed}
 use Rattle.wf_host.specs.declared.data.Deed.TheVariants.{Start, Poll, Now, Reply, Drop, Print}
 use Rattle.wf_model.specs.Ready.{quiet}
-use Rattle.wf_journal_laws.specs.Language.{Language}
-use Rattle.wf_journal_laws.specs.Moments.{HistoryStandsThere}
+use Rattle.wf_deeds.specs.Language.{Language}
+use Rattle.wf_deeds.specs.Moments.{HistoryStandsThere}
 
 -- ## Where nothing was sent or awaited
 no_polls : (ds : List Deed) → AllByRecursion IsSmall ds → polls ds ≡ 0

@@ -11,9 +11,9 @@ use Rattle.wf_deeds.specs.Outside.{Outside, Arrives}
 use Rattle.wf_deeds.specs.Rules.{HandedKeepsRules, IsBrought, with_handed}
 use Rattle.wf_deeds.specs.Steps.{HandedStands}
 use Rattle.wf_host.specs.declared.data.Deed.TheVariants.{Poll}
-use Rattle.wf_journal_laws.specs.Language.{Language}
-use Rattle.wf_shared.specs.Events as plain
-use Rattle.wf_shared.specs.Events.{Event}
+use Rattle.wf_deeds.specs.Language.{Language}
+use Rattle.wf_value.specs.Events as plain
+use Rattle.wf_value.specs.Events.{Event}
 
 pub handed_keeps_rules : HandedKeepsRules
 handed_keeps_rules L O x kept =

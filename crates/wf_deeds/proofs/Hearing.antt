@@ -25,13 +25,13 @@ use Rattle.wf_host.specs.declared.data.Heard.{Heard}
 use Rattle.wf_host.specs.declared.data.What.{What}
 use Rattle.wf_host.specs.declared.data.What.TheVariants as what
 use Rattle.wf_model.specs.Ready.{request_of}
-use Rattle.wf_journal_laws.specs.At.{journal, config_at, config_before}
-use Rattle.wf_journal_laws.specs.History.{Standing}
-use Rattle.wf_journal_laws.specs.Moments.{HistoryStandsThere, is_by}
-use Rattle.wf_shared.specs.Events as plain
-use Rattle.wf_shared.specs.Events.{Event, Turn}
-use Rattle.wf_shared.specs.HttpBody.{Ended, Broke}
-use Rattle.wf_shared.specs.HttpRequest.{Request}
+use Rattle.wf_deeds.specs.At.{journal, config_at, config_before}
+use Rattle.wf_deeds.specs.History.{Standing}
+use Rattle.wf_deeds.specs.Moments.{HistoryStandsThere, is_by}
+use Rattle.wf_value.specs.Events as plain
+use Rattle.wf_value.specs.Events.{Event, Turn}
+use Rattle.wf_value.specs.HttpBody.{Ended, Broke}
+use Rattle.wf_value.specs.HttpRequest.{Request}
 
 -- ## Cases
 pub opt_case : {A : Type 0} → (P : Option A → Type 0) → (o : Option A) → (o ≡ None → P None) → ((a : A) → o ≡ Some a → P (Some a)) → P o

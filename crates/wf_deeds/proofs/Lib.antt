@@ -14,3 +14,7 @@ mod Choosing
 mod Ends
 mod Moments
 mod Handed
+mod Histories
+mod HistoryMoments
+mod Runs
+pub mod Steps

@@ -7,8 +7,8 @@ use Rattle.wf_deeds.specs.Kept.{Session, Place, Kept, own, ReadingsAreOfTheClock
 use Rattle.wf_deeds.specs.Outside.{Outside}
 use Rattle.wf_host.specs.declared.data.Deed.{Deed}
 use Rattle.wf_host.specs.declared.data.Deed.TheVariants.{Start, Poll, Reply, Drop}
-use Rattle.wf_journal_laws.specs.Language.{Language}
-use Rattle.wf_shared.specs.Events.{Event, Turn, Answer, Arrive}
+use Rattle.wf_deeds.specs.Language.{Language}
+use Rattle.wf_value.specs.Events.{Event, Turn, Answer, Arrive}
 
 -- what holds of all holds of the one between
 all_at : {A : Type 0} (P : A → Type 0) (before : List A) (x : A) (behind : List A) → AllByRecursion P (before ++ x ∷ behind) → P x

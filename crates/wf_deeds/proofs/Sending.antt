@@ -19,12 +19,12 @@ use Rattle.wf_host.specs.declared.data.Deed.TheVariants.{Start, Poll, Now, Reply
 use Rattle.wf_host.specs.declared.data.Heard.{Heard}
 use Rattle.wf_model.specs.Config.{TimedOut, Call, Answered, Config, Active}
 use Rattle.wf_model.specs.Ready.{call, quiet, request_in, request_of}
-use Rattle.wf_journal_laws.specs.At.{journal, config_at, config_before}
-use Rattle.wf_journal_laws.specs.Language.{Language}
-use Rattle.wf_journal_laws.specs.Moments.{HistoryStandsThere}
-use Rattle.wf_shared.specs.Events as plain
-use Rattle.wf_shared.specs.HttpRequest.{Request}
-use Rattle.wf_shared.specs.HttpText.{reply_bytes}
+use Rattle.wf_deeds.specs.At.{journal, config_at, config_before}
+use Rattle.wf_deeds.specs.Language.{Language}
+use Rattle.wf_deeds.specs.Moments.{HistoryStandsThere}
+use Rattle.wf_value.specs.Events as plain
+use Rattle.wf_value.specs.HttpRequest.{Request}
+use Rattle.wf_value.specs.HttpText.{reply_bytes}
 
 -- ## Where the session stands
 module _ (there : HistoryStandsThere) (L : Language) (O : Outside) (command : Command) (handed : Bool) (m : Memory) (J : List (List ℕ)) (D : List Deed) (s : StandsFor L O command handed m J D) where

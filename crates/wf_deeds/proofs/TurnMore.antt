@@ -19,11 +19,11 @@ use Rattle.wf_host.specs.declared.data.Deed.{Deed}
 use Rattle.wf_host.specs.declared.data.Deed.TheVariants.{Start, Poll, Reply, Drop}
 use Rattle.wf_host.specs.declared.data.Heard.{Heard}
 use Rattle.wf_model.specs.Run.{is_before}
-use Rattle.wf_journal_laws.specs.At.{Journal, config_at, config_before, journal, session_turns}
-use Rattle.wf_journal_laws.specs.Language.{Language}
-use Rattle.wf_journal_laws.specs.Moments.{with_turn_more, TurnIsAdded, SessionBeforeStays, TurnIsOfItsSession, MomentBeforeStays}
-use Rattle.wf_shared.specs.Events as plain
-use Rattle.wf_shared.specs.Events.{Event, Turn}
+use Rattle.wf_deeds.specs.At.{Journal, config_at, config_before, journal, session_turns}
+use Rattle.wf_deeds.specs.Language.{Language}
+use Rattle.wf_deeds.specs.Moments.{with_turn_more, TurnIsAdded, SessionBeforeStays, TurnIsOfItsSession, MomentBeforeStays}
+use Rattle.wf_value.specs.Events as plain
+use Rattle.wf_value.specs.Events.{Event, Turn}
 
 -- what is known of a journal with a turn more
 pub record Journals : Type 0 where

@@ -28,13 +28,13 @@ use Rattle.wf_model.specs.Ready.{request_of}
 use Rattle.wf_model.specs.Run.{run_on}
 use Rattle.wf_model.specs.RunLaws.{NothingFollowsAnOutcome}
 use Rattle.wf_model.specs.Step.{next}
-use Rattle.wf_journal_laws.specs.At.{Journal, config_at, journal}
-use Rattle.wf_journal_laws.specs.History.{Standing, goes_on, goes_on_at, is_numbered, led, turned as turned_by}
-use Rattle.wf_journal_laws.specs.Language.{Language}
-use Rattle.wf_journal_laws.specs.Laws.{RecordGoesOn}
-use Rattle.wf_journal_laws.specs.Moments.{HistoryStandsThere, is_by}
-use Rattle.wf_shared.specs.Events as plain
-use Rattle.wf_shared.specs.Events.{Event, Turn}
+use Rattle.wf_deeds.specs.At.{Journal, config_at, journal}
+use Rattle.wf_deeds.specs.History.{Standing, goes_on, goes_on_at, is_numbered, led, turned as turned_by}
+use Rattle.wf_deeds.specs.Language.{Language}
+use Rattle.wf_deeds.specs.HistoryLaws.{RecordGoesOn}
+use Rattle.wf_deeds.specs.Moments.{HistoryStandsThere, is_by}
+use Rattle.wf_value.specs.Events as plain
+use Rattle.wf_value.specs.Events.{Event, Turn}
 
 pub record Laws : Type 0 where
   pub one : OneAnswered

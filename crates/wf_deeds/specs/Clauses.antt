@@ -23,10 +23,10 @@ use Rattle.wf_journal.specs.Records.{records}
 use Rattle.wf_journal.specs.Steps.{Moment}
 use Rattle.wf_model.specs.Config.{Call, TimedOut, Active}
 use Rattle.wf_model.specs.Ready.{call, quiet, request_of}
-use Rattle.wf_journal_laws.specs.Language.{Language}
-use Rattle.wf_journal_laws.specs.Laws.{IsHistory}
-use Rattle.wf_shared.specs.Events.{Event, Turn}
-use Rattle.wf_shared.specs.HttpText.{reply_bytes}
+use Rattle.wf_deeds.specs.Language.{Language}
+use Rattle.wf_deeds.specs.HistoryLaws.{IsHistory}
+use Rattle.wf_value.specs.Events.{Event, Turn}
+use Rattle.wf_value.specs.HttpText.{reply_bytes}
 
 -- ## Moments
 -- a turn that the record means is of this session

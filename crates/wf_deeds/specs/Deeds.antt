@@ -9,8 +9,8 @@ use Rattle.wf_host.specs.declared.data.Deed.TheVariants.{Start, Poll, Now, Reply
 use Rattle.wf_host.specs.declared.data.What.{What}
 use Rattle.wf_host.specs.declared.data.What.TheVariants as what
 use Rattle.wf_http_in.specs.AnswerOf.{AnswerOf}
-use Rattle.wf_shared.specs.Events as plain
-use Rattle.wf_shared.specs.HttpBody.{Close, Open, Ended, Broke}
+use Rattle.wf_value.specs.Events as plain
+use Rattle.wf_value.specs.HttpBody.{Close, Open, Ended, Broke}
 
 -- ## Counts and readings
 abbrev pub polls : List Deed → ℕ

@@ -13,12 +13,12 @@ use Rattle.wf_host.specs.declared.data.What.{What}
 pub use Rattle.wf_model.specs.ChoiceLaws.{reading_of}
 use Rattle.wf_model.specs.Config.{TimedOut, Config, Active}
 use Rattle.wf_model.specs.Ready.{call, least_due, quiet, request_of}
-use Rattle.wf_journal_laws.specs.At.{Journal, journal, config_at, config_before, session_turns}
-use Rattle.wf_journal_laws.specs.Language.{Language}
-use Rattle.wf_shared.specs.Events as plain
-use Rattle.wf_shared.specs.Events.{Event, Arrive, Turn, Visitor}
-use Rattle.wf_shared.specs.HttpRequest.{Request}
-use Rattle.wf_shared.specs.HttpText.{reply_bytes}
+use Rattle.wf_deeds.specs.At.{Journal, journal, config_at, config_before, session_turns}
+use Rattle.wf_deeds.specs.Language.{Language}
+use Rattle.wf_value.specs.Events as plain
+use Rattle.wf_value.specs.Events.{Event, Arrive, Turn, Visitor}
+use Rattle.wf_value.specs.HttpRequest.{Request}
+use Rattle.wf_value.specs.HttpText.{reply_bytes}
 
 -- a command that begins an execution, or one that goes on with it
 pub data Command : Type 0 where

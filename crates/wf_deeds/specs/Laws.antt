@@ -4,7 +4,7 @@ use Rattle.std.specs.List.{AllByRecursion}
 use Rattle.wf_deeds.specs.Deeds.{IsSmall}
 use Rattle.wf_deeds.specs.Kept.{Session, Kept, ReadingsAreOfTheClock, own}
 use Rattle.wf_deeds.specs.Outside.{Outside}
-use Rattle.wf_journal_laws.specs.Language.{Language}
+use Rattle.wf_deeds.specs.Language.{Language}
 
 -- where nothing was sent or awaited, and no turn of the session stands yet, only the rule on readings asks something
 abbrev pub OnlyReadings : Type 0

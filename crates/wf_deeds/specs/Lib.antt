@@ -7,3 +7,8 @@ pub mod Turns
 pub mod Steps
 pub mod Clauses
 pub mod Laws
+pub mod Language
+pub mod History
+pub mod At
+pub mod HistoryLaws
+pub mod Moments

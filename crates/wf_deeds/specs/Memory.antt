@@ -12,12 +12,12 @@ use Rattle.wf_host.specs.declared.data.Heard.{Heard}
 use Rattle.wf_host.specs.declared.data.What.{What}
 use Rattle.wf_model.specs.Config.{TimedOut, Config, Active}
 use Rattle.wf_model.specs.Ready.{call, quiet, request_of}
-use Rattle.wf_journal_laws.specs.At.{journal, config_before}
-use Rattle.wf_journal_laws.specs.History.{Standing, history as history_of}
-use Rattle.wf_journal_laws.specs.Language.{Language}
-use Rattle.wf_journal_laws.specs.Moments.{is_by}
-use Rattle.wf_shared.specs.Events as plain
-use Rattle.wf_shared.specs.Events.{Event}
+use Rattle.wf_deeds.specs.At.{journal, config_before}
+use Rattle.wf_deeds.specs.History.{Standing, history as history_of}
+use Rattle.wf_deeds.specs.Language.{Language}
+use Rattle.wf_deeds.specs.Moments.{is_by}
+use Rattle.wf_value.specs.Events as plain
+use Rattle.wf_value.specs.Events.{Event}
 
 -- a visit that waits for its reply
 pub record Owed : Type 0 where

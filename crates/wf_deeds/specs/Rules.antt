@@ -14,10 +14,10 @@ use Rattle.wf_host.specs.declared.data.Deed.TheVariants.{Start, Poll, Now, Reply
 use Rattle.wf_host.specs.declared.data.Heard.{Heard}
 use Rattle.wf_model.specs.Config.{Config}
 use Rattle.wf_model.specs.Ready.{quiet}
-use Rattle.wf_journal_laws.specs.At.{Journal, journal}
-use Rattle.wf_journal_laws.specs.Language.{Language}
-use Rattle.wf_shared.specs.Events as plain
-use Rattle.wf_shared.specs.Events.{Event, Turn}
+use Rattle.wf_deeds.specs.At.{Journal, journal}
+use Rattle.wf_deeds.specs.Language.{Language}
+use Rattle.wf_value.specs.Events as plain
+use Rattle.wf_value.specs.Events.{Event, Turn}
 
 -- a session with a deed more
 abbrev pub with_deed : Session → Deed → Session

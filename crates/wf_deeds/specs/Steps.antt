@@ -19,10 +19,10 @@ use Rattle.wf_host.specs.declared.data.Heard.{Heard}
 use Rattle.wf_model.specs.Config.{TimedOut, Config, Active, To}
 use Rattle.wf_model.specs.Ready.{call, least_due, quiet, request_of}
 use Rattle.wf_model.specs.Run.{run_on}
-use Rattle.wf_journal_laws.specs.At.{journal, config_before}
-use Rattle.wf_journal_laws.specs.Language.{Language}
-use Rattle.wf_shared.specs.Events.{Event, Turn}
-use Rattle.wf_shared.specs.HttpText.{reply_bytes}
+use Rattle.wf_deeds.specs.At.{journal, config_before}
+use Rattle.wf_deeds.specs.Language.{Language}
+use Rattle.wf_value.specs.Events.{Event, Turn}
+use Rattle.wf_value.specs.HttpText.{reply_bytes}
 
 -- ## Memories
 -- with other calls

@@ -5,7 +5,7 @@ use Rattle.wf_deeds.specs.Kept.{reading_of}
 use Rattle.wf_model.specs.Choose.{choose}
 use Rattle.wf_model.specs.Config.{Config, After, To}
 use Rattle.wf_model.specs.Step.{next}
-use Rattle.wf_shared.specs.Events.{Event}
+use Rattle.wf_value.specs.Events.{Event}
 
 -- the events that are chosen at a reading, each of them where the one before led, and at most n; none comes with an outcome, nor once the
 -- configuration is quiet at the reading

@@ -4,8 +4,8 @@ ghost use Rattle.wf_deeds.specs.Rules.{DeedKeepsRules, EndKeepsRules, HandedKeep
 ghost use Rattle.wf_deeds.specs.Steps.{DropGoesOn, EndIsKept, FreshStands, HandedStands, HearingGoesOn, PollIsKept, PrintGoesOn, ReplyGoesOn, StartGoesOn, TurnGoesOn, TurnIsChosen};
 ghost use Rattle.wf_deeds.specs.Laws.{OnlyReadings};
 
+use crate::{laws_of_histories, laws_of_moments};
 use wf_http_in::{none_at_first, one_answer};
-use wf_journal_laws::{laws_of_histories, laws_of_moments};
 use wf_model::{laws_of_calls, laws_of_choice, laws_of_readings, laws_of_runs};
 
 /// Carries the law of the beginning of a session: where nothing was sent or awaited, and no turn of the session stands yet, only the rule

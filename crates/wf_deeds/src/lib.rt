@@ -2,6 +2,8 @@
 //! visits come to.
 #![tactic(auto)]
 
+mod history_laws;
 mod laws;
 
+pub use history_laws::{laws_of_histories, laws_of_moments};
 pub use laws::{laws_of_deeds, laws_of_rules, laws_of_steps};

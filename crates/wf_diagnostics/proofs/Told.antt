@@ -6,7 +6,7 @@ use Rattle.wf_ast.specs.Nodes.{Path, below}
 use Rattle.wf_diagnostics.specs.Answers.{IsKeyed, IsOutside, Tells, along}
 use Rattle.wf_diagnostics.specs.declared.stop.Stop.{Stop}
 use Rattle.wf_diagnostics.specs.declared.stop.Stop.TheVariants as stop
-use Rattle.wf_shared.specs.HttpUrl.{first_of_two}
+use Rattle.wf_value.specs.HttpUrl.{first_of_two}
 use Rattle.wf_value.specs.Pairs.{Text}
 use Rattle.wf_value.specs.declared.path.PathPart.{PathPart}
 use Rattle.wf_value.specs.declared.path.PathPart.TheVariants as part

@@ -18,12 +18,12 @@ use Rattle.wf_events.specs.Spelling.{record_bytes, event, HasSpelling, IsOld}
 use Rattle.wf_events.specs.View.{event_view}
 use Rattle.wf_events.specs.declared.data.Event as own
 use Rattle.wf_host.specs.declared.data.Deed.{Deed}
-use Rattle.wf_journal_laws.specs.History.{history as history_of}
-use Rattle.wf_journal_laws.specs.Language.{Language}
+use Rattle.wf_deeds.specs.History.{history as history_of}
+use Rattle.wf_deeds.specs.Language.{Language}
 use Rattle.wf_model.specs.Config.{Config, To}
 use Rattle.wf_model.specs.Run.{run_on}
 use Rattle.wf_record_parts.specs.Spelling.{eight, four}
-use Rattle.wf_shared.specs.Events.{Event, Turn}
+use Rattle.wf_value.specs.Events.{Event, Turn}
 
 -- ## The record
 abbrev pub payload_of : Memory → List Event → List ℕ

@@ -21,8 +21,8 @@ use Rattle.wf_model.specs.Run.{run_on}
 use Rattle.wf_model.specs.Step.{next}
 use Rattle.wf_model.specs.WaitLaws.{Sound}
 use Rattle.wf_record_parts.specs.View.{reply_view}
-use Rattle.wf_shared.specs.Events.{Answer, Arrive, Begin, Cancel, Due, Event, Issue, Move, MoveAt, Reply}
-use Rattle.wf_shared.specs.HttpRequest.{Request}
+use Rattle.wf_value.specs.Events.{Answer, Arrive, Begin, Cancel, Due, Event, Issue, Move, MoveAt, Reply}
+use Rattle.wf_value.specs.HttpRequest.{Request}
 
 -- ## An answer can come
 request_is_open : (x : Call) → is_some (request_in x) ≡ true → (b : ℕ) × (q : Request) × (due : ℕ) × (x ≡ Open b q due)

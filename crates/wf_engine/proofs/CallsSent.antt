@@ -22,11 +22,11 @@ use Rattle.wf_host.specs.declared.data.Deed.{Deed}
 use Rattle.wf_host.specs.declared.data.Deed.TheVariants.{Drop, Start}
 use Rattle.wf_journal.specs.Records.{records}
 use Rattle.wf_journal.specs.Standing.{stands_after}
-use Rattle.wf_journal_laws.specs.Language.{Language}
+use Rattle.wf_deeds.specs.Language.{Language}
 use Rattle.wf_model.specs.Config.{Active, Answered, Call, Config, Open, TimedOut}
 use Rattle.wf_model.specs.Ready.{call, quiet, request_in, request_of}
 use Rattle.wf_replay.specs.TheLanguage.{the_language}
-use Rattle.wf_shared.specs.HttpRequest.{Request}
+use Rattle.wf_value.specs.HttpRequest.{Request}
 
 pub told_then : (w new : World) → new.tells ≡ w.tells → IsTrue w.tells → IsTrue new.tells
 told_then w new same told = subst IsTrue (sym same) told

@@ -9,7 +9,7 @@ use Rattle.wf_model.specs.Choose.{choose}
 use Rattle.wf_model.specs.Config.{Config, After, To, Wrong, NotNow}
 use Rattle.wf_model.specs.Run.{run_on}
 use Rattle.wf_model.specs.Step.{next}
-use Rattle.wf_shared.specs.Events.{Event}
+use Rattle.wf_value.specs.Events.{Event}
 
 -- ## Runs
 -- from nowhere nothing leads on

@@ -20,7 +20,7 @@ use Rattle.wf_host.specs.declared.data.Address.{Address}
 use Rattle.wf_host.specs.declared.data.Deed.TheVariants.{Drop, Start}
 use Rattle.wf_http_ask.specs.View.{request_view}
 use Rattle.wf_http_ask.specs.declared.request.Request as own
-use Rattle.wf_journal_laws.specs.Language.{Language}
+use Rattle.wf_deeds.specs.Language.{Language}
 use Rattle.wf_machine.specs.Lent.{outcome_view}
 use Rattle.wf_machine.specs.Seen.{state_of}
 use Rattle.wf_machine.specs.declared.Outcome as lent
@@ -28,7 +28,7 @@ use Rattle.wf_machine.specs.declared.Outcome.TheVariants as outcome
 use Rattle.wf_machine.specs.declared.machine.Machine.{Machine}
 use Rattle.wf_model.specs.Config.{Active, Answered, Call, Config, Open, Outcome, TimedOut}
 use Rattle.wf_model.specs.Ready.{call, request_in, request_of}
-use Rattle.wf_shared.specs.HttpRequest.{Request}
+use Rattle.wf_value.specs.HttpRequest.{Request}
 
 -- ## Tests
 other_call : (k j : ℕ) → j ≢ k → nat_eq k j ≡ false

@@ -13,7 +13,7 @@ use Rattle.wf_engine.specs.declared.taken.Taken.{Taken}
 use Rattle.wf_host.specs.World.{World}
 use Rattle.wf_host.specs.declared.data.Deed.{Deed}
 use Rattle.wf_journal.specs.Records.{records}
-use Rattle.wf_journal_laws.specs.Language.{Language}
+use Rattle.wf_deeds.specs.Language.{Language}
 use Rattle.wf_model.specs.Config.{Config}
 
 -- nothing was started or dropped, and what was told is nobody's

@@ -16,13 +16,13 @@ use Rattle.wf_engine.specs.declared.taken.Taken.{Taken}
 use Rattle.wf_history.specs.declared.history.History.{History}
 use Rattle.wf_host.specs.declared.data.Deed.TheVariants.{Poll}
 use Rattle.wf_host.specs.declared.data.Heard.{Heard}
-use Rattle.wf_journal_laws.specs.Language.{Language}
+use Rattle.wf_deeds.specs.Language.{Language}
 use Rattle.wf_machine.specs.Seen.{state_of}
 use Rattle.wf_machine.specs.declared.machine.Machine.{Machine}
 use Rattle.wf_model.specs.Config.{Active, Config}
 use Rattle.wf_model.specs.Ready.{request_of}
-use Rattle.wf_shared.specs.Events as plain
-use Rattle.wf_shared.specs.Events.{Event}
+use Rattle.wf_value.specs.Events as plain
+use Rattle.wf_value.specs.Events.{Event}
 use mathlib.Core.Path.{fun_ext}
 
 -- a memory without visits

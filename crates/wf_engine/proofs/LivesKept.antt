@@ -16,11 +16,11 @@ use Rattle.wf_journal.specs.Records.{payloads, records, records_from}
 use Rattle.wf_model.specs.Config.{Config}
 use Rattle.wf_model.specs.Ready.{request_of}
 use Rattle.wf_model.specs.RunLaws.{FrontIsARun, NothingFollowsAnOutcome, RequestsStay, RunsAgree}
-use Rattle.wf_journal_laws.specs.At.{config_at, journal, next_session, turns_in}
-use Rattle.wf_journal_laws.specs.History.{Standing, history}
-use Rattle.wf_journal_laws.specs.Language.{Language}
-use Rattle.wf_journal_laws.specs.Laws.{ComputedIsHistory}
-use Rattle.wf_shared.specs.HttpRequest.{Request}
+use Rattle.wf_deeds.specs.At.{config_at, journal, next_session, turns_in}
+use Rattle.wf_deeds.specs.History.{Standing, history}
+use Rattle.wf_deeds.specs.Language.{Language}
+use Rattle.wf_deeds.specs.HistoryLaws.{ComputedIsHistory}
+use Rattle.wf_value.specs.HttpRequest.{Request}
 
 -- ## Places in a life
 module _ (L : Language) (O : Outside) (R : Reports) where

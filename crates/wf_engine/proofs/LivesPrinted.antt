@@ -9,7 +9,7 @@ use Rattle.wf_engine.specs.Printed.{Reports, Gives, bad_line, bad_argument, refu
 use Rattle.wf_engine.specs.Safe.{IsPrefix, PrintedIsOutcome}
 use Rattle.wf_host.specs.World.{World}
 use Rattle.wf_model.specs.Config.{Outcome, Active}
-use Rattle.wf_journal_laws.specs.Language.{Language}
+use Rattle.wf_deeds.specs.Language.{Language}
 use Rattle.wf_status.specs.declared.Status.{Status}
 
 -- what the disk might leave at entry is what it reads

@@ -10,12 +10,12 @@ use Rattle.wf_model.specs.Config.{Active, Answered, Call, Config, After, To, Wro
 use Rattle.wf_model.specs.Ready.{request_in, request_of}
 use Rattle.wf_model.specs.Run.{Run, events_to, is_before, run, run_on}
 use Rattle.wf_model.specs.RunLaws.{FrontIsARun, NothingFollowsAnOutcome, RequestsStay, RunsAgree}
-use Rattle.wf_journal_laws.specs.At.{Journal, begins, config_at, journal, last_session, next_session, reached, turns_in, with_turn}
-use Rattle.wf_journal_laws.specs.History.{History, Standing, events, goes_on_at, history, in_order}
-use Rattle.wf_journal_laws.specs.Language.{Language}
-use Rattle.wf_journal_laws.specs.Laws.{ComputedIsHistory}
-use Rattle.wf_shared.specs.Events.{Event, Turn}
-use Rattle.wf_shared.specs.HttpRequest.{Request}
+use Rattle.wf_deeds.specs.At.{Journal, begins, config_at, journal, last_session, next_session, reached, turns_in, with_turn}
+use Rattle.wf_deeds.specs.History.{History, Standing, events, goes_on_at, history, in_order}
+use Rattle.wf_deeds.specs.Language.{Language}
+use Rattle.wf_deeds.specs.HistoryLaws.{ComputedIsHistory}
+use Rattle.wf_value.specs.Events.{Event, Turn}
+use Rattle.wf_value.specs.HttpRequest.{Request}
 
 -- ## A history's journal
 -- what some records that are a history are

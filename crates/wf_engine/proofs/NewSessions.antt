@@ -19,12 +19,12 @@ use Rattle.wf_host.specs.declared.data.Deed.TheVariants.{Now}
 use Rattle.wf_model.specs.Config.{Config, Active, To}
 use Rattle.wf_model.specs.Run.{initial}
 use Rattle.wf_model.specs.RunLaws.{RunsAreBounded}
-use Rattle.wf_journal_laws.specs.At.{begins, config_before, journal, reached, session_turns}
-use Rattle.wf_journal_laws.specs.History.{Standing, history}
-use Rattle.wf_journal_laws.specs.Language.{Language}
-use Rattle.wf_journal_laws.specs.Laws.{StartIsAHistory}
-use Rattle.wf_journal_laws.specs.Moments.{HistoryStandsBefore, NoTurnsBehind, SessionIsNumbered}
-use Rattle.wf_shared.specs.Events.{Event, Start, Turn}
+use Rattle.wf_deeds.specs.At.{begins, config_before, journal, reached, session_turns}
+use Rattle.wf_deeds.specs.History.{Standing, history}
+use Rattle.wf_deeds.specs.Language.{Language}
+use Rattle.wf_deeds.specs.HistoryLaws.{StartIsAHistory}
+use Rattle.wf_deeds.specs.Moments.{HistoryStandsBefore, NoTurnsBehind, SessionIsNumbered}
+use Rattle.wf_value.specs.Events.{Event, Start, Turn}
 
 -- ## Nothing was done but one reading of the clock
 abbrev pub OneReading : List Deed → Type 0

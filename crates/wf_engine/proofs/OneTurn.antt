@@ -16,9 +16,9 @@ use Rattle.wf_host.specs.declared.data.Deed.{Deed}
 use Rattle.wf_journal.specs.Journal.{IsBeforeOrAfter}
 use Rattle.wf_journal.specs.Records.{records}
 use Rattle.wf_journal.specs.Steps.{Begun, Moment, begun_over, record_goes_on}
-use Rattle.wf_journal_laws.specs.Language.{Language}
+use Rattle.wf_deeds.specs.Language.{Language}
 use Rattle.wf_model.specs.Config.{Config}
-use Rattle.wf_shared.specs.Events.{Event}
+use Rattle.wf_value.specs.Events.{Event}
 
 -- the host's law of the present moment
 abbrev pub OnlyNow : World → Type 0

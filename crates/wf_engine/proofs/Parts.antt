@@ -19,7 +19,7 @@ use Rattle.wf_host.specs.declared.data.Deed.TheVariants.{Start, Poll, Now, Reply
 use Rattle.wf_host.specs.declared.data.Heard.{Heard}
 use Rattle.wf_journal.specs.Records.{records}
 use Rattle.wf_journal.specs.Steps.{Begun, Moment, begun_over, deed_goes_on, nothing_goes_on, part_goes_on, still_begun}
-use Rattle.wf_journal_laws.specs.Language.{Language}
+use Rattle.wf_deeds.specs.Language.{Language}
 use Rattle.wf_model.specs.Config.{Active}
 use Rattle.wf_model.specs.Ready.{least_due}
 

@@ -17,9 +17,9 @@ use Rattle.wf_journal.specs.Standing.{stands_where}
 use Rattle.wf_machine.specs.Seen.{state_of}
 use Rattle.wf_machine.specs.declared.machine.Machine.{Machine}
 use Rattle.wf_model.specs.Config.{Config, Active}
-use Rattle.wf_journal_laws.specs.History.{Standing, history}
-use Rattle.wf_journal_laws.specs.Language.{Language}
-use Rattle.wf_journal_laws.specs.Moments.{HistoryStandsBefore, NoTurnsBehind, NumberIsCount, SessionIsNumbered}
+use Rattle.wf_deeds.specs.History.{Standing, history}
+use Rattle.wf_deeds.specs.Language.{Language}
+use Rattle.wf_deeds.specs.Moments.{HistoryStandsBefore, NoTurnsBehind, NumberIsCount, SessionIsNumbered}
 use Rattle.wf_replay.proofs.OnlyReads.{magic_found}
 use Rattle.wf_replay.specs.Standing.{session_of, standing, stands_at}
 use Rattle.wf_replay.specs.declared.engine_fault.EngineFault.TheVariants.{NotAHistory}

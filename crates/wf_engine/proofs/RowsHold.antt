@@ -11,12 +11,12 @@ use Rattle.wf_engine.specs.Rows.{WorkedHistories, outcome, outcome_of, start, tu
 use Rattle.wf_events.specs.Reading.{meaning, record_of, whole_at, record_at, start_at, turn_at, events_at, event_at, argument_at, is_argument}
 use Rattle.wf_events.specs.Records.{Record, Started, Turned}
 use Rattle.wf_events.specs.Spelling.{record_bytes}
-use Rattle.wf_journal_laws.specs.History.{Standing, first_standing, goes_on, goes_to, history, history_from, started, told}
+use Rattle.wf_deeds.specs.History.{Standing, first_standing, goes_on, goes_to, history, history_from, started, told}
 use Rattle.wf_model.specs.Config.{After, Config, To}
 use Rattle.wf_model.specs.Run.{empty, initial, run_on}
 use Rattle.wf_record_parts.specs.Reading.{text_at, string_at, list_at, items_at}
 use Rattle.wf_replay.specs.TheLanguage.{accepted, the_language}
-use Rattle.wf_shared.specs.Events.{Move}
+use Rattle.wf_value.specs.Events.{Move}
 use Rattle.wf_source.proofs.RowsHold.{worked_sources}
 use Rattle.wf_source.specs.Function.{source_of}
 use Rattle.wf_source.specs.Rows.{returns_a_sum}

@@ -21,7 +21,7 @@ use Rattle.wf_host.specs.declared.data.Deed.TheVariants.{Start, Poll, Now, Reply
 use Rattle.wf_journal.specs.Records.{records}
 use Rattle.wf_journal.specs.Standing.{has_magic}
 use Rattle.wf_journal.specs.Steps.{Begun, begun_over, deed_goes_on, nothing_goes_on, part_goes_on}
-use Rattle.wf_journal_laws.specs.Language.{Language}
+use Rattle.wf_deeds.specs.Language.{Language}
 use Rattle.wf_model.specs.Config.{Active, TimedOut}
 use Rattle.wf_model.specs.Ready.{call, request_of}
 

@@ -15,7 +15,7 @@ use Rattle.wf_model.specs.Config as plain
 use Rattle.wf_model.specs.Config.{Active, Config}
 use Rattle.wf_model.specs.Ready.{quiet}
 use Rattle.wf_replay.specs.TheLanguage.{the_language}
-use Rattle.wf_shared.specs.Events.{Event}
+use Rattle.wf_value.specs.Events.{Event}
 
 -- ## Counts and errors
 pub falls_none : (f : Faults) → NoneFell f f

@@ -23,7 +23,7 @@ use Rattle.wf_model.specs.ReadingLaws.{ChosenIsFromInside, IsFromInside}
 use Rattle.wf_model.specs.Run.{run_on}
 use Rattle.wf_model.specs.Step.{next}
 use Rattle.wf_model.specs.WaitLaws.{Sound}
-use Rattle.wf_shared.specs.Events.{Event, Move, MoveAt, Begin, Issue, Answer, Due, Arrive, Cancel}
+use Rattle.wf_value.specs.Events.{Event, Move, MoveAt, Begin, Issue, Answer, Due, Arrive, Cancel}
 
 -- ## Lists
 pub all_more : {A : Type 0} (P : A → Type 0) (xs : List A) (x : A) → AllByRecursion P xs → P x → AllByRecursion P (xs ++ x ∷ [])

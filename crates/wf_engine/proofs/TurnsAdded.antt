@@ -17,12 +17,12 @@ use Rattle.wf_events.specs.Records.{Turned}
 use Rattle.wf_events.specs.Spelling.{HasSpelling}
 use Rattle.wf_host.specs.World.{World}
 use Rattle.wf_journal.specs.Records.{records}
-use Rattle.wf_journal_laws.specs.Language.{Language}
+use Rattle.wf_deeds.specs.Language.{Language}
 use Rattle.wf_model.specs.CallLaws.{CallsGoOn}
 use Rattle.wf_model.specs.Config.{Config, To}
 use Rattle.wf_model.specs.Ready.{request_of}
 use Rattle.wf_model.specs.Run.{run_on}
-use Rattle.wf_shared.specs.Events.{Event}
+use Rattle.wf_value.specs.Events.{Event}
 
 -- the program stays, and behind it nothing is taken
 module _ (L : Language) (O : Outside) (m : Memory) (p : Program) (c : Config) (taken : Option Event) (es : List Event) (same : p ≡ m.program) (empty : taken ≡ None) (owed : m.owed ≡ None) (is : Choice m es c) where

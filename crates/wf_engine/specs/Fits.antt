@@ -3,7 +3,7 @@ use Rattle.std.specs.Coded.{×_prop, Unit-prop, le_prop}
 use Rattle.std.specs.List.{AllByRecursion-prop}
 use Rattle.std.specs.Prelude.{◌≤◌, ◌<◌, ◌^◌, ℕ, length}
 use Rattle.wf_record_parts.specs.Spelling.{Bytes, IsField, IsHeaders, IsReply, reply}
-use Rattle.wf_shared.specs.Events.{Broken, Headers, Reply, Response, TooLong}
+use Rattle.wf_value.specs.Events.{Broken, Headers, Reply, Response, TooLong}
 
 -- the most bytes that the spelling of a reply takes, and of its event
 abbrev pub longest_reply : ℕ

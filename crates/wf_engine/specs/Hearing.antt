@@ -7,7 +7,7 @@ use Rattle.wf_deeds.specs.Memory.{Memory, awaits}
 use Rattle.wf_engine.specs.Taken.{taken_event}
 use Rattle.wf_engine.specs.declared.taken.Taken.{Taken}
 use Rattle.wf_host.specs.declared.data.What.{What}
-use Rattle.wf_shared.specs.Events as plain
+use Rattle.wf_value.specs.Events as plain
 
 -- the answer, if any, to which it comes with what was told of it by now
 pub record FindsAnswer (m : Memory) (k : ℕ) (o : Option Taken) : Type 0 where

@@ -15,8 +15,8 @@ use Rattle.wf_host.specs.declared.data.Deed.{Deed}
 use Rattle.wf_host.specs.declared.data.Deed.TheVariants.{Start}
 use Rattle.wf_journal.specs.Records.{records}
 use Rattle.wf_model.specs.Config.{Outcome, Active}
-use Rattle.wf_journal_laws.specs.History.{Standing, history}
-use Rattle.wf_journal_laws.specs.Language.{Language}
+use Rattle.wf_deeds.specs.History.{Standing, history}
+use Rattle.wf_deeds.specs.Language.{Language}
 use Rattle.wf_status.specs.Statuses.{status_text}
 use Rattle.wf_status.specs.declared.Status.{Status}
 

@@ -13,8 +13,8 @@ use Rattle.wf_args.specs.declared.command.Command.TheVariants.{Check, Format, Ru
 use Rattle.wf_args.specs.declared.option.OptionName.TheVariants.{Grep}
 use Rattle.wf_model.specs.Config.{Config, Outcome, Active, Returned, Raised, Cancelled}
 use Rattle.wf_engine.specs.Starts.{HasArgument}
-use Rattle.wf_journal_laws.specs.History.{Standing, history}
-use Rattle.wf_journal_laws.specs.Language.{Language}
+use Rattle.wf_deeds.specs.History.{Standing, history}
+use Rattle.wf_deeds.specs.Language.{Language}
 use Rattle.wf_source.specs.Programs.{IsRefusalOf, IsSourceOf}
 use Rattle.wf_source.specs.Sources.{read_tree}
 use Rattle.wf_status.specs.Refusals.{refusal_text}

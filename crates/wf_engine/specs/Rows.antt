@@ -3,9 +3,9 @@ use Rattle.std.specs.Prelude.{◌≡◌, ℕ, pos, List, [], ◌∷◌, map, Res
 use Rattle.wf_events.specs.Records.{Record, Started, Turned}
 use Rattle.wf_events.specs.Spelling.{record_bytes}
 use Rattle.wf_model.specs.Config.{Outcome, Active, Returned}
-use Rattle.wf_journal_laws.specs.History.{Standing, history}
+use Rattle.wf_deeds.specs.History.{Standing, history}
 use Rattle.wf_replay.specs.TheLanguage.{the_language}
-use Rattle.wf_shared.specs.Events.{Start, Turn, Move}
+use Rattle.wf_value.specs.Events.{Start, Turn, Move}
 use Rattle.wf_value.specs.Data.{integer}
 
 -- an execution of a source with the argument null

@@ -12,7 +12,7 @@ use Rattle.wf_engine.specs.TheOutside.{InTheOutside}
 use Rattle.wf_engine.specs.declared.engine.Engine.{Engine}
 use Rattle.wf_host.specs.World.{World, Faults, NoneFell, Told}
 use Rattle.wf_host.specs.declared.data.Deed.{Deed}
-use Rattle.wf_journal_laws.specs.Language.{Language}
+use Rattle.wf_deeds.specs.Language.{Language}
 use Rattle.wf_model.specs.Ready.{call, request_of}
 use Rattle.wf_replay.specs.TheLanguage.{the_language}
 

@@ -9,7 +9,7 @@ use Rattle.wf_alone.specs.Machine.{argument_of}
 use Rattle.wf_args.specs.Lines.{PlainLine, PlainRoute, env_of, routes_of, word_of}
 use Rattle.wf_args.specs.declared.option.OptionName.TheVariants.{Args, Id}
 use Rattle.wf_events.specs.Spelling.{IsArgument}
-use Rattle.wf_shared.specs.Events.{Address, Routes, Start}
+use Rattle.wf_value.specs.Events.{Address, Routes, Start}
 use Rattle.wf_value.specs.Data.{Data, null, size}
 use Rattle.wf_value.specs.Decode.{json_value}
 use Rattle.wf_value.specs.Json.{json_text}

@@ -6,7 +6,7 @@ use Rattle.wf_engine.specs.declared.taken.Taken.{Taken}
 use Rattle.wf_model.specs.Config.{Active, Config}
 use Rattle.wf_model.specs.Ready.{request_of}
 use Rattle.wf_record_parts.specs.View.{reply_view}
-use Rattle.wf_shared.specs.Events.{Event, Answer}
+use Rattle.wf_value.specs.Events.{Event, Answer}
 
 -- at a reading of the clock
 abbrev pub taken_event : ℕ → Option Taken → Option Event

@@ -14,7 +14,7 @@ use Rattle.wf_model.specs.Ready.{quiet}
 use Rattle.wf_model.specs.Run.{run_on}
 use Rattle.wf_model.specs.Step.{next}
 use Rattle.wf_record_parts.specs.View.{reply_view}
-use Rattle.wf_shared.specs.Events.{Answer, Event}
+use Rattle.wf_value.specs.Events.{Answer, Event}
 
 -- nothing can move at the reading: there is an outcome, or each task waits
 abbrev pub Rests : Config → ℕ → Type 0

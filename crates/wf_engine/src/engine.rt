@@ -1,5 +1,5 @@
 // The engine: an execution over a journal.
-ghost use Rattle.std.specs.Prelude.{◌≡◌, ◌<◌, ◌^◌, false};
+ghost use Rattle.std.specs.Prelude.{◌≡◌, ◌<◌, ◌^◌, false, ◌∷◌, []};
 ghost use Rattle.std.specs.Coded.{→_prop};
 ghost use Rattle.wf_engine.specs.Ready.{IsReady, IsReady-prop};
 
@@ -10,11 +10,10 @@ use std::alloc::Global;
 use std::sync::ledger::Ledger;
 use wf_check::Checked;
 use wf_connections::Connections;
-use wf_deeds::{laws_of_rules, laws_of_steps};
+use wf_deeds::{laws_of_histories, laws_of_moments, laws_of_rules, laws_of_steps};
 use wf_events::{Start, Turn, one_spelling};
 use wf_history::History;
 use wf_host::Host;
-use wf_journal_laws::{laws_of_histories, laws_of_moments};
 use wf_machine::{Machine, Outcome, Steps};
 use wf_model::{laws_of_calls, laws_of_runs};
 use wf_replay::{EngineFault, last_machine};
@@ -65,7 +64,7 @@ impl Engine {
     ghost use Rattle.wf_events.specs.View.{start_view};
     ghost use Rattle.wf_history.specs.Stands as history;
     ghost use Rattle.wf_history.specs.Stands.{HasNoneOrThis};
-    ghost use Rattle.wf_host.specs.Calls.{AtAnyMoment, DiskFailed, DoesNoDeed, NoCountFalls, ReadsAsBefore, TellsAsBefore};
+    ghost use Rattle.wf_host.specs.Calls.{AtAnyMoment, DiskFailed, DoesNoDeed, NoCountFalls, OnlyErrors, OnlyErrorsOr, ReadsAsBefore, TellsAsBefore};
     ghost use Rattle.wf_host.specs.World.{Told, LeavesOnly, Only};
     ghost use Rattle.wf_host.specs.declared.data.Deed.TheVariants.{Now};
     ghost use Rattle.wf_journal.specs.Records.{magic, records};
@@ -73,8 +72,8 @@ impl Engine {
     ghost use Rattle.wf_machine.specs.Outcome.{IsResult};
     ghost use Rattle.wf_machine.specs.Seen.{state_of};
     ghost use Rattle.wf_model.specs.Config.{Active};
-    ghost use Rattle.wf_journal_laws.specs.At.{applied_by, journal, next_session};
-    ghost use Rattle.wf_journal_laws.specs.History.{Standing, history as history_of};
+    ghost use Rattle.wf_deeds.specs.At.{applied_by, journal, next_session};
+    ghost use Rattle.wf_deeds.specs.History.{Standing, history as history_of};
     ghost use Rattle.wf_replay.specs.TheLanguage.{the_language};
     ghost use Rattle.wf_source.specs.Programs.{IsSourceOf};
 
@@ -132,9 +131,8 @@ impl Engine {
             → Only (H.world host.new).seen (H.world host.new).may_leave) }
         ensures fresh { Told (H.world host.old)
             (OnOk result (records (H.world host.old).seen ≡ [])) }
-        ensures only { IfErr result (λ e. (e ≡ EngineFault.DiskFault)
-            ⊎ (e ≡ EngineFault.NotAJournal) ⊎ (e ≡ EngineFault.AlreadyStarted)
-            ⊎ (e ≡ EngineFault.OutOfMemory)) }
+        ensures only { OnlyErrors result (EngineFault.DiskFault ∷ EngineFault.NotAJournal ∷
+            EngineFault.AlreadyStarted ∷ EngineFault.OutOfMemory ∷ []) }
         ensures deeds { DoesNoDeed H.world host.old host.new }
         ensures tells { TellsAsBefore H.world host.old host.new }
         ensures counts { NoCountFalls H.faults host.old host.new }
@@ -204,9 +202,8 @@ impl Engine {
             (IfErr result (λ e. (n : ℕ) → e ≡ EngineFault.NotAHistory n
             → (history_of the_language (records (H.world host.old).seen) ≡ Err n)
             × (records (H.world host.old).seen ≢ []) × (take 4 (H.world host.old).seen ≡ magic))) }
-        ensures only { IfErr result (λ e. (e ≡ EngineFault.DiskFault)
-            ⊎ (e ≡ EngineFault.NotAJournal) ⊎ (e ≡ EngineFault.NotStarted)
-            ⊎ ((n : ℕ) × (e ≡ EngineFault.NotAHistory n)) ⊎ (e ≡ EngineFault.OutOfMemory)) }
+        ensures only { OnlyErrorsOr EngineFault.NotAHistory result (EngineFault.DiskFault ∷
+            EngineFault.NotAJournal ∷ EngineFault.NotStarted ∷ EngineFault.OutOfMemory ∷ []) }
         ensures deeds { Told (H.world host.old)
             (((H.world host.new).deeds ≡ (H.world host.old).deeds)
             ⊎ ((t : ℕ) × ((H.world host.new).deeds ≡ (H.world host.old).deeds ++ Now t ∷ []))) }
@@ -294,8 +291,8 @@ impl Engine {
         ensures idle { IsErrOf result EngineFault.Closed
             → (self.new ≡ self.old) × (host.new ≡ host.old) }
         ensures open { OnOk result (is_closed self.new ≡ false) }
-        ensures only { IfErr result (λ e. (e ≡ EngineFault.DiskFault) ⊎ (e ≡ EngineFault.Closed)
-            ⊎ (e ≡ EngineFault.OutOfMemory)) }
+        ensures only { OnlyErrors result (EngineFault.DiskFault ∷ EngineFault.Closed ∷
+            EngineFault.OutOfMemory ∷ []) }
         ensures tells { TellsAsBefore H.world host.old host.new }
         ensures counts { NoCountFalls H.faults host.old host.new }
     {

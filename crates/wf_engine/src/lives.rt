@@ -1,8 +1,8 @@
 // The law of lives.
 ghost use Rattle.wf_engine.specs.Lives.{PairsAreStays, OneRequest, ClosedIsNotStarted, FilesStayFit, RecordsStay, OneLine, PrintsByACause, PrintsOneLine};
 
+use wf_deeds::laws_of_histories;
 use wf_host::Host;
-use wf_journal_laws::laws_of_histories;
 use wf_model::laws_of_runs;
 
 /// Carries laws of lives, which are lists of commands, each on what the one before left, also where it was ended by a crash: each file

@@ -1,9 +1,9 @@
 // What stands in a file before a session goes on from it.
-ghost use Rattle.std.specs.Prelude.{◌≡◌, ◌≢◌, ◌⊎◌, ◌≤◌, ◌++◌, [], ◌∷◌, true, false, ℕ, length, take, OnOk, IfOk, IfErr, IsErrOf};
+ghost use Rattle.std.specs.Prelude.{◌≡◌, ◌≢◌, ◌⊎◌, ◌≤◌, ◌++◌, [], ◌∷◌, true, false, ℕ, length, take, OnOk, IfOk, IsErrOf};
 ghost use Rattle.wf_engine.specs.Engine.{OpeningMoment};
 ghost use Rattle.wf_engine.specs.Openings.{ReadsClock};
 ghost use Rattle.wf_history.specs.Stands.{at_end, is_closed, Stands};
-ghost use Rattle.wf_host.specs.Calls.{AtAnyMoment, DiskFailed, DoesNoDeed, NoCountFalls, ReadsAsBefore, TellsAsBefore};
+ghost use Rattle.wf_host.specs.Calls.{AtAnyMoment, DiskFailed, DoesNoDeed, NoCountFalls, OnlyErrors, ReadsAsBefore, TellsAsBefore};
 ghost use Rattle.wf_host.specs.World.{Told, Only};
 ghost use Rattle.wf_host.specs.declared.data.Deed.TheVariants.{Now};
 ghost use Rattle.wf_journal.specs.Journal.{IsJournal};
@@ -36,8 +36,8 @@ pub(crate) fn empty_history<H: Host>(alloc: Global, host: &mut H) -> Result<Hist
         → (records (H.world host.old).seen ≢ []) × IsJournal (H.world host.old).seen) }
     ensures settled { Told (H.world host.old) (IsErrOf result EngineFault.AlreadyStarted
         → Only (H.world host.new).seen (H.world host.new).may_leave) }
-    ensures only { IfErr result (λ e. (e ≡ EngineFault.DiskFault) ⊎ (e ≡ EngineFault.NotAJournal)
-        ⊎ (e ≡ EngineFault.AlreadyStarted) ⊎ (e ≡ EngineFault.OutOfMemory)) }
+    ensures only { OnlyErrors result (EngineFault.DiskFault ∷ EngineFault.NotAJournal ∷
+        EngineFault.AlreadyStarted ∷ EngineFault.OutOfMemory ∷ []) }
     ensures deeds { DoesNoDeed H.world host.old host.new }
     ensures tells { TellsAsBefore H.world host.old host.new }
     ensures counts { NoCountFalls H.faults host.old host.new }

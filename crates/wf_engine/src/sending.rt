@@ -6,13 +6,13 @@ use wf_machine::Outcome;
 use wf_replay::EngineFault;
 
 impl Engine {
-    ghost use Rattle.std.specs.Prelude.{◌≡◌, ◌≢◌, ◌⊎◌, ◌↔◌, [], true, false, IfErr, IsErrOf, OnErr, OnOk};
+    ghost use Rattle.std.specs.Prelude.{◌≡◌, ◌≢◌, ◌↔◌, [], true, false, IsErrOf, OnErr, OnOk, ◌∷◌};
     ghost use Rattle.wf_deeds.specs.Clauses.{KeptThroughout, SendsOpen, those, to_drop, to_start};
     ghost use Rattle.wf_deeds.specs.Memory.{AllIsSent, IsSettled};
     ghost use Rattle.wf_engine.specs.Engine.{Holds, is_closed, memory};
     ghost use Rattle.wf_engine.specs.Sending.{DropsAll, DropsOne, SameButSent, Sent, StartsAll, StartsOne, is_to_drop, is_to_start};
     ghost use Rattle.wf_engine.specs.TheOutside.{InTheOutside};
-    ghost use Rattle.wf_host.specs.Calls.{NoCountFalls, ReadsAsBefore, TellsAsBefore};
+    ghost use Rattle.wf_host.specs.Calls.{NoCountFalls, OnlyErrors, ReadsAsBefore, TellsAsBefore};
     ghost use Rattle.wf_host.specs.World.{Told};
     ghost use Rattle.wf_model.specs.Config.{Active};
     ghost use Rattle.wf_replay.specs.TheLanguage.{the_language};
@@ -44,8 +44,7 @@ impl Engine {
         ensures idle { IsErrOf result EngineFault.Closed
             → (self.new ≡ self.old) × (host.new ≡ host.old) }
         ensures open { OnOk result (is_closed self.new ≡ false) }
-        ensures only { IfErr result (λ e. (e ≡ EngineFault.Closed)
-            ⊎ (e ≡ EngineFault.OutOfMemory)) }
+        ensures only { OnlyErrors result (EngineFault.Closed ∷ EngineFault.OutOfMemory ∷ []) }
         ensures tells { TellsAsBefore H.world host.old host.new }
         ensures counts { NoCountFalls H.faults host.old host.new }
     {
@@ -75,7 +74,7 @@ impl Engine {
         ensures session { (memory self.new).session ≡ (memory self.old).session }
         ensures seen { ReadsAsBefore H.world host.old host.new }
         ensures closes { OnErr result (is_closed self.new ≡ true) }
-        ensures only { IfErr result (λ e. e ≡ EngineFault.OutOfMemory) }
+        ensures only { OnlyErrors result (EngineFault.OutOfMemory ∷ []) }
         ensures tells { TellsAsBefore H.world host.old host.new }
         ensures counts { NoCountFalls H.faults host.old host.new }
     {
@@ -101,7 +100,7 @@ impl Engine {
         ensures session { (memory self.new).session ≡ (memory self.old).session }
         ensures seen { ReadsAsBefore H.world host.old host.new }
         ensures closes { OnErr result (is_closed self.new ≡ true) }
-        ensures only { IfErr result (λ e. e ≡ EngineFault.OutOfMemory) }
+        ensures only { OnlyErrors result (EngineFault.OutOfMemory ∷ []) }
         ensures tells { TellsAsBefore H.world host.old host.new }
         ensures counts { NoCountFalls H.faults host.old host.new }
     {
@@ -145,7 +144,7 @@ impl Engine {
         ensures session { (memory self.new).session ≡ (memory self.old).session }
         ensures seen { ReadsAsBefore H.world host.old host.new }
         ensures closes { OnErr result (is_closed self.new ≡ true) }
-        ensures only { IfErr result (λ e. e ≡ EngineFault.OutOfMemory) }
+        ensures only { OnlyErrors result (EngineFault.OutOfMemory ∷ []) }
         ensures tells { TellsAsBefore H.world host.old host.new }
         ensures counts { NoCountFalls H.faults host.old host.new }
     {
@@ -172,7 +171,7 @@ impl Engine {
         ensures session { (memory self.new).session ≡ (memory self.old).session }
         ensures seen { ReadsAsBefore H.world host.old host.new }
         ensures closes { OnErr result (is_closed self.new ≡ true) }
-        ensures only { IfErr result (λ e. e ≡ EngineFault.OutOfMemory) }
+        ensures only { OnlyErrors result (EngineFault.OutOfMemory ∷ []) }
         ensures tells { TellsAsBefore H.world host.old host.new }
         ensures counts { NoCountFalls H.faults host.old host.new }
     {

@@ -6,12 +6,12 @@ use wf_machine::Outcome;
 use wf_replay::EngineFault;
 
 impl Engine {
-    ghost use Rattle.std.specs.Prelude.{◌≡◌, ◌≢◌, ◌⊎◌, ◌↔◌, ◌+◌, ◌<◌, ◌^◌, true, false, IfErr, IsErrOf, IsTrue, OnErr, OnOk};
+    ghost use Rattle.std.specs.Prelude.{◌≡◌, ◌≢◌, ◌⊎◌, ◌↔◌, ◌+◌, ◌<◌, ◌^◌, true, false, IsErrOf, IsTrue, OnErr, OnOk, ◌∷◌, []};
     ghost use Rattle.wf_deeds.specs.Clauses.{AddsTurns, KeptThroughout, Sessions, Waits};
     ghost use Rattle.wf_deeds.specs.Memory.{IsSettled};
     ghost use Rattle.wf_engine.specs.Engine.{Holds, is_closed, memory};
     ghost use Rattle.wf_engine.specs.TheOutside.{InTheOutside};
-    ghost use Rattle.wf_host.specs.Calls.{DiskFailed, NoCountFalls, TellsAsBefore};
+    ghost use Rattle.wf_host.specs.Calls.{DiskFailed, NoCountFalls, OnlyErrors, TellsAsBefore};
     ghost use Rattle.wf_host.specs.World.{Rose, Told};
     ghost use Rattle.wf_machine.specs.Outcome.{IsResult};
     ghost use Rattle.wf_model.specs.Config.{Active};
@@ -53,9 +53,8 @@ impl Engine {
             → (self.new ≡ self.old) × (host.new ≡ host.old) }
         ensures open { OnOk result (is_closed self.new ≡ false) }
         ensures still_open { IsErrOf result EngineFault.Suspended → is_closed self.new ≡ false }
-        ensures only { IfErr result (λ e. (e ≡ EngineFault.DiskFault)
-            ⊎ (e ≡ EngineFault.PollFault) ⊎ (e ≡ EngineFault.Suspended) ⊎ (e ≡ EngineFault.Closed)
-            ⊎ (e ≡ EngineFault.OutOfMemory)) }
+        ensures only { OnlyErrors result (EngineFault.DiskFault ∷ EngineFault.PollFault ∷
+            EngineFault.Suspended ∷ EngineFault.Closed ∷ EngineFault.OutOfMemory ∷ []) }
         ensures tells { TellsAsBefore H.world host.old host.new }
         ensures counts { NoCountFalls H.faults host.old host.new }
     {
@@ -98,8 +97,7 @@ impl Engine {
             → DiskFailed H.faults host.old host.new }
         ensures closes { OnErr result (is_closed self.new ≡ true) }
         ensures open { OnOk result (is_closed self.new ≡ false) }
-        ensures only { IfErr result (λ e. (e ≡ EngineFault.DiskFault)
-            ⊎ (e ≡ EngineFault.OutOfMemory)) }
+        ensures only { OnlyErrors result (EngineFault.DiskFault ∷ EngineFault.OutOfMemory ∷ []) }
         ensures tells { TellsAsBefore H.world host.old host.new }
         ensures counts { NoCountFalls H.faults host.old host.new }
     {
@@ -130,8 +128,7 @@ impl Engine {
             → Rose (H.faults host.old).poll (H.faults host.new).poll }
         ensures closes { OnErr result (is_closed self.new ≡ true) }
         ensures open { OnOk result (is_closed self.new ≡ false) }
-        ensures only { IfErr result (λ e. (e ≡ EngineFault.PollFault)
-            ⊎ (e ≡ EngineFault.OutOfMemory)) }
+        ensures only { OnlyErrors result (EngineFault.PollFault ∷ EngineFault.OutOfMemory ∷ []) }
         ensures tells { TellsAsBefore H.world host.old host.new }
         ensures counts { NoCountFalls H.faults host.old host.new }
     {

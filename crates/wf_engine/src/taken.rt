@@ -18,7 +18,7 @@ impl Taken {
     ghost use Rattle.wf_engine.specs.Fits.{longest_taken};
     ghost use Rattle.wf_events.specs.Spelling.{event as event_bytes, IsOld};
     ghost use Rattle.wf_events.specs.View.{event_view};
-    ghost use Rattle.wf_shared.specs.Events.{Answer};
+    ghost use Rattle.wf_value.specs.Events.{Answer};
 
     /// The event that brings it, at a reading of the clock in milliseconds since 1970.
     pub(crate) fn event(self, reading: u64) -> Event

@@ -1,5 +1,6 @@
 // What is heard.
-ghost use Rattle.std.specs.Prelude.{◌≡◌};
+ghost use Rattle.std.specs.Prelude.{◌≡◌, ◌∷◌, []};
+ghost use Rattle.wf_host.specs.Calls.{OnlyErrors};
 ghost use Rattle.wf_deeds.specs.Deeds.{call_of};
 
 use crate::engine::Engine;
@@ -44,8 +45,7 @@ impl Engine {
         ensures closes { OnErr result (is_closed self.new ≡ true) }
         ensures idle { IsErrOf result EngineFault.Closed → self.new ≡ self.old }
         ensures open { OnOk result (is_closed self.new ≡ false) }
-        ensures only { IfErr result (λ e. (e ≡ EngineFault.Closed)
-            ⊎ (e ≡ EngineFault.OutOfMemory)) }
+        ensures only { OnlyErrors result (EngineFault.Closed ∷ EngineFault.OutOfMemory ∷ []) }
     {
         if self.closed {
             return Err(EngineFault::Closed);

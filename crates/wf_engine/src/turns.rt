@@ -13,7 +13,7 @@ ghost use Rattle.wf_machine.specs.Seen.{state_of};
 ghost use Rattle.wf_model.specs.Config.{Active, To};
 ghost use Rattle.wf_model.specs.ReadingLaws.{IsFromInside};
 ghost use Rattle.wf_model.specs.Run.{run_on};
-ghost use Rattle.wf_shared.specs.Events.{Event as Plain};
+ghost use Rattle.wf_value.specs.Events.{Event as Plain};
 
 use crate::taken::Taken;
 use std::alloc::Global;

@@ -3,7 +3,7 @@ use Rattle.std.proofs.Common.{◌≡◌, ℕ, zero, suc, ◌+◌, ◌<◌, List,
 use Rattle.std.proofs.lemmas.List.{reverse-append, length-reverse, map-append}
 use Rattle.wf_ast.specs.Apply.{View, apply}
 use Rattle.wf_ast.specs.declared.expr.Func.{Func}
-use Rattle.wf_postfix.specs.Machine.{Stack, Next, call, with_args}
+use Rattle.wf_ast.specs.Machine.{Stack, Next, call, with_args}
 use Rattle.wf_value.specs.Data.{Data}
 use Rattle.wf_value.specs.Errors.{Answer}
 use Rattle.wf_value.specs.Plain.{plain, plain_items}

@@ -1,9 +1,9 @@
 -- What short code leaves on an empty stack.
 use Rattle.std.proofs.Common.{◌≡◌, ◌<◌, ◌≤◌, ℕ, List, [], ◌∷◌, length, get_or, Option, Some, None, IfSome, Result, Ok, Err, sym, ap, subst, ◌∙◌, arith}
 use Rattle.wf_ast.specs.Apply.{View}
-use Rattle.wf_postfix.specs.Instrs.{instr, instrs}
-use Rattle.wf_postfix.specs.Machine.{Next, Stack, act, exec}
-use Rattle.wf_postfix.specs.declared.code.Instr.{Instr}
+use Rattle.wf_ast.specs.Instrs.{instr, instrs}
+use Rattle.wf_ast.specs.Machine.{Next, Stack, act, exec}
+use Rattle.wf_ast.specs.declared.code.Instr.{Instr}
 use Rattle.wf_value.specs.Data.{Data}
 use Rattle.wf_value.specs.Errors.{Answer, ◌>>=◌}
 use Rattle.wf_value.specs.declared.errors.Raise.{Raise}

@@ -1,7 +1,7 @@
 -- What one instruction does to the stack.
 use Rattle.std.specs.Prelude.{◌≡◌, ℕ, List, [], ◌∷◌, map, reverse, Result, Ok, Err}
 use Rattle.wf_ast.specs.Apply.{View}
-use Rattle.wf_postfix.specs.Machine.{Instr, Stack, Next, act}
+use Rattle.wf_ast.specs.Machine.{Instr, Stack, Next, act}
 use Rattle.wf_value.specs.Data.{Data}
 use Rattle.wf_value.specs.Errors.{Answer, ◌>>=◌, kept}
 use Rattle.wf_value.specs.Plain.{plain}

@@ -1,7 +1,7 @@
 //! What each function answers to its arguments.
 ghost use Rattle.std.specs.Prelude.{◌≡◌, ◌∷◌, [], ℕ};
 ghost use Rattle.wf_ast.specs.Apply.{View, apply, as_env};
-ghost use Rattle.wf_shared.specs.LibData.{json_encode, json_encode_to_string};
+ghost use Rattle.wf_value.specs.LibData.{json_encode, json_encode_to_string};
 ghost use Rattle.wf_value.specs.Data.{Data};
 ghost use Rattle.wf_value.specs.Errors.{Answer};
 ghost use Rattle.wf_value.specs.Plain.{plain, plain_items};

@@ -15,8 +15,7 @@ use crate::functions::shown;
 use crate::look::Look;
 use crate::machine::eval;
 use std::alloc::Global;
-use wf_ast::{Expr, NamedTemplate, Part, Template};
-use wf_postfix::compile;
+use wf_ast::{Expr, NamedTemplate, Part, Template, compile};
 use wf_value::{List, Map, Raise, Text, Value};
 
 /// The value of a template, or its first error: members of lists in their order, members of maps

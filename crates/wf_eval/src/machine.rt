@@ -8,9 +8,9 @@ ghost use Rattle.wf_value.specs.Plain.{plain};
 ghost use Rattle.wf_ast.specs.Apply.{View};
 ghost use Rattle.wf_ast.specs.Eval as meaning;
 ghost use Rattle.wf_ast.specs.Tree as t;
-ghost use Rattle.wf_postfix.specs.Instrs.{instr, instrs};
-ghost use Rattle.wf_postfix.specs.Machine as m;
-ghost use Rattle.wf_postfix.specs.Machine.{code};
+ghost use Rattle.wf_ast.specs.Instrs.{instr, instrs};
+ghost use Rattle.wf_ast.specs.Machine as m;
+ghost use Rattle.wf_ast.specs.Machine.{code};
 ghost use Rattle.wf_eval.specs.Answers.{Gives};
 ghost use Rattle.wf_eval.specs.Sight.{seen};
 ghost use Rattle.wf_eval.specs.Steps.{Leads, Pops, Pushes, Steps, settled, tops};
@@ -22,8 +22,7 @@ use crate::members::{at_index, at_key};
 use crate::operators::operate;
 use crate::short::short;
 use std::alloc::Global;
-use wf_ast::{Func, Op};
-use wf_postfix::{Instr, Postfix, code_means};
+use wf_ast::{Func, Instr, Op, Postfix, code_means};
 use wf_value::{Raise, Tag, Value, neg};
 
 /// The value of the expression whose code this is, or its first error.

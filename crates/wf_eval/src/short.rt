@@ -4,8 +4,8 @@ ghost use Rattle.wf_value.specs.Data.{Data};
 ghost use Rattle.wf_value.specs.Errors.{Answer};
 ghost use Rattle.wf_value.specs.Plain.{plain};
 ghost use Rattle.wf_ast.specs.Apply.{View};
-ghost use Rattle.wf_postfix.specs.Instrs.{instr, instrs};
-ghost use Rattle.wf_postfix.specs.Machine.{act, exec};
+ghost use Rattle.wf_ast.specs.Instrs.{instr, instrs};
+ghost use Rattle.wf_ast.specs.Machine.{act, exec};
 ghost use Rattle.wf_eval.specs.Answers.{Gives};
 ghost use Rattle.wf_eval.specs.Sight.{seen};
 ghost use Rattle.wf_eval.specs.Steps.{IsOperand, Leaves, alone, settled};
@@ -15,7 +15,7 @@ use crate::look::Look;
 use crate::members::at_index;
 use crate::operators::operate;
 use std::alloc::Global;
-use wf_postfix::Instr;
+use wf_ast::Instr;
 use wf_value::{Raise, Value};
 
 /// What short code leaves on an empty stack. None where it isn't short, or where an operand can't be had.

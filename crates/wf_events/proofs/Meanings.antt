@@ -12,7 +12,7 @@ use Rattle.wf_record_parts.proofs.Parts.{bind_ok, ok_is, guard_yes, first_of_two
 use Rattle.wf_record_parts.specs.Laws.{AreBytes, Reads}
 use Rattle.wf_record_parts.specs.Reading.{Read, ◌>>=◌, number_at, string_at, text_at, list_at}
 use Rattle.wf_record_parts.specs.Spelling.{Bytes, eight, string, listed, pair, Fits64, Each, IsString, IsText}
-use Rattle.wf_shared.specs.Events.{Routes, Start}
+use Rattle.wf_value.specs.Events.{Routes, Start}
 
 -- ## Starts
 abbrev Pairs : Type 0

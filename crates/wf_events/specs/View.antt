@@ -3,7 +3,7 @@ use Rattle.std.specs.Prelude.{ℕ, List, map}
 use Rattle.wf_callbacks.specs.Plain.{plain_visitor}
 use Rattle.wf_host.specs.declared.data.Address.{Address}
 use Rattle.wf_record_parts.specs.View.{reply_view}
-use Rattle.wf_shared.specs.Events as plain
+use Rattle.wf_value.specs.Events as plain
 use Rattle.wf_events.specs.Records as records
 use Rattle.wf_events.specs.declared.data.Event.{Event}
 use Rattle.wf_events.specs.declared.data.Event.TheVariants as event

@@ -6,7 +6,7 @@ ghost use Rattle.wf_events.specs.Spelling.{Spells};
 ghost use Rattle.wf_events.specs.View.{route_view, start_view, event_view, events_view, turn_view, record_view};
 ghost use Rattle.wf_record_parts.specs.Faults.{Gives};
 ghost use Rattle.wf_record_parts.specs.Reading.{list_at, reply_at, visitor_at};
-ghost use Rattle.wf_shared.specs.Events.{Answer, Arrive};
+ghost use Rattle.wf_value.specs.Events.{Answer, Arrive};
 
 use crate::argument::is_argument;
 use crate::data::{Event, Events, Record, Start, Turn};

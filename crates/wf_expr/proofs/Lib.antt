@@ -14,3 +14,7 @@ pub mod Texts
 pub mod TargetEnds
 pub mod Parsed
 pub mod Computed
+pub mod Cuts
+pub mod Joins
+pub mod OneTemplate
+pub mod Made

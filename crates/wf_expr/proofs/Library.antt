@@ -6,8 +6,8 @@ use Rattle.wf_ast.specs.Tree.{Expr, exprs}
 use Rattle.wf_expr.specs.Callees.{callee_of}
 use Rattle.wf_expr.specs.Grammar.{call_of}
 use Rattle.wf_expr.specs.declared.callee.Callee.{Callee}
-use Rattle.wf_library.specs.Functions.{Callable, callable, function_of}
-use Rattle.wf_library.specs.declared.functions.Function.{Function}
+use Rattle.wf_ast.specs.Functions.{Callable, callable, function_of}
+use Rattle.wf_ast.specs.declared.functions.Function.{Function}
 
 -- what a function with the names of its arguments is to calls
 abbrev counted : Callable → Callee

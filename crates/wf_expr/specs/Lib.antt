@@ -13,3 +13,7 @@ pub mod Places
 pub mod Callees
 pub mod Scanning
 pub mod Judging
+pub mod Pieces
+pub mod Splits
+pub mod Texts
+pub mod Templates

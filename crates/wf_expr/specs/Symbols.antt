@@ -4,7 +4,7 @@ use Rattle.std.specs.Prelude.{ℕ, ℤ, pos, suc, ◌+◌, ◌^◌, Bool, true, 
 use Rattle.std.specs.Str.Parse.{digits_value}
 use Rattle.wf_ast.specs.declared.expr.Op.{Op}
 use Rattle.wf_ast.specs.declared.expr.Op.TheVariants as op
-use Rattle.wf_shared.specs.HttpRequest.{is_among}
+use Rattle.wf_value.specs.HttpRequest.{is_among}
 use Rattle.wf_span.specs.Tokens.{PlacedToken}
 use Rattle.wf_span.specs.declared.token.TokenKind.{TokenKind}
 use Rattle.wf_span.specs.declared.token.TokenKind.TheVariants as token

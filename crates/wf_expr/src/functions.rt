@@ -4,8 +4,7 @@ ghost use Rattle.wf_ast.specs.Func.{func_named};
 ghost use Rattle.wf_expr.specs.Callees.{callee_of};
 
 use crate::callee::Callee;
-use wf_ast::Func;
-use wf_library::function_named;
+use wf_ast::{Func, function_named};
 
 // The function of a name.
 pub(crate) fn function(name: &str) -> Option<Callee>

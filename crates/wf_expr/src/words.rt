@@ -2,7 +2,7 @@
 ghost use Rattle.std.specs.Prelude.{◌≡◌, true, IfOk};
 ghost use Rattle.wf_expr.specs.Kinds.{sym_of};
 ghost use Rattle.wf_expr.specs.Symbols as symbols;
-ghost use Rattle.wf_shared.specs.HttpRequest.{is_among};
+ghost use Rattle.wf_value.specs.HttpRequest.{is_among};
 ghost use Rattle.wf_span.specs.Tokens.{is_token};
 ghost use Rattle.wf_span.specs.declared.token.TokenKind.TheVariants as token;
 

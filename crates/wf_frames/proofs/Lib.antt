@@ -8,3 +8,19 @@ pub mod Standing
 pub mod Storing
 pub mod Stores
 pub mod Sums
+pub mod Called
+mod Coded
+mod Filled
+mod Timed
+pub mod Advancing
+pub mod Asking
+pub mod Choices
+pub mod Clocked
+pub mod Evaluated
+pub mod Fitting
+pub mod Lists
+pub mod Parts
+pub mod Performed
+pub mod Shallow
+pub mod Assigns
+pub mod Looks

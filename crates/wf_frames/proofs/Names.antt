@@ -20,7 +20,7 @@ use Rattle.wf_scope.proofs.Writing.{pairs_listed}
 use Rattle.wf_scope.specs.Changes.{Answers, bound}
 use Rattle.wf_scope.specs.Layers.{all_stand, closed, find, fresh, opened, put_at, stands, total_of, vars_at, vars_in, with_variable}
 use Rattle.wf_scope.specs.Store.{layers_of}
-use Rattle.wf_scope.specs.Tasks.{AreOthers, Far, Own, far_layers, numbers, own_layers}
+use Rattle.wf_frames.specs.Tasks.{AreOthers, Far, Own, far_layers, numbers, own_layers}
 use Rattle.wf_scope.specs.declared.fault.AssignFault.{AssignFault}
 use Rattle.wf_scope.specs.declared.fault.AssignFault.TheVariants as fault
 use Rattle.wf_scope.specs.declared.layer.Layer.{Layer}

@@ -15,7 +15,7 @@ use Rattle.wf_scope.proofs.Seen.{vars_found}
 use Rattle.wf_scope.proofs.Totals.{total_closed}
 use Rattle.wf_scope.specs.Layers.{closed, rises, total_of, vars_at}
 use Rattle.wf_scope.specs.Store.{layers_of}
-use Rattle.wf_scope.specs.Tasks.{Own, far_layers, own_layers}
+use Rattle.wf_frames.specs.Tasks.{Own, far_layers, own_layers}
 use Rattle.wf_scope.specs.declared.scopes.Scopes.{Scopes}
 use Rattle.wf_value.specs.Data.{pairs_of, pairs_size}
 use Rattle.wf_value.specs.Maps.{IsInOrder}

@@ -14,14 +14,14 @@ use Rattle.wf_model.specs.Config.{limits}
 use Rattle.wf_model.specs.Layers as model
 use Rattle.wf_model.specs.Layers.{Assigned, Done, Held, Refused, Undeclared, all_share, assign, assign_at, held, put_outside, put_own, value_of}
 use Rattle.wf_model.specs.Local.{Local, Scene, total}
-use Rattle.wf_scope.proofs.Assigns.{assigns}
+use Rattle.wf_frames.proofs.Assigns.{assigns}
 use Rattle.wf_scope.proofs.Numbers.{find_head, find_tail, found_cases}
 use Rattle.wf_scope.proofs.Seen.{vars_found}
 use Rattle.wf_scope.specs.Changes.{Answers, assigned, bound, bound_to, changed, target}
 use Rattle.wf_scope.specs.Faults.{faulted, raised}
 use Rattle.wf_scope.specs.Layers.{all_stand, find, put_at, total_of, vars_at, vars_in, with_variable}
 use Rattle.wf_scope.specs.Store.{layers_of}
-use Rattle.wf_scope.specs.Tasks.{Far, Own, SameAnswer}
+use Rattle.wf_frames.specs.Tasks.{Far, Own, SameAnswer}
 use Rattle.wf_scope.specs.declared.fault.AssignFault.{AssignFault}
 use Rattle.wf_scope.specs.declared.fault.AssignFault.TheVariants as fault
 use Rattle.wf_scope.specs.declared.layer.Layer.{Layer}

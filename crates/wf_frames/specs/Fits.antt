@@ -5,15 +5,15 @@
 use Rattle.std.specs.Prelude.{◌≡◌, ℕ, ◌<◌, ◌≤◌, Bool, true, false, List, [], ◌∷◌, length, map, slice_get, is_some, Some, None, Option, option_map}
 use Rattle.wf_frames.specs.declared.frames.Frame.{Frame}
 use Rattle.wf_frames.specs.declared.frames.Frame.TheVariants as frame
-use Rattle.wf_nodes.specs.Kinds as kind
-use Rattle.wf_nodes.specs.Kinds.{Kind, Listed, View, node_view}
-use Rattle.wf_nodes.specs.Spots.{Spot, owners_at}
-use Rattle.wf_nodes.specs.Table.{outside, view_list}
-use Rattle.wf_nodes.specs.declared.node.CallNode.{CallNode}
-use Rattle.wf_nodes.specs.declared.node.LoopNode.{LoopNode}
-use Rattle.wf_nodes.specs.declared.node.Node.{Node}
-use Rattle.wf_nodes.specs.declared.node.TryNode.{TryNode}
-use Rattle.wf_nodes.specs.declared.node.NodeKind.TheVariants as variant
+use Rattle.wf_model.specs.NodeKinds as kind
+use Rattle.wf_model.specs.NodeKinds.{Kind, Listed, View, node_view}
+use Rattle.wf_model.specs.Spots.{Spot, owners_at}
+use Rattle.wf_model.specs.Table.{outside, view_list}
+use Rattle.wf_model.specs.declared.node.CallNode.{CallNode}
+use Rattle.wf_model.specs.declared.node.LoopNode.{LoopNode}
+use Rattle.wf_model.specs.declared.node.Node.{Node}
+use Rattle.wf_model.specs.declared.node.TryNode.{TryNode}
+use Rattle.wf_model.specs.declared.node.NodeKind.TheVariants as variant
 use Rattle.wf_value.specs.Data.{depth}
 use Rattle.wf_value.specs.Plain.{plain}
 

@@ -10,8 +10,8 @@ use Rattle.wf_frames.specs.declared.frames.Frame.TheVariants as frame
 use Rattle.wf_frames.specs.declared.frames.Frames.{Frames}
 use Rattle.wf_frames.specs.declared.frames.Left as declared
 use Rattle.wf_frames.specs.declared.frames.Left.TheVariants as left
-use Rattle.wf_scope.specs.Tasks.{Own}
-use Rattle.wf_nodes.specs.Spots.{Spot, from, part_at, part_body, part_list, part_next}
+use Rattle.wf_frames.specs.Tasks.{Own}
+use Rattle.wf_model.specs.Spots.{Spot, from, part_at, part_body, part_list, part_next}
 use Rattle.wf_value.specs.Data.{null}
 use Rattle.wf_value.specs.Pairs.{Text}
 use Rattle.wf_value.specs.Plain.{plain}

@@ -8,3 +8,9 @@ pub mod Sights
 pub mod Standing
 pub mod Stands
 pub mod Turns
+pub mod Clocks
+pub mod Functions
+pub mod Built
+pub mod Kinds
+pub mod Steps
+pub mod Tasks

@@ -5,7 +5,7 @@ use Rattle.wf_frames.specs.Frames.{inner}
 use Rattle.wf_frames.specs.Owned.{Around, IsLinked, own_of}
 use Rattle.wf_frames.specs.declared.frames.Frames.{Frames}
 use Rattle.wf_scope.specs.declared.scopes.Scopes.{Scopes}
-use Rattle.wf_nodes.specs.declared.node.Node.{Node}
+use Rattle.wf_model.specs.declared.node.Node.{Node}
 
 pub record Stands (a : Around) (nodes : List Node) (fs : Frames) (x : Scopes) : Type 0 where
   pub fits : Fits a.spots nodes (inner fs)

@@ -1,21 +1,41 @@
 //! What a task has still to do, as frames of numbers over the table of a program, and the layers of variables that it sees.
 #![tactic(auto)]
 
+mod advance;
 mod bindings;
+mod calling;
+mod clock;
+mod codes;
 mod entering;
 mod facts;
+mod filling;
 mod frames;
+mod kinds;
+mod laws;
 mod leaving;
+mod nodes;
 mod places;
 mod sight;
 mod sighted;
+mod step;
+mod target;
 mod writing;
 
+pub use advance::step_of;
 pub use bindings::Bindings;
+pub use calling::call_function;
+pub use clock::{is_clock_among, is_clock_in, is_clock_named};
+pub use codes::{value_at, values};
 pub use entering::{enter, enter_call};
 pub use facts::Facts;
+pub use filling::{fill_args, fill_shape};
 pub use frames::{Frame, Frames, Left};
+pub use kinds::{Kind, frame_kind};
+pub use laws::{assigns_as_tasks_do, looks_as_tasks_do};
 pub use leaving::leave;
+pub use nodes::{are_built, block, entries, first_of, loop_node, try_node};
 pub use sight::seen;
 pub use sighted::Seen;
+pub use step::{Step, body_frame, map_of};
+pub use target::{Nap, Target, http_named, nap_named};
 pub use writing::assign;

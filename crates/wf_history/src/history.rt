@@ -1,5 +1,5 @@
 // A journal whose payloads are records.
-ghost use Rattle.std.specs.Prelude.{◌≤◌};
+ghost use Rattle.std.specs.Prelude.{◌≤◌, ◌∷◌, []};
 
 use crate::HistoryFault;
 use std::alloc::Global;
@@ -23,7 +23,7 @@ impl History {
     ghost use Rattle.wf_events.specs.View.{record_view, start_view, turn_view};
     ghost use Rattle.wf_history.specs.Stands.{is_new, at_end, is_closed, place, last, ahead, Stands, last_after, HasNoneOrThis, IsBadAt, unread};
     ghost use Rattle.wf_history.specs.Faults.{IsFaultAt};
-    ghost use Rattle.wf_host.specs.Calls.{AtAnyMoment, DiskFailed, DoesNoDeed, NoCountFalls, ReadsAsBefore, TellsAsBefore};
+    ghost use Rattle.wf_host.specs.Calls.{AtAnyMoment, DiskFailed, DoesNoDeed, NoCountFalls, OnlyErrors, ReadsAsBefore, TellsAsBefore};
     ghost use Rattle.wf_host.specs.World.{Told};
     ghost use Rattle.wf_journal.specs.Journal.{IsBeforeOrAfter, IsJournal, Stays};
     ghost use Rattle.wf_journal.specs.Records.{magic, records};
@@ -50,8 +50,7 @@ impl History {
             → (5 ≤ length (H.world host.old).seen) × (take 4 (H.world host.old).seen ≢ magic)) }
         ensures a_journal { Told (H.world host.old)
             (OnOk result (IsJournal (H.world host.old).seen)) }
-        ensures only { IfErr result (λ e. (e ≡ HistoryFault.DiskFault)
-            ⊎ (e ≡ HistoryFault.NotAJournal)) }
+        ensures only { OnlyErrors result (HistoryFault.DiskFault ∷ HistoryFault.NotAJournal ∷ []) }
         ensures deeds { DoesNoDeed H.world host.old host.new }
         ensures tells { TellsAsBefore H.world host.old host.new }
         ensures counts { NoCountFalls H.faults host.old host.new }
@@ -198,8 +197,8 @@ impl History {
         ensures closed { IsErrOf result HistoryFault.Closed ↔ (is_closed self.old ≡ true) }
         ensures closes { (is_closed self.new ≡ true)
             ↔ ((is_closed self.old ≡ true) ⊎ IsErrOf result HistoryFault.DiskFault) }
-        ensures only { IfErr result (λ e. (e ≡ HistoryFault.DiskFault) ⊎ (e ≡ HistoryFault.Closed)
-            ⊎ (e ≡ HistoryFault.OutOfMemory)) }
+        ensures only { OnlyErrors result (HistoryFault.DiskFault ∷ HistoryFault.Closed ∷
+            HistoryFault.OutOfMemory ∷ []) }
         ensures unchanged { IsErrOf result HistoryFault.OutOfMemory
             → (self.new ≡ self.old) × (host.new ≡ host.old) }
         ensures idle { IsErrOf result HistoryFault.Closed
@@ -256,8 +255,8 @@ impl History {
         ensures closed { IsErrOf result HistoryFault.Closed ↔ (is_closed self.old ≡ true) }
         ensures closes { (is_closed self.new ≡ true)
             ↔ ((is_closed self.old ≡ true) ⊎ IsErrOf result HistoryFault.DiskFault) }
-        ensures only { IfErr result (λ e. (e ≡ HistoryFault.DiskFault) ⊎ (e ≡ HistoryFault.Closed)
-            ⊎ (e ≡ HistoryFault.OutOfMemory)) }
+        ensures only { OnlyErrors result (HistoryFault.DiskFault ∷ HistoryFault.Closed ∷
+            HistoryFault.OutOfMemory ∷ []) }
         ensures unchanged { IsErrOf result HistoryFault.OutOfMemory
             → (self.new ≡ self.old) × (host.new ≡ host.old) }
         ensures idle { IsErrOf result HistoryFault.Closed

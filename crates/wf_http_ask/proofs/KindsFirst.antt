@@ -2,8 +2,8 @@
 use Rattle.std.proofs.Common.{◌≡◌, ◌≢◌, ℕ, ℤ, pos, negsuc, Bool, true, false, ◌&&◌, List, [], ◌∷◌, Some, None, Ok, Err, Option, refl, sym, ap, ◌∙◌, subst}
 use Rattle.std.specs.Prelude.{codes, if◌then◌else◌, nat_le}
 use Rattle.wf_http_ask.specs.Kinds.{KindsComeFirst, are_kinds, all_values, is_field_kind, is_map_of, is_method_kind, is_query_kind, is_text, is_whole}
-use Rattle.wf_shared.specs.Events.{Method, method_name, method_named}
-use Rattle.wf_shared.specs.HttpRequest.{Asked, asked, as_text, as_whole, field_text, method_text, pairs_by, query_part, sent_body, texts_by, whole_between}
+use Rattle.wf_value.specs.Events.{Method, method_name, method_named}
+use Rattle.wf_value.specs.HttpRequest.{Asked, asked, as_text, as_whole, field_text, method_text, pairs_by, query_part, sent_body, texts_by, whole_between}
 use Rattle.wf_value.specs.Data.{Data, null, boolean, integer, text, bytes, list, map, Pairs, no_pairs, pair}
 use Rattle.wf_value.specs.Errors.{Answer, ◌>>=◌, or_error}
 use Rattle.wf_value.specs.Pairs.{Text, get}

@@ -2,7 +2,7 @@
 use Rattle.std.proofs.Common.{◌≡◌, ℕ, zero, suc, ◌<◌, ◌-◌, List, [], ◌∷◌, ◌++◌, length, drop, Some, None, Ok, Err, refl, sym, ap, ◌∙◌, slice_get, append_assoc, append-nil, length-append, arith}
 use Rattle.std.proofs.lemmas.Option.{slice_get_within}
 use Rattle.wf_http_ask.specs.Answers.{Answers}
-use Rattle.wf_shared.specs.HttpRequest.{texts_by}
+use Rattle.wf_value.specs.HttpRequest.{texts_by}
 use Rattle.wf_value.specs.Data.{Data, pairs_of}
 use Rattle.wf_value.specs.Errors.{Answer, ◌>>=◌}
 use Rattle.wf_value.specs.Pairs.{Text}

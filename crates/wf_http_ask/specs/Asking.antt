@@ -2,8 +2,8 @@
 use Rattle.std.specs.Prelude.{Ok, Option}
 use Rattle.wf_http_ask.specs.declared.pairs.Place.{Place}
 use Rattle.wf_http_ask.specs.declared.pairs.Place.TheVariants.{Headers, Query}
-use Rattle.wf_shared.specs.Events.{Method, method_named}
-use Rattle.wf_shared.specs.HttpRequest.{field_text, query_part}
+use Rattle.wf_value.specs.Events.{Method, method_named}
+use Rattle.wf_value.specs.HttpRequest.{field_text, query_part}
 use Rattle.wf_value.specs.Data.{Data}
 use Rattle.wf_value.specs.Errors.{Answer, ◌>>=◌}
 use Rattle.wf_value.specs.Pairs.{Text}

@@ -1,7 +1,7 @@
 -- The kinds of a call's arguments.
 use Rattle.std.specs.Prelude.{◌≡◌, ◌≢◌, Bool, true, false, ◌&&◌, Some, None, Err, codes, Option}
-use Rattle.wf_shared.specs.Events.{Method}
-use Rattle.wf_shared.specs.HttpRequest.{asked}
+use Rattle.wf_value.specs.Events.{Method}
+use Rattle.wf_value.specs.HttpRequest.{asked}
 use Rattle.wf_value.specs.Data.{Data, boolean, integer, text, map, Pairs, no_pairs, pair}
 use Rattle.wf_value.specs.Pairs.{get}
 use Rattle.wf_value.specs.declared.Tag.TheVariants.{TypeError}

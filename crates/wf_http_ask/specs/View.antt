@@ -3,8 +3,8 @@ use Rattle.wf_http_ask.specs.declared.request.Request.{Request}
 use Rattle.wf_http_out.specs.View.{address_view}
 use Rattle.wf_http_out.specs.declared.fault.OutFault.{OutFault}
 use Rattle.wf_http_out.specs.declared.fault.OutFault.TheVariants as fault
-use Rattle.wf_shared.specs.HttpRequest as request
-use Rattle.wf_shared.specs.HttpUrl as url
+use Rattle.wf_value.specs.HttpRequest as request
+use Rattle.wf_value.specs.HttpUrl as url
 use Rattle.wf_value.specs.declared.errors.Raise.{Raise}
 use Rattle.wf_value.specs.declared.errors.Raise.TheVariants.{Error, OutOfMemory}
 

@@ -2,7 +2,7 @@
 ghost use Rattle.std.specs.Prelude.{◌≡◌, option_map};
 ghost use Rattle.wf_http_ask.specs.Answers.{Answers};
 ghost use Rattle.wf_http_ask.specs.Asking.{text_in};
-ghost use Rattle.wf_shared.specs.HttpRequest.{as_text, as_whole, pairs_by};
+ghost use Rattle.wf_value.specs.HttpRequest.{as_text, as_whole, pairs_by};
 ghost use Rattle.wf_value.specs.Data.{pairs_of};
 ghost use Rattle.wf_value.specs.Pairs.{get};
 ghost use Rattle.wf_value.specs.Plain.{plain};

@@ -5,7 +5,7 @@ ghost use Rattle.wf_callbacks.specs.Plain.{plain_method};
 ghost use Rattle.wf_http_ask.specs.Answers.{Answers};
 ghost use Rattle.wf_http_ask.specs.Asking.{named};
 ghost use Rattle.wf_http_out.specs.Asked.{asked_view};
-ghost use Rattle.wf_shared.specs.HttpRequest.{asked, method_text, whole_between};
+ghost use Rattle.wf_value.specs.HttpRequest.{asked, method_text, whole_between};
 ghost use Rattle.wf_value.specs.Data.{depth, pairs_depth, pairs_of};
 ghost use Rattle.wf_value.specs.Pairs.{get};
 ghost use Rattle.wf_value.specs.Plain.{plain};

@@ -3,7 +3,7 @@ ghost use Rattle.std.specs.Prelude.{◌≡◌, IfOk, if◌then◌else◌, codes}
 ghost use Rattle.std.specs.Fmt.{signed_decimal};
 ghost use Rattle.wf_http_ask.specs.Answers.{Answers};
 ghost use Rattle.wf_http_ask.specs.Asking.{text_in};
-ghost use Rattle.wf_shared.specs.HttpRequest.{texts_by};
+ghost use Rattle.wf_value.specs.HttpRequest.{texts_by};
 ghost use Rattle.wf_value.specs.Data.{pairs_of};
 ghost use Rattle.wf_value.specs.Plain.{plain};
 

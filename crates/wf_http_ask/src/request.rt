@@ -5,7 +5,7 @@ ghost use Rattle.wf_http_ask.specs.Answers.{Answers};
 ghost use Rattle.wf_http_ask.specs.View.{raise_of, request_view};
 ghost use Rattle.wf_http_out.specs.Asked.{asked_view};
 ghost use Rattle.wf_http_out.specs.View.{routes_view};
-ghost use Rattle.wf_shared.specs.HttpRequest.{request};
+ghost use Rattle.wf_value.specs.HttpRequest.{request};
 ghost use Rattle.wf_value.specs.Data.{depth};
 ghost use Rattle.wf_value.specs.Plain.{plain};
 

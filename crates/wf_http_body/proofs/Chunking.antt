@@ -7,7 +7,7 @@ use Rattle.std.proofs.lemmas.List.Elements.{All-append, All-cons, All-nil}
 use Rattle.httparse.specs.Grammar.{ChunkLine, IsChunkLine, crlf, print_chunk_line, print_end, print_extension, HasNoChunkLine}
 use Rattle.httparse.specs.Spans.{IsChunkLineAt}
 use Rattle.httparse.proofs.ChunkLemmas.{chunk_line_unique}
-use Rattle.wf_shared.specs.HttpBody.{Chunk, IsChunk, print_chunk, content_of, HasChunks, ReadsLine, EndsWrong, line_limit}
+use Rattle.wf_value.specs.HttpBody.{Chunk, IsChunk, print_chunk, content_of, HasChunks, ReadsLine, EndsWrong, line_limit}
 use Rattle.wf_http_body.specs.Chunks.{IsLongLine, BeginsEnd}
 
 pub content_more : (cs : List Chunk) (c : Chunk) → content_of (cs ++ c ∷ []) ≡ content_of cs ++ c.content

@@ -6,7 +6,7 @@ use Rattle.httparse.specs.Grammar.{Field, LineEnd, print_section, ReadsSection, 
 use Rattle.httparse.specs.Spans.{SectionOverflows, IsSectionOf}
 use Rattle.httparse.specs.declared.spans.HeaderSpan.{HeaderSpan}
 use Rattle.httparse.proofs.GrammarLemmas.{ReadsSection-append}
-use Rattle.wf_shared.specs.HttpBody.{trailer_limit}
+use Rattle.wf_value.specs.HttpBody.{trailer_limit}
 use Rattle.wf_http_body.specs.declared.trailer.Glance.{Glance}
 use Rattle.wf_http_body.specs.declared.trailer.Glance.TheVariants as glance
 use Rattle.wf_http_body.specs.Chunks.{IsLongSection, IsCrowdedSection, IsBadSection}

@@ -7,7 +7,7 @@ use Rattle.httparse.specs.Grammar.{print_section, ReadsSection, NeverHasSection,
 use Rattle.httparse.proofs.GrammarLemmas.{ReadsSection-append}
 use Rattle.httparse.proofs.ChunkLemmas.{ReadsChunkLine-append}
 use Rattle.httparse.proofs.PieceLemmas.{front-append}
-use Rattle.wf_shared.specs.HttpBody.{Chunk, print_chunk, content_of, HasChunks, IsLast, IsOver, EndsWrong, IsBadEnd, IsWholeChunked, IsOverChunked}
+use Rattle.wf_value.specs.HttpBody.{Chunk, print_chunk, content_of, HasChunks, IsLast, IsOver, EndsWrong, IsBadEnd, IsWholeChunked, IsOverChunked}
 use Rattle.wf_http_body.specs.Chunks.{IsBadLine, IsBadSection, IsBadRest, IsBadChunked}
 use Rattle.wf_http_body.proofs.Fronts.{front_of}
 

@@ -2,9 +2,9 @@
 use Rattle.std.proofs.Common.{◌≡◌, ℕ, ◌+◌, ◌<◌, true, false, List, ◌∷◌, length, get_or, drop, refl, sym, ap, ◌∙◌}
 use Rattle.std.specs.Str.Parse.{digits_value}
 use Rattle.std.proofs.lemmas.List.{drop_more}
-use Rattle.wf_shared.specs.Events.{Headers}
-use Rattle.wf_shared.specs.HttpBody.{Framing, OfLength, all_equal, by_length, is_number, lengths_in}
-use Rattle.wf_shared.specs.HttpText.{is_field_named, values_of}
+use Rattle.wf_value.specs.Events.{Headers}
+use Rattle.wf_value.specs.HttpBody.{Framing, OfLength, all_equal, by_length, is_number, lengths_in}
+use Rattle.wf_value.specs.HttpText.{is_field_named, values_of}
 
 skipped : (x : List ℕ) (f : List ℕ × List ℕ) (fs : Headers) → is_field_named x f ≡ false → values_of x (f ∷ fs) ≡ values_of x fs
 skipped x f fs other = rw other refl

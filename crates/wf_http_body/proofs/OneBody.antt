@@ -5,7 +5,7 @@ use Rattle.std.proofs.lemmas.List.Concat.{flat_map-append}
 use Rattle.httparse.specs.Grammar.{ChunkLine, print_chunk_line, chunk_size, ReadsChunkLine, HasNoChunkLine, NeverHasChunkLine, MayBecomeChunkLine, NeverHasSection, MayBecomeSection}
 use Rattle.httparse.proofs.GrammarLemmas.{section_unique}
 use Rattle.httparse.proofs.ChunkLemmas.{chunk_line_unique}
-use Rattle.wf_shared.specs.HttpBody.{Close, Open, Ended, Broke, BodyState, Complete, Waiting, Malformed, Oversize, unless_closed, Chunk, IsChunk, print_chunk, content_of, HasChunks, ReadsLine, IsLast, IsOver, IsBadEnd, EndsWrong}
+use Rattle.wf_value.specs.HttpBody.{Close, Open, Ended, Broke, BodyState, Complete, Waiting, Malformed, Oversize, unless_closed, Chunk, IsChunk, print_chunk, content_of, HasChunks, ReadsLine, IsLast, IsOver, IsBadEnd, EndsWrong}
 use Rattle.wf_http_body.specs.Chunks.{IsBadLine, IsOpenLine, IsBadSection, IsBadTrailer, IsOpenTrailer, BeginsEnd, IsOpenChunk, IsBadRest, IsOpenRest, IsChunkedBody}
 use Rattle.wf_http_body.specs.Found.{IsWholeSection}
 use Rattle.wf_http_body.specs.Parts.{IsOpenSection}

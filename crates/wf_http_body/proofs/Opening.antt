@@ -6,7 +6,7 @@ use Rattle.std.proofs.lemmas.List.{drop_at, drop_all}
 use Rattle.std.proofs.lemmas.List.Elements.{All-nil}
 use Rattle.std.proofs.lemmas.List.Sums.{AllPass-from_list_all}
 use Rattle.httparse.specs.Grammar.{ChunkLine, IsChunkLine, print_chunk_line, chunk_size, HasNoChunkLine, MayBecomeChunkLine}
-use Rattle.wf_shared.specs.HttpBody.{IsChunk, content_of}
+use Rattle.wf_value.specs.HttpBody.{IsChunk, content_of}
 use Rattle.wf_http_body.specs.declared.body.Chunks.{Chunks}
 use Rattle.wf_http_body.specs.declared.chunk.Place.{Place}
 use Rattle.wf_http_body.specs.declared.chunk.Place.TheVariants as place

@@ -3,7 +3,7 @@ use Rattle.std.proofs.Common.{◌≡◌, ℕ, ◌+◌, ◌-◌, ◌≤◌, List,
 use Rattle.std.proofs.lemmas.List.{drop-append-le, drop-drop, drop-take, take-append-le, take-take, take_all, take_min}
 use Rattle.httparse.specs.Grammar.{ReadsChunkLine}
 use Rattle.httparse.proofs.ChunkLemmas.{ReadsChunkLine-append}
-use Rattle.wf_shared.specs.HttpBody.{BodyState, Complete, Malformed, Oversize}
+use Rattle.wf_value.specs.HttpBody.{BodyState, Complete, Malformed, Oversize}
 use Rattle.wf_http_body.specs.declared.body.End.{End}
 use Rattle.wf_http_body.specs.declared.body.End.TheVariants as end
 use Rattle.wf_http_body.specs.declared.chunk.Place.{Place}

@@ -3,7 +3,7 @@ use Rattle.std.proofs.Common.{◌≡◌, ℕ, ◌+◌, ◌-◌, ◌<◌, min, Li
 use Rattle.std.specs.Prelude.{IfOk}
 use Rattle.std.proofs.lemmas.List.{drop_at}
 use Rattle.httparse.specs.Grammar.{chunk_size, print_chunk_line}
-use Rattle.wf_shared.specs.HttpBody.{Complete, Malformed, Oversize, Chunk, content_of, EndsWrong, IsWholeChunked}
+use Rattle.wf_value.specs.HttpBody.{Complete, Malformed, Oversize, Chunk, content_of, EndsWrong, IsWholeChunked}
 use Rattle.wf_http_body.specs.declared.chunk.Place.{Place}
 use Rattle.wf_http_body.specs.declared.chunk.Place.TheVariants as place
 use Rattle.wf_http_body.specs.declared.chunk.Step.{Step}

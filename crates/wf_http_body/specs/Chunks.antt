@@ -1,10 +1,10 @@
 -- A body in chunks, of all bytes heard of it (RFC 9112, section 7.1), under a limit on its bytes.
 --     IsChunkedBody      whole, not yet whole, malformed or too large: whole chunks, and then what is told of the rest
 -- Each state but `Waiting` stands, whatever is heard behind it. Whole chunks, the last one and content that is too large are those of
--- wf_shared.
+-- wf_value.
 use Rattle.std.specs.Prelude.{◌≡◌, ℕ, ◌+◌, ◌<◌, ◌≤◌, min, ◌≢◌, ◌⊎◌, List, ◌∷◌, [], ◌++◌, length, drop}
 use Rattle.httparse.specs.Grammar.{Field, LineEnd, print_section, ReadsSection, ChunkLine, chunk_size, print_chunk_line, ReadsChunkLine, NeverHasChunkLine, HasNoChunkLine, MayBecomeChunkLine, NeverHasSection, HasNoSection, MayBecomeSection}
-use Rattle.wf_shared.specs.HttpBody.{Close, Open, BodyState, Complete, Waiting, Malformed, Oversize, Chunk, HasChunks, ReadsLine, content_of, IsWholeChunked, IsOverChunked, IsBadEnd, line_limit, trailer_limit, field_limit}
+use Rattle.wf_value.specs.HttpBody.{Close, Open, BodyState, Complete, Waiting, Malformed, Oversize, Chunk, HasChunks, ReadsLine, content_of, IsWholeChunked, IsOverChunked, IsBadEnd, line_limit, trailer_limit, field_limit}
 
 -- ## Malformed
 -- each chunk line that can still come is too long

@@ -2,7 +2,7 @@
 use Rattle.std.specs.Prelude.{◌≡◌, ℕ, ◌+◌, ◌<◌, ◌≤◌, List, ◌∷◌, ◌++◌, length, take, drop, ⊤}
 use Rattle.httparse.specs.Grammar.{Field, ReadsSection, HasNoSection, NeverHasSection, MayBecomeSection, print_section}
 use Rattle.httparse.specs.Grammar as http
-use Rattle.wf_shared.specs.HttpBody.{EndsWrong, field_limit, trailer_limit}
+use Rattle.wf_value.specs.HttpBody.{EndsWrong, field_limit, trailer_limit}
 use Rattle.wf_http_body.specs.declared.chunk.LineEnd.{LineEnd}
 use Rattle.wf_http_body.specs.declared.chunk.LineEnd.TheVariants as line_end
 use Rattle.wf_http_body.specs.declared.chunk.Place.{Place}

@@ -2,9 +2,9 @@
 --     IsLength    by Content-Length, where a body has at most so many bytes
 --     IsCoding    by Transfer-Encoding
 use Rattle.std.specs.Prelude.{◌≡◌, ◌<◌, ◌≤◌, ℕ, [], codes}
-use Rattle.wf_shared.specs.Events.{Headers}
-use Rattle.wf_shared.specs.HttpBody.{Framing, OfLength, InChunks, BadFraming, by_fields, by_length, lengths_in}
-use Rattle.wf_shared.specs.HttpText.{values_of}
+use Rattle.wf_value.specs.Events.{Headers}
+use Rattle.wf_value.specs.HttpBody.{Framing, OfLength, InChunks, BadFraming, by_fields, by_length, lengths_in}
+use Rattle.wf_value.specs.HttpText.{values_of}
 use Rattle.wf_http_body.specs.declared.framing.Coding.{Coding}
 use Rattle.wf_http_body.specs.declared.framing.Coding.TheVariants as coding
 use Rattle.wf_http_body.specs.declared.framing.Length.{Length}

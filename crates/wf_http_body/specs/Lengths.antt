@@ -1,6 +1,6 @@
 -- How far a body of so many bytes was read.
 use Rattle.std.specs.Prelude.{◌≡◌, ℕ, ◌<◌, ◌≤◌, List, ◌++◌, length}
-use Rattle.wf_shared.specs.HttpBody.{Close, Complete, length_state}
+use Rattle.wf_value.specs.HttpBody.{Close, Complete, length_state}
 use Rattle.wf_http_body.specs.declared.body.End.{End}
 use Rattle.wf_http_body.specs.declared.body.End.TheVariants as end
 

@@ -3,7 +3,7 @@
 --     IsRead        what comes of it
 use Rattle.std.specs.Prelude.{◌≡◌, ℕ, ◌+◌, ◌<◌, ◌≤◌, ◌⊎◌, List, [], ◌++◌, length}
 use Rattle.httparse.specs.Grammar.{ChunkLine, chunk_size, HasNoSection, MayBecomeSection}
-use Rattle.wf_shared.specs.HttpBody.{Close, BodyState, Complete, Malformed, Oversize, Chunk, HasChunks, ReadsLine, content_of, trailer_limit}
+use Rattle.wf_value.specs.HttpBody.{Close, BodyState, Complete, Malformed, Oversize, Chunk, HasChunks, ReadsLine, content_of, trailer_limit}
 use Rattle.wf_http_body.specs.declared.body.Chunks.{Chunks}
 use Rattle.wf_http_body.specs.declared.body.End.{End}
 use Rattle.wf_http_body.specs.declared.body.End.TheVariants as end

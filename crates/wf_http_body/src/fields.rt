@@ -1,6 +1,6 @@
 // The values of fields.
 ghost use Rattle.std.specs.Prelude.{◌≡◌, ◌<◌, ◌≤◌, ◌∷◌, [], MatchOption, drop, length};
-ghost use Rattle.wf_shared.specs.HttpText.{is_field_named, values_of};
+ghost use Rattle.wf_value.specs.HttpText.{is_field_named, values_of};
 
 use wf_value::Bytes;
 

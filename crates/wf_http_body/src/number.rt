@@ -3,7 +3,7 @@ ghost use Rattle.std.specs.Prelude.{◌≡◌, ◌+◌, ◌==◌, ◌≤◌, tru
 ghost use Rattle.std.specs.Char.{is_ascii_digit};
 ghost use Rattle.std.specs.List.{list_all};
 ghost use Rattle.std.specs.Str.Parse.{digits_value};
-ghost use Rattle.wf_shared.specs.HttpBody as body;
+ghost use Rattle.wf_value.specs.HttpBody as body;
 
 // Whether a value is of decimal digits.
 pub(crate) fn is_number(value: &[u8]) -> bool

@@ -2,8 +2,8 @@
 use Rattle.std.proofs.Common.{◌≡◌, ℕ, ◌-◌, ◌<◌, ◌≤◌, List, [], ◌++◌, length, Result, Ok, Err, refl, sym, ap, ◌∙◌, subst, arith, length-append}
 use Rattle.std.specs.Prelude.{IfOk}
 use Rattle.std.proofs.lemmas.Bool.{le-ltb, lt-ltb, lt-leb}
-use Rattle.wf_shared.specs.HttpBody as plain
-use Rattle.wf_shared.specs.HttpBody.{Close, Complete, Malformed, Oversize, Framing, length_state, end_state, at_close, unless_closed}
+use Rattle.wf_value.specs.HttpBody as plain
+use Rattle.wf_value.specs.HttpBody.{Close, Complete, Malformed, Oversize, Framing, length_state, end_state, at_close, unless_closed}
 use Rattle.wf_http_body.specs.declared.body.Chunks.{Chunks}
 use Rattle.wf_http_body.specs.declared.body.End.{End}
 use Rattle.wf_http_body.specs.declared.body.End.TheVariants as end

@@ -6,9 +6,9 @@ use Rattle.std.proofs.lemmas.List.Elements.{All-head, All-nil}
 use Rattle.std.specs.List.{flat_map}
 use Rattle.std.specs.Prelude.{IsTrue, IsFalse, ◌≢◌, Option, Some, None}
 use Rattle.httparse.specs.Grammar.{ResponseHead, IsResponseHead, ReadsResponse, HasNoResponse, print_response}
-use Rattle.wf_shared.specs.Events.{Reply, Response, Broken, TooLong}
-use Rattle.wf_shared.specs.HttpBody as plain
-use Rattle.wf_shared.specs.HttpBody.{Close, Open, Ended, Broke, Complete, Malformed, Oversize, BodyState, unless_closed, at_close, end_state}
+use Rattle.wf_value.specs.Events.{Reply, Response, Broken, TooLong}
+use Rattle.wf_value.specs.HttpBody as plain
+use Rattle.wf_value.specs.HttpBody.{Close, Open, Ended, Broke, Complete, Malformed, Oversize, BodyState, unless_closed, at_close, end_state}
 use Rattle.wf_http_body.specs.declared.body.Chunks.{Chunks}
 use Rattle.wf_http_body.specs.declared.body.End.{End}
 use Rattle.wf_http_body.specs.declared.body.End.TheVariants as end

@@ -6,7 +6,7 @@ use Rattle.httparse.specs.Spans.{ResponseOverflows, IsResponseOf}
 use Rattle.httparse.specs.declared.spans.HeaderSpan.{HeaderSpan}
 use Rattle.httparse.specs.declared.spans.ResponseSpans.{ResponseSpans}
 use Rattle.httparse.proofs.GrammarLemmas.{ReadsResponse-append}
-use Rattle.wf_shared.specs.HttpBody.{head_limit}
+use Rattle.wf_value.specs.HttpBody.{head_limit}
 use Rattle.wf_http_body.proofs.Fronts.{past}
 use Rattle.wf_http_in.specs.declared.framing.Framing.{Framing}
 use Rattle.wf_http_in.specs.declared.heads.Look.{Look}

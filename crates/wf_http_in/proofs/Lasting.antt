@@ -8,7 +8,7 @@ use Rattle.std.proofs.lemmas.List.Elements.{All-append, All-cons, All-nil}
 use Rattle.httparse.specs.Grammar.{ResponseHead, IsResponseHead, print_response, ReadsResponse, NeverHasResponse}
 use Rattle.httparse.proofs.GrammarLemmas.{ReadsResponse-append}
 use Rattle.httparse.proofs.PieceLemmas.{front-append}
-use Rattle.wf_shared.specs.Events.{Reply, Broken}
+use Rattle.wf_value.specs.Events.{Reply, Broken}
 use Rattle.wf_http_body.proofs.Fronts.{front_of}
 use Rattle.wf_http_in.specs.AnswerOf.{AnswerOf}
 use Rattle.wf_http_in.specs.Heads.{SkipsHeads, BehindInterim, HasHead, IsLongHead, IsBadHead, IsSmallResponse, is_interim}

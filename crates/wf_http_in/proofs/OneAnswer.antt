@@ -4,8 +4,8 @@ use Rattle.std.proofs.lemmas.List.{drop_at}
 use Rattle.std.proofs.lemmas.List.Elements.{All-head, All-drop}
 use Rattle.httparse.specs.Grammar.{ResponseHead, IsResponseHead, print_response, ReadsResponse, status_code, NeverHasResponse, HasNoResponse, MayBecomeResponse}
 use Rattle.httparse.proofs.GrammarLemmas.{response_unique}
-use Rattle.wf_shared.specs.Events.{Reply, Response, Broken, TooLong}
-use Rattle.wf_shared.specs.HttpBody.{Close, Open, Ended, Broke, BodyState, Complete, Waiting, Malformed, Oversize, Framing, NoBody, OfLength, InChunks, ToTheEnd, BadFraming, headers_of}
+use Rattle.wf_value.specs.Events.{Reply, Response, Broken, TooLong}
+use Rattle.wf_value.specs.HttpBody.{Close, Open, Ended, Broke, BodyState, Complete, Waiting, Malformed, Oversize, Framing, NoBody, OfLength, InChunks, ToTheEnd, BadFraming, headers_of}
 use Rattle.wf_http_body.proofs.OneBody.{one_body}
 use Rattle.wf_http_body.proofs.Printed.{GoesOn, Compares, compare}
 use Rattle.wf_http_in.specs.AnswerOf.{AnswerOf, HasBody, framing}

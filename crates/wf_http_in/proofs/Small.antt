@@ -6,8 +6,8 @@ use Rattle.std.proofs.lemmas.List.{length-map, length-reverse}
 use Rattle.std.proofs.lemmas.List.Sums.{sum_by-cons}
 use Rattle.std.specs.Prelude.{Some, if◌then◌else◌}
 use Rattle.httparse.specs.Grammar.{ResponseHead, print_response, print_section, print_field, print_end, print_blank, print_version, print_reason, Field, field_value, is_ows, skip_ows, trim_ows}
-use Rattle.wf_shared.specs.Events.{Reply, Response, Broken, TooLong}
-use Rattle.wf_shared.specs.HttpBody.{Close, Open, Ended, Broke, BodyState, Complete, Waiting, Malformed, Oversize, Framing, NoBody, OfLength, InChunks, ToTheEnd, BadFraming, unless_closed, at_close, length_state, end_state, name_and_value, headers_of, head_limit}
+use Rattle.wf_value.specs.Events.{Reply, Response, Broken, TooLong}
+use Rattle.wf_value.specs.HttpBody.{Close, Open, Ended, Broke, BodyState, Complete, Waiting, Malformed, Oversize, Framing, NoBody, OfLength, InChunks, ToTheEnd, BadFraming, unless_closed, at_close, length_state, end_state, name_and_value, headers_of, head_limit}
 use Rattle.wf_http_in.specs.AnswerOf.{AnswerOf, AnswersAreSmall, HasBody, framing, fields_size}
 use Rattle.wf_http_in.specs.Bodies.{answer_limit, IsBody}
 use Rattle.wf_http_in.proofs.Codes.{three_digits}

@@ -6,8 +6,8 @@
 use Rattle.std.specs.Prelude.{⊤, ◌≡◌, ◌≢◌, ◌⊎◌, ◌≤◌, ◌+◌, ℕ, List, [], length, Some, None, Option}
 use Rattle.std.specs.List.{sum_by}
 use Rattle.httparse.specs.Grammar.{ResponseHead, status_code}
-use Rattle.wf_shared.specs.Events.{Headers, Reply, Response, Broken, TooLong}
-use Rattle.wf_shared.specs.HttpBody.{Close, Open, BodyState, Complete, Waiting, Malformed, Oversize, Framing, headers_of, field_limit, head_limit}
+use Rattle.wf_value.specs.Events.{Headers, Reply, Response, Broken, TooLong}
+use Rattle.wf_value.specs.HttpBody.{Close, Open, BodyState, Complete, Waiting, Malformed, Oversize, Framing, headers_of, field_limit, head_limit}
 use Rattle.wf_http_in.specs.Bodies.{answer_limit, framing_of, IsBody}
 use Rattle.wf_http_in.specs.Heads.{HasHead, BehindInterim, IsBadHead, IsHeadless}
 

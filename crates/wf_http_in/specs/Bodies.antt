@@ -1,8 +1,8 @@
 -- The bytes behind the head of an answer (RFC 9112, section 6).
 --     IsBody    a whole body, not yet one, a malformed one, or one that is too long
 use Rattle.std.specs.Prelude.{◌≡◌, ℕ, Bool, ◌||◌, List, [], ◌==◌, if◌then◌else◌}
-use Rattle.wf_shared.specs.Events.{Headers}
-use Rattle.wf_shared.specs.HttpBody.{Close, BodyState, Complete, Malformed, Framing, NoBody, OfLength, InChunks, ToTheEnd, BadFraming, by_fields, length_state, end_state}
+use Rattle.wf_value.specs.Events.{Headers}
+use Rattle.wf_value.specs.HttpBody.{Close, BodyState, Complete, Malformed, Framing, NoBody, OfLength, InChunks, ToTheEnd, BadFraming, by_fields, length_state, end_state}
 use Rattle.wf_http_body.specs.Chunks.{IsChunkedBody}
 
 -- the bytes of a body, at most

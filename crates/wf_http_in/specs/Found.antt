@@ -1,8 +1,8 @@
 -- What the code finds at the front of bytes.
 use Rattle.std.specs.Prelude.{◌≡◌, ℕ, ◌<◌, ◌≤◌, Bool, true, false, List, ◌++◌, length, take, drop, IsTrue, IsFalse, ⊤}
 use Rattle.httparse.specs.Grammar.{ResponseHead, ReadsResponse, status_code, HasNoResponse, NeverHasResponse, MayBecomeResponse}
-use Rattle.wf_shared.specs.HttpBody as plain
-use Rattle.wf_shared.specs.HttpBody.{field_limit, headers_of}
+use Rattle.wf_value.specs.HttpBody as plain
+use Rattle.wf_value.specs.HttpBody.{field_limit, headers_of}
 use Rattle.wf_http_in.specs.declared.framing.Framing.{Framing}
 use Rattle.wf_http_in.specs.declared.framing.Framing.TheVariants as framing
 use Rattle.wf_http_in.specs.declared.heads.Heading.{Heading}

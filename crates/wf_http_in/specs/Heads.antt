@@ -5,7 +5,7 @@
 use Rattle.std.specs.Prelude.{◌≡◌, ℕ, ◌<◌, ◌≤◌, Bool, ◌&&◌, ◌⊎◌, List, ◌++◌, length, drop, nat_le, All, IsTrue, IsFalse}
 use Rattle.std.specs.List.{flat_map}
 use Rattle.httparse.specs.Grammar.{ResponseHead, ReadsResponse, status_code, IsResponseHead, print_response, NeverHasResponse, HasNoResponse, MayBecomeResponse}
-use Rattle.wf_shared.specs.HttpBody.{head_limit, field_limit, IsSmallHead}
+use Rattle.wf_value.specs.HttpBody.{head_limit, field_limit, IsSmallHead}
 
 -- heads of these codes are skipped
 abbrev pub is_interim_code : ℕ → Bool

@@ -2,9 +2,9 @@
 --     HasHeard      these bytes were heard, and the connection stands so
 use Rattle.std.specs.Prelude.{⊤, ◌≡◌, ◌≢◌, ℕ, ◌≤◌, List, [], ◌++◌, length, take, Option, Some, None}
 use Rattle.httparse.specs.Grammar.{ResponseHead}
-use Rattle.wf_shared.specs.Events.{Reply, Response, Broken, TooLong}
-use Rattle.wf_shared.specs.HttpBody as plain
-use Rattle.wf_shared.specs.HttpBody.{Close, BodyState, Complete, Malformed, Oversize}
+use Rattle.wf_value.specs.Events.{Reply, Response, Broken, TooLong}
+use Rattle.wf_value.specs.HttpBody as plain
+use Rattle.wf_value.specs.HttpBody.{Close, BodyState, Complete, Malformed, Oversize}
 use Rattle.wf_http_body.specs.declared.body.End.{End}
 use Rattle.wf_http_body.specs.declared.body.End.TheVariants as end
 use Rattle.wf_http_body.specs.declared.body.Chunks.{Chunks}

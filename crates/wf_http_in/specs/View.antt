@@ -1,6 +1,6 @@
 -- This crate's types as plain data.
-use Rattle.wf_shared.specs.Events as plain
-use Rattle.wf_shared.specs.HttpBody as body
+use Rattle.wf_value.specs.Events as plain
+use Rattle.wf_value.specs.HttpBody as body
 use Rattle.wf_http_in.specs.declared.answer.Answer.{Answer}
 use Rattle.wf_http_in.specs.declared.answer.Answer.TheVariants as answer
 use Rattle.wf_http_in.specs.declared.reading.Close.{Close}

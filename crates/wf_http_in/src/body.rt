@@ -1,6 +1,6 @@
 // Bodies of answers, read as they come.
 ghost use Rattle.std.specs.Prelude.{◌≡◌, ◌≢◌, ◌++◌, IfOk, List, OnErr, ℕ};
-ghost use Rattle.wf_shared.specs.HttpBody as plain;
+ghost use Rattle.wf_value.specs.HttpBody as plain;
 ghost use Rattle.wf_http_body.specs.declared.body.Chunks.{Chunks as ChunksRead};
 ghost use Rattle.wf_http_body.specs.Parts.{IsSame};
 ghost use Rattle.wf_http_in.specs.declared.framing.Framing.TheVariants.{InChunks, ToTheEnd};

@@ -1,6 +1,6 @@
 // An answer that comes in pieces.
 ghost use Rattle.std.specs.Prelude.{◌≡◌, ◌≤◌, [], ◌++◌, List, ℕ, OnErr, OnOk, drop, if◌then◌else◌, is_ok, length, option_map};
-ghost use Rattle.wf_shared.specs.HttpBody.{Close as Connection, Open as is_open, Ended as has_ended, Broke as is_broken};
+ghost use Rattle.wf_value.specs.HttpBody.{Close as Connection, Open as is_open, Ended as has_ended, Broke as is_broken};
 ghost use Rattle.wf_http_body.specs.Parts.{IsFresh};
 ghost use Rattle.wf_http_in.specs.AnswerOf.{AnswerOf};
 ghost use Rattle.wf_http_in.specs.View.{answer_view, close_view};

@@ -9,7 +9,7 @@ use Rattle.std.proofs.lemmas.Bool.Decides.{nat_tests}
 use Rattle.std.proofs.lemmas.List.Sums.{get_or-le-sum_by, suffix_len_is, sum_by-cons}
 use Rattle.http_uri.specs.ByteClasses.{count_of, index_of, rsplit_once_back}
 use Rattle.http_uri.specs.Grammar.{authority_host}
-use Rattle.wf_shared.specs.HttpUrl.{is_port, port_text}
+use Rattle.wf_value.specs.HttpUrl.{is_port, port_text}
 use Rattle.wf_value.specs.Pairs.{Text}
 
 -- a byte is among others exactly where it comes

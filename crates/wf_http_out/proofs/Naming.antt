@@ -2,7 +2,7 @@
 use Rattle.std.proofs.Common.{◌≡◌, ℕ, zero, suc, ◌<◌, ◌||◌, Bool, true, false, List, [], ◌∷◌, length, get_or, refl, sym, ap, subst, ◌∙◌, arith}
 use Rattle.std.specs.Prelude.{bytes_eq, fold}
 use Rattle.http_uri.specs.ByteClasses.{lowercase}
-use Rattle.wf_shared.specs.HttpRequest.{is_among}
+use Rattle.wf_value.specs.HttpRequest.{is_among}
 use Rattle.wf_http_out.specs.Fields.{names_before}
 use Rattle.wf_value.specs.Pairs.{Text}
 

@@ -2,8 +2,8 @@
 use Rattle.std.proofs.Common.{◌≡◌, ◌==◌, false, not, List, [], ◌∷◌, ◌++◌, length, refl, ap, ◌∙◌, arith}
 use Rattle.std.specs.Prelude.{Some, codes}
 use Rattle.std.proofs.lemmas.Bool.{false≢true, ne_eqb}
-use Rattle.wf_shared.specs.HttpRequest.{Payload, type_line}
-use Rattle.wf_shared.specs.HttpText.{line}
+use Rattle.wf_value.specs.HttpRequest.{Payload, type_line}
+use Rattle.wf_value.specs.HttpText.{line}
 use Rattle.wf_value.specs.Pairs.{Text}
 
 -- where the caller gives no type, the line tells that of the body

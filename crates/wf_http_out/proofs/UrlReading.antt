@@ -17,10 +17,10 @@ use Rattle.http_uri.proofs.Theorems.{Spells_unique}
 use Rattle.http_uri.proofs.RunLemmas.{AllPass-at, IsAscii-pass, index_of_is}
 use Rattle.http_uri.proofs.SchemeLemmas.{AllPass_front}
 use Rattle.http_uri.proofs.UriLemmas.{cut_len, cut_name, cut_rest, cut_authority, cut_tail, cut_scheme, absolute_from_cuts, authority_ends}
-use Rattle.wf_shared.specs.HttpUrl.{Url, IsUrl, UrlIsOfHttpUri, goal, goal_at, goal_of, url_behind, url_if, is_url_byte, is_web, is_authority, is_path_text, kept_path, has_host, may_follow, all_follow}
-use Rattle.wf_shared.specs.HttpUrl.{url as reads}
-use Rattle.wf_shared.specs.HttpUrl as url
-use Rattle.wf_shared.specs.Events.{Routes}
+use Rattle.wf_value.specs.HttpUrl.{Url, IsUrl, UrlIsOfHttpUri, goal, goal_at, goal_of, url_behind, url_if, is_url_byte, is_web, is_authority, is_path_text, kept_path, has_host, may_follow, all_follow}
+use Rattle.wf_value.specs.HttpUrl.{url as reads}
+use Rattle.wf_value.specs.HttpUrl as url
+use Rattle.wf_value.specs.Events.{Routes}
 use Rattle.wf_value.specs.Pairs.{Text}
 use Rattle.wf_http_out.specs.declared.fault.OutFault.{OutFault}
 use Rattle.wf_http_out.specs.declared.fault.OutFault.TheVariants as fault

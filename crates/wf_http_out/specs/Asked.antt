@@ -2,10 +2,10 @@
 use Rattle.std.specs.Prelude.{ℕ, [], ◌++◌, Option, option_map, codes, decimal}
 use Rattle.std.specs.List.{flat_map}
 use Rattle.wf_callbacks.specs.Plain.{plain_method}
-use Rattle.wf_shared.specs.Events.{method_name}
-use Rattle.wf_shared.specs.HttpRequest as request
-use Rattle.wf_shared.specs.HttpText.{line}
-use Rattle.wf_shared.specs.HttpUrl as url
+use Rattle.wf_value.specs.Events.{method_name}
+use Rattle.wf_value.specs.HttpRequest as request
+use Rattle.wf_value.specs.HttpText.{line}
+use Rattle.wf_value.specs.HttpUrl as url
 use Rattle.wf_value.specs.Data.{Data}
 use Rattle.wf_value.specs.Pairs.{Text}
 use Rattle.wf_value.specs.Plain.{plain}

@@ -1,7 +1,7 @@
 -- The parts that are taken of a URL.
 use Rattle.std.specs.Prelude.{◌≡◌, not, codes, bytes_eq}
 use Rattle.http_uri.specs.Grammar.{authority_host}
-use Rattle.wf_shared.specs.HttpUrl.{Url, port_of, port_text, target_of}
+use Rattle.wf_value.specs.HttpUrl.{Url, port_of, port_text, target_of}
 use Rattle.wf_http_out.specs.declared.parts.Parts.{Parts}
 
 pub record IsPartsOf (u : Url) (p : Parts) : Type 0 where

@@ -3,8 +3,8 @@ use Rattle.std.specs.Prelude.{◌≡◌, Bool, ◌&&◌, nat_le, length, ◌==�
 use Rattle.std.specs.List.{list_all}
 use Rattle.http_uri.specs.ByteClasses.{count_of, at_sign}
 use Rattle.http_uri.specs.Grammar.{authority_host}
-use Rattle.wf_shared.specs.Events.{Address, Routes}
-use Rattle.wf_shared.specs.HttpUrl.{Url, IsUrl, Goal, NoRoute, is_url_byte, is_web, has_host, route, direct, first_of_two, goal_at}
+use Rattle.wf_value.specs.Events.{Address, Routes}
+use Rattle.wf_value.specs.HttpUrl.{Url, IsUrl, Goal, NoRoute, is_url_byte, is_web, has_host, route, direct, first_of_two, goal_at}
 use Rattle.wf_value.specs.Pairs.{Text}
 
 -- 1 to 8,192 bytes of visible ASCII without `#`

@@ -1,8 +1,8 @@
 -- What this crate's types are, as plain data, and how an answer agrees with a definition's.
 use Rattle.std.specs.Prelude.{◌≡◌, ℕ, List, map, Option, Some, None, IfSome, Result, Ok, Err}
 use Rattle.wf_host.specs.declared.data.Address.{Address}
-use Rattle.wf_shared.specs.Events as plain
-use Rattle.wf_shared.specs.HttpUrl as url
+use Rattle.wf_value.specs.Events as plain
+use Rattle.wf_value.specs.HttpUrl as url
 use Rattle.wf_http_out.specs.declared.fault.OutFault.{OutFault}
 use Rattle.wf_http_out.specs.declared.fault.OutFault.TheVariants as fault
 use Rattle.wf_http_out.specs.declared.goal.Goal.{Goal}

@@ -3,7 +3,7 @@ ghost use Rattle.std.specs.Prelude.{◌≡◌, ◌&&◌, ◌++◌, [], not};
 ghost use Rattle.std.specs.List.{list_all};
 ghost use Rattle.http_uri.specs.ByteClasses.{lowercase};
 ghost use Rattle.httparse.specs.Grammar as http;
-ghost use Rattle.wf_shared.specs.HttpRequest.{good_fields, is_among, is_field_byte, own_fields};
+ghost use Rattle.wf_value.specs.HttpRequest.{good_fields, is_among, is_field_byte, own_fields};
 ghost use Rattle.wf_http_out.specs.Fields.{names_before};
 
 use crate::names::is_same_name;

@@ -1,6 +1,6 @@
 // Where a URL leads.
 ghost use Rattle.std.specs.Prelude.{IfOk, IsErrOf};
-ghost use Rattle.wf_shared.specs.HttpUrl.{Url, goal, goal_at};
+ghost use Rattle.wf_value.specs.HttpUrl.{Url, goal, goal_at};
 ghost use Rattle.wf_http_out.specs.Parts.{IsPartsOf};
 ghost use Rattle.wf_http_out.specs.Urls.{IsNoUrl, LeadsTo, LeadsNowhere, address_of};
 ghost use Rattle.wf_http_out.specs.View.{Gives, goal_view, routes_view};

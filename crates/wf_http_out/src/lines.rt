@@ -2,10 +2,10 @@
 ghost use Rattle.std.specs.Prelude.{◌≡◌, [], ◌++◌, ◌==◌, not, OnOk, if◌then◌else◌, codes, decimal, length, map, option_map, string_bytes};
 ghost use Rattle.std.specs.List.{flat_map};
 ghost use Rattle.wf_callbacks.specs.Plain.{plain_method};
-ghost use Rattle.wf_shared.specs.Events.{method_name};
-ghost use Rattle.wf_shared.specs.HttpRequest.{content_types, field_line, has_query, length_line, query_pair, type_line, with_query};
-ghost use Rattle.wf_shared.specs.HttpText.{line};
-ghost use Rattle.wf_shared.specs.LibText.{url_encoded};
+ghost use Rattle.wf_value.specs.Events.{method_name};
+ghost use Rattle.wf_value.specs.HttpRequest.{content_types, field_line, has_query, length_line, query_pair, type_line, with_query};
+ghost use Rattle.wf_value.specs.HttpText.{line};
+ghost use Rattle.wf_value.specs.LibText.{url_encoded};
 ghost use Rattle.wf_http_out.specs.Asked.{payload_view};
 
 use crate::body::Payload;

@@ -3,7 +3,7 @@ ghost use Rattle.std.specs.Prelude.{◌≡◌, ◌++◌, Some, true, false, IfOk
 ghost use Rattle.std.specs.List.{list_all};
 ghost use Rattle.std.specs.Option.{option_copied};
 ghost use Rattle.http_uri.specs.Uri.{HasParts};
-ghost use Rattle.wf_shared.specs.HttpUrl.{Url, IsUrl, is_url_byte, query_text};
+ghost use Rattle.wf_value.specs.HttpUrl.{Url, IsUrl, is_url_byte, query_text};
 ghost use Rattle.wf_http_out.specs.Urls.{is_sendable, is_short_text, IsNoUrl};
 ghost use Rattle.wf_http_out.specs.Parts.{IsPartsOf};
 

@@ -2,7 +2,7 @@
 ghost use Rattle.std.specs.Prelude.{◌≡◌, true, false, ◌==◌, MatchOption, not};
 ghost use Rattle.http_uri.specs.ByteClasses.{count_of, at_sign};
 ghost use Rattle.http_uri.specs.Grammar.{authority_host};
-ghost use Rattle.wf_shared.specs.HttpUrl.{is_web, is_port, port_of, port_text};
+ghost use Rattle.wf_value.specs.HttpUrl.{is_web, is_port, port_of, port_text};
 ghost use Rattle.wf_http_out.specs.Urls.{is_sendable};
 
 // The port of a URL of http or https, 80 where it has none. There is none where it has another

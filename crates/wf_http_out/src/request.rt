@@ -1,7 +1,7 @@
 // The bytes of a request.
 ghost use Rattle.std.specs.Prelude.{◌≡◌, ◌≤◌, [], false, IfOk, IsErrOf, option_map, string_bytes};
 ghost use Rattle.std.specs.Option.{ForSome};
-ghost use Rattle.wf_shared.specs.HttpRequest as request;
+ghost use Rattle.wf_value.specs.HttpRequest as request;
 ghost use Rattle.wf_value.specs.Data.{depth};
 ghost use Rattle.wf_value.specs.Plain.{plain};
 ghost use Rattle.wf_http_out.specs.Asked.{asked_view, head_text, payload_view};

@@ -1,7 +1,7 @@
 // The route for a host.
 ghost use Rattle.std.specs.Prelude.{◌≡◌, option_map};
 ghost use Rattle.wf_http_out.specs.View.{address_view, routes_view};
-ghost use Rattle.wf_shared.specs.HttpUrl.{route};
+ghost use Rattle.wf_value.specs.HttpUrl.{route};
 
 use crate::names::is_same_name;
 use wf_host::Address;

@@ -4,8 +4,8 @@ use Rattle.std.proofs.lemmas.Bool.{cases_lt, false≢true, le-ltb, lt-leb}
 use Rattle.std.proofs.lemmas.List.{drop-append-le, drop-drop, drop_at}
 use Rattle.std.specs.Prelude.{◌≢◌, IfOk}
 use Rattle.httparse.specs.Grammar.{HasNoRequest, print_request}
-use Rattle.wf_shared.specs.HttpBody as plain
-use Rattle.wf_shared.specs.HttpBody.{Close, Open, Ended, Broke, length_state, unless_closed, Complete, Malformed, Oversize, BodyState, headers_of}
+use Rattle.wf_value.specs.HttpBody as plain
+use Rattle.wf_value.specs.HttpBody.{Close, Open, Ended, Broke, length_state, unless_closed, Complete, Malformed, Oversize, BodyState, headers_of}
 use Rattle.wf_http_body.specs.declared.body.Chunks.{Chunks}
 use Rattle.wf_http_body.specs.declared.body.End.{End}
 use Rattle.wf_http_body.specs.declared.body.End.TheVariants as end

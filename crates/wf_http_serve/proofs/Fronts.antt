@@ -7,7 +7,7 @@ use Rattle.httparse.specs.Spans.{RequestOverflows, IsRequestOf}
 use Rattle.httparse.specs.declared.spans.HeaderSpan.{HeaderSpan}
 use Rattle.httparse.specs.declared.spans.RequestSpans.{RequestSpans}
 use Rattle.httparse.proofs.GrammarLemmas.{ReadsRequest-append}
-use Rattle.wf_shared.specs.HttpBody.{head_limit}
+use Rattle.wf_value.specs.HttpBody.{head_limit}
 use Rattle.wf_http_body.proofs.Fronts.{past}
 use Rattle.wf_http_serve.specs.declared.framing.Framing.{Framing}
 use Rattle.wf_http_serve.specs.declared.head.Look.{Look}

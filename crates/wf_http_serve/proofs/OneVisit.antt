@@ -2,8 +2,8 @@
 use Rattle.std.proofs.Common.{◌≡◌, ◌≢◌, ℕ, List, length, refl, sym, ap, ap₂, ◌∙◌, subst, arith, inl, inr}
 use Rattle.httparse.specs.Grammar.{RequestHead}
 use Rattle.httparse.proofs.GrammarLemmas.{request_unique}
-use Rattle.wf_shared.specs.Events.{Headers}
-use Rattle.wf_shared.specs.HttpBody.{Close, Open, Ended, Broke, BodyState, Complete, Waiting, Malformed, Oversize, Framing, NoBody, OfLength, InChunks, ToTheEnd, BadFraming, headers_of}
+use Rattle.wf_value.specs.Events.{Headers}
+use Rattle.wf_value.specs.HttpBody.{Close, Open, Ended, Broke, BodyState, Complete, Waiting, Malformed, Oversize, Framing, NoBody, OfLength, InChunks, ToTheEnd, BadFraming, headers_of}
 use Rattle.wf_value.specs.Pairs.{Text}
 use Rattle.wf_http_body.proofs.OneBody.{one_body}
 use Rattle.wf_http_serve.specs.Visits.{VisitState, VisitOf, NotYet, Bad, TooLarge, Asks, HasHead, HasBody, IsBadHead, IsHeadless, IsVisitBody, framing, visit_limit}

@@ -1,7 +1,7 @@
 -- What the code finds at the front of bytes.
 use Rattle.std.specs.Prelude.{◌≡◌, ℕ, ◌≤◌, Bool, true, false, List, ◌++◌, length, take, drop}
 use Rattle.httparse.specs.Grammar.{RequestHead, ReadsRequest, HasNoRequest, NeverHasRequest, MayBecomeRequest}
-use Rattle.wf_shared.specs.HttpBody.{field_limit, headers_of}
+use Rattle.wf_value.specs.HttpBody.{field_limit, headers_of}
 use Rattle.wf_http_serve.specs.declared.framing.Framing.{Framing}
 use Rattle.wf_http_serve.specs.declared.head.Heading.{Heading}
 use Rattle.wf_http_serve.specs.declared.head.Heading.TheVariants as heading

@@ -1,8 +1,8 @@
 -- What this crate's types are, as plain data.
 use Rattle.std.specs.Prelude.{◌≡◌, ◌<◌, ◌≤◌, ℕ, Bool, true, false}
 use Rattle.httparse.specs.Grammar.{RequestHead}
-use Rattle.wf_shared.specs.HttpBody as plain
-use Rattle.wf_shared.specs.HttpText as text
+use Rattle.wf_value.specs.HttpBody as plain
+use Rattle.wf_value.specs.HttpText as text
 use Rattle.wf_http_serve.specs.declared.asker.VisitState.{VisitState}
 use Rattle.wf_http_serve.specs.declared.asker.VisitState.TheVariants as state
 use Rattle.wf_http_serve.specs.declared.framing.Framing.{Framing}

@@ -2,8 +2,8 @@
 --     HasHeard      these bytes were heard, and the connection stands so
 use Rattle.std.specs.Prelude.{⊤, ◌≡◌, ◌≢◌, ℕ, List, [], ◌++◌, length, take}
 use Rattle.httparse.specs.Grammar.{RequestHead}
-use Rattle.wf_shared.specs.HttpBody as plain
-use Rattle.wf_shared.specs.HttpBody.{Close, BodyState, Complete, Malformed, Oversize}
+use Rattle.wf_value.specs.HttpBody as plain
+use Rattle.wf_value.specs.HttpBody.{Close, BodyState, Complete, Malformed, Oversize}
 use Rattle.wf_http_body.specs.declared.body.End.{End}
 use Rattle.wf_http_body.specs.declared.body.End.TheVariants as end
 use Rattle.wf_http_body.specs.declared.body.Chunks.{Chunks}

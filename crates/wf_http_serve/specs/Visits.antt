@@ -5,8 +5,8 @@ use Rattle.std.specs.Prelude.{◌≡◌, ℕ, ◌<◌, ◌≤◌, Bool, true, fa
 use Rattle.std.specs.List.{list_any}
 use Rattle.httparse.specs.Grammar.{RequestHead, ReadsRequest, print_request, NeverHasRequest, HasNoRequest}
 use Rattle.httparse.specs.Pieces.{is_newline}
-use Rattle.wf_shared.specs.Events.{Headers}
-use Rattle.wf_shared.specs.HttpBody.{Close, Open, BodyState, Complete, Waiting, Malformed, Oversize, Framing, NoBody, OfLength, InChunks, ToTheEnd, BadFraming, headers_of, by_length, lengths_in, by_fields, length_state, end_state, head_limit, field_limit, IsSmallHead}
+use Rattle.wf_value.specs.Events.{Headers}
+use Rattle.wf_value.specs.HttpBody.{Close, Open, BodyState, Complete, Waiting, Malformed, Oversize, Framing, NoBody, OfLength, InChunks, ToTheEnd, BadFraming, headers_of, by_length, lengths_in, by_fields, length_state, end_state, head_limit, field_limit, IsSmallHead}
 use Rattle.wf_value.specs.Pairs.{Text}
 use Rattle.wf_http_body.specs.Chunks.{IsChunkedBody}
 

@@ -1,6 +1,6 @@
 // Bodies of requests, read as they come.
 ghost use Rattle.std.specs.Prelude.{◌≡◌, ◌≢◌, ◌++◌, IfOk, List, ℕ, OnErr};
-ghost use Rattle.wf_shared.specs.HttpBody as plain;
+ghost use Rattle.wf_value.specs.HttpBody as plain;
 ghost use Rattle.wf_http_body.specs.Parts.{IsSame};
 ghost use Rattle.wf_http_serve.specs.declared.framing.Framing.TheVariants.{InChunks};
 ghost use Rattle.wf_http_serve.specs.Plain.{IsFramed};

@@ -1,7 +1,7 @@
 // Replies to visits.
 ghost use Rattle.std.specs.Prelude.{◌≡◌};
 ghost use Rattle.wf_http_serve.specs.Plain.{plain_code};
-ghost use Rattle.wf_shared.specs.HttpText as text;
+ghost use Rattle.wf_value.specs.HttpText as text;
 
 /// What a visit is told, each with its status code.
 #[derive(Debug, Clone, Copy, PartialEq, Eq)]

@@ -1,6 +1,6 @@
 // A request that comes in pieces.
 ghost use Rattle.std.specs.Prelude.{◌≡◌, [], ◌++◌, List, ℕ, OnErr, OnOk, if◌then◌else◌, is_ok};
-ghost use Rattle.wf_shared.specs.HttpBody.{Close, Ended, Open};
+ghost use Rattle.wf_value.specs.HttpBody.{Close, Ended, Open};
 ghost use Rattle.wf_http_body.specs.Parts.{IsFresh};
 ghost use Rattle.wf_http_serve.specs.Plain.{plain_state};
 ghost use Rattle.wf_http_serve.specs.declared.stage.Stage.TheVariants.{Head};

@@ -5,9 +5,9 @@ use Rattle.std.specs.Str.{IsUtf8, is_utf8}
 use Rattle.std.proofs.lemmas.Bool.{false_from_ne_true, ne_eqb}
 use Rattle.std.proofs.lemmas.Str.{IsUtf8-from_is_utf8, is_utf8-from_IsUtf8}
 use Rattle.std.proofs.lemmas.List.{drop_more}
-use Rattle.wf_shared.specs.Events.{Headers}
-use Rattle.wf_shared.specs.HttpText.{body_value, content_type, is_field_named, json_body, json_type, media_type, text_or_bytes, typed_body, values_of}
-use Rattle.wf_shared.specs.LibText.{starts_with}
+use Rattle.wf_value.specs.Events.{Headers}
+use Rattle.wf_value.specs.HttpText.{body_value, content_type, is_field_named, json_body, json_type, media_type, text_or_bytes, typed_body, values_of}
+use Rattle.wf_value.specs.LibText.{starts_with}
 use Rattle.wf_value.specs.Data.{Data, null, bytes, pairs_of, text}
 use Rattle.wf_value.specs.Decode.{json_value}
 use Rattle.wf_value.specs.Errors.{Answer}

@@ -4,7 +4,7 @@ use Rattle.std.specs.Prelude.{if◌then◌else◌}
 use Rattle.std.specs.Str.{IsUtf8, is_utf8}
 use Rattle.std.proofs.lemmas.Bool.{false_from_ne_true}
 use Rattle.std.proofs.lemmas.Str.{IsUtf8-from_is_utf8, is_utf8-from_IsUtf8}
-use Rattle.wf_shared.specs.HttpText.{joined_value, proper_name, with_field, with_value_at}
+use Rattle.wf_value.specs.HttpText.{joined_value, proper_name, with_field, with_value_at}
 use Rattle.wf_value.specs.Data.{Data, Pairs, pairs_of}
 use Rattle.wf_value.specs.Maps.{value_at, with_value}
 use Rattle.wf_value.specs.Pairs.{pair_list}

@@ -4,7 +4,7 @@ use Rattle.std.proofs.lemmas.Bool.{and_parts, cases_lt, ne_eqb}
 use Rattle.std.proofs.lemmas.Str.{IsUtf8-append, IsUtf8-nil, IsUtf8-encode, encode_ascii, inside_one, length-encode, len_utf8_bounds}
 use Rattle.std.proofs.lemmas.Str.Ascii.{lowercase_ascii, lowercase_is, uppercase_ascii, uppercase_is}
 use lib.Utf8.{scalar, scalars, encode, encodes, low_scalar}
-use Rattle.wf_shared.specs.HttpText.{dash_byte, proper_name}
+use Rattle.wf_value.specs.HttpText.{dash_byte, proper_name}
 
 -- ## Characters past ASCII stay, and none of their bytes is a dash
 no_dash : (b : ℕ) → 128 ≤ b → (b == dash_byte) ≡ false

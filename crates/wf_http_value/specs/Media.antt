@@ -1,8 +1,8 @@
 -- What a media type says of a body.
 use Rattle.std.specs.Prelude.{Bool, if◌then◌else◌, ◌==◌, not, codes, bytes_eq, length}
-use Rattle.wf_shared.specs.Events.{Headers}
-use Rattle.wf_shared.specs.HttpText.{json_type, values_of}
-use Rattle.wf_shared.specs.LibText.{starts_with}
+use Rattle.wf_value.specs.Events.{Headers}
+use Rattle.wf_value.specs.HttpText.{json_type, values_of}
+use Rattle.wf_value.specs.LibText.{starts_with}
 use Rattle.wf_value.specs.Pairs.{Text}
 use Rattle.wf_http_value.specs.declared.media.Media.{Media}
 use Rattle.wf_http_value.specs.declared.media.Media.TheVariants as media

@@ -1,7 +1,7 @@
 // Bodies as values.
 ghost use Rattle.std.specs.Prelude.{◌≡◌, IfOk};
 ghost use Rattle.wf_http_value.specs.Gives.{GivesBody};
-ghost use Rattle.wf_shared.specs.HttpText.{body_value, header_map, json_body, text_or_bytes};
+ghost use Rattle.wf_value.specs.HttpText.{body_value, header_map, json_body, text_or_bytes};
 ghost use Rattle.wf_value.specs.Data.{bytes, pairs_of};
 ghost use Rattle.wf_value.specs.Decode.{json_value};
 ghost use Rattle.wf_value.specs.Plain.{plain};

@@ -1,6 +1,6 @@
 // The fields of a message as a map.
 ghost use Rattle.std.specs.Prelude.{◌≡◌, IfOk, OnOk, option_map, true};
-ghost use Rattle.wf_shared.specs.HttpText.{header_map, joined_value, proper_name, with_field, with_value_at};
+ghost use Rattle.wf_value.specs.HttpText.{header_map, joined_value, proper_name, with_field, with_value_at};
 ghost use Rattle.wf_value.specs.Data.{pairs_of};
 ghost use Rattle.wf_value.specs.Plain.{plain};
 

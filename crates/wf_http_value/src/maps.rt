@@ -1,6 +1,6 @@
 // The maps that a program sees.
 ghost use Rattle.std.specs.Prelude.{◌≡◌, ◌++◌, IfOk, decimal};
-ghost use Rattle.wf_shared.specs.HttpText.{result_map};
+ghost use Rattle.wf_value.specs.HttpText.{result_map};
 ghost use Rattle.wf_value.specs.Data.{map, pairs_of};
 ghost use Rattle.wf_value.specs.Errors.{http_error, tag_message};
 ghost use Rattle.wf_value.specs.Plain.{plain};

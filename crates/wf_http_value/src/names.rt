@@ -1,6 +1,6 @@
 // The names of fields.
 ghost use Rattle.std.specs.Prelude.{◌≡◌, IfOk, true};
-ghost use Rattle.wf_shared.specs.HttpText.{proper_name};
+ghost use Rattle.wf_value.specs.HttpText.{proper_name};
 
 use std::alloc::Global;
 use wf_value::{OutOfMemory, Text};

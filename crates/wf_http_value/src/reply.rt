@@ -2,7 +2,7 @@
 ghost use Rattle.std.specs.Prelude.{◌≡◌, ◌∷◌, [], ◌++◌, IfOk, OnOk};
 ghost use Rattle.wf_http_in.specs.View.{answer_view};
 ghost use Rattle.wf_http_value.specs.Gives.{Gives};
-ghost use Rattle.wf_shared.specs.HttpText.{reply_result};
+ghost use Rattle.wf_value.specs.HttpText.{reply_result};
 
 use crate::limits::raise;
 use crate::{ReplyFault, response_value};

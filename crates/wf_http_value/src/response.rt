@@ -1,7 +1,7 @@
 // What an answer gives or raises.
 ghost use Rattle.wf_http_value.specs.Gives.{Gives};
-ghost use Rattle.wf_shared.specs.Events.{Response};
-ghost use Rattle.wf_shared.specs.HttpText.{reply_result};
+ghost use Rattle.wf_value.specs.Events.{Response};
+ghost use Rattle.wf_value.specs.HttpText.{reply_result};
 
 use crate::ReplyFault;
 use crate::body::body_value;

@@ -2,7 +2,7 @@
 ghost use Rattle.std.specs.Prelude.{◌≡◌, IfOk};
 ghost use Rattle.wf_callbacks.specs.Plain.{plain_visitor};
 ghost use Rattle.wf_http_value.specs.Gives.{Gives};
-ghost use Rattle.wf_shared.specs.HttpText.{header_map, visit_map, visit_result};
+ghost use Rattle.wf_value.specs.HttpText.{header_map, visit_map, visit_result};
 ghost use Rattle.wf_value.specs.Data.{pairs_of};
 ghost use Rattle.wf_value.specs.Plain.{plain};
 

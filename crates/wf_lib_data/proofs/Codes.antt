@@ -6,7 +6,7 @@ use Rattle.base64.specs.declared.decode.DecodeAllocError.{DecodeAllocError}
 use Rattle.base64.specs.declared.decode.DecodeAllocError.TheVariants.{DecodeError as Failed}
 use Rattle.base64.specs.declared.decode.DecodeError.{DecodeError}
 use Rattle.std.specs.Result.{result_ok}
-use Rattle.wf_shared.specs.LibData.{base64_decode, json_decode}
+use Rattle.wf_value.specs.LibData.{base64_decode, json_decode}
 use Rattle.wf_value.specs.Data.{Data, bytes, text}
 use Rattle.wf_value.specs.Decode.{json_value}
 use Rattle.wf_value.specs.Errors.{Answer, ◌>>=◌, or_error, sized}

@@ -1,7 +1,7 @@
 -- What calls give, by the function's answer.
 use Rattle.std.proofs.Common.{◌≡◌, List, [], ◌∷◌, ◌++◌, Bool, Option, Some, None, is_some, option_map, Result, Err, Bor, refl, sym, ap, ◌∙◌, subst}
 use Rattle.std.specs.Prelude.{if◌then◌else◌, unwrap_or}
-use Rattle.wf_shared.specs.LibData.{follow, list_concat, map_delete}
+use Rattle.wf_value.specs.LibData.{follow, list_concat, map_delete}
 use Rattle.wf_value.specs.Data.{Data, null, text, list, map, items_of, pairs_of}
 use Rattle.wf_value.specs.Errors.{Answer, sized}
 use Rattle.wf_value.specs.Maps.{value_at, without}

@@ -7,7 +7,7 @@ use Rattle.std.specs.List.{AllByRecursion}
 use Rattle.std.specs.List.Sorted.{IsStrictlySortedBy}
 use Rattle.std.specs.Map.{keys_of}
 use Rattle.std.specs.Ordering.{ordering_reverse}
-use Rattle.wf_shared.specs.LibData.{merged}
+use Rattle.wf_value.specs.LibData.{merged}
 use Rattle.wf_value.specs.Data.{Data, pairs_of}
 use Rattle.wf_value.specs.Maps.{IsInOrder, key_cmp, with_value}
 use Rattle.wf_value.specs.Pairs.{Text, put}

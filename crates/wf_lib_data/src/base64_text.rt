@@ -2,7 +2,7 @@
 ghost use Rattle.base64.specs.Engines.{standard};
 ghost use Rattle.base64.specs.GeneralPurpose.{decoded_of};
 ghost use Rattle.wf_lib_data.specs.Gives.{Gives};
-ghost use Rattle.wf_shared.specs.LibData.{base64_decode, base64_encode};
+ghost use Rattle.wf_value.specs.LibData.{base64_decode, base64_encode};
 ghost use Rattle.wf_value.specs.Data.{bytes, text};
 ghost use Rattle.wf_value.specs.Plain.{plain};
 

@@ -1,7 +1,7 @@
 // Values as JSON.
 ghost use Rattle.std.specs.Prelude.{◌≡◌, ◌≤◌};
 ghost use Rattle.wf_lib_data.specs.Gives.{Gives, raised};
-ghost use Rattle.wf_shared.specs.LibData.{json_decode, json_encode, json_encode_to_string};
+ghost use Rattle.wf_value.specs.LibData.{json_decode, json_encode, json_encode_to_string};
 ghost use Rattle.wf_value.specs.Data.{bytes, depth};
 ghost use Rattle.wf_value.specs.Plain.{plain};
 

@@ -1,7 +1,7 @@
 // Lists with one item more.
 ghost use Rattle.std.specs.Prelude.{◌≡◌, ◌∷◌, IfOk};
 ghost use Rattle.wf_lib_data.specs.Gives.{Gives};
-ghost use Rattle.wf_shared.specs.LibData.{list_concat, list_prepend};
+ghost use Rattle.wf_value.specs.LibData.{list_concat, list_prepend};
 ghost use Rattle.wf_value.specs.Plain.{plain, plain_items};
 
 use crate::answers::sized;

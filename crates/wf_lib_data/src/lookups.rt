@@ -1,7 +1,7 @@
 // Values inside maps.
 ghost use Rattle.std.specs.Prelude.{◌≡◌};
 ghost use Rattle.wf_lib_data.specs.Gives.{Gives, or_null};
-ghost use Rattle.wf_shared.specs.LibData.{follow, follow_all, map_get, texts_in};
+ghost use Rattle.wf_value.specs.LibData.{follow, follow_all, map_get, texts_in};
 ghost use Rattle.wf_value.specs.Data.{items_of};
 ghost use Rattle.wf_value.specs.Errors.{sized};
 ghost use Rattle.wf_value.specs.Plain.{plain, plain_items};

@@ -1,6 +1,6 @@
 // Maps without a key.
 ghost use Rattle.wf_lib_data.specs.Gives.{Gives};
-ghost use Rattle.wf_shared.specs.LibData.{map_delete};
+ghost use Rattle.wf_value.specs.LibData.{map_delete};
 ghost use Rattle.wf_value.specs.Data.{text};
 ghost use Rattle.wf_value.specs.Plain.{plain};
 

@@ -1,7 +1,7 @@
 // Two maps as one.
 ghost use Rattle.std.specs.Prelude.{◌≡◌, IfOk, OnOk, suc};
 ghost use Rattle.wf_lib_data.specs.Gives.{Gives};
-ghost use Rattle.wf_shared.specs.LibData.{map_merge, merged};
+ghost use Rattle.wf_value.specs.LibData.{map_merge, merged};
 ghost use Rattle.wf_value.specs.Data.{pairs_of};
 ghost use Rattle.wf_value.specs.Maps.{IsInOrder, with_value};
 ghost use Rattle.wf_value.specs.Plain.{plain};

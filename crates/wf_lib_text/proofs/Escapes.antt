@@ -7,7 +7,7 @@ use Rattle.std.proofs.lemmas.Bool.{agree_below, agree_below_at}
 use Rattle.std.proofs.lemmas.List.Elements.{All-head, All-tail}
 use Rattle.percent_encoding.specs.AsciiSet.{should_percent_encode}
 use Rattle.percent_encoding.specs.Percent.{percent_encode, percent_encode_byte, encode_byte}
-use Rattle.wf_shared.specs.LibText.{url_encoded, url_encoded_byte}
+use Rattle.wf_value.specs.LibText.{url_encoded, url_encoded_byte}
 use Rattle.wf_lib_text.specs.declared.url.TheConstants.{ESCAPED}
 
 abbrev is_kept : ℕ → Bool

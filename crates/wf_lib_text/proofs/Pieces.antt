@@ -6,7 +6,7 @@ use Rattle.std.specs.Str.Pattern.{FindsText, LacksTextAt}
 use Rattle.std.proofs.lemmas.Bool.{false_from_ne_true}
 use Rattle.std.proofs.lemmas.Bool.Decides.{Decides-eqb}
 use Rattle.std.proofs.lemmas.Slice.Eq.{starts_is}
-use Rattle.wf_shared.specs.LibText.{joined_by, pieces, pieces_from, starts_of, starts_with, unless_empty}
+use Rattle.wf_value.specs.LibText.{joined_by, pieces, pieces_from, starts_of, starts_with, unless_empty}
 use Rattle.wf_value.specs.Data.{Data, integer, item, items_of, list, text}
 use Rattle.wf_value.specs.Errors.{sized}
 use Rattle.wf_value.specs.Pairs.{Text, text_items}

@@ -6,7 +6,7 @@ use Rattle.std.proofs.lemmas.Str.{IsUtf8-from_is_utf8, is_utf8-from_IsUtf8}
 use Rattle.std.specs.Prelude.{if◌then◌else◌, Ok, Result}
 use Rattle.std.specs.Str.{is_utf8}
 use Rattle.wf_lib_text.specs.Gives.{Gives, IsPast}
-use Rattle.wf_shared.specs.LibText.{as_utf8}
+use Rattle.wf_value.specs.LibText.{as_utf8}
 use Rattle.wf_value.specs.Data.{Data, text}
 use Rattle.wf_value.specs.Errors.{Answer, sized}
 use Rattle.wf_value.specs.Pairs.{Text}

@@ -1,6 +1,6 @@
 // Texts and the bytes that they are.
 ghost use Rattle.wf_lib_text.specs.Gives.{Gives};
-ghost use Rattle.wf_shared.specs.LibText.{as_utf8, text_decode, text_encode};
+ghost use Rattle.wf_value.specs.LibText.{as_utf8, text_decode, text_encode};
 ghost use Rattle.wf_value.specs.Plain.{plain};
 
 use crate::answers::{sized_bytes, sized_text};

@@ -2,7 +2,7 @@
 ghost use Rattle.std.specs.Prelude.{map};
 ghost use Rattle.std.specs.Char.{to_ascii_lowercase, to_ascii_uppercase};
 ghost use Rattle.wf_lib_text.specs.Gives.{Gives};
-ghost use Rattle.wf_shared.specs.LibText.{text_to_lower, text_to_upper};
+ghost use Rattle.wf_value.specs.LibText.{text_to_lower, text_to_upper};
 ghost use Rattle.wf_value.specs.Data.{text};
 ghost use Rattle.wf_value.specs.Errors.{sized};
 ghost use Rattle.wf_value.specs.Plain.{plain};

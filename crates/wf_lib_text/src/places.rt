@@ -1,7 +1,7 @@
 // Where a part stands in a text.
 ghost use Rattle.std.specs.Prelude.{◌≡◌, ◌+◌, ◌<◌, IfOk, chars, length, pos};
 ghost use Rattle.wf_lib_text.specs.Gives.{Gives};
-ghost use Rattle.wf_shared.specs.LibText.{pieces, starts_of, text_find_all};
+ghost use Rattle.wf_value.specs.LibText.{pieces, starts_of, text_find_all};
 ghost use Rattle.wf_value.specs.Data.{integer, text};
 ghost use Rattle.wf_value.specs.Plain.{plain};
 

@@ -1,7 +1,7 @@
 // A text with others in place of its parts.
 ghost use Rattle.std.specs.Prelude.{◌≡◌, ◌++◌, ◌<◌, IfErr, OnOk, length, string_bytes};
 ghost use Rattle.wf_lib_text.specs.Gives.{Gives, IsPast};
-ghost use Rattle.wf_shared.specs.LibText.{joined_by, pieces, text_replace_all};
+ghost use Rattle.wf_value.specs.LibText.{joined_by, pieces, text_replace_all};
 ghost use Rattle.wf_value.specs.Data.{text};
 ghost use Rattle.wf_value.specs.Errors.{sized};
 ghost use Rattle.wf_value.specs.Plain.{plain};

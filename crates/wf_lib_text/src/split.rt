@@ -1,7 +1,7 @@
 // A text cut at a separator.
 ghost use Rattle.std.specs.Prelude.{◌≡◌, ◌<◌, IfOk, length, map};
 ghost use Rattle.wf_lib_text.specs.Gives.{Gives};
-ghost use Rattle.wf_shared.specs.LibText.{pieces, text_split};
+ghost use Rattle.wf_value.specs.LibText.{pieces, text_split};
 ghost use Rattle.wf_value.specs.Data.{text};
 ghost use Rattle.wf_value.specs.Plain.{plain};
 

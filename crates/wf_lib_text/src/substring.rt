@@ -1,7 +1,7 @@
 // A part of a text, by its places.
 ghost use Rattle.std.specs.Prelude.{◌≡◌, ◌≤◌, IfOk, MatchOption, chars, encode_utf8_all, false, slice_range, string_bytes, true, unsigned_abs};
 ghost use Rattle.wf_lib_text.specs.Gives.{Gives};
-ghost use Rattle.wf_shared.specs.LibText.{is_range_in, text_substring};
+ghost use Rattle.wf_value.specs.LibText.{is_range_in, text_substring};
 ghost use Rattle.wf_value.specs.Data.{integer, text};
 ghost use Rattle.wf_value.specs.Plain.{plain};
 

@@ -2,7 +2,7 @@
 ghost use Rattle.std.specs.Prelude.{◌≡◌, IfOk, string_bytes};
 ghost use Rattle.percent_encoding.specs.Percent.{percent_decode};
 ghost use Rattle.wf_lib_text.specs.Gives.{Gives};
-ghost use Rattle.wf_shared.specs.LibText.{text_url_decode, text_url_encode, url_encoded};
+ghost use Rattle.wf_value.specs.LibText.{text_url_decode, text_url_encode, url_encoded};
 ghost use Rattle.wf_value.specs.Plain.{plain};
 
 use crate::answers::sized_text;

@@ -4,7 +4,7 @@ use Rattle.std.proofs.lemmas.Bool.{cases_lt, lt-ltb, le-ltb}
 use Rattle.jiff_core.specs.Calendar.{IsCivilDate, day_count, day_of_year, days_from_civil, days_in_month, days_in_year, days_of_months}
 use Rattle.jiff_core.proofs.CalendarLemmas.{day_count-day_of_year, day_count-end, day_count-epoch, day_count-last_of_year, day_count-later_year, day_count-lt_year, day_count-next_year, day_of_year_bound, days_from_civil-day_count, days_of_months-zero, days_of_months_mono}
 use Rattle.jiff_core.proofs.SignedLemmas.{signed_arith, one_part}
-use Rattle.wf_shared.specs.LibTime.{month_of, year_of}
+use Rattle.wf_value.specs.LibTime.{month_of, year_of}
 use borrow.Author.Differences.{up, down}
 
 -- ## Months

@@ -5,7 +5,7 @@ use Rattle.std.specs.Char.{digit_value, is_ascii_digit}
 use Rattle.std.specs.Str.Parse.{digits_value}
 use Rattle.std.proofs.lemmas.Bool.{and_parts, and_right, false≢true, leb-true}
 use Rattle.std.proofs.lemmas.Str.{digit_value_digit}
-use Rattle.wf_shared.specs.LibTime.{has_form, number_at}
+use Rattle.wf_value.specs.LibTime.{has_form, number_at}
 use Rattle.wf_value.specs.Pairs.{Text}
 use Rattle.wf_lib_time.specs.Moments.{HasTwoDigits, fits}
 

@@ -3,7 +3,7 @@ use Rattle.std.proofs.Common.{◌≡◌, ℕ, ◌<◌, Bool, true, false, length
 use Rattle.std.specs.Prelude.{codes, if◌then◌else◌, option_and_then, option_map, IsTrue, ◌↔◌}
 use Rattle.std.proofs.lemmas.Bool.{cases_lt, iff_false, le-leb, lt-leb}
 use Rattle.jiff_core.proofs.SignedLemmas.{signed_arith}
-use Rattle.wf_shared.specs.LibTime.{civil_seconds, is_civil, offset_of, parsed_time, second_in_range, time_format, time_parse, time_text, without_fraction}
+use Rattle.wf_value.specs.LibTime.{civil_seconds, is_civil, offset_of, parsed_time, second_in_range, time_format, time_parse, time_text, without_fraction}
 use Rattle.wf_value.specs.Data.{Data, integer, text}
 use Rattle.wf_value.specs.Errors.{Answer, ◌>>=◌, or_error}
 use Rattle.wf_value.specs.Pairs.{Text}

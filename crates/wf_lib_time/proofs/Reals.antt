@@ -7,7 +7,7 @@ use Rattle.jiff_core.specs.Time.{IsTime}
 use Rattle.jiff_core.specs.DateTime as moment
 use Rattle.jiff_core.specs.declared.civil.datetime.DateTime.{DateTime}
 use Rattle.jiff_core.proofs.SignedLemmas.{signed_arith}
-use Rattle.wf_shared.specs.LibTime.{civil_seconds, has_form, is_civil, is_real_date, is_real_time, number_at}
+use Rattle.wf_value.specs.LibTime.{civil_seconds, has_form, is_civil, is_real_date, is_real_time, number_at}
 use Rattle.wf_value.specs.Pairs.{Text}
 use Rattle.wf_lib_time.specs.Moments.{date_seconds}
 

@@ -12,7 +12,7 @@ use Rattle.jiff_core.proofs.DateLemmas.{civil}
 use Rattle.jiff_core.proofs.CalendarLemmas.{days_in_month_bounds}
 use Rattle.jiff_core.proofs.DateTimeLemmas.{civil_nanos-parts, time_nanos_bound}
 use Rattle.jiff_core.proofs.SignedLemmas.{signed_arith}
-use Rattle.wf_shared.specs.LibTime.{clock_text, date_text, day_text, month_of, time_text, two_digits, year_of}
+use Rattle.wf_value.specs.LibTime.{clock_text, date_text, day_text, month_of, time_text, two_digits, year_of}
 use Rattle.wf_lib_time.proofs.Dates.{date_is, year_is}
 use Rattle.wf_lib_time.specs.Moments.{IsInTime, stamp_text}
 

@@ -6,7 +6,7 @@ use Rattle.std.specs.List.{prefix_len}
 use Rattle.std.proofs.lemmas.List.{length-drop, take_all}
 use Rattle.std.proofs.lemmas.Bool.{and_parts, and_from, and_left, and_right, eqb-true, ne_eqb, false≢true, le-leb, lt-leb}
 use Rattle.jiff_core.proofs.SignedLemmas.{signed_arith}
-use Rattle.wf_shared.specs.LibTime.{has_form, is_real_offset, minutes_ahead, offset_of, without_digits, without_fraction}
+use Rattle.wf_value.specs.LibTime.{has_form, is_real_offset, minutes_ahead, offset_of, without_digits, without_fraction}
 use Rattle.wf_value.specs.Pairs.{Text}
 use Rattle.wf_lib_time.specs.Moments.{fits}
 

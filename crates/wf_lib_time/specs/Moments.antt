@@ -2,7 +2,7 @@
 use Rattle.std.specs.Prelude.{◌≡◌, ◌<◌, ◌+◌, ◌*◌, ℕ, Bool, true, length, ℤ, pos, ◌+ℤ◌, ◌*ℤ◌, ◌==◌, if◌then◌else◌, slice_index, unsigned_abs}
 use Rattle.std.specs.Char.{is_ascii_digit}
 use Rattle.jiff_core.specs.Calendar.{IsBetween, IsWithin, days_from_civil}
-use Rattle.wf_shared.specs.LibTime.{time_text}
+use Rattle.wf_value.specs.LibTime.{time_text}
 use Rattle.wf_value.specs.Pairs.{Text}
 
 -- from 1970 to the last second of the year 9998

@@ -1,7 +1,7 @@
 // Dates and times of day.
 ghost use Rattle.std.specs.Prelude.{◌≡◌, ◌≤◌, ◌&&◌, IfSome, MatchOption, codes, false, true};
 ghost use Rattle.wf_lib_time.specs.Moments.{IsShort, date_seconds};
-ghost use Rattle.wf_shared.specs.LibTime.{civil_seconds, has_form, is_civil, is_real_date, is_real_time, number_at};
+ghost use Rattle.wf_value.specs.LibTime.{civil_seconds, has_form, is_civil, is_real_date, is_real_time, number_at};
 
 use crate::form::{has_form, two_digits};
 use jiff::civil::DateTime;

@@ -1,7 +1,7 @@
 // Texts of a fixed form.
 ghost use Rattle.std.specs.Prelude.{◌≡◌, ◌+◌, ◌*◌, ◌≤◌};
 ghost use Rattle.wf_lib_time.specs.Moments.{HasTwoDigits, fits};
-ghost use Rattle.wf_shared.specs.LibTime.{has_form, number_at};
+ghost use Rattle.wf_value.specs.LibTime.{has_form, number_at};
 
 // Whether the text has the form, in which each `d` stands for a digit.
 pub(crate) fn has_form(form: &[u8], text: &[u8]) -> bool

@@ -3,7 +3,7 @@ ghost use Rattle.std.specs.Prelude.{◌≡◌, ◌*ℤ◌, ◌↔◌, IfOk, IsTr
 ghost use Rattle.jiff.specs.Words.{civil_nanos};
 ghost use Rattle.wf_lib_time.specs.Gives.{Gives};
 ghost use Rattle.wf_lib_time.specs.Moments.{IsInTime, stamp_text};
-ghost use Rattle.wf_shared.specs.LibTime.{time_format};
+ghost use Rattle.wf_value.specs.LibTime.{time_format};
 ghost use Rattle.wf_value.specs.Data.{integer};
 ghost use Rattle.wf_value.specs.Plain.{plain};
 

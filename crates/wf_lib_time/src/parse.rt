@@ -2,7 +2,7 @@
 ghost use Rattle.std.specs.Prelude.{◌≡◌, ◌-ℤ◌, option_map, pos};
 ghost use Rattle.wf_lib_time.specs.Gives.{Gives};
 ghost use Rattle.wf_lib_time.specs.Moments.{IsShort};
-ghost use Rattle.wf_shared.specs.LibTime.{parsed_time, second_in_range, time_parse};
+ghost use Rattle.wf_value.specs.LibTime.{parsed_time, second_in_range, time_parse};
 ghost use Rattle.wf_value.specs.Data.{text};
 ghost use Rattle.wf_value.specs.Plain.{plain};
 

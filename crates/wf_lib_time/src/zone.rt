@@ -3,7 +3,7 @@ ghost use Rattle.std.specs.Prelude.{◌≡◌, ◌*◌, ◌≤◌, IfSome, Match
 ghost use Rattle.std.specs.Char.{is_ascii_digit};
 ghost use Rattle.std.specs.List.{prefix_len};
 ghost use Rattle.wf_lib_time.specs.Moments.{HasTwoDigits, IsShort};
-ghost use Rattle.wf_shared.specs.LibTime.{is_real_offset, minutes_ahead, offset_of, without_fraction};
+ghost use Rattle.wf_value.specs.LibTime.{is_real_offset, minutes_ahead, offset_of, without_fraction};
 
 use crate::form::{has_form, two_digits};
 

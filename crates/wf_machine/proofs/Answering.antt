@@ -29,8 +29,8 @@ use Rattle.wf_model.specs.Step.{next}
 use Rattle.wf_model.specs.Taken.{merged}
 use Rattle.wf_moves.specs.Waits.{answer_view, call_in, result_in}
 use Rattle.wf_moves.specs.declared.task.Task.{Task}
-use Rattle.wf_shared.specs.Events.{Event, Reply}
-use Rattle.wf_shared.specs.HttpText.{reply_length, reply_result}
+use Rattle.wf_value.specs.Events.{Event, Reply}
+use Rattle.wf_value.specs.HttpText.{reply_length, reply_result}
 use Rattle.wf_value.specs.Data.{Data, depth}
 use Rattle.wf_value.specs.Errors.{error_map}
 use Rattle.wf_value.specs.Pairs.{Text}

@@ -9,7 +9,7 @@ use Rattle.wf_machine.specs.declared.events.ApplyFault.TheVariants.{NotEnabled, 
 use Rattle.wf_model.specs.ChoiceLaws.{reading_of}
 use Rattle.wf_model.specs.Config.{Config, To}
 use Rattle.wf_model.specs.Step.{next}
-use Rattle.wf_shared.specs.Events.{Event}
+use Rattle.wf_value.specs.Events.{Event}
 
 pub refused : (s : State) (e : Event) → s.broken ≡ false → ((d : Config) → next s.program s.config e ≡ To d → ⊥) → Applied s s e (Err NotEnabled)
 refused s e whole never = record {

@@ -20,17 +20,17 @@ use Rattle.wf_machine.specs.declared.log.Log.{Log}
 use Rattle.wf_machine.specs.declared.machine.Tally.{Tally}
 use Rattle.wf_moves.specs.Going.{Going}
 use Rattle.wf_moves.specs.Waits.{task_local, wait_view}
-use Rattle.wf_nodes.specs.Spots.{Spot, spots}
-use Rattle.wf_nodes.specs.declared.node.Node.{Node}
+use Rattle.wf_model.specs.Spots.{Spot, spots}
+use Rattle.wf_model.specs.declared.node.Node.{Node}
 use Rattle.wf_value.specs.declared.value.Value.TheVariants as value
 use Rattle.wf_model.specs.Config.{Awake, Call, Do, Item, LogEntry, Returned, To}
 use Rattle.wf_model.specs.Local.{Local, settle}
 use Rattle.wf_model.specs.Run.{initial, main_local, main_steps, main_vars}
 use Rattle.wf_moves.specs.declared.task.Task.{Task}
 use Rattle.wf_scope.specs.Store.{layers_of}
-use Rattle.wf_scope.specs.Tasks.{own_layers}
+use Rattle.wf_frames.specs.Tasks.{own_layers}
 use Rattle.wf_scope.specs.declared.scopes.Scopes.{Scopes}
-use Rattle.wf_shared.specs.Events.{Start}
+use Rattle.wf_value.specs.Events.{Start}
 use Rattle.wf_value.specs.Data.{Data, null}
 
 -- a control in which something is left

@@ -10,18 +10,18 @@ use Rattle.wf_ast.specs.Func.{AwaitCallback, CreateEndpoint, HttpCall, Listing, 
 use Rattle.wf_ast.specs.Tree.{Flow}
 use Rattle.wf_callbacks.specs.Plain.{plain_method}
 use Rattle.wf_machine.specs.Main.{Says}
-use Rattle.wf_library.specs.Functions.{Callable, callable, function_of}
-use Rattle.wf_library.specs.declared.functions.Function.{Function}
+use Rattle.wf_ast.specs.Functions.{Callable, callable, function_of}
+use Rattle.wf_ast.specs.declared.functions.Function.{Function}
 use Rattle.wf_model.specs.Calls.{http_method}
-use Rattle.wf_nodes.specs.Spots.{FlowAt, Spot, flow_spots, flows_spots, spot, spot_part, spots, steps_size}
-use Rattle.wf_shared.specs.Events.{Method}
-use Rattle.wf_shared.specs.HttpUrl.{first_of_two}
-use Rattle.wf_nodes.specs.declared.node.Node.{Node}
-use Rattle.wf_steps.specs.Built.{AreTargets, IsAsked, IsTarget, IsWorkflow, flow_part, function_parts, listed, nap_special}
-use Rattle.wf_steps.specs.declared.target.Nap.{Nap}
-use Rattle.wf_steps.specs.declared.target.Nap.TheVariants as nap
-use Rattle.wf_steps.specs.declared.target.Target.{Target}
-use Rattle.wf_steps.specs.declared.target.Target.TheVariants as target
+use Rattle.wf_model.specs.Spots.{FlowAt, Spot, flow_spots, flows_spots, spot, spot_part, spots, steps_size}
+use Rattle.wf_value.specs.Events.{Method}
+use Rattle.wf_value.specs.HttpUrl.{first_of_two}
+use Rattle.wf_model.specs.declared.node.Node.{Node}
+use Rattle.wf_frames.specs.Built.{AreTargets, IsAsked, IsTarget, IsWorkflow, flow_part, function_parts, listed, nap_special}
+use Rattle.wf_frames.specs.declared.target.Nap.{Nap}
+use Rattle.wf_frames.specs.declared.target.Nap.TheVariants as nap
+use Rattle.wf_frames.specs.declared.target.Target.{Target}
+use Rattle.wf_frames.specs.declared.target.Target.TheVariants as target
 use Rattle.wf_table.proofs.Sizes.{steps_long}
 use Rattle.wf_table.specs.Built.{flow_number}
 use Rattle.wf_value.specs.Pairs.{Text}

@@ -33,8 +33,8 @@ use Rattle.wf_moves.specs.Waits.{call_in, is_awake_in, wait_view}
 use Rattle.wf_moves.specs.declared.task.Task.{Task}
 use Rattle.wf_moves.specs.declared.wait.Wait.{Wait}
 use Rattle.wf_moves.specs.declared.wait.Wait.TheVariants as wait
-use Rattle.wf_nodes.specs.Spots.{spots}
-use Rattle.wf_shared.specs.Events.{Event}
+use Rattle.wf_model.specs.Spots.{spots}
+use Rattle.wf_value.specs.Events.{Event}
 use Rattle.wf_value.specs.Pairs.{Text}
 
 -- ## The choice

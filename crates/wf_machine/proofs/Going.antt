@@ -34,7 +34,7 @@ use Rattle.wf_moves.specs.Waits.{result_in, task_local}
 use Rattle.wf_moves.specs.declared.task.Move.{Move}
 use Rattle.wf_moves.specs.declared.task.Task.{Task}
 use Rattle.wf_scope.specs.declared.scopes.Scopes.{Scopes}
-use Rattle.wf_shared.specs.Events.{Event}
+use Rattle.wf_value.specs.Events.{Event}
 
 -- what a step sees: the machine's facts at a reading, behind the last one, where so many calls were made and so much was logged
 abbrev pub facts_at : Machine → (now last calls logged : ℕ) → Facts

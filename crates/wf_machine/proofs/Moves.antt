@@ -26,9 +26,9 @@ use Rattle.wf_moves.specs.declared.logging.Behind.TheVariants as behind
 use Rattle.wf_moves.specs.declared.task.Move.{Move}
 use Rattle.wf_moves.specs.declared.task.Move.TheVariants as did
 use Rattle.wf_moves.specs.declared.task.Task.{Task}
-use Rattle.wf_nodes.specs.declared.node.Node.{Node}
+use Rattle.wf_model.specs.declared.node.Node.{Node}
 use Rattle.wf_scope.specs.declared.scopes.Scopes.{Scopes}
-use Rattle.wf_shared.specs.HttpRequest.{Request}
+use Rattle.wf_value.specs.HttpRequest.{Request}
 use Rattle.wf_value.specs.Data.{Data, depth}
 use Rattle.wf_value.specs.Plain.{plain}
 use Rattle.wf_value.specs.declared.Severity.{Severity}

@@ -37,10 +37,10 @@ use Rattle.wf_model.specs.Law.{NeverWrong}
 use Rattle.wf_model.specs.Step.{next}
 use Rattle.wf_moves.specs.Waits.{CanGoOn, is_awake_in}
 use Rattle.wf_moves.specs.declared.task.Task.{Task}
-use Rattle.wf_nodes.proofs.Told.{resolves}
-use Rattle.wf_nodes.specs.Spots.{spots}
-use Rattle.wf_shared.specs.Events.{Event}
-use Rattle.wf_steps.specs.Built.{Tells, is_table_built}
+use Rattle.wf_model.proofs.Told.{resolves}
+use Rattle.wf_model.specs.Spots.{spots}
+use Rattle.wf_value.specs.Events.{Event}
+use Rattle.wf_frames.specs.Built.{Tells, is_table_built}
 
 -- what has no outcome runs
 pub running_of : (e : Ending) → outcome_by e ≡ Active → e ≡ ending.Running

@@ -9,18 +9,18 @@ use Rattle.wf_frames.specs.Standing.{AllStandAt, StandsAt, steps_of}
 use Rattle.wf_frames.specs.declared.frames.Frame.{Frame}
 use Rattle.wf_frames.specs.declared.frames.Frame.TheVariants as frame
 use Rattle.wf_model.specs.Config.{Do, Entries, Item}
-use Rattle.wf_steps.proofs.Advancing.{entries_next, from_next, step_within}
-use Rattle.wf_steps.proofs.Parts.{entries_is, list_is, never_parallel, part_is}
+use Rattle.wf_frames.proofs.Advancing.{entries_next, from_next, step_within}
+use Rattle.wf_frames.proofs.Parts.{entries_is, list_is, never_parallel, part_is}
 use Rattle.wf_machine.proofs.Calls.{plain_target}
-use Rattle.wf_steps.specs.Built.{AreTargets, Tells}
-use Rattle.wf_steps.specs.declared.target.Target.{Target}
+use Rattle.wf_frames.specs.Built.{AreTargets, Tells}
+use Rattle.wf_frames.specs.declared.target.Target.{Target}
 use Rattle.wf_moves.specs.Going.{GoesOn, Going}
-use Rattle.wf_nodes.specs.Kinds.{Listed, kind_by}
-use Rattle.wf_nodes.specs.Spots.{Spot, from, part_at, part_body, part_list}
-use Rattle.wf_nodes.specs.Table.{part_by}
-use Rattle.wf_nodes.specs.declared.node.Node.{Node}
-use Rattle.wf_nodes.specs.declared.node.NodeKind.{NodeKind}
-use Rattle.wf_nodes.specs.declared.node.NodeKind.TheVariants as kind
+use Rattle.wf_model.specs.NodeKinds.{Listed, kind_by}
+use Rattle.wf_model.specs.Spots.{Spot, from, part_at, part_body, part_list}
+use Rattle.wf_model.specs.Table.{part_by}
+use Rattle.wf_model.specs.declared.node.Node.{Node}
+use Rattle.wf_model.specs.declared.node.NodeKind.{NodeKind}
+use Rattle.wf_model.specs.declared.node.NodeKind.TheVariants as kind
 
 -- whatever the frames
 pub are_plain : (ns : List Spot) (fs : List Frame) → ArePlain (control ns fs)

@@ -2,8 +2,8 @@
 use Rattle.std.proofs.Common.{◌≡◌, ◌≤◌, ℕ, Bool, true, false, Result, Ok, Err, refl, subst, arith}
 use Rattle.std.specs.Prelude.{◌&&◌, if◌then◌else◌, nat_le, nat_lt}
 use Rattle.std.proofs.lemmas.Bool.{leb-true}
-use Rattle.wf_shared.specs.Events.{Reply, Response, Broken, TooLong}
-use Rattle.wf_shared.specs.HttpText.{body_value, header_map, reply_result, response_result, result_map}
+use Rattle.wf_value.specs.Events.{Reply, Response, Broken, TooLong}
+use Rattle.wf_value.specs.HttpText.{body_value, header_map, reply_result, response_result, result_map}
 use Rattle.wf_value.specs.Data.{Data, depth, map, size}
 use Rattle.wf_value.specs.Errors.{Answer, as_result, error_map, http_error, nested_error}
 use Rattle.wf_value.specs.Plain.{plain}

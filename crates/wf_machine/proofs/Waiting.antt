@@ -18,8 +18,8 @@ use Rattle.wf_moves.specs.Waits.{CanGoOn, GoesFrom, call_in, is_at_try, is_awake
 use Rattle.wf_moves.specs.declared.task.Task.{Task}
 use Rattle.wf_moves.specs.declared.wait.Wait.{Wait}
 use Rattle.wf_moves.specs.declared.wait.Wait.TheVariants as wait
-use Rattle.wf_nodes.specs.Spots.{Spot}
-use Rattle.wf_nodes.specs.declared.node.Node.{Node}
+use Rattle.wf_model.specs.Spots.{Spot}
+use Rattle.wf_model.specs.declared.node.Node.{Node}
 
 -- ## Awake
 goes_from : (nodes : List Node) (fs : List Frame) (w : Wait) → is_awake_in w ≡ true → Going nodes fs → GoesFrom nodes w fs

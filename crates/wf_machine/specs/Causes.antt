@@ -29,7 +29,7 @@ use Rattle.wf_moves.specs.Stepped.{stepped}
 use Rattle.wf_moves.specs.Waits.{answer_view, call_in, is_awake_in, moment_in, result_in}
 use Rattle.wf_moves.specs.declared.sending.Sending.{Sending}
 use Rattle.wf_moves.specs.declared.task.Task.{Task}
-use Rattle.wf_shared.specs.Events.{Event}
+use Rattle.wf_value.specs.Events.{Event}
 use Rattle.wf_value.specs.Data.{depth}
 use Rattle.wf_value.specs.Errors.{error_map}
 use Rattle.wf_value.specs.Pairs.{Text}

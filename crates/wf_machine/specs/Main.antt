@@ -39,20 +39,20 @@ use Rattle.wf_moves.specs.declared.task.Task.{Task}
 use Rattle.wf_value.specs.Data.{Data, depth}
 use Rattle.wf_value.specs.Pairs.{Text}
 use Rattle.wf_value.specs.Plain.{plain}
-use Rattle.wf_nodes.specs.Sets.{Part-set}
-use Rattle.wf_library.specs.declared.functions.Function.{Function}
-use Rattle.wf_nodes.specs.Spots.{Spot, part_at, spots}
-use Rattle.wf_nodes.specs.declared.node.CallNode.{CallNode}
-use Rattle.wf_nodes.specs.declared.node.Node.{Node}
-use Rattle.wf_nodes.specs.declared.node.NodeKind.TheVariants as kind
-use Rattle.wf_nodes.specs.declared.node.TryNode.{TryNode}
+use Rattle.wf_model.specs.Sets.{Part-set}
+use Rattle.wf_ast.specs.declared.functions.Function.{Function}
+use Rattle.wf_model.specs.Spots.{Spot, part_at, spots}
+use Rattle.wf_model.specs.declared.node.CallNode.{CallNode}
+use Rattle.wf_model.specs.declared.node.Node.{Node}
+use Rattle.wf_model.specs.declared.node.NodeKind.TheVariants as kind
+use Rattle.wf_model.specs.declared.node.TryNode.{TryNode}
 use Rattle.wf_scope.specs.Store.{layers_of}
-use Rattle.wf_scope.specs.Tasks.{own_layers}
+use Rattle.wf_frames.specs.Tasks.{own_layers}
 use Rattle.wf_scope.specs.declared.scopes.Scopes.{Scopes}
-use Rattle.wf_steps.specs.Built.{AreTargets, IsAsked, IsFunction, IsHttp, IsLog, IsNap, IsTarget, IsWorkflow, flow_part, function_parts, listed, nap_special}
-use Rattle.wf_steps.specs.declared.target.Nap.{Nap}
-use Rattle.wf_steps.specs.declared.target.Target.{Target}
-use Rattle.wf_steps.specs.declared.target.Target.TheVariants as target
+use Rattle.wf_frames.specs.Built.{AreTargets, IsAsked, IsFunction, IsHttp, IsLog, IsNap, IsTarget, IsWorkflow, flow_part, function_parts, listed, nap_special}
+use Rattle.wf_frames.specs.declared.target.Nap.{Nap}
+use Rattle.wf_frames.specs.declared.target.Target.{Target}
+use Rattle.wf_frames.specs.declared.target.Target.TheVariants as target
 
 -- the workflows of its program and their parts, no layer outside, and the limit of the first rules
 abbrev pub around : Program → Around

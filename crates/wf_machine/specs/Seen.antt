@@ -18,7 +18,7 @@ use Rattle.wf_model.specs.Ready.{is_by}
 use Rattle.wf_moves.specs.Waits.{call_in, is_awake_in, wait_view}
 use Rattle.wf_moves.specs.declared.task.Task.{Task}
 use Rattle.wf_scope.specs.Store.{layers_of}
-use Rattle.wf_scope.specs.Tasks.{own_layers}
+use Rattle.wf_frames.specs.Tasks.{own_layers}
 
 -- its program, the configuration that it stands in, and whether it is broken
 abbrev pub state_of : Machine → State

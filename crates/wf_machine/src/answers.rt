@@ -5,7 +5,7 @@ ghost use Rattle.wf_machine.specs.Applied.{Applied};
 ghost use Rattle.wf_machine.specs.Seen.{DuesBy, DuesNot, rest_by, state_of, wait_by};
 ghost use Rattle.wf_model.specs.Ready.{is_by, quiet};
 ghost use Rattle.wf_record_parts.specs.View.{reply_view};
-ghost use Rattle.wf_shared.specs.Events.{Event as AnyEvent};
+ghost use Rattle.wf_value.specs.Events.{Event as AnyEvent};
 
 use crate::events::ApplyFault;
 use crate::machine::{Machine, Tally};

@@ -5,7 +5,7 @@ ghost use Rattle.wf_check.specs.Seen.{nodes_of, program_of};
 ghost use Rattle.wf_events.specs.View.{start_view};
 ghost use Rattle.wf_machine.specs.Facts.{facts_of, facts_view};
 ghost use Rattle.wf_machine.specs.Main.{Aims, Begins, IsStanding};
-ghost use Rattle.wf_steps.specs.Built.{is_table_built};
+ghost use Rattle.wf_frames.specs.Built.{is_table_built};
 
 use crate::argument::argument_of;
 use crate::facts::Facts;
@@ -14,9 +14,9 @@ use crate::task::first_task;
 use std::alloc::Global;
 use wf_check::Checked;
 use wf_events::Start;
+use wf_frames::{Target, are_built};
 use wf_moves::Task;
 use wf_scope::Scopes;
-use wf_steps::{Target, are_built};
 use wf_value::OutOfMemory;
 
 /// What all variables together may come to, under the first rules.

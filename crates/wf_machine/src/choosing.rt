@@ -5,13 +5,13 @@ ghost use Rattle.wf_machine.specs.Seen.{state_of};
 ghost use Rattle.wf_model.specs.Choose.{choose, wanted};
 ghost use Rattle.wf_model.specs.Config.{Config, To};
 ghost use Rattle.wf_model.specs.Step.{next};
-ghost use Rattle.wf_steps.specs.Kinds.{kind_view};
+ghost use Rattle.wf_frames.specs.Kinds.{kind_view};
 
 use crate::machine::Machine;
 use wf_alone::laws_of_waiting;
 use wf_events::Event;
+use wf_frames::Kind;
 use wf_never_wrong::never_wrong;
-use wf_steps::Kind;
 
 /// The event of a step of `main` of this kind, at a reading where it takes one.
 fn step_event(kind: Kind, reading: u64) -> Event

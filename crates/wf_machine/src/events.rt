@@ -12,7 +12,7 @@ use crate::machine::Machine;
 use crate::steps::Steps;
 use std::sync::ledger::Ledger;
 use wf_events::Event;
-use wf_steps::Kind;
+use wf_frames::Kind;
 use wf_value::OutOfMemory;
 
 /// An event that wasn't applied.

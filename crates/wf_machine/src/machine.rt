@@ -6,7 +6,7 @@ ghost use Rattle.wf_check.specs.Seen.{nodes_of, program_of};
 ghost use Rattle.wf_machine.specs.Main.{Aims, Aims-prop, IsStanding, IsStanding-prop, config_of};
 ghost use Rattle.wf_machine.specs.State.{outcome_by, outcome_depth};
 ghost use Rattle.wf_machine.specs.declared.ending.Ending.TheVariants.{Running};
-ghost use Rattle.wf_steps.specs.Built.{is_table_built};
+ghost use Rattle.wf_frames.specs.Built.{is_table_built};
 
 use crate::beginning::beginning_of;
 use crate::ending::{Ending, Outcome};
@@ -18,10 +18,10 @@ use wf_ast::Program;
 use wf_calls::{Calls, numbers_are_those_of_steps};
 use wf_check::Checked;
 use wf_events::Start;
+use wf_frames::Target;
 use wf_http_ask::Request;
 use wf_moves::Task;
 use wf_scope::Scopes;
-use wf_steps::Target;
 use wf_value::{OutOfMemory, Severity, Value};
 
 /// What events count: the last reading of the clock, in milliseconds since 1970; the counted events; and the bytes of the bodies of all

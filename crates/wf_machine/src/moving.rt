@@ -5,15 +5,15 @@ ghost use Rattle.wf_machine.specs.Applied.{Applied};
 ghost use Rattle.wf_machine.specs.Causes.{Comes, Stops};
 ghost use Rattle.wf_machine.specs.Seen.{StepsBy, StepsNot, WantsNot, last_by, state_of};
 ghost use Rattle.wf_model.specs.Choose.{wanted};
-ghost use Rattle.wf_shared.specs.Events.{Event as AnyEvent};
-ghost use Rattle.wf_steps.specs.Kinds.{kind_view};
+ghost use Rattle.wf_value.specs.Events.{Event as AnyEvent};
+ghost use Rattle.wf_frames.specs.Kinds.{kind_view};
 
 use crate::ending::{Ending, ending_of};
 use crate::events::ApplyFault;
 use crate::machine::{Machine, Tally};
 use crate::task::{Cause, go_on, kind_of};
+use wf_frames::Kind;
 use wf_never_wrong::never_wrong;
-use wf_steps::Kind;
 use wf_value::{Tag, error_map};
 
 /// The counted event with this number isn't carried out: it ends the execution with a `ResourceLimitError`.

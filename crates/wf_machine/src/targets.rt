@@ -7,16 +7,15 @@ ghost use Rattle.wf_check.specs.Seen.{nodes_of, program_of};
 ghost use Rattle.wf_ast.specs.declared.policy.Policy as declared;
 ghost use Rattle.wf_ast.specs.declared.policy.Predicate.TheVariants as predicate;
 ghost use Rattle.wf_machine.specs.Main.{Aims, Says};
-ghost use Rattle.wf_nodes.specs.Spots.{Spot, spots};
-ghost use Rattle.wf_steps.specs.Built.{IsAsked, IsTarget, IsWorkflow};
+ghost use Rattle.wf_model.specs.Spots.{Spot, spots};
+ghost use Rattle.wf_frames.specs.Built.{IsAsked, IsTarget, IsWorkflow};
 ghost use Rattle.wf_value.specs.Pairs.{Text};
 
 use std::alloc::Global;
-use wf_ast::{Policy, Predicate};
+use wf_ast::{Policy, Predicate, function_named};
 use wf_check::Checked;
-use wf_library::function_named;
-use wf_nodes::{Node, NodeKind};
-use wf_steps::{Target, http_named, nap_named};
+use wf_frames::{Target, http_named, nap_named};
+use wf_model::{Node, NodeKind};
 use wf_value::OutOfMemory;
 
 /// What each call names, at the call's own number, and the workflow of each predicate, at that of its `try`; none where a call names

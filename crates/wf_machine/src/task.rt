@@ -14,18 +14,18 @@ ghost use Rattle.wf_model.specs.Kinds.{next_kind};
 ghost use Rattle.wf_model.specs.Local.{Scene};
 ghost use Rattle.wf_moves.specs.Tasks.{IsFirst, MovesSo, Stays};
 ghost use Rattle.wf_moves.specs.Waits.{CanGoOn, result_in, task_local};
-ghost use Rattle.wf_nodes.specs.Spots.{spots};
-ghost use Rattle.wf_steps.specs.Built.{AreTargets, Tells};
-ghost use Rattle.wf_steps.specs.Kinds.{kind_view};
+ghost use Rattle.wf_model.specs.Spots.{spots};
+ghost use Rattle.wf_frames.specs.Built.{AreTargets, Tells};
+ghost use Rattle.wf_frames.specs.Kinds.{kind_view};
 ghost use Rattle.wf_value.specs.Plain as values;
 
 use crate::facts::Facts;
 use std::alloc::Global;
 use wf_calls::{Calls, Closed};
 use wf_check::Checked;
+use wf_frames::{Kind, Target};
 use wf_moves::{Move, Task};
 use wf_scope::Scopes;
-use wf_steps::{Kind, Target};
 use wf_value::{OutOfMemory, Value};
 
 /// `main` before its first step, with its parameter bound to the argument if it has one; or none where it has no steps. An argument past

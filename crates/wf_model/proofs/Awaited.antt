@@ -18,10 +18,10 @@ use Rattle.wf_model.specs.RunLaws.{RisesFrom}
 use Rattle.wf_model.specs.Step.{stopped, one_more, counted, read_at, close, replied, replied_to, timed_out, begun, new_task, fresh, starts, starts_turn, starts_work, begins_by, when, wants, same_kind, for_task, bodies_left, waits_for, waiting_in, result_of, taken_by, visited, by_event, step_from, next}
 use Rattle.wf_model.specs.Taken.{scene, local, put_outer, put_back, layer_at, joined, put_error, without_task, finish, outcome_of, done, merged, by_itself}
 use Rattle.wf_model.specs.WaitLaws.{Info, info, info_at, Sound as Good, Awaited, CallsAreAwaited, RootLives, WaitingHasADue, QuietHasADue, SoundAtFirst, StepsStaySound, SoundIsAwaited}
-use Rattle.wf_shared.specs.Events.{Visitor, Reply, Event, Start}
-use Rattle.wf_shared.specs.HttpRequest.{Request}
-use Rattle.wf_shared.specs.HttpText.{reply_result, visit_result, reply_length}
-use Rattle.wf_shared.specs.Queues.{ArriveFault, arrive_fault}
+use Rattle.wf_value.specs.Events.{Visitor, Reply, Event, Start}
+use Rattle.wf_value.specs.HttpRequest.{Request}
+use Rattle.wf_value.specs.HttpText.{reply_result, visit_result, reply_length}
+use Rattle.wf_value.specs.Queues.{ArriveFault, arrive_fault}
 use Rattle.wf_value.specs.Data.{Data, null, Pairs, no_pairs}
 use Rattle.wf_value.specs.Decode.{json_value}
 use Rattle.wf_value.specs.Errors.{error_map, Answer}

@@ -13,7 +13,7 @@ use Rattle.wf_model.specs.Run.{empty, initial, run_on, main_steps, main_local}
 use Rattle.wf_model.specs.Step.{next, step_from}
 use Rattle.wf_value.specs.Data.{null}
 use Rattle.wf_value.specs.Decode.{json_value}
-use Rattle.wf_shared.specs.Events.{Event, Start}
+use Rattle.wf_value.specs.Events.{Event, Start}
 
 -- the moves of a step from below the limit
 module _ (b c : Config) (below : b.moves < move_limit) where

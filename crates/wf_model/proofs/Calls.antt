@@ -15,12 +15,12 @@ use Rattle.wf_model.specs.Run.{run_on, run}
 use Rattle.wf_model.specs.RunLaws.{OnlyClose, StepsOnlyCloseCalls, RequestsStay}
 use Rattle.wf_model.specs.Step.{stopped, replied, replied_to, one_more, counted, read_at, close, timed_out, begins_by, wants, bodies_left, by_event, step_from, next}
 use Rattle.wf_model.specs.Taken.{by_itself}
-use Rattle.wf_shared.specs.Events.{Event, Reply}
-use Rattle.wf_shared.specs.HttpText.{reply_result, reply_length}
+use Rattle.wf_value.specs.Events.{Event, Reply}
+use Rattle.wf_value.specs.HttpText.{reply_result, reply_length}
 use Rattle.wf_value.specs.Errors.{error_map}
 use Rattle.wf_value.specs.declared.Tag.TheVariants.{ResourceLimitError}
-use Rattle.wf_shared.specs.HttpRequest.{Request}
-use Rattle.wf_shared.specs.Queues.{arrive_fault}
+use Rattle.wf_value.specs.HttpRequest.{Request}
+use Rattle.wf_value.specs.Queues.{arrive_fault}
 
 -- ## Lists of calls
 closes_same : (xs : List Call) → OnlyClose xs xs

@@ -9,8 +9,8 @@ use Rattle.wf_model.specs.Choose.{wanted, first_due, first_begin, first_ready, n
 use Rattle.wf_model.specs.Config.{Outcome, Active, Returned, Raised, Cancelled, Task, Config}
 use Rattle.wf_model.specs.Kinds.{NextKind, Plainly, ByClock, ByCall, next_kind}
 use Rattle.wf_model.specs.Ready.{is_ready, may_begin, is_due, none_goes_on, quiet}
-use Rattle.wf_shared.specs.Events.{Event}
-use Rattle.wf_shared.specs.HttpUrl.{first_of_two}
+use Rattle.wf_value.specs.Events.{Event}
+use Rattle.wf_value.specs.HttpUrl.{first_of_two}
 
 -- ## Truth values and options
 false_is_not_true : false ≡ true → ⊥

@@ -14,8 +14,8 @@ use Rattle.wf_model.specs.RunLaws.{Counts, StepsCount, NothingFollowsAnOutcome}
 use Rattle.wf_model.specs.Step.{stopped, one_more, counted, read_at, close, timed_out, begins_by, when, wants, bodies_left, by_event, step_from, next}
 use Rattle.wf_model.specs.Taken.{by_itself}
 use Rattle.wf_value.specs.Data.{Data}
-use Rattle.wf_shared.specs.Events.{Event}
-use Rattle.wf_shared.specs.Queues.{arrive_fault}
+use Rattle.wf_value.specs.Events.{Event}
+use Rattle.wf_value.specs.Queues.{arrive_fault}
 
 -- ## The facts, the last reading and the moves stay in each part of an event
 abbrev pub Same : Config → Config → Type 0

@@ -16,8 +16,8 @@ use Rattle.wf_model.specs.Step.{stopped, read_at, close, replied, replied_to, wh
 use Rattle.wf_model.specs.Taken.{scene, local, done, merged, by_itself}
 use Rattle.wf_model.specs.Unwind.{Judgement, Says, Asks, judged, retried, excepted, handled, called, asked_one, asks, decided, policy_of, unwind, calls_in}
 use Rattle.wf_model.specs.WaitLaws.{AnswersLead}
-use Rattle.wf_shared.specs.Events.{Reply, Event}
-use Rattle.wf_shared.specs.HttpText.{reply_result, reply_length}
+use Rattle.wf_value.specs.Events.{Reply, Event}
+use Rattle.wf_value.specs.HttpText.{reply_result, reply_length}
 use Rattle.wf_value.specs.Data.{Data, Pairs}
 use Rattle.wf_value.specs.Errors.{error_map, Answer}
 use Rattle.wf_value.specs.declared.Tag.TheVariants.{RecursionError}

@@ -16,9 +16,9 @@ use Rattle.wf_model.specs.Leave.{raises, on, on_assigned, gives, handed, given_t
 use Rattle.wf_model.specs.Local.{Local, Root, Main, Branch, Iteration, Scene, Sends, Creates, Logs, Moved, Goes, Ends, Does, Breaks, Not, leave, settle, ended, goes, waits}
 use Rattle.wf_model.specs.Move.{then_item, entered, assigns, chosen, in_arm, over, work, forks, join_error, joins, raised, loop_names, loop_steps, turns, performs, steps_on, moves, move, issues, issue, awake, resumed, retries, timeout_error, due_by, due}
 use Rattle.wf_model.specs.Unwind.{Judgement, Says, Asks, judged, retried, excepted, handled, called, asked_one, asks, decided, policy_of, unwind, answered, from_step, Found, Stands, AtEnd, NotFound, cut_at, to_step, to_loop, to_back, calls_in}
-use Rattle.wf_shared.specs.Events.{Visitor, Method}
-use Rattle.wf_shared.specs.HttpRequest.{Request, asked, request}
-use Rattle.wf_shared.specs.HttpText.{visit_result}
+use Rattle.wf_value.specs.Events.{Visitor, Method}
+use Rattle.wf_value.specs.HttpRequest.{Request, asked, request}
+use Rattle.wf_value.specs.HttpText.{visit_result}
 use Rattle.wf_value.specs.Data.{Data, boolean, null, Pairs}
 use Rattle.wf_value.specs.Errors.{error_map, Answer, ◌>>=◌, kept}
 use Rattle.wf_value.specs.declared.Tag.TheVariants.{ParallelNestingError, RecursionError}

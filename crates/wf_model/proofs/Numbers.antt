@@ -18,9 +18,9 @@ use Rattle.wf_model.specs.Taken.{scene, local, put_outer, put_back, layer_at, jo
 use Rattle.wf_value.specs.Data.{Data, null, Pairs, no_pairs}
 use Rattle.wf_value.specs.Decode.{json_value}
 use Rattle.wf_value.specs.Errors.{error_map, Answer}
-use Rattle.wf_shared.specs.Events.{Visitor, Reply, Event, Start}
-use Rattle.wf_shared.specs.HttpText.{reply_result, visit_result, reply_length}
-use Rattle.wf_shared.specs.Queues.{ArriveFault, arrive_fault}
+use Rattle.wf_value.specs.Events.{Visitor, Reply, Event, Start}
+use Rattle.wf_value.specs.HttpText.{reply_result, visit_result, reply_length}
+use Rattle.wf_value.specs.Queues.{ArriveFault, arrive_fault}
 
 pub some_case : {A B : Type 0} (P : B → Type 0) (o : Option A) (x : B) (f : A → B) → P x → ((t : A) → o ≡ Some t → P (f t)) → P (elim o [ None ↦ x | Some t ↦ f t ])
 some_case P None x f h k = h

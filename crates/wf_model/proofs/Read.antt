@@ -14,9 +14,9 @@ use Rattle.wf_model.specs.ReadingLaws.{StepsRead, IsFromInside, ChosenIsFromInsi
 use Rattle.wf_model.specs.Ready.{call, is_due, may_begin}
 use Rattle.wf_model.specs.Step.{stopped, one_more, counted, read_at, timed_out, begins_by, wants, bodies_left, by_event, step_from, next}
 use Rattle.wf_model.specs.Taken.{by_itself}
-use Rattle.wf_shared.specs.Events.{Event}
-use Rattle.wf_shared.specs.HttpUrl.{first_of_two}
-use Rattle.wf_shared.specs.Queues.{arrive_fault}
+use Rattle.wf_value.specs.Events.{Event}
+use Rattle.wf_value.specs.HttpUrl.{first_of_two}
+use Rattle.wf_value.specs.Queues.{arrive_fault}
 
 -- ## Readings
 abbrev LastIs : ℕ → Config → Type 0

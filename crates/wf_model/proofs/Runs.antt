@@ -7,7 +7,7 @@ use Rattle.wf_model.specs.Config.{Config, After, To, Wrong, NotNow}
 use Rattle.wf_model.specs.Run.{run_on, run}
 use Rattle.wf_model.specs.RunLaws.{RunsJoin, FrontIsARun, StepGoesOn, RunsAgree, StepIsOne}
 use Rattle.wf_model.specs.Step.{next}
-use Rattle.wf_shared.specs.Events.{Event}
+use Rattle.wf_value.specs.Events.{Event}
 
 -- nothing comes behind what isn't a configuration
 from_nowhere : (p : Program) (es : List Event) → run_on p NotNow es ≡ NotNow

@@ -6,7 +6,7 @@ use mathlib.Core.Path.{refl, sym, ap, ◌∙◌}
 use Rattle.wf_model.proofs.Runs.{runs_join}
 use Rattle.wf_model.specs.Run.{run, initial, is_before, events_to}
 use Rattle.wf_model.specs.TurnLaws.{NextTurnGoesOn, LaterTurnDoesNotCount, AllTurnsAreTheRun}
-use Rattle.wf_shared.specs.Events.{Event, Turn}
+use Rattle.wf_value.specs.Events.{Event, Turn}
 
 append_none : (es : List Event) → es ++ [] ≡ es
 append_none [] = refl

@@ -12,10 +12,10 @@ use Rattle.wf_model.specs.Taken.{scene, local, put_outer, put_back, layer_at, jo
 use Rattle.wf_value.specs.Data.{Data, Pairs, no_pairs}
 use Rattle.wf_value.specs.Errors.{error_map, Answer}
 use Rattle.wf_value.specs.declared.Tag.TheVariants.{ResourceLimitError}
-use Rattle.wf_shared.specs.Events.{Visitor, Reply}
-use Rattle.wf_shared.specs.HttpRequest.{Request}
-use Rattle.wf_shared.specs.HttpText.{reply_result, visit_result, reply_length}
-use Rattle.wf_shared.specs.Queues.{Endpoint, ArriveFault}
+use Rattle.wf_value.specs.Events.{Visitor, Reply}
+use Rattle.wf_value.specs.HttpRequest.{Request}
+use Rattle.wf_value.specs.HttpText.{reply_result, visit_result, reply_length}
+use Rattle.wf_value.specs.Queues.{Endpoint, ArriveFault}
 
 -- ## Cases
 pub option_case : {A B : Type 0} (P : B → Type 0) (o : Option A) (x : B) (f : A → B) → P x → ((t : A) → P (f t)) → P (elim o [ None ↦ x | Some t ↦ f t ])

@@ -25,9 +25,9 @@ use Rattle.wf_model.specs.Step.{stopped, one_more, counted, read_at, close, repl
 use Rattle.wf_model.specs.Taken.{scene, local, put_outer, layer_at, joined, put_error, without_task, finish, done, merged, by_itself}
 use Rattle.wf_model.specs.Unwind.{Judgement, Says, Asks, judged, retried, excepted, handled, called, asked_one, asks, decided, policy_of, unwind, calls_in}
 use Rattle.wf_model.specs.WaitLaws.{Info, info, info_at, Sound, StepsStaySound}
-use Rattle.wf_shared.specs.Events.{Event, Reply, Visitor}
-use Rattle.wf_shared.specs.HttpText.{reply_length, reply_result, visit_result}
-use Rattle.wf_shared.specs.Queues.{ArriveFault, arrive_fault}
+use Rattle.wf_value.specs.Events.{Event, Reply, Visitor}
+use Rattle.wf_value.specs.HttpText.{reply_length, reply_result, visit_result}
+use Rattle.wf_value.specs.Queues.{ArriveFault, arrive_fault}
 use Rattle.wf_value.specs.Data.{Data, Pairs, null, no_pairs}
 use Rattle.wf_value.specs.Errors.{error_map, Answer}
 use Rattle.wf_value.specs.declared.Tag.TheVariants.{RecursionError}

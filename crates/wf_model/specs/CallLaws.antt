@@ -5,8 +5,8 @@ use Rattle.wf_model.specs.Config.{Active, Config, To}
 use Rattle.wf_model.specs.Ready.{request_of}
 use Rattle.wf_model.specs.Run.{run_on}
 use Rattle.wf_model.specs.Step.{next}
-use Rattle.wf_shared.specs.Events.{Event, Answer, Reply}
-use Rattle.wf_shared.specs.HttpRequest.{Request}
+use Rattle.wf_value.specs.Events.{Event, Answer, Reply}
+use Rattle.wf_value.specs.HttpRequest.{Request}
 
 -- events only close calls, and new ones come behind them
 abbrev pub CallsGoOn : Type 0

@@ -17,12 +17,12 @@ use Rattle.wf_model.specs.Unwind.{calls_in}
 use Rattle.wf_value.specs.Data.{Data, null, integer, text, map, Pairs, no_pairs, pair, size}
 use Rattle.wf_value.specs.Errors.{error_map, Answer, ◌>>=◌, or_error, kept, later}
 use Rattle.wf_value.specs.declared.Tag.TheVariants.{RecursionError, ResourceLimitError, TypeError, ValueError}
-use Rattle.wf_shared.specs.Events.{Method, Post, method_named, Visitor, severity_named}
+use Rattle.wf_value.specs.Events.{Method, Post, method_named, Visitor, severity_named}
 use Rattle.wf_value.specs.declared.Severity.{Severity}
-use Rattle.wf_shared.specs.HttpRequest.{as_text, as_whole, whole_between, asked, Request, request}
-use Rattle.wf_shared.specs.HttpText.{visit_result, callback_url}
-use Rattle.wf_shared.specs.HttpUrl.{first_of_two}
-use Rattle.wf_shared.specs.LibTime.{parsed_time}
+use Rattle.wf_value.specs.HttpRequest.{as_text, as_whole, whole_between, asked, Request, request}
+use Rattle.wf_value.specs.HttpText.{visit_result, callback_url}
+use Rattle.wf_value.specs.HttpUrl.{first_of_two}
+use Rattle.wf_value.specs.LibTime.{parsed_time}
 use Rattle.wf_value.specs.Pairs.{Text, get, keys}
 
 -- ## Workflows

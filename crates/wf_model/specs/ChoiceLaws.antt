@@ -4,7 +4,7 @@ use Rattle.wf_ast.specs.Tree.{Program}
 use Rattle.wf_model.specs.Choose.{choose}
 use Rattle.wf_model.specs.Config.{Active, Config}
 use Rattle.wf_model.specs.Ready.{quiet}
-use Rattle.wf_shared.specs.Events.{Event}
+use Rattle.wf_value.specs.Events.{Event}
 
 -- without an outcome nothing is chosen exactly where the configuration is quiet at the reading
 abbrev pub NothingIsChosenWhenQuiet : Type 0

@@ -6,8 +6,8 @@ use Rattle.wf_ast.specs.Tree.{Program}
 use Rattle.wf_model.specs.Config.{Task, Active, Config}
 use Rattle.wf_model.specs.Kinds.{NextKind, Plainly, ByClock, ByCall, next_kind}
 use Rattle.wf_model.specs.Ready.{is_ready, may_begin, is_due}
-use Rattle.wf_shared.specs.Events.{Event}
-use Rattle.wf_shared.specs.HttpUrl.{first_of_two}
+use Rattle.wf_value.specs.Events.{Event}
+use Rattle.wf_value.specs.HttpUrl.{first_of_two}
 
 -- the event that a ready task's next step wants
 abbrev pub wanted : NextKind → ℕ → ℕ → Event

@@ -7,11 +7,11 @@ use Rattle.std.specs.Prelude.{ℕ, Bool, true, false, List, [], ◌∷◌, ℤ, 
 use Rattle.wf_ast.specs.Accept.{Kind, rules}
 use Rattle.wf_ast.specs.Tree.{Entry, Steps, LoopBody, ParallelBody, Branches, no_branches, branch, TryBody}
 use Rattle.wf_value.specs.Data.{Data, integer, Pairs}
-use Rattle.wf_shared.specs.Events.{Routes}
+use Rattle.wf_value.specs.Events.{Routes}
 use Rattle.wf_value.specs.declared.Severity.{Severity}
-use Rattle.wf_shared.specs.HttpRequest.{Request}
+use Rattle.wf_value.specs.HttpRequest.{Request}
 use Rattle.wf_value.specs.Pairs.{Text}
-use Rattle.wf_shared.specs.Queues.{Endpoint}
+use Rattle.wf_value.specs.Queues.{Endpoint}
 
 -- variables by their names, and whether a workflow's call opened the layer
 pub record Layer : Type 0 where

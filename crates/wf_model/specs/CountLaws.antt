@@ -7,7 +7,7 @@ use Rattle.wf_model.specs.ReadingLaws.{IsFromInside}
 use Rattle.wf_model.specs.Run.{run_on}
 use Rattle.wf_model.specs.Step.{Step}
 use Rattle.wf_model.specs.WaitLaws.{Sound}
-use Rattle.wf_shared.specs.Events.{Event}
+use Rattle.wf_value.specs.Events.{Event}
 
 -- how many due moments may come before the task makes a counted event: that of what it waits for, and that of a delay behind it
 abbrev pub weight : Wait → ℕ

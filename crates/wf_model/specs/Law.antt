@@ -4,7 +4,7 @@ use Rattle.wf_ast.specs.Accept.{Kind, Accept}
 use Rattle.wf_ast.specs.Tree.{Program}
 use Rattle.wf_model.specs.Config.{Wrong}
 use Rattle.wf_model.specs.Run.{run}
-use Rattle.wf_shared.specs.Events.{Event, Start}
+use Rattle.wf_value.specs.Events.{Event, Start}
 
 -- whatever the start and the events; wf_never_wrong carries it as a clause
 abbrev pub NeverWrong : Type 0

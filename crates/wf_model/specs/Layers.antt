@@ -10,8 +10,9 @@ use Rattle.wf_value.specs.Data.{Data, integer, text, list, map, Pairs, no_pairs,
 use Rattle.wf_value.specs.Errors.{Answer, ◌>>=◌, or_error}
 use Rattle.wf_value.specs.declared.Tag.{Tag}
 use Rattle.wf_value.specs.declared.Tag.TheVariants.{IndexError, KeyError, ResourceLimitError, TypeError}
-use Rattle.wf_shared.specs.HttpRequest.{is_among}
+use Rattle.wf_value.specs.HttpRequest.{is_among}
 use Rattle.wf_value.specs.Pairs.{Text, items, get, put}
+pub use Rattle.wf_ast.specs.Places.{written, made_new}
 
 -- ## What a task sees
 -- where a variable stands: in an own layer, in one outside, or nowhere. `above` counts the layers inside that one
@@ -60,22 +61,6 @@ abbrev pub enter : Bool → Pairs → Local → Local
 enter by_call ps l = record l { layers = record { vars = ps; by_call = by_call } ∷ l.layers }
 
 -- ## Assignments
--- The value with a new one put at the places below it. A missing last key of a map is added; another missing key, an index outside its
--- list and any other access are errors.
-abbrev pub written : List Data → Data → Data → Answer Data
-written [] v new = Ok new
-written (text k ∷ []) (map ps) new = Ok (map (put k new ps))
-written (text k ∷ ks) (map ps) new = or_error KeyError (get k ps) >>= λ w. written ks w new >>= λ u. Ok (map (put k u ps))
-written (integer (pos i) ∷ ks) (list vs) new =
-    or_error IndexError (slice_get (items vs) i) >>= λ w. written ks w new >>= λ u. Ok (list (items_of (slice_set (items vs) i u)))
-written (integer (negsuc i) ∷ ks) (list vs) new = Err IndexError
-written ks v new = Err TypeError
-
--- a variable that isn't there has no places
-abbrev pub made_new : List Data → Data → Answer Data
-made_new [] v = Ok v
-made_new (k ∷ ks) v = Err KeyError
-
 -- with the variable in the layer that stands so many further out
 abbrev pub put_layer : ℕ → Text → Data → List Layer → List Layer
 put_layer n x v [] = []

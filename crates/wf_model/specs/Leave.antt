@@ -13,7 +13,7 @@ use Rattle.wf_model.specs.Local.{Local, Root, Main, Branch, Iteration, Scene, Gi
 use Rattle.wf_model.specs.Unwind.{unwind, answered, Found, Stands, AtEnd, NotFound, to_step, to_loop, to_back}
 use Rattle.wf_value.specs.Data.{Data, null}
 use Rattle.wf_value.specs.Errors.{error_map, Answer}
-use Rattle.wf_shared.specs.HttpRequest.{is_among}
+use Rattle.wf_value.specs.HttpRequest.{is_among}
 use Rattle.wf_value.specs.Pairs.{Text}
 
 -- ## Errors and results

@@ -7,9 +7,9 @@ use Rattle.wf_ast.specs.Accept.{Kind}
 use Rattle.wf_ast.specs.Tree.{no_steps, Program}
 use Rattle.wf_model.specs.Config.{Layer, Item, Do, Entries, Try, Mark, Wait, Facts}
 use Rattle.wf_value.specs.Data.{Data, null, pairs_size}
-use Rattle.wf_shared.specs.Events.{Method, Visitor}
+use Rattle.wf_value.specs.Events.{Method, Visitor}
 use Rattle.wf_value.specs.declared.Severity.{Severity}
-use Rattle.wf_shared.specs.HttpRequest.{Request}
+use Rattle.wf_value.specs.HttpRequest.{Request}
 use Rattle.wf_value.specs.Pairs.{Text}
 
 -- a layer outside the task: in which task it stands, how many of that task's layers stand inside it, and the names that each parallel

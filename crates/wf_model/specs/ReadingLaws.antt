@@ -5,7 +5,7 @@ use Rattle.wf_model.specs.ChoiceLaws.{reading_of}
 use Rattle.wf_model.specs.Choose.{choose}
 use Rattle.wf_model.specs.Config.{Config}
 use Rattle.wf_model.specs.Step.{Step}
-use Rattle.wf_shared.specs.Events.{Event, Answer, Arrive, Cancel}
+use Rattle.wf_value.specs.Events.{Event, Answer, Arrive, Cancel}
 
 -- the event's reading becomes the last one; without one it stays
 abbrev pub StepsRead : Type 0

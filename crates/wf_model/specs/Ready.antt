@@ -6,7 +6,7 @@ use Rattle.std.specs.Prelude.{ℕ, zero, suc, min, Bool, true, false, not, ◌&&
 use Rattle.wf_ast.specs.Tree.{ParallelBody, parallel}
 use Rattle.wf_model.specs.Config.{WorkLeft, Item, Wait, Awake, Sleep, Delay, Calling, Await, Task, Call, Open, Answered, Config, running_limit, is_empty}
 use Rattle.wf_model.specs.Move.{due}
-use Rattle.wf_shared.specs.HttpRequest.{Request}
+use Rattle.wf_value.specs.HttpRequest.{Request}
 
 -- ## Ready tasks
 -- branches or iterations that haven't begun or haven't ended

@@ -7,7 +7,7 @@ use Rattle.wf_model.specs.Config.{Outcome, Returned, Cancelled, After, To, Wrong
 use Rattle.wf_model.specs.Ready.{least_due, quiet}
 use Rattle.wf_model.specs.Run.{run}
 use Rattle.wf_model.specs.Writing.{num, said, var, plus, one, sets, assigns, st, get_call, branches_of, parallel_of, try_steps, main_of, returns_error, start, step_0, plain_answer, gives_number, ending, ComesTo, MayNotCome, settles, choices, then_event, answered_in}
-use Rattle.wf_shared.specs.Events.{Event}
+use Rattle.wf_value.specs.Events.{Event}
 use Rattle.wf_value.specs.Data.{Data, text, list, map, no_items, item, no_pairs, pair}
 use Rattle.wf_value.specs.Pairs.{Text, map_of}
 

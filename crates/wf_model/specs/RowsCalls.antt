@@ -9,9 +9,9 @@ use Rattle.wf_model.specs.Run.{run_on, run}
 use Rattle.wf_model.specs.Writing.{said, var, plus, sets, st, call_of, flow_of, get_call, param, main_of, start, gives_number, raises_tag, ending, ComesTo, MayNotCome, settles, then_event}
 use Rattle.wf_value.specs.Data.{text}
 use Rattle.wf_value.specs.declared.Tag.TheVariants.{ConnectionError, ResourceLimitError, TimeoutError}
-use Rattle.wf_shared.specs.Events.{Reply, Response, Broken, TooLong, Event, Start}
-use Rattle.wf_shared.specs.HttpRequest.{Request}
-use Rattle.wf_shared.specs.HttpText.{line}
+use Rattle.wf_value.specs.Events.{Reply, Response, Broken, TooLong, Event, Start}
+use Rattle.wf_value.specs.HttpRequest.{Request}
+use Rattle.wf_value.specs.HttpText.{line}
 use Rattle.wf_value.specs.Pairs.{Text}
 
 -- ## A call whose answer's number is returned

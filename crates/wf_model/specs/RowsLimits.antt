@@ -6,7 +6,7 @@ use Rattle.wf_model.specs.Unwind.{calls_in}
 use Rattle.wf_model.specs.Run.{run_on, run}
 use Rattle.wf_model.specs.RowsRetries.{policy_of}
 use Rattle.wf_model.specs.Writing.{num, said, var, assigns, st, jump, call_of, flow_of, main_of, main_and, param, parallel_of, try_steps, returns_error, start, first_rules, step_0, moves_of, gives_number, raises_tag, ending, ComesTo, settles}
-use Rattle.wf_shared.specs.Events.{Event, Start}
+use Rattle.wf_value.specs.Events.{Event, Start}
 use Rattle.wf_value.specs.Data.{Data, list, map, no_items, item, no_pairs, pair}
 use Rattle.wf_value.specs.Errors.{error_with, error_map}
 use Rattle.wf_value.specs.Pairs.{Text}

@@ -4,7 +4,7 @@ use Rattle.std.specs.Prelude.{ℕ, List, [], ◌∷◌, ◌++◌, Some, codes}
 use Rattle.wf_ast.specs.Tree.{Expr, Whole, Predicate, Predefined, FlowNamed, Policy, Body, try, no_except, Program}
 use Rattle.wf_model.specs.Writing.{num, said, st, get_call, flow_of, main_of, main_and, param, try_steps, returns_error, step_0, moves_of, plain_answer, gives_number, gives_text, raises_tag, ComesTo, MayNotCome}
 use Rattle.wf_model.specs.Config.{Raised}
-use Rattle.wf_shared.specs.Events.{Event}
+use Rattle.wf_value.specs.Events.{Event}
 use Rattle.wf_value.specs.Data.{text}
 use Rattle.wf_value.specs.Pairs.{Text}
 use Rattle.wf_value.specs.declared.DefaultKind.TheVariants.{Idempotent}

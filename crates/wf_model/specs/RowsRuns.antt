@@ -8,7 +8,7 @@ use Rattle.wf_model.specs.Run.{run}
 use Rattle.wf_model.specs.Writing.{num, var, plus, one, sets, assigns, st, jump, call_of, flow_of, main_of, main_and, param, start, moves_of, gives_number, raises_tag, ending, ComesTo, MayNotCome}
 use Rattle.wf_value.specs.Data.{integer, text}
 use Rattle.wf_value.specs.declared.Tag.TheVariants.{KeyError, TypeError, ValueError}
-use Rattle.wf_shared.specs.Events.{Event}
+use Rattle.wf_value.specs.Events.{Event}
 use Rattle.wf_value.specs.Pairs.{Text}
 
 -- ## A return and an error

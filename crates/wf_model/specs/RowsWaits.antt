@@ -8,7 +8,7 @@ use Rattle.wf_model.specs.Writing.{num, said, var, st, call_of, main_of, start, 
 use Rattle.wf_value.specs.Data.{text}
 use Rattle.wf_value.specs.declared.Severity.{Severity}
 use Rattle.wf_value.specs.declared.Tag.TheVariants.{TimeoutError, ValueError}
-use Rattle.wf_shared.specs.Events.{Get, Post, Visitor, Event, Start}
+use Rattle.wf_value.specs.Events.{Get, Post, Visitor, Event, Start}
 use Rattle.wf_value.specs.Pairs.{Text}
 
 -- ## Logs

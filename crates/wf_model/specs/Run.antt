@@ -10,7 +10,7 @@ use Rattle.wf_model.specs.Step.{next}
 use Rattle.wf_model.specs.Taken.{merged}
 use Rattle.wf_value.specs.Data.{Data, null, Pairs, no_pairs, pair}
 use Rattle.wf_value.specs.Decode.{json_value}
-use Rattle.wf_shared.specs.Events.{Event, Turn, Start}
+use Rattle.wf_value.specs.Events.{Event, Turn, Start}
 
 -- the steps of `main`, which is the first workflow
 abbrev pub main_steps : List Flow → Steps

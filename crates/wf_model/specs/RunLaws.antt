@@ -5,8 +5,8 @@ use Rattle.wf_model.specs.Config.{Task, Call, Active, Config, After, To, NotNow,
 use Rattle.wf_model.specs.Ready.{request_in, request_of}
 use Rattle.wf_model.specs.Run.{run_on, empty, Run}
 use Rattle.wf_model.specs.Step.{next, Step}
-use Rattle.wf_shared.specs.Events.{Event, Start}
-use Rattle.wf_shared.specs.HttpRequest.{Request}
+use Rattle.wf_value.specs.Events.{Event, Start}
+use Rattle.wf_value.specs.HttpRequest.{Request}
 
 -- ## Runs in parts
 -- events lead where their front leads, and then their rest

@@ -14,10 +14,10 @@ use Rattle.wf_model.specs.Taken.{tasks_total, put_error, merged, by_itself}
 use Rattle.wf_value.specs.Data.{Data, Pairs, no_pairs}
 use Rattle.wf_value.specs.Errors.{error_map, Answer}
 use Rattle.wf_value.specs.declared.Tag.TheVariants.{ResourceLimitError}
-use Rattle.wf_shared.specs.Events.{Visitor, Reply, Event}
-use Rattle.wf_shared.specs.HttpText.{reply_result, visit_result, reply_length}
+use Rattle.wf_value.specs.Events.{Visitor, Reply, Event}
+use Rattle.wf_value.specs.HttpText.{reply_result, visit_result, reply_length}
 use Rattle.wf_value.specs.Pairs.{Text}
-use Rattle.wf_shared.specs.Queues.{ArriveFault, arrive_fault, arrived}
+use Rattle.wf_value.specs.Queues.{ArriveFault, arrive_fault, arrived}
 
 -- ## What counts
 -- the outcome that ends an execution at a limit; all else stays as it is

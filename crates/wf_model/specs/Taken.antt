@@ -8,9 +8,9 @@ use Rattle.wf_model.specs.Config.{Layer, Item, Task, Open, LogEntry, Outcome, Re
 use Rattle.wf_model.specs.Local.{Outer, Local, Root, Main, Branch, Iteration, Scene, End, Gives, Fails, Effect, Sends, Creates, Takes, Logs, Moved, Goes, Ends, Does, Breaks, Not, layers_total, outers_total}
 use Rattle.wf_model.specs.Move.{due}
 use Rattle.wf_value.specs.Data.{Data, size}
-use Rattle.wf_shared.specs.Events.{Visitor}
+use Rattle.wf_value.specs.Events.{Visitor}
 use Rattle.wf_value.specs.Pairs.{Text}
-use Rattle.wf_shared.specs.Queues.{with_queue, queue_of}
+use Rattle.wf_value.specs.Queues.{with_queue, queue_of}
 
 -- ## A task taken out of a configuration
 -- the names that the parallel step shares in which the task stands

@@ -3,7 +3,7 @@ use Rattle.std.specs.Prelude.{◌≡◌, ℕ, false, List, [], ◌∷◌, ◌++�
 use Rattle.std.specs.List.{list_all, flat_map}
 use Rattle.wf_ast.specs.Tree.{Program}
 use Rattle.wf_model.specs.Run.{run_on, run, is_before, config_at}
-use Rattle.wf_shared.specs.Events.{Turn, Start}
+use Rattle.wf_value.specs.Events.{Turn, Start}
 
 -- one more turn leads on, where it stands before that point
 abbrev pub NextTurnGoesOn : Type 0

@@ -11,7 +11,7 @@ use Rattle.wf_value.specs.Data.{Data, boolean, Pairs}
 use Rattle.wf_value.specs.Errors.{error_map, Answer, later}
 use Rattle.wf_value.specs.declared.Tag.TheVariants.{RecursionError, TypeError}
 use Rattle.wf_value.specs.Pairs.{Text}
-use Rattle.wf_shared.specs.Policies.{next_delay, default_says}
+use Rattle.wf_value.specs.Policies.{next_delay, default_says}
 
 -- ## Calls
 -- how many calls of workflows the control holds

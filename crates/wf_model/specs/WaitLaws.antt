@@ -6,8 +6,8 @@ use Rattle.wf_model.specs.Ready.{call, is_awake, least_due, quiet, stands_waitin
 use Rattle.wf_model.specs.Run.{Run, initial}
 use Rattle.wf_model.specs.RunLaws.{RisesFrom}
 use Rattle.wf_model.specs.Step.{next, Step}
-use Rattle.wf_shared.specs.Events.{Answer, Event, Reply, Start}
-use Rattle.wf_shared.specs.HttpRequest.{Request}
+use Rattle.wf_value.specs.Events.{Answer, Event, Reply, Start}
+use Rattle.wf_value.specs.HttpRequest.{Request}
 use Rattle.wf_value.specs.Pairs.{Text}
 
 -- an open call is one for which its task waits, and a task waits for none but an open call of its own

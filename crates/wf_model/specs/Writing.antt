@@ -13,7 +13,7 @@ use Rattle.wf_model.specs.Step.{next}
 use Rattle.wf_value.specs.Data.{integer, text}
 use Rattle.wf_value.specs.Errors.{error_map}
 use Rattle.wf_value.specs.declared.Tag.{Tag}
-use Rattle.wf_shared.specs.Events.{Reply, Response, Event, Start}
+use Rattle.wf_value.specs.Events.{Reply, Response, Event, Start}
 use Rattle.wf_value.specs.Pairs.{Text}
 
 -- ## Expressions

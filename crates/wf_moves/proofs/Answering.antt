@@ -8,8 +8,8 @@ use Rattle.wf_ast.specs.Func.{Listing, func_named, in_order, special_named, take
 use Rattle.wf_ast.specs.Tree.{Flow}
 use Rattle.wf_ast.specs.declared.Func.{Func}
 use Rattle.wf_eval.specs.Answers.{Gives}
-use Rattle.wf_library.specs.Functions.{signature_of}
-use Rattle.wf_library.specs.declared.functions.Function.{Function}
+use Rattle.wf_ast.specs.Functions.{signature_of}
+use Rattle.wf_ast.specs.declared.functions.Function.{Function}
 use Rattle.wf_model.specs.Calls.{calls_listed, calls_named, evaluates}
 use Rattle.wf_model.specs.Config.{Item}
 use Rattle.wf_model.specs.Layers.{view}
@@ -17,8 +17,8 @@ use Rattle.wf_model.specs.Leave.{gives, on, raises}
 use Rattle.wf_model.specs.Local.{Breaks, Local, Scene}
 use Rattle.wf_moves.specs.Moved.{IsMove}
 use Rattle.wf_moves.specs.declared.finish.Went.{Went}
-use Rattle.wf_steps.proofs.Evaluated.{failed, gave}
-use Rattle.wf_steps.specs.Built.{function_parts, listed}
+use Rattle.wf_frames.proofs.Evaluated.{failed, gave}
+use Rattle.wf_frames.specs.Built.{function_parts, listed}
 use Rattle.wf_value.specs.Data.{Data, Pairs}
 use Rattle.wf_value.specs.Errors.{Answer, ◌>>=◌, error_map, kept}
 use Rattle.wf_value.specs.Pairs.{Text, keys}

@@ -14,7 +14,7 @@ use Rattle.wf_model.specs.Layers.{Assigned, Done, Refused, Undeclared, all_share
 use Rattle.wf_model.specs.Leave.{on, on_assigned, raises}
 use Rattle.wf_model.specs.Local.{Local, Moved, Scene, goes, total}
 use Rattle.wf_model.specs.Move.{assigns}
-use Rattle.wf_steps.proofs.Evaluated.{gave, failed}
+use Rattle.wf_frames.proofs.Evaluated.{gave, failed}
 use Rattle.wf_moves.specs.Assigned.{entry_values, values_of}
 use Rattle.wf_moves.specs.Moved.{IsMove}
 use Rattle.wf_moves.specs.declared.assign.Assigned as declared

@@ -12,15 +12,15 @@ use Rattle.wf_frames.specs.Held.{Held, standing}
 use Rattle.wf_frames.specs.Turns.{Enters, with_layer}
 use Rattle.wf_moves.proofs.Starting.{flow_is, flow_list}
 use Rattle.wf_moves.specs.Tasks.{IsFlow, flow_at, part_params}
-use Rattle.wf_nodes.specs.Kinds as kinds
-use Rattle.wf_nodes.specs.Kinds.{Kind, View, node_view}
-use Rattle.wf_nodes.specs.Table.{Resolves, flow_of, outside, part_by}
-use Rattle.wf_nodes.specs.declared.node.CallNode.{CallNode}
-use Rattle.wf_nodes.specs.declared.node.Node.{Node}
-use Rattle.wf_nodes.specs.declared.node.NodeKind.TheVariants as variant
-use Rattle.wf_shared.specs.HttpUrl.{first_of_two}
-use Rattle.wf_steps.proofs.Clocked.{none_past}
-use Rattle.wf_steps.proofs.Parts.{part_is, seen_list, view_is}
+use Rattle.wf_model.specs.NodeKinds as kinds
+use Rattle.wf_model.specs.NodeKinds.{Kind, View, node_view}
+use Rattle.wf_model.specs.Table.{Resolves, flow_of, outside, part_by}
+use Rattle.wf_model.specs.declared.node.CallNode.{CallNode}
+use Rattle.wf_model.specs.declared.node.Node.{Node}
+use Rattle.wf_model.specs.declared.node.NodeKind.TheVariants as variant
+use Rattle.wf_value.specs.HttpUrl.{first_of_two}
+use Rattle.wf_frames.proofs.Clocked.{none_past}
+use Rattle.wf_frames.proofs.Parts.{part_is, seen_list, view_is}
 use Rattle.wf_scope.proofs.Writing.{pairs_listed}
 use Rattle.wf_value.specs.Maps.{value_at}
 use Rattle.wf_value.specs.Plain.{plain}
@@ -36,9 +36,9 @@ use Rattle.wf_model.specs.Local.{Local, Scene, goes}
 use Rattle.wf_model.specs.Unwind.{calls_in}
 use Rattle.wf_moves.specs.Moved.{IsMove}
 use Rattle.wf_moves.specs.declared.finish.Went.{Went}
-use Rattle.wf_nodes.specs.Spots.{FlowAt, Part, Spot, owners_at, part_at, part_list, spot_part}
-use Rattle.wf_steps.specs.Built.{IsTarget, IsWorkflow, flow_part}
-use Rattle.wf_steps.specs.declared.target.Target.{Target}
+use Rattle.wf_model.specs.Spots.{FlowAt, Part, Spot, owners_at, part_at, part_list, spot_part}
+use Rattle.wf_frames.specs.Built.{IsTarget, IsWorkflow, flow_part}
+use Rattle.wf_frames.specs.declared.target.Target.{Target}
 use Rattle.wf_value.specs.Data.{Data, Pairs, pairs_of}
 use Rattle.wf_value.specs.Errors.{error_map}
 use Rattle.wf_value.specs.declared.Tag.TheVariants.{RecursionError, ResourceLimitError}

@@ -7,9 +7,9 @@ use Rattle.wf_frames.specs.declared.frames.Frame.{Frame}
 use Rattle.wf_frames.specs.declared.frames.Frame.TheVariants as frame
 use Rattle.wf_moves.specs.Going.{GoesOn, Going}
 use Rattle.wf_moves.specs.Moved.{HasMove, IsGoing}
-use Rattle.wf_steps.specs.Steps.{IsBefore, IsBeforeEntry}
-use Rattle.wf_nodes.specs.Kinds.{Listed}
-use Rattle.wf_nodes.specs.declared.node.Node.{Node}
+use Rattle.wf_frames.specs.Steps.{IsBefore, IsBeforeEntry}
+use Rattle.wf_model.specs.NodeKinds.{Listed}
+use Rattle.wf_model.specs.declared.node.Node.{Node}
 
 module _ (nodes : List Node) where
   goes_on : (f : Frame) → HasMove nodes f → GoesOn nodes f

@@ -16,16 +16,16 @@ use Rattle.wf_model.specs.Leave.{continues, breaks, jumps, jumps_to, returns}
 use Rattle.wf_model.specs.Local.{Local, Scene, Root, Main, Branch, Iteration, Breaks, goes, leave}
 use Rattle.wf_model.specs.Unwind.{NotFound, Stands, cut_at, to_loop, to_step}
 use Rattle.wf_moves.proofs.Leaving.{stands_on, same_outside}
-use Rattle.wf_steps.proofs.Parts.{list_stands}
+use Rattle.wf_frames.proofs.Parts.{list_stands}
 use Rattle.wf_moves.specs.Moved.{FoundIn, IsLoopTop, IsMove, IsThrough, if_at, is_loop, loop_found, target}
 use Rattle.wf_moves.specs.declared.finish.Went.{Went}
 use Rattle.wf_moves.specs.declared.finish.Went.TheVariants as went
-use Rattle.wf_nodes.specs.Kinds.{Listed, node_view}
-use Rattle.wf_nodes.specs.Spots.{Spot, owners_at, part_at, part_list}
-use Rattle.wf_nodes.specs.Table as table
-use Rattle.wf_nodes.specs.Table.{Leads, NextLeads, Resolves, view_list}
-use Rattle.wf_nodes.specs.declared.node.Jump.{Jump}
-use Rattle.wf_nodes.specs.declared.node.Node.{Node}
+use Rattle.wf_model.specs.NodeKinds.{Listed, node_view}
+use Rattle.wf_model.specs.Spots.{Spot, owners_at, part_at, part_list}
+use Rattle.wf_model.specs.Table as table
+use Rattle.wf_model.specs.Table.{Leads, NextLeads, Resolves, view_list}
+use Rattle.wf_model.specs.declared.node.Jump.{Jump}
+use Rattle.wf_model.specs.declared.node.Node.{Node}
 use Rattle.wf_value.specs.Data.{null}
 use Rattle.wf_value.specs.Pairs.{Text}
 

@@ -13,16 +13,16 @@ use Rattle.wf_frames.specs.declared.frames.Frame.TheVariants as frame
 use Rattle.wf_frames.specs.declared.frames.Left.{Left}
 use Rattle.wf_model.specs.Config.{Item, Do, Entries}
 use Rattle.wf_model.specs.Local.{Goes, Local, Scene, ended, settle, settled}
-use Rattle.wf_steps.proofs.Lists.{drop_end, drop_more, entries_long, from_end, from_more}
-use Rattle.wf_steps.proofs.Parts.{entries_is, list_is}
+use Rattle.wf_frames.proofs.Lists.{drop_end, drop_more, entries_long, from_end, from_more}
+use Rattle.wf_frames.proofs.Parts.{entries_is, list_is}
 use Rattle.wf_moves.specs.Moved.{HasMove, IsEnd, IsGoing, IsMove, IsSettled, Settled, is_at_back}
 use Rattle.wf_moves.specs.declared.finish.End.TheVariants as end
 use Rattle.wf_moves.specs.declared.finish.Went.TheVariants as went
-use Rattle.wf_steps.specs.Steps.{HasStep, IsBefore, IsBeforeEntry}
-use Rattle.wf_nodes.specs.Kinds.{Listed}
-use Rattle.wf_nodes.specs.Spots.{Spot, part_at, part_list, part_body, steps_by, from}
-use Rattle.wf_nodes.specs.Table.{Resolves}
-use Rattle.wf_nodes.specs.declared.node.Node.{Node}
+use Rattle.wf_frames.specs.Steps.{HasStep, IsBefore, IsBeforeEntry}
+use Rattle.wf_model.specs.NodeKinds.{Listed}
+use Rattle.wf_model.specs.Spots.{Spot, part_at, part_list, part_body, steps_by, from}
+use Rattle.wf_model.specs.Table.{Resolves}
+use Rattle.wf_model.specs.declared.node.Node.{Node}
 use Rattle.wf_value.specs.declared.Value.TheVariants as value
 
 -- ## One frame

@@ -22,13 +22,13 @@ use Rattle.wf_moves.specs.Tasks.{IsLogged}
 use Rattle.wf_moves.specs.declared.finish.Went.{Went}
 use Rattle.wf_moves.specs.declared.logging.Logged.{Logged}
 use Rattle.wf_moves.specs.declared.sending.Sending.{Sending}
-use Rattle.wf_nodes.specs.Spots.{part_at, part_body}
-use Rattle.wf_shared.specs.Events.{severity_named}
-use Rattle.wf_shared.specs.HttpRequest.{as_text}
-use Rattle.wf_shared.specs.HttpUrl.{first_of_two}
-use Rattle.wf_steps.proofs.Evaluated.{failed, gave}
-use Rattle.wf_steps.specs.Built.{IsLog}
-use Rattle.wf_steps.specs.Steps.{calls_by}
+use Rattle.wf_model.specs.Spots.{part_at, part_body}
+use Rattle.wf_value.specs.Events.{severity_named}
+use Rattle.wf_value.specs.HttpRequest.{as_text}
+use Rattle.wf_value.specs.HttpUrl.{first_of_two}
+use Rattle.wf_frames.proofs.Evaluated.{failed, gave}
+use Rattle.wf_frames.specs.Built.{IsLog}
+use Rattle.wf_frames.specs.Steps.{calls_by}
 use Rattle.wf_value.specs.Data.{Data, Pairs, depth, null, pairs_depth, size, text}
 use Rattle.wf_value.specs.Errors.{Answer, ◌>>=◌, error_map, or_error}
 use Rattle.wf_value.specs.Pairs.{Text, get}

@@ -9,7 +9,7 @@ use Rattle.wf_model.specs.Unwind.{unwind}
 use Rattle.wf_moves.specs.Moved.{IsLeft, IsMove, Raises}
 use Rattle.wf_moves.specs.declared.finish.Went.{Went}
 use Rattle.wf_moves.specs.declared.finish.Went.TheVariants as went
-use Rattle.wf_nodes.specs.declared.node.Node.{Node}
+use Rattle.wf_model.specs.declared.node.Node.{Node}
 use Rattle.wf_value.specs.Data.{Data, boolean}
 use Rattle.wf_value.specs.Plain.{plain}
 use Rattle.wf_value.specs.declared.Value.{Value}

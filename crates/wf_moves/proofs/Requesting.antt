@@ -21,11 +21,11 @@ use Rattle.wf_moves.specs.Tasks.{IsRequest}
 use Rattle.wf_moves.specs.declared.finish.Went.{Went}
 use Rattle.wf_moves.specs.declared.sending.Sending.{Sending}
 use Rattle.wf_moves.specs.declared.sending.Sent.{Sent}
-use Rattle.wf_nodes.specs.Spots.{part_at, part_body}
-use Rattle.wf_shared.specs.Events as plain
-use Rattle.wf_shared.specs.HttpRequest.{Asked, Request, asked, request}
-use Rattle.wf_steps.proofs.Evaluated.{failed, gave}
-use Rattle.wf_steps.specs.Steps.{asks_by, asks_with}
+use Rattle.wf_model.specs.Spots.{part_at, part_body}
+use Rattle.wf_value.specs.Events as plain
+use Rattle.wf_value.specs.HttpRequest.{Asked, Request, asked, request}
+use Rattle.wf_frames.proofs.Evaluated.{failed, gave}
+use Rattle.wf_frames.specs.Steps.{asks_by, asks_with}
 use Rattle.wf_value.specs.Data.{Pairs}
 use Rattle.wf_value.specs.Errors.{Answer, ◌>>=◌, error_map, later}
 use Rattle.wf_value.specs.Pairs.{Text}

@@ -29,7 +29,7 @@ use Rattle.wf_moves.proofs.Starting.{flow_list}
 use Rattle.wf_moves.specs.Tasks.{IsFlow, part_params}
 use Rattle.wf_moves.specs.declared.finish.Went.TheVariants as went
 use Rattle.wf_model.specs.Leave.{returns}
-use Rattle.wf_nodes.specs.Kinds as kinds
+use Rattle.wf_model.specs.NodeKinds as kinds
 use Rattle.wf_ast.specs.declared.program.Param as declared
 use Rattle.std.proofs.lemmas.Option.{slice_get-get_or, slice_get_within}
 use Rattle.wf_value.specs.Plain.{plain}
@@ -43,20 +43,20 @@ use Rattle.wf_moves.specs.declared.leading.Led.{Led}
 use Rattle.wf_moves.specs.declared.leading.Led.TheVariants as led
 use Rattle.wf_moves.specs.declared.unwind.Tried.{Tried}
 use Rattle.wf_moves.specs.declared.wait.Wait.TheVariants as wait
-use Rattle.wf_nodes.specs.Kinds.{handler_view}
-use Rattle.wf_nodes.specs.Spots.{Spot, owners_at, part_at, part_body, part_list, FlowAt}
-use Rattle.wf_nodes.specs.Table.{except_of, outside}
-use Rattle.wf_nodes.specs.declared.node.Node.{Node}
-use Rattle.wf_nodes.specs.declared.node.TryNode.{TryNode}
+use Rattle.wf_model.specs.NodeKinds.{handler_view}
+use Rattle.wf_model.specs.Spots.{Spot, owners_at, part_at, part_body, part_list, FlowAt}
+use Rattle.wf_model.specs.Table.{except_of, outside}
+use Rattle.wf_model.specs.declared.node.Node.{Node}
+use Rattle.wf_model.specs.declared.node.TryNode.{TryNode}
 use Rattle.wf_scope.specs.Store.{layers_of}
-use Rattle.wf_scope.specs.Tasks.{Own}
+use Rattle.wf_frames.specs.Tasks.{Own}
 use Rattle.wf_scope.specs.declared.scopes.Scopes.{Scopes}
-use Rattle.wf_shared.specs.Policies.{default_says, next_delay}
-use Rattle.wf_steps.proofs.Parts.{tried_stands}
-use Rattle.wf_steps.specs.Built.{AreTargets, IsAsked, IsWorkflow, Tells}
-use Rattle.wf_steps.specs.Steps.{IsOrBreaks}
-use Rattle.wf_steps.specs.declared.target.Target.{Target}
-use Rattle.wf_steps.specs.declared.target.Target.TheVariants as target
+use Rattle.wf_value.specs.Policies.{default_says, next_delay}
+use Rattle.wf_frames.proofs.Parts.{tried_stands}
+use Rattle.wf_frames.specs.Built.{AreTargets, IsAsked, IsWorkflow, Tells}
+use Rattle.wf_frames.specs.Steps.{IsOrBreaks}
+use Rattle.wf_frames.specs.declared.target.Target.{Target}
+use Rattle.wf_frames.specs.declared.target.Target.TheVariants as target
 use Rattle.wf_value.specs.Data.{Data, boolean, depth}
 use Rattle.wf_value.specs.Errors.{error_map, later}
 use Rattle.wf_value.specs.Pairs.{Text}

@@ -18,8 +18,8 @@ use Rattle.wf_moves.specs.Moved.{IsBackTop, IsJudgeTop, IsLeft, IsMove, SaysSo, 
 use Rattle.wf_moves.specs.declared.finish.End.TheVariants as end
 use Rattle.wf_moves.specs.declared.finish.Went.{Went}
 use Rattle.wf_moves.specs.declared.finish.Went.TheVariants as went
-use Rattle.wf_nodes.specs.Spots.{Spot}
-use Rattle.wf_nodes.specs.declared.node.Node.{Node}
+use Rattle.wf_model.specs.Spots.{Spot}
+use Rattle.wf_model.specs.declared.node.Node.{Node}
 use Rattle.wf_value.specs.Data.{Data, boolean, bytes, depth, integer, list, map, null, text}
 use Rattle.wf_value.specs.Errors.{error_map}
 use Rattle.wf_value.specs.Pairs.{Text}

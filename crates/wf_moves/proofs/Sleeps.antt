@@ -21,13 +21,13 @@ use Rattle.wf_moves.specs.declared.finish.Done.{Done}
 use Rattle.wf_moves.specs.declared.finish.Done.TheVariants as done
 use Rattle.wf_moves.specs.declared.finish.Went.{Went}
 use Rattle.wf_moves.specs.declared.wait.Wait.TheVariants as wait
-use Rattle.wf_nodes.specs.Spots.{part_at, part_body}
-use Rattle.wf_steps.proofs.Evaluated.{failed, gave}
-use Rattle.wf_steps.specs.Built.{IsNap, nap_special}
-use Rattle.wf_steps.specs.Steps.{calls_by}
-use Rattle.wf_steps.specs.declared.target.Nap.{Nap}
-use Rattle.wf_steps.specs.declared.target.Nap.TheVariants as nap
-use Rattle.wf_shared.specs.LibTime.{parsed_time, time_parse}
+use Rattle.wf_model.specs.Spots.{part_at, part_body}
+use Rattle.wf_frames.proofs.Evaluated.{failed, gave}
+use Rattle.wf_frames.specs.Built.{IsNap, nap_special}
+use Rattle.wf_frames.specs.Steps.{calls_by}
+use Rattle.wf_frames.specs.declared.target.Nap.{Nap}
+use Rattle.wf_frames.specs.declared.target.Nap.TheVariants as nap
+use Rattle.wf_value.specs.LibTime.{parsed_time, time_parse}
 use Rattle.wf_value.specs.Data.{Data, Pairs, boolean, bytes, integer, list, map, null, text}
 use Rattle.wf_value.specs.Errors.{Answer, ◌>>=◌, error_map, or_error}
 use Rattle.wf_value.specs.Pairs.{Text, keys}

@@ -12,20 +12,20 @@ use Rattle.wf_frames.specs.declared.frames.Frame.TheVariants as frame
 use Rattle.wf_model.specs.Config.{Do}
 use Rattle.wf_model.specs.Local.{Local, outers_total, settle}
 use Rattle.wf_model.specs.Run.{argument_in}
-use Rattle.wf_steps.proofs.Parts.{list_within, part_is, view_is}
+use Rattle.wf_frames.proofs.Parts.{list_within, part_is, view_is}
 use Rattle.wf_moves.specs.Tasks.{IsFirst, IsFlow, argued, begun, has_ended, part_params}
-use Rattle.wf_nodes.specs.Kinds as view
-use Rattle.wf_nodes.specs.Kinds.{Kind, Listed, View, kind_by, node_view}
-use Rattle.wf_nodes.specs.Shapes.{Compiled}
-use Rattle.wf_nodes.specs.Spots.{Spot, owners_at, part_at, part_list}
-use Rattle.wf_nodes.specs.Table.{Resolves, kind_list, outside, part_by, view_list}
-use Rattle.wf_nodes.specs.declared.node.FlowNode.{FlowNode}
-use Rattle.wf_nodes.specs.declared.node.Node.{Node}
-use Rattle.wf_nodes.specs.declared.node.NodeKind.{NodeKind}
-use Rattle.wf_nodes.specs.declared.node.NodeKind.TheVariants as kind
+use Rattle.wf_model.specs.NodeKinds as view
+use Rattle.wf_model.specs.NodeKinds.{Kind, Listed, View, kind_by, node_view}
+use Rattle.wf_model.specs.Shapes.{Compiled}
+use Rattle.wf_model.specs.Spots.{Spot, owners_at, part_at, part_list}
+use Rattle.wf_model.specs.Table.{Resolves, kind_list, outside, part_by, view_list}
+use Rattle.wf_model.specs.declared.node.FlowNode.{FlowNode}
+use Rattle.wf_model.specs.declared.node.Node.{Node}
+use Rattle.wf_model.specs.declared.node.NodeKind.{NodeKind}
+use Rattle.wf_model.specs.declared.node.NodeKind.TheVariants as kind
 use Rattle.wf_scope.specs.Layers.{opened, vars_at, vars_in}
 use Rattle.wf_scope.specs.Store.{layers_of}
-use Rattle.wf_scope.specs.Tasks.{Far, Own, far_layers}
+use Rattle.wf_frames.specs.Tasks.{Far, Own, far_layers}
 use Rattle.wf_scope.specs.declared.layer.Layer.{Layer}
 use Rattle.wf_scope.specs.declared.scopes.Scopes.{Scopes}
 use Rattle.wf_value.proofs.Order.{in_order_empty, in_order_with_value}

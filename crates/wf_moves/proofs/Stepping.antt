@@ -10,7 +10,7 @@ use Rattle.wf_frames.specs.Owned.{Around, held_of}
 use Rattle.wf_frames.specs.declared.frames.Frame.{Frame}
 use Rattle.wf_frames.specs.declared.frames.Frame.TheVariants as frame
 use Rattle.wf_frames.specs.declared.frames.Left.{Left}
-use Rattle.wf_library.specs.declared.functions.Function.{Function}
+use Rattle.wf_ast.specs.declared.functions.Function.{Function}
 use Rattle.wf_model.specs.Config.{Item}
 use Rattle.wf_model.specs.Kinds.{NextKind, Plainly, ByClock, ByCall, body_kind, by_clock, fields_now, next_kind}
 use Rattle.wf_model.specs.Layers.{view}
@@ -21,15 +21,15 @@ use Rattle.wf_moves.specs.Stepped.{by_kind, leads, leads_with, stepped_at}
 use Rattle.wf_moves.specs.Tasks.{IsDone}
 use Rattle.wf_moves.specs.declared.finish.Done.{Done}
 use Rattle.wf_moves.specs.declared.finish.Done.TheVariants as done
-use Rattle.wf_nodes.specs.Spots.{Spot, part_at, part_body}
-use Rattle.wf_scope.specs.Tasks.{Own}
+use Rattle.wf_model.specs.Spots.{Spot, part_at, part_body}
+use Rattle.wf_frames.specs.Tasks.{Own}
 use Rattle.wf_scope.specs.declared.layer.Layer.{Layer}
-use Rattle.wf_steps.proofs.Clocked.{flow_clock, function_clock, http_asks, log_clock, nap_reads}
-use Rattle.wf_steps.specs.Built.{IsFunction, IsHttp, IsLog, IsNap, IsWorkflow}
-use Rattle.wf_steps.specs.Steps.{IsNoCall, IsOrBreaks, Issues, Moves, WantsSame, asks, asks_with, calls_by, come}
-use Rattle.wf_steps.specs.declared.step.Step.{Step}
-use Rattle.wf_steps.specs.declared.target.Nap.{Nap}
-use Rattle.wf_steps.specs.declared.step.Step.TheVariants as step
+use Rattle.wf_frames.proofs.Clocked.{flow_clock, function_clock, http_asks, log_clock, nap_reads}
+use Rattle.wf_frames.specs.Built.{IsFunction, IsHttp, IsLog, IsNap, IsWorkflow}
+use Rattle.wf_frames.specs.Steps.{IsNoCall, IsOrBreaks, Issues, Moves, WantsSame, asks, asks_with, calls_by, come}
+use Rattle.wf_frames.specs.declared.step.Step.{Step}
+use Rattle.wf_frames.specs.declared.target.Nap.{Nap}
+use Rattle.wf_frames.specs.declared.step.Step.TheVariants as step
 use Rattle.wf_value.specs.Data.{Pairs, pairs_of}
 use Rattle.wf_value.specs.declared.value.Map.{Map}
 

@@ -16,14 +16,14 @@ use Rattle.wf_model.specs.Unwind.{excepted, handled, unwind}
 use Rattle.wf_moves.proofs.Leaving.{stands_on}
 use Rattle.wf_moves.specs.Retries.{Handler, TriedAt, caught_at, decide_at, tried_of}
 use Rattle.wf_moves.specs.declared.unwind.Tried.{Tried}
-use Rattle.wf_nodes.specs.Kinds.{block_view, handler_view, kind_by}
-use Rattle.wf_nodes.specs.Spots.{Spot, owners_at, part_at, part_body, part_list, steps_by}
-use Rattle.wf_nodes.specs.Table.{except_of, handler_list, kind_list, outside}
-use Rattle.wf_nodes.specs.declared.node.Node.{Node}
-use Rattle.wf_nodes.specs.declared.node.NodeKind.{NodeKind}
-use Rattle.wf_nodes.specs.declared.node.TryNode.{TryNode}
-use Rattle.wf_steps.proofs.Parts.{list_is, list_of, tried_body, view_is}
-use Rattle.wf_steps.specs.Built.{Tells}
+use Rattle.wf_model.specs.NodeKinds.{block_view, handler_view, kind_by}
+use Rattle.wf_model.specs.Spots.{Spot, owners_at, part_at, part_body, part_list, steps_by}
+use Rattle.wf_model.specs.Table.{except_of, handler_list, kind_list, outside}
+use Rattle.wf_model.specs.declared.node.Node.{Node}
+use Rattle.wf_model.specs.declared.node.NodeKind.{NodeKind}
+use Rattle.wf_model.specs.declared.node.TryNode.{TryNode}
+use Rattle.wf_frames.proofs.Parts.{list_is, list_of, tried_body, view_is}
+use Rattle.wf_frames.specs.Built.{Tells}
 use Rattle.wf_value.specs.Data.{Data}
 use Rattle.wf_value.specs.Errors.{error_map}
 use Rattle.wf_value.specs.declared.Tag.TheVariants.{ResourceLimitError}

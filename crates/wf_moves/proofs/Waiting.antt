@@ -18,10 +18,10 @@ use Rattle.wf_moves.specs.declared.task.Task.{Task}
 use Rattle.wf_moves.specs.declared.wait.Wait.{Wait}
 use Rattle.wf_moves.specs.declared.wait.Wait.TheVariants as wait
 use Rattle.wf_scope.specs.declared.scopes.Scopes.{Scopes}
-use Rattle.wf_nodes.specs.declared.node.CallNode.{CallNode}
-use Rattle.wf_nodes.specs.declared.node.Node.{Node}
-use Rattle.wf_nodes.specs.declared.node.NodeKind.{NodeKind}
-use Rattle.wf_nodes.specs.declared.node.NodeKind.TheVariants as kind
+use Rattle.wf_model.specs.declared.node.CallNode.{CallNode}
+use Rattle.wf_model.specs.declared.node.Node.{Node}
+use Rattle.wf_model.specs.declared.node.NodeKind.{NodeKind}
+use Rattle.wf_model.specs.declared.node.NodeKind.TheVariants as kind
 
 -- ## Nodes of calls
 pub call_there : (nodes : List Node) (n : ℕ) → is_call_at nodes n ≡ true → (f : CallNode) × IsCall nodes n f

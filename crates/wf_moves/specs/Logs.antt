@@ -8,8 +8,8 @@ use Rattle.std.specs.Prelude.{ℕ, ◌+◌, nat_le, if◌then◌else◌, Option,
 use Rattle.wf_model.specs.Calls as calls
 use Rattle.wf_model.specs.Config.{log_limit}
 use Rattle.wf_moves.specs.declared.logging.Logged.{Logged}
-use Rattle.wf_shared.specs.Events.{severity_named}
-use Rattle.wf_shared.specs.HttpRequest.{as_text}
+use Rattle.wf_value.specs.Events.{severity_named}
+use Rattle.wf_value.specs.HttpRequest.{as_text}
 use Rattle.wf_value.specs.Data.{Data, Pairs, size, text}
 use Rattle.wf_value.specs.Errors.{Answer, ◌>>=◌, or_error}
 use Rattle.wf_value.specs.Plain.{plain}

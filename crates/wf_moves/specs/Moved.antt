@@ -17,15 +17,15 @@ use Rattle.wf_model.specs.Local.{Local, Moved, Scene, Goes, Ends, Breaks, Gives,
 use Rattle.wf_model.specs.Local as model
 use Rattle.wf_model.specs.Leave.{returns}
 use Rattle.wf_model.specs.Unwind.{Found, NotFound, Stands, AtEnd, to_step, unwind}
-use Rattle.wf_steps.specs.Steps.{HasStep}
+use Rattle.wf_frames.specs.Steps.{HasStep}
 use Rattle.wf_moves.specs.declared.finish.End.{End}
 use Rattle.wf_moves.specs.declared.finish.End.TheVariants as end
 use Rattle.wf_moves.specs.declared.finish.Went.{Went}
 use Rattle.wf_moves.specs.declared.finish.Went.TheVariants as went
-use Rattle.wf_nodes.specs.Kinds.{Listed}
-use Rattle.wf_nodes.specs.Spots.{Spot}
-use Rattle.wf_nodes.specs.declared.node.Jump.{Jump}
-use Rattle.wf_nodes.specs.declared.node.Node.{Node}
+use Rattle.wf_model.specs.NodeKinds.{Listed}
+use Rattle.wf_model.specs.Spots.{Spot}
+use Rattle.wf_model.specs.declared.node.Jump.{Jump}
+use Rattle.wf_model.specs.declared.node.Node.{Node}
 use Rattle.wf_scope.specs.declared.scopes.Scopes.{Scopes}
 use Rattle.wf_value.specs.Data.{Data, boolean, depth}
 use Rattle.wf_value.specs.Errors.{error_map}

@@ -1,8 +1,8 @@
 -- Sleeps.
 use Rattle.std.specs.Prelude.{ℕ, codes}
 use Rattle.wf_model.specs.Calls.{sleep_due, until_due}
-use Rattle.wf_steps.specs.declared.target.Nap.{Nap}
-use Rattle.wf_steps.specs.declared.target.Nap.TheVariants as nap
+use Rattle.wf_frames.specs.declared.target.Nap.{Nap}
+use Rattle.wf_frames.specs.declared.target.Nap.TheVariants as nap
 use Rattle.wf_value.specs.Data.{Pairs}
 use Rattle.wf_value.specs.Errors.{Answer}
 use Rattle.wf_value.specs.Pairs.{get}

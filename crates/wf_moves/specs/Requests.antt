@@ -11,7 +11,7 @@ use Rattle.wf_http_out.specs.View.{routes_view}
 use Rattle.wf_model.specs.Local.{Scene}
 use Rattle.wf_moves.specs.declared.sending.Sending.{Sending}
 use Rattle.wf_moves.specs.declared.sending.Sent.{Sent}
-use Rattle.wf_shared.specs.HttpRequest.{Request, asked, request}
+use Rattle.wf_value.specs.HttpRequest.{Request, asked, request}
 use Rattle.wf_value.specs.Data.{Pairs}
 use Rattle.wf_value.specs.Errors.{Answer, ◌>>=◌, later}
 

@@ -27,14 +27,14 @@ use Rattle.wf_moves.specs.declared.judging.Verdict.TheVariants as verdict
 use Rattle.wf_moves.specs.declared.leading.Led.{Led}
 use Rattle.wf_moves.specs.declared.leading.Led.TheVariants as led
 use Rattle.wf_moves.specs.declared.unwind.Tried.{Tried}
-use Rattle.wf_nodes.specs.Spots.{Spot, owners_at, part_at, part_body}
-use Rattle.wf_nodes.specs.declared.node.ExceptNode.{ExceptNode}
-use Rattle.wf_nodes.specs.declared.node.Node.{Node}
-use Rattle.wf_nodes.specs.declared.node.TryNode.{TryNode}
+use Rattle.wf_model.specs.Spots.{Spot, owners_at, part_at, part_body}
+use Rattle.wf_model.specs.declared.node.ExceptNode.{ExceptNode}
+use Rattle.wf_model.specs.declared.node.Node.{Node}
+use Rattle.wf_model.specs.declared.node.TryNode.{TryNode}
 use Rattle.wf_scope.specs.declared.scopes.Scopes.{Scopes}
-use Rattle.wf_steps.specs.Built.{IsAsked, IsWorkflow}
-use Rattle.wf_steps.specs.Steps.{IsOrBreaks}
-use Rattle.wf_steps.specs.declared.target.Target.{Target}
+use Rattle.wf_frames.specs.Built.{IsAsked, IsWorkflow}
+use Rattle.wf_frames.specs.Steps.{IsOrBreaks}
+use Rattle.wf_frames.specs.declared.target.Target.{Target}
 use Rattle.wf_value.specs.Data.{Data, depth}
 use Rattle.wf_value.specs.Pairs.{Text}
 use Rattle.wf_value.specs.Plain.{plain}

@@ -6,10 +6,10 @@ use Rattle.wf_model.specs.Config.{Item}
 use Rattle.wf_model.specs.Kinds.{NextKind, Plainly, ByClock, ByCall, body_kind, next_kind}
 use Rattle.wf_model.specs.Local.{Local, Moved, Scene}
 use Rattle.wf_model.specs.Move.{issues, moves}
-use Rattle.wf_nodes.specs.Spots.{Spot, part_at, part_body}
-use Rattle.wf_steps.specs.Steps.{asks_with, calls_by, come}
-use Rattle.wf_steps.specs.declared.step.Step.{Step}
-use Rattle.wf_steps.specs.declared.step.Step.TheVariants as step
+use Rattle.wf_model.specs.Spots.{Spot, part_at, part_body}
+use Rattle.wf_frames.specs.Steps.{asks_with, calls_by, come}
+use Rattle.wf_frames.specs.declared.step.Step.{Step}
+use Rattle.wf_frames.specs.declared.step.Step.TheVariants as step
 use Rattle.wf_value.specs.Data.{Pairs, pairs_of}
 use Rattle.std.specs.Prelude.{List}
 

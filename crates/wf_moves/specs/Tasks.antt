@@ -32,11 +32,11 @@ use Rattle.wf_moves.specs.declared.logging.Logged.{Logged}
 use Rattle.wf_moves.specs.declared.sending.Sending.{Sending}
 use Rattle.wf_moves.specs.declared.sending.Sent.{Sent}
 use Rattle.wf_moves.specs.declared.task.Task.{Task}
-use Rattle.wf_nodes.specs.Kinds as kind
-use Rattle.wf_nodes.specs.Kinds.{Listed, View}
-use Rattle.wf_nodes.specs.Spots.{FlowAt, Part, part_list}
-use Rattle.wf_nodes.specs.declared.node.CallNode.{CallNode}
-use Rattle.wf_nodes.specs.declared.node.Node.{Node}
+use Rattle.wf_model.specs.NodeKinds as kind
+use Rattle.wf_model.specs.NodeKinds.{Listed, View}
+use Rattle.wf_model.specs.Spots.{FlowAt, Part, part_list}
+use Rattle.wf_model.specs.declared.node.CallNode.{CallNode}
+use Rattle.wf_model.specs.declared.node.Node.{Node}
 use Rattle.wf_scope.specs.Layers.{put_at}
 use Rattle.wf_scope.specs.Store.{layers_of}
 use Rattle.wf_scope.specs.declared.layer.Layer.{Layer}

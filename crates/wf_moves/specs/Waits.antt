@@ -13,9 +13,9 @@ use Rattle.wf_moves.specs.Going.{Going, Going-prop}
 use Rattle.wf_moves.specs.declared.task.Task.{Task}
 use Rattle.wf_moves.specs.declared.wait.Wait.{Wait}
 use Rattle.wf_moves.specs.declared.wait.Wait.TheVariants as wait
-use Rattle.wf_nodes.specs.declared.node.Node.{Node}
-use Rattle.wf_nodes.specs.declared.node.NodeKind.{NodeKind}
-use Rattle.wf_nodes.specs.declared.node.NodeKind.TheVariants as kind
+use Rattle.wf_model.specs.declared.node.Node.{Node}
+use Rattle.wf_model.specs.declared.node.NodeKind.{NodeKind}
+use Rattle.wf_model.specs.declared.node.NodeKind.TheVariants as kind
 use Rattle.wf_scope.specs.declared.scopes.Scopes.{Scopes}
 use Rattle.wf_value.specs.Data.{Data}
 use Rattle.wf_value.specs.Pairs.{Text}

@@ -9,21 +9,19 @@ ghost use Rattle.wf_model.specs.Layers as layers;
 ghost use Rattle.wf_model.specs.Leave as leave;
 ghost use Rattle.wf_model.specs.Move as move;
 ghost use Rattle.wf_moves.specs.Assigned.{entry_values, values_of};
-ghost use Rattle.wf_steps.specs.Built.{Tells};
+ghost use Rattle.wf_frames.specs.Built.{Tells};
 ghost use Rattle.wf_moves.specs.Moved.{IsLeft, MovesBy, SeesBy};
-ghost use Rattle.wf_nodes.specs.Kinds.{entry_by};
-ghost use Rattle.wf_nodes.specs.Spots.{part_at, part_entry};
+ghost use Rattle.wf_model.specs.NodeKinds.{entry_by};
+ghost use Rattle.wf_model.specs.Spots.{part_at, part_entry};
 
 use crate::finish::{Went, goes};
 use crate::raising::{fails, raises_tag};
 use std::alloc::Global;
+use wf_ast::Postfix;
 use wf_eval::Look;
-use wf_frames::{Facts, Frames, assign as put, seen};
-use wf_nodes::{EntryNode, Node, NodeKind};
-use wf_postfix::Postfix;
+use wf_frames::{Facts, Frames, assign as put, fill_shape, first_of, seen, values};
+use wf_model::{EntryNode, Node, NodeKind};
 use wf_scope::Scopes;
-use wf_shapes::{fill_shape, values};
-use wf_steps::first_of;
 use wf_value::{OutOfMemory, Raise, Text, Value};
 
 // The value of an assignment, and those of the places of its target.

@@ -11,9 +11,9 @@ ghost use Rattle.wf_model.specs.Config.{Item};
 ghost use Rattle.wf_model.specs.Leave as leave;
 ghost use Rattle.wf_model.specs.Unwind.{to_back};
 ghost use Rattle.wf_moves.specs.Moved.{IsBackTop, IsLeft, MovesBy, SaysSo, back_found, call_of, is_judge};
-ghost use Rattle.wf_nodes.specs.Spots.{Spot};
-ghost use Rattle.wf_nodes.specs.declared.node.Node.{Node};
-ghost use Rattle.wf_steps.specs.Built.{Tells};
+ghost use Rattle.wf_model.specs.Spots.{Spot};
+ghost use Rattle.wf_model.specs.declared.node.Node.{Node};
+ghost use Rattle.wf_frames.specs.Built.{Tells};
 ghost use Rattle.wf_value.specs.Data.{depth};
 ghost use Rattle.wf_value.specs.Plain.{plain};
 
@@ -22,7 +22,7 @@ use crate::finish::{End, Went, goes};
 use crate::raising::raises_tag;
 use std::alloc::Global;
 use wf_frames::{Frame, Frames, leave};
-use wf_nodes::{Node, NodeKind};
+use wf_model::{Node, NodeKind};
 use wf_scope::Scopes;
 use wf_value::{OutOfMemory, Tag, Text, Value};
 

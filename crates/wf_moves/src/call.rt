@@ -9,11 +9,11 @@ ghost use Rattle.wf_frames.specs.Stands.{Stands};
 ghost use Rattle.wf_model.specs.Calls as calls;
 ghost use Rattle.wf_moves.specs.Moved.{IsLeft, MovesBy, SeesBy};
 ghost use Rattle.wf_moves.specs.Tasks.{DoesBy, IsFlow, IsLeftSo, Names, flow_at};
-ghost use Rattle.wf_nodes.specs.Spots.{part_at, part_body};
-ghost use Rattle.wf_nodes.specs.declared.node.CallNode as call_node;
-ghost use Rattle.wf_steps.specs.Built.{AreTargets, IsFunction, IsWorkflow, Tells};
+ghost use Rattle.wf_model.specs.Spots.{part_at, part_body};
+ghost use Rattle.wf_model.specs.declared.node.CallNode as call_node;
+ghost use Rattle.wf_frames.specs.Built.{AreTargets, IsFunction, IsWorkflow, Tells};
 ghost use Rattle.wf_moves.specs.Stepped.{leads_with};
-ghost use Rattle.wf_steps.specs.Steps.{calls_by};
+ghost use Rattle.wf_frames.specs.Steps.{calls_by};
 ghost use Rattle.wf_value.specs.Data.{pairs_depth, pairs_of};
 ghost use Rattle.wf_value.specs.Plain.{plain};
 
@@ -25,13 +25,10 @@ use crate::sending::{Sending, sends};
 use crate::sleeping::sleeps;
 use crate::start::params;
 use std::alloc::Global;
-use wf_ast::Param;
-use wf_frames::{Bindings, Facts, Frame, Frames, enter_call, seen};
-use wf_library::Function;
-use wf_nodes::Node;
+use wf_ast::{Function, Param};
+use wf_frames::{Bindings, Facts, Frame, Frames, Target, call_function, enter_call, seen};
+use wf_model::Node;
 use wf_scope::Scopes;
-use wf_shapes::call_function;
-use wf_steps::Target;
 use wf_value::{Map, OutOfMemory, Tag, Value};
 
 /// How many calls of workflows may stand in each other.

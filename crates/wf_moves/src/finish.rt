@@ -7,18 +7,17 @@ ghost use Rattle.wf_frames.specs.Stands.{Stands};
 ghost use Rattle.wf_model.specs.Config.{Item};
 ghost use Rattle.wf_model.specs.Local as local;
 ghost use Rattle.wf_model.specs.Local.{Scene};
-ghost use Rattle.wf_steps.specs.Built.{Tells};
+ghost use Rattle.wf_frames.specs.Built.{Tells};
 ghost use Rattle.wf_moves.specs.Moved.{HasMove, IsLeft, IsMove, IsSettled, IsThrough, Settled};
-ghost use Rattle.wf_nodes.specs.Spots.{Spot};
-ghost use Rattle.wf_nodes.specs.declared.node.Node.{Node};
+ghost use Rattle.wf_model.specs.Spots.{Spot};
+ghost use Rattle.wf_model.specs.declared.node.Node.{Node};
 
 use crate::logging::Logged;
 use crate::sending::Sent;
 use crate::wait::Wait;
-use wf_frames::{Frame, Frames, leave};
-use wf_nodes::Node;
+use wf_frames::{Frame, Frames, block, entries, leave};
+use wf_model::Node;
 use wf_scope::Scopes;
-use wf_steps::{block, entries};
 use wf_value::Value;
 
 /// How a task has ended.

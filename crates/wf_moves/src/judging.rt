@@ -11,8 +11,8 @@ ghost use Rattle.wf_moves.specs.Moved.{IsLeft, MovesBy};
 ghost use Rattle.wf_moves.specs.Retries.{DecidesBy, Asked, AsksFlow, IsDecidedSo, IsLedSo, LeadsBy, Rests, TriedAt, ask_at, decide_at, retry_at, verdict_of, verdict_said};
 ghost use Rattle.wf_moves.specs.Tasks.{part_params};
 ghost use Rattle.wf_moves.specs.Waits.{is_at_try};
-ghost use Rattle.wf_nodes.specs.Spots.{part_at};
-ghost use Rattle.wf_steps.specs.Built.{AreTargets, Tells};
+ghost use Rattle.wf_model.specs.Spots.{part_at};
+ghost use Rattle.wf_frames.specs.Built.{AreTargets, Tells};
 ghost use Rattle.wf_value.specs.Data.{depth};
 ghost use Rattle.wf_value.specs.Plain.{plain};
 
@@ -24,11 +24,10 @@ use crate::unwind::{Tried, take};
 use crate::wait::Wait;
 use std::alloc::Global;
 use wf_ast::{Param, Policy, Predicate};
-use wf_frames::{Bindings, Frame, Frames, enter_call};
-use wf_nodes::Node;
+use wf_frames::{Bindings, Frame, Frames, Target, body_frame, enter_call, map_of, try_node};
+use wf_model::Node;
 use wf_retry::{default_says, next_delay};
 use wf_scope::Scopes;
-use wf_steps::{Target, body_frame, map_of, try_node};
 use wf_value::{OutOfMemory, Tag, Value};
 
 /// What a policy says of an error: that the body is tried again, that it isn't, or that a workflow is asked.

@@ -9,21 +9,20 @@ ghost use Rattle.wf_model.specs.Leave as leave;
 ghost use Rattle.wf_model.specs.Local.{Scene};
 ghost use Rattle.wf_model.specs.Unwind.{to_loop, to_step};
 ghost use Rattle.wf_model.specs.Unwind as found;
-ghost use Rattle.wf_steps.specs.Built.{Tells};
+ghost use Rattle.wf_frames.specs.Built.{Tells};
 ghost use Rattle.wf_moves.specs.Moved.{FoundIn, IsLeft, IsLoopTop, IsMove, MovesBy, is_loop, loop_found, target};
-ghost use Rattle.wf_steps.specs.Steps.{IsJump};
-ghost use Rattle.wf_nodes.specs.Spots.{part_at, part_next};
-ghost use Rattle.wf_nodes.specs.Table.{Leads};
-ghost use Rattle.wf_nodes.specs.declared.node.Node.{Node};
+ghost use Rattle.wf_frames.specs.Steps.{IsJump};
+ghost use Rattle.wf_model.specs.Spots.{part_at, part_next};
+ghost use Rattle.wf_model.specs.Table.{Leads};
+ghost use Rattle.wf_model.specs.declared.node.Node.{Node};
 ghost use Rattle.wf_value.specs.Pairs.{Text};
 
 use crate::back::returns;
 use crate::finish::{Went, goes};
 use std::alloc::Global;
-use wf_frames::{Frame, Frames, leave};
-use wf_nodes::{Jump, Node};
+use wf_frames::{Frame, Frames, block, leave};
+use wf_model::{Jump, Node};
 use wf_scope::Scopes;
-use wf_steps::block;
 use wf_value::{OutOfMemory, Value};
 
 // Where a number stands first among others, if it does.

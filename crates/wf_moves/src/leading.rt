@@ -12,7 +12,7 @@ ghost use Rattle.wf_model.specs.Local.{Moved, Scene};
 ghost use Rattle.wf_model.specs.Unwind.{unwind};
 ghost use Rattle.wf_moves.specs.Moved.{IsJudgeTop, IsLeft, IsMove};
 ghost use Rattle.wf_moves.specs.Retries.{IsLed, IsLedSo, LeadsBy};
-ghost use Rattle.wf_steps.specs.Built.{AreTargets, Tells};
+ghost use Rattle.wf_frames.specs.Built.{AreTargets, Tells};
 ghost use Rattle.wf_value.specs.Data.{boolean, depth};
 ghost use Rattle.wf_value.specs.Plain.{plain};
 
@@ -21,10 +21,9 @@ use crate::judging::{Decided, decide, retry};
 use crate::unwind::{Tried, leave_to_try, take};
 use crate::wait::Wait;
 use std::alloc::Global;
-use wf_frames::{Frame, Frames, leave};
-use wf_nodes::Node;
+use wf_frames::{Frame, Frames, Target, leave};
+use wf_model::Node;
 use wf_scope::Scopes;
-use wf_steps::Target;
 use wf_value::{OutOfMemory, Value};
 
 /// Where a move leads: the task goes on, has ended, or waits.

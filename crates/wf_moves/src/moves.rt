@@ -7,8 +7,8 @@ ghost use Rattle.wf_frames.specs.Stands.{Stands};
 ghost use Rattle.wf_moves.specs.Moved.{IsGoing, IsLeft, SeesBy, is_at_back};
 ghost use Rattle.wf_moves.specs.Stepped.{leads, stepped_at};
 ghost use Rattle.wf_moves.specs.Tasks.{DoesBy, IsLeftSo};
-ghost use Rattle.wf_steps.specs.Built.{AreTargets, Tells};
-ghost use Rattle.wf_steps.specs.Steps.{HasStep, IsNoCall, IsReady, come};
+ghost use Rattle.wf_frames.specs.Built.{AreTargets, Tells};
+ghost use Rattle.wf_frames.specs.Steps.{HasStep, IsNoCall, IsReady, come};
 
 use crate::assign::assign;
 use crate::back::returns;
@@ -18,10 +18,9 @@ use crate::jump::jump;
 use crate::sending::Sending;
 use crate::turn::turn;
 use std::alloc::Global;
-use wf_frames::{Facts, Frame, Frames, seen};
-use wf_nodes::Node;
+use wf_frames::{Facts, Frame, Frames, Step, Target, loop_node, seen, step_of};
+use wf_model::Node;
 use wf_scope::Scopes;
-use wf_steps::{Step, Target, loop_node, step_of};
 use wf_value::{OutOfMemory, Value};
 
 // What is left of a step that doesn't call, beside its frames.

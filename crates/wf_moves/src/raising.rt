@@ -7,7 +7,7 @@ ghost use Rattle.wf_value.specs.declared.Tag.{Tag};
 
 use crate::finish::Went;
 use std::alloc::Global;
-use wf_steps::map_of;
+use wf_frames::map_of;
 use wf_value::{OutOfMemory, Raise, Tag};
 
 /// The error of this tag is raised. It is asked for no error of a request and of branches, whose maps hold more.

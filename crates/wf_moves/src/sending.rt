@@ -9,9 +9,9 @@ ghost use Rattle.wf_frames.specs.Stands.{Stands};
 ghost use Rattle.wf_model.specs.Local.{Scene};
 ghost use Rattle.wf_moves.specs.Requests.{Reaches, request_by, sent_view};
 ghost use Rattle.wf_moves.specs.Tasks.{DoesBy, IsLeftSo, Names};
-ghost use Rattle.wf_nodes.specs.Spots.{part_at, part_body};
-ghost use Rattle.wf_steps.specs.Built.{IsHttp, Tells};
-ghost use Rattle.wf_steps.specs.Steps.{asks_with};
+ghost use Rattle.wf_model.specs.Spots.{part_at, part_body};
+ghost use Rattle.wf_frames.specs.Built.{IsHttp, Tells};
+ghost use Rattle.wf_frames.specs.Steps.{asks_with};
 ghost use Rattle.wf_value.specs.Data.{pairs_depth, pairs_of};
 ghost use Rattle.wf_value.specs.Errors.{later};
 
@@ -23,7 +23,7 @@ use wf_callbacks::Method;
 use wf_frames::{Facts, Frames};
 use wf_host::Routes;
 use wf_http_ask::{Request, asked_of, request_of};
-use wf_nodes::Node;
+use wf_model::Node;
 use wf_scope::Scopes;
 use wf_value::{Map, OutOfMemory, Raise};
 

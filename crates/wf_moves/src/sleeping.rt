@@ -7,11 +7,11 @@ ghost use Rattle.wf_frames.specs.Stands.{Stands};
 ghost use Rattle.wf_model.specs.Calls as calls;
 ghost use Rattle.wf_moves.specs.Naps.{nap_due};
 ghost use Rattle.wf_moves.specs.Tasks.{IsLeftSo, Names, SleepsBy};
-ghost use Rattle.wf_nodes.specs.Spots.{part_at, part_body};
-ghost use Rattle.wf_steps.specs.Built.{IsNap, Tells};
-ghost use Rattle.wf_steps.specs.Steps.{calls_by};
+ghost use Rattle.wf_model.specs.Spots.{part_at, part_body};
+ghost use Rattle.wf_frames.specs.Built.{IsNap, Tells};
+ghost use Rattle.wf_frames.specs.Steps.{calls_by};
 ghost use Rattle.wf_value.specs.Data.{integer, pairs_of};
-ghost use Rattle.wf_shared.specs.HttpRequest.{whole_between};
+ghost use Rattle.wf_value.specs.HttpRequest.{whole_between};
 ghost use Rattle.wf_value.specs.Pairs.{get};
 ghost use Rattle.wf_value.specs.Plain.{plain};
 
@@ -20,11 +20,10 @@ use crate::raising::fails;
 use crate::sending::due_of;
 use crate::wait::Wait;
 use std::alloc::Global;
-use wf_frames::{Facts, Frames};
+use wf_frames::{Facts, Frames, Nap};
 use wf_lib_time::time_parse;
-use wf_nodes::Node;
+use wf_model::Node;
 use wf_scope::Scopes;
-use wf_steps::Nap;
 use wf_value::{Map, OutOfMemory, Raise, Tag, Value};
 
 /// The longest sleep, in seconds.

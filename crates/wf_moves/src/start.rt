@@ -4,15 +4,15 @@ ghost use Rattle.wf_ast.specs.View.{param_view};
 ghost use Rattle.wf_frames.specs.Frames.{own};
 ghost use Rattle.wf_frames.specs.Held.{standing};
 ghost use Rattle.wf_frames.specs.Owned.{Around, IsLinked, held_of};
-ghost use Rattle.wf_steps.specs.Built.{Tells};
+ghost use Rattle.wf_frames.specs.Built.{Tells};
 ghost use Rattle.wf_moves.specs.Tasks.{IsFirst, IsFlow, argued, begun, part_params};
-ghost use Rattle.wf_nodes.specs.Spots.{Spot, part_at};
+ghost use Rattle.wf_model.specs.Spots.{Spot, part_at};
 ghost use Rattle.wf_scope.specs.Layers.{IsLive};
 ghost use Rattle.wf_scope.specs.Store.{layers_of};
 ghost use Rattle.wf_value.specs.Plain.{plain};
 
 use wf_ast::Param;
-use wf_nodes::{Node, NodeKind};
+use wf_model::{Node, NodeKind};
 use wf_scope::{Chain, Scopes};
 use wf_value::{OutOfMemory, Value};
 

@@ -7,10 +7,10 @@ ghost use Rattle.wf_frames.specs.Sights.{Sees};
 ghost use Rattle.wf_frames.specs.Stands.{Stands};
 ghost use Rattle.wf_frames.specs.Turns.{Agrees};
 ghost use Rattle.wf_model.specs.Local.{Moved, Scene};
-ghost use Rattle.wf_steps.specs.Built.{AreTargets, Tells};
+ghost use Rattle.wf_frames.specs.Built.{AreTargets, Tells};
 ghost use Rattle.wf_moves.specs.Moved.{IsLeft, IsMove, IsSettled};
 ghost use Rattle.wf_moves.specs.Tasks.{move_by};
-ghost use Rattle.wf_nodes.specs.Spots.{part_at};
+ghost use Rattle.wf_model.specs.Spots.{part_at};
 ghost use Rattle.wf_value.specs.Data.{depth};
 ghost use Rattle.wf_value.specs.Plain.{plain};
 
@@ -24,10 +24,9 @@ use crate::sending::{Sending, Sent};
 use crate::start::{first_layer, params};
 use crate::wait::Wait;
 use std::alloc::Global;
-use wf_frames::{Facts, Frame, Frames};
-use wf_nodes::Node;
+use wf_frames::{Facts, Frame, Frames, Kind, Target, frame_kind};
+use wf_model::Node;
 use wf_scope::Scopes;
-use wf_steps::{Kind, Target, frame_kind};
 use wf_value::{OutOfMemory, Value};
 
 /// What a move has done.
@@ -66,7 +65,7 @@ impl Task {
     ghost use Rattle.wf_frames.specs.Frames.{result_of};
     ghost use Rattle.wf_model.specs.Kinds.{next_kind};
     ghost use Rattle.wf_model.specs.Leave.{gives};
-    ghost use Rattle.wf_steps.specs.Kinds.{kind_view};
+    ghost use Rattle.wf_frames.specs.Kinds.{kind_view};
     ghost use Rattle.wf_model.specs.Move.{due, resumed};
     ghost use Rattle.wf_moves.specs.Requests.{Reaches};
     ghost use Rattle.wf_moves.specs.Stepped.{stepped};

@@ -9,7 +9,7 @@ ghost use Rattle.wf_frames.specs.declared.frames.Left.{Left};
 ghost use Rattle.wf_frames.specs.declared.frames.Left.TheVariants as left;
 ghost use Rattle.wf_model.specs.Config.{OfList, OfRange, next_of};
 ghost use Rattle.wf_model.specs.Move.{moves};
-ghost use Rattle.wf_steps.specs.Built.{Tells};
+ghost use Rattle.wf_frames.specs.Built.{Tells};
 ghost use Rattle.wf_moves.specs.Moved.{IsLeft, MovesBy};
 ghost use Rattle.wf_value.specs.Plain.{plain};
 
@@ -17,7 +17,7 @@ use crate::finish::{Went, goes};
 use crate::raising::raises_tag;
 use std::alloc::Global;
 use wf_frames::{Frame, Frames, Left, enter};
-use wf_nodes::{LoopNode, Node};
+use wf_model::{LoopNode, Node};
 use wf_scope::Scopes;
 use wf_value::{List, OutOfMemory, Tag, Value};
 

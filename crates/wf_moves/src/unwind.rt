@@ -9,18 +9,17 @@ ghost use Rattle.wf_model.specs.Config.{Item};
 ghost use Rattle.wf_model.specs.Local.{Scene};
 ghost use Rattle.wf_model.specs.Unwind.{handled, unwind};
 ghost use Rattle.wf_moves.specs.Retries.{Handler, TriedAt, caught, caught_at, tried_of};
-ghost use Rattle.wf_nodes.specs.Spots.{owners_at, part_at, part_body};
-ghost use Rattle.wf_nodes.specs.declared.node.Node.{Node};
-ghost use Rattle.wf_nodes.specs.declared.node.TryNode as try_node;
-ghost use Rattle.wf_steps.specs.Built.{Tells};
+ghost use Rattle.wf_model.specs.Spots.{owners_at, part_at, part_body};
+ghost use Rattle.wf_model.specs.declared.node.Node.{Node};
+ghost use Rattle.wf_model.specs.declared.node.TryNode as try_node;
+ghost use Rattle.wf_frames.specs.Built.{Tells};
 ghost use Rattle.wf_value.specs.Data.{Data, depth};
 ghost use Rattle.wf_value.specs.Plain.{plain};
 
 use std::alloc::Global;
-use wf_frames::{Frame, Frames, enter, leave};
-use wf_nodes::{ExceptNode, Node};
+use wf_frames::{Frame, Frames, enter, leave, map_of, try_node};
+use wf_model::{ExceptNode, Node};
 use wf_scope::Scopes;
-use wf_steps::{map_of, try_node};
 use wf_value::{OutOfMemory, Tag, Value};
 
 /// A `try` whose body has raised an error: its node, the retries used, and the last delay in milliseconds.

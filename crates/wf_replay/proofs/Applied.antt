@@ -3,9 +3,9 @@ use Rattle.std.specs.Prelude.{◌≡◌, ◌+◌, ℕ, List, ◌∷◌, length, 
 use Rattle.std.proofs.Common.{◌∙◌, ap, arith, length-append}
 use Rattle.wf_events.specs.Reading.{meaning}
 use Rattle.wf_events.specs.Records.{Record, Started, Turned, Kept, Upgrade, Packed, StartedTwo}
-use Rattle.wf_journal_laws.specs.At.{applied_by, events_of, turns_in, with_turn}
-use Rattle.wf_journal_laws.specs.History.{events}
-use Rattle.wf_shared.specs.Events.{Turn}
+use Rattle.wf_deeds.specs.At.{applied_by, events_of, turns_in, with_turn}
+use Rattle.wf_deeds.specs.History.{events}
+use Rattle.wf_value.specs.Events.{Turn}
 
 -- those of the first, and those of the others
 with_first : (r : Record) (ts : List Turn) → length (events (with_turn (Some r) ts)) ≡ length (events_of r) + length (events ts)

@@ -10,7 +10,7 @@ use Rattle.wf_machine.specs.declared.machine.Machine.{Machine}
 use Rattle.wf_model.specs.Config.{Config, After, To, Wrong, NotNow}
 use Rattle.wf_model.specs.Run.{run_on}
 use Rattle.wf_model.specs.Step.{next}
-use Rattle.wf_shared.specs.Events as plain
+use Rattle.wf_value.specs.Events as plain
 
 -- where events lead from where a machine stands
 unfoldable pub leads : Machine → List Event → After

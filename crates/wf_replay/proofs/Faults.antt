@@ -9,7 +9,7 @@ use Rattle.wf_history.specs.declared.fault.HistoryFault.TheVariants as history
 use Rattle.wf_machine.specs.declared.machine.Machine.{Machine}
 use Rattle.wf_replay.proofs.Steps.{stops, stops_at_bad}
 use Rattle.wf_replay.specs.Faults.{fault_of}
-use Rattle.wf_journal_laws.specs.History.{Standing, goes_on, goes_to, told}
+use Rattle.wf_deeds.specs.History.{Standing, goes_on, goes_to, told}
 use Rattle.wf_replay.specs.Standing.{stands_at}
 use Rattle.wf_replay.specs.declared.fault.ReplayFault.{ReplayFault}
 use Rattle.wf_replay.specs.declared.fault.ReplayFault.TheVariants.{BadEvent}

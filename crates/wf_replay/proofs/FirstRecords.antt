@@ -12,9 +12,9 @@ use Rattle.wf_machine.specs.Seen.{state_of}
 use Rattle.wf_machine.specs.declared.machine.Machine.{Machine}
 use Rattle.wf_model.specs.Config.{To}
 use Rattle.wf_model.specs.Run.{initial}
-use Rattle.wf_journal_laws.specs.At.{applied_by, turns_in, with_turn}
-use Rattle.wf_journal_laws.specs.History.{Standing, events, first_standing, goes_to, history, history_from, started}
-use Rattle.wf_journal_laws.specs.Language.{Language}
+use Rattle.wf_deeds.specs.At.{applied_by, turns_in, with_turn}
+use Rattle.wf_deeds.specs.History.{Standing, events, first_standing, goes_to, history, history_from, started}
+use Rattle.wf_deeds.specs.Language.{Language}
 use Rattle.wf_replay.specs.EngineFaults.{fault_of, replay_fault}
 use Rattle.wf_replay.specs.Openings.{NoFirst}
 use Rattle.wf_replay.specs.Standing.{stands_at}
@@ -22,7 +22,7 @@ use Rattle.wf_replay.specs.declared.engine_fault.EngineFault.TheVariants.{NotAHi
 use Rattle.wf_replay.specs.declared.engine_fault.EngineFault.{EngineFault}
 use Rattle.wf_replay.specs.declared.fault.ReplayFault.TheVariants as replay_fault_of
 use Rattle.wf_replay.specs.declared.fault.ReplayFault.{ReplayFault}
-use Rattle.wf_shared.specs.Events.{Start, Turn}
+use Rattle.wf_value.specs.Events.{Start, Turn}
 
 -- ## A first record
 at_first : (m : Machine) → stands_at 1 None m ≡ record { program = (state_of m).program; config = (state_of m).config; number = 1; session = 0; waits = 0 }

@@ -5,8 +5,8 @@ use Rattle.wf_events.specs.Reading.{meaning}
 use Rattle.wf_history.specs.Stands.{ahead}
 use Rattle.wf_history.specs.declared.history.History.{History}
 use Rattle.wf_host.specs.World.{World, Told}
-use Rattle.wf_journal_laws.proofs.Steps.{on}
-use Rattle.wf_journal_laws.specs.History.{Standing, goes_on, goes_to, told}
+use Rattle.wf_deeds.proofs.Steps.{on}
+use Rattle.wf_deeds.specs.History.{Standing, goes_on, goes_to, told}
 use Rattle.wf_machine.specs.declared.machine.Machine.{Machine}
 use Rattle.wf_replay.specs.Standing.{Passes, standing}
 

@@ -9,8 +9,8 @@ use Rattle.wf_host.specs.declared.data.Deed.{Deed}
 use Rattle.wf_journal.specs.Journal.{Stays}
 use Rattle.wf_machine.specs.Seen.{state_of}
 use Rattle.wf_machine.specs.declared.machine.Machine.{Machine}
-use Rattle.wf_journal_laws.specs.At.{applied_by}
-use Rattle.wf_journal_laws.specs.History.{goes_to}
+use Rattle.wf_deeds.specs.At.{applied_by}
+use Rattle.wf_deeds.specs.History.{goes_to}
 use Rattle.wf_replay.specs.Standing.{standing}
 
 -- what the loop keeps where the host tells, with the steps counted before it and by now

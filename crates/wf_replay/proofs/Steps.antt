@@ -4,8 +4,8 @@ use Rattle.std.proofs.Common.{sym, ◌∙◌, ap, ap₂}
 use Rattle.wf_events.specs.Reading.{meaning}
 use Rattle.wf_events.specs.Records.{Record}
 use Rattle.wf_history.specs.Stands.{IsBadAt, last_after}
-use Rattle.wf_journal_laws.proofs.Steps.{off, on}
-use Rattle.wf_journal_laws.specs.History.{Standing, goes_on, goes_to, told}
+use Rattle.wf_deeds.proofs.Steps.{off, on}
+use Rattle.wf_deeds.specs.History.{Standing, goes_on, goes_to, told}
 use Rattle.wf_machine.specs.declared.machine.Machine.{Machine}
 use Rattle.wf_replay.specs.Standing.{Passes, stands_at}
 

@@ -4,8 +4,8 @@
 use Rattle.std.specs.Prelude.{◌≡◌, ℕ, List, ◌∷◌, Option, Some, None}
 use Rattle.wf_ast.specs.Tree.{Program}
 use Rattle.wf_events.specs.Reading.{meaning}
-use Rattle.wf_journal_laws.specs.History.{first_standing}
-use Rattle.wf_journal_laws.specs.Language.{Language}
+use Rattle.wf_deeds.specs.History.{first_standing}
+use Rattle.wf_deeds.specs.Language.{Language}
 use Rattle.wf_source.specs.Programs.{IsSourceOf, IsRefusalOf}
 use Rattle.wf_status.specs.declared.Refusal.{Refusal}
 

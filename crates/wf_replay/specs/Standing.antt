@@ -5,7 +5,7 @@ use Rattle.wf_history.specs.Stands.{place, last}
 use Rattle.wf_history.specs.declared.history.History as history
 use Rattle.wf_machine.specs.Seen.{state_of}
 use Rattle.wf_machine.specs.declared.machine.Machine as machine
-use Rattle.wf_journal_laws.specs.History.{Standing, goes_on}
+use Rattle.wf_deeds.specs.History.{Standing, goes_on}
 
 abbrev pub session_of : Option (ℕ × ℕ) → ℕ
 session_of None = 0

@@ -1,7 +1,7 @@
 -- The language as far as it is built: its sources are those that are programs, with these programs.
 use Rattle.std.specs.Prelude.{Option, Some, None, Result, Ok, Err}
 use Rattle.wf_ast.specs.Tree.{Program}
-use Rattle.wf_journal_laws.specs.Language.{Language}
+use Rattle.wf_deeds.specs.Language.{Language}
 use Rattle.wf_source.specs.Function.{source_of}
 use Rattle.wf_status.specs.declared.Refusal.{Refusal}
 

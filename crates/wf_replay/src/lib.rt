@@ -1,7 +1,7 @@
 //! Replaying the records of a journal.
 //!
 //! [`first_machine`] reads record 0 and makes a machine of it. [`replay`] then applies the turns that the history has left, and tells the
-//! first record that doesn't go on from there, by the rules of wf_journal_laws; [`replay_turns`] applies the next ones of them alone.
+//! first record that doesn't go on from there, by the rules of wf_deeds; [`replay_turns`] applies the next ones of them alone.
 //! [`last_machine`] does both for a whole history.
 #![tactic(auto)]
 

@@ -1,14 +1,14 @@
 // The machine of a history: of its first record, and of all of them.
-ghost use Rattle.std.specs.Prelude.{◌≡◌, ◌≢◌, ◌⊎◌, ◌+◌, [], ◌∷◌, true, false, List, ℕ, option_map, Some, None, Ok, Err, OnOk, IfOk, IfErr, IsErrOf};
+ghost use Rattle.std.specs.Prelude.{◌≡◌, ◌≢◌, ◌+◌, [], ◌∷◌, true, false, List, ℕ, option_map, Some, None, Ok, Err, OnOk, IfOk, IfErr, IsErrOf};
 ghost use Rattle.wf_check.specs.Seen.{program_of};
 ghost use Rattle.wf_events.specs.Reading.{meaning};
 ghost use Rattle.wf_events.specs.View.{record_view};
 ghost use Rattle.wf_history.specs.Stands.{ahead, at_end, is_closed, is_new, last, place, Stands};
-ghost use Rattle.wf_host.specs.Calls.{AtAnyMoment, DiskFailed, DoesNoDeed, NoCountFalls, ReadsAsBefore, TellsAsBefore};
+ghost use Rattle.wf_host.specs.Calls.{AtAnyMoment, DiskFailed, DoesNoDeed, NoCountFalls, OnlyErrors, OnlyErrorsOr, ReadsAsBefore, TellsAsBefore};
 ghost use Rattle.wf_host.specs.World.{Told};
 ghost use Rattle.wf_journal.specs.Journal.{Stays};
-ghost use Rattle.wf_journal_laws.specs.At.{applied_by};
-ghost use Rattle.wf_journal_laws.specs.History.{first_standing, history as history_of};
+ghost use Rattle.wf_deeds.specs.At.{applied_by};
+ghost use Rattle.wf_deeds.specs.History.{first_standing, history as history_of};
 ghost use Rattle.wf_machine.specs.Seen.{state_of};
 ghost use Rattle.wf_replay.specs.Openings.{Accepts, NoFirst};
 ghost use Rattle.wf_replay.specs.Standing.{standing, stands_at};
@@ -60,8 +60,8 @@ pub fn last_machine<H: Host, L: Ledger>(
         (IfErr result (λ e. (n : ℕ) → e ≡ EngineFault.NotAHistory n
         → (history_of the_language (ahead history.old (H.world host.old).seen) ≡ Err n)
         × (ahead history.old (H.world host.old).seen ≢ []))) }
-    ensures only { IfErr result (λ e. (e ≡ EngineFault.DiskFault) ⊎ (e ≡ EngineFault.NotStarted)
-        ⊎ ((n : ℕ) × (e ≡ EngineFault.NotAHistory n)) ⊎ (e ≡ EngineFault.OutOfMemory)) }
+    ensures only { OnlyErrorsOr EngineFault.NotAHistory result (EngineFault.DiskFault ∷
+        EngineFault.NotStarted ∷ EngineFault.OutOfMemory ∷ []) }
     ensures deeds { DoesNoDeed H.world host.old host.new }
     ensures tells { TellsAsBefore H.world host.old host.new }
     ensures counts { NoCountFalls H.faults host.old host.new }
@@ -101,8 +101,8 @@ pub fn first_machine<H: Host>(
     ensures not_a_history { Told (H.world host.old)
         (IfErr result (λ e. (n : ℕ) → e ≡ EngineFault.NotAHistory n
         → NoFirst the_language n (ahead history.old (H.world host.old).seen))) }
-    ensures only { IfErr result (λ e. (e ≡ EngineFault.DiskFault) ⊎ (e ≡ EngineFault.NotStarted)
-        ⊎ ((n : ℕ) × (e ≡ EngineFault.NotAHistory n)) ⊎ (e ≡ EngineFault.OutOfMemory)) }
+    ensures only { OnlyErrorsOr EngineFault.NotAHistory result (EngineFault.DiskFault ∷
+        EngineFault.NotStarted ∷ EngineFault.OutOfMemory ∷ []) }
     ensures deeds { DoesNoDeed H.world host.old host.new }
     ensures tells { TellsAsBefore H.world host.old host.new }
     ensures counts { NoCountFalls H.faults host.old host.new }
@@ -131,8 +131,7 @@ fn machine_of(alloc: Global, first: &Record) -> Result<Machine, EngineFault>
     ensures whole { IfOk result (λ m. (state_of m).broken ≡ false) }
     ensures none { IsErrOf result (EngineFault.NotAHistory 0)
         → first_standing the_language (Some (record_view first.now)) ≡ None }
-    ensures only { IfErr result (λ e. (e ≡ EngineFault.NotAHistory 0)
-        ⊎ (e ≡ EngineFault.OutOfMemory)) }
+    ensures only { OnlyErrors result ((EngineFault.NotAHistory 0) ∷ EngineFault.OutOfMemory ∷ []) }
 {
     each_source_is_one();
     let Record::Start(start) = first else {

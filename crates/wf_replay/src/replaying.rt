@@ -1,15 +1,15 @@
 // Replaying a history.
-ghost use Rattle.std.specs.Prelude.{◌≡◌, ◌⊎◌, ◌↔◌, ◌&&◌, ◌<◌, ◌+◌, [], true, false, ℕ, suc, drop, length, take, Some, None, Ok, Err, IfOk, IfErr, OnOk, IsErrOf};
+ghost use Rattle.std.specs.Prelude.{◌≡◌, ◌⊎◌, ◌↔◌, ◌&&◌, ◌<◌, ◌+◌, [], true, false, ℕ, suc, drop, length, take, Some, None, Ok, Err, IfOk, IfErr, OnOk, IsErrOf, ◌∷◌};
 ghost use Rattle.wf_events.specs.View.{events_view, record_view, turn_view};
 ghost use Rattle.wf_history.specs.Stands.{ahead, at_end, is_closed, is_new, last_after, unread, Stands};
-ghost use Rattle.wf_host.specs.Calls.{AtAnyMoment, DiskFailed, DoesNoDeed, NoCountFalls, ReadsAsBefore, TellsAsBefore};
+ghost use Rattle.wf_host.specs.Calls.{AtAnyMoment, DiskFailed, DoesNoDeed, NoCountFalls, OnlyErrors, ReadsAsBefore, TellsAsBefore};
 ghost use Rattle.wf_host.specs.World.{Told};
 ghost use Rattle.wf_journal.specs.Journal.{Stays};
 ghost use Rattle.wf_machine.specs.Seen.{state_of};
 ghost use Rattle.wf_model.specs.Config.{Config, To};
 ghost use Rattle.wf_model.specs.Run.{run_on};
-ghost use Rattle.wf_journal_laws.specs.At.{applied_by, events_of};
-ghost use Rattle.wf_journal_laws.specs.History.{goes_on, goes_on_at, goes_to, is_numbered, told};
+ghost use Rattle.wf_deeds.specs.At.{applied_by, events_of};
+ghost use Rattle.wf_deeds.specs.History.{goes_on, goes_on_at, goes_to, is_numbered, told};
 ghost use Rattle.wf_replay.specs.Standing.{Passes, session_of, standing, stands_at, waits_of};
 
 use crate::ReplayFault;
@@ -207,8 +207,8 @@ fn replay_record<L: Ledger>(
     ensures bad_event { IfErr result (λ e. (n : ℕ) → e ≡ ReplayFault.BadEvent n
         → (goes_on (stands_at number last machine.old) (Some (record_view next.now)) ≡ None)
         × (n ≡ told number)) }
-    ensures only { IfErr result (λ e. (e ≡ ReplayFault.OutOfMemory)
-        ⊎ (e ≡ ReplayFault.BadEvent (told number))) }
+    ensures only { OnlyErrors result (ReplayFault.OutOfMemory ∷
+        (ReplayFault.BadEvent (told number)) ∷ []) }
 {
     let Record::Turn(turn) = next else {
         return Err(bad_event(number));

@@ -4,9 +4,9 @@ use Rattle.std.proofs.lemmas.List.{take-append-drop}
 use Rattle.std.specs.Prelude.{IsErr, IsErrAnd, suc}
 use Rattle.wf_events.specs.Reading.{meaning}
 use Rattle.wf_history.specs.declared.history.History.{History}
-use Rattle.wf_journal_laws.specs.History.{Standing, first_standing, goes_to, history}
-use Rattle.wf_journal_laws.specs.Language.{Language}
-use Rattle.wf_journal_laws.specs.Laws.{RecordsGoOn}
+use Rattle.wf_deeds.specs.History.{Standing, first_standing, goes_to, history}
+use Rattle.wf_deeds.specs.Language.{Language}
+use Rattle.wf_deeds.specs.HistoryLaws.{RecordsGoOn}
 use Rattle.wf_machine.specs.Seen.{state_of}
 use Rattle.wf_machine.specs.declared.machine.Machine.{Machine}
 use Rattle.wf_model.specs.Config.{Config}

@@ -6,8 +6,8 @@ use Rattle.wf_host.specs.Moments.{joined}
 use Rattle.wf_host.specs.World.{World, LeavesOnly}
 use Rattle.wf_journal.specs.Journal.{Stays}
 use Rattle.wf_journal.specs.Records.{magic, records}
-use Rattle.wf_journal_laws.specs.History.{history}
-use Rattle.wf_journal_laws.specs.Language.{Language}
+use Rattle.wf_deeds.specs.History.{history}
+use Rattle.wf_deeds.specs.Language.{Language}
 use Rattle.wf_machine.specs.Seen.{state_of}
 use Rattle.wf_machine.specs.declared.machine.Machine.{Machine}
 use Rattle.wf_replay.proofs.OnlyReads.{magic_found}

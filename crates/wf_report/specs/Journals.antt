@@ -4,8 +4,8 @@
 --     MayHaveRecords        a file that is new, or has the magic
 use Rattle.std.specs.Prelude.{◌≡◌, ◌⊎◌, ◌≤◌, ℕ, suc, List, length, take, Ok}
 use Rattle.wf_journal.specs.Records.{magic}
-use Rattle.wf_journal_laws.specs.History.{Standing, history}
-use Rattle.wf_journal_laws.specs.Language.{Language}
+use Rattle.wf_deeds.specs.History.{Standing, history}
+use Rattle.wf_deeds.specs.Language.{Language}
 use Rattle.wf_model.specs.Config.{Config}
 use Rattle.wf_report.specs.Texts.{shown}
 

@@ -4,7 +4,7 @@
 use Rattle.std.specs.Prelude.{ℕ, Bool, true, ◌||◌, nat_eq, if◌then◌else◌, List, [], ◌∷◌, ◌++◌, length, Option, Some, None, codes, decimal, flat_map}
 use Rattle.std.specs.List.{starts_with}
 use Rattle.wf_model.specs.Config.{Config, LogEntry, Outcome, Active, Returned, Raised, Cancelled}
-use Rattle.wf_shared.specs.Events.{severity_name}
+use Rattle.wf_value.specs.Events.{severity_name}
 use Rattle.wf_value.specs.Json.{json_text}
 
 -- ## What it has come to

@@ -3,7 +3,7 @@ ghost use Rattle.std.specs.Prelude.{◌≡◌, ◌≤◌, ◌++◌, IfOk, OnOk, 
 ghost use Rattle.wf_machine.specs.Log.{entry_by};
 ghost use Rattle.wf_machine.specs.Seen.{state_of};
 ghost use Rattle.wf_report.specs.Texts.{is_wanted, logged, told_of};
-ghost use Rattle.wf_shared.specs.Events.{severity_name};
+ghost use Rattle.wf_value.specs.Events.{severity_name};
 ghost use Rattle.wf_value.specs.Data.{depth};
 ghost use Rattle.wf_value.specs.Json.{json_text};
 ghost use Rattle.wf_value.specs.Plain.{plain};

@@ -1,12 +1,12 @@
 // Reading a journal for a report.
-ghost use Rattle.std.specs.Prelude.{◌≡◌, ◌≢◌, ◌⊎◌, ◌≤◌, ◌+◌, [], false, ℕ, Err, None, OnOk, IfOk, IfErr, IsErrOf, length, string_bytes, take};
+ghost use Rattle.std.specs.Prelude.{◌≡◌, ◌≢◌, ◌≤◌, ◌+◌, [], false, ℕ, Err, None, OnOk, IfOk, IfErr, IsErrOf, length, string_bytes, take, ◌∷◌};
 ghost use Rattle.wf_history.specs.Stands.{ahead, is_closed, is_new, last, place, Stands};
-ghost use Rattle.wf_host.specs.Calls.{AtAnyMoment, DiskFailed, DoesNoDeed, NoCountFalls, ReadsAsBefore, TellsAsBefore};
+ghost use Rattle.wf_host.specs.Calls.{AtAnyMoment, DiskFailed, DoesNoDeed, NoCountFalls, OnlyErrorsOr, ReadsAsBefore, TellsAsBefore};
 ghost use Rattle.wf_host.specs.World.{Only, Told};
 ghost use Rattle.wf_journal.specs.Journal.{Stays};
 ghost use Rattle.wf_journal.specs.Records.{magic, records};
-ghost use Rattle.wf_journal_laws.specs.At.{applied_by};
-ghost use Rattle.wf_journal_laws.specs.History.{history as history_of};
+ghost use Rattle.wf_deeds.specs.At.{applied_by};
+ghost use Rattle.wf_deeds.specs.History.{history as history_of};
 ghost use Rattle.wf_machine.specs.Seen.{state_of};
 ghost use Rattle.wf_replay.specs.TheLanguage.{the_language};
 ghost use Rattle.wf_report.specs.Journals.{LeadsTo, MayHaveRecords, Shows};
@@ -14,9 +14,9 @@ ghost use Rattle.wf_report.specs.Journals.{LeadsTo, MayHaveRecords, Shows};
 use crate::showing::show;
 use std::alloc::Global;
 use std::sync::ledger::Ledger;
+use wf_deeds::laws_of_histories;
 use wf_history::History;
 use wf_host::Host;
-use wf_journal_laws::laws_of_histories;
 use wf_machine::{Machine, Steps};
 use wf_replay::{EngineFault, first_machine, last_machine, replay, replay_turns};
 
@@ -56,9 +56,8 @@ pub fn last_state<H: Host, L: Ledger>(
         (IfErr result (λ e. (n : ℕ) → e ≡ EngineFault.NotAHistory n
         → (history_of the_language (records (H.world host.old).seen) ≡ Err n)
         × (records (H.world host.old).seen ≢ []) × (take 4 (H.world host.old).seen ≡ magic))) }
-    ensures only { IfErr result (λ e. (e ≡ EngineFault.DiskFault)
-        ⊎ (e ≡ EngineFault.NotAJournal) ⊎ (e ≡ EngineFault.NotStarted)
-        ⊎ ((n : ℕ) × (e ≡ EngineFault.NotAHistory n)) ⊎ (e ≡ EngineFault.OutOfMemory)) }
+    ensures only { OnlyErrorsOr EngineFault.NotAHistory result (EngineFault.DiskFault ∷
+        EngineFault.NotAJournal ∷ EngineFault.NotStarted ∷ EngineFault.OutOfMemory ∷ []) }
     ensures deeds { DoesNoDeed H.world host.old host.new }
     ensures tells { TellsAsBefore H.world host.old host.new }
     ensures counts { NoCountFalls H.faults host.old host.new }
@@ -100,9 +99,8 @@ pub fn state_at<H: Host, L: Ledger>(
         (IfErr result (λ e. (n : ℕ) → e ≡ EngineFault.NotAHistory n
         → (history_of the_language (records (H.world host.old).seen) ≡ Err n)
         × (records (H.world host.old).seen ≢ []) × (take 4 (H.world host.old).seen ≡ magic))) }
-    ensures only { IfErr result (λ e. (e ≡ EngineFault.DiskFault)
-        ⊎ (e ≡ EngineFault.NotAJournal) ⊎ (e ≡ EngineFault.NotStarted)
-        ⊎ ((n : ℕ) × (e ≡ EngineFault.NotAHistory n)) ⊎ (e ≡ EngineFault.OutOfMemory)) }
+    ensures only { OnlyErrorsOr EngineFault.NotAHistory result (EngineFault.DiskFault ∷
+        EngineFault.NotAJournal ∷ EngineFault.NotStarted ∷ EngineFault.OutOfMemory ∷ []) }
     ensures deeds { DoesNoDeed H.world host.old host.new }
     ensures tells { TellsAsBefore H.world host.old host.new }
     ensures counts { NoCountFalls H.faults host.old host.new }
@@ -143,8 +141,8 @@ fn front_state<H: Host, L: Ledger>(
         (IfErr result (λ e. (n : ℕ) → e ≡ EngineFault.NotAHistory n
         → (history_of the_language (ahead history.old (H.world host.old).seen) ≡ Err n)
         × (ahead history.old (H.world host.old).seen ≢ []))) }
-    ensures only { IfErr result (λ e. (e ≡ EngineFault.DiskFault) ⊎ (e ≡ EngineFault.NotStarted)
-        ⊎ ((n : ℕ) × (e ≡ EngineFault.NotAHistory n)) ⊎ (e ≡ EngineFault.OutOfMemory)) }
+    ensures only { OnlyErrorsOr EngineFault.NotAHistory result (EngineFault.DiskFault ∷
+        EngineFault.NotStarted ∷ EngineFault.OutOfMemory ∷ []) }
     ensures deeds { DoesNoDeed H.world host.old host.new }
     ensures tells { TellsAsBefore H.world host.old host.new }
     ensures counts { NoCountFalls H.faults host.old host.new }

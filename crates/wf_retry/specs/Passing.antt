@@ -1,6 +1,6 @@
 -- Errors that may pass by themselves.
 use Rattle.std.specs.Prelude.{Bool, ◌||◌, List, [], ◌∷◌, codes}
-use Rattle.wf_shared.specs.Policies.{has_code, has_tag}
+use Rattle.wf_value.specs.Policies.{has_code, has_tag}
 use Rattle.wf_value.specs.Data.{Data}
 use Rattle.wf_value.specs.Maps.{value_at}
 use Rattle.wf_value.specs.Pairs.{Text}

@@ -1,6 +1,6 @@
 // The delays of a retry.
 ghost use Rattle.std.specs.Prelude.{◌≡◌};
-ghost use Rattle.wf_shared.specs.Policies.{next_delay};
+ghost use Rattle.wf_value.specs.Policies.{next_delay};
 
 use wf_value::Backoff;
 

@@ -2,7 +2,7 @@
 ghost use Rattle.std.specs.List.{list_any};
 ghost use Rattle.std.specs.Prelude.{◌≡◌, codes, nat_eq};
 ghost use Rattle.wf_retry.specs.Passing.{may_pass};
-ghost use Rattle.wf_shared.specs.Policies.{default_says, has_code, has_tag, is_text};
+ghost use Rattle.wf_value.specs.Policies.{default_says, has_code, has_tag, is_text};
 ghost use Rattle.wf_value.specs.Maps.{value_at};
 ghost use Rattle.wf_value.specs.Plain.{plain};
 

@@ -1,8 +1,6 @@
-pub mod Assigns
 pub mod Binding
 pub mod Kept
 pub mod Live
-pub mod Looks
 pub mod Numbers
 pub mod Seen
 pub mod Totals

@@ -3,7 +3,7 @@ use Rattle.std.proofs.Common.{◌≡◌, ◌<◌, ◌≤◌, ◌+◌, ℕ, zero,
 use Rattle.std.proofs.lemmas.List.{set_split}
 use Rattle.std.proofs.lemmas.Slice.{first_rest}
 use Rattle.std.specs.List.{between}
-use Rattle.wf_model.specs.Layers.{written}
+use Rattle.wf_ast.specs.Places.{written}
 use Rattle.wf_value.specs.Data.{Data, integer, text, list, items_of, pairs_of}
 use Rattle.wf_value.specs.Data as tree
 use Rattle.wf_value.specs.Errors.{Answer, ◌>>=◌, or_error}

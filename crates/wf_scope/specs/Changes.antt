@@ -2,7 +2,7 @@
 --     bound, assigned       the layers behind it, or the fault
 --     Answers               what such a call answers, and the layers that it leaves
 use Rattle.std.specs.Prelude.{◌≡◌, ℕ, List, if◌then◌else◌, nat_le, unwrap_or, Some, None, Ok, Err, Option, Result}
-use Rattle.wf_model.specs.Layers.{written, made_new}
+use Rattle.wf_ast.specs.Places.{written, made_new}
 use Rattle.wf_value.specs.Data.{Data, depth}
 use Rattle.wf_value.specs.Errors.{Answer}
 use Rattle.wf_value.specs.Maps.{value_at}

@@ -8,12 +8,10 @@
 
 mod fault;
 mod key;
-mod laws;
 mod layer;
 mod scopes;
 mod written;
 
 pub use fault::AssignFault;
 pub use key::Key;
-pub use laws::{assigns_as_tasks_do, looks_as_tasks_do};
 pub use scopes::{Chain, Scopes};

@@ -1,6 +1,6 @@
 // A value with a new one put at places below it.
 ghost use Rattle.std.specs.Prelude.{◌≡◌, ◌<◌, ◌++◌, IfOk, length, map, option_map, slice_set};
-ghost use Rattle.wf_model.specs.Layers.{written};
+ghost use Rattle.wf_ast.specs.Places.{written};
 ghost use Rattle.wf_scope.specs.Faults.{Gives, Lends, faulted};
 ghost use Rattle.wf_scope.specs.Places.{item_at, key_data, member, with_item, with_key, with_member};
 ghost use Rattle.wf_value.specs.Plain.{plain, plain_items};

@@ -16,7 +16,7 @@ use Rattle.wf_source.specs.Function.{source_of}
 use Rattle.wf_source.specs.Rows.{WorkedSources}
 use Rattle.wf_source.specs.Sources.{read_tree}
 use Rattle.wf_span.specs.Lexer.{lex_within}
-use Rattle.wf_template.specs.Templates.{template_of}
+use Rattle.wf_expr.specs.Templates.{template_of}
 use Rattle.wf_yaml.specs.Reading.{reading}
 
 pub worked_sources : WorkedSources

@@ -5,7 +5,7 @@ use Rattle.std.specs.Prelude.{bytes_eq}
 use Rattle.wf_symbols.proofs.Places.{item_at, none_left}
 use Rattle.wf_symbols.specs.Names.{Adds, names_of}
 use Rattle.wf_symbols.specs.declared.names.Names.{Names}
-use Rattle.wf_shared.specs.HttpRequest.{is_among}
+use Rattle.wf_value.specs.HttpRequest.{is_among}
 use Rattle.wf_value.specs.Pairs.{Text}
 
 or_turn : (p q o : Bool) → (q || (p || o)) ≡ ((p || q) || o)

@@ -9,7 +9,7 @@ use Rattle.wf_symbols.specs.declared.around.Here.{Here}
 use Rattle.wf_symbols.specs.declared.around.Layer.{Layer}
 use Rattle.wf_symbols.specs.declared.around.Scopes.{Scopes}
 use Rattle.wf_symbols.specs.declared.names.Names as held
-use Rattle.wf_shared.specs.HttpRequest.{is_among}
+use Rattle.wf_value.specs.HttpRequest.{is_among}
 use Rattle.wf_value.specs.Pairs.{Text}
 
 pub has_named : (x : Text) (xs : List Text) → has_step x (steps_named xs) ≡ is_among x xs

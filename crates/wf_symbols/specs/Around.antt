@@ -12,7 +12,7 @@ use Rattle.wf_symbols.specs.declared.around.Inside.TheVariants as inside
 use Rattle.wf_symbols.specs.declared.around.Layer.{Layer}
 use Rattle.wf_symbols.specs.declared.around.Scopes.{Scopes}
 use Rattle.wf_symbols.specs.declared.names.Names as held
-use Rattle.wf_shared.specs.HttpRequest.{is_among}
+use Rattle.wf_value.specs.HttpRequest.{is_among}
 use Rattle.wf_value.specs.Pairs.{Text}
 
 abbrev pub inside_view : Inside → nodes.Inside

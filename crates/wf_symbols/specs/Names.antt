@@ -1,7 +1,7 @@
 -- Names that are known at a place.
 use Rattle.std.specs.Prelude.{◌≡◌, ◌||◌, List, map, string_bytes}
 use Rattle.wf_symbols.specs.declared.names.Names.{Names}
-use Rattle.wf_shared.specs.HttpRequest.{is_among}
+use Rattle.wf_value.specs.HttpRequest.{is_among}
 use Rattle.wf_value.specs.Pairs.{Text}
 
 -- the names of a set, in the order of their bytes

@@ -1,7 +1,7 @@
 // Names that are known at a place.
 ghost use Rattle.std.specs.Prelude.{◌≡◌, ◌||◌, bytes_eq, [], OnErr, OnOk};
 ghost use Rattle.wf_symbols.specs.Names.{names_of};
-ghost use Rattle.wf_shared.specs.HttpRequest.{is_among};
+ghost use Rattle.wf_value.specs.HttpRequest.{is_among};
 ghost use Rattle.wf_value.specs.Pairs.{Text as Bytes};
 
 use std::alloc::Global;

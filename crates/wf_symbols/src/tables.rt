@@ -5,7 +5,7 @@ ghost use Rattle.wf_ast.specs.Nodes.{arms_assigned, arms_step_names, assigned, b
 ghost use Rattle.wf_ast.specs.View.{arms_in, body_view, branches_in, loop_view, params_view, steps_in, texts_view, try_view};
 ghost use Rattle.wf_symbols.specs.Around.{SameNames, binds_of};
 ghost use Rattle.wf_symbols.specs.Names.{names_of, Adds};
-ghost use Rattle.wf_shared.specs.HttpRequest.{is_among};
+ghost use Rattle.wf_value.specs.HttpRequest.{is_among};
 ghost use Rattle.wf_value.specs.Pairs.{Text as Bytes};
 
 use crate::names::Names;

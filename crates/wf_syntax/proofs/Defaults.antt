@@ -11,7 +11,7 @@ use Rattle.wf_syntax.proofs.Ordered.{AllBelow, keys_below, put_last}
 use Rattle.wf_syntax.proofs.Valued.{Entry, item_plain, length_plain, plain_pair}
 use Rattle.wf_syntax.specs.Answers.{Fails, FailsAmong, Gives, GivesAll, IsOutside}
 use Rattle.wf_syntax.specs.declared.stop.Stop.{Stop}
-use Rattle.wf_template.specs.Texts.{has_expressions}
+use Rattle.wf_expr.specs.Texts.{has_expressions}
 use Rattle.wf_tree.specs.Plain.{plain_tree, plain_items, plain_pairs}
 use Rattle.wf_tree.specs.Trees as trees
 use Rattle.wf_tree.specs.Trees.{list, map, text, items_of, pairs_of}

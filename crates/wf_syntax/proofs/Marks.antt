@@ -5,7 +5,7 @@ use Rattle.std.proofs.lemmas.List.{get_or_default, take-append-drop}
 use Rattle.std.proofs.lemmas.Slice.Eq.{bytes_eq-Decides}
 use Rattle.std.specs.Bool.{one_answer}
 use Rattle.std.specs.Prelude.{bytes_eq}
-use Rattle.wf_shared.specs.HttpRequest.{is_among}
+use Rattle.wf_value.specs.HttpRequest.{is_among}
 use Rattle.wf_syntax_rules.specs.Names.{unmarked}
 use Rattle.wf_value.specs.Pairs.{Text}
 use Rattle.wf_syntax.proofs.Places.{item_at}

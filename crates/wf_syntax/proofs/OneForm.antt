@@ -7,7 +7,7 @@ use Rattle.wf_ast.specs.View.{arms_in, body_view, entries_view, except_option_vi
 use Rattle.wf_syntax_rules.proofs.OneForm.{Form, OneAtMost, after_parallel, after_steps, alone, assign_form, call_form, for_form, form_absent, form_there, parallel_form, raise_form, return_form, steps_form, switch_form, try_form}
 use Rattle.wf_syntax_rules.specs.Meaning.{AreEntries, AreSteps, At, IsBody, IsForm, IsText, IsValue, Maybe}
 use Rattle.wf_syntax_rules.specs.Rules.{forms, forms_in, has}
-use Rattle.wf_shared.specs.HttpRequest.{is_among}
+use Rattle.wf_value.specs.HttpRequest.{is_among}
 use Rattle.wf_syntax.specs.Forms.{AreArms, ArePartsOf, IsLoopMap, IsParallelMap, IsTriedMap, block_form, body_of, either, first_of, parallel_view}
 use Rattle.wf_syntax.specs.declared.parts.Parts.{Parts}
 use Rattle.wf_tree.specs.Trees.{Tree, Pairs}

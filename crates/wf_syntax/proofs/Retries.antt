@@ -7,7 +7,7 @@ use Rattle.wf_syntax_rules.specs.Meaning.{Else, IsAttempts, IsBackoff, IsPolicy,
 use Rattle.wf_syntax_rules.specs.Names.{is_name, unmarked}
 use Rattle.wf_syntax_rules.specs.Rules.{Attempts, Backoff, Factor, Predicate, Retry, Role, Seconds, Sub, at, demand, own, policies, predicates}
 use Rattle.wf_syntax_rules.specs.declared.fault.SyntaxKind.TheVariants.{WrongKind}
-use Rattle.wf_shared.specs.HttpRequest.{is_among}
+use Rattle.wf_value.specs.HttpRequest.{is_among}
 use Rattle.wf_syntax.proofs.Nodes.{both_sound, fails_first, fails_then, leaf_sound, map_fails, map_sound}
 use Rattle.wf_syntax.proofs.Rows.{told}
 use Rattle.wf_syntax.specs.Answers.{Fails, FailsAmong, Gives, GivesAll}

@@ -19,7 +19,7 @@ use Rattle.wf_value.specs.declared.path.PathPart.TheVariants.{Index, Key}
 use Rattle.std.proofs.Common.{Result, Ok, Err, MatchResult}
 use Rattle.wf_syntax.specs.declared.stop.Stop.{Stop}
 use Rattle.wf_syntax.proofs.Lists.{fails_below, fails_here, fails_among, each_next, each_fails, every_next, every_fails, take_next}
-use Rattle.wf_template.specs.Texts.{IsTemplateOf, NotBothOf}
+use Rattle.wf_expr.specs.Texts.{IsTemplateOf, NotBothOf}
 use Rattle.wf_tree.specs.Plain.{plain_tree, plain_items, plain_pairs}
 use Rattle.wf_tree.specs.Trees as trees
 use Rattle.wf_tree.specs.Trees.{list, map, text, depth, items_of, items_depth, pairs_of, pairs_depth}

@@ -12,7 +12,7 @@ use Rattle.wf_syntax_rules.specs.Names.{is_name}
 use Rattle.wf_syntax_rules.specs.Rules.{Flow, Literal, Parameter, Parameters, Steps, Sub, at, demand, every, has, has_only, keys, map_fault, own, single_of, unless}
 use Rattle.wf_syntax_rules.specs.declared.fault.SyntaxKind.{SyntaxKind}
 use Rattle.wf_syntax_rules.specs.declared.fault.SyntaxKind.TheVariants.{MissingField, UnknownField, WrongKind}
-use Rattle.wf_shared.specs.HttpRequest.{is_among}
+use Rattle.wf_value.specs.HttpRequest.{is_among}
 use Rattle.wf_syntax.proofs.Nodes.{both_sound, fails_first, fails_part, fails_then, leaf_sound, map_fails, map_sound, own_fails}
 use Rattle.wf_syntax.proofs.Targets.{single_is}
 use Rattle.wf_syntax.specs.Answers.{Fails, FailsAmong, Gives, GivesAll, IsHere, IsOutside}

@@ -1,7 +1,7 @@
 // Maps of the language.
 ghost use Rattle.std.specs.Prelude.{◌≡◌, ◌++◌, map, option_map};
 ghost use Rattle.wf_syntax_rules.specs.Rules as rules;
-ghost use Rattle.wf_shared.specs.HttpRequest.{is_among as among};
+ghost use Rattle.wf_value.specs.HttpRequest.{is_among as among};
 ghost use Rattle.wf_syntax.specs.Forms.{count_of, first_fields};
 ghost use Rattle.wf_tree.specs.Plain.{plain_tree};
 ghost use Rattle.wf_tree.specs.Trees.{pairs_of};

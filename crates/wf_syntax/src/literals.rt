@@ -12,8 +12,8 @@ ghost use Rattle.wf_value.specs.Plain.{plain};
 use crate::stop::Stop;
 use crate::words::owned;
 use std::alloc::Global;
+use wf_expr::has_expressions;
 use wf_syntax_rules::SyntaxKind;
-use wf_template::has_expressions;
 use wf_tree::Tree;
 use wf_value::{List, Map, Text, Value};
 

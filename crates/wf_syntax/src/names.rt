@@ -1,6 +1,6 @@
 // Names and words of the language.
 ghost use Rattle.std.specs.Prelude.{◌≡◌, map, not};
-ghost use Rattle.wf_shared.specs.HttpRequest.{is_among as among};
+ghost use Rattle.wf_value.specs.HttpRequest.{is_among as among};
 ghost use Rattle.std.specs.List.{list_all};
 ghost use Rattle.wf_syntax_rules.specs.Names as names;
 ghost use Rattle.wf_span.specs.Tokens.{is_letter, is_name_byte};

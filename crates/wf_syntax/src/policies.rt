@@ -5,7 +5,7 @@ ghost use Rattle.wf_ast.specs.View.{policy_option_view, policy_view, predicate_v
 ghost use Rattle.wf_syntax_rules.specs.Meaning.{Else, IsAttempts, IsBackoff, IsPolicy, IsPredicate, IsThousandths, Maybe, default_backoff, most_retries, policy_kind};
 ghost use Rattle.wf_syntax_rules.specs.Rules as rules;
 ghost use Rattle.wf_syntax_rules.specs.Rules.{Factor, Retry, Seconds, at};
-ghost use Rattle.wf_shared.specs.HttpRequest.{is_among};
+ghost use Rattle.wf_value.specs.HttpRequest.{is_among};
 ghost use Rattle.wf_syntax.specs.Answers.{Fails, FailsAmong, Gives, GivesAll};
 ghost use Rattle.wf_tree.specs.Plain.{plain_tree};
 ghost use Rattle.wf_tree.specs.Trees.{map, pairs_of};

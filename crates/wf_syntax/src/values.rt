@@ -7,16 +7,15 @@ ghost use Rattle.wf_syntax.specs.Answers.{Fails, FailsAmong, Gives, GivesAll};
 ghost use Rattle.wf_syntax_rules.specs.Meaning.{AreArguments, AreNamed, AreValues, IsRange, IsValue, Else, Maybe};
 ghost use Rattle.wf_syntax_rules.specs.Rules.{Arguments, Range, Value as AValue, at, each, every};
 ghost use Rattle.wf_tree.specs.Plain.{plain_items, plain_pairs, plain_tree};
-ghost use Rattle.wf_template.specs.Texts.{IsTemplateOf};
+ghost use Rattle.wf_expr.specs.Texts.{IsTemplateOf};
 ghost use Rattle.wf_tree.specs.Trees.{items_of, pairs_of, text as a_text};
 
 use crate::fields::field;
 use crate::stop::Stop;
 use std::alloc::Global;
 use wf_ast::{NamedTemplate, NamedTemplates, Template, Templates};
-use wf_expr::ExprFault;
+use wf_expr::{ExprFault, one_template, parse_template};
 use wf_syntax_rules::SyntaxKind;
-use wf_template::{one_template, parse_template};
 use wf_tree::{Tree, TreeMap};
 use wf_value::{Text, Value};
 

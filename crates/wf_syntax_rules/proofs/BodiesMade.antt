@@ -13,7 +13,7 @@ use Rattle.wf_syntax_rules.specs.Meaning.{AreEntries, AreSteps, AreTexts, ArmsIn
 use Rattle.wf_syntax_rules.specs.Rules.{Role, Sub, arm_fault, body_fields, body_parts, choice_fault, demand, each, field, forms, forms_in, has, has_all, has_only, loop_fault, map_fault, at, own, parallel_fault, parts, step_fault, try_fault, unless}
 use Rattle.wf_syntax_rules.specs.Rules as r
 use Rattle.wf_syntax_rules.specs.declared.fault.SyntaxKind.TheVariants.{NotAStep, WrongKind}
-use Rattle.wf_shared.specs.HttpRequest.{is_among}
+use Rattle.wf_value.specs.HttpRequest.{is_among}
 use Rattle.wf_tree.specs.Trees.{Tree, list, map, Items, no_items, item, Pairs, no_pairs, pair, depth, items_depth, pairs_depth}
 use Rattle.wf_value.specs.Pairs.{Text}
 

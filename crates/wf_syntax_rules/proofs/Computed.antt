@@ -12,7 +12,7 @@ use Rattle.wf_syntax_rules.specs.Made.{body_within}
 use Rattle.wf_syntax_rules.specs.Rows.{one, source, in_step}
 use Rattle.wf_syntax_rules.specs.declared.fault.SyntaxKind.TheVariants.{Expression}
 use Rattle.wf_span.specs.Lexer.{lex_within}
-use Rattle.wf_template.specs.Templates.{template_of}
+use Rattle.wf_expr.specs.Templates.{template_of}
 use Rattle.wf_tree.specs.Trees.{text}
 use Rattle.wf_value.specs.Data as values
 use Rattle.wf_value.specs.declared.path.PathPart.TheVariants.{Key}

@@ -4,7 +4,7 @@ use Rattle.std.proofs.lemmas.Bool.{and_parts, true≢false}
 use Rattle.std.proofs.lemmas.Slice.Eq.{bytes_eq-Decides}
 use Rattle.wf_syntax_rules.specs.Rules.{choice_fault, demand, field, has, has_all, has_only, map_fault, unless}
 use Rattle.wf_syntax_rules.specs.declared.fault.SyntaxKind.{SyntaxKind}
-use Rattle.wf_shared.specs.HttpRequest.{is_among}
+use Rattle.wf_value.specs.HttpRequest.{is_among}
 use Rattle.wf_tree.specs.Trees.{Tree, Pairs, no_pairs, pair}
 use Rattle.wf_value.specs.Pairs.{Text}
 

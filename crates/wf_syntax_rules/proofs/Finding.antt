@@ -16,10 +16,10 @@ use Rattle.wf_syntax_rules.specs.First.{Found, fault_in, text_fault, here, first
 use Rattle.wf_syntax_rules.specs.Rules.{Role, Flows, Target, Value, Sub, own, parts}
 use Rattle.wf_syntax_rules.specs.declared.fault.SyntaxKind.{SyntaxKind}
 use Rattle.wf_span.proofs.Unique.{tokens_are_one}
-use Rattle.wf_template.proofs.Made.{template_is_it}
-use Rattle.wf_template.proofs.Ones as templates
-use Rattle.wf_template.specs.Templates.{template_of}
-use Rattle.wf_template.specs.Texts.{IsTemplateOf, IsFaultOf}
+use Rattle.wf_expr.proofs.Made.{template_is_it}
+use Rattle.wf_expr.proofs.OneTemplate as templates
+use Rattle.wf_expr.specs.Templates.{template_of}
+use Rattle.wf_expr.specs.Texts.{IsTemplateOf, IsFaultOf}
 use Rattle.wf_tree.specs.Trees.{Tree, text, depth}
 use Rattle.wf_value.specs.Pairs.{Text}
 use Rattle.wf_value.specs.declared.path.PathPart.{PathPart}

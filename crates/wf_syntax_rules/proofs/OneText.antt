@@ -16,9 +16,9 @@ use Rattle.wf_span.proofs.Unique.{tokens_are_one}
 use Rattle.wf_span.specs.Tokens.{PlacedToken, FaultFrom}
 use Rattle.wf_span.specs.declared.token.LexFault.{LexFault}
 use Rattle.wf_span.specs.declared.token.LexFault.TheVariants as lex
-use Rattle.wf_template.specs.Pieces.{Piece, said, hole, unclosed, pieces}
-use Rattle.wf_template.specs.Texts as texts
-use Rattle.wf_template.specs.Texts.{IsFaultAt, IsFaultIn, IsFirstIn, IsPart, IsSound}
+use Rattle.wf_expr.specs.Pieces.{Piece, said, hole, unclosed, pieces}
+use Rattle.wf_expr.specs.Texts as texts
+use Rattle.wf_expr.specs.Texts.{IsFaultAt, IsFaultIn, IsFirstIn, IsPart, IsSound}
 use Rattle.wf_tree.specs.Trees.{Tree, text}
 use Rattle.wf_value.specs.Pairs.{Text}
 

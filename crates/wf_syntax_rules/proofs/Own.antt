@@ -3,8 +3,8 @@ use Rattle.std.proofs.Common.{◌≡◌, ◌++◌, ◌&&◌, ◌||◌, if◌then
 use Rattle.wf_syntax_rules.specs.Faults.{IsOwn}
 use Rattle.wf_syntax_rules.specs.Names.{is_name, is_step_name, unmarked}
 use Rattle.wf_syntax_rules.specs.Numbers.{thousandths_to, whole_within}
-use Rattle.wf_shared.specs.HttpRequest.{is_among}
-use Rattle.wf_template.specs.Texts.{has_expressions}
+use Rattle.wf_value.specs.HttpRequest.{is_among}
+use Rattle.wf_expr.specs.Texts.{has_expressions}
 use Rattle.wf_syntax_rules.specs.Rules.{Role, demand, own, unless, has}
 use Rattle.wf_syntax_rules.specs.Rules as r
 use Rattle.wf_syntax_rules.specs.declared.fault.SyntaxKind.{SyntaxKind}

@@ -16,9 +16,9 @@ use Rattle.wf_syntax_rules.specs.Numbers.{at_most, thousandths, whole_within}
 use Rattle.wf_syntax_rules.specs.Rules.{Role, demand, each, every, has, at, own, parts}
 use Rattle.wf_syntax_rules.specs.Rules as r
 use Rattle.wf_syntax_rules.specs.declared.fault.SyntaxKind.TheVariants.{WrongKind, Expression}
-use Rattle.wf_template.proofs.Made.{template_is_it}
-use Rattle.wf_template.specs.Templates.{template_of}
-use Rattle.wf_template.specs.Texts.{IsTemplateOf, IsFaultOf}
+use Rattle.wf_expr.proofs.Made.{template_is_it}
+use Rattle.wf_expr.specs.Templates.{template_of}
+use Rattle.wf_expr.specs.Texts.{IsTemplateOf, IsFaultOf}
 use Rattle.wf_tree.specs.Trees.{Tree, null, boolean, integer, decimal, text, list, map, Items, no_items, item, Pairs, no_pairs, pair}
 use Rattle.wf_value.specs.Data as values
 use Rattle.wf_value.specs.Pairs.{Text}

@@ -9,7 +9,7 @@ use Rattle.wf_expr.specs.declared.fault.ExprFault.TheVariants.{OutOfMemory}
 use Rattle.wf_syntax_rules.specs.Rules.{Role, Flows, Target, Value, Sub, own, parts}
 use Rattle.wf_syntax_rules.specs.declared.fault.SyntaxKind.{SyntaxKind}
 use Rattle.wf_syntax_rules.specs.declared.fault.SyntaxKind.TheVariants.{Expression}
-use Rattle.wf_template.specs.Texts.{IsFaultOf}
+use Rattle.wf_expr.specs.Texts.{IsFaultOf}
 use Rattle.wf_tree.specs.Trees.{Tree, text, list, map, no_pairs, pair}
 use Rattle.wf_value.specs.declared.path.PathPart.{PathPart}
 

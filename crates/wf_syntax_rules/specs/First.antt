@@ -6,7 +6,7 @@ use Rattle.wf_syntax_rules.specs.Faults.{FirstAt, IsSound, rooted}
 use Rattle.wf_syntax_rules.specs.Rules.{Role, Flows, Target, Value, Sub, own, parts}
 use Rattle.wf_syntax_rules.specs.declared.fault.SyntaxKind.{SyntaxKind}
 use Rattle.wf_syntax_rules.specs.declared.fault.SyntaxKind.TheVariants.{Expression}
-use Rattle.wf_template.specs.Templates.{template_of}
+use Rattle.wf_expr.specs.Templates.{template_of}
 use Rattle.wf_tree.specs.Trees.{Tree, text, depth}
 use Rattle.wf_value.specs.declared.path.PathPart.{PathPart}
 

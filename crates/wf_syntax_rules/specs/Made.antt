@@ -9,7 +9,7 @@ use Rattle.wf_syntax_rules.specs.Meaning.{default_backoff, most_retries, others,
 use Rattle.wf_syntax_rules.specs.Names.{unmarked}
 use Rattle.wf_syntax_rules.specs.Numbers.{thousandths, whole_within}
 use Rattle.wf_syntax_rules.specs.Rules.{field, has}
-use Rattle.wf_template.specs.Templates.{template_of}
+use Rattle.wf_expr.specs.Templates.{template_of}
 use Rattle.wf_tree.specs.Trees.{Tree, null, boolean, integer, text, list, map, Items, no_items, item, Pairs, no_pairs, pair, pairs_depth}
 use Rattle.wf_value.specs.Data as values
 use Rattle.wf_value.specs.Pairs.{Text}

@@ -8,7 +8,7 @@ use Rattle.wf_syntax_rules.specs.Faults.{IsSound, rooted}
 use Rattle.wf_syntax_rules.specs.Names.{unmarked}
 use Rattle.wf_syntax_rules.specs.Numbers.{thousandths, whole_within}
 use Rattle.wf_syntax_rules.specs.Rules.{Flows, field, form_names}
-use Rattle.wf_template.specs.Texts.{IsTemplateOf}
+use Rattle.wf_expr.specs.Texts.{IsTemplateOf}
 use Rattle.wf_tree.specs.Trees.{Tree, null, boolean, integer, text, list, map, Items, no_items, item, Pairs, no_pairs, pair}
 use Rattle.wf_value.specs.Data as values
 use Rattle.wf_value.specs.Pairs.{Text}

@@ -1,7 +1,7 @@
 -- Names and words of the language.
 use Rattle.std.specs.Prelude.{◌-◌, Bool, false, not, ◌&&◌, List, [], ◌∷◌, length, take, drop, if◌then◌else◌, codes, bytes_eq}
 use Rattle.std.specs.List.{list_all}
-use Rattle.wf_shared.specs.HttpRequest.{is_among}
+use Rattle.wf_value.specs.HttpRequest.{is_among}
 use Rattle.wf_span.specs.Tokens.{is_letter, is_name_byte}
 use Rattle.wf_value.specs.Pairs.{Text}
 

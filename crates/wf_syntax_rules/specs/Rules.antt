@@ -5,12 +5,12 @@
 use Rattle.std.specs.Prelude.{ℕ, suc, ◌+◌, Bool, true, false, not, ◌&&◌, ◌||◌, List, [], ◌∷◌, ◌++◌, Option, Some, None, is_some, codes, bytes_eq, if◌then◌else◌}
 use Rattle.std.specs.Prelude as seq
 use Rattle.std.specs.List.{list_all}
-use Rattle.wf_shared.specs.HttpRequest.{is_among}
+use Rattle.wf_value.specs.HttpRequest.{is_among}
 use Rattle.wf_syntax_rules.specs.Names.{is_name, is_step_name, unmarked}
 use Rattle.wf_syntax_rules.specs.Numbers.{thousandths_to, whole_within}
 use Rattle.wf_syntax_rules.specs.declared.fault.SyntaxKind.{SyntaxKind}
 use Rattle.wf_syntax_rules.specs.declared.fault.SyntaxKind.TheVariants.{NotAStep, UnknownField, MissingField, WrongKind}
-use Rattle.wf_template.specs.Texts.{has_expressions}
+use Rattle.wf_expr.specs.Texts.{has_expressions}
 use Rattle.wf_tree.specs.Trees.{Tree, decimal, text, list, map, Items, no_items, item, Pairs, no_pairs, pair}
 use Rattle.wf_value.specs.Pairs.{Text}
 use Rattle.wf_value.specs.declared.path.PathPart.{PathPart}

@@ -3,8 +3,7 @@ ghost use Rattle.wf_syntax_rules.specs.Built.{BuiltIsIt};
 ghost use Rattle.wf_syntax_rules.specs.First.{FirstFaultIsIt};
 ghost use Rattle.wf_syntax_rules.specs.Laws.{FirstIsAFault, NodeIsSound, NotBothBuilt, OneFault, OneProgram, SmallBackoffs};
 
-use wf_expr::one_target;
-use wf_template::one_template;
+use wf_expr::{one_target, one_template};
 
 /// A tree is one program at most, and it is not both a program and refused.
 pub fn one_program()

@@ -1,10 +1,10 @@
 -- Nodes that are added one after another.
 use Rattle.std.proofs.Common.{◌≡◌, ℕ, suc, ◌+◌, List, [], ◌∷◌, ◌++◌, length, map, set, refl, sym, ap, ◌∙◌, append_assoc, arith, length-append, Result, Ok, Err, IfOk}
 use Rattle.std.proofs.lemmas.List.{append-nil, length-map, map-append, map-set, set_at}
-use Rattle.wf_nodes.specs.Kinds.{node_view}
+use Rattle.wf_model.specs.NodeKinds.{node_view}
 use Rattle.wf_table.specs.Made.{Adds, view_for, views_for}
-use Rattle.wf_nodes.specs.Spots.{Spot}
-use Rattle.wf_nodes.specs.declared.node.Node.{Node}
+use Rattle.wf_model.specs.Spots.{Spot}
+use Rattle.wf_model.specs.declared.node.Node.{Node}
 
 plus_zero : (n : ℕ) → n ≡ n + 0
 plus_zero n = omega arith

@@ -11,12 +11,12 @@ use Rattle.wf_ast.specs.declared.body.Step.{Step}
 use Rattle.wf_ast.specs.declared.body.StepList.{StepList}
 use Rattle.wf_table.proofs.Adding.{longer}
 use Rattle.wf_table.proofs.Sizes.{step_long}
-use Rattle.wf_nodes.specs.Compiles.{Compiles}
-use Rattle.wf_nodes.specs.Kinds.{Kind, Repeated, Side}
+use Rattle.wf_model.specs.Compiles.{Compiles}
+use Rattle.wf_model.specs.NodeKinds.{Kind, Repeated, Side}
 use Rattle.wf_table.specs.Made.{Adds, body_for, loop_for, side_for}
-use Rattle.wf_nodes.specs.Shapes.{Compiled}
-use Rattle.wf_nodes.specs.Spots.{body_size, body_spots, loop_spots, step_spots, work_spots}
-use Rattle.wf_nodes.specs.declared.node.Node.{Node}
+use Rattle.wf_model.specs.Shapes.{Compiled}
+use Rattle.wf_model.specs.Spots.{body_size, body_spots, loop_spots, step_spots, work_spots}
+use Rattle.wf_model.specs.declared.node.Node.{Node}
 
 pub formed : (a b : List Node) (p q : Compiled) (f : Compiled → Kind) (n : ℕ) (os : List ℕ) (x y : t.Body) → y ≡ x
     → Compiles p q f (body_for n (length os) x) → Adds a b (body_spots x n os) → Compiles p q f (body_for n (length os) y) × Adds a b (body_spots y n os)

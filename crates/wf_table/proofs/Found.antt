@@ -5,8 +5,8 @@ use Rattle.wf_value.specs.Pairs.{Text}
 use Rattle.wf_table.proofs.Lying.{Lies, behind, left, others, owners_are, part_is, within}
 use Rattle.wf_table.proofs.Sizes.{body_long, step_long, steps_long}
 use Rattle.wf_table.specs.Made.{arm_numbers, branch_numbers, entry_numbers, step_numbers}
-use Rattle.wf_nodes.specs.Spots.{ArmAt, BodyAt, BranchAt, EntryAt, Spot, arms_by, arms_spots, body_size, body_spots, branches_by, branches_spots, entries_by, entries_spots, part_body, part_branch, part_condition, part_entry, part_next, part_step, spot, step_size, step_spots, steps_by, steps_size, steps_spots}
-use Rattle.wf_nodes.specs.Table.{AreAbove, AreBelow, AreRising, ArmsStandIn, StandIn}
+use Rattle.wf_model.specs.Spots.{ArmAt, BodyAt, BranchAt, EntryAt, Spot, arms_by, arms_spots, body_size, body_spots, branches_by, branches_spots, entries_by, entries_spots, part_body, part_branch, part_condition, part_entry, part_next, part_step, spot, step_size, step_spots, steps_by, steps_size, steps_spots}
+use Rattle.wf_model.specs.Table.{AreAbove, AreBelow, AreRising, ArmsStandIn, StandIn}
 
 -- ## Steps
 -- the steps behind the first

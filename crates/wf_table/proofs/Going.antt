@@ -5,8 +5,8 @@ use Rattle.std.proofs.Common.{◌≡◌, ℕ, ◌+◌, ◌<◌, ◌≤◌, List,
 use Rattle.std.proofs.lemmas.List.{append-nil, drop_all, drop_more}
 use Rattle.wf_table.proofs.Adding.{longer, nothing, of_these, then}
 use Rattle.wf_table.specs.Made.{Adds}
-use Rattle.wf_nodes.specs.Spots.{Spot}
-use Rattle.wf_nodes.specs.declared.node.Node.{Node}
+use Rattle.wf_model.specs.Spots.{Spot}
+use Rattle.wf_model.specs.declared.node.Node.{Node}
 
 pub record Lays {X : Type 0} (parts : List X → ℕ → List Spot) (numbers : List X → ℕ → List ℕ) (own : X → ℕ → List Spot) : Type 0 where
   pub no_parts : (n : ℕ) → parts [] n ≡ []

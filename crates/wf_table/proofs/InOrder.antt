@@ -5,7 +5,7 @@ use Rattle.wf_ast.specs.Nodes as rules
 use Rattle.wf_ast.specs.Nodes.{Around, Path, arms_nodes, below, body_nodes, branches_nodes, entry_nodes, except_nodes, flow_around, flow_nodes, in_block, in_layer, in_loop, in_task, loop_binds, loop_nodes, nodes, nth, parallel_loop_nodes, parallel_nodes, step_nodes, steps_nodes, try_nodes, work_nodes}
 use Rattle.wf_ast.specs.Tree.{Entry, Step, step, Steps, no_steps, more, Body, Arms, no_arms, arm, LoopBody, loop, ParallelBody, parallel, Work, OfBranches, OfLoop, Branches, no_branches, branch, TryBody, try, Except, no_except, except, Flow}
 use Rattle.wf_table.specs.Preorder.{ArmCore, BodyCore, BranchCore, EntryCore, FlowCore, InPreorder, node_core, spot_core}
-use Rattle.wf_nodes.specs.Spots.{Spot, arms_spots, body_size, body_spots, branches_spots, entries_spots, except_spots, flow_spots, flows_spots, loop_spots, parallel_spots, step_size, step_spots, steps_size, steps_spots, try_spots, work_spots}
+use Rattle.wf_model.specs.Spots.{Spot, arms_spots, body_size, body_spots, branches_spots, entries_spots, except_spots, flow_spots, flows_spots, loop_spots, parallel_spots, step_size, step_spots, steps_size, steps_spots, try_spots, work_spots}
 use Rattle.wf_value.specs.Pairs.{Text}
 use Rattle.wf_value.specs.declared.path.PathPart.TheVariants.{Key}
 

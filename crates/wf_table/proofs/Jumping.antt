@@ -5,17 +5,17 @@ use Rattle.std.proofs.lemmas.List.{length-map}
 use Rattle.std.proofs.lemmas.Option.{slice_get-map, slice_get_within}
 use Rattle.wf_ast.specs.Tree.{Step, Steps, no_steps, more, Body, parallel, try, Flow}
 use Rattle.wf_model.specs.Unwind.{from_step}
-use Rattle.wf_shared.specs.HttpUrl.{first_of_two}
+use Rattle.wf_value.specs.HttpUrl.{first_of_two}
 use Rattle.wf_table.proofs.Adding.{views_length}
 use Rattle.wf_table.proofs.Sound.{Nested, later, outside_of, sound}
-use Rattle.wf_nodes.specs.Kinds as kind
-use Rattle.wf_nodes.specs.Kinds.{Handler, Kind, Listed, Side, View, node_view}
+use Rattle.wf_model.specs.NodeKinds as kind
+use Rattle.wf_model.specs.NodeKinds.{Handler, Kind, Listed, Side, View, node_view}
 use Rattle.wf_table.specs.Made.{kind_for, view_for, views_for}
 use Rattle.wf_table.specs.Named.{below, depth_of, first_named, node_named, numbers_of, outer_of, owner_outside, when_named}
-use Rattle.wf_nodes.specs.Spots.{Part, FlowAt, BodyAt, ArmAt, EntryAt, BranchAt, NoPart, Spot, except_list, from, owners_at, part_at, part_list, part_name, part_next, part_step, spot_owners, spot_part, spots, steps_by, work_list}
-use Rattle.wf_nodes.specs.Table.{AreAbove, AreBelow, AreRising, Lacks, Leads, LeadsInto, ListStands, except_of, handler_list, innermost, kind_list, list_at, outside, part_by, side_list, view_list, work_of}
-use Rattle.wf_nodes.specs.declared.node.Jump.{Jump}
-use Rattle.wf_nodes.specs.declared.node.Node.{Node}
+use Rattle.wf_model.specs.Spots.{Part, FlowAt, BodyAt, ArmAt, EntryAt, BranchAt, NoPart, Spot, except_list, from, owners_at, part_at, part_list, part_name, part_next, part_step, spot_owners, spot_part, spots, steps_by, work_list}
+use Rattle.wf_model.specs.Table.{AreAbove, AreBelow, AreRising, Lacks, Leads, LeadsInto, ListStands, except_of, handler_list, innermost, kind_list, list_at, outside, part_by, side_list, view_list, work_of}
+use Rattle.wf_model.specs.declared.node.Jump.{Jump}
+use Rattle.wf_model.specs.declared.node.Node.{Node}
 use Rattle.wf_value.specs.Pairs.{Text}
 
 -- ## Nodes of parts

@@ -10,7 +10,7 @@ use Rattle.wf_ast.specs.declared.program.Flow.{Flow}
 use Rattle.wf_table.proofs.Going.{Lays}
 use Rattle.wf_table.proofs.Sizes.{body_long, step_long, steps_long}
 use Rattle.wf_table.specs.Made.{arm_numbers, branch_numbers, entry_numbers, flow_numbers, step_numbers}
-use Rattle.wf_nodes.specs.Spots.{ArmAt, BodyAt, BranchAt, EntryAt, Spot, arms_spots, body_spots, branches_spots, entries_spots, flow_spots, flows_spots, spot, step_spots, steps_spots}
+use Rattle.wf_model.specs.Spots.{ArmAt, BodyAt, BranchAt, EntryAt, Spot, arms_spots, body_spots, branches_spots, entries_spots, flow_spots, flows_spots, spot, step_spots, steps_spots}
 
 -- ## Steps
 abbrev pub step_parts : List ℕ → List Step → ℕ → List Spot

@@ -1,6 +1,6 @@
 -- Parts that lie in a row among the parts of a program.
 use Rattle.std.proofs.Common.{◌≡◌, ℕ, zero, suc, ◌+◌, ◌<◌, List, [], ◌∷◌, ◌++◌, length, drop, slice_get, Some, sym, ap, ◌∙◌, append_assoc, arith}
-use Rattle.wf_nodes.specs.Spots.{Part, Spot, owners_at, part_at, spot, spot_owners, spot_part}
+use Rattle.wf_model.specs.Spots.{Part, Spot, owners_at, part_at, spot, spot_owners, spot_part}
 
 -- from number n on these parts lie
 pub record Lies (ns : List Spot) (n : ℕ) (xs : List Spot) : Type 0 where

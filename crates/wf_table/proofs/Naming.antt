@@ -4,11 +4,11 @@ use Rattle.std.proofs.lemmas.List.{drop_all, drop_more}
 use Rattle.std.proofs.lemmas.Option.{slice_get-map}
 use Rattle.std.proofs.lemmas.Slice.Eq.{bytes_eq-Decides}
 use Rattle.std.specs.Bool.{one_answer}
-use Rattle.wf_shared.specs.HttpUrl.{first_of_two}
-use Rattle.wf_nodes.specs.Kinds.{View, node_view}
+use Rattle.wf_value.specs.HttpUrl.{first_of_two}
+use Rattle.wf_model.specs.NodeKinds.{View, node_view}
 use Rattle.wf_table.specs.Named.{first_named, node_named, number_of, when_named}
 use Rattle.wf_table.specs.declared.names.Names.{Names}
-use Rattle.wf_nodes.specs.declared.node.Node.{Node}
+use Rattle.wf_model.specs.declared.node.Node.{Node}
 use Rattle.wf_value.specs.Pairs.{Text}
 
 either_way : (x y : Text) → bytes_eq x y ≡ bytes_eq y x

@@ -1,7 +1,7 @@
 -- How many parts there are.
 use Rattle.std.proofs.Common.{◌≡◌, ℕ, suc, ◌+◌, List, [], ◌∷◌, ◌++◌, length, refl, ap, ◌∙◌, arith, length-append}
 use Rattle.wf_ast.specs.Tree.{Entry, Step, step, Steps, no_steps, more, Body, Arms, no_arms, arm, LoopBody, loop, ParallelBody, parallel, Work, OfBranches, OfLoop, Branches, no_branches, branch, TryBody, try, Except, no_except, except}
-use Rattle.wf_nodes.specs.Spots.{Spot, arms_size, arms_spots, body_size, body_spots, branches_size, branches_spots, entries_size, entries_spots, except_size, except_spots, loop_size, loop_spots, parallel_size, parallel_spots, step_size, step_spots, steps_size, steps_spots, try_size, try_spots, work_size, work_spots}
+use Rattle.wf_model.specs.Spots.{Spot, arms_size, arms_spots, body_size, body_spots, branches_size, branches_spots, entries_size, entries_spots, except_size, except_spots, loop_size, loop_spots, parallel_size, parallel_spots, step_size, step_spots, steps_size, steps_spots, try_size, try_spots, work_size, work_spots}
 
 pub entries_long : (es : List Entry) (os : List ℕ) → length (entries_spots es os) ≡ entries_size es
 entries_long [] os = refl

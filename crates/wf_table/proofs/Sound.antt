@@ -8,10 +8,10 @@ use Rattle.wf_value.specs.Pairs.{Text}
 use Rattle.wf_table.proofs.Found.{arm_body, arms_found, arms_stand, behind_arm, behind_branch, behind_step, branch_steps, branches_below, branches_found, entries_below, entries_found, steps_below, steps_found, steps_rising, steps_stand}
 use Rattle.wf_table.proofs.Lying.{Lies, behind, left, others, owners_are, part_is, within}
 use Rattle.wf_table.proofs.Sizes.{body_long, step_long, steps_long}
-use Rattle.wf_nodes.specs.Kinds.{listed}
+use Rattle.wf_model.specs.NodeKinds.{listed}
 use Rattle.wf_table.specs.Made.{arm_numbers, handler_for, step_numbers, view_for}
-use Rattle.wf_nodes.specs.Spots.{Part, part_next, FlowAt, BodyAt, ArmAt, EntryAt, BranchAt, Spot, arms_spots, body_size, body_spots, branches_spots, entries_spots, except_spots, flow_spots, flows_spots, loop_spots, owners_at, parallel_spots, part_at, part_body, part_next, spot, spots, step_size, step_spots, steps_size, steps_spots, try_spots, work_spots}
-use Rattle.wf_nodes.specs.Table.{ArmsStandIn, Describes, ListStands, handler_list, StandIn, except_of, innermost}
+use Rattle.wf_model.specs.Spots.{Part, part_next, FlowAt, BodyAt, ArmAt, EntryAt, BranchAt, Spot, arms_spots, body_size, body_spots, branches_spots, entries_spots, except_spots, flow_spots, flows_spots, loop_spots, owners_at, parallel_spots, part_at, part_body, part_next, spot, spots, step_size, step_spots, steps_size, steps_spots, try_spots, work_spots}
+use Rattle.wf_model.specs.Table.{ArmsStandIn, Describes, ListStands, handler_list, StandIn, except_of, innermost}
 
 -- ## What is said
 -- what owns the lists around the list of a part

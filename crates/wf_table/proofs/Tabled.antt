@@ -3,21 +3,21 @@ use Rattle.std.proofs.Common.{◌≡◌, ℕ, zero, suc, ◌+◌, ◌<◌, ◌�
 use Rattle.std.proofs.lemmas.List.{append-nil, length-map}
 use Rattle.std.proofs.lemmas.Option.{slice_get-map, slice_get_within}
 use Rattle.wf_ast.specs.Tree.{Flow}
-use Rattle.wf_shared.specs.HttpUrl.{first_of_two}
+use Rattle.wf_value.specs.HttpUrl.{first_of_two}
 use Rattle.wf_table.proofs.Adding.{views_length}
 use Rattle.wf_table.proofs.Jumping.{named_at, spot_of}
 use Rattle.wf_table.proofs.Lying.{Lies, behind, left, part_is, within}
 use Rattle.wf_table.proofs.Sizes.{steps_long}
 use Rattle.wf_table.proofs.Sound.{sound}
 use Rattle.wf_table.specs.Built.{flow_number}
-use Rattle.wf_nodes.specs.Kinds.{View, node_view}
+use Rattle.wf_model.specs.NodeKinds.{View, node_view}
 use Rattle.wf_table.specs.Made.{flow_numbers, views_for}
 use Rattle.wf_table.specs.Named.{Finds, first_named, number_of, numbers_of, when_named}
-use Rattle.wf_nodes.specs.Spots.{FlowAt, Spot, flow_spots, flows_spots, owners_at, part_name, spots, steps_size}
-use Rattle.wf_nodes.specs.Table.{Describes, EachLeads, NextLeads, Resolves, kind_list, list_at, view_list}
+use Rattle.wf_model.specs.Spots.{FlowAt, Spot, flow_spots, flows_spots, owners_at, part_name, spots, steps_size}
+use Rattle.wf_model.specs.Table.{Describes, EachLeads, NextLeads, Resolves, kind_list, list_at, view_list}
 use Rattle.wf_table.specs.declared.names.Names.{Names}
-use Rattle.wf_nodes.specs.declared.node.Jump.{Jump}
-use Rattle.wf_nodes.specs.declared.node.Node.{Node}
+use Rattle.wf_model.specs.declared.node.Jump.{Jump}
+use Rattle.wf_model.specs.declared.node.Node.{Node}
 use Rattle.wf_value.specs.Pairs.{Text}
 
 pub resolves : (fs : List Flow) (nodes : List Node) → map node_view nodes ≡ views_for 0 (spots fs) → EachLeads (spots fs) nodes → Resolves (spots fs) nodes

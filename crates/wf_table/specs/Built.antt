@@ -1,10 +1,10 @@
 -- What a table has.
 use Rattle.std.specs.Prelude.{ℕ, suc, ◌+◌, List, [], ◌∷◌, Option, None}
 use Rattle.wf_ast.specs.Tree.{Flow}
-use Rattle.wf_shared.specs.HttpUrl.{first_of_two}
+use Rattle.wf_value.specs.HttpUrl.{first_of_two}
 use Rattle.wf_table.specs.Named.{number_of, when_named}
-use Rattle.wf_nodes.specs.Spots.{steps_size}
-use Rattle.wf_nodes.specs.declared.node.Node.{Node}
+use Rattle.wf_model.specs.Spots.{steps_size}
+use Rattle.wf_model.specs.declared.node.Node.{Node}
 use Rattle.wf_table.specs.declared.table.Table.{Table}
 use Rattle.wf_value.specs.Pairs.{Text}
 

@@ -1,12 +1,12 @@
 -- The nodes that are made of parts, from a number on.
 use Rattle.std.specs.Prelude.{◌≡◌, ℕ, suc, ◌+◌, List, [], ◌∷◌, ◌++◌, length, map, Option, None, Some}
 use Rattle.wf_ast.specs.Tree.{Entry, Steps, no_steps, more, Body, Arms, no_arms, arm, LoopBody, loop, ParallelBody, parallel, Work, OfBranches, OfLoop, Branches, no_branches, branch, TryBody, try, Except, no_except, except, Flow}
-use Rattle.wf_nodes.specs.Kinds.{Handler, Kind, Repeated, Side, View, listed, node_view}
-use Rattle.wf_nodes.specs.Kinds as kind
-use Rattle.wf_nodes.specs.Spots.{Part, FlowAt, BodyAt, ArmAt, EntryAt, BranchAt, NoPart, Spot, body_size, step_size, steps_size, part_name, part_next}
-use Rattle.wf_nodes.specs.Table.{innermost}
+use Rattle.wf_model.specs.NodeKinds.{Handler, Kind, Repeated, Side, View, listed, node_view}
+use Rattle.wf_model.specs.NodeKinds as kind
+use Rattle.wf_model.specs.Spots.{Part, FlowAt, BodyAt, ArmAt, EntryAt, BranchAt, NoPart, Spot, body_size, step_size, steps_size, part_name, part_next}
+use Rattle.wf_model.specs.Table.{innermost}
 use Rattle.wf_table.specs.declared.around.Here.{Here}
-use Rattle.wf_nodes.specs.declared.node.Node.{Node}
+use Rattle.wf_model.specs.declared.node.Node.{Node}
 
 -- whose list a body stands in, and in how many, when these own the lists around it
 pub record StandsIn (h : Here) (os : List ℕ) : Type 0 where

@@ -3,7 +3,7 @@ use Rattle.std.specs.Prelude.{◌≡◌, List, [], map}
 use Rattle.wf_ast.specs.Nodes as rules
 use Rattle.wf_ast.specs.Nodes.{nodes}
 use Rattle.wf_ast.specs.Tree.{Template, Entry, Steps, Body, Flow}
-use Rattle.wf_nodes.specs.Spots.{Part, FlowAt, BodyAt, ArmAt, EntryAt, BranchAt, NoPart, Spot, spots}
+use Rattle.wf_model.specs.Spots.{Part, FlowAt, BodyAt, ArmAt, EntryAt, BranchAt, NoPart, Spot, spots}
 use Rattle.wf_value.specs.Pairs.{Text}
 
 -- what a part and a node have in common

@@ -2,19 +2,19 @@
 ghost use Rattle.std.specs.Prelude.{◌≡◌, IfOk, ℕ, suc, List, [], ◌∷◌, length, map};
 ghost use Rattle.wf_ast.specs.Tree as t;
 ghost use Rattle.wf_ast.specs.View.{arm_view, body_view, branch_view, call_view, except_option_view, flow_view, loop_view, over_view, policy_option_view, steps_in, try_view, work_view};
-ghost use Rattle.wf_nodes.specs.Compiles.{Compiles, code_list};
-ghost use Rattle.wf_nodes.specs.Kinds as kind;
-ghost use Rattle.wf_nodes.specs.Kinds.{block_view, call_by, handler_view, kind_by, listed, loop_by, over_by, side_by};
+ghost use Rattle.wf_model.specs.Compiles.{Compiles, code_list};
+ghost use Rattle.wf_model.specs.NodeKinds as kind;
+ghost use Rattle.wf_model.specs.NodeKinds.{block_view, call_by, handler_view, kind_by, listed, loop_by, over_by, side_by};
 ghost use Rattle.wf_table.specs.Made.{Adds, StandsIn, arm_numbers, body_for, branch_numbers, flow_numbers, handler_for, loop_for, side_for, step_numbers, try_for};
-ghost use Rattle.wf_nodes.specs.Spots.{BranchAt, arms_spots, body_spots, branches_spots, except_spots, flow_spots, flows_spots, loop_spots, spot, step_spots, steps_spots, try_spots, work_spots};
+ghost use Rattle.wf_model.specs.Spots.{BranchAt, arms_spots, body_spots, branches_spots, except_spots, flow_spots, flows_spots, loop_spots, spot, step_spots, steps_spots, try_spots, work_spots};
 
 use crate::around::Here;
 use crate::copies;
 use crate::growing::{arm, entries, hold};
 use std::alloc::Global;
 use wf_ast::{Arm, Body, Branch, CallBody, Except, Flow, LoopBody, Over, StepList, TryBody, Work};
-use wf_nodes::grow::{add, put};
-use wf_nodes::{
+use wf_model::grow::{add, put};
+use wf_model::{
     Block, CallNode, Codes, ExceptNode, FlowNode, LoopNode, Node, NodeKind, OverShape,
     ParallelNode, TryNode, WorkNode, named_of, shape_of,
 };

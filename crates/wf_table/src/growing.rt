@@ -1,17 +1,17 @@
 // Nodes that are added to a table.
 ghost use Rattle.std.specs.Prelude.{◌≡◌, IfOk, ℕ, List, [], ◌∷◌, ◌++◌, length, map};
 ghost use Rattle.wf_ast.specs.View.{entry_view, expr_view, template_view};
-ghost use Rattle.wf_nodes.specs.Compiles.{Compiles, Reads, code_list};
-ghost use Rattle.wf_nodes.specs.Kinds.{entry_by, kind_by, node_view};
+ghost use Rattle.wf_model.specs.Compiles.{Compiles, Reads, code_list};
+ghost use Rattle.wf_model.specs.NodeKinds.{entry_by, kind_by, node_view};
 ghost use Rattle.wf_table.specs.Made.{Adds, StandsIn, entry_numbers, leaf_view};
-ghost use Rattle.wf_nodes.specs.Spots.{ArmAt, EntryAt, entries_spots, spot};
-ghost use Rattle.wf_nodes.specs.declared.node.Node.{Node as TheNode};
+ghost use Rattle.wf_model.specs.Spots.{ArmAt, EntryAt, entries_spots, spot};
+ghost use Rattle.wf_model.specs.declared.node.Node.{Node as TheNode};
 
 use crate::around::Here;
 use std::alloc::Global;
 use wf_ast::{Entry, Expr, Template};
-use wf_nodes::grow::{add, push};
-use wf_nodes::{Codes, EntryNode, Node, NodeKind, shape_of};
+use wf_model::grow::{add, push};
+use wf_model::{Codes, EntryNode, Node, NodeKind, shape_of};
 use wf_value::{OutOfMemory, Text};
 
 // A place at the end, for a node that is put there when its parts are.

@@ -1,17 +1,17 @@
 // Where nodes jump.
 ghost use Rattle.std.specs.Prelude.{◌≡◌, ℕ, List, Option, Some, IfOk, OnOk, length, map, slice_get};
 ghost use Rattle.wf_ast.specs.Tree.{Flow};
-ghost use Rattle.wf_nodes.specs.Kinds.{node_view};
+ghost use Rattle.wf_model.specs.NodeKinds.{node_view};
 ghost use Rattle.wf_table.specs.Made.{views_for};
 ghost use Rattle.wf_table.specs.Named.{Finds, below, depth_of, first_named, number_of, numbers_of, outer_of};
-ghost use Rattle.wf_nodes.specs.Spots.{owners_at, spots};
-ghost use Rattle.wf_nodes.specs.Table.{EachLeads, Leads, NextLeads, kind_list};
+ghost use Rattle.wf_model.specs.Spots.{owners_at, spots};
+ghost use Rattle.wf_model.specs.Table.{EachLeads, Leads, NextLeads, kind_list};
 ghost use Rattle.wf_value.specs.Pairs.{Text as Bytes};
 
 use crate::names::{Names, names_of};
 use std::alloc::Global;
-use wf_nodes::grow::add;
-use wf_nodes::{Jump, Node};
+use wf_model::grow::add;
+use wf_model::{Jump, Node};
 use wf_value::OutOfMemory;
 
 // Puts where each node jumps.

@@ -1,13 +1,13 @@
 // The numbers of steps and workflows by their names.
 ghost use Rattle.std.specs.Prelude.{◌≡◌, None, Some, bytes_eq, if◌then◌else◌, IfOk, OnOk, map, slice_get};
-ghost use Rattle.wf_shared.specs.HttpUrl.{first_of_two};
-ghost use Rattle.wf_nodes.specs.Kinds.{node_view};
+ghost use Rattle.wf_value.specs.HttpUrl.{first_of_two};
+ghost use Rattle.wf_model.specs.NodeKinds.{node_view};
 ghost use Rattle.wf_table.specs.Named.{first_named, node_named, number_of, when_named};
 ghost use Rattle.wf_value.specs.Pairs.{Text as Bytes};
 
 use std::alloc::Global;
 use std::collections::BTreeMap;
-use wf_nodes::Node;
+use wf_model::Node;
 use wf_value::OutOfMemory;
 
 // Numbers by names. One is found, and added, in a time that grows with the logarithm of their number.

@@ -2,8 +2,8 @@
 ghost use Rattle.std.specs.Prelude.{◌≡◌, ◌≤◌, IfOk, length, map, option_copied, slice_get};
 ghost use Rattle.wf_ast.specs.View.{flow_view, flows_view, program_view};
 ghost use Rattle.wf_table.specs.Built.{flow_of, flow_number, node_list};
-ghost use Rattle.wf_nodes.specs.Spots.{spots};
-ghost use Rattle.wf_nodes.specs.Table.{Resolves};
+ghost use Rattle.wf_model.specs.Spots.{spots};
+ghost use Rattle.wf_model.specs.Table.{Resolves};
 ghost use Rattle.wf_value.specs.Pairs.{Text as Bytes};
 
 use crate::build::flows;
@@ -11,7 +11,7 @@ use crate::jumps::set_jumps;
 use crate::names::{Names, names_of};
 use std::alloc::Global;
 use wf_ast::Program;
-use wf_nodes::Node;
+use wf_model::Node;
 use wf_value::OutOfMemory;
 
 /// The nodes of a program by their numbers, in preorder, and the numbers of its workflows.

@@ -9,3 +9,4 @@ pub mod Writing
 pub mod Reading
 pub mod JsonCases
 pub mod Searches
+pub mod OnLiterals

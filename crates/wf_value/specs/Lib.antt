@@ -12,3 +12,14 @@ pub mod Numbers
 pub mod Decode
 pub mod Paths
 pub mod JsonLaws
+pub mod LibText
+pub mod LibData
+pub mod LibTime
+pub mod Policies
+pub mod Events
+pub mod Queues
+pub mod HttpText
+pub mod HttpUrl
+pub mod HttpRequest
+pub mod HttpBody
+pub mod RowsTexts

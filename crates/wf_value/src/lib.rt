@@ -22,6 +22,7 @@ mod sharing;
 mod size;
 mod text;
 mod value;
+mod worked;
 
 pub use bytes::Bytes;
 pub use errors::{Raise, Tag, error_map};
@@ -35,3 +36,4 @@ pub use policies::{Backoff, DefaultKind};
 pub use severity::Severity;
 pub use text::Text;
 pub use value::{List, Map, Value};
+pub use worked::worked_texts;

@@ -4,8 +4,8 @@ use Rattle.wf_ast.specs.View.{program_view}
 use Rattle.wf_check.proofs.Accepted.{accepted_when, built_of}
 use Rattle.wf_check.proofs.top.check.Goals as goal
 use Rattle.wf_check.specs.Said.{said_among}
-use Rattle.wf_nodes.proofs.Told.{told}
-use Rattle.wf_nodes.specs.Spots.{spots}
+use Rattle.wf_model.proofs.Told.{told}
+use Rattle.wf_model.specs.Spots.{spots}
 use Rattle.wf_table.specs.Built.{node_list}
 
 pub returns-in-Ok-table_of-clause-built : goal.returns-in-Ok-table_of-clause-built

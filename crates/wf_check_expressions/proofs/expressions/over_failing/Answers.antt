@@ -8,7 +8,7 @@ use Rattle.wf_diagnostics.specs.Said.{as_said}
 use Rattle.wf_check_expressions.specs.Tests.{sees}
 use Rattle.wf_diagnostics.specs.declared.kind.CheckKind.TheVariants as kinds
 use Rattle.wf_symbols.specs.Around.{layer_view}
-use Rattle.wf_shared.specs.HttpUrl.{first_of_two}
+use Rattle.wf_value.specs.HttpUrl.{first_of_two}
 
 pub returns-in-List : goal.returns-in-List
 returns-in-List c =

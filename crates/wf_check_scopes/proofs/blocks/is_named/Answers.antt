@@ -3,7 +3,7 @@ use Rattle.wf_ast.specs.View.{branch_view}
 use Rattle.wf_symbols.proofs.Places.{none_left}
 use Rattle.wf_check_scopes.proofs.Vacant.{among_reverse, named_next}
 use Rattle.wf_check_scopes.proofs.blocks.is_named.Goals as goal
-use Rattle.wf_shared.specs.HttpRequest.{is_among}
+use Rattle.wf_value.specs.HttpRequest.{is_among}
 
 pub returns-then-eq : goal.returns-then-eq
 returns-then-eq c = let bs = c.args.branches.now in

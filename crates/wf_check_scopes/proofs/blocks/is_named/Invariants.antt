@@ -1,7 +1,7 @@
 use Rattle.std.proofs.Common.{◌≡◌, drop, map}
 use Rattle.wf_ast.specs.View.{branch_view}
 use Rattle.wf_check_scopes.proofs.blocks.is_named.Given as goal
-use Rattle.wf_shared.specs.HttpRequest.{is_among}
+use Rattle.wf_value.specs.HttpRequest.{is_among}
 
 -- what is left tells
 abbrev pub invariant-loop-branch : goal.invariant-loop-branch

@@ -15,7 +15,7 @@ use Rattle.wf_events.specs.Records.{Started}
 use Rattle.wf_events.specs.Spelling.{HasSpelling, record_bytes}
 use Rattle.wf_events.specs.View.{start_view}
 use Rattle.wf_args.specs.Plain.{plain_line}
-use Rattle.wf_shared.specs.Events.{Start}
+use Rattle.wf_value.specs.Events.{Start}
 use Rattle.wf_source.specs.Programs.{IsSourceOf}
 use Rattle.wf_cli.proofs.execution.begin.Goals as goal
 use Rattle.wf_replay.specs.TheLanguage.{the_language}

@@ -1,6 +1,6 @@
 use Rattle.std.proofs.Common.{◌≡◌, [], drop}
-use Rattle.wf_postfix.specs.Machine.{exec}
-use Rattle.wf_postfix.specs.Instrs.{instrs}
+use Rattle.wf_ast.specs.Machine.{exec}
+use Rattle.wf_ast.specs.Instrs.{instrs}
 use Rattle.wf_eval.specs.Sight.{seen}
 use Rattle.wf_eval.specs.Steps.{tops}
 use Rattle.wf_eval.proofs.machine.eval.Given as goal

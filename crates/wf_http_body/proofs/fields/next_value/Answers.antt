@@ -1,5 +1,5 @@
 use Rattle.std.proofs.Common.{◌∙◌, ◌∷◌, ℕ, ◌+◌, List, ap, sym, arith, drop}
-use Rattle.wf_shared.specs.HttpText.{values_of}
+use Rattle.wf_value.specs.HttpText.{values_of}
 use Rattle.wf_http_body.proofs.Naming.{found, passed}
 use Rattle.wf_http_body.proofs.fields.next_value.Goals as goal
 

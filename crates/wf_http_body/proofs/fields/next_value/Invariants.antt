@@ -1,5 +1,5 @@
 use Rattle.std.proofs.Common.{◌≡◌, drop}
-use Rattle.wf_shared.specs.HttpText.{values_of}
+use Rattle.wf_value.specs.HttpText.{values_of}
 use Rattle.wf_http_body.proofs.fields.next_value.Given as goal
 
 abbrev pub invariant-loop-i : goal.invariant-loop-i

@@ -1,8 +1,8 @@
 use Rattle.std.proofs.Common.{◌≡◌, ◌∙◌, [], true, ap, sym, arith, rules, drop}
 use Rattle.std.specs.Prelude.{codes}
 use Rattle.std.specs.Str.Parse.{digits_value}
-use Rattle.wf_shared.specs.HttpBody.{all_equal, is_number}
-use Rattle.wf_shared.specs.HttpText.{values_of}
+use Rattle.wf_value.specs.HttpBody.{all_equal, is_number}
+use Rattle.wf_value.specs.HttpText.{values_of}
 use Rattle.wf_http_body.proofs.Naming.{length_is}
 use Rattle.wf_http_body.proofs.framing.length_of.Goals as goal
 

@@ -1,6 +1,6 @@
 use Rattle.std.proofs.Common.{◌≡◌, ◌≤◌, ◌-◌, drop, length}
 use Rattle.std.specs.Str.Parse.{digits_value}
-use Rattle.wf_shared.specs.HttpBody.{all_equal, lengths_in}
+use Rattle.wf_value.specs.HttpBody.{all_equal, lengths_in}
 use Rattle.wf_http_body.proofs.framing.length_of.Given as goal
 
 abbrev pub invariant-loop-value : goal.invariant-loop-value

@@ -1,5 +1,5 @@
 use Rattle.std.proofs.Common.{◌≡◌, [], take, drop}
-use Rattle.wf_shared.specs.HttpRequest.{good_fields}
+use Rattle.wf_value.specs.HttpRequest.{good_fields}
 use Rattle.wf_http_out.specs.Fields.{names_before}
 use Rattle.wf_http_out.proofs.fields.are_good_fields.Given as goal
 

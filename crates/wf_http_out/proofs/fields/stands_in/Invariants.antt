@@ -1,6 +1,6 @@
 use Rattle.std.proofs.Common.{◌≡◌, false, take}
 use Rattle.http_uri.specs.ByteClasses.{lowercase}
-use Rattle.wf_shared.specs.HttpRequest.{is_among}
+use Rattle.wf_value.specs.HttpRequest.{is_among}
 use Rattle.wf_http_out.specs.Fields.{names_before}
 use Rattle.wf_http_out.proofs.fields.stands_in.Given as goal
 

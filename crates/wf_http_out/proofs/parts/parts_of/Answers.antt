@@ -1,6 +1,6 @@
 use Rattle.std.proofs.Common.{rules, ◌≡◌, Some, true}
 use Rattle.http_uri.specs.Uri.{HasParts, uri_data}
-use Rattle.wf_shared.specs.HttpUrl.{Url}
+use Rattle.wf_value.specs.HttpUrl.{Url}
 use Rattle.wf_http_out.specs.Urls.{is_sendable}
 use Rattle.wf_http_out.proofs.parts.parts_of.Goals as goal
 

@@ -1,5 +1,5 @@
 use Rattle.std.proofs.Common.{◌≡◌, drop}
-use Rattle.wf_shared.specs.HttpUrl.{route}
+use Rattle.wf_value.specs.HttpUrl.{route}
 use Rattle.wf_http_out.specs.View.{routes_view}
 use Rattle.wf_http_out.proofs.route.find_route.Given as goal
 

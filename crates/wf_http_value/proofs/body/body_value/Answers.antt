@@ -1,6 +1,6 @@
 use Rattle.std.proofs.Common.{ap, sym, ◌∙◌}
 use Rattle.std.specs.Prelude.{codes}
-use Rattle.wf_shared.specs.HttpText.{media_type}
+use Rattle.wf_value.specs.HttpText.{media_type}
 use Rattle.wf_value.specs.Pairs.{get}
 use Rattle.wf_http_value.specs.Media.{kind_of}
 use Rattle.wf_http_value.proofs.Bodies.{given_json}

@@ -1,6 +1,6 @@
 use Rattle.std.proofs.Common.{◌≡◌, take}
 use Rattle.std.specs.Prelude.{fold}
-use Rattle.wf_shared.specs.HttpText.{with_field}
+use Rattle.wf_value.specs.HttpText.{with_field}
 use Rattle.wf_value.specs.Data.{no_pairs, pairs_of}
 use Rattle.wf_http_value.proofs.headers.header_map.Given as goal
 

@@ -1,5 +1,5 @@
 use Rattle.std.proofs.Common.{◌≡◌, option_map, rules}
-use Rattle.wf_shared.specs.HttpText.{joined_value}
+use Rattle.wf_value.specs.HttpText.{joined_value}
 use Rattle.wf_value.specs.Maps.{value_at, with_value}
 use Rattle.wf_value.specs.Plain.{plain}
 use Rattle.wf_http_value.proofs.Fields.{joined_at}

@@ -1,5 +1,5 @@
 use Rattle.std.proofs.Common.{◌≡◌, ◌++◌, drop, true}
-use Rattle.wf_shared.specs.HttpText.{proper_name}
+use Rattle.wf_value.specs.HttpText.{proper_name}
 use Rattle.wf_http_value.proofs.names.proper_bytes.Given as goal
 
 -- the letters so far, and those of what is left

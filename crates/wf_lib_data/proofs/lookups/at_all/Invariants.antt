@@ -1,5 +1,5 @@
 use Rattle.std.proofs.Common.{◌≡◌, drop}
-use Rattle.wf_shared.specs.LibData.{follow_all, texts_in}
+use Rattle.wf_value.specs.LibData.{follow_all, texts_in}
 use Rattle.wf_value.specs.Data.{items_of}
 use Rattle.wf_value.specs.Plain.{plain, plain_items}
 use Rattle.wf_lib_data.specs.Gives.{or_null}

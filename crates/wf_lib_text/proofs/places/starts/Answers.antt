@@ -1,5 +1,5 @@
 use Rattle.std.proofs.Common.{◌+◌, ap, arith, chars, length, rules, ◌∙◌}
-use Rattle.wf_shared.specs.LibText.{pieces, starts_of}
+use Rattle.wf_value.specs.LibText.{pieces, starts_of}
 use Rattle.wf_value.specs.Plain.{plain}
 use Rattle.wf_lib_text.proofs.Pieces.{cut_at, cut_none, starts_end, starts_more}
 use Rattle.wf_lib_text.proofs.places.starts.Goals as goal

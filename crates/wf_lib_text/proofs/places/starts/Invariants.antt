@@ -1,7 +1,7 @@
 use Rattle.std.proofs.Common.{◌≡◌, ◌++◌, chars, length}
 use denote.Shadow.{shadow}
 use denote.Text.{Utf8}
-use Rattle.wf_shared.specs.LibText.{pieces, starts_of}
+use Rattle.wf_value.specs.LibText.{pieces, starts_of}
 use Rattle.wf_lib_text.proofs.places.starts.Given as goal
 
 -- the places so far, and those in what is left

@@ -1,5 +1,5 @@
 use Rattle.std.proofs.Common.{◌≡◌, ◌++◌, [], Err, append-nil, append_assoc, ap, arith, length, refl, rules, string_bytes, sym, ◌∙◌}
-use Rattle.wf_shared.specs.LibText.{joined_by, pieces}
+use Rattle.wf_value.specs.LibText.{joined_by, pieces}
 use Rattle.wf_value.specs.Data.{text}
 use Rattle.wf_value.specs.Errors.{sized}
 use Rattle.wf_lib_text.proofs.Pieces.{cut_at, cut_none, joined_last, joined_step}

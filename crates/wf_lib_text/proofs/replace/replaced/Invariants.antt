@@ -1,7 +1,7 @@
 use Rattle.std.proofs.Common.{◌≡◌, ◌++◌, length, string_bytes}
 use denote.Shadow.{shadow}
 use denote.Text.{Utf8}
-use Rattle.wf_shared.specs.LibText.{joined_by, pieces}
+use Rattle.wf_value.specs.LibText.{joined_by, pieces}
 use Rattle.wf_lib_text.proofs.replace.replaced.Given as goal
 
 -- what is written, and what is to come

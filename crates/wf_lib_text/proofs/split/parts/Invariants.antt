@@ -1,7 +1,7 @@
 use Rattle.std.proofs.Common.{◌≡◌, ◌++◌, length, map}
 use denote.Shadow.{shadow}
 use denote.Text.{Utf8}
-use Rattle.wf_shared.specs.LibText.{pieces}
+use Rattle.wf_value.specs.LibText.{pieces}
 use Rattle.wf_value.specs.Data.{text}
 use Rattle.wf_lib_text.proofs.split.parts.Given as goal
 

@@ -1,6 +1,6 @@
 use Rattle.std.proofs.Common.{◌≡◌, ◌+◌, ◌*◌, arith, refl, rules, true}
 use Rattle.std.specs.Prelude.{codes}
-use Rattle.wf_shared.specs.LibTime.{has_form, number_at}
+use Rattle.wf_value.specs.LibTime.{has_form, number_at}
 use Rattle.wf_lib_time.proofs.Forms.{form_length, two_of, year_number}
 use Rattle.wf_lib_time.proofs.Reals.{tells_civil}
 use Rattle.wf_lib_time.proofs.civil.civil_seconds.Goals as goal

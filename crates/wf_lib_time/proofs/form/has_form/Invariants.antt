@@ -1,5 +1,5 @@
 use Rattle.std.proofs.Common.{◌≡◌, length}
-use Rattle.wf_shared.specs.LibTime.{has_form}
+use Rattle.wf_value.specs.LibTime.{has_form}
 use Rattle.wf_lib_time.proofs.form.has_form.Given as goal
 
 abbrev pub invariant-bytes : goal.invariant-bytes

@@ -1,6 +1,6 @@
 use Rattle.std.proofs.Common.{FitsSigned, Ok, ap, rules, sym, w64, ◌∙◌}
 use Rattle.std.proofs.lemmas.Int.{to_z-of_z}
-use Rattle.wf_shared.specs.LibTime.{time_parse}
+use Rattle.wf_value.specs.LibTime.{time_parse}
 use Rattle.wf_value.specs.Data.{integer, text}
 use Rattle.wf_lib_time.proofs.Ranges.{parse_none, parse_some}
 use Rattle.wf_lib_time.proofs.parse.moment.Goals as goal

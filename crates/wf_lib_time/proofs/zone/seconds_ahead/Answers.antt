@@ -2,7 +2,7 @@ use Rattle.std.proofs.Common.{◌≡◌, ◌-ℤ◌, FitsSigned, arith, false, p
 use Rattle.std.specs.Prelude.{bytes_eq, codes}
 use Rattle.std.proofs.lemmas.Int.{to_z-of_z}
 use Rattle.jiff_core.proofs.SignedLemmas.{signed_arith}
-use Rattle.wf_shared.specs.LibTime.{has_form}
+use Rattle.wf_value.specs.LibTime.{has_form}
 use Rattle.wf_lib_time.proofs.Zones.{behind}
 use Rattle.wf_lib_time.proofs.zone.seconds_ahead.Goals as goal
 

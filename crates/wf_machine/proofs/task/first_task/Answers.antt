@@ -8,10 +8,10 @@ use Rattle.wf_machine.proofs.Waiting.{can_go}
 use Rattle.wf_machine.proofs.task.first_task.Goals as goal
 use Rattle.wf_machine.specs.Main.{around}
 use Rattle.wf_moves.proofs.Going.{going}
-use Rattle.wf_steps.specs.Built.{Tells}
+use Rattle.wf_frames.specs.Built.{Tells}
 use Rattle.wf_moves.specs.Moved.{IsGoing}
 use Rattle.wf_moves.specs.Waits.{task_local}
-use Rattle.wf_nodes.specs.Spots.{spots}
+use Rattle.wf_model.specs.Spots.{spots}
 use Rattle.wf_value.specs.Plain.{plain}
 
 pub new-requires : goal.new-requires

@@ -1,6 +1,6 @@
 -- The examples in which the kit's libraries read or write times and addresses; the check carries out the others by itself.
 use Rattle.std.specs.Prelude.{refl}
-use Rattle.wf_shared.proofs.OnLiterals.{on_literals}
+use Rattle.wf_value.proofs.OnLiterals.{on_literals}
 use Rattle.wf_model.proofs.rows.worked_waits.Goals as goal
 
 pub returns-clause-passed_time_is_due_at_once : goal.returns-clause-passed_time_is_due_at_once

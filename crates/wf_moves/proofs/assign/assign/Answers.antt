@@ -1,7 +1,7 @@
 use Rattle.std.proofs.Common.{Ok, Err, sym, subst}
 use Rattle.wf_moves.proofs.Assigning.{entry_failed, entry_given}
-use Rattle.wf_steps.proofs.Clocked.{entry_there}
-use Rattle.wf_steps.proofs.Parts.{node_at}
+use Rattle.wf_frames.proofs.Clocked.{entry_there}
+use Rattle.wf_frames.proofs.Parts.{node_at}
 use Rattle.wf_eval.specs.Answers.{Answers}
 use Rattle.wf_eval.specs.Sight.{seen}
 use Rattle.wf_frames.specs.Frames.{inner}
@@ -10,10 +10,10 @@ use Rattle.wf_moves.proofs.Raised.{raised, raised_left}
 use Rattle.wf_value.specs.Errors.{error_map}
 use Rattle.wf_frames.specs.Sights.{sight_of}
 use Rattle.wf_model.specs.Move.{assigns}
-use Rattle.wf_steps.proofs.Performed.{with_both, with_ok}
+use Rattle.wf_frames.proofs.Performed.{with_both, with_ok}
 use Rattle.wf_moves.specs.Assigned.{entry_values, values_of}
 use Rattle.wf_moves.specs.Moved.{IsMove}
-use Rattle.wf_nodes.specs.Kinds.{entry_by}
+use Rattle.wf_model.specs.NodeKinds.{entry_by}
 use Rattle.wf_moves.proofs.assign.assign.Goals as goal
 
 pub returns-in-Ok-clause-moved : goal.returns-in-Ok-clause-moved

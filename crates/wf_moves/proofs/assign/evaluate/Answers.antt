@@ -4,7 +4,7 @@ use Rattle.wf_ast.specs.Tree.{exprs}
 use Rattle.wf_eval.specs.Answers.{Answers}
 use Rattle.wf_eval.specs.Sight.{seen}
 use Rattle.wf_moves.proofs.Assigning.{both_given}
-use Rattle.wf_nodes.specs.Shapes.{Compiled, decoded, shape_by}
+use Rattle.wf_model.specs.Shapes.{Compiled, decoded, shape_by}
 use Rattle.wf_value.specs.Plain.{plain}
 use Rattle.wf_moves.proofs.assign.evaluate.Goals as goal
 

@@ -5,7 +5,7 @@ use Rattle.wf_frames.specs.Turns.{Writes}
 use Rattle.wf_moves.proofs.Assigning.{refused, stored}
 use Rattle.wf_moves.proofs.Raised.{raised, raised_left}
 use Rattle.wf_value.specs.Errors.{error_map}
-use Rattle.wf_steps.proofs.Performed.{with_ok}
+use Rattle.wf_frames.proofs.Performed.{with_ok}
 use Rattle.wf_moves.proofs.assign.store.Goals as goal
 use Rattle.wf_value.specs.Plain.{plain}
 

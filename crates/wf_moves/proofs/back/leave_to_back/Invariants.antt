@@ -4,7 +4,7 @@ use Rattle.wf_frames.specs.Frames.{inner}
 use Rattle.wf_frames.specs.Owned.{IsLinked, beside, control_of, held_by, own_of}
 use Rattle.wf_model.specs.Config.{Item}
 use Rattle.wf_model.specs.Unwind.{to_back}
-use Rattle.wf_nodes.specs.declared.node.Node.{Node}
+use Rattle.wf_model.specs.declared.node.Node.{Node}
 use Rattle.wf_moves.proofs.back.leave_to_back.Given as goal
 
 abbrev pub ghost-leave : goal.ghost-leave

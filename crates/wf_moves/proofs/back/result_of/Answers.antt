@@ -2,9 +2,9 @@ use Rattle.std.proofs.Common.{sym, ap, subst, ◌∙◌}
 use Rattle.wf_frames.specs.Fits.{IsCallOf}
 use Rattle.wf_frames.specs.Frames.{body_result, result_of}
 use Rattle.wf_moves.proofs.Calling.{call_within, only_call}
-use Rattle.wf_nodes.specs.Spots.{part_body}
-use Rattle.wf_nodes.specs.declared.node.NodeKind.TheVariants as kind
-use Rattle.wf_steps.proofs.Parts.{as_part, node_at}
+use Rattle.wf_model.specs.Spots.{part_body}
+use Rattle.wf_model.specs.declared.node.NodeKind.TheVariants as kind
+use Rattle.wf_frames.proofs.Parts.{as_part, node_at}
 use Rattle.wf_moves.proofs.back.result_of.Goals as goal
 
 pub returns-in-Call : goal.returns-in-Call

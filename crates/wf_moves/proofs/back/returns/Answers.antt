@@ -10,7 +10,7 @@ use Rattle.wf_moves.proofs.Returning.{call_node, ends_with, gives_on, judge_top,
 use Rattle.wf_moves.specs.Moved.{IsMove}
 use Rattle.wf_moves.specs.declared.finish.End.TheVariants as end
 use Rattle.wf_moves.specs.declared.finish.Went.TheVariants as went
-use Rattle.wf_steps.proofs.Performed.{with_ok}
+use Rattle.wf_frames.proofs.Performed.{with_ok}
 use Rattle.wf_value.specs.Plain.{plain}
 use Rattle.wf_moves.proofs.back.returns.Goals as goal
 

@@ -11,10 +11,10 @@ use Rattle.wf_moves.proofs.Calling.{call_deep, call_entered, call_fits, call_own
 use Rattle.wf_moves.proofs.Raised.{raised, raised_left}
 use Rattle.wf_moves.specs.Moved.{IsMove}
 use Rattle.wf_moves.specs.Tasks.{flow_at}
-use Rattle.wf_nodes.specs.Spots.{part_at, part_body}
+use Rattle.wf_model.specs.Spots.{part_at, part_body}
 use Rattle.wf_scope.specs.Store.{layers_of}
-use Rattle.wf_scope.specs.Tasks.{Own}
-use Rattle.wf_steps.proofs.Performed.{with_ok}
+use Rattle.wf_frames.specs.Tasks.{Own}
+use Rattle.wf_frames.proofs.Performed.{with_ok}
 use Rattle.wf_value.specs.Errors.{error_map}
 use Rattle.wf_value.specs.declared.Tag.TheVariants.{RecursionError, ResourceLimitError}
 use Rattle.wf_moves.proofs.call.begin.Goals as goal

@@ -7,16 +7,16 @@ use Rattle.wf_moves.proofs.Stepping.{flow_leads, function_leads, http_leads, log
 use Rattle.wf_moves.specs.Moved.{IsMove}
 use Rattle.wf_moves.specs.Stepped.{leads_with}
 use Rattle.wf_moves.specs.Tasks.{IsDone}
-use Rattle.wf_nodes.specs.Kinds.{call_by}
-use Rattle.wf_nodes.specs.Spots.{part_body}
-use Rattle.wf_nodes.specs.declared.node.NodeKind.TheVariants as kind
-use Rattle.wf_steps.proofs.Parts.{as_part}
-use Rattle.wf_steps.proofs.Performed.{with_ok}
-use Rattle.wf_steps.specs.Built.{IsTarget}
-use Rattle.wf_steps.specs.Steps.{asks_with, calls_by}
+use Rattle.wf_model.specs.NodeKinds.{call_by}
+use Rattle.wf_model.specs.Spots.{part_body}
+use Rattle.wf_model.specs.declared.node.NodeKind.TheVariants as kind
+use Rattle.wf_frames.proofs.Parts.{as_part}
+use Rattle.wf_frames.proofs.Performed.{with_ok}
+use Rattle.wf_frames.specs.Built.{IsTarget}
+use Rattle.wf_frames.specs.Steps.{asks_with, calls_by}
 use Rattle.wf_value.specs.Data.{pairs_of}
-use Rattle.wf_steps.specs.declared.target.Target.{Target}
-use Rattle.wf_steps.specs.declared.target.Target.TheVariants as target
+use Rattle.wf_frames.specs.declared.target.Target.{Target}
+use Rattle.wf_frames.specs.declared.target.Target.TheVariants as target
 use Rattle.wf_moves.proofs.call.call.Goals as goal
 
 pub bounds-targets-n : goal.bounds-targets-n

@@ -8,11 +8,11 @@ use Rattle.wf_model.specs.Calls.{calls_with, given}
 use Rattle.wf_moves.proofs.Calling.{begun, call_given, call_lacks, flow_param_list}
 use Rattle.wf_moves.specs.Moved.{IsMove}
 use Rattle.wf_moves.specs.Tasks.{flow_at}
-use Rattle.wf_nodes.specs.Spots.{Part, part_at, part_body}
-use Rattle.wf_nodes.specs.declared.node.NodeKind.TheVariants as kind
-use Rattle.wf_steps.proofs.Parts.{as_part}
-use Rattle.wf_steps.proofs.Performed.{with_ok}
-use Rattle.wf_steps.specs.Steps.{calls_by}
+use Rattle.wf_model.specs.Spots.{Part, part_at, part_body}
+use Rattle.wf_model.specs.declared.node.NodeKind.TheVariants as kind
+use Rattle.wf_frames.proofs.Parts.{as_part}
+use Rattle.wf_frames.proofs.Performed.{with_ok}
+use Rattle.wf_frames.specs.Steps.{calls_by}
 use Rattle.wf_value.specs.Data.{pairs_of}
 use Rattle.wf_moves.proofs.call.call_flow.Goals as goal
 

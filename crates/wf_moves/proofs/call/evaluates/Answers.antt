@@ -11,12 +11,12 @@ use Rattle.wf_model.specs.Layers.{view}
 use Rattle.wf_model.specs.Leave.{gives}
 use Rattle.wf_moves.proofs.Answering.{function_failed, function_gave}
 use Rattle.wf_moves.specs.Moved.{IsMove}
-use Rattle.wf_nodes.specs.Spots.{part_body}
-use Rattle.wf_nodes.specs.declared.node.NodeKind.TheVariants as kind
-use Rattle.wf_shapes.specs.Functions.{answer_of}
-use Rattle.wf_steps.proofs.Parts.{as_part}
-use Rattle.wf_steps.proofs.Performed.{with_both, with_ok}
-use Rattle.wf_steps.specs.Steps.{calls_by}
+use Rattle.wf_model.specs.Spots.{part_body}
+use Rattle.wf_model.specs.declared.node.NodeKind.TheVariants as kind
+use Rattle.wf_frames.specs.Functions.{answer_of}
+use Rattle.wf_frames.proofs.Parts.{as_part}
+use Rattle.wf_frames.proofs.Performed.{with_both, with_ok}
+use Rattle.wf_frames.specs.Steps.{calls_by}
 use Rattle.wf_value.specs.Data.{pairs_of}
 use Rattle.wf_value.specs.Plain.{plain}
 use Rattle.wf_moves.proofs.call.evaluates.Goals as goal

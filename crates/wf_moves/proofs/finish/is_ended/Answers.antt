@@ -1,9 +1,9 @@
 use Rattle.std.proofs.Common.{length, refl, sym, subst, arith}
 use Rattle.std.proofs.Math.Dec.{leb}
 use Rattle.wf_moves.proofs.Leaving.{do_has, do_settled, entries_have, entries_settled, lone_has, lone_settled}
-use Rattle.wf_steps.proofs.Lists.{has_entries, has_list}
+use Rattle.wf_frames.proofs.Lists.{has_entries, has_list}
 use Rattle.wf_moves.specs.Moved.{HasMove, Settled}
-use Rattle.wf_nodes.specs.Kinds.{block_view}
+use Rattle.wf_model.specs.NodeKinds.{block_view}
 use Rattle.wf_moves.proofs.finish.is_ended.Goals as goal
 
 pub block-requires : goal.block-requires

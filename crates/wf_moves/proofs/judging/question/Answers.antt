@@ -12,9 +12,9 @@ use Rattle.wf_model.specs.Unwind.{unwind}
 use Rattle.wf_moves.proofs.Calling.{begun}
 use Rattle.wf_moves.proofs.Retrying.{ask_fits, ask_owned, asked_entered, asked_refused, params_are}
 use Rattle.wf_moves.specs.Retries.{IsLed}
-use Rattle.wf_nodes.specs.Spots.{part_list}
+use Rattle.wf_model.specs.Spots.{part_list}
 use Rattle.wf_scope.specs.Store.{layers_of}
-use Rattle.wf_scope.specs.Tasks.{Own}
+use Rattle.wf_frames.specs.Tasks.{Own}
 use Rattle.wf_value.specs.Data.{Data}
 use Rattle.wf_value.specs.Pairs.{Text}
 use Rattle.wf_value.specs.Plain.{plain}

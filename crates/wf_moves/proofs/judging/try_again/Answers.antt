@@ -6,7 +6,7 @@ use Rattle.wf_frames.specs.declared.frames.Frame.{Frame}
 use Rattle.wf_moves.proofs.Leaving.{top_node}
 use Rattle.wf_moves.proofs.Retrying.{again_inside, again_so, same_held, same_linked}
 use Rattle.wf_moves.specs.Moved.{IsMove}
-use Rattle.wf_steps.proofs.Parts.{tried_stands, try_built}
+use Rattle.wf_frames.proofs.Parts.{tried_stands, try_built}
 use Rattle.wf_moves.proofs.judging.try_again.Goals as goal
 
 pub try_node-tried-requires : goal.try_node-tried-requires

@@ -5,7 +5,7 @@ use Rattle.wf_frames.specs.Owned.{beside, local_of}
 use Rattle.wf_model.specs.Leave.{jumps_to}
 use Rattle.wf_moves.proofs.Jumps.{breaks_so}
 use Rattle.wf_moves.specs.Moved.{IsMove}
-use Rattle.wf_nodes.specs.Table.{Leads}
+use Rattle.wf_model.specs.Table.{Leads}
 use Rattle.wf_moves.proofs.jump.go_to.Goals as goal
 
 pub jump_to-requires : goal.jump_to-requires

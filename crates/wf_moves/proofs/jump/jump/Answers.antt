@@ -5,8 +5,8 @@ use Rattle.wf_frames.specs.Owned.{beside, control_of, local_of}
 use Rattle.wf_model.specs.Leave.{jumps}
 use Rattle.wf_model.specs.Local.{Moved}
 use Rattle.wf_moves.proofs.Jumps.{jumps_break, jumps_continue, jumps_end, jumps_step, node_leads}
-use Rattle.wf_steps.proofs.Parts.{node_at}
-use Rattle.wf_steps.proofs.Performed.{with_ok}
+use Rattle.wf_frames.proofs.Parts.{node_at}
+use Rattle.wf_frames.proofs.Performed.{with_ok}
 use Rattle.wf_moves.specs.Moved.{IsMove}
 use Rattle.wf_value.specs.Pairs.{Text}
 use Rattle.wf_moves.proofs.jump.jump.Goals as goal

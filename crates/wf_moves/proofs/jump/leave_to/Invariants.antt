@@ -5,7 +5,7 @@ use Rattle.wf_frames.specs.Owned.{beside, control_of}
 use Rattle.wf_frames.specs.Stands.{Stands}
 use Rattle.wf_model.specs.Config.{Item}
 use Rattle.wf_model.specs.Unwind.{to_step}
-use Rattle.wf_nodes.specs.Table.{Leads}
+use Rattle.wf_model.specs.Table.{Leads}
 use Rattle.wf_value.specs.Pairs.{Text}
 use Rattle.wf_moves.proofs.jump.leave_to.Given as goal
 

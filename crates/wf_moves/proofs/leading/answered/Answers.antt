@@ -5,7 +5,7 @@ use Rattle.wf_frames.specs.declared.frames.Frame.TheVariants as frame
 use Rattle.wf_moves.proofs.Leaving.{fits_after}
 use Rattle.wf_moves.proofs.Retrying.{judge_at, judge_no, judge_yes}
 use Rattle.wf_moves.specs.Retries.{IsLed, caught}
-use Rattle.wf_steps.proofs.Performed.{with_ok}
+use Rattle.wf_frames.proofs.Performed.{with_ok}
 use Rattle.wf_moves.proofs.leading.answered.Goals as goal
 
 pub retry-requires : goal.retry-requires

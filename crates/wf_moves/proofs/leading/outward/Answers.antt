@@ -6,7 +6,7 @@ use Rattle.wf_moves.proofs.Deciding.{breaks_on, ended_out, led_or_broken}
 use Rattle.wf_moves.specs.Retries.{IsDecided, IsDecidedSo, IsLed, Rests, caught_at, decide_at}
 use Rattle.wf_moves.specs.declared.finish.End.TheVariants as end
 use Rattle.wf_moves.specs.declared.leading.Led.TheVariants as led
-use Rattle.wf_steps.specs.Steps.{IsOrBreaks}
+use Rattle.wf_frames.specs.Steps.{IsOrBreaks}
 use Rattle.wf_value.specs.Plain.{plain}
 use Rattle.wf_moves.proofs.leading.outward.Goals as goal
 

@@ -6,7 +6,7 @@ use Rattle.wf_frames.specs.Turns.{Agrees}
 use Rattle.wf_model.specs.Config.{Item}
 use Rattle.wf_model.specs.Local.{Scene}
 use Rattle.wf_model.specs.Unwind.{unwind}
-use Rattle.wf_steps.specs.Steps.{IsOrBreaks}
+use Rattle.wf_frames.specs.Steps.{IsOrBreaks}
 use Rattle.wf_value.specs.Data.{depth}
 use Rattle.wf_value.specs.Plain.{plain}
 use Rattle.wf_moves.proofs.leading.outward.Given as goal

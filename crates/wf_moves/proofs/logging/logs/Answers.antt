@@ -6,11 +6,11 @@ use Rattle.wf_model.specs.Calls.{log_entry}
 use Rattle.wf_moves.proofs.LogCalls.{entry_logged, log_failed}
 use Rattle.wf_moves.proofs.Raised.{raised, raised_left}
 use Rattle.wf_moves.specs.Logs.{logged_view, within_log}
-use Rattle.wf_nodes.specs.Kinds.{call_by}
-use Rattle.wf_nodes.specs.Spots.{part_body}
-use Rattle.wf_nodes.specs.declared.node.NodeKind.TheVariants as kind
-use Rattle.wf_steps.proofs.Parts.{as_part}
-use Rattle.wf_steps.specs.Built.{IsLog}
+use Rattle.wf_model.specs.NodeKinds.{call_by}
+use Rattle.wf_model.specs.Spots.{part_body}
+use Rattle.wf_model.specs.declared.node.NodeKind.TheVariants as kind
+use Rattle.wf_frames.proofs.Parts.{as_part}
+use Rattle.wf_frames.specs.Built.{IsLog}
 use Rattle.wf_value.specs.Data.{pairs_of}
 use Rattle.wf_value.specs.Errors.{◌>>=◌, error_map}
 use Rattle.wf_moves.proofs.logging.logs.Goals as goal

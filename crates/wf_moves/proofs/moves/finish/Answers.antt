@@ -7,8 +7,8 @@ use Rattle.wf_moves.proofs.Raised.{raised_so}
 use Rattle.wf_moves.specs.declared.finish.Went.TheVariants as went
 use Rattle.wf_value.specs.Plain.{plain}
 use Rattle.wf_moves.specs.Moved.{IsMove}
-use Rattle.wf_steps.proofs.Performed.{with_ok}
-use Rattle.wf_steps.specs.Steps.{IsNoCall, IsReady, come}
+use Rattle.wf_frames.proofs.Performed.{with_ok}
+use Rattle.wf_frames.specs.Steps.{IsNoCall, IsReady, come}
 use Rattle.wf_moves.proofs.moves.finish.Goals as goal
 
 pub jump-requires : goal.jump-requires

@@ -8,7 +8,7 @@ use Rattle.wf_moves.proofs.Stepping.{stepped_on}
 use Rattle.wf_moves.specs.Stepped.{leads}
 use Rattle.wf_moves.specs.Tasks.{IsDone}
 use Rattle.wf_scope.specs.Store.{layers_of}
-use Rattle.wf_steps.proofs.Performed.{with_ok}
+use Rattle.wf_frames.proofs.Performed.{with_ok}
 use Rattle.wf_moves.proofs.moves.step_on.Goals as goal
 
 pub returns-clause-moved : goal.returns-clause-moved

@@ -7,10 +7,10 @@ use Rattle.wf_moves.proofs.Raised.{raised, raised_left}
 use Rattle.wf_moves.proofs.Requesting.{request_failed, request_sent}
 use Rattle.wf_value.specs.Errors.{error_map}
 use Rattle.wf_moves.specs.Requests.{request_by, sent_view}
-use Rattle.wf_nodes.specs.Kinds.{call_by}
-use Rattle.wf_nodes.specs.Spots.{part_body}
-use Rattle.wf_nodes.specs.declared.node.NodeKind.TheVariants as kind
-use Rattle.wf_steps.proofs.Parts.{as_part}
+use Rattle.wf_model.specs.NodeKinds.{call_by}
+use Rattle.wf_model.specs.Spots.{part_body}
+use Rattle.wf_model.specs.declared.node.NodeKind.TheVariants as kind
+use Rattle.wf_frames.proofs.Parts.{as_part}
 use Rattle.wf_value.specs.Data.{pairs_of}
 use Rattle.wf_moves.proofs.sending.sends.Goals as goal
 

@@ -8,11 +8,11 @@ use Rattle.wf_moves.proofs.Sleeps.{nap_done, sleep_fails, sleeps_so}
 use Rattle.wf_moves.specs.Naps.{nap_due}
 use Rattle.wf_moves.specs.declared.finish.Done.TheVariants as done
 use Rattle.wf_moves.specs.declared.wait.Wait.TheVariants as wait
-use Rattle.wf_nodes.specs.Kinds.{call_by}
-use Rattle.wf_nodes.specs.Spots.{part_body}
-use Rattle.wf_nodes.specs.declared.node.NodeKind.TheVariants as kind
-use Rattle.wf_steps.proofs.Parts.{as_part}
-use Rattle.wf_steps.specs.Built.{IsNap}
+use Rattle.wf_model.specs.NodeKinds.{call_by}
+use Rattle.wf_model.specs.Spots.{part_body}
+use Rattle.wf_model.specs.declared.node.NodeKind.TheVariants as kind
+use Rattle.wf_frames.proofs.Parts.{as_part}
+use Rattle.wf_frames.specs.Built.{IsNap}
 use Rattle.wf_value.specs.Data.{pairs_of}
 use Rattle.wf_value.specs.Errors.{error_map}
 use Rattle.wf_moves.proofs.sleeping.sleeps.Goals as goal

@@ -1,8 +1,8 @@
 use Rattle.std.proofs.Common.{ap, sym, ◌∙◌}
 use Rattle.wf_ast.specs.View.{params_view}
-use Rattle.wf_steps.proofs.Parts.{node_at}
+use Rattle.wf_frames.proofs.Parts.{node_at}
 use Rattle.wf_moves.proofs.Starting.{flow_is, flow_params, flow_within, only_flow}
-use Rattle.wf_nodes.specs.Kinds.{block_view, kind_by}
+use Rattle.wf_model.specs.NodeKinds.{block_view, kind_by}
 use Rattle.wf_moves.proofs.start.params.Goals as goal
 
 pub bounds-nodes-flow : goal.bounds-nodes-flow

@@ -6,12 +6,12 @@ use Rattle.wf_frames.specs.Owned.{IsLinked, control_of, held_by, held_of, local_
 use Rattle.wf_frames.specs.Turns.{Enters, names_of, with_own}
 use Rattle.wf_frames.specs.declared.frames.Frame.TheVariants as frame
 use Rattle.wf_model.specs.Local.{goes}
-use Rattle.wf_steps.proofs.Performed.{with_ok}
+use Rattle.wf_frames.proofs.Performed.{with_ok}
 use Rattle.wf_moves.proofs.Raised.{raised, raised_left}
 use Rattle.wf_moves.proofs.Turning.{turn_entered, turn_fits, turn_owned, turn_refused}
 use Rattle.wf_moves.specs.Moved.{IsMove}
 use Rattle.wf_scope.specs.Store.{layers_of}
-use Rattle.wf_scope.specs.Tasks.{Own}
+use Rattle.wf_frames.specs.Tasks.{Own}
 use Rattle.wf_value.specs.Plain.{plain}
 use Rattle.wf_value.specs.Errors.{error_map}
 use Rattle.wf_value.specs.declared.Tag.TheVariants.{ResourceLimitError}

@@ -9,7 +9,7 @@ use Rattle.wf_model.specs.Unwind.{unwind}
 use Rattle.wf_model.specs.Local.{goes}
 use Rattle.wf_moves.proofs.Unwinding.{handled_in, handled_out, handler_fits, handler_owned}
 use Rattle.wf_scope.specs.Store.{layers_of}
-use Rattle.wf_scope.specs.Tasks.{Own}
+use Rattle.wf_frames.specs.Tasks.{Own}
 use Rattle.wf_value.specs.Data.{Data}
 use Rattle.wf_value.specs.Pairs.{Text}
 use Rattle.wf_value.specs.Plain.{plain}

@@ -5,7 +5,7 @@ use Rattle.wf_frames.specs.Owned.{IsLinked, beside, control_of, own_of}
 use Rattle.wf_model.specs.Config.{Item}
 use Rattle.wf_model.specs.Local.{Scene}
 use Rattle.wf_model.specs.Unwind.{unwind}
-use Rattle.wf_nodes.specs.declared.node.Node.{Node}
+use Rattle.wf_model.specs.declared.node.Node.{Node}
 use Rattle.wf_value.specs.Data.{Data}
 use Rattle.wf_moves.proofs.unwind.leave_to_try.Given as goal
 

@@ -5,7 +5,7 @@ use Rattle.wf_events.specs.Reading.{meaning}
 use Rattle.wf_events.specs.View.{record_view}
 use Rattle.wf_history.specs.Stands.{ahead, last, last_after, place}
 use Rattle.wf_machine.specs.declared.machine.Machine.{Machine}
-use Rattle.wf_journal_laws.specs.History.{first_standing}
+use Rattle.wf_deeds.specs.History.{first_standing}
 use Rattle.wf_replay.proofs.FirstRecords.{at_bad_record, at_no_start, behind_first, on_ok}
 use Rattle.wf_replay.proofs.StillOpen.{some_first}
 use Rattle.wf_replay.proofs.opening.first_machine.Goals as goal

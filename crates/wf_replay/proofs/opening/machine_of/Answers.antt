@@ -2,7 +2,7 @@ use Rattle.std.proofs.Common.{◌∙◌, ap, sym, subst, Some, None}
 use Rattle.std.specs.Prelude.{option_map}
 use Rattle.wf_check.specs.Seen.{program_of}
 use Rattle.wf_events.specs.View.{record_view, start_view}
-use Rattle.wf_journal_laws.specs.History.{first_standing}
+use Rattle.wf_deeds.specs.History.{first_standing}
 use Rattle.wf_replay.proofs.FirstRecords.{none_of, start_leads, start_refused}
 use Rattle.wf_replay.proofs.Language.{accepts}
 use Rattle.wf_replay.proofs.opening.machine_of.Goals as goal

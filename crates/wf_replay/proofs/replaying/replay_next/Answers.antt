@@ -3,7 +3,7 @@ use Rattle.std.specs.Prelude.{MatchOption}
 use Rattle.wf_events.specs.Reading.{meaning}
 use Rattle.wf_events.specs.View.{record_view}
 use Rattle.wf_history.specs.Stands.{ahead, last, last_after, place}
-use Rattle.wf_journal_laws.specs.History.{goes_on}
+use Rattle.wf_deeds.specs.History.{goes_on}
 use Rattle.wf_replay.proofs.Applied.{passed}
 use Rattle.wf_replay.proofs.Faults.{IsToldAt, at_no_record, at_record}
 use Rattle.wf_replay.proofs.Steps.{passes_one}

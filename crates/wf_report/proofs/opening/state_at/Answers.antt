@@ -2,7 +2,7 @@ use Rattle.std.proofs.Common.{◌∙◌, ◌+◌, ap, sym}
 use Rattle.wf_history.specs.Stands.{ahead}
 use Rattle.wf_host.specs.World.{Only}
 use Rattle.wf_journal.specs.Records.{records}
-use Rattle.wf_journal_laws.specs.At.{applied_by}
+use Rattle.wf_deeds.specs.At.{applied_by}
 use Rattle.wf_replay.proofs.OnlyReads.{magic_found, quiet_stays, settled_behind}
 use Rattle.wf_replay.proofs.StillOpen.{tells_still}
 use Rattle.wf_replay.specs.TheLanguage.{the_language}

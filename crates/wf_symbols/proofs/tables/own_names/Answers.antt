@@ -8,7 +8,7 @@ use Rattle.wf_symbols.proofs.Added.{own_next}
 use Rattle.wf_symbols.proofs.Places.{item_at, none_left}
 use Rattle.wf_symbols.proofs.tables.own_names.Goals as goal
 use Rattle.wf_symbols.specs.Names.{names_of}
-use Rattle.wf_shared.specs.HttpRequest.{is_among}
+use Rattle.wf_value.specs.HttpRequest.{is_among}
 
 pub loop-step-preserved : goal.loop-step-preserved
 loop-step-preserved c = λ x.

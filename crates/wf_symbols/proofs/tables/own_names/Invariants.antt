@@ -4,7 +4,7 @@ use Rattle.wf_ast.specs.Tree.{steps}
 use Rattle.wf_ast.specs.View.{step_view}
 use Rattle.wf_symbols.proofs.tables.own_names.Given as goal
 use Rattle.wf_symbols.specs.Names.{names_of}
-use Rattle.wf_shared.specs.HttpRequest.{is_among}
+use Rattle.wf_value.specs.HttpRequest.{is_among}
 use Rattle.wf_value.specs.Pairs.{Text}
 
 -- those so far and those of what is left are all

@@ -3,7 +3,7 @@ use Rattle.wf_ast.specs.Nodes.{param_names}
 use Rattle.wf_ast.specs.View.{param_view}
 use Rattle.wf_symbols.proofs.Added.{adds_one, item_next, items_end, only_those}
 use Rattle.wf_symbols.proofs.tables.param_names.Goals as goal
-use Rattle.wf_shared.specs.HttpRequest.{is_among}
+use Rattle.wf_value.specs.HttpRequest.{is_among}
 
 pub loop-param-preserved : goal.loop-param-preserved
 loop-param-preserved c =

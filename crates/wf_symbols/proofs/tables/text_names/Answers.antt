@@ -1,7 +1,7 @@
 use Rattle.std.proofs.Common.{[], ◌∷◌, refl, ap, ◌∙◌}
 use Rattle.wf_symbols.proofs.Added.{adds_one, item_next, items_end, only_those}
 use Rattle.wf_symbols.proofs.tables.text_names.Goals as goal
-use Rattle.wf_shared.specs.HttpRequest.{is_among}
+use Rattle.wf_value.specs.HttpRequest.{is_among}
 
 pub loop-text-preserved : goal.loop-text-preserved
 loop-text-preserved c =

@@ -1,5 +1,5 @@
 use Rattle.std.proofs.Common.{◌≡◌, map, drop}
-use Rattle.wf_shared.specs.HttpRequest.{is_among as among}
+use Rattle.wf_value.specs.HttpRequest.{is_among as among}
 use Rattle.wf_syntax.proofs.names.is_among.Given as goal
 
 -- what is left has the text, if any word is

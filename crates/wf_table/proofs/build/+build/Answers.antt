@@ -5,17 +5,17 @@ use Rattle.wf_ast.specs.View.{arm_view, body_view, branch_view, call_view, entry
 use Rattle.wf_ast.specs.declared.body.Body.TheViews.{out-Branch, out-Except, out-LoopBody, out-TryBody}
 use Rattle.wf_table.proofs.Adding.{held_next, longer, nothing, of_these, placed}
 use Rattle.wf_table.proofs.Adding as adding
-use Rattle.wf_nodes.proofs.Compiling.{alike, in_all, plainly, then}
+use Rattle.wf_model.proofs.Compiling.{alike, in_all, plainly, then}
 use Rattle.wf_table.proofs.Forms.{behind, branch_is, except_is, formed, loop_is, repeats, steps_are, works}
 use Rattle.wf_table.proofs.Going.{adds_all, all_numbers, begins, goes}
 use Rattle.wf_table.proofs.Laid.{arm_own, arm_parts, arms_lay, branch_own, branch_parts, branches_lay, numbers_of_arms, numbers_of_branches, numbers_of_steps, step_own, step_parts, steps_lay}
 use Rattle.wf_table.proofs.build.+build.Goals as goal
-use Rattle.wf_nodes.specs.Compiles.{code_list}
-use Rattle.wf_nodes.specs.Kinds as kind
-use Rattle.wf_nodes.specs.Kinds.{Listed, Repeated, block_view, call_by, handler_view, kind_by, listed, loop_by, over_by, side_by}
+use Rattle.wf_model.specs.Compiles.{code_list}
+use Rattle.wf_model.specs.NodeKinds as kind
+use Rattle.wf_model.specs.NodeKinds.{Listed, Repeated, block_view, call_by, handler_view, kind_by, listed, loop_by, over_by, side_by}
 use Rattle.wf_table.specs.Made.{Adds, arm_numbers, body_for, branch_numbers, entry_numbers, handler_for, side_for, step_numbers, try_for}
-use Rattle.wf_nodes.specs.Shapes.{shape_by}
-use Rattle.wf_nodes.specs.Spots.{BodyAt, BranchAt, arms_spots, body_size, body_spots, branches_spots, except_spots, spot, step_spots, steps_spots, try_spots}
+use Rattle.wf_model.specs.Shapes.{shape_by}
+use Rattle.wf_model.specs.Spots.{BodyAt, BranchAt, arms_spots, body_size, body_spots, branches_spots, except_spots, spot, step_spots, steps_spots, try_spots}
 use Rattle.wf_value.specs.Pairs.{Text}
 
 one_on : (n : ℕ) → n + 1 ≡ suc n

@@ -1,9 +1,9 @@
 use Rattle.std.proofs.Common.{List, Option, map, refl}
 use Rattle.wf_ast.specs.Tree as tree
 use Rattle.wf_ast.specs.View.{field_view}
-use Rattle.wf_nodes.proofs.Compiling.{alike, then}
+use Rattle.wf_model.proofs.Compiling.{alike, then}
 use Rattle.wf_table.proofs.build.call_node.Goals as goal
-use Rattle.wf_nodes.specs.Shapes.{named_by, named_list}
+use Rattle.wf_model.specs.Shapes.{named_by, named_list}
 use Rattle.wf_value.specs.Pairs.{Text}
 
 made : Text → Option Text → List (Text × tree.Template) → tree.CallBody

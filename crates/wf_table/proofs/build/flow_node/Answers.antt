@@ -3,10 +3,10 @@ use Rattle.wf_ast.proofs.Views.{steps_level}
 use Rattle.wf_ast.specs.View.{flow_view, steps_in}
 use Rattle.wf_table.proofs.Adding.{held_next, of_these, placed}
 use Rattle.wf_table.proofs.build.flow_node.Goals as goal
-use Rattle.wf_nodes.specs.Kinds as kind
-use Rattle.wf_nodes.specs.Kinds.{listed}
+use Rattle.wf_model.specs.NodeKinds as kind
+use Rattle.wf_model.specs.NodeKinds.{listed}
 use Rattle.wf_table.specs.Made.{step_numbers}
-use Rattle.wf_nodes.specs.Spots.{FlowAt, spot, steps_spots}
+use Rattle.wf_model.specs.Spots.{FlowAt, spot, steps_spots}
 
 pub returns-clause-adds : goal.returns-clause-adds
 returns-clause-adds c =

@@ -1,9 +1,9 @@
 use Rattle.std.proofs.Common.{refl, sym, ap}
 use Rattle.wf_ast.specs.Tree as tree
 use Rattle.wf_ast.specs.View.{over_view, template_view}
-use Rattle.wf_nodes.proofs.Compiling.{alike, both, then}
+use Rattle.wf_model.proofs.Compiling.{alike, both, then}
 use Rattle.wf_table.proofs.build.over.Goals as goal
-use Rattle.wf_nodes.specs.Shapes.{shape_by}
+use Rattle.wf_model.specs.Shapes.{shape_by}
 
 pub returns-in_ok-shape_of-in-List : goal.returns-in_ok-shape_of-in-List
 returns-in_ok-shape_of-in-List c =

@@ -1,13 +1,13 @@
 use Rattle.std.proofs.Common.{◌∙◌}
 use Rattle.wf_ast.specs.View.{template_view}
 use Rattle.wf_table.proofs.Adding.{ok_then, one}
-use Rattle.wf_nodes.proofs.Compiling.{in_all}
+use Rattle.wf_model.proofs.Compiling.{in_all}
 use Rattle.wf_table.proofs.growing.arm.Goals as goal
-use Rattle.wf_nodes.specs.Compiles.{code_list}
-use Rattle.wf_nodes.specs.Kinds as kind
+use Rattle.wf_model.specs.Compiles.{code_list}
+use Rattle.wf_model.specs.NodeKinds as kind
 use Rattle.wf_table.specs.Made.{leaf_view}
-use Rattle.wf_nodes.specs.Shapes.{shape_by}
-use Rattle.wf_nodes.specs.Spots.{ArmAt, spot}
+use Rattle.wf_model.specs.Shapes.{shape_by}
+use Rattle.wf_model.specs.Spots.{ArmAt, spot}
 
 pub returns-clause-adds : goal.returns-clause-adds
 returns-clause-adds c =

@@ -2,9 +2,9 @@ use Rattle.std.proofs.Common.{List, map, take, refl, sym, ◌∙◌}
 use Rattle.std.proofs.lemmas.List.{length-map}
 use Rattle.wf_ast.specs.Tree as tree
 use Rattle.wf_ast.specs.View.{expr_view, template_view}
-use Rattle.wf_nodes.proofs.Compiling.{alike, both, reads_first}
+use Rattle.wf_model.proofs.Compiling.{alike, both, reads_first}
 use Rattle.wf_table.proofs.growing.entry_form.Goals as goal
-use Rattle.wf_nodes.specs.Shapes.{decoded, shape_by}
+use Rattle.wf_model.specs.Shapes.{decoded, shape_by}
 use Rattle.wf_value.specs.Pairs.{Text}
 
 made : Text → Text → List tree.Expr → tree.Template → tree.Entry

@@ -1,13 +1,13 @@
 use Rattle.std.proofs.Common.{◌∙◌}
 use Rattle.wf_ast.specs.View.{entry_view}
 use Rattle.wf_table.proofs.Adding.{ok_then, one}
-use Rattle.wf_nodes.proofs.Compiling.{in_all}
+use Rattle.wf_model.proofs.Compiling.{in_all}
 use Rattle.wf_table.proofs.growing.entry_node.Goals as goal
-use Rattle.wf_nodes.specs.Compiles.{code_list}
-use Rattle.wf_nodes.specs.Kinds as kind
-use Rattle.wf_nodes.specs.Kinds.{entry_by}
+use Rattle.wf_model.specs.Compiles.{code_list}
+use Rattle.wf_model.specs.NodeKinds as kind
+use Rattle.wf_model.specs.NodeKinds.{entry_by}
 use Rattle.wf_table.specs.Made.{leaf_view}
-use Rattle.wf_nodes.specs.Spots.{EntryAt, spot}
+use Rattle.wf_model.specs.Spots.{EntryAt, spot}
 
 pub returns-clause-adds : goal.returns-clause-adds
 returns-clause-adds c =

@@ -1,5 +1,5 @@
 use Rattle.wf_ast.specs.View.{expr_view}
-use Rattle.wf_nodes.proofs.Compiling.{reads_none, reads_turn, reads_whole}
+use Rattle.wf_model.proofs.Compiling.{reads_none, reads_turn, reads_whole}
 use Rattle.wf_table.proofs.growing.places.Goals as goal
 
 pub loop-place-init : goal.loop-place-init

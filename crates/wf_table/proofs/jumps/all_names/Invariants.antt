@@ -1,6 +1,6 @@
 use Rattle.std.proofs.Common.{◌≡◌, length, map}
 use Rattle.wf_table.proofs.jumps.all_names.Given as goal
-use Rattle.wf_nodes.specs.Kinds.{node_view}
+use Rattle.wf_model.specs.NodeKinds.{node_view}
 use Rattle.wf_table.specs.Named.{Finds}
 
 abbrev pub invariant-loop-node : goal.invariant-loop-node

@@ -1,6 +1,6 @@
 use Rattle.std.proofs.Common.{ap}
 use Rattle.wf_table.proofs.jumps.depth.Goals as goal
-use Rattle.wf_nodes.specs.Compiles.{code_list}
+use Rattle.wf_model.specs.Compiles.{code_list}
 use Rattle.wf_table.specs.Named.{depth_of}
 
 pub returns-in-None : goal.returns-in-None

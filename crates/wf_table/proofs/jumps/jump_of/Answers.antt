@@ -1,8 +1,8 @@
 use Rattle.std.proofs.Common.{Option, None, map, refl, sym, subst}
 use Rattle.wf_table.proofs.jumps.jump_of.Goals as goal
-use Rattle.wf_nodes.specs.Kinds.{node_view}
-use Rattle.wf_nodes.specs.Spots.{owners_at, spots}
-use Rattle.wf_nodes.specs.Table.{Leads, NextLeads}
+use Rattle.wf_model.specs.NodeKinds.{node_view}
+use Rattle.wf_model.specs.Spots.{owners_at, spots}
+use Rattle.wf_model.specs.Table.{Leads, NextLeads}
 use Rattle.wf_value.specs.Pairs.{Text}
 
 pub returns-in-None : goal.returns-in-None

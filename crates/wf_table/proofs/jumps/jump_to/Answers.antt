@@ -2,8 +2,8 @@ use Rattle.std.proofs.Common.{ℕ, Option, map, refl, sym, ◌∙◌, subst}
 use Rattle.std.proofs.lemmas.Option.{slice_get_read}
 use Rattle.wf_table.proofs.Jumping.{Outward, goes_out, has_node, inner, leads_in, starts}
 use Rattle.wf_table.proofs.jumps.jump_to.Goals as goal
-use Rattle.wf_nodes.specs.Kinds.{node_view}
-use Rattle.wf_nodes.specs.Spots.{owners_at, spots}
+use Rattle.wf_model.specs.NodeKinds.{node_view}
+use Rattle.wf_model.specs.Spots.{owners_at, spots}
 
 pub loop-next-init : goal.loop-next-init
 loop-next-init c = λ fs i made long finds is. starts fs c.args.nodes.now c.args.name.now i c.args.node.now made is

@@ -1,8 +1,8 @@
 use Rattle.std.proofs.Common.{ap, ◌∙◌, map}
 use Rattle.wf_table.proofs.Adding.{ok_then}
 use Rattle.wf_table.proofs.jumps.list_names.Goals as goal
-use Rattle.wf_nodes.specs.Compiles.{code_list}
-use Rattle.wf_nodes.specs.Kinds.{node_view}
+use Rattle.wf_model.specs.Compiles.{code_list}
+use Rattle.wf_model.specs.NodeKinds.{node_view}
 use Rattle.wf_table.specs.Named.{first_named, numbers_of}
 
 pub returns-in-None : goal.returns-in-None

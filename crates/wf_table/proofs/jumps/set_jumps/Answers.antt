@@ -3,10 +3,10 @@ use Rattle.std.proofs.lemmas.List.{length-map}
 use Rattle.std.proofs.lemmas.Option.{slice_get_read}
 use Rattle.wf_table.proofs.Tabled.{JumpsTo, each_leads, jumps_turn, same_views}
 use Rattle.wf_table.proofs.jumps.set_jumps.Goals as goal
-use Rattle.wf_nodes.specs.Kinds.{View, node_view}
+use Rattle.wf_model.specs.NodeKinds.{View, node_view}
 use Rattle.wf_table.specs.Named.{Finds}
 use Rattle.wf_table.specs.declared.names.Names.{Names}
-use Rattle.wf_nodes.specs.declared.node.Node.{Node}
+use Rattle.wf_model.specs.declared.node.Node.{Node}
 
 pub loop-index-preserved : goal.loop-index-preserved
 loop-index-preserved c =

@@ -1,11 +1,11 @@
 use Rattle.std.proofs.Common.{◌≡◌, ℕ, ◌<◌, List, length, map, slice_get, Some}
 use Rattle.wf_ast.specs.Tree.{Flow}
 use Rattle.wf_table.proofs.jumps.set_jumps.Given as goal
-use Rattle.wf_nodes.specs.Kinds.{node_view}
+use Rattle.wf_model.specs.NodeKinds.{node_view}
 use Rattle.wf_table.specs.Made.{views_for}
-use Rattle.wf_nodes.specs.Spots.{owners_at, spots}
-use Rattle.wf_nodes.specs.Table.{NextLeads}
-use Rattle.wf_nodes.specs.declared.node.Node.{Node}
+use Rattle.wf_model.specs.Spots.{owners_at, spots}
+use Rattle.wf_model.specs.Table.{NextLeads}
+use Rattle.wf_model.specs.declared.node.Node.{Node}
 
 abbrev pub invariant-loop-index : goal.invariant-loop-index
 invariant-loop-index l = record {

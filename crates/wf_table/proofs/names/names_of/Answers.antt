@@ -1,7 +1,7 @@
 use Rattle.std.proofs.Common.{map}
 use Rattle.wf_table.proofs.Naming.{name_end, name_start, name_turn}
 use Rattle.wf_table.proofs.names.names_of.Goals as goal
-use Rattle.wf_nodes.specs.Kinds.{node_view}
+use Rattle.wf_model.specs.NodeKinds.{node_view}
 
 pub loop-number-init : goal.loop-number-init
 loop-number-init c = λ x. name_start (map node_view c.args.nodes.now) c.args.numbers.now c.new-names.result x (c.new-names.ensures x)

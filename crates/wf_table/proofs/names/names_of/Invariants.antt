@@ -1,7 +1,7 @@
 use Rattle.std.proofs.Common.{◌≡◌, drop, map}
-use Rattle.wf_shared.specs.HttpUrl.{first_of_two}
+use Rattle.wf_value.specs.HttpUrl.{first_of_two}
 use Rattle.wf_table.proofs.names.names_of.Given as goal
-use Rattle.wf_nodes.specs.Kinds.{node_view}
+use Rattle.wf_model.specs.NodeKinds.{node_view}
 use Rattle.wf_table.specs.Named.{first_named, number_of}
 use Rattle.wf_value.specs.Pairs.{Text}
 

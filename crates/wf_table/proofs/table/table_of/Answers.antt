@@ -2,11 +2,11 @@ use Rattle.std.proofs.Common.{◌≡◌, List, ◌++◌, length, map, ap, ◌∙
 use Rattle.wf_ast.specs.View.{flow_view, program_view}
 use Rattle.wf_table.proofs.Tabled.{flows_named, resolves}
 use Rattle.wf_table.proofs.table.table_of.Goals as goal
-use Rattle.wf_nodes.specs.Kinds.{node_view}
+use Rattle.wf_model.specs.NodeKinds.{node_view}
 use Rattle.wf_table.specs.Made.{flow_numbers, views_for}
 use Rattle.wf_table.specs.Named.{first_named}
-use Rattle.wf_nodes.specs.Spots.{flows_spots, spots}
-use Rattle.wf_nodes.specs.declared.node.Node.{Node}
+use Rattle.wf_model.specs.Spots.{flows_spots, spots}
+use Rattle.wf_model.specs.declared.node.Node.{Node}
 
 pub returns-clause-resolves : goal.returns-clause-resolves
 returns-clause-resolves c =

@@ -1,9 +1,9 @@
 use Rattle.std.proofs.Common.{sym, subst}
 use Rattle.wf_ast.specs.View.{program_view}
 use Rattle.wf_check.proofs.checked.Checked.nodes.Goals as goal
-use Rattle.wf_nodes.proofs.Told.{resolves}
-use Rattle.wf_nodes.specs.Spots.{spots}
-use Rattle.wf_nodes.specs.Table.{Resolves}
+use Rattle.wf_model.proofs.Told.{resolves}
+use Rattle.wf_model.specs.Spots.{spots}
+use Rattle.wf_model.specs.Table.{Resolves}
 use Rattle.wf_table.specs.Built.{node_list}
 
 pub returns-clause-resolves : goal.returns-clause-resolves

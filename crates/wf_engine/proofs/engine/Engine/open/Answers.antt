@@ -9,8 +9,8 @@ use Rattle.wf_engine.proofs.engine.Engine.open.Goals as goal
 use Rattle.wf_history.specs.Stands.{ahead}
 use Rattle.wf_journal.specs.Records.{records}
 use Rattle.wf_journal.specs.Standing.{new_none}
-use Rattle.wf_journal_laws.specs.At.{applied_by}
-use Rattle.wf_journal_laws.specs.History.{history}
+use Rattle.wf_deeds.specs.At.{applied_by}
+use Rattle.wf_deeds.specs.History.{history}
 use Rattle.wf_machine.specs.Seen.{state_of}
 use Rattle.wf_replay.proofs.OnlyReads.{quiet_stays, settled_behind}
 use Rattle.wf_replay.proofs.StillOpen.{tells_still}

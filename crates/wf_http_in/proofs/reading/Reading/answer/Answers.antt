@@ -1,5 +1,5 @@
 use Rattle.std.proofs.Common.{List, ℕ, Some, ap, subst, sym, ◌∙◌}
-use Rattle.wf_shared.specs.Events.{Response}
+use Rattle.wf_value.specs.Events.{Response}
 use Rattle.wf_http_in.specs.AnswerOf.{AnswerOf}
 use Rattle.wf_http_in.specs.Stages.{unfinished}
 use Rattle.wf_http_in.proofs.Coming.{is_open_body, is_whole, is_bad, is_too_long}

@@ -1,7 +1,7 @@
 use Rattle.std.proofs.Common.{◌≡◌, ◌++◌, take}
 use Rattle.std.specs.Prelude.{string_bytes}
 use Rattle.std.specs.List.{flat_map}
-use Rattle.wf_shared.specs.HttpRequest.{field_line}
+use Rattle.wf_value.specs.HttpRequest.{field_line}
 use Rattle.wf_http_out.proofs.lines.Lines.fields.Given as goal
 
 abbrev pub invariant-loop-field : goal.invariant-loop-field

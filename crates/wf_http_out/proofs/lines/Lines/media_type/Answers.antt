@@ -1,7 +1,7 @@
 use Rattle.std.proofs.Common.{◌≡◌, ◌++◌, ap, sym, subst, ◌∙◌}
 use Rattle.std.specs.Prelude.{OnOk, Option, codes, option_map, string_bytes}
-use Rattle.wf_shared.specs.HttpRequest.{content_types, type_line}
-use Rattle.wf_shared.specs.HttpText.{line}
+use Rattle.wf_value.specs.HttpRequest.{content_types, type_line}
+use Rattle.wf_value.specs.HttpText.{line}
 use Rattle.wf_value.specs.Pairs.{Text}
 use Rattle.wf_http_out.specs.Asked.{payload_view}
 use Rattle.wf_http_out.specs.declared.body.Payload.{Payload}

@@ -1,7 +1,7 @@
 use Rattle.std.proofs.Common.{◌≡◌, ◌++◌, take, map}
 use Rattle.std.specs.Prelude.{codes, string_bytes}
 use Rattle.std.specs.List.{flat_map}
-use Rattle.wf_shared.specs.HttpRequest.{query_pair}
+use Rattle.wf_value.specs.HttpRequest.{query_pair}
 use Rattle.wf_http_out.proofs.lines.Lines.more_pairs.Given as goal
 
 abbrev pub invariant-loop-pair : goal.invariant-loop-pair

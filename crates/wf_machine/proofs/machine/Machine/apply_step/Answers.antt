@@ -1,7 +1,7 @@
 use Rattle.wf_machine.proofs.Stepping.{step_comes, step_stops}
 use Rattle.wf_machine.proofs.machine.Machine.apply_step.Goals as goal
 use Rattle.wf_model.specs.Choose.{wanted}
-use Rattle.wf_steps.specs.Kinds.{kind_view}
+use Rattle.wf_frames.specs.Kinds.{kind_view}
 
 pub carry_on-requires-clause-comes : goal.carry_on-requires-clause-comes
 carry_on-requires-clause-comes c =

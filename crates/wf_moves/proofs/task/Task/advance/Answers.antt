@@ -6,7 +6,7 @@ use Rattle.wf_moves.specs.Moved.{IsMove, IsWent}
 use Rattle.wf_moves.specs.Stepped.{stepped, stepped_at}
 use Rattle.wf_moves.specs.Tasks.{HasLogged, IsDone, IsLeftSo, IsRequest, MovesSo}
 use Rattle.wf_moves.specs.Waits.{task_local, wait_view}
-use Rattle.wf_steps.proofs.Performed.{with_ok}
+use Rattle.wf_frames.proofs.Performed.{with_ok}
 use Rattle.wf_moves.proofs.task.Task.advance.Goals as goal
 
 pub follow-requires : goal.follow-requires

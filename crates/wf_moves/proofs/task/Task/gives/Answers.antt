@@ -6,7 +6,7 @@ use Rattle.wf_moves.proofs.Waiting.{awake_local, call_there}
 use Rattle.wf_moves.specs.Moved.{IsMove}
 use Rattle.wf_moves.specs.Tasks.{MovesSo}
 use Rattle.wf_moves.specs.Waits.{task_local}
-use Rattle.wf_steps.proofs.Performed.{with_ok}
+use Rattle.wf_frames.proofs.Performed.{with_ok}
 use Rattle.wf_value.specs.Plain.{plain}
 use Rattle.wf_moves.proofs.task.Task.gives.Goals as goal
 

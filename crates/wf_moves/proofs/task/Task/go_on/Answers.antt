@@ -6,7 +6,7 @@ use Rattle.wf_model.specs.Leave.{handed, raises}
 use Rattle.wf_moves.proofs.Raised.{raised_so}
 use Rattle.wf_moves.specs.Tasks.{MovesSo}
 use Rattle.wf_moves.specs.Waits.{GoesFrom, answer_view, result_in, task_local}
-use Rattle.wf_steps.proofs.Performed.{with_ok}
+use Rattle.wf_frames.proofs.Performed.{with_ok}
 use Rattle.wf_value.specs.Data.{Data}
 use Rattle.wf_value.specs.Pairs.{Text}
 use Rattle.wf_value.specs.Plain.{plain}

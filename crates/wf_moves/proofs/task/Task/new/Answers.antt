@@ -4,10 +4,10 @@ use Rattle.wf_frames.specs.Frames.{inner, own, owned}
 use Rattle.wf_frames.specs.Owned.{IsLinked, local_of, own_of}
 use Rattle.wf_frames.specs.declared.frames.Frame.TheVariants as frame
 use Rattle.wf_moves.proofs.Starting.{begins_so, flow_fits}
-use Rattle.wf_nodes.specs.Spots.{part_at}
+use Rattle.wf_model.specs.Spots.{part_at}
 use Rattle.wf_moves.specs.Tasks.{part_params}
 use Rattle.wf_scope.specs.Store.{layers_of}
-use Rattle.wf_scope.specs.Tasks.{Own}
+use Rattle.wf_frames.specs.Tasks.{Own}
 use Rattle.wf_value.specs.Plain.{plain}
 use Rattle.wf_moves.proofs.task.Task.new.Goals as goal
 

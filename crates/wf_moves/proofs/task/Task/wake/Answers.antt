@@ -5,7 +5,7 @@ use Rattle.wf_model.specs.Move.{due_by, retries}
 use Rattle.wf_moves.specs.Tasks.{MovesSo}
 use Rattle.wf_moves.specs.Waits.{GoesFrom, task_local, wait_view}
 use Rattle.wf_moves.specs.declared.wait.Wait.{Wait}
-use Rattle.wf_steps.proofs.Performed.{with_ok}
+use Rattle.wf_frames.proofs.Performed.{with_ok}
 use Rattle.wf_moves.proofs.task.Task.wake.Goals as goal
 
 pub gives-requires : goal.gives-requires

@@ -2,7 +2,7 @@ use Rattle.std.proofs.Common.{ap, ◌∙◌, ◌||◌, bytes_eq}
 use Rattle.wf_symbols.proofs.Sets.{with_key}
 use Rattle.wf_symbols.proofs.names.Names.add.Goals as goal
 use Rattle.wf_symbols.specs.Names.{names_of}
-use Rattle.wf_shared.specs.HttpRequest.{is_among}
+use Rattle.wf_value.specs.HttpRequest.{is_among}
 
 pub returns-clause-added : goal.returns-clause-added
 returns-clause-added c = λ k.

@@ -1,6 +1,6 @@
 use Rattle.std.proofs.Common.{refl, ap, ◌∙◌}
 use Rattle.std.proofs.lemmas.Option.{slice_get_past, slice_get_read}
-use Rattle.wf_shared.specs.HttpUrl.{first_of_two}
+use Rattle.wf_value.specs.HttpUrl.{first_of_two}
 use Rattle.wf_table.proofs.Naming.{named_node, on_ok, unnamed}
 use Rattle.wf_table.proofs.names.Names.add_node.Goals as goal
 use Rattle.wf_table.specs.Named.{number_of, when_named}

@@ -1,7 +1,0 @@
-use Rattle.std.proofs.Common.{◌≡◌, drop, map}
-use Rattle.wf_check_calls.proofs.arguments.is_listed.Given as goal
-use Rattle.wf_shared.specs.HttpRequest.{is_among}
-
--- what is left tells
-abbrev pub invariant-loop-known : goal.invariant-loop-known
-invariant-loop-known l = is_among l.name (map (λ n. n.now) l.names) ≡ is_among l.name (map (λ n. n.now) (drop l.known-index l.names))

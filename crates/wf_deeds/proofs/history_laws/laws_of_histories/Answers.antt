@@ -1,0 +1,23 @@
+use Rattle.wf_deeds.proofs.Histories as histories
+use Rattle.wf_deeds.proofs.history_laws.laws_of_histories.Goals as goal
+
+pub returns-clause-computed : goal.returns-clause-computed
+returns-clause-computed c = histories.computed c.laws_of_runs.ensures.runs_join
+
+pub returns-clause-complete : goal.returns-clause-complete
+returns-clause-complete c = histories.complete c.laws_of_runs.ensures.runs_join
+
+pub returns-clause-least : goal.returns-clause-least
+returns-clause-least c = histories.least
+
+pub returns-clause-record_goes_on : goal.returns-clause-record_goes_on
+returns-clause-record_goes_on c = histories.record_goes_on
+
+pub returns-clause-front : goal.returns-clause-front
+returns-clause-front c = histories.front
+
+pub returns-clause-records_go_on : goal.returns-clause-records_go_on
+returns-clause-records_go_on c = histories.records_go_on
+
+pub returns-clause-start : goal.returns-clause-start
+returns-clause-start c = histories.start_is_a_history

@@ -1,0 +1,55 @@
+-- Lists of steps and entries from a place on.
+use Rattle.std.proofs.Common.{◌≡◌, ℕ, ◌<◌, ◌≤◌, true, List, [], ◌∷◌, length, drop, refl, ap, subst, arith}
+use Rattle.std.specs.Prelude.{zero, suc, is_some}
+use Rattle.wf_ast.specs.Tree.{Step, Steps, no_steps, more}
+use Rattle.wf_frames.specs.Fits.{HasNode, entries_at, list_at}
+use Rattle.wf_frames.specs.declared.frames.Frame.{Frame}
+use Rattle.wf_frames.specs.declared.frames.Frame.TheVariants as frame
+use Rattle.wf_model.specs.Spots.{Spot, steps_by, entries_by, from}
+use Rattle.wf_model.specs.declared.node.Node.{Node}
+
+-- ## Steps
+pub from_end : (ns : List Spot) (xs : List ℕ) (n : ℕ) → length xs ≤ n → from n (steps_by ns xs) ≡ no_steps
+from_end ns [] zero h = refl
+from_end ns [] (suc n) h = refl
+from_end ns (x ∷ xs) zero h = absurd (omega (arith, h))
+from_end ns (x ∷ xs) (suc n) h = from_end ns xs n (omega (arith, h))
+
+-- the steps from one that is there
+pub record More (ns : List Spot) (xs : List ℕ) (n : ℕ) : Type 0 where
+  pub first : Step
+  pub rest : Steps
+  pub is : from n (steps_by ns xs) ≡ more first rest
+
+pub from_more : (ns : List Spot) (xs : List ℕ) (n : ℕ) → n < length xs → More ns xs n
+from_more ns [] n h = absurd (omega (arith, h))
+from_more ns (x ∷ xs) zero h = record { first = _; rest = _; is = refl }
+from_more ns (x ∷ xs) (suc n) h = let r = from_more ns xs n (omega (arith, h)) in record { first = r.first; rest = r.rest; is = r.is }
+
+-- ## Entries
+pub drop_end : {A : Type 0} (xs : List A) (n : ℕ) → length xs ≤ n → drop n xs ≡ []
+drop_end [] zero h = refl
+drop_end [] (suc n) h = refl
+drop_end (x ∷ xs) zero h = absurd (omega (arith, h))
+drop_end (x ∷ xs) (suc n) h = drop_end xs n (omega (arith, h))
+
+pub record Stays {A : Type 0} (xs : List A) (n : ℕ) : Type 0 where
+  pub first : A
+  pub rest : List A
+  pub is : drop n xs ≡ first ∷ rest
+
+pub drop_more : {A : Type 0} (xs : List A) (n : ℕ) → n < length xs → Stays xs n
+drop_more [] n h = absurd (omega (arith, h))
+drop_more (x ∷ xs) zero h = record { first = x; rest = xs; is = refl }
+drop_more (x ∷ xs) (suc n) h = let r = drop_more xs n (omega (arith, h)) in record { first = r.first; rest = r.rest; is = r.is }
+
+pub entries_long : (ns : List Spot) (xs : List ℕ) → length (entries_by ns xs) ≡ length xs
+entries_long ns [] = refl
+entries_long ns (x ∷ xs) = ap suc (entries_long ns xs)
+
+-- the node of a frame
+pub has_list : (nodes : List Node) (f : Frame) (n at : ℕ) → HasNode nodes f → f ≡ frame.Do n at → is_some (list_at nodes n) ≡ true
+has_list nodes f n at h e = let there : HasNode nodes (frame.Do n at) = subst (HasNode nodes) e h in ap is_some there.1
+
+pub has_entries : (nodes : List Node) (f : Frame) (n at : ℕ) → HasNode nodes f → f ≡ frame.Entries n at → is_some (entries_at nodes n) ≡ true
+has_entries nodes f n at h e = let there : HasNode nodes (frame.Entries n at) = subst (HasNode nodes) e h in ap is_some there.1

@@ -1,4 +1,0 @@
-mod Histories
-mod Moments
-mod Runs
-pub mod Steps

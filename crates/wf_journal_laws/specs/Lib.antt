@@ -1,5 +1,0 @@
-pub mod Language
-pub mod History
-pub mod At
-pub mod Laws
-pub mod Moments

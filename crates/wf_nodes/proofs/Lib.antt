@@ -1,4 +1,0 @@
-pub mod Compiling
-pub mod Decoding
-pub mod Views
-pub mod Told

@@ -1,5 +1,0 @@
-use Rattle.wf_scope.proofs.Assigns.{assigns, one_holds}
-use Rattle.wf_scope.proofs.laws.assigns_as_tasks_do.Goals as goal
-
-pub returns : goal.returns
-returns c = record { law = assigns; worked = one_holds }

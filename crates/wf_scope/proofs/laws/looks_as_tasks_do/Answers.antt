@@ -1,5 +1,0 @@
-use Rattle.wf_scope.proofs.Looks.{looks}
-use Rattle.wf_scope.proofs.laws.looks_as_tasks_do.Goals as goal
-
-pub returns : goal.returns
-returns c = looks

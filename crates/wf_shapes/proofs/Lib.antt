@@ -1,4 +1,0 @@
-pub mod Called
-mod Coded
-mod Filled
-mod Timed

@@ -1,8 +1,0 @@
-use Rattle.wf_steps.proofs.Parts.{node_at, try_within}
-use Rattle.wf_steps.proofs.nodes.try_node.Goals as goal
-
-pub returns : goal.returns
-returns c =
-    let x = c.index-nodes-n.result in
-    let there = node_at c.args.nodes.now c.args.n x (try_within c.args.nodes.now c.args.n c.requires) c.index-nodes-n.is in
-    record { node = x; at = there; is = c.in-Try.is }

@@ -1,4 +1,0 @@
-use Rattle.wf_steps.proofs.step.enter_try.Given as goal
-
-abbrev pub ghost-body_frame : goal.ghost-body_frame
-ghost-body_frame g a = g.ns

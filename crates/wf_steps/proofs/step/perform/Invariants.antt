@@ -1,4 +1,0 @@
-use Rattle.wf_steps.proofs.step.perform.Given as goal
-
-abbrev pub ghost-perform_plain : goal.ghost-perform_plain
-ghost-perform_plain g a = g.ns

@@ -1,4 +1,0 @@
-use Rattle.wf_steps.proofs.step.switch.Given as goal
-
-abbrev pub ghost-choose : goal.ghost-choose
-ghost-choose g a = g.at

@@ -1,4 +1,0 @@
-pub mod Cuts
-pub mod Joins
-pub mod Ones
-pub mod Made

@@ -1,4 +1,0 @@
-pub mod Pieces
-pub mod Splits
-pub mod Texts
-pub mod Templates
