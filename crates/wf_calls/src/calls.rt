@@ -57,10 +57,8 @@ impl Calls {
             (self.new ≡ self.old ++ Open task (request_view request) due ∷ []) }
         ensures kept { OnErr result (self.new ≡ self.old) }
     {
-        match self.calls.push(Call::open(task, request, due)) {
-            Ok(()) => Ok(()),
-            Err(_) => Err(OutOfMemory),
-        }
+        self.calls.push(Call::open(task, request, due))?;
+        Ok(())
     }
 
     /// Closes call `number`, and lets its request go. Where there is no such call nothing changes.

@@ -66,20 +66,15 @@ fn json_line(alloc: Global, value: &Value) -> Result<Vec<u8>, OutOfMemory>
     ensures { IfOk result (λ text. text.items ≡ line_end (json_text (plain value.now))) }
 {
     let mut text = to_json(alloc, value)?;
-    match text.push(b'\n') {
-        Ok(()) => Ok(text),
-        Err(_) => Err(OutOfMemory),
-    }
+    text.push(b'\n')?;
+    Ok(text)
 }
 
 /// The bytes of a text.
 fn bytes_of(alloc: Global, text: &str) -> Result<Vec<u8>, OutOfMemory>
     ensures { IfOk result (λ bytes. bytes.items ≡ text.now) }
 {
-    match Vec::from_slice(alloc, text.as_bytes()) {
-        Ok(bytes) => Ok(bytes),
-        Err(_) => Err(OutOfMemory),
-    }
+    Ok(Vec::from_slice(alloc, text.as_bytes())?)
 }
 
 impl Said {

@@ -59,10 +59,8 @@ fn id_for(alloc: Global, line: &Line<'_>, reading: u64) -> Result<Text, OutOfMem
     if let Some(id) = line.id() {
         return utf8_text(alloc, id);
     }
-    match format!(in alloc; "w{reading}") {
-        Ok(id) => utf8_text(alloc, id.as_str()),
-        Err(_) => Err(OutOfMemory),
-    }
+    let id = format!(in alloc; "w{reading}")?;
+    utf8_text(alloc, id.as_str())
 }
 
 /// The routes of the line, in order.

@@ -67,28 +67,19 @@ pub fn number(n: Result<i64, NumFault>) -> Result<Value, Raise>
 pub fn copied(alloc: Global, v: &Value) -> Result<Value, Raise>
     ensures { Gives result (Ok (plain v.now)) }
 {
-    match v.copy(alloc) {
-        Ok(w) => Ok(w),
-        Err(_) => Err(Raise::OutOfMemory),
-    }
+    Ok(v.copy(alloc)?)
 }
 
 /// The text.
 pub fn owned(alloc: Global, s: &str) -> Result<Text, Raise>
     ensures { GivesText result (Ok s.now) }
 {
-    match Text::new(alloc, s) {
-        Ok(t) => Ok(t),
-        Err(_) => Err(Raise::OutOfMemory),
-    }
+    Ok(Text::new(alloc, s)?)
 }
 
 /// The text as a value.
 pub fn text(alloc: Global, s: &str) -> Result<Value, Raise>
     ensures { Gives result (Ok (text s.now)) }
 {
-    match Text::new(alloc, s) {
-        Ok(t) => Ok(Value::Text(t)),
-        Err(_) => Err(Raise::OutOfMemory),
-    }
+    Ok(Value::Text(Text::new(alloc, s)?))
 }

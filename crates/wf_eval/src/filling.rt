@@ -37,10 +37,8 @@ pub fn fill<K: Look>(alloc: Global, t: &Template, look: &K, now: u64) -> Result<
 fn evaluate<K: Look>(alloc: Global, e: &Expr, look: &K, now: u64) -> Result<Value, Raise>
     ensures { Gives result (meaning.eval (expr_view e.now) (seen (K.sight look.now) now)) }
 {
-    match compile(alloc, e) {
-        Ok(postfix) => eval(alloc, &postfix, look, now),
-        Err(_) => Err(Raise::OutOfMemory),
-    }
+    let postfix = compile(alloc, e)?;
+    eval(alloc, &postfix, look, now)
 }
 
 // The texts of the parts in a row.
@@ -51,9 +49,7 @@ fn joined<K: Look>(alloc: Global, parts: &[Part], look: &K, now: u64) -> Result<
     let mut text = String::new(alloc);
     for part in parts {
         let more = part_text(alloc, part, look, now)?;
-        let Ok(()) = text.push_str(more.as_str()) else {
-            return Err(Raise::OutOfMemory);
-        };
+        text.push_str(more.as_str())?;
     }
     owned(alloc, text.as_str())
 }
@@ -78,14 +74,10 @@ fn fill_all<K: Look>(alloc: Global, ts: &[Template], look: &K, now: u64) -> Resu
     ensures { Answers (λ l. items_of l) result
         (meaning.fill_all (templates (map template_view ts.now)) (seen (K.sight look.now) now)) }
 {
-    let Ok(mut list) = List::new(alloc) else {
-        return Err(Raise::OutOfMemory);
-    };
+    let mut list = List::new(alloc)?;
     for t in ts {
         let value = fill(alloc, t, look, now)?;
-        let Ok(()) = list.push(value) else {
-            return Err(Raise::OutOfMemory);
-        };
+        list.push(value)?;
     }
     Ok(list)
 }
@@ -105,9 +97,7 @@ fn fill_fields<K: Look>(
     for f in fs {
         let value = fill(alloc, &f.template, look, now)?;
         let key = owned(alloc, f.name.as_str())?;
-        let Ok(()) = pairs.push((key, value)) else {
-            return Err(Raise::OutOfMemory);
-        };
+        pairs.push((key, value))?;
     }
     Ok(pairs)
 }
@@ -131,9 +121,7 @@ fn keep_map(alloc: Global, pairs: Result<Vec<(Text, Value)>, Raise>) -> Result<V
 pub fn map_of(alloc: Global, mut pairs: Vec<(Text, Value)>) -> Result<Map, Raise>
     ensures { Answers (λ m. pairs_of m) result (Ok (put_all pairs.items no_pairs)) }
 {
-    let Ok(mut made) = Map::new(alloc) else {
-        return Err(Raise::OutOfMemory);
-    };
+    let mut made = Map::new(alloc)?;
     while let Some((key, value)) = pairs.pop() {
         put(&mut made, key, value)?;
     }
@@ -145,8 +133,6 @@ pub fn map_of(alloc: Global, mut pairs: Vec<(Text, Value)>) -> Result<Map, Raise
 fn put(m: &mut Map, key: Text, value: Value) -> Result<(), Raise>
     ensures { Answers (λ u. pairs_of m.new) result (Ok (put key (plain value) (pairs_of m.old))) }
 {
-    match m.insert(key, value) {
-        Ok(_) => Ok(()),
-        Err(_) => Err(Raise::OutOfMemory),
-    }
+    m.insert(key, value)?;
+    Ok(())
 }

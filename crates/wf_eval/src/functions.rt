@@ -45,14 +45,10 @@ pub(crate) fn keys(alloc: Global, v: &Value) -> Result<Value, Raise>
 fn key_list(alloc: Global, m: &Map) -> Result<List, Raise>
     ensures { Answers (λ l. l) result (Ok (key_texts (keys (pairs_of m.now)))) }
 {
-    let Ok(mut list) = List::new(alloc) else {
-        return Err(Raise::OutOfMemory);
-    };
+    let mut list = List::new(alloc)?;
     let mut i: usize = 0;
     while let Some((key, _)) = m.entry(i) {
-        let Ok(()) = list.push(text(alloc, key)?) else {
-            return Err(Raise::OutOfMemory);
-        };
+        list.push(text(alloc, key)?)?;
         i = next(i)?;
     }
     Ok(list)
@@ -158,10 +154,10 @@ pub fn shown(alloc: Global, v: &Value) -> Result<Text, Raise>
 {
     match v {
         Value::Text(t) => owned(alloc, t.as_str()),
-        Value::Int(n) => match n.to_string(alloc) {
-            Ok(s) => owned(alloc, s.as_str()),
-            Err(_) => Err(Raise::OutOfMemory),
-        },
+        Value::Int(n) => {
+            let digits = n.to_string(alloc)?;
+            owned(alloc, digits.as_str())
+        }
         Value::Bool(true) => owned(alloc, "true"),
         Value::Bool(false) => owned(alloc, "false"),
         _ => Err(Raise::Error(Tag::TypeError)),

@@ -164,10 +164,8 @@ fn settle(stack: &mut Vec<Value>, value: Result<Value, Raise>) -> Result<usize, 
 fn put(stack: &mut Vec<Value>, v: Value) -> Result<usize, Raise>
     ensures { Pushes result (tops stack.new.items) (plain v ∷ tops stack.old.items) }
 {
-    match stack.push(v) {
-        Ok(()) => Ok(0),
-        Err(_) => Err(Raise::OutOfMemory),
-    }
+    stack.push(v)?;
+    Ok(0)
 }
 
 // The topmost value.
@@ -195,8 +193,6 @@ fn call<K: Look>(
     let Some(below) = stack.len().checked_sub(count) else {
         return Err(Raise::Error(Tag::TypeError));
     };
-    let Ok(args) = stack.split_off(below) else {
-        return Err(Raise::OutOfMemory);
-    };
+    let args = stack.split_off(below)?;
     settle(stack, apply(alloc, f, args.as_slice(), look, now))
 }

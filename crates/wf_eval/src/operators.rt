@@ -56,12 +56,8 @@ fn added(alloc: Global, v: &Value, w: &Value) -> Result<Value, Raise>
 fn joined(alloc: Global, a: &str, b: &str) -> Result<Value, Raise>
     ensures { Gives result (Ok (text (a.now ++ b.now))) }
 {
-    let Ok(mut s) = String::from_str(alloc, a) else {
-        return Err(Raise::OutOfMemory);
-    };
-    let Ok(()) = s.push_str(b) else {
-        return Err(Raise::OutOfMemory);
-    };
+    let mut s = String::from_str(alloc, a)?;
+    s.push_str(b)?;
     text(alloc, s.as_str())
 }
 

@@ -50,10 +50,8 @@ impl Events {
             ≡ events_view self.old ++ event_view event ∷ []) }
         ensures err { OnErr result (events_view self.new ≡ events_view self.old) }
     {
-        match self.items.push(event) {
-            Ok(()) => Ok(()),
-            Err(_) => Err(OutOfMemory),
-        }
+        self.items.push(event)?;
+        Ok(())
     }
 
     /// The events.

@@ -1,4 +1,7 @@
 // Why a text is no expression.
+ghost use Rattle.std.specs.Prelude.{◌≡◌};
+ghost use Rattle.wf_expr.specs.declared.fault.ExprFault.TheVariants as variant;
+
 use wf_span::LexFault;
 use wf_value::OutOfMemory;
 
@@ -20,4 +23,12 @@ pub enum ExprFault {
     Arity(u32),
     /// There is no memory.
     OutOfMemory,
+}
+
+impl From<OutOfMemory> for ExprFault {
+    ghost from_gives = { λ _ e. e ≡ variant.OutOfMemory };
+
+    fn from(_: OutOfMemory) -> Self {
+        ExprFault::OutOfMemory
+    }
 }

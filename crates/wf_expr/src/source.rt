@@ -39,10 +39,7 @@ pub(crate) fn text_symbols(alloc: Global, src: &str) -> Result<Vec<Symbol>, Expr
         return Err(ExprFault::TooLong);
     }
     match tokens(alloc, src) {
-        Ok(tokens) => match symbols_of(alloc, &tokens) {
-            Ok(symbols) => Ok(symbols),
-            Err(_) => Err(ExprFault::OutOfMemory),
-        },
+        Ok(tokens) => Ok(symbols_of(alloc, &tokens)?),
         Err(LexFault::BadCharacter(at)) => Err(ExprFault::Lex(LexFault::BadCharacter(at))),
         Err(LexFault::OpenText(at)) => Err(ExprFault::Lex(LexFault::OpenText(at))),
         Err(LexFault::OutOfMemory) => Err(ExprFault::OutOfMemory),

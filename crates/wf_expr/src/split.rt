@@ -43,10 +43,8 @@ fn add<'a>(pieces: &mut Vec<Piece<'a>>, piece: Piece<'a>) -> Result<(), OutOfMem
     ensures { IfOk result (λ _. map piece_of pieces.new.items
         ≡ map piece_of pieces.old.items ++ piece_of piece.entry ∷ []) }
 {
-    match pieces.push(piece) {
-        Ok(()) => Ok(()),
-        Err(_) => Err(OutOfMemory),
-    }
+    pieces.push(piece)?;
+    Ok(())
 }
 
 // Adds what is said, if anything is.

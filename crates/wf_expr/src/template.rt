@@ -31,9 +31,7 @@ pub fn parse_template(alloc: Global, text: &str) -> Result<Template, ExprFault>
     if !has_expressions(text) {
         return Ok(Template::Lit(Value::Text(owned(alloc, text)?)));
     }
-    let Ok(pieces) = pieces(alloc, text) else {
-        return Err(ExprFault::OutOfMemory);
-    };
+    let pieces = pieces(alloc, text)?;
     match alone(&pieces) {
         Some(source) => Ok(Template::Expr(in_box(alloc, parse(alloc, source)?)?)),
         None => Ok(Template::Join(parts(alloc, &pieces)?)),
@@ -44,10 +42,7 @@ pub fn parse_template(alloc: Global, text: &str) -> Result<Template, ExprFault>
 fn in_box(alloc: Global, expr: Expr) -> Result<Box<Expr>, ExprFault>
     ensures { MatchResult result (λ held. held.value ≡ expr) (λ f. f ≡ fault.OutOfMemory) }
 {
-    match boxed(alloc, expr) {
-        Ok(held) => Ok(held),
-        Err(_) => Err(ExprFault::OutOfMemory),
-    }
+    Ok(boxed(alloc, expr)?)
 }
 
 // The expression that stands alone, if one does.
@@ -98,27 +93,19 @@ fn end(text: &str) -> u32
 fn owned(alloc: Global, text: &str) -> Result<Text, ExprFault>
     ensures { MatchResult result (λ t. t ≡ text.now) (λ f. f ≡ fault.OutOfMemory) }
 {
-    match Text::new(alloc, text) {
-        Ok(text) => Ok(text),
-        Err(_) => Err(ExprFault::OutOfMemory),
-    }
+    Ok(Text::new(alloc, text)?)
 }
 
 fn no_parts(alloc: Global) -> Result<Parts, ExprFault>
     ensures { MatchResult result (λ xs. parts_view xs ≡ []) (λ f. f ≡ fault.OutOfMemory) }
 {
-    match Parts::new(alloc) {
-        Ok(parts) => Ok(parts),
-        Err(_) => Err(ExprFault::OutOfMemory),
-    }
+    Ok(Parts::new(alloc)?)
 }
 
 fn add(parts: &mut Parts, part: Part) -> Result<(), ExprFault>
     ensures { MatchResult result (λ _. parts_view parts.new
         ≡ parts_view parts.old ++ part_view part ∷ []) (λ f. f ≡ fault.OutOfMemory) }
 {
-    match parts.push(part) {
-        Ok(()) => Ok(()),
-        Err(_) => Err(ExprFault::OutOfMemory),
-    }
+    parts.push(part)?;
+    Ok(())
 }

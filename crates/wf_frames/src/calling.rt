@@ -21,9 +21,7 @@ pub fn call_function<K: Look>(
     ensures { Gives result
         (answer_of (seen (K.sight look.now) now) function.now (pairs_of args.now)) }
 {
-    let Ok(values) = call_arguments(alloc, &function.arguments, args) else {
-        return Err(Raise::OutOfMemory);
-    };
+    let values = call_arguments(alloc, &function.arguments, args)?;
     match apply(alloc, function.func, values.as_slice(), look, now) {
         Ok(value) => keep(value),
         Err(raise) => Err(raise),

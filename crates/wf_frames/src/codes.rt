@@ -49,9 +49,7 @@ pub fn values<K: Look>(
     let mut values = Vec::new(alloc);
     for code in codes {
         let value = value(alloc, code, look, now)?;
-        let Ok(()) = values.push(value) else {
-            return Err(Raise::OutOfMemory);
-        };
+        values.push(value)?;
     }
     Ok(values)
 }

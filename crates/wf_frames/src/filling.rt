@@ -53,9 +53,7 @@ fn joined<K: Look>(
     let mut text = String::new(alloc);
     for piece in pieces {
         let more = piece_text(alloc, piece, codes, look, now)?;
-        let Ok(()) = text.push_str(more.as_str()) else {
-            return Err(Raise::OutOfMemory);
-        };
+        text.push_str(more.as_str())?;
     }
     owned(alloc, text.as_str())
 }
@@ -93,14 +91,10 @@ fn fill_all<K: Look>(
         (meaning.fill_all (templates (map (shape_by codes.now) shapes.now))
         (seen (K.sight look.now) now)) }
 {
-    let Ok(mut list) = List::new(alloc) else {
-        return Err(Raise::OutOfMemory);
-    };
+    let mut list = List::new(alloc)?;
     for shape in shapes {
         let value = fill_shape(alloc, shape, codes, look, now)?;
-        let Ok(()) = list.push(value) else {
-            return Err(Raise::OutOfMemory);
-        };
+        list.push(value)?;
     }
     Ok(list)
 }
@@ -122,9 +116,7 @@ fn fill_named<K: Look>(
     for member in named {
         let value = fill_shape(alloc, &member.shape, codes, look, now)?;
         let key = owned(alloc, member.name.as_str())?;
-        let Ok(()) = pairs.push((key, value)) else {
-            return Err(Raise::OutOfMemory);
-        };
+        pairs.push((key, value))?;
     }
     Ok(pairs)
 }

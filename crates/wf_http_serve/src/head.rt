@@ -119,9 +119,7 @@ fn look_in_large_room(alloc: Global, front: &[u8]) -> Result<Look, OutOfMemory>
     requires many { RequestOverflows 100 front.now }
     ensures { IfOk result (IsLook front.now) }
 {
-    let Ok(mut room) = Vec::from_elem(alloc, EMPTY_HEADER_SPAN, LARGE_ROOM) else {
-        return Err(OutOfMemory);
-    };
+    let mut room = Vec::from_elem(alloc, EMPTY_HEADER_SPAN, LARGE_ROOM)?;
     Ok(look_in(front, room.as_mut_slice()))
 }
 

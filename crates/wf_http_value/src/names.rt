@@ -27,9 +27,7 @@ fn proper_bytes(alloc: Global, name: &[u8]) -> Result<Vec<u8>, OutOfMemory>
         } else {
             byte.to_ascii_lowercase()
         };
-        let Ok(()) = proper.push(letter) else {
-            return Err(OutOfMemory);
-        };
+        proper.push(letter)?;
         is_first = *byte == b'-';
     }
     Ok(proper)

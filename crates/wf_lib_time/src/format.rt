@@ -33,10 +33,7 @@ fn written(alloc: Global, seconds: i64) -> Result<Value, Raise>
     ensures { Gives result (time_format (integer seconds)) }
 {
     if is_in_time(seconds) {
-        match stamp(alloc, seconds) {
-            Ok(text) => Ok(Value::Text(text)),
-            Err(_) => Err(Raise::OutOfMemory),
-        }
+        Ok(Value::Text(stamp(alloc, seconds)?))
     } else {
         Err(Raise::Error(Tag::ValueError))
     }
@@ -54,9 +51,7 @@ fn stamp(alloc: Global, seconds: i64) -> Result<Text, OutOfMemory>
     ensures { IfOk result (λ t. t ≡ stamp_text seconds) }
 {
     let at = date_time(seconds);
-    let Ok(text) = format!(in alloc; "{at}Z") else {
-        return Err(OutOfMemory);
-    };
+    let text = format!(in alloc; "{at}Z")?;
     Text::new(alloc, text.as_str())
 }
 

@@ -26,10 +26,8 @@ pub fn write_yaml(alloc: Global, tree: &Tree) -> Result<Text, OutOfMemory>
         → IfOk result (λ t. reading t ≡ Ok (plain_tree tree.now)) }
 {
     let mut out = String::new(alloc);
-    match push_tree(alloc, &mut out, 0, tree) {
-        Ok(()) => Text::new(alloc, out.as_str()),
-        Err(_) => Err(OutOfMemory),
-    }
+    push_tree(alloc, &mut out, 0, tree)?;
+    Text::new(alloc, out.as_str())
 }
 
 // Writes a tree whose first line goes on in a line that was begun; the others stand at the

@@ -35,17 +35,17 @@ fill-returns-in-Map g t c =
 
 pub fill_all-loop-t-preserved : goal.fill_all-loop-t-preserved
 fill_all-loop-t-preserved g t c =
-    list_step (seen (g.K.Look.sight c.args.look.now) c.args.now) c.args.ts.now c.loop-t.t-index c.t-item.result c.loop-t.list c.loop-t-test.true c.t-item.is c.push.new.self c.in_ok-value.value c.in_ok-value.ensures c.in-Ok-push.ensures c.loop-t.invariant
+    list_step (seen (g.K.Look.sight c.args.look.now) c.args.now) c.args.ts.now c.loop-t.t-index c.t-item.result c.loop-t.list c.loop-t-test.true c.t-item.is c.push.new.self c.in_ok-value.value c.in_ok-value.ensures c.in_ok-push.ensures c.loop-t.invariant
 
 pub fill_all-returns : goal.fill_all-returns
 fill_all-returns g t c = list_done (seen (g.K.Look.sight c.args.look.now) c.args.now) c.args.ts.now c.loop-t.t-index c.loop-t.list c.loop-t-test.false c.loop-t.invariant
 
 pub fill_all-returns-in_err-value : goal.fill_all-returns-in_err-value
 fill_all-returns-in_err-value g t c =
-    let is : c.from_residual.result ≡ Err c.in_err-value.field-0.0 = search rules in
+    let is : c.from_residual-in_err-value.result ≡ Err c.in_err-value.field-0.0 = search rules in
     subst (λ (r : Result (List Data) Raise). Answers items_of r (fill_all (templates (map template_view c.args.ts.now)) (seen (g.K.Look.sight c.args.look.now) c.args.now))) (sym is)
     (list_stops (seen (g.K.Look.sight c.args.look.now) c.args.now) c.args.ts.now c.loop-t.t-index c.t-item.result c.loop-t.list c.loop-t-test.true c.t-item.is c.in_err-value.field-0.0 c.in_err-value.ensures c.loop-t.invariant)
 
 pub fill_fields-loop-f-preserved : goal.fill_fields-loop-f-preserved
 fill_fields-loop-f-preserved g t c =
-    map_step (seen (g.K.Look.sight c.args.look.now) c.args.now) c.args.fs.now c.loop-f.f-index c.f-item.result c.loop-f.pairs.items c.loop-f-test.true c.f-item.is c.push.new.self.items c.in_ok-key.key c.in_ok-value.value c.in_ok-value.ensures (rw c.as_str.ensures at c.in_ok-key.ensures) c.in-Ok.ensures.items c.loop-f.invariant
+    map_step (seen (g.K.Look.sight c.args.look.now) c.args.now) c.args.fs.now c.loop-f.f-index c.f-item.result c.loop-f.pairs.items c.loop-f-test.true c.f-item.is c.push.new.self.items c.in_ok-key.key c.in_ok-value.value c.in_ok-value.ensures (rw c.as_str.ensures at c.in_ok-key.ensures) c.in_ok-push.ensures.items c.loop-f.invariant

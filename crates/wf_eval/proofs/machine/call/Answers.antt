@@ -12,5 +12,5 @@ returns-in_default g c =
 pub returns : goal.returns
 returns g c =
     let count : c.in-Some.below + c.args.count ≡ length c.args.stack.now.items = search rules in
-    called (seen (g.K.Look.sight c.args.look.now) c.args.now) c.args.f c.args.count c.in-Some.below c.args.stack.now.items c.split_off.new.self.items c.in-Ok.args.items c.as_slice.result.now c.apply.result c.settle.result (tops c.settle.new.stack.items)
-    count c.in-Ok.ensures.items c.in-Ok.ensures.tail c.as_slice.ensures.value c.apply.ensures c.settle.ensures
+    called (seen (g.K.Look.sight c.args.look.now) c.args.now) c.args.f c.args.count c.in-Some.below c.args.stack.now.items c.split_off.new.self.items c.in_ok-args.args.items c.as_slice.result.now c.apply.result c.settle.result (tops c.settle.new.stack.items)
+    count c.in_ok-args.ensures.items c.in_ok-args.ensures.tail c.as_slice.ensures.value c.apply.ensures c.settle.ensures

@@ -11,5 +11,5 @@ symbols_of-requires-clause-range c = few_tokens _ _ (few_bytes _ c.utf8.src (sym
 pub symbols_of-requires-clause-tokens : goal.symbols_of-requires-clause-tokens
 symbols_of-requires-clause-tokens c = all_tokens 0 _ _ c.in-Ok.ensures
 
-pub returns-in-Ok-symbols_of : goal.returns-in-Ok-symbols_of
-returns-in-Ok-symbols_of c = has_symbols _ _ _ c.utf8.src (sym c.if-is_long.ensures) c.in-Ok.ensures c.in-Ok-symbols_of.ensures
+pub returns-in_ok-symbols_of-in-Ok : goal.returns-in_ok-symbols_of-in-Ok
+returns-in_ok-symbols_of-in-Ok c = has_symbols _ _ _ c.utf8.src (sym c.if-is_long.ensures) c.in-Ok.ensures c.in_ok-symbols_of-in-Ok.ensures

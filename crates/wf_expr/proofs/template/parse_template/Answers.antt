@@ -8,4 +8,4 @@ pub returns-in_err-parse-in-Some-clause-fault : goal.returns-in_err-parse-in-Som
 returns-in_err-parse-in-Some-clause-fault c =
     let p = err_from_is_err_and c.from_residual-in_err-parse-in-Some.result c.from_residual-in_err-parse-in-Some.ensures.1 in
     let alone = ap (map piece_of) (sym c.deref.ensures.value) ∙ c.in-Some.ensures in
-    rw (p.1, p.2) (whole_fault c.args.text.now c.in-Some.source.now (map piece_of c.in-Ok.pieces.items) _ c.in-Ok.ensures alone c.in_err-parse-in-Some.ensures.fault)
+    rw (p.1, p.2) (whole_fault c.args.text.now c.in-Some.source.now (map piece_of c.in_ok-pieces.pieces.items) _ c.in_ok-pieces.ensures alone c.in_err-parse-in-Some.ensures.fault)

@@ -14,7 +14,7 @@ use Rattle.wf_frames.proofs.codes.values.Goals as goal
 
 pub loop-code-preserved : goal.loop-code-preserved
 loop-code-preserved g c =
-    step (seen (g.K.Look.sight c.args.look.now) c.args.now) c.args.codes.now c.loop-code.code-index c.code-item.result c.loop-code.values.items c.loop-code-test.true c.code-item.is c.loop-code.invariant c.push.new.self.items c.in_ok-value.value c.in_ok-value.ensures c.in-Ok.ensures.items
+    step (seen (g.K.Look.sight c.args.look.now) c.args.now) c.args.codes.now c.loop-code.code-index c.code-item.result c.loop-code.values.items c.loop-code-test.true c.code-item.is c.loop-code.invariant c.push.new.self.items c.in_ok-value.value c.in_ok-value.ensures c.in_ok-push.ensures.items
 
 pub returns : goal.returns
 returns g c = done (seen (g.K.Look.sight c.args.look.now) c.args.now) c.args.codes.now c.loop-code.code-index c.loop-code.values.items c.loop-code-test.false c.loop-code.invariant

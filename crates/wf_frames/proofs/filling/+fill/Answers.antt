@@ -35,17 +35,17 @@ fill_shape-returns-in-Map g t c =
 
 pub fill_all-loop-shape-preserved : goal.fill_all-loop-shape-preserved
 fill_all-loop-shape-preserved g t c =
-    list_step c.args.codes.now (seen (g.K.Look.sight c.args.look.now) c.args.now) c.args.shapes.now c.loop-shape.shape-index c.shape-item.result c.loop-shape.list c.loop-shape-test.true c.shape-item.is c.push.new.self c.in_ok-value.value c.in_ok-value.ensures c.in-Ok-push.ensures c.loop-shape.invariant
+    list_step c.args.codes.now (seen (g.K.Look.sight c.args.look.now) c.args.now) c.args.shapes.now c.loop-shape.shape-index c.shape-item.result c.loop-shape.list c.loop-shape-test.true c.shape-item.is c.push.new.self c.in_ok-value.value c.in_ok-value.ensures c.in_ok-push.ensures c.loop-shape.invariant
 
 pub fill_all-returns : goal.fill_all-returns
 fill_all-returns g t c = list_done c.args.codes.now (seen (g.K.Look.sight c.args.look.now) c.args.now) c.args.shapes.now c.loop-shape.shape-index c.loop-shape.list c.loop-shape-test.false c.loop-shape.invariant
 
 pub fill_all-returns-in_err-value : goal.fill_all-returns-in_err-value
 fill_all-returns-in_err-value g t c =
-    let is : c.from_residual.result ≡ Err c.in_err-value.field-0.0 = search rules in
+    let is : c.from_residual-in_err-value.result ≡ Err c.in_err-value.field-0.0 = search rules in
     subst (λ (r : Result (List Data) Raise). Answers items_of r (fill_all (templates (map (shape_by c.args.codes.now) c.args.shapes.now)) (seen (g.K.Look.sight c.args.look.now) c.args.now))) (sym is)
     (list_stops c.args.codes.now (seen (g.K.Look.sight c.args.look.now) c.args.now) c.args.shapes.now c.loop-shape.shape-index c.shape-item.result c.loop-shape.list c.loop-shape-test.true c.shape-item.is c.in_err-value.field-0.0 c.in_err-value.ensures c.loop-shape.invariant)
 
 pub fill_named-loop-member-preserved : goal.fill_named-loop-member-preserved
 fill_named-loop-member-preserved g t c =
-    map_step c.args.codes.now (seen (g.K.Look.sight c.args.look.now) c.args.now) c.args.named.now c.loop-member.member-index c.member-item.result c.loop-member.pairs.items c.loop-member-test.true c.member-item.is c.push.new.self.items c.in_ok-key.key c.in_ok-value.value c.in_ok-value.ensures (rw c.as_str.ensures at c.in_ok-key.ensures) c.in-Ok.ensures.items c.loop-member.invariant
+    map_step c.args.codes.now (seen (g.K.Look.sight c.args.look.now) c.args.now) c.args.named.now c.loop-member.member-index c.member-item.result c.loop-member.pairs.items c.loop-member-test.true c.member-item.is c.push.new.self.items c.in_ok-key.key c.in_ok-value.value c.in_ok-value.ensures (rw c.as_str.ensures at c.in_ok-key.ensures) c.in_ok-push.ensures.items c.loop-member.invariant

@@ -11,7 +11,7 @@ use Rattle.wf_frames.proofs.filling.joined.Goals as goal
 pub loop-piece-preserved : goal.loop-piece-preserved
 loop-piece-preserved g c =
     text_step c.args.codes.now (seen (g.K.Look.sight c.args.look.now) c.args.now) c.args.pieces.now c.loop-piece.piece-index c.piece-item.result (string_bytes c.loop-piece.text) c.loop-piece-test.true c.piece-item.is c.loop-piece.invariant
-    (string_bytes c.push_str.new.self) c.in_ok-more.more c.in_ok-more.ensures (c.in-Ok.ensures.bytes ∙ ap (λ (t : List ℕ). string_bytes c.loop-piece.text ++ t) c.as_str.ensures)
+    (string_bytes c.push_str.new.self) c.in_ok-more.more c.in_ok-more.ensures (c.in_ok-push_str.ensures.bytes ∙ ap (λ (t : List ℕ). string_bytes c.loop-piece.text ++ t) c.as_str.ensures)
 
 pub returns-in_err-more : goal.returns-in_err-more
 returns-in_err-more g c =

@@ -9,5 +9,5 @@ pub returns : goal.returns
 returns c =
     let fits : FitsSigned w64 c.args.seconds = c.ranges.seconds in
     let civil = simp to_z-of_z at c.date_time-at.ensures in
-    let same : c.as_str.result.now ≡ stamp_text c.args.seconds = c.as_str.ensures.value ∙ c.in-Ok.ensures.ok ∙ stamped_at c.date_time-at.result c.args.seconds c.requires civil in
+    let same : c.as_str.result.now ≡ stamp_text c.args.seconds = c.as_str.ensures.value ∙ c.in_ok-text.ensures.ok ∙ stamped_at c.date_time-at.result c.args.seconds c.requires civil in
     IfOk-weaker c.new.result (λ t. t ≡ c.as_str.result.now) (λ t. t ≡ stamp_text c.args.seconds) (λ t e. e ∙ same) c.new.ensures

@@ -4,8 +4,8 @@ use Rattle.wf_lib_time.specs.Moments.{IsInTime, stamp_text}
 use Rattle.wf_lib_time.proofs.Ranges.{format_within}
 use Rattle.wf_lib_time.proofs.format.written.Goals as goal
 
-pub returns-in-Ok : goal.returns-in-Ok
-returns-in-Ok c =
+pub returns-in_ok-stamp : goal.returns-in_ok-stamp
+returns-in_ok-stamp c =
     let within : IsInTime c.args.seconds = search rules in
-    let same : c.in-Ok.text ≡ stamp_text c.args.seconds = search rules in
+    let same : c.in_ok-stamp.field-0 ≡ stamp_text c.args.seconds = search rules in
     format_within c.args.seconds within ∙ ap (λ t. Ok (text t)) (sym same)
