@@ -188,10 +188,8 @@ fn left_of<K: Look>(
             let Value::List(list) = &value else {
                 return Err(Raise::Error(Tag::TypeError));
             };
-            match list.copy() {
-                Ok(list) => Ok(Left::Items(list, 0)),
-                Err(_) => Err(Raise::OutOfMemory),
-            }
+            let list = list.copy()?;
+            Ok(Left::Items(list, 0))
         }
         OverShape::Range(first, last) => {
             let first = fill_shape(alloc, first, codes, look, now)?;

@@ -114,10 +114,7 @@ fn text_of(value: &Value) -> Result<Value, Raise>
     ensures { Answers plain result (text_told (plain value.now)) }
 {
     match value {
-        Value::Text(text) => match text.copy() {
-            Ok(text) => Ok(Value::Text(text)),
-            Err(_) => Err(Raise::OutOfMemory),
-        },
+        Value::Text(text) => Ok(Value::Text(text.copy()?)),
         _ => Err(Raise::Error(Tag::TypeError)),
     }
 }

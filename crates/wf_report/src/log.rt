@@ -70,13 +70,9 @@ fn add_line(
         return Ok(());
     }
     let name = severity_name(severity);
-    let Ok(line) = format!(in alloc; "{reading} {name} {}\n", json.as_str()) else {
-        return Err(OutOfMemory);
-    };
-    match text.push_str(line.as_str()) {
-        Ok(()) => Ok(()),
-        Err(_) => Err(OutOfMemory),
-    }
+    let line = format!(in alloc; "{reading} {name} {}\n", json.as_str())?;
+    text.push_str(line.as_str())?;
+    Ok(())
 }
 
 /// A line for each logged value, in their order: the last reading when it was logged, its severity, and the value as JSON, with a blank

@@ -29,8 +29,5 @@ pub fn show(alloc: Global, id: &str, machine: &Machine) -> Result<String, OutOfM
     let state = state_word(machine.outcome());
     let moves = machine.moves();
     let calls = machine.calls();
-    match format!(in alloc; "id {id}\nstate {state}\nmoves {moves}\ncalls {calls}\n") {
-        Ok(text) => Ok(text),
-        Err(_) => Err(OutOfMemory),
-    }
+    Ok(format!(in alloc; "id {id}\nstate {state}\nmoves {moves}\ncalls {calls}\n")?)
 }

@@ -331,9 +331,7 @@ impl Scopes {
             depth,
             vars,
         };
-        let Ok(()) = self.layers.push(layer) else {
-            return Err(OutOfMemory);
-        };
+        self.layers.push(layer)?;
         Ok(Chain { number })
     }
 }

@@ -25,10 +25,7 @@ const MOST_AT_ONCE: u32 = 1000;
 pub(crate) fn owned(alloc: Global, text: &str) -> Result<Text, Stop>
     ensures { MatchResult result (λ t. t ≡ text.now) (λ s. s ≡ stop.OutOfMemory) }
 {
-    match Text::new(alloc, text) {
-        Ok(text) => Ok(text),
-        Err(_) => Err(Stop::OutOfMemory),
-    }
+    Ok(Text::new(alloc, text)?)
 }
 
 // Any text.

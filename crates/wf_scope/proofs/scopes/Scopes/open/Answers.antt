@@ -22,15 +22,15 @@ pub returns-clause-live : goal.returns-clause-live
 returns-clause-live c =
     let ls = c.args.self.now.layers.items in
     let l : Layer = record { number = c.in_ok-number.number; outer = c.args.outer; depth = c.args.depth; vars = c.in_ok-vars.vars } in
-    pushed_live c.in_ok-number.number ls c.push.new.self.items l c.in-Ok.ensures.items refl
+    pushed_live c.in_ok-number.number ls c.push.new.self.items l c.in_ok-push.ensures.items refl
 
 pub returns-clause-innermost : goal.returns-clause-innermost
 returns-clause-innermost c =
     let s = c.args.self.now in
     let l : Layer = record { number = c.in_ok-number.number; outer = c.args.outer; depth = c.args.depth; vars = c.in_ok-vars.vars } in
-    pushed_innermost c.in_ok-number.number s.layers.items c.push.new.self.items l c.in-Ok.ensures.items c.in_ok-number.ensures s.standing c.requires
+    pushed_innermost c.in_ok-number.number s.layers.items c.push.new.self.items l c.in_ok-push.ensures.items c.in_ok-number.ensures s.standing c.requires
 
 pub returns-clause-stay : goal.returns-clause-stay
 returns-clause-stay c =
     let l : Layer = record { number = c.in_ok-number.number; outer = c.args.outer; depth = c.args.depth; vars = c.in_ok-vars.vars } in
-    pushed_stay c.args.self.now.layers.items c.push.new.self.items l c.in-Ok.ensures.items
+    pushed_stay c.args.self.now.layers.items c.push.new.self.items l c.in_ok-push.ensures.items
