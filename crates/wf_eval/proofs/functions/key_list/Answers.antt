@@ -8,4 +8,4 @@ loop-key-preserved c = record {
 }
 
 pub returns : goal.returns
-returns c = keys_done c.args.m.now c.loop-key.i c.loop-key.list c.in_default-entry.ensures c.loop-key.invariant.keys
+returns c = keys_done c.args.m.now c.loop-key.i c.loop-key.list c.in_default.ensures c.loop-key.invariant.keys
