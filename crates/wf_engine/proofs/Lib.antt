@@ -7,9 +7,6 @@ mod Clock
 mod Connected
 mod FreshEngine
 mod Heard
-mod LivesKept
-mod LivesPrinted
-mod LivesRuns
 mod NewSessions
 mod OneTurn
 mod Parts
@@ -22,4 +19,3 @@ mod Settling
 mod Turning
 mod TurnsAdded
 mod Waiting
-pub mod RowsHold

@@ -2,13 +2,11 @@ pub mod Starts
 pub mod Printed
 pub mod Safe
 pub mod Sending
-pub mod Lives
 pub mod TheOutside
 pub mod Ready
 pub mod Engine
 pub mod Fits
 pub mod Openings
-pub mod Rows
 pub mod Hearing
 pub mod Taken
 pub mod Turn

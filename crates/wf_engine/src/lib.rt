@@ -2,9 +2,7 @@
 #![tactic(auto)]
 
 mod engine;
-mod lives;
 mod opening;
-mod rows;
 mod sending;
 mod sessions;
 mod starts;
@@ -13,8 +11,6 @@ mod taking;
 mod turns;
 
 pub use engine::Engine;
-pub use lives::{law_of_lives, law_of_stays};
-pub use rows::worked_histories;
 pub use starts::laws_of_starts;
 pub use taken::Taken;
 pub use turns::choose_turn;

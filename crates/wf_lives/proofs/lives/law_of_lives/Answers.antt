@@ -1,6 +1,6 @@
-use Rattle.wf_engine.proofs.LivesKept as lives
-use Rattle.wf_engine.proofs.LivesPrinted as printed
-use Rattle.wf_engine.proofs.lives.law_of_lives.Goals as goal
+use Rattle.wf_lives.proofs.LivesKept as lives
+use Rattle.wf_lives.proofs.LivesPrinted as printed
+use Rattle.wf_lives.proofs.lives.law_of_lives.Goals as goal
 
 pub returns-clause-files_stay_fit : goal.returns-clause-files_stay_fit
 returns-clause-files_stay_fit c = lives.files_stay_fit

@@ -3,8 +3,8 @@ use Rattle.std.specs.Prelude.{◌≡◌, ◌≢◌, ◌⊎◌, ℕ, List, [], So
 use Rattle.std.proofs.Common.{inl, inr, refl, sym, ◌∙◌, ap, subst}
 use Rattle.wf_deeds.specs.Deeds.{printed}
 use Rattle.wf_deeds.specs.Outside.{Outside}
-use Rattle.wf_engine.proofs.LivesKept.{stay_at}
-use Rattle.wf_engine.specs.Lives.{PairsAreStays, PrintsByACause, PrintsOneLine, PrintsOther, PrintsOutcome, OneLine, Stay, IsStay, stay_scene}
+use Rattle.wf_lives.proofs.LivesKept.{stay_at}
+use Rattle.wf_lives.specs.Lives.{PairsAreStays, PrintsByACause, PrintsOneLine, PrintsOther, PrintsOutcome, OneLine, Stay, IsStay, stay_scene}
 use Rattle.wf_engine.specs.Printed.{Reports, Gives, bad_line, bad_argument, refused, not_a_journal, already_started, not_started, not_a_history, suspended, ended, done, told, status_of, outcome_text}
 use Rattle.wf_engine.specs.Safe.{IsPrefix, PrintedIsOutcome}
 use Rattle.wf_host.specs.World.{World}

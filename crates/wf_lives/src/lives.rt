@@ -1,5 +1,5 @@
 // The law of lives.
-ghost use Rattle.wf_engine.specs.Lives.{PairsAreStays, OneRequest, ClosedIsNotStarted, FilesStayFit, RecordsStay, OneLine, PrintsByACause, PrintsOneLine};
+ghost use Rattle.wf_lives.specs.Lives.{PairsAreStays, OneRequest, ClosedIsNotStarted, FilesStayFit, RecordsStay, OneLine, PrintsByACause, PrintsOneLine};
 
 use wf_deeds::laws_of_histories;
 use wf_host::Host;

@@ -7,7 +7,7 @@ use Rattle.json.specs.Lex.{lex, punctuate}
 use Rattle.json.specs.Word.{word}
 use lib.Utf8.{encode}
 use Rattle.wf_ast.specs.Tree.{Program}
-use Rattle.wf_engine.specs.Rows.{WorkedHistories, outcome, outcome_of, start, turn}
+use Rattle.wf_lives.specs.Rows.{WorkedHistories, outcome, outcome_of, start, turn}
 use Rattle.wf_events.specs.Reading.{meaning, record_of, whole_at, record_at, start_at, turn_at, events_at, event_at, argument_at, is_argument}
 use Rattle.wf_events.specs.Records.{Record, Started, Turned}
 use Rattle.wf_events.specs.Spelling.{record_bytes}

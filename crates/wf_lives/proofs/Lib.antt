@@ -1,0 +1,4 @@
+mod LivesKept
+mod LivesPrinted
+mod LivesRuns
+pub mod RowsHold
