@@ -7,7 +7,6 @@ pub mod Jumps
 pub mod Led
 pub mod Leaving
 pub mod LogCalls
-pub mod LogEntries
 pub mod Raised
 pub mod Requesting
 pub mod Retrying

@@ -15,12 +15,12 @@ use Rattle.wf_model.specs.Calls.{calls_listed, calls_named, calls_special, log_e
 use Rattle.wf_model.specs.Config.{Item, log_limit}
 use Rattle.wf_model.specs.Leave.{gives, on, raises}
 use Rattle.wf_model.specs.Local.{Breaks, Does, Local, Logs, Moved, Scene}
-use Rattle.wf_moves.specs.Logs.{logged_view, within_log}
+use Rattle.wf_sys_ask.specs.Logs.{logged_view, within_log}
 use Rattle.wf_moves.specs.Moved.{IsMove}
 use Rattle.wf_moves.specs.Requests.{Reaches}
 use Rattle.wf_moves.specs.Tasks.{IsLogged}
 use Rattle.wf_moves.specs.declared.finish.Went.{Went}
-use Rattle.wf_moves.specs.declared.logging.Logged.{Logged}
+use Rattle.wf_sys_ask.specs.declared.entry.Logged.{Logged}
 use Rattle.wf_moves.specs.declared.sending.Sending.{Sending}
 use Rattle.wf_model.specs.Spots.{part_at, part_body}
 use Rattle.wf_value.specs.Events.{severity_named}

@@ -1,16 +1,15 @@
 -- Sleeps.
 use Rattle.std.proofs.Common.{◌≡◌, ℕ, Bool, true, false, List, Ok, Err, None, Some, refl, sym, ap, subst, ◌∙◌}
-use Rattle.std.specs.Prelude.{◌*◌, pos, Option, Result, if◌then◌else◌, is_some, option_map}
+use Rattle.std.specs.Prelude.{Option, if◌then◌else◌, is_some, option_map}
 use Rattle.wf_ast.specs.Accept.{BadArgument}
 use Rattle.wf_ast.specs.Flows.{flow}
 use Rattle.wf_ast.specs.Func.{Listing, Special, SpecialListing, call_takes, func_named, special_named}
 use Rattle.wf_ast.specs.Tree.{Body, CallBody, Flow}
 use Rattle.wf_eval.specs.Answers.{Answers}
-use Rattle.wf_lib_time.specs.Gives.{Gives}
 use Rattle.wf_frames.specs.Frames.{body_result}
 use Rattle.wf_frames.specs.Held.{Held, standing}
 use Rattle.wf_frames.specs.Owned.{Around}
-use Rattle.wf_model.specs.Calls.{calls_listed, calls_named, calls_special, sleep_due, sleeps, until_due}
+use Rattle.wf_model.specs.Calls.{calls_listed, calls_named, calls_special, sleep_due, sleeps}
 use Rattle.wf_model.specs.Config.{Item, Sleep}
 use Rattle.wf_model.specs.Leave.{raises}
 use Rattle.wf_model.specs.Local.{Breaks, Local, Moved, Scene}
@@ -27,15 +26,10 @@ use Rattle.wf_frames.specs.Built.{IsNap, nap_special}
 use Rattle.wf_frames.specs.Steps.{calls_by}
 use Rattle.wf_frames.specs.declared.target.Nap.{Nap}
 use Rattle.wf_frames.specs.declared.target.Nap.TheVariants as nap
-use Rattle.wf_value.specs.LibTime.{parsed_time, time_parse}
-use Rattle.wf_value.specs.Data.{Data, Pairs, boolean, bytes, integer, list, map, null, text}
-use Rattle.wf_value.specs.Errors.{Answer, ◌>>=◌, error_map, or_error}
+use Rattle.wf_value.specs.Data.{Pairs}
+use Rattle.wf_value.specs.Errors.{Answer, error_map}
 use Rattle.wf_value.specs.Pairs.{Text, keys}
-use Rattle.wf_value.specs.Plain.{plain}
-use Rattle.wf_value.specs.declared.Raise.{Raise}
-use Rattle.wf_value.specs.declared.Raise.TheVariants.{Error, OutOfMemory}
-use Rattle.wf_value.specs.declared.Tag.TheVariants.{TypeError, ValueError}
-use Rattle.wf_value.specs.declared.Value.{Value}
+use Rattle.wf_value.specs.declared.Raise.TheVariants.{Error}
 use Rattle.wf_value.specs.declared.Tag.{Tag}
 
 -- what no accepted program does
@@ -85,37 +79,3 @@ module _ (a : Around) (s : Scene) (b : Nap) (args : Pairs) (n : ℕ) (f : CallBo
   -- or raises
   pub sleep_fails : (t : Tag) (w : Went) (l : Local) → Answers (λ m. m) (Err (Error t)) (nap_due b now args) → IsMove s (raises s k (standing d h) (error_map t)) w l → IsDone a s (sleeps s f.result (nap_due b now args) k (standing d h)) (done.Went w) l
   sleep_fails t w l e m = subst (λ (r : Answer ℕ). IsDone a s (sleeps s f.result r k (standing d h)) (done.Went w) l) (sym (failed (λ m. m) t (nap_due b now args) e)) m
-
--- ## Until a time
-until_err_by : (t : Tag) (o : Option ℕ) → (or_error ValueError o >>= λ n. Ok (integer (pos n))) ≡ Err t → Answers (λ (n : ℕ). n) (Err (Error t)) (or_error ValueError o >>= λ n. Ok (n * 1000))
-until_err_by t None h = let same : ValueError ≡ t = cc h in sym same
-until_err_by t (Some n) h = absurd (cc h)
-
-no_text : (t : Tag) → ◌≡◌ {A = Answer Data} (Err TypeError) (Err t) → t ≡ TypeError
-no_text t h = let same : TypeError ≡ t = cc h in sym same
-
-pub until_err : (d : Data) (t : Tag) → time_parse d ≡ Err t → Answers (λ (n : ℕ). n) (Err (Error t)) (until_due (Some d))
-until_err null t h = no_text t h
-until_err (boolean b) t h = no_text t h
-until_err (integer n) t h = no_text t h
-until_err (text s) t h = until_err_by t (parsed_time s) h
-until_err (bytes s) t h = no_text t h
-until_err (list vs) t h = no_text t h
-until_err (map ps) t h = no_text t h
-
-pub until_failed : (d : Data) (e : Raise) → Gives (Err e) (time_parse d) → Answers (λ (n : ℕ). n) (Err e) (until_due (Some d))
-until_failed d OutOfMemory h = tt
-until_failed d (Error t) h = until_err d t h
-
-until_ok_by : (v : Value) (r : Result ℕ Raise) (o : Option ℕ) → ((n : ℕ) → plain v ≡ integer (pos n) → Answers (λ (k : ℕ). k) r (Ok (n * 1000))) → (or_error ValueError o >>= λ n. Ok (integer (pos n))) ≡ Ok (plain v) → Answers (λ (n : ℕ). n) r (or_error ValueError o >>= λ n. Ok (n * 1000))
-until_ok_by v r None f h = absurd (cc h)
-until_ok_by v r (Some n) f h = let same : integer (pos n) ≡ plain v = cc h in f n (sym same)
-
-pub until_ok : (d : Data) (v : Value) (r : Result ℕ Raise) → time_parse d ≡ Ok (plain v) → ((n : ℕ) → plain v ≡ integer (pos n) → Answers (λ (k : ℕ). k) r (Ok (n * 1000))) → Answers (λ (n : ℕ). n) r (until_due (Some d))
-until_ok null v r h f = absurd (cc h)
-until_ok (boolean b) v r h f = absurd (cc h)
-until_ok (integer n) v r h f = absurd (cc h)
-until_ok (text s) v r h f = until_ok_by v r (parsed_time s) f h
-until_ok (bytes s) v r h f = absurd (cc h)
-until_ok (list vs) v r h f = absurd (cc h)
-until_ok (map ps) v r h f = absurd (cc h)

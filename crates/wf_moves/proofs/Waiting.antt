@@ -13,7 +13,7 @@ use Rattle.wf_moves.specs.Waits.{CanGoOn, GoesFrom, call_in, is_awake_in, is_cal
 use Rattle.wf_moves.specs.declared.finish.Went.{Went}
 use Rattle.wf_moves.specs.declared.logging.Behind.{Behind}
 use Rattle.wf_moves.specs.declared.logging.Behind.TheVariants as behind
-use Rattle.wf_moves.specs.declared.logging.Logged.{Logged}
+use Rattle.wf_sys_ask.specs.declared.entry.Logged.{Logged}
 use Rattle.wf_moves.specs.declared.task.Task.{Task}
 use Rattle.wf_moves.specs.declared.wait.Wait.{Wait}
 use Rattle.wf_moves.specs.declared.wait.Wait.TheVariants as wait

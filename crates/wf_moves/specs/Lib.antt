@@ -1,6 +1,5 @@
 pub mod Assigned
 pub mod Going
-pub mod Logs
 pub mod Moved
 pub mod Naps
 pub mod Requests

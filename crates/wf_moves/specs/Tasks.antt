@@ -28,7 +28,7 @@ use Rattle.wf_moves.specs.declared.task.Move.TheVariants as move
 use Rattle.wf_moves.specs.declared.finish.Went.{Went}
 use Rattle.wf_moves.specs.declared.logging.Behind.{Behind}
 use Rattle.wf_moves.specs.declared.logging.Behind.TheVariants as behind
-use Rattle.wf_moves.specs.declared.logging.Logged.{Logged}
+use Rattle.wf_sys_ask.specs.declared.entry.Logged.{Logged}
 use Rattle.wf_moves.specs.declared.sending.Sending.{Sending}
 use Rattle.wf_moves.specs.declared.sending.Sent.{Sent}
 use Rattle.wf_moves.specs.declared.task.Task.{Task}

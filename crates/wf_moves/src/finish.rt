@@ -12,12 +12,12 @@ ghost use Rattle.wf_moves.specs.Moved.{HasMove, IsLeft, IsMove, IsSettled, IsThr
 ghost use Rattle.wf_model.specs.Spots.{Spot};
 ghost use Rattle.wf_model.specs.declared.node.Node.{Node};
 
-use crate::logging::Logged;
 use crate::sending::Sent;
 use crate::wait::Wait;
 use wf_frames::{Frame, Frames, block, entries, leave};
 use wf_model::Node;
 use wf_scope::Scopes;
+use wf_sys_ask::Logged;
 use wf_value::Value;
 
 /// How a task has ended.

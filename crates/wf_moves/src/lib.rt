@@ -24,6 +24,7 @@ mod unwind;
 mod wait;
 
 pub use finish::End;
-pub use logging::{Behind, Logged};
+pub use logging::Behind;
 pub use sending::{Sending, Sent};
 pub use task::{Move, Task};
+pub use wf_sys_ask::Logged;

@@ -1,19 +1,15 @@
 // The requests of calls of HTTP.
-ghost use Rattle.std.specs.Prelude.{◌≡◌, ◌*◌, ◌≤◌, IfOk, OnOk};
-ghost use Rattle.wf_callbacks.specs.Plain.{plain_method};
+ghost use Rattle.std.specs.Prelude.{◌≤◌, IfOk, OnOk};
 ghost use Rattle.wf_eval.specs.Answers.{Answers};
 ghost use Rattle.wf_frames.specs.Frames.{inner};
 ghost use Rattle.wf_frames.specs.Owned.{Around, control_of, held_by};
-ghost use Rattle.wf_frames.specs.Sights.{Sees};
 ghost use Rattle.wf_frames.specs.Stands.{Stands};
-ghost use Rattle.wf_model.specs.Local.{Scene};
-ghost use Rattle.wf_moves.specs.Requests.{Reaches, request_by, sent_view};
+ghost use Rattle.wf_moves.specs.Requests.{request_by, sent_view};
 ghost use Rattle.wf_moves.specs.Tasks.{DoesBy, IsLeftSo, Names};
 ghost use Rattle.wf_model.specs.Spots.{part_at, part_body};
 ghost use Rattle.wf_frames.specs.Built.{IsHttp, Tells};
 ghost use Rattle.wf_frames.specs.Steps.{asks_with};
 ghost use Rattle.wf_value.specs.Data.{pairs_depth, pairs_of};
-ghost use Rattle.wf_value.specs.Errors.{later};
 
 use crate::finish::Done;
 use crate::raising::fails;
@@ -25,6 +21,7 @@ use wf_host::Routes;
 use wf_http_ask::{Request, asked_of, request_of};
 use wf_model::Node;
 use wf_scope::Scopes;
+use wf_sys_ask::due_of;
 use wf_value::{Map, OutOfMemory, Raise};
 
 /// What a step does outside depends on beside the facts of its execution: where URLs lead, how many calls were made before, and the size
@@ -51,13 +48,6 @@ impl Drop for Sending {
 pub struct Sent {
     pub request: Request,
     pub due: u64,
-}
-
-/// The moment so many seconds after a reading. A sum past the greatest moment is that moment.
-pub(crate) fn due_of(now: u64, timeout: u64) -> u64
-    ensures { result ≡ later now (timeout * 1000) }
-{
-    now.saturating_add(timeout.saturating_mul(1_000))
 }
 
 // The request for which the arguments of a call ask, which gets this number.

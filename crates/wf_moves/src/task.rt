@@ -18,7 +18,7 @@ use crate::back::give;
 use crate::finish::{Done, End, Went, settle};
 use crate::judging::try_again;
 use crate::leading::{Led, lead};
-use crate::logging::{Behind, Logged};
+use crate::logging::Behind;
 use crate::moves::advance;
 use crate::sending::{Sending, Sent};
 use crate::start::{first_layer, params};
@@ -27,6 +27,7 @@ use std::alloc::Global;
 use wf_frames::{Facts, Frame, Frames, Kind, Target, frame_kind};
 use wf_model::Node;
 use wf_scope::Scopes;
+use wf_sys_ask::Logged;
 use wf_value::{OutOfMemory, Value};
 
 /// What a move has done.

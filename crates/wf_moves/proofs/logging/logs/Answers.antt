@@ -5,7 +5,7 @@ use Rattle.wf_frames.specs.Owned.{control_of, held_by, local_of}
 use Rattle.wf_model.specs.Calls.{log_entry}
 use Rattle.wf_moves.proofs.LogCalls.{entry_logged, log_failed}
 use Rattle.wf_moves.proofs.Raised.{raised, raised_left}
-use Rattle.wf_moves.specs.Logs.{logged_view, within_log}
+use Rattle.wf_sys_ask.specs.Logs.{logged_view, within_log}
 use Rattle.wf_model.specs.NodeKinds.{call_by}
 use Rattle.wf_model.specs.Spots.{part_body}
 use Rattle.wf_model.specs.declared.node.NodeKind.TheVariants as kind

@@ -2,10 +2,10 @@ use Rattle.std.proofs.Common.{Err, subst}
 use Rattle.std.specs.Prelude.{Option}
 use Rattle.wf_eval.specs.Answers.{Answers}
 use Rattle.wf_model.specs.Calls.{until_due}
-use Rattle.wf_moves.proofs.Sleeps.{until_failed, until_ok}
+use Rattle.wf_sys_ask.proofs.Until.{until_failed, until_ok}
 use Rattle.wf_value.specs.Data.{Data}
 use Rattle.wf_value.specs.Plain.{plain}
-use Rattle.wf_moves.proofs.sleeping.until_due.Goals as goal
+use Rattle.wf_sys_ask.proofs.moment.until_due.Goals as goal
 
 pub returns-in-Ok : goal.returns-in-Ok
 returns-in-Ok c =

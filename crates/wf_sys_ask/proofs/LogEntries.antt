@@ -4,9 +4,9 @@ use Rattle.std.specs.Prelude.{Option, Result, codes, IsErr, IsErrAnd}
 use Rattle.wf_eval.specs.Answers.{Answers}
 use Rattle.wf_model.specs.Calls as calls
 use Rattle.wf_model.specs.Calls.{log_entry, logged_any, logged_value, severity_text}
-use Rattle.wf_moves.specs.Logs.{entry_within, logged_view, severity_told, text_told, within_log}
+use Rattle.wf_sys_ask.specs.Logs.{entry_within, logged_view, severity_told, text_told, within_log}
 use Rattle.wf_value.specs.Events.{severity_named}
-use Rattle.wf_frames.proofs.Evaluated.{gave}
+use Rattle.wf_sys_ask.proofs.Answered.{gave}
 use Rattle.wf_value.specs.Data.{Data, Pairs}
 use Rattle.wf_value.specs.Errors.{Answer, ◌>>=◌, or_error}
 use Rattle.wf_value.specs.Pairs.{Text, get}

@@ -7,7 +7,7 @@
 use Rattle.std.specs.Prelude.{ℕ, ◌+◌, nat_le, if◌then◌else◌, Option, Some, Ok, Err}
 use Rattle.wf_model.specs.Calls as calls
 use Rattle.wf_model.specs.Config.{log_limit}
-use Rattle.wf_moves.specs.declared.logging.Logged.{Logged}
+use Rattle.wf_sys_ask.specs.declared.entry.Logged.{Logged}
 use Rattle.wf_value.specs.Events.{severity_named}
 use Rattle.wf_value.specs.HttpRequest.{as_text}
 use Rattle.wf_value.specs.Data.{Data, Pairs, size, text}

@@ -1,11 +1,11 @@
 use Rattle.std.proofs.Common.{sym, subst}
 use Rattle.wf_eval.specs.Answers.{Answers}
 use Rattle.wf_model.specs.Calls as calls
-use Rattle.wf_moves.proofs.LogEntries.{entry_asked, raised_on, severity_failed, value_failed}
-use Rattle.wf_moves.specs.Logs.{entry_within, logged_view, within_log}
+use Rattle.wf_sys_ask.proofs.LogEntries.{entry_asked, raised_on, severity_failed, value_failed}
+use Rattle.wf_sys_ask.specs.Logs.{entry_within, logged_view, within_log}
 use Rattle.wf_value.specs.Data.{pairs_of}
 use Rattle.wf_value.specs.Errors.{Answer, ◌>>=◌}
-use Rattle.wf_moves.proofs.logging.entry_of.Goals as goal
+use Rattle.wf_sys_ask.proofs.entry.entry_of.Goals as goal
 
 pub returns-in_err-value : goal.returns-in_err-value
 returns-in_err-value c =
