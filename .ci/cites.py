@@ -29,11 +29,11 @@ def code_of(crate):
 
 
 def names_of(crate):
-    """The clauses, functions and types that the crate's code has."""
+    """The clauses, functions and types that the crate's code has, and the fields of its records, whose names may be escaped."""
     code = code_of(crate)
     names = set(re.findall(r"\bensures\*? (\w+) \{", code))
     names |= set(re.findall(r"\b(?:fn|struct|enum|trait|const|mod|ghost) (\w+)", code))
-    return names | set(re.findall(r"\bpub (\w+) :", texts(f"crates/{crate}/specs/**/*.antt")))
+    return names | set(re.findall(r"\bpub «?(\w+)»? :", texts(f"crates/{crate}/specs/**/*.antt")))
 
 
 def columns(line):

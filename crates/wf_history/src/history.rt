@@ -1,5 +1,5 @@
 // A journal whose payloads are records.
-ghost use Rattle.std.specs.Prelude.{◌≤◌, ◌∷◌, []};
+ghost use Rattle.std.specs.Prelude.{◌≤◌};
 
 use crate::HistoryFault;
 use std::alloc::Global;
@@ -16,44 +16,21 @@ pub struct History {
 }
 
 impl History {
-    ghost use Rattle.std.specs.Prelude.{◌≡◌, ◌⊎◌, ◌↔◌, ◌≢◌, ◌<◌, ◌++◌, [], ◌∷◌, true, false, suc, List, ℕ, length, take, Some, None, OnOk, OnErr, IfOk, IfNone, IfSome, IsErrOf, IfErr, MatchOption};
-    ghost use Rattle.wf_events.specs.Reading.{meaning};
+    ghost use Rattle.std.specs.Prelude.{◌≡◌, ◌≢◌, [], true, false, length};
     ghost use Rattle.wf_events.specs.Records.{Started, Turned};
     ghost use Rattle.wf_events.specs.Spelling.{record_bytes, HasSpelling};
-    ghost use Rattle.wf_events.specs.View.{record_view, start_view, turn_view};
-    ghost use Rattle.wf_history.specs.Stands.{is_new, at_end, is_closed, place, last, ahead, Stands, last_after, HasNoneOrThis, IsBadAt, unread};
+    ghost use Rattle.wf_events.specs.View.{start_view, turn_view};
     ghost use Rattle.wf_history.specs.Faults.{IsFaultAt};
-    ghost use Rattle.wf_host.specs.Calls.{AtAnyMoment, DiskFailed, DoesNoDeed, NoCountFalls, OnlyErrors, ReadsAsBefore, TellsAsBefore};
+    ghost use Rattle.wf_history.specs.Promises.{Opens, Gives, Begins, Adds};
+    ghost use Rattle.wf_history.specs.Stands.{is_new, at_end, is_closed, place, last, Stands};
     ghost use Rattle.wf_host.specs.World.{Told};
-    ghost use Rattle.wf_journal.specs.Journal.{IsBeforeOrAfter, IsJournal, Stays};
-    ghost use Rattle.wf_journal.specs.Records.{magic, records};
+    ghost use Rattle.wf_journal.specs.Records.{records};
 
     /// Opens the file of a host, once what it reads is stable. It takes no memory and writes nothing.
     ///
     /// The error is `DiskFault` where a disk call failed, and `NotAJournal` exactly where the file has at least 5 bytes and another magic.
     pub fn open<H: Host>(host: &mut H) -> Result<History, HistoryFault>
-        ensures stands { Told (H.world host.old) (IfOk result (λ h. Stands h (H.world host.new))) }
-        ensures open { IfOk result (λ h. is_closed h ≡ false) }
-        ensures first { Told (H.world host.old)
-            (IfOk result (λ h. ahead h (H.world host.new).seen ≡ records (H.world host.new).seen)) }
-        ensures fresh { Told (H.world host.old)
-            (IfOk result (λ h. (is_new h ≡ true) ↔ (length (H.world host.new).seen ≤ 4))) }
-        ensures fresh_end { IfOk result (λ h. at_end h ≡ is_new h) }
-        ensures place { IfOk result (λ h. place h ≡ 0) }
-        ensures last { IfOk result (λ h. last h ≡ None) }
-        ensures seen { ReadsAsBefore H.world host.old host.new }
-        ensures any_moment { AtAnyMoment H.world host.old host.new
-            (λ c d. (H.world host.old).may_leave c × (d ≡ (H.world host.old).deeds)) }
-        ensures disk_fault { IsErrOf result HistoryFault.DiskFault
-            → DiskFailed H.faults host.old host.new }
-        ensures not_a_journal { Told (H.world host.old) (IsErrOf result HistoryFault.NotAJournal
-            → (5 ≤ length (H.world host.old).seen) × (take 4 (H.world host.old).seen ≢ magic)) }
-        ensures a_journal { Told (H.world host.old)
-            (OnOk result (IsJournal (H.world host.old).seen)) }
-        ensures only { OnlyErrors result (HistoryFault.DiskFault ∷ HistoryFault.NotAJournal ∷ []) }
-        ensures deeds { DoesNoDeed H.world host.old host.new }
-        ensures tells { TellsAsBefore H.world host.old host.new }
-        ensures counts { NoCountFalls H.faults host.old host.new }
+        ensures { Opens H.world H.faults host.old host.new result }
     {
         Ok(History {
             journal: Journal::open(host)?,
@@ -95,42 +72,7 @@ impl History {
     ) -> Result<Option<Record>, HistoryFault>
         requires kept { is_closed self.old ≡ false
             → Told (H.world host.old) (Stands self.old (H.world host.old)) }
-        ensures stands { is_closed self.new ≡ false
-            → Told (H.world host.old) (Stands self.new (H.world host.new)) }
-        ensures record { Told (H.world host.old)
-            (IfOk result (λ found. MatchOption found (ahead self.old (H.world host.old).seen
-            ≡ []) (λ r. (payload : List ℕ)
-            × (ahead self.old (H.world host.old).seen
-            ≡ payload ∷ ahead self.new (H.world host.old).seen)
-            × (meaning payload ≡ Some (record_view r))))) }
-        ensures place { Told (H.world host.old)
-            (IfOk result (λ found. MatchOption found (place self.new
-            ≡ place self.old) (λ _. place self.new ≡ suc (place self.old)))) }
-        ensures last { IfOk result (λ found. MatchOption found (last self.new
-            ≡ last self.old) (λ r. last self.new ≡ last_after (last self.old) (record_view r))) }
-        ensures ended { IfOk result (λ found. IfNone found (at_end self.new ≡ true)) }
-        ensures shorter { IfOk result (λ found. IfSome found (λ _. unread self.new
-            < unread self.old)) }
-        ensures bad_record { Told (H.world host.old)
-            (IfErr result (λ e. (n : ℕ) → e ≡ HistoryFault.BadRecord n
-            → IsBadAt n (place self.old) (ahead self.old (H.world host.old).seen))) }
-        ensures seen { ReadsAsBefore H.world host.old host.new }
-        ensures any_moment { is_closed self.old ≡ false
-            → AtAnyMoment H.world host.old host.new (Stays (H.world host.old)) }
-        ensures disk_fault { IsErrOf result HistoryFault.DiskFault
-            → DiskFailed H.faults host.old host.new }
-        ensures closed { IsErrOf result HistoryFault.Closed ↔ (is_closed self.old ≡ true) }
-        ensures closes { (is_closed self.new ≡ true)
-            ↔ ((is_closed self.old ≡ true) ⊎ IsErrOf result HistoryFault.DiskFault) }
-        ensures not_asked { IsErrOf result HistoryFault.NotAJournal → ⊥ }
-        ensures unchanged { OnErr result (IsErrOf result HistoryFault.DiskFault
-            ⊎ (self.new ≡ self.old)) }
-        ensures idle { IsErrOf result HistoryFault.Closed
-            → (self.new ≡ self.old) × (host.new ≡ host.old) }
-        ensures new { is_new self.new ≡ is_new self.old }
-        ensures deeds { DoesNoDeed H.world host.old host.new }
-        ensures tells { TellsAsBefore H.world host.old host.new }
-        ensures counts { NoCountFalls H.faults host.old host.new }
+        ensures { Gives H.world H.faults self.old self.new host.old host.new result }
     {
         let before = self.journal;
         let mut room = Vec::new(alloc);
@@ -179,33 +121,7 @@ impl History {
         requires short { length (record_bytes (Started (start_view start.now))) ≤ 16777215 }
         requires kept { is_closed self.old ≡ false
             → Told (H.world host.old) (Stands self.old (H.world host.old)) }
-        ensures stands { is_closed self.new ≡ false
-            → Told (H.world host.old) (Stands self.new (H.world host.new)) }
-        ensures added { Told (H.world host.old)
-            (OnOk result (records (H.world host.new).seen
-            ≡ record_bytes (Started (start_view start.now)) ∷ [])) }
-        ensures any_moment { is_closed self.old ≡ false
-            → AtAnyMoment H.world host.old host.new
-            (HasNoneOrThis (H.world host.old) (record_bytes (Started (start_view start.now)))) }
-        ensures open { OnOk result (is_closed self.new ≡ false) }
-        ensures begun { OnOk result (is_new self.new ≡ false) }
-        ensures place { OnOk result (place self.new ≡ 1) }
-        ensures last { last self.new ≡ last self.old }
-        ensures still_ended { OnOk result (at_end self.new ≡ true) }
-        ensures disk_fault { IsErrOf result HistoryFault.DiskFault
-            → DiskFailed H.faults host.old host.new }
-        ensures closed { IsErrOf result HistoryFault.Closed ↔ (is_closed self.old ≡ true) }
-        ensures closes { (is_closed self.new ≡ true)
-            ↔ ((is_closed self.old ≡ true) ⊎ IsErrOf result HistoryFault.DiskFault) }
-        ensures only { OnlyErrors result (HistoryFault.DiskFault ∷ HistoryFault.Closed ∷
-            HistoryFault.OutOfMemory ∷ []) }
-        ensures unchanged { IsErrOf result HistoryFault.OutOfMemory
-            → (self.new ≡ self.old) × (host.new ≡ host.old) }
-        ensures idle { IsErrOf result HistoryFault.Closed
-            → (self.new ≡ self.old) × (host.new ≡ host.old) }
-        ensures deeds { DoesNoDeed H.world host.old host.new }
-        ensures tells { TellsAsBefore H.world host.old host.new }
-        ensures counts { NoCountFalls H.faults host.old host.new }
+        ensures { Begins H.world H.faults self.old self.new host.old host.new start.now result }
     {
         if self.journal.is_closed() {
             return Err(HistoryFault::Closed);
@@ -236,34 +152,7 @@ impl History {
         requires short { length (record_bytes (Turned (turn_view turn.now))) ≤ 16777215 }
         requires kept { is_closed self.old ≡ false
             → Told (H.world host.old) (Stands self.old (H.world host.old)) }
-        ensures stands { is_closed self.new ≡ false
-            → Told (H.world host.old) (Stands self.new (H.world host.new)) }
-        ensures added { Told (H.world host.old)
-            (OnOk result (records (H.world host.new).seen
-            ≡ records (H.world host.old).seen ++ record_bytes (Turned (turn_view turn.now)) ∷ [])) }
-        ensures any_moment { is_closed self.old ≡ false
-            → AtAnyMoment H.world host.old host.new
-            (IsBeforeOrAfter (H.world host.old) (record_bytes (Turned (turn_view turn.now)))) }
-        ensures open { OnOk result (is_closed self.new ≡ false) }
-        ensures place { Told (H.world host.old)
-            (OnOk result (place self.new ≡ suc (place self.old))) }
-        ensures last { OnOk result (last self.new ≡ Some (turn.now.session, turn.now.waits)) }
-        ensures still_ended { at_end self.new ≡ true }
-        ensures still_begun { is_new self.new ≡ false }
-        ensures disk_fault { IsErrOf result HistoryFault.DiskFault
-            → DiskFailed H.faults host.old host.new }
-        ensures closed { IsErrOf result HistoryFault.Closed ↔ (is_closed self.old ≡ true) }
-        ensures closes { (is_closed self.new ≡ true)
-            ↔ ((is_closed self.old ≡ true) ⊎ IsErrOf result HistoryFault.DiskFault) }
-        ensures only { OnlyErrors result (HistoryFault.DiskFault ∷ HistoryFault.Closed ∷
-            HistoryFault.OutOfMemory ∷ []) }
-        ensures unchanged { IsErrOf result HistoryFault.OutOfMemory
-            → (self.new ≡ self.old) × (host.new ≡ host.old) }
-        ensures idle { IsErrOf result HistoryFault.Closed
-            → (self.new ≡ self.old) × (host.new ≡ host.old) }
-        ensures deeds { DoesNoDeed H.world host.old host.new }
-        ensures tells { TellsAsBefore H.world host.old host.new }
-        ensures counts { NoCountFalls H.faults host.old host.new }
+        ensures { Adds H.world H.faults self.old self.new host.old host.new turn.now result }
     {
         if self.journal.is_closed() {
             return Err(HistoryFault::Closed);

@@ -2,6 +2,7 @@ pub mod Records
 pub mod Journal
 pub mod Gates
 pub mod Stands
+pub mod Promises
 pub mod Standing
 pub mod Steps
 pub mod Reading

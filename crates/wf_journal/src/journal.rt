@@ -31,39 +31,18 @@ pub struct Journal {
 }
 
 impl Journal {
-    ghost use Rattle.std.specs.Prelude.{◌≡◌, ◌⊎◌, ◌↔◌, ◌≤◌, ◌<◌, ◌++◌, [], ◌∷◌, true, false, List, ℕ, Bool, length, take, OnOk, OnErr, IfOk, IfNone, IfSome, IsErrOf, MatchOption};
+    ghost use Rattle.std.specs.Prelude.{◌≡◌, ◌⊎◌, ◌↔◌, ◌<◌, [], ◌∷◌, true, false, OnOk, IfOk, IsErrOf};
     ghost use Rattle.wf_host.specs.Calls.{AtAnyMoment, DiskFailed, DoesNoDeed, NoCountFalls, ReadsAsBefore, TellsAsBefore};
     ghost use Rattle.wf_host.specs.World.{Told};
-    ghost use Rattle.wf_journal.specs.Records.{magic, records};
-    ghost use Rattle.wf_journal.specs.Journal.{IsJournal, Stays, HasNone, IsBeforeOrAfter};
+    ghost use Rattle.wf_journal.specs.Journal.{Stays};
+    ghost use Rattle.wf_journal.specs.Promises.{Opens, Lends, Begins, Appends};
     ghost use Rattle.wf_journal.specs.Stands.{is_new, at_end, is_closed, ahead, unread, Stands};
 
     /// Opens the host's file, once what it reads is stable. A file of at most 4 bytes is new. It takes no memory and writes nothing.
     ///
     /// The error is `DiskFault` where a disk call failed, and `NotAJournal` exactly where the file has at least 5 bytes and another magic.
     pub fn open<H: Host>(host: &mut H) -> Result<Journal, JournalFault>
-        ensures stands { Told (H.world host.old) (IfOk result (λ j. Stands j (H.world host.new))) }
-        ensures open { IfOk result (λ j. is_closed j ≡ false) }
-        ensures first { Told (H.world host.old)
-            (IfOk result (λ j. ahead j (H.world host.new).seen ≡ records (H.world host.new).seen)) }
-        ensures fresh { Told (H.world host.old)
-            (IfOk result (λ j. (is_new j ≡ true) ↔ (length (H.world host.new).seen ≤ 4))) }
-        ensures fresh_end { IfOk result (λ j. at_end j ≡ is_new j) }
-        ensures seen { ReadsAsBefore H.world host.old host.new }
-        ensures any_moment { AtAnyMoment H.world host.old host.new
-            (λ c d. (H.world host.old).may_leave c × (d ≡ (H.world host.old).deeds)) }
-        ensures disk_fault { IsErrOf result JournalFault.DiskFault
-            → DiskFailed H.faults host.old host.new }
-        ensures not_a_journal { Told (H.world host.old) (IsErrOf result JournalFault.NotAJournal
-            → ¬ IsJournal (H.world host.old).seen) }
-        ensures a_journal { Told (H.world host.old)
-            (OnOk result (IsJournal (H.world host.old).seen)) }
-        ensures too_long { ¬ IsErrOf result JournalFault.TooLong }
-        ensures closed { ¬ IsErrOf result JournalFault.Closed }
-        ensures no_memory { ¬ IsErrOf result JournalFault.OutOfMemory }
-        ensures deeds { DoesNoDeed H.world host.old host.new }
-        ensures tells { TellsAsBefore H.world host.old host.new }
-        ensures counts { NoCountFalls H.faults host.old host.new }
+        ensures { Opens H.world H.faults host.old host.new result }
     {
         host.sync()?;
         let size = host.size()?;
@@ -126,36 +105,7 @@ impl Journal {
     ) -> Result<Option<&'a [u8]>, JournalFault>
         requires kept { is_closed self.old ≡ false
             → Told (H.world host.old) (Stands self.old (H.world host.old)) }
-        ensures stands { is_closed self.new ≡ false
-            → Told (H.world host.old) (Stands self.new (H.world host.new)) }
-        ensures open { OnOk result (is_closed self.new ≡ false) }
-        ensures payload { Told (H.world host.old)
-            (IfOk result (λ found. MatchOption found (ahead self.old (H.world host.old).seen
-            ≡ []) (λ payload. ahead self.old (H.world host.old).seen
-            ≡ payload.now ∷ ahead self.new (H.world host.old).seen))) }
-        ensures ended { IfOk result (λ found. IfNone found (at_end self.new ≡ true)) }
-        ensures not_ended { IfOk result (λ found. IfSome found (λ _. at_end self.new ≡ false)) }
-        ensures shorter { IfOk result (λ found. IfSome found (λ _. unread self.new
-            < unread self.old)) }
-        ensures none_ahead { Told (H.world host.old)
-            (IfOk result (λ found. IfNone found (ahead self.new (H.world host.new).seen ≡ []))) }
-        ensures seen { ReadsAsBefore H.world host.old host.new }
-        ensures any_moment { is_closed self.old ≡ false
-            → AtAnyMoment H.world host.old host.new (Stays (H.world host.old)) }
-        ensures disk_fault { IsErrOf result JournalFault.DiskFault
-            → DiskFailed H.faults host.old host.new }
-        ensures closed { IsErrOf result JournalFault.Closed ↔ (is_closed self.old ≡ true) }
-        ensures closes { (is_closed self.new ≡ true)
-            ↔ ((is_closed self.old ≡ true) ⊎ IsErrOf result JournalFault.DiskFault) }
-        ensures not_asked { ¬ IsErrOf result JournalFault.NotAJournal }
-        ensures too_long { ¬ IsErrOf result JournalFault.TooLong }
-        ensures unchanged { IsErrOf result JournalFault.OutOfMemory → self.new ≡ self.old }
-        ensures idle { IsErrOf result JournalFault.Closed
-            → (self.new ≡ self.old) × (host.new ≡ host.old) }
-        ensures new { is_new self.new ≡ is_new self.old }
-        ensures deeds { DoesNoDeed H.world host.old host.new }
-        ensures tells { TellsAsBefore H.world host.old host.new }
-        ensures counts { NoCountFalls H.faults host.old host.new }
+        ensures { Lends H.world H.faults self.old self.new host.old host.new result }
     {
         match self.fill_next(host, room) {
             Ok(true) => Ok(Some(room.as_slice())),
@@ -231,29 +181,7 @@ impl Journal {
         requires fresh { is_new self.old ≡ true }
         requires kept { is_closed self.old ≡ false
             → Told (H.world host.old) (Stands self.old (H.world host.old)) }
-        ensures stands { is_closed self.new ≡ false
-            → Told (H.world host.old) (Stands self.new (H.world host.new)) }
-        ensures open { OnOk result (is_closed self.new ≡ false) }
-        ensures none { Told (H.world host.old)
-            (OnOk result (records (H.world host.new).seen ≡ [])) }
-        ensures any_moment { is_closed self.old ≡ false
-            → AtAnyMoment H.world host.old host.new (HasNone (H.world host.old)) }
-        ensures ended { OnOk result (at_end self.new ≡ true) }
-        ensures begun { OnOk result (is_new self.new ≡ false) }
-        ensures still_new { OnErr result (is_new self.new ≡ true) }
-        ensures disk_fault { IsErrOf result JournalFault.DiskFault
-            → DiskFailed H.faults host.old host.new }
-        ensures closed { IsErrOf result JournalFault.Closed ↔ (is_closed self.old ≡ true) }
-        ensures closes { (is_closed self.new ≡ true)
-            ↔ ((is_closed self.old ≡ true) ⊎ IsErrOf result JournalFault.DiskFault) }
-        ensures not_asked { ¬ IsErrOf result JournalFault.NotAJournal }
-        ensures too_long { ¬ IsErrOf result JournalFault.TooLong }
-        ensures no_memory { ¬ IsErrOf result JournalFault.OutOfMemory }
-        ensures idle { IsErrOf result JournalFault.Closed
-            → (self.new ≡ self.old) × (host.new ≡ host.old) }
-        ensures deeds { DoesNoDeed H.world host.old host.new }
-        ensures tells { TellsAsBefore H.world host.old host.new }
-        ensures counts { NoCountFalls H.faults host.old host.new }
+        ensures { Begins H.world H.faults self.old self.new host.old host.new result }
     {
         if self.closed {
             return Err(JournalFault::Closed);
@@ -283,33 +211,7 @@ impl Journal {
         requires begun { is_new self.old ≡ false }
         requires kept { is_closed self.old ≡ false
             → Told (H.world host.old) (Stands self.old (H.world host.old)) }
-        ensures stands { is_closed self.new ≡ false
-            → Told (H.world host.old) (Stands self.new (H.world host.new)) }
-        ensures open { OnOk result (is_closed self.new ≡ false) }
-        ensures added { Told (H.world host.old)
-            (OnOk result (records (H.world host.new).seen
-            ≡ records (H.world host.old).seen ++ payload.now ∷ [])) }
-        ensures any_moment { is_closed self.old ≡ false
-            → AtAnyMoment H.world host.old host.new
-            (IsBeforeOrAfter (H.world host.old) payload.now) }
-        ensures still_ended { at_end self.new ≡ true }
-        ensures still_begun { is_new self.new ≡ false }
-        ensures disk_fault { IsErrOf result JournalFault.DiskFault
-            → DiskFailed H.faults host.old host.new }
-        ensures too_long { IsErrOf result JournalFault.TooLong
-            ↔ (is_closed self.old ≡ false) × (16777215 < length payload.now) }
-        ensures closed { IsErrOf result JournalFault.Closed ↔ (is_closed self.old ≡ true) }
-        ensures closes { (is_closed self.new ≡ true)
-            ↔ ((is_closed self.old ≡ true) ⊎ IsErrOf result JournalFault.DiskFault) }
-        ensures not_asked { ¬ IsErrOf result JournalFault.NotAJournal }
-        ensures no_memory { ¬ IsErrOf result JournalFault.OutOfMemory }
-        ensures unchanged { IsErrOf result JournalFault.TooLong
-            → (self.new ≡ self.old) × (host.new ≡ host.old) }
-        ensures idle { IsErrOf result JournalFault.Closed
-            → (self.new ≡ self.old) × (host.new ≡ host.old) }
-        ensures deeds { DoesNoDeed H.world host.old host.new }
-        ensures tells { TellsAsBefore H.world host.old host.new }
-        ensures counts { NoCountFalls H.faults host.old host.new }
+        ensures { Appends H.world H.faults self.old self.new host.old host.new payload.now result }
     {
         if self.closed {
             return Err(JournalFault::Closed);

@@ -1,5 +1,6 @@
 pub mod EngineFaults
 pub mod Faults
 pub mod Openings
+pub mod Promises
 pub mod Standing
 pub mod TheLanguage

@@ -1,17 +1,15 @@
 // The machine of a history: of its first record, and of all of them.
-ghost use Rattle.std.specs.Prelude.{◌≡◌, ◌≢◌, ◌+◌, [], ◌∷◌, true, false, List, ℕ, option_map, Some, None, Ok, Err, OnOk, IfOk, IfErr, IsErrOf};
+ghost use Rattle.std.specs.Prelude.{◌≡◌, [], ◌∷◌, false, option_map, Some, None, IfOk, IsErrOf};
 ghost use Rattle.wf_check.specs.Seen.{program_of};
-ghost use Rattle.wf_events.specs.Reading.{meaning};
 ghost use Rattle.wf_events.specs.View.{record_view};
-ghost use Rattle.wf_history.specs.Stands.{ahead, at_end, is_closed, is_new, last, place, Stands};
-ghost use Rattle.wf_host.specs.Calls.{AtAnyMoment, DiskFailed, DoesNoDeed, NoCountFalls, OnlyErrors, OnlyErrorsOr, ReadsAsBefore, TellsAsBefore};
+ghost use Rattle.wf_history.specs.Stands.{is_closed, last, place, Stands};
+ghost use Rattle.wf_host.specs.Calls.{OnlyErrors};
 ghost use Rattle.wf_host.specs.World.{Told};
-ghost use Rattle.wf_journal.specs.Journal.{Stays};
-ghost use Rattle.wf_deeds.specs.At.{applied_by};
-ghost use Rattle.wf_deeds.specs.History.{first_standing, history as history_of};
+ghost use Rattle.wf_deeds.specs.History.{first_standing};
 ghost use Rattle.wf_machine.specs.Seen.{state_of};
-ghost use Rattle.wf_replay.specs.Openings.{Accepts, NoFirst};
-ghost use Rattle.wf_replay.specs.Standing.{standing, stands_at};
+ghost use Rattle.wf_replay.specs.Openings.{Accepts};
+ghost use Rattle.wf_replay.specs.Promises.{MakesFirst, MakesLast};
+ghost use Rattle.wf_replay.specs.Standing.{stands_at};
 ghost use Rattle.wf_replay.specs.TheLanguage.{the_language};
 
 use crate::engine_fault::EngineFault;
@@ -37,34 +35,8 @@ pub fn last_machine<H: Host, L: Ledger>(
     requires first { place history.old ≡ 0 }
     requires none_read { last history.old ≡ None }
     requires kept { Told (H.world host.old) (Stands history.old (H.world host.old)) }
-    ensures stands { Told (H.world host.old) (OnOk result (Stands history.new (H.world host.new))) }
-    ensures leads { Told (H.world host.old)
-        (IfOk result (λ m. history_of the_language (ahead history.old (H.world host.old).seen)
-        ≡ Ok (standing history.new m))) }
-    ensures steps { Told (H.world host.old)
-        (OnOk result (steps.new
-        ≡ steps.old + applied_by (ahead history.old (H.world host.old).seen))) }
-    ensures some { Told (H.world host.old)
-        (OnOk result (ahead history.old (H.world host.old).seen ≢ [])) }
-    ensures whole { IfOk result (λ m. (state_of m).broken ≡ false) }
-    ensures ended { OnOk result (at_end history.new ≡ true) }
-    ensures still_open { OnOk result (is_closed history.new ≡ false) }
-    ensures new { is_new history.new ≡ is_new history.old }
-    ensures seen { ReadsAsBefore H.world host.old host.new }
-    ensures any_moment { AtAnyMoment H.world host.old host.new (Stays (H.world host.old)) }
-    ensures disk_fault { IsErrOf result EngineFault.DiskFault
-        → DiskFailed H.faults host.old host.new }
-    ensures not_started { Told (H.world host.old) (IsErrOf result EngineFault.NotStarted
-        → ahead history.old (H.world host.old).seen ≡ []) }
-    ensures not_a_history { Told (H.world host.old)
-        (IfErr result (λ e. (n : ℕ) → e ≡ EngineFault.NotAHistory n
-        → (history_of the_language (ahead history.old (H.world host.old).seen) ≡ Err n)
-        × (ahead history.old (H.world host.old).seen ≢ []))) }
-    ensures only { OnlyErrorsOr EngineFault.NotAHistory result (EngineFault.DiskFault ∷
-        EngineFault.NotStarted ∷ EngineFault.OutOfMemory ∷ []) }
-    ensures deeds { DoesNoDeed H.world host.old host.new }
-    ensures tells { TellsAsBefore H.world host.old host.new }
-    ensures counts { NoCountFalls H.faults host.old host.new }
+    ensures { MakesLast H.world H.faults history.old history.new host.old host.new steps.old
+        steps.new result }
 {
     let machine = first_machine(alloc, history, host)?;
     Ok(replay(alloc, history, host, machine, steps)?)
@@ -80,32 +52,7 @@ pub fn first_machine<H: Host>(
     requires first { place history.old ≡ 0 }
     requires none_read { last history.old ≡ None }
     requires kept { Told (H.world host.old) (Stands history.old (H.world host.old)) }
-    ensures stands { is_closed history.new ≡ false
-        → Told (H.world host.old) (Stands history.new (H.world host.new)) }
-    ensures leads { Told (H.world host.old)
-        (IfOk result (λ m. (payload : List ℕ)
-        × (ahead history.old (H.world host.old).seen
-        ≡ payload ∷ ahead history.new (H.world host.old).seen)
-        × (first_standing the_language (meaning payload) ≡ Some (standing history.new m)))) }
-    ensures some { Told (H.world host.old)
-        (OnOk result (ahead history.old (H.world host.old).seen ≢ [])) }
-    ensures whole { IfOk result (λ m. (state_of m).broken ≡ false) }
-    ensures still_open { OnOk result (is_closed history.new ≡ false) }
-    ensures new { is_new history.new ≡ is_new history.old }
-    ensures seen { ReadsAsBefore H.world host.old host.new }
-    ensures any_moment { AtAnyMoment H.world host.old host.new (Stays (H.world host.old)) }
-    ensures disk_fault { IsErrOf result EngineFault.DiskFault
-        → DiskFailed H.faults host.old host.new }
-    ensures not_started { Told (H.world host.old) (IsErrOf result EngineFault.NotStarted
-        → ahead history.old (H.world host.old).seen ≡ []) }
-    ensures not_a_history { Told (H.world host.old)
-        (IfErr result (λ e. (n : ℕ) → e ≡ EngineFault.NotAHistory n
-        → NoFirst the_language n (ahead history.old (H.world host.old).seen))) }
-    ensures only { OnlyErrorsOr EngineFault.NotAHistory result (EngineFault.DiskFault ∷
-        EngineFault.NotStarted ∷ EngineFault.OutOfMemory ∷ []) }
-    ensures deeds { DoesNoDeed H.world host.old host.new }
-    ensures tells { TellsAsBefore H.world host.old host.new }
-    ensures counts { NoCountFalls H.faults host.old host.new }
+    ensures { MakesFirst H.world H.faults history.old history.new host.old host.new result }
 {
     let Some(record) = history.next(alloc, host)? else {
         return Err(EngineFault::NotStarted);

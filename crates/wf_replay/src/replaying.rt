@@ -1,5 +1,5 @@
 // Replaying a history.
-ghost use Rattle.std.specs.Prelude.{◌≡◌, ◌⊎◌, ◌↔◌, ◌&&◌, ◌<◌, ◌+◌, [], true, false, ℕ, suc, drop, length, take, Some, None, Ok, Err, IfOk, IfErr, OnOk, IsErrOf, ◌∷◌};
+ghost use Rattle.std.specs.Prelude.{◌≡◌, ◌⊎◌, ◌↔◌, ◌&&◌, ◌<◌, ◌+◌, [], true, false, ℕ, suc, length, Some, None, Ok, Err, IfOk, IfErr, OnOk, IsErrOf, ◌∷◌};
 ghost use Rattle.wf_events.specs.View.{events_view, record_view, turn_view};
 ghost use Rattle.wf_history.specs.Stands.{ahead, at_end, is_closed, is_new, last_after, unread, Stands};
 ghost use Rattle.wf_host.specs.Calls.{AtAnyMoment, DiskFailed, DoesNoDeed, NoCountFalls, OnlyErrors, ReadsAsBefore, TellsAsBefore};
@@ -10,6 +10,7 @@ ghost use Rattle.wf_model.specs.Config.{Config, To};
 ghost use Rattle.wf_model.specs.Run.{run_on};
 ghost use Rattle.wf_deeds.specs.At.{applied_by, events_of};
 ghost use Rattle.wf_deeds.specs.History.{goes_on, goes_on_at, goes_to, is_numbered, told};
+ghost use Rattle.wf_replay.specs.Promises.{Replays, ReplaysTurns};
 ghost use Rattle.wf_replay.specs.Standing.{Passes, session_of, standing, stands_at, waits_of};
 
 use crate::ReplayFault;
@@ -38,34 +39,8 @@ pub fn replay<H: Host, L: Ledger>(
     requires whole { (state_of machine).broken ≡ false }
     requires kept { is_closed history.old ≡ false
         → Told (H.world host.old) (Stands history.old (H.world host.old)) }
-    ensures stands { is_closed history.new ≡ false
-        → Told (H.world host.old) (Stands history.new (H.world host.new)) }
-    ensures replayed { Told (H.world host.old)
-        (IfOk result (λ m. goes_to (standing history.old machine)
-        (ahead history.old (H.world host.old).seen) ≡ Ok (standing history.new m))) }
-    ensures steps { Told (H.world host.old)
-        (OnOk result (steps.new
-        ≡ steps.old + applied_by (ahead history.old (H.world host.old).seen))) }
-    ensures whole { IfOk result (λ m. (state_of m).broken ≡ false) }
-    ensures ended { OnOk result (at_end history.new ≡ true) }
-    ensures bad_event { Told (H.world host.old)
-        (IfErr result (λ e. (n : ℕ) → e ≡ ReplayFault.BadEvent n
-        → goes_to (standing history.old machine) (ahead history.old (H.world host.old).seen)
-        ≡ Err n)) }
-    ensures new { is_new history.new ≡ is_new history.old }
-    ensures seen { ReadsAsBefore H.world host.old host.new }
-    ensures any_moment { is_closed history.old ≡ false
-        → AtAnyMoment H.world host.old host.new (Stays (H.world host.old)) }
-    ensures disk_fault { IsErrOf result ReplayFault.DiskFault
-        → DiskFailed H.faults host.old host.new }
-    ensures closed { IsErrOf result ReplayFault.Closed ↔ (is_closed history.old ≡ true) }
-    ensures closes { (is_closed history.new ≡ true)
-        ↔ ((is_closed history.old ≡ true) ⊎ IsErrOf result ReplayFault.DiskFault) }
-    ensures idle { IsErrOf result ReplayFault.Closed
-        → (history.new ≡ history.old) × (host.new ≡ host.old) }
-    ensures deeds { DoesNoDeed H.world host.old host.new }
-    ensures tells { TellsAsBefore H.world host.old host.new }
-    ensures counts { NoCountFalls H.faults host.old host.new }
+    ensures { Replays H.world H.faults history.old history.new host.old host.new machine
+        steps.old steps.new result }
 {
     let mut machine = machine;
     while replay_next(alloc, history, host, &mut machine, steps)? {}
@@ -88,34 +63,8 @@ pub fn replay_turns<H: Host, L: Ledger>(
     requires whole { (state_of machine).broken ≡ false }
     requires kept { is_closed history.old ≡ false
         → Told (H.world host.old) (Stands history.old (H.world host.old)) }
-    ensures stands { is_closed history.new ≡ false
-        → Told (H.world host.old) (Stands history.new (H.world host.new)) }
-    ensures replayed { Told (H.world host.old)
-        (IfOk result (λ m. goes_to (standing history.old machine)
-        (take turns (ahead history.old (H.world host.old).seen)) ≡ Ok (standing history.new m))) }
-    ensures left { Told (H.world host.old)
-        (OnOk result (ahead history.new (H.world host.old).seen
-        ≡ drop turns (ahead history.old (H.world host.old).seen))) }
-    ensures steps { Told (H.world host.old)
-        (OnOk result (steps.new + applied_by (ahead history.new (H.world host.old).seen)
-        ≡ steps.old + applied_by (ahead history.old (H.world host.old).seen))) }
-    ensures whole { IfOk result (λ m. (state_of m).broken ≡ false) }
-    ensures bad_event { Told (H.world host.old)
-        (IfErr result (λ e. (n : ℕ) → e ≡ ReplayFault.BadEvent n
-        → goes_to (standing history.old machine) (ahead history.old (H.world host.old).seen)
-        ≡ Err n)) }
-    ensures new { is_new history.new ≡ is_new history.old }
-    ensures seen { ReadsAsBefore H.world host.old host.new }
-    ensures any_moment { is_closed history.old ≡ false
-        → AtAnyMoment H.world host.old host.new (Stays (H.world host.old)) }
-    ensures disk_fault { IsErrOf result ReplayFault.DiskFault
-        → DiskFailed H.faults host.old host.new }
-    ensures closed { IsErrOf result ReplayFault.Closed → is_closed history.old ≡ true }
-    ensures closes { (is_closed history.new ≡ true)
-        ↔ ((is_closed history.old ≡ true) ⊎ IsErrOf result ReplayFault.DiskFault) }
-    ensures deeds { DoesNoDeed H.world host.old host.new }
-    ensures tells { TellsAsBefore H.world host.old host.new }
-    ensures counts { NoCountFalls H.faults host.old host.new }
+    ensures { ReplaysTurns H.world H.faults history.old history.new host.old host.new machine
+        turns steps.old steps.new result }
 {
     let mut machine = machine;
     let mut left = turns;

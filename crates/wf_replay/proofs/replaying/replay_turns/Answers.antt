@@ -1,4 +1,5 @@
 use Rattle.std.proofs.Common.{◌≡◌, ◌-◌, [], true, false, rules, refl, arith}
+use Rattle.std.specs.Prelude.{IsTrue}
 use Rattle.wf_history.specs.Stands.{ahead}
 use Rattle.wf_replay.proofs.Fronts.{as_at_first, none_gone, none_left, one_further}
 use Rattle.wf_replay.proofs.Replays.{starts, none_fell}
@@ -34,26 +35,32 @@ loop-left-preserved g c =
           c.loop-left.invariant.within (omega arith);
     }
 
-pub returns-then-not-branch-clause-replayed : goal.returns-then-not-branch-clause-replayed
-returns-then-not-branch-clause-replayed g c = λ told.
+pub returns-then-not-branch : goal.returns-then-not-branch
+returns-then-not-branch g c =
     let first = g.H.Host.world c.args.host.now in
     let now = g.H.Host.world c.loop-left.host in
     let none : c.in_ok-replay_next.field-0 ≡ false = search rules in
-    (none_left first c.args.history.now c.loop-left.history c.replay_next.new.history c.args.machine c.loop-left.machine c.replay_next.new.machine c.args.turns c.loop-left.left c.loop-left.invariant.gone
+    let all = λ (told : IsTrue first.tells).
+    none_left first c.args.history.now c.loop-left.history c.replay_next.new.history c.args.machine c.loop-left.machine c.replay_next.new.machine c.args.turns c.loop-left.left c.loop-left.invariant.gone
     (as_at_first first now (λ file. (ahead c.loop-left.history file ≡ []) × (standing c.replay_next.new.history c.replay_next.new.machine ≡ standing c.loop-left.history c.loop-left.machine))
     c.loop-left.invariant.kept.tells (λ told. (c.loop-left.invariant.kept.so_far told).seen) (λ told. c.in_ok-replay_next.ensures.none_more told none))
     (as_at_first first now (λ file. ahead c.replay_next.new.history file ≡ [])
     c.loop-left.invariant.kept.tells (λ told. (c.loop-left.invariant.kept.so_far told).seen) (λ told. c.in_ok-replay_next.ensures.last told none))
-    told).0
-
-pub returns-then-not-branch-clause-left : goal.returns-then-not-branch-clause-left
-returns-then-not-branch-clause-left g c = λ told.
-    let first = g.H.Host.world c.args.host.now in
-    let now = g.H.Host.world c.loop-left.host in
-    let none : c.in_ok-replay_next.field-0 ≡ false = search rules in
-    (none_left first c.args.history.now c.loop-left.history c.replay_next.new.history c.args.machine c.loop-left.machine c.replay_next.new.machine c.args.turns c.loop-left.left c.loop-left.invariant.gone
-    (as_at_first first now (λ file. (ahead c.loop-left.history file ≡ []) × (standing c.replay_next.new.history c.replay_next.new.machine ≡ standing c.loop-left.history c.loop-left.machine))
-    c.loop-left.invariant.kept.tells (λ told. (c.loop-left.invariant.kept.so_far told).seen) (λ told. c.in_ok-replay_next.ensures.none_more told none))
-    (as_at_first first now (λ file. ahead c.replay_next.new.history file ≡ [])
-    c.loop-left.invariant.kept.tells (λ told. (c.loop-left.invariant.kept.so_far told).seen) (λ told. c.in_ok-replay_next.ensures.last told none))
-    told).1
+    told in
+    record {
+      replayed = λ told. (all told).0;
+      steps = search rules;
+      whole = search rules;
+      left = λ told. (all told).1;
+      stands = search rules;
+      closes = search rules;
+      new = search rules;
+      seen = search rules;
+      any_moment = search rules;
+      bad_event = search rules;
+      disk_fault = search rules;
+      closed = search rules;
+      deeds = search rules;
+      tells = search rules;
+      counts = search rules;
+    }
