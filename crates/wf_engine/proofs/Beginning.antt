@@ -4,7 +4,7 @@ use Rattle.std.proofs.Common.{inl, inr, ⊎_elim, refl, sym, ◌∙◌, ap, subs
 use Rattle.wf_engine.specs.Engine.{OpeningMoment}
 use Rattle.wf_history.specs.Stands.{HasNoneOrThis}
 use Rattle.wf_host.specs.Moments.{started, joined, weaker}
-use Rattle.wf_host.specs.World.{World, LeavesOnly, Only, Rose}
+use Rattle.wf_host.specs.World.{World, LeavesOnly, Only}
 use Rattle.wf_host.specs.declared.data.Deed.{Deed}
 use Rattle.wf_host.specs.declared.data.Deed.TheVariants.{Now}
 use Rattle.wf_journal.specs.Journal.{IsJournal}
@@ -46,11 +46,3 @@ pub then_reads : (w mid new : World) → LeavesOnly w mid (Quiet w) → LeavesOn
 then_reads w mid new so_far more seen deeds settled reads =
     joined w mid new (OpeningMoment w) (OpeningMoment mid) (opens_quietly w mid so_far) more
     (λ c d is. (subst w.may_leave (sym (settled c is.0 ∙ seen)) reads, ⊎_elim (λ same. inl (same ∙ deeds)) (λ one. inr (one.0, one.1 ∙ ap (λ l. l ++ Now one.0 ∷ []) deeds)) is.1))
-
--- ## Counts
--- what rose in the last of two calls has risen, and also what rose in the first
-pub rose_last : (a b c : ℕ) → a ≤ b → Rose b c → Rose a c
-rose_last a b c le rose = omega (arith, le, rose)
-
-pub rose_first : (a b c : ℕ) → Rose a b → b ≤ c → Rose a c
-rose_first a b c rose le = omega (arith, rose, le)

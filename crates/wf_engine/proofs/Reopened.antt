@@ -99,6 +99,10 @@ no_history_told L file J (Err e) cause gives same fit why = λ n is.
     let some : records file ≢ [] = λ none. it.1 (same ∙ none) in
     (ap (λ K. history L K) (sym same) ∙ it.0, some, magic_found file fit some)
 
+-- the records of a file that reads as it did lead there
+pub led_on : (L : Language) (w mid : World) (J : List (List ℕ)) (s : Standing) → mid.seen ≡ w.seen → J ≡ records mid.seen → history L J ≡ Ok s → history L (records w.seen) ≡ Ok s
+led_on L w mid J s seen first leads = ap (λ l. history L (records l)) (sym seen) ∙ ap (λ K. history L K) (sym first) ∙ leads
+
 -- a history with an outcome is that of its machine
 pub has_ended : (L : Language) (J : List (List ℕ)) (h : History) (m : Machine) (s : Standing) → history L J ≡ Ok (standing h m) → history L J ≡ Ok s → s.config.outcome ≢ Active → (state_of m).config.outcome ≢ Active
 has_ended L J h m s is other ended active =

@@ -61,7 +61,6 @@ impl Engine {
         if self.closed {
             return Err(EngineFault::Closed);
         }
-        laws_of_steps();
         self.settle(host)?;
         let mut left = waits;
         loop {
@@ -101,7 +100,6 @@ impl Engine {
         ensures tells { TellsAsBefore H.world host.old host.new }
         ensures counts { NoCountFalls H.faults host.old host.new }
     {
-        laws_of_steps();
         while !self.is_settled() {
             self.turn(host)?;
         }

@@ -1,7 +1,7 @@
 use Rattle.std.proofs.Common.{◌≡◌, ◌∙◌, ap, sym, subst, [], ◌∷◌, Some}
 use Rattle.wf_check.specs.Seen.{program_of}
 use Rattle.wf_connections.specs.Calls.{is_dropped, is_started, told}
-use Rattle.wf_engine.proofs.Beginning.{then_begins}
+use Rattle.wf_engine.proofs.Beginning.{begins_quietly, not_refused, quiet_at_once, then_begins}
 use Rattle.wf_engine.proofs.FreshEngine.{stands_as_fresh}
 use Rattle.wf_engine.proofs.NewSessions.{stands_begun}
 use Rattle.wf_engine.proofs.engine.Engine.begin.Goals as goal
@@ -40,3 +40,44 @@ returns-clause-any_moment g c = λ told.
     let mid = g.H.Host.world c.empty_history.new.host in
     then_begins w mid (g.H.Host.world c.begin.new.host) (record_bytes (Started (start_view c.args.start.now))) (c.empty_history.ensures.any_moment told)
     (c.begin.ensures.any_moment c.in_ok-history.ensures.open (tells_still w mid c.empty_history.ensures.tells told)) (c.in_ok-history.ensures.none told) (c.empty_history.ensures.deeds told)
+
+-- no memory for the machine: nothing was done
+pub returns-in_err-machine-clause-any_moment : goal.returns-in_err-machine-clause-any_moment
+returns-in_err-machine-clause-any_moment g c = λ told.
+    let w = g.H.Host.world c.args.host.now in
+    begins_quietly w w (record_bytes (Started (start_view c.args.start.now))) (quiet_at_once w (λ i d left. g.met.H.Host.only_now c.args.host.now i d told left))
+
+pub returns-in_err-machine-clause-refused_stays : goal.returns-in_err-machine-clause-refused_stays
+returns-in_err-machine-clause-refused_stays g c = λ told refused. quiet_at_once (g.H.Host.world c.args.host.now) (λ i d left. g.met.H.Host.only_now c.args.host.now i d told left)
+
+-- it was only opened
+pub returns-in_err-history-clause-any_moment : goal.returns-in_err-history-clause-any_moment
+returns-in_err-history-clause-any_moment g c = λ told.
+    begins_quietly (g.H.Host.world c.args.host.now) (g.H.Host.world c.empty_history.new.host) (record_bytes (Started (start_view c.args.start.now))) (c.empty_history.ensures.any_moment told)
+
+pub returns-in_err-history-clause-refused_stays : goal.returns-in_err-history-clause-refused_stays
+returns-in_err-history-clause-refused_stays g c = λ told refused. c.empty_history.ensures.any_moment told
+
+pub returns-in_err-history-clause-refused_reads : goal.returns-in_err-history-clause-refused_reads
+returns-in_err-history-clause-refused_reads g c = λ told refused. c.empty_history.ensures.seen told
+
+-- the start was being written
+pub returns-in_err-begin-clause-any_moment : goal.returns-in_err-begin-clause-any_moment
+returns-in_err-begin-clause-any_moment g c = λ told.
+    let w = g.H.Host.world c.args.host.now in
+    let mid = g.H.Host.world c.empty_history.new.host in
+    then_begins w mid (g.H.Host.world c.begin.new.host) (record_bytes (Started (start_view c.args.start.now))) (c.empty_history.ensures.any_moment told)
+    (c.begin.ensures.any_moment c.in_ok-history.ensures.open (tells_still w mid c.empty_history.ensures.tells told)) (c.in_ok-history.ensures.none told) (c.empty_history.ensures.deeds told)
+
+pub returns-in_err-begin-clause-refused_stays : goal.returns-in_err-begin-clause-refused_stays
+returns-in_err-begin-clause-refused_stays g c = λ told refused. absurd (not_refused (g.H.Host.world c.args.host.now).seen (c.in_ok-history.ensures.a_journal told) (c.in_ok-history.ensures.none told) refused)
+
+pub returns-in_err-begin-clause-refused_reads : goal.returns-in_err-begin-clause-refused_reads
+returns-in_err-begin-clause-refused_reads g c = λ told refused. absurd (not_refused (g.H.Host.world c.args.host.now).seen (c.in_ok-history.ensures.a_journal told) (c.in_ok-history.ensures.none told) refused)
+
+-- the start stands
+pub returns-clause-refused_stays : goal.returns-clause-refused_stays
+returns-clause-refused_stays g c = λ told refused. absurd (not_refused (g.H.Host.world c.args.host.now).seen (c.in_ok-history.ensures.a_journal told) (c.in_ok-history.ensures.none told) refused)
+
+pub returns-clause-refused_reads : goal.returns-clause-refused_reads
+returns-clause-refused_reads g c = λ told refused. absurd (not_refused (g.H.Host.world c.args.host.now).seen (c.in_ok-history.ensures.a_journal told) (c.in_ok-history.ensures.none told) refused)

@@ -1,16 +1,15 @@
-use Rattle.std.proofs.Common.{◌≡◌, ◌∙◌, ◌+◌, ap, inl, sym, subst, ℕ, length, ◌≤◌, Ok}
+use Rattle.std.proofs.Common.{◌∙◌, ◌+◌, ap, inl, sym, subst, ℕ, length, ◌≤◌}
 use Rattle.std.specs.Prelude.{unwrap_or}
 use Rattle.wf_connections.specs.Calls as calls
 use Rattle.wf_connections.specs.Calls.{is_dropped, is_started}
 use Rattle.wf_engine.proofs.Beginning.{opens_quietly, then_reads}
 use Rattle.wf_engine.proofs.FreshEngine.{opened_as_fresh}
-use Rattle.wf_engine.proofs.Reopened.{deeds_on, has_ended, next_number, no_history_told, opened, still_stands}
+use Rattle.wf_engine.proofs.Reopened.{deeds_on, has_ended, led_on, next_number, no_history_told, opened, still_stands}
 use Rattle.wf_engine.proofs.engine.Engine.open.Goals as goal
 use Rattle.wf_history.specs.Stands.{ahead}
 use Rattle.wf_journal.specs.Records.{records}
 use Rattle.wf_journal.specs.Standing.{new_none}
 use Rattle.wf_deeds.specs.At.{applied_by}
-use Rattle.wf_deeds.specs.History.{history}
 use Rattle.wf_machine.specs.Seen.{state_of}
 use Rattle.wf_replay.proofs.OnlyReads.{quiet_stays, settled_behind}
 use Rattle.wf_replay.proofs.StillOpen.{tells_still}
@@ -40,8 +39,6 @@ returns-in_err-machine-clause-any_moment g c = λ told.
     let mid = g.H.Host.world c.open.new.host in
     let late = g.H.Host.world c.last_machine.new.host in
     let told_mid = tells_still w mid c.open.ensures.tells told in
-    let seen = c.last_machine.ensures.seen told_mid ∙ c.open.ensures.seen told in
-    let deeds = c.last_machine.ensures.deeds told_mid ∙ c.open.ensures.deeds told in
     let quiet = quiet_stays w mid late (c.open.ensures.any_moment told) (c.last_machine.ensures.any_moment told_mid) (c.open.ensures.seen told) (c.open.ensures.deeds told) (g.met.H.Host.reads_back c.args.host.now told) in
     opens_quietly w late quiet
 
@@ -73,7 +70,6 @@ returns-in_err-reading-clause-deeds g c = λ told.
     let new = g.H.Host.world c.session_reading.new.host in
     let told_mid = tells_still w mid c.open.ensures.tells told in
     let told_late = tells_still mid late c.last_machine.ensures.tells told_mid in
-    let seen = c.last_machine.ensures.seen told_mid ∙ c.open.ensures.seen told in
     let deeds = c.last_machine.ensures.deeds told_mid ∙ c.open.ensures.deeds told in
     deeds_on w late new deeds (c.session_reading.ensures.deeds told_late)
 
@@ -81,16 +77,11 @@ pub returns-in_err-reading-clause-finished : goal.returns-in_err-reading-clause-
 returns-in_err-reading-clause-finished g c = λ told s is ended.
     let w = g.H.Host.world c.args.host.now in
     let mid = g.H.Host.world c.open.new.host in
-    let late = g.H.Host.world c.last_machine.new.host in
-    let new = g.H.Host.world c.session_reading.new.host in
     let told_mid = tells_still w mid c.open.ensures.tells told in
-    let told_late = tells_still mid late c.last_machine.ensures.tells told_mid in
-    let seen = c.last_machine.ensures.seen told_mid ∙ c.open.ensures.seen told in
     let deeds = c.last_machine.ensures.deeds told_mid ∙ c.open.ensures.deeds told in
     let h = c.last_machine.new.history in
     let m = c.in_ok-machine.machine in
-    let led : history the_language (records w.seen) ≡ Ok (standing h m) =
-    ap (λ l. history the_language (records l)) (sym (c.open.ensures.seen told)) ∙ ap (λ J. history the_language J) (sym (c.in_ok-history.ensures.first told)) ∙ c.in_ok-machine.ensures.leads told_mid in
+    let led = led_on the_language w mid (ahead c.in_ok-history.history mid.seen) (standing h m) (c.open.ensures.seen told) (c.in_ok-history.ensures.first told) (c.in_ok-machine.ensures.leads told_mid) in
     ap (λ x. (g.H.Host.world x).deeds) (c.session_reading.ensures.finished (has_ended the_language (records w.seen) h m s led is ended)) ∙ deeds
 
 pub returns-clause-holds : goal.returns-clause-holds
@@ -102,7 +93,6 @@ returns-clause-holds g c = λ told.
     let told_mid = tells_still w mid c.open.ensures.tells told in
     let told_late = tells_still mid late c.last_machine.ensures.tells told_mid in
     let seen = c.last_machine.ensures.seen told_mid ∙ c.open.ensures.seen told in
-    let deeds = c.last_machine.ensures.deeds told_mid ∙ c.open.ensures.deeds told in
     let stood = c.in_ok-machine.ensures.stands told_mid in (
       still_stands c.last_machine.new.history late new stood (c.session_reading.ensures.seen told_late) (c.session_reading.ensures.settled told_late stood.journal.settled),
       λ none. c.in_ok-machine.ensures.some told_mid (c.in_ok-history.ensures.first told ∙ ap records (c.open.ensures.seen told) ∙ ap records (sym (c.session_reading.ensures.seen told_late ∙ seen)) ∙ none),
@@ -120,8 +110,7 @@ returns-clause-opened g c = λ O told.
     let deeds = c.last_machine.ensures.deeds told_mid ∙ c.open.ensures.deeds told in
     let h = c.last_machine.new.history in
     let m = c.in_ok-machine.machine in
-    let led : history the_language (records w.seen) ≡ Ok (standing h m) =
-    ap (λ l. history the_language (records l)) (sym (c.open.ensures.seen told)) ∙ ap (λ J. history the_language J) (sym (c.in_ok-history.ensures.first told)) ∙ c.in_ok-machine.ensures.leads told_mid in
+    let led = led_on the_language w mid (ahead c.in_ok-history.history mid.seen) (standing h m) (c.open.ensures.seen told) (c.in_ok-history.ensures.first told) (c.in_ok-machine.ensures.leads told_mid) in
     let next = next_number the_language c.laws_of_moments.ensures.number_is_count c.laws_of_moments.ensures.session_is_numbered w.seen h m c.saturating_add.result c.unwrap_or-last.result.0 led (g.met.H.Host.fits c.args.host.now told)
     (ap (λ (p : ℕ × ℕ). p.0) (c.unwrap_or-last.ensures ∙ ap (λ o. unwrap_or o (0, 0)) c.last.ensures)) c.saturating_add.ensures in
     let laws = c.laws_of_moments.ensures in
@@ -135,16 +124,10 @@ pub returns-clause-session : goal.returns-clause-session
 returns-clause-session g c = λ told.
     let w = g.H.Host.world c.args.host.now in
     let mid = g.H.Host.world c.open.new.host in
-    let late = g.H.Host.world c.last_machine.new.host in
-    let new = g.H.Host.world c.session_reading.new.host in
     let told_mid = tells_still w mid c.open.ensures.tells told in
-    let told_late = tells_still mid late c.last_machine.ensures.tells told_mid in
-    let seen = c.last_machine.ensures.seen told_mid ∙ c.open.ensures.seen told in
-    let deeds = c.last_machine.ensures.deeds told_mid ∙ c.open.ensures.deeds told in
     let h = c.last_machine.new.history in
     let m = c.in_ok-machine.machine in
-    let led : history the_language (records w.seen) ≡ Ok (standing h m) =
-    ap (λ l. history the_language (records l)) (sym (c.open.ensures.seen told)) ∙ ap (λ J. history the_language J) (sym (c.in_ok-history.ensures.first told)) ∙ c.in_ok-machine.ensures.leads told_mid in
+    let led = led_on the_language w mid (ahead c.in_ok-history.history mid.seen) (standing h m) (c.open.ensures.seen told) (c.in_ok-history.ensures.first told) (c.in_ok-machine.ensures.leads told_mid) in
     let next = next_number the_language c.laws_of_moments.ensures.number_is_count c.laws_of_moments.ensures.session_is_numbered w.seen h m c.saturating_add.result c.unwrap_or-last.result.0 led (g.met.H.Host.fits c.args.host.now told)
     (ap (λ (p : ℕ × ℕ). p.0) (c.unwrap_or-last.ensures ∙ ap (λ o. unwrap_or o (0, 0)) c.last.ensures)) c.saturating_add.ensures in
     next ∙ sym (c.laws_of_moments.ensures.next_behind_history the_language (records w.seen) (standing h m) led)
@@ -166,16 +149,11 @@ pub returns-clause-finished : goal.returns-clause-finished
 returns-clause-finished g c = λ told s is ended.
     let w = g.H.Host.world c.args.host.now in
     let mid = g.H.Host.world c.open.new.host in
-    let late = g.H.Host.world c.last_machine.new.host in
-    let new = g.H.Host.world c.session_reading.new.host in
     let told_mid = tells_still w mid c.open.ensures.tells told in
-    let told_late = tells_still mid late c.last_machine.ensures.tells told_mid in
-    let seen = c.last_machine.ensures.seen told_mid ∙ c.open.ensures.seen told in
     let deeds = c.last_machine.ensures.deeds told_mid ∙ c.open.ensures.deeds told in
     let h = c.last_machine.new.history in
     let m = c.in_ok-machine.machine in
-    let led : history the_language (records w.seen) ≡ Ok (standing h m) =
-    ap (λ l. history the_language (records l)) (sym (c.open.ensures.seen told)) ∙ ap (λ J. history the_language J) (sym (c.in_ok-history.ensures.first told)) ∙ c.in_ok-machine.ensures.leads told_mid in
+    let led = led_on the_language w mid (ahead c.in_ok-history.history mid.seen) (standing h m) (c.open.ensures.seen told) (c.in_ok-history.ensures.first told) (c.in_ok-machine.ensures.leads told_mid) in
     ap (λ x. (g.H.Host.world x).deeds) (c.session_reading.ensures.finished (has_ended the_language (records w.seen) h m s led is ended)) ∙ deeds
 
 pub returns-clause-steps : goal.returns-clause-steps

@@ -1,6 +1,6 @@
-use Rattle.std.proofs.Common.{◌+◌, [], ◌∷◌, ◌++◌, sym, ◌∙◌, ap}
+use Rattle.std.proofs.Common.{◌+◌, [], ◌∷◌, sym, ◌∙◌, ap}
 use Rattle.wf_engine.proofs.CallsSent.{told_then}
-use Rattle.wf_engine.proofs.Parts.{MayPollNow, far_kept, far_poll, poll_moments, silence_moments}
+use Rattle.wf_engine.proofs.Parts.{MayPollNow, far_poll, poll_moments, silence_moments}
 use Rattle.wf_engine.proofs.Polling.{has_waited, part_far, still_holds}
 use Rattle.wf_engine.proofs.engine.Engine.wait.Goals as goal
 use Rattle.wf_engine.specs.Engine.{memory}
@@ -81,6 +81,7 @@ returns-clause-waits g c = λ O told.
     (c.in_ok-take.ensures.takes O) o.history holds.0 (o.ready c.in_ok-take.ensures.«open»).begun in
     has_waited O (memory e) (memory o) w new s.done c.in-Some.until h polled (s.sends c.requires.active)
 
+-- whatever it heard, the same is kept
 pub returns-clause-any_moment : goal.returns-clause-any_moment
 returns-clause-any_moment g c = λ O told.
     let e = c.args.self.now in
@@ -94,17 +95,7 @@ returns-clause-any_moment g c = λ O told.
     c.requires.«open» (c.requires.kept told) c.in_ok-send_open.ensures.«open» (c.send_open.ensures.holds c.in_ok-send_open.ensures.«open» told) (c.send_open.ensures.any_moment O c.requires.«open» told) s.went in
     let active = ap (λ (x : Config). x.outcome) c.in_ok-send_open.ensures.same.config ∙ c.requires.active in
     let may : MayPollNow the_language O (memory d) c.in-Some.until = record { settled = c.in_ok-send_open.ensures.settled; active = active; sent = c.in_ok-send_open.ensures.all_sent c.requires.active; due = sym c.least_due.ensures.due ∙ c.in-Some.is } in
-    let o = c.take.new.self in
-    let new = g.H.Host.world c.poll.new.self in
-    let told_new = told_then mid new c.poll.ensures.tells told_mid in
-    let h = c.in_ok-heard.heard in
-    let holds =
-    still_holds d o mid new (Poll c.in-Some.until h ∷ []) c.take.ensures.holds (c.send_open.ensures.holds c.in_ok-send_open.ensures.«open» told) (c.in_ok-heard.ensures.time told_mid) (c.poll.ensures.seen told_mid)
-    (λ t i le now. g.met.H.Host.counts_now c.poll.new.self t i told_new le now) in
-    let polled =
-    far_poll the_language O c.laws_of_steps.ensures.poll (memory e) (memory d) (memory o) w mid new s.done c.in-Some.until h far c.send_open.ensures.session may (c.in_ok-heard.ensures.time told_mid) (c.poll.ensures.seen told_mid)
-    (c.in_ok-take.ensures.takes O) o.history holds.0 (o.ready c.in_ok-take.ensures.«open»).begun in
-    far_kept the_language O (memory e) (memory o) w new (s.done ++ Poll c.in-Some.until h ∷ []) polled
+    poll_moments the_language O c.laws_of_steps.ensures.poll (memory e) (memory d) w mid (g.H.Host.world c.poll.new.self) s.done c.in-Some.until c.in_ok-heard.heard far c.send_open.ensures.session may (c.in_ok-heard.ensures.time told_mid)
 
 pub returns-clause-one : goal.returns-clause-one
 returns-clause-one g c = c.in_ok-take.ensures.waits ∙ ap (λ n. n + 1) c.in_ok-send_open.ensures.same.waits
