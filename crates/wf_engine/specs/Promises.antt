@@ -1,6 +1,6 @@
 -- What the calls of an engine promise: each fact by its name. An engine stands before and behind a call, and its host is old and new; `world`
 -- and `faults` are what a host stands for and its counts of faults.
-use Rattle.std.specs.Prelude.{◌≡◌, ◌≢◌, ◌⊎◌, ◌↔◌, ◌≤◌, ◌<◌, ◌+◌, ◌++◌, ℕ, Bool, true, false, List, [], ◌∷◌, length, take, max, Result, Ok, Err, IfOk, IfErr, OnOk, OnErr, IsErrOf}
+use Rattle.std.specs.Prelude.{◌≡◌, ◌≢◌, ◌⊎◌, ◌↔◌, ◌≤◌, ◌<◌, ◌+◌, ◌++◌, ℕ, Bool, true, false, [], ◌∷◌, length, take, max, Result, Ok, Err, IfOk, IfErr, OnOk, OnErr, IsErrOf}
 use Rattle.wf_deeds.specs.At.{applied_by, journal, next_session}
 use Rattle.wf_deeds.specs.Clauses.{AddsTurn, KeptThroughout, Opened, SendsOpen, Sessions, Takes}
 use Rattle.wf_deeds.specs.History.{Standing, history}

@@ -111,7 +111,10 @@ returns g c =
     let file = c.empty_history.ensures in
     let none = c.in_ok-history.ensures in
     record {
-      holds = search rules;
+      holds = λ told. (
+        c.begin.ensures.stands c.in_ok-begin.ensures.«open» (tells_still w mid file.tells told),
+        λ none. let no : record_bytes (Started (start_view c.args.start.now)) ∷ [] ≡ [] = sym (c.in_ok-begin.ensures.added (tells_still w mid file.tells told)) ∙ none in cc no,
+      );
       stands = λ O here handed.
           let s = start_view c.args.start.now in
           let m = c.in_ok-machine.machine in

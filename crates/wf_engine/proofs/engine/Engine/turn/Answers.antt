@@ -1,4 +1,4 @@
-use Rattle.std.proofs.Common.{rules, ◌≤◌, ◌<◌, ◌^◌, ◌+◌, length, ap, ◌∙◌, refl, sym, List, [], ◌∷◌, ◌++◌, ◌≡◌}
+use Rattle.std.proofs.Common.{rules, ◌≤◌, ◌+◌, length, ap, ◌∙◌, refl, sym, List, [], ◌∷◌, ◌++◌, ◌≡◌}
 use Rattle.std.specs.Prelude.{Option}
 use Rattle.wf_deeds.specs.Turns.{turn_of}
 use Rattle.wf_engine.proofs.Added.{Choice, Laws, is_short, is_spelled, none_of, not_none, some_of}
