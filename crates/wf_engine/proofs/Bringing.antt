@@ -52,8 +52,8 @@ few_bytes (e ∷ es) all = omega (arith, ap length (flat_map-cons event e es), l
 
 -- ## Turns
 -- nothing was taken
-pub is_turn : (old new : State) (reading : ℕ) (es : List Event) → AreChosen 4096 old new reading es → IsTurn old new reading None es
-is_turn old new reading es c = record {
+pub is_turn : (old new : State) (reading : ℕ) (es : List Event) → old.config.last ≤ reading → AreChosen 4096 old new reading es → IsTurn old new reading None es
+is_turn old new reading es le c = record {
   turn = c.turn;
   leads = c.leads;
   short = c.short;
@@ -63,10 +63,10 @@ is_turn old new reading es c = record {
   most = c.most;
   falls = omega (arith, c.falls);
   inside = λ none. c.inside;
-  readings = c.readings;
+  readings = c.readings le;
+  last = c.last le;
   spelled = c.spelled;
   bytes = omega (arith, few_bytes es c.inside);
-  last = c.last;
   program = c.program;
   whole = c.whole;
 }
@@ -104,10 +104,10 @@ module _ (old mid new : State) (reading : ℕ) (t : Taken) (e : Event) (es : Lis
         most = c.most;
         falls = omega (arith, c.falls, b.moves, lighter law sound);
         inside = λ no. absurd (cc no);
-        readings = λ le. first_takes reading e es (ap reading_of b.is) (c.readings come);
+        readings = first_takes reading e es (ap reading_of b.is) (c.readings come);
+        last = c.last come;
         spelled = (b.spelled, c.spelled);
         bytes = omega (arith, ap length (flat_map-cons event e es), length-append (event e) (flat_map event es), b.short, few_bytes es c.inside);
-        last = λ le. c.last come;
         program = c.program ∙ b.program;
         whole = c.whole;
       }
@@ -118,11 +118,11 @@ abbrev pub Behind : State → State → ℕ → List Event → List Event → Ty
 Behind old new reading before all = (es : List Event) × (all ≡ before ++ es) × AreChosen (4096 - length before) old new reading es
 
 -- behind none
-pub turn_alone : (old new : State) (reading : ℕ) (taken : Option Event) (before all : List Event) → taken ≡ None → before ≡ [] → Behind old new reading before all → IsTurn old new reading taken all
-turn_alone old new reading taken before all none first behind =
+pub turn_alone : (old new : State) (reading : ℕ) (taken : Option Event) (before all : List Event) → old.config.last ≤ reading → taken ≡ None → before ≡ [] → Behind old new reading before all → IsTurn old new reading taken all
+turn_alone old new reading taken before all le none first behind =
     let from : Behind old new reading [] all = subst (λ l. Behind old new reading l all) first behind in
     let (es, is, chosen) = from in
-    let turn : IsTurn old new reading None es = is_turn old new reading es chosen in
+    let turn : IsTurn old new reading None es = is_turn old new reading es le chosen in
     subst (λ o. IsTurn old new reading o all) (sym none) (subst (λ l. IsTurn old new reading None l) (sym is) turn)
 
 -- behind what was taken

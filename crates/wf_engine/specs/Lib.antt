@@ -1,5 +1,6 @@
 pub mod Starts
 pub mod Printed
+pub mod Promises
 pub mod Safe
 pub mod Sending
 pub mod TheOutside

@@ -58,13 +58,14 @@ pub record IsTurn (old new : State) (reading : ℕ) (taken : Option Event) (es :
   pub most : new.config.moves ≤ 100000
   -- each that is chosen takes something of what may still come
   pub falls : length es + spent new.config ≤ brought taken + spent old.config
+  -- nothing outside has to bring one but what was taken
   pub inside : taken ≡ None → AllByRecursion IsFromInside es
-  -- each takes the reading, where the last one isn't greater
-  pub readings : old.config.last ≤ reading → TakeReading reading es
+  -- each takes the reading, and the last one is no greater behind them
+  pub readings : TakeReading reading es
+  pub last : new.config.last ≤ reading
   -- each has a spelling, and all of them are short enough for a record
   pub spelled : AllByRecursion IsOld es
   pub bytes : length (flat_map event es) ≤ longest_taken + 13 * length es
-  pub last : old.config.last ≤ reading → new.config.last ≤ reading
   pub program : new.program ≡ old.program
   pub whole : new.broken ≡ false
 

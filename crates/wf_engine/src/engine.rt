@@ -1,5 +1,5 @@
 // The engine: an execution over a journal.
-ghost use Rattle.std.specs.Prelude.{◌≡◌, ◌<◌, ◌^◌, false, ◌∷◌, []};
+ghost use Rattle.std.specs.Prelude.{◌≡◌, ◌<◌, ◌^◌, false};
 ghost use Rattle.std.specs.Coded.{→_prop};
 ghost use Rattle.wf_engine.specs.Ready.{IsReady, IsReady-prop};
 
@@ -51,30 +51,16 @@ pub struct Engine {
 }
 
 impl Engine {
-    ghost use Rattle.std.specs.Prelude.{◌≢◌, ◌⊎◌, ◌↔◌, ◌≤◌, ◌<◌, ◌+◌, ◌++◌, [], ◌∷◌, true, Bool, ℕ, length, take, None, Ok, Err, OnOk, OnErr, IfOk, IfErr, IsErrOf, IsTrue};
+    ghost use Rattle.std.specs.Prelude.{◌↔◌, ◌≤◌, ◌<◌, true, length, IsTrue};
     ghost use Rattle.wf_check.specs.Seen.{program_of};
-    ghost use Rattle.wf_deeds.specs.Clauses.{AddsTurn, KeptThroughout, Opened, Sessions};
-    ghost use Rattle.wf_deeds.specs.Kept.{Run};
-    ghost use Rattle.wf_deeds.specs.Memory.{IsSettled, StandsFor};
-    ghost use Rattle.wf_deeds.specs.Turns.{turn_of};
-    ghost use Rattle.wf_engine.specs.Engine.{memory, is_closed, Holds, OpeningMoment, spent};
-    ghost use Rattle.wf_engine.specs.TheOutside.{InTheOutside};
+    ghost use Rattle.wf_deeds.specs.Memory.{IsSettled};
+    ghost use Rattle.wf_engine.specs.Engine.{memory, is_closed, Holds};
+    ghost use Rattle.wf_engine.specs.Promises.{BeginsAnExecution, OpensAnExecution, TakesATurn};
     ghost use Rattle.wf_events.specs.Records.{Started};
     ghost use Rattle.wf_events.specs.Spelling.{record_bytes, HasSpelling};
     ghost use Rattle.wf_events.specs.View.{start_view};
-    ghost use Rattle.wf_history.specs.Stands as history;
-    ghost use Rattle.wf_history.specs.Stands.{HasNoneOrThis};
-    ghost use Rattle.wf_host.specs.Calls.{AtAnyMoment, DiskFailed, DoesNoDeed, NoCountFalls, OnlyErrors, OnlyErrorsOr, ReadsAsBefore, TellsAsBefore};
-    ghost use Rattle.wf_host.specs.World.{Told, LeavesOnly, Only};
-    ghost use Rattle.wf_host.specs.declared.data.Deed.TheVariants.{Now};
-    ghost use Rattle.wf_journal.specs.Records.{magic, records};
-    ghost use Rattle.wf_machine.specs.Counts.{counts_of};
-    ghost use Rattle.wf_machine.specs.Outcome.{IsResult};
+    ghost use Rattle.wf_host.specs.World.{Told};
     ghost use Rattle.wf_machine.specs.Seen.{state_of};
-    ghost use Rattle.wf_model.specs.Config.{Active};
-    ghost use Rattle.wf_deeds.specs.At.{applied_by, journal, next_session};
-    ghost use Rattle.wf_deeds.specs.History.{Standing, history as history_of};
-    ghost use Rattle.wf_replay.specs.TheLanguage.{the_language};
     ghost use Rattle.wf_source.specs.Programs.{IsSourceOf};
 
     /// Begins an execution on a file without a record, with its start, whose source has this program. The start's reading is that of the
@@ -92,50 +78,8 @@ impl Engine {
         requires accepted { IsSourceOf (start_view start.now).source (program_of program) }
         requires spelled { HasSpelling (Started (start_view start.now)) }
         requires short { length (record_bytes (Started (start_view start.now))) ≤ 16777215 }
-        ensures holds { Told (H.world host.old) (IfOk result (λ e. Holds e (H.world host.new))) }
-        ensures stands { InTheOutside (λ O. Told (H.world host.old)
-            (IfOk result (λ e. (handed : Bool) → StandsFor the_language O Run handed (memory e)
-            (records (H.world host.new).seen) (Now start.now.reading ∷ [])))) }
-        ensures open { IfOk result (λ e. is_closed e ≡ false) }
-        ensures session { IfOk result (λ e. (memory e).session ≡ 1) }
-        ensures waits { IfOk result (λ e. (memory e).waits ≡ 0) }
-        ensures started { Told (H.world host.old)
-            (OnOk result (records (H.world host.new).seen
-            ≡ record_bytes (Started (start_view start.now)) ∷ [])) }
-        ensures any_moment { AtAnyMoment H.world host.old host.new
-            (λ c d. ((H.world host.old).may_leave c × (d ≡ (H.world host.old).deeds))
-            ⊎ ((records (H.world host.old).seen ≡ [])
-            × HasNoneOrThis (H.world host.old) (record_bytes (Started (start_view start.now))) c
-            d)) }
-        ensures refused_stays { Told (H.world host.old)
-            (((5 ≤ length (H.world host.old).seen) × (take 4 (H.world host.old).seen ≢ magic))
-            ⊎ (records (H.world host.old).seen ≢ [])
-            → LeavesOnly (H.world host.old) (H.world host.new)
-            (λ c d. (H.world host.old).may_leave c × (d ≡ (H.world host.old).deeds))) }
-        ensures refused_reads { Told (H.world host.old)
-            (((5 ≤ length (H.world host.old).seen) × (take 4 (H.world host.old).seen ≢ magic))
-            ⊎ (records (H.world host.old).seen ≢ [])
-            → (H.world host.new).seen ≡ (H.world host.old).seen) }
-        ensures disk_fault { IsErrOf result EngineFault.DiskFault
-            → DiskFailed H.faults host.old host.new }
-        ensures not_a_journal { Told (H.world host.old) (IsErrOf result EngineFault.NotAJournal
-            → (5 ≤ length (H.world host.old).seen) × (take 4 (H.world host.old).seen ≢ magic)) }
-        ensures a_journal { Told (H.world host.old)
-            (OnOk result ((length (H.world host.old).seen ≤ 4)
-            ⊎ (take 4 (H.world host.old).seen ≡ magic))) }
-        ensures already_started { Told (H.world host.old) (IsErrOf result EngineFault.AlreadyStarted
-            → (records (H.world host.old).seen ≢ [])
-            × ((length (H.world host.old).seen ≤ 4) ⊎ (take 4 (H.world host.old).seen ≡ magic))) }
-        // what was found was read behind the opening's sync
-        ensures settled { Told (H.world host.old) (IsErrOf result EngineFault.AlreadyStarted
-            → Only (H.world host.new).seen (H.world host.new).may_leave) }
-        ensures fresh { Told (H.world host.old)
-            (OnOk result (records (H.world host.old).seen ≡ [])) }
-        ensures only { OnlyErrors result (EngineFault.DiskFault ∷ EngineFault.NotAJournal ∷
-            EngineFault.AlreadyStarted ∷ EngineFault.OutOfMemory ∷ []) }
-        ensures deeds { DoesNoDeed H.world host.old host.new }
-        ensures tells { TellsAsBefore H.world host.old host.new }
-        ensures counts { NoCountFalls H.faults host.old host.new }
+        ensures { BeginsAnExecution H.world H.faults (start_view start.now) host.old host.new
+            result }
     {
         each_source_is_one();
         laws_of_histories();
@@ -172,46 +116,7 @@ impl Engine {
         host: &mut H,
         steps: &mut Steps<L>,
     ) -> Result<Engine, EngineFault>
-        ensures holds { Told (H.world host.old) (IfOk result (λ e. Holds e (H.world host.new))) }
-        ensures opened { InTheOutside (λ O. Told (H.world host.old)
-            (IfOk result (λ e. Opened the_language O (memory e) (H.world host.old)
-            (H.world host.new)))) }
-        ensures steps { Told (H.world host.old)
-            (OnOk result (steps.new ≡ steps.old + applied_by (records (H.world host.old).seen))) }
-        ensures open { IfOk result (λ e. is_closed e ≡ false) }
-        ensures session { Told (H.world host.old)
-            (IfOk result (λ e. (memory e).session
-            ≡ next_session (journal the_language (records (H.world host.old).seen)))) }
-        ensures waits { IfOk result (λ e. (memory e).waits ≡ 0) }
-        ensures begins { Told (H.world host.old)
-            (OnOk result (take 4 (H.world host.old).seen ≡ magic)) }
-        ensures seen { ReadsAsBefore H.world host.old host.new }
-        ensures any_moment { AtAnyMoment H.world host.old host.new
-            (OpeningMoment (H.world host.old)) }
-        ensures disk_fault { IsErrOf result EngineFault.DiskFault
-            → DiskFailed H.faults host.old host.new }
-        ensures not_a_journal { Told (H.world host.old) (IsErrOf result EngineFault.NotAJournal
-            → (5 ≤ length (H.world host.old).seen) × (take 4 (H.world host.old).seen ≢ magic)) }
-        ensures not_started { Told (H.world host.old) (IsErrOf result EngineFault.NotStarted
-            → (records (H.world host.old).seen ≡ [])
-            × ((length (H.world host.old).seen ≤ 4) ⊎ (take 4 (H.world host.old).seen ≡ magic))) }
-        // what was found was read behind the opening's sync
-        ensures settled { Told (H.world host.old) (IsErrOf result EngineFault.NotStarted
-            → Only (H.world host.new).seen (H.world host.new).may_leave) }
-        ensures not_a_history { Told (H.world host.old)
-            (IfErr result (λ e. (n : ℕ) → e ≡ EngineFault.NotAHistory n
-            → (history_of the_language (records (H.world host.old).seen) ≡ Err n)
-            × (records (H.world host.old).seen ≢ []) × (take 4 (H.world host.old).seen ≡ magic))) }
-        ensures only { OnlyErrorsOr EngineFault.NotAHistory result (EngineFault.DiskFault ∷
-            EngineFault.NotAJournal ∷ EngineFault.NotStarted ∷ EngineFault.OutOfMemory ∷ []) }
-        ensures deeds { Told (H.world host.old)
-            (((H.world host.new).deeds ≡ (H.world host.old).deeds)
-            ⊎ ((t : ℕ) × ((H.world host.new).deeds ≡ (H.world host.old).deeds ++ Now t ∷ []))) }
-        ensures finished { Told (H.world host.old) ((s : Standing)
-            → history_of the_language (records (H.world host.old).seen) ≡ Ok s
-            → s.config.outcome ≢ Active → (H.world host.new).deeds ≡ (H.world host.old).deeds) }
-        ensures tells { TellsAsBefore H.world host.old host.new }
-        ensures counts { NoCountFalls H.faults host.old host.new }
+        ensures { OpensAnExecution H.world H.faults steps.old steps.new host.old host.new result }
     {
         laws_of_moments();
         laws_of_rules();
@@ -265,36 +170,7 @@ impl Engine {
     pub fn turn<H: Host>(&mut self, host: &mut H) -> Result<(), EngineFault>
         requires kept { is_closed self.old ≡ false
             → Told (H.world host.old) (Holds self.old (H.world host.old)) }
-        ensures holds { is_closed self.new ≡ false
-            → Told (H.world host.old) (Holds self.new (H.world host.new)) }
-        ensures adds { InTheOutside (λ O. Told (H.world host.old)
-            (OnOk result (AddsTurn the_language O (memory self.old) (memory self.new)
-            (H.world host.old) (H.world host.new)))) }
-        ensures any_moment { InTheOutside (λ O. is_closed self.old ≡ false
-            → Told (H.world host.old) (KeptThroughout the_language O (memory self.old)
-            (H.world host.old) (H.world host.new))) }
-        // It is settled then, or its turns come to an end: what may still come has fallen.
-        ensures goes_on { OnOk result (IsSettled (memory self.new)
-            ⊎ (spent (memory self.new).config < spent (memory self.old).config)) }
-        ensures counted { OnOk result ((memory self.new).config.moves
-            ≡ (memory self.old).config.moves
-            + counts_of (turn_of (memory self.old).program (memory self.old).config
-            (memory self.old).reading (memory self.old).taken)) }
-        ensures most { OnOk result ((memory self.new).config.moves ≤ 100000) }
-        ensures session { (memory self.new).session ≡ (memory self.old).session }
-        ensures waits { (memory self.new).waits ≡ (memory self.old).waits }
-        ensures reading { (memory self.new).reading ≡ (memory self.old).reading }
-        ensures disk_fault { IsErrOf result EngineFault.DiskFault
-            → DiskFailed H.faults host.old host.new }
-        ensures closed { IsErrOf result EngineFault.Closed ↔ (is_closed self.old ≡ true) }
-        ensures closes { OnErr result (is_closed self.new ≡ true) }
-        ensures idle { IsErrOf result EngineFault.Closed
-            → (self.new ≡ self.old) × (host.new ≡ host.old) }
-        ensures open { OnOk result (is_closed self.new ≡ false) }
-        ensures only { OnlyErrors result (EngineFault.DiskFault ∷ EngineFault.Closed ∷
-            EngineFault.OutOfMemory ∷ []) }
-        ensures tells { TellsAsBefore H.world host.old host.new }
-        ensures counts { NoCountFalls H.faults host.old host.new }
+        ensures { TakesATurn H.world H.faults self.old self.new host.old host.new result }
     {
         if self.closed {
             return Err(EngineFault::Closed);

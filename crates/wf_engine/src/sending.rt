@@ -6,11 +6,12 @@ use wf_machine::Outcome;
 use wf_replay::EngineFault;
 
 impl Engine {
-    ghost use Rattle.std.specs.Prelude.{◌≡◌, ◌≢◌, ◌↔◌, [], true, false, IsErrOf, OnErr, OnOk, ◌∷◌};
-    ghost use Rattle.wf_deeds.specs.Clauses.{KeptThroughout, SendsOpen, those, to_drop, to_start};
-    ghost use Rattle.wf_deeds.specs.Memory.{AllIsSent, IsSettled};
+    ghost use Rattle.std.specs.Prelude.{◌≡◌, [], true, false, OnErr, OnOk, ◌∷◌};
+    ghost use Rattle.wf_deeds.specs.Clauses.{KeptThroughout, those, to_drop, to_start};
+    ghost use Rattle.wf_deeds.specs.Memory.{IsSettled};
     ghost use Rattle.wf_engine.specs.Engine.{Holds, is_closed, memory};
-    ghost use Rattle.wf_engine.specs.Sending.{DropsAll, DropsOne, SameButSent, Sent, StartsAll, StartsOne, is_to_drop, is_to_start};
+    ghost use Rattle.wf_engine.specs.Promises.{SendsTheCalls};
+    ghost use Rattle.wf_engine.specs.Sending.{DropsAll, DropsOne, Sent, StartsAll, StartsOne, is_to_drop, is_to_start};
     ghost use Rattle.wf_engine.specs.TheOutside.{InTheOutside};
     ghost use Rattle.wf_host.specs.Calls.{NoCountFalls, OnlyErrors, ReadsAsBefore, TellsAsBefore};
     ghost use Rattle.wf_host.specs.World.{Told};
@@ -25,28 +26,7 @@ impl Engine {
         requires kept { is_closed self.old ≡ false
             → Told (H.world host.old) (Holds self.old (H.world host.old)) }
         requires settled { is_closed self.old ≡ false → IsSettled (memory self.old) }
-        ensures holds { is_closed self.new ≡ false
-            → Told (H.world host.old) (Holds self.new (H.world host.new)) }
-        ensures sends { InTheOutside (λ O. Told (H.world host.old)
-            (OnOk result (SendsOpen the_language O (memory self.old) (memory self.new)
-            (H.world host.old) (H.world host.new)))) }
-        ensures any_moment { InTheOutside (λ O. is_closed self.old ≡ false
-            → Told (H.world host.old) (KeptThroughout the_language O (memory self.old)
-            (H.world host.old) (H.world host.new))) }
-        ensures all_sent { OnOk result ((memory self.old).config.outcome ≡ Active
-            → AllIsSent (memory self.new)) }
-        ensures same { OnOk result (SameButSent (memory self.old) (memory self.new)) }
-        ensures settled { OnOk result (IsSettled (memory self.new)) }
-        ensures session { (memory self.new).session ≡ (memory self.old).session }
-        ensures seen { ReadsAsBefore H.world host.old host.new }
-        ensures closed { IsErrOf result EngineFault.Closed ↔ (is_closed self.old ≡ true) }
-        ensures closes { OnErr result (is_closed self.new ≡ true) }
-        ensures idle { IsErrOf result EngineFault.Closed
-            → (self.new ≡ self.old) × (host.new ≡ host.old) }
-        ensures open { OnOk result (is_closed self.new ≡ false) }
-        ensures only { OnlyErrors result (EngineFault.Closed ∷ EngineFault.OutOfMemory ∷ []) }
-        ensures tells { TellsAsBefore H.world host.old host.new }
-        ensures counts { NoCountFalls H.faults host.old host.new }
+        ensures { SendsTheCalls H.world H.faults self.old self.new host.old host.new result }
     {
         if self.closed {
             return Err(EngineFault::Closed);

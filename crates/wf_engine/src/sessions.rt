@@ -6,14 +6,14 @@ use wf_machine::Outcome;
 use wf_replay::EngineFault;
 
 impl Engine {
-    ghost use Rattle.std.specs.Prelude.{◌≡◌, ◌≢◌, ◌⊎◌, ◌↔◌, ◌+◌, ◌<◌, ◌^◌, true, false, IsErrOf, IsTrue, OnErr, OnOk, ◌∷◌, []};
-    ghost use Rattle.wf_deeds.specs.Clauses.{AddsTurns, KeptThroughout, Sessions, Waits};
+    ghost use Rattle.std.specs.Prelude.{◌≡◌, ◌+◌, ◌<◌, ◌^◌, true, false, IsErrOf, OnErr, OnOk, ◌∷◌, []};
+    ghost use Rattle.wf_deeds.specs.Clauses.{AddsTurns, KeptThroughout, Waits};
     ghost use Rattle.wf_deeds.specs.Memory.{IsSettled};
     ghost use Rattle.wf_engine.specs.Engine.{Holds, is_closed, memory};
+    ghost use Rattle.wf_engine.specs.Promises.{RunsASession};
     ghost use Rattle.wf_engine.specs.TheOutside.{InTheOutside};
     ghost use Rattle.wf_host.specs.Calls.{DiskFailed, NoCountFalls, OnlyErrors, TellsAsBefore};
     ghost use Rattle.wf_host.specs.World.{Rose, Told};
-    ghost use Rattle.wf_machine.specs.Outcome.{IsResult};
     ghost use Rattle.wf_model.specs.Config.{Active};
     ghost use Rattle.wf_replay.specs.TheLanguage.{the_language};
 
@@ -26,37 +26,7 @@ impl Engine {
         requires kept { is_closed self.old ≡ false
             → Told (H.world host.old) (Holds self.old (H.world host.old)) }
         requires room { (memory self.old).waits + waits < 2 ^ 64 }
-        ensures holds { is_closed self.new ≡ false
-            → Told (H.world host.old) (Holds self.new (H.world host.new)) }
-        ensures ended { InTheOutside (λ O. Told (H.world host.old)
-            (OnOk result (Sessions the_language O false waits (memory self.old) (memory self.new)
-            (H.world host.old) (H.world host.new)))) }
-        ensures suspended { InTheOutside (λ O. Told (H.world host.old)
-            (IsErrOf result EngineFault.Suspended
-            → Sessions the_language O true waits (memory self.old) (memory self.new)
-            (H.world host.old) (H.world host.new))) }
-        ensures result { OnOk result (IsResult (memory self.new).config.outcome) }
-        ensures any_moment { InTheOutside (λ O. is_closed self.old ≡ false
-            → Told (H.world host.old) (KeptThroughout the_language O (memory self.old)
-            (H.world host.old) (H.world host.new))) }
-        ensures finished { Told (H.world host.old) ((memory self.old).config.outcome ≢ Active
-            → host.new ≡ host.old) }
-        ensures session { (memory self.new).session ≡ (memory self.old).session }
-        ensures disk_fault { IsErrOf result EngineFault.DiskFault
-            → DiskFailed H.faults host.old host.new }
-        ensures poll_fault { IsErrOf result EngineFault.PollFault
-            → Rose (H.faults host.old).poll (H.faults host.new).poll }
-        ensures closed { IsErrOf result EngineFault.Closed ↔ (is_closed self.old ≡ true) }
-        ensures closes { OnErr result (IsErrOf result EngineFault.Suspended
-            ⊎ (is_closed self.new ≡ true)) }
-        ensures idle { IsErrOf result EngineFault.Closed
-            → (self.new ≡ self.old) × (host.new ≡ host.old) }
-        ensures open { OnOk result (is_closed self.new ≡ false) }
-        ensures still_open { IsErrOf result EngineFault.Suspended → is_closed self.new ≡ false }
-        ensures only { OnlyErrors result (EngineFault.DiskFault ∷ EngineFault.PollFault ∷
-            EngineFault.Suspended ∷ EngineFault.Closed ∷ EngineFault.OutOfMemory ∷ []) }
-        ensures tells { TellsAsBefore H.world host.old host.new }
-        ensures counts { NoCountFalls H.faults host.old host.new }
+        ensures { RunsASession H.world H.faults self.old self.new host.old host.new waits result }
     {
         if self.closed {
             return Err(EngineFault::Closed);

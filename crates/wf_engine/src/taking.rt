@@ -1,6 +1,5 @@
 // What is heard.
-ghost use Rattle.std.specs.Prelude.{◌≡◌, ◌∷◌, []};
-ghost use Rattle.wf_host.specs.Calls.{OnlyErrors};
+ghost use Rattle.std.specs.Prelude.{◌≡◌};
 ghost use Rattle.wf_deeds.specs.Deeds.{call_of};
 
 use crate::engine::Engine;
@@ -11,17 +10,15 @@ use wf_replay::EngineFault;
 use wf_value::OutOfMemory;
 
 impl Engine {
-    ghost use Rattle.std.specs.Prelude.{◌≡◌, ◌⊎◌, ◌↔◌, ◌+◌, ◌<◌, ◌^◌, ℕ, None, is_some, max, true, false, IfErr, IfOk, IsErrOf, OnErr, OnOk};
+    ghost use Rattle.std.specs.Prelude.{◌≡◌, ◌+◌, ◌<◌, ◌^◌, ℕ, None, is_some, true, false, IfOk};
     ghost use Rattle.wf_connections.specs.Calls.{is_started, listens};
-    ghost use Rattle.wf_deeds.specs.Clauses.{Takes};
     ghost use Rattle.wf_deeds.specs.Deeds.{visit_of};
     ghost use Rattle.wf_deeds.specs.Memory.{IsSettled};
-    ghost use Rattle.wf_engine.specs.Engine.{held, is_closed, memory};
-    ghost use Rattle.wf_engine.specs.Hearing.{Finds, SameBut};
-    ghost use Rattle.wf_engine.specs.TheOutside.{InTheOutside};
+    ghost use Rattle.wf_engine.specs.Engine.{is_closed, memory};
+    ghost use Rattle.wf_engine.specs.Promises.{TakesWhatIsHeard};
+    ghost use Rattle.wf_engine.specs.Hearing.{Finds};
     ghost use Rattle.wf_model.specs.Config.{Active};
     ghost use Rattle.wf_model.specs.Ready.{request_of};
-    ghost use Rattle.wf_replay.specs.TheLanguage.{the_language};
 
     /// Hears what a poll has heard, or what was handed over in its place. An answer that it makes whole waits for the next turn.
     ///
@@ -33,19 +30,7 @@ impl Engine {
         requires room { (memory self.old).waits + 1 < 2 ^ 64 }
         // No visit is heard yet.
         requires of_calls { visit_of heard.what ≡ None }
-        ensures takes { InTheOutside (λ O. OnOk result (Takes the_language O (memory self.old)
-            (memory self.new) heard)) }
-        ensures reading { OnOk result ((memory self.new).reading
-            ≡ max (memory self.old).reading heard.reading) }
-        ensures waits { OnOk result ((memory self.new).waits ≡ (memory self.old).waits + 1) }
-        ensures same { OnOk result (SameBut (memory self.old) (memory self.new)) }
-        ensures session { (memory self.new).session ≡ (memory self.old).session }
-        ensures holds { held self.new ≡ held self.old }
-        ensures closed { IsErrOf result EngineFault.Closed ↔ (is_closed self.old ≡ true) }
-        ensures closes { OnErr result (is_closed self.new ≡ true) }
-        ensures idle { IsErrOf result EngineFault.Closed → self.new ≡ self.old }
-        ensures open { OnOk result (is_closed self.new ≡ false) }
-        ensures only { OnlyErrors result (EngineFault.Closed ∷ EngineFault.OutOfMemory ∷ []) }
+        ensures { TakesWhatIsHeard self.old self.new heard result }
     {
         if self.closed {
             return Err(EngineFault::Closed);

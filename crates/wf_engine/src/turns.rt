@@ -1,18 +1,11 @@
 // The events of one turn.
-ghost use Rattle.std.specs.List.{AllByRecursion, flat_map};
-ghost use Rattle.std.specs.Prelude.{◌≡◌, ◌≢◌, ◌≤◌, ◌<◌, ◌+◌, ◌-◌, ◌*◌, ◌++◌, [], List, false, length, None, Some, IfOk, OnOk};
-ghost use Rattle.wf_deeds.specs.Turns.{turn_of, TakeReading};
-ghost use Rattle.wf_engine.specs.Engine.{spent};
-ghost use Rattle.wf_engine.specs.Fits.{longest_taken};
+ghost use Rattle.std.specs.Prelude.{◌≡◌, ◌≤◌, ◌<◌, ◌+◌, ◌-◌, ◌++◌, List, false, length, Some, IfOk, OnOk};
 ghost use Rattle.wf_engine.specs.Taken.{AreTakable, IsTakable, taken_event};
-ghost use Rattle.wf_engine.specs.Turn.{AreChosen, IsBrought, IsTurn, Rests, brought};
-ghost use Rattle.wf_events.specs.Spelling.{event as event_bytes, IsOld};
+ghost use Rattle.wf_engine.specs.Turn.{AreChosen, IsBrought, IsTurn};
+ghost use Rattle.wf_events.specs.Spelling.{IsOld};
 ghost use Rattle.wf_events.specs.View.{event_view, events_view};
-ghost use Rattle.wf_machine.specs.Counts.{counts_of};
 ghost use Rattle.wf_machine.specs.Seen.{state_of};
-ghost use Rattle.wf_model.specs.Config.{Active, To};
 ghost use Rattle.wf_model.specs.ReadingLaws.{IsFromInside};
-ghost use Rattle.wf_model.specs.Run.{run_on};
 ghost use Rattle.wf_value.specs.Events.{Event as Plain};
 
 use crate::taken::Taken;
@@ -41,36 +34,10 @@ pub fn choose_turn(
     requires whole { (state_of machine.old).broken ≡ false }
     requires takable { AreTakable (state_of machine.old).config taken }
     requires last { (state_of machine.old).config.last ≤ reading }
-    ensures turn { IfOk result (λ events. events_view events
-        ≡ turn_of (state_of machine.old).program (state_of machine.old).config reading
-        (taken_event reading taken)) }
-    ensures leads { IfOk result (λ events. run_on (state_of machine.old).program
-        (To (state_of machine.old).config) (events_view events)
-        ≡ To (state_of machine.new).config) }
-    ensures short { IfOk result (λ events. length (events_view events) ≤ 4096) }
-    ensures ended { IfOk result (λ events. length (events_view events) < 4096
-        → Rests (state_of machine.new).config reading) }
-    ensures active { IfOk result (λ events. (state_of machine.old).config.outcome ≢ Active
-        → events_view events ≡ []) }
-    ensures counted { IfOk result (λ events. (state_of machine.new).config.moves
-        ≡ (state_of machine.old).config.moves + counts_of (events_view events)) }
-    ensures most { OnOk result ((state_of machine.new).config.moves ≤ 100000) }
-    ensures falls { IfOk result (λ events. length (events_view events)
-        + spent (state_of machine.new).config
-        ≤ brought (taken_event reading taken) + spent (state_of machine.old).config) }
-    ensures inside { IfOk result (λ events. taken_event reading taken ≡ None
-        → AllByRecursion IsFromInside (events_view events)) }
-    ensures spelled { IfOk result (λ events. AllByRecursion IsOld (events_view events)) }
-    ensures bytes { IfOk result (λ events. length (flat_map event_bytes (events_view events))
-        ≤ longest_taken + 13 * length (events_view events)) }
-    ensures readings { IfOk result (λ events. TakeReading reading (events_view events)) }
-    ensures last { OnOk result ((state_of machine.new).config.last ≤ reading) }
-    ensures program { OnOk result ((state_of machine.new).program
-        ≡ (state_of machine.old).program) }
-    ensures whole { OnOk result ((state_of machine.new).broken ≡ false) }
+    ensures { IfOk result (λ events. IsTurn (state_of machine.old) (state_of machine.new) reading
+        (taken_event reading taken) (events_view events)) }
 {
-    let events = choose_from_blank::<Brand>(alloc, machine, reading, taken, Blank::new(1))?;
-    Ok(events)
+    choose_from_blank::<Brand>(alloc, machine, reading, taken, Blank::new(1))
 }
 
 /// The same, counting the events on a ledger of its own.

@@ -9,5 +9,6 @@ pub mod Lent
 pub mod Log
 pub mod Main
 pub mod Outcome
+pub mod Promises
 pub mod Seen
 pub mod State

@@ -1,12 +1,9 @@
 // Events that are applied.
-ghost use Rattle.std.specs.Prelude.{◌≡◌, ◌≤◌, ◌↔◌, ◌+◌, true, false, unwrap_or, OnErr, OnOk, IsErrOf};
+ghost use Rattle.std.specs.Prelude.{◌≡◌, false};
 ghost use Rattle.wf_events.specs.View.{event_view};
 ghost use Rattle.wf_machine.specs.Applied.{Applied};
-ghost use Rattle.wf_machine.specs.Counts.{counts};
+ghost use Rattle.wf_machine.specs.Promises.{AppliesAnEvent};
 ghost use Rattle.wf_machine.specs.Seen.{state_of};
-ghost use Rattle.wf_model.specs.ChoiceLaws.{reading_of};
-ghost use Rattle.wf_model.specs.Config.{Config, To};
-ghost use Rattle.wf_model.specs.Step.{next};
 
 use crate::machine::Machine;
 use crate::steps::Steps;
@@ -49,28 +46,8 @@ impl Machine {
         event: &Event,
         steps: &mut Steps<L>,
     ) -> Result<(), ApplyFault>
-        ensures applied { OnOk result (next (state_of self.old).program (state_of self.old).config
-            (event_view event.now) ≡ To (state_of self.new).config) }
-        ensures whole { OnOk result ((state_of self.old).broken ≡ false) }
-        ensures not_enabled { IsErrOf result ApplyFault.NotEnabled → (d : Config)
-            → next (state_of self.old).program (state_of self.old).config (event_view event.now)
-            ≡ To d → ⊥ }
-        ensures stays { IsErrOf result ApplyFault.NotEnabled
-            → state_of self.new ≡ state_of self.old }
-        ensures program { (state_of self.new).program ≡ (state_of self.old).program }
-        ensures counted { OnOk result ((state_of self.new).config.moves
-            ≡ (state_of self.old).config.moves + counts (event_view event.now)) }
-        ensures steps { OnOk result (steps.new ≡ steps.old + 1) }
-        ensures no_step { OnErr result (steps.new ≡ steps.old) }
-        // The event's reading, if it has one, becomes the last one.
-        ensures last { OnOk result ((state_of self.new).config.last
-            ≡ unwrap_or (reading_of (event_view event.now)) (state_of self.old).config.last) }
-        ensures most { (state_of self.new).config.moves ≤ 100000 }
-        // After want of memory, and only then, the machine is broken.
-        ensures broken { ((state_of self.new).broken ≡ true)
-            ↔ IsErrOf result ApplyFault.OutOfMemory }
-        ensures stays_broken { (state_of self.old).broken ≡ true
-            → IsErrOf result ApplyFault.OutOfMemory }
+        ensures { AppliesAnEvent (state_of self.old) (state_of self.new) (event_view event.now)
+            steps.old steps.new result }
     {
         if self.broken {
             return Err(ApplyFault::OutOfMemory);

@@ -1,2 +1,3 @@
 pub mod Texts
 pub mod Journals
+pub mod Promises

@@ -1,15 +1,14 @@
 // Reading a journal for a report.
-ghost use Rattle.std.specs.Prelude.{◌≡◌, ◌≢◌, ◌≤◌, ◌+◌, [], false, ℕ, Err, None, OnOk, IfOk, IfErr, IsErrOf, length, string_bytes, take, ◌∷◌};
+ghost use Rattle.std.specs.Prelude.{◌≡◌, ◌≢◌, ◌+◌, [], false, ℕ, Err, None, OnOk, IfOk, IfErr, IsErrOf, string_bytes, ◌∷◌};
 ghost use Rattle.wf_history.specs.Stands.{ahead, is_closed, is_new, last, place, Stands};
 ghost use Rattle.wf_host.specs.Calls.{AtAnyMoment, DiskFailed, DoesNoDeed, NoCountFalls, OnlyErrorsOr, ReadsAsBefore, TellsAsBefore};
-ghost use Rattle.wf_host.specs.World.{Only, Told};
+ghost use Rattle.wf_host.specs.World.{Told};
 ghost use Rattle.wf_journal.specs.Journal.{Stays};
-ghost use Rattle.wf_journal.specs.Records.{magic, records};
 ghost use Rattle.wf_deeds.specs.At.{applied_by};
 ghost use Rattle.wf_deeds.specs.History.{history as history_of};
-ghost use Rattle.wf_machine.specs.Seen.{state_of};
 ghost use Rattle.wf_replay.specs.TheLanguage.{the_language};
-ghost use Rattle.wf_report.specs.Journals.{LeadsTo, MayHaveRecords, Shows};
+ghost use Rattle.wf_report.specs.Journals.{Shows};
+ghost use Rattle.wf_report.specs.Promises.{ReadsAnEarlierState, ReadsTheLastState};
 
 use crate::showing::show;
 use std::alloc::Global;
@@ -30,37 +29,7 @@ pub fn last_state<H: Host, L: Ledger>(
     host: &mut H,
     steps: &mut Steps<L>,
 ) -> Result<Machine, EngineFault>
-    ensures leads { Told (H.world host.old)
-        (IfOk result (λ m. LeadsTo the_language (records (H.world host.old).seen)
-        (state_of m).config)) }
-    ensures steps { Told (H.world host.old)
-        (OnOk result (steps.new ≡ steps.old + applied_by (records (H.world host.old).seen))) }
-    ensures whole { IfOk result (λ m. (state_of m).broken ≡ false) }
-    ensures begins { Told (H.world host.old)
-        (OnOk result (take 4 (H.world host.old).seen ≡ magic)) }
-    ensures seen { ReadsAsBefore H.world host.old host.new }
-    ensures any_moment { AtAnyMoment H.world host.old host.new
-        (λ c d. (H.world host.old).may_leave c × (d ≡ (H.world host.old).deeds)) }
-    ensures disk_fault { IsErrOf result EngineFault.DiskFault
-        → DiskFailed H.faults host.old host.new }
-    ensures not_a_journal { Told (H.world host.old) (IsErrOf result EngineFault.NotAJournal
-        → (5 ≤ length (H.world host.old).seen) × (take 4 (H.world host.old).seen ≢ magic)) }
-    ensures not_started { Told (H.world host.old) (IsErrOf result EngineFault.NotStarted
-        → (records (H.world host.old).seen ≡ []) × MayHaveRecords (H.world host.old).seen) }
-    // what a history tells, or that there is none, was read behind the opening's sync
-    ensures settled { Told (H.world host.old)
-        (OnOk result (Only (H.world host.new).seen (H.world host.new).may_leave)) }
-    ensures settled_empty { Told (H.world host.old) (IsErrOf result EngineFault.NotStarted
-        → Only (H.world host.new).seen (H.world host.new).may_leave) }
-    ensures not_a_history { Told (H.world host.old)
-        (IfErr result (λ e. (n : ℕ) → e ≡ EngineFault.NotAHistory n
-        → (history_of the_language (records (H.world host.old).seen) ≡ Err n)
-        × (records (H.world host.old).seen ≢ []) × (take 4 (H.world host.old).seen ≡ magic))) }
-    ensures only { OnlyErrorsOr EngineFault.NotAHistory result (EngineFault.DiskFault ∷
-        EngineFault.NotAJournal ∷ EngineFault.NotStarted ∷ EngineFault.OutOfMemory ∷ []) }
-    ensures deeds { DoesNoDeed H.world host.old host.new }
-    ensures tells { TellsAsBefore H.world host.old host.new }
-    ensures counts { NoCountFalls H.faults host.old host.new }
+    ensures { ReadsTheLastState H.world H.faults steps.old steps.new host.old host.new result }
 {
     let mut history = History::open(host)?;
     last_machine(alloc, &mut history, host, steps)
@@ -74,36 +43,8 @@ pub fn state_at<H: Host, L: Ledger>(
     turns: u64,
     steps: &mut Steps<L>,
 ) -> Result<String, EngineFault>
-    ensures shows { Told (H.world host.old)
-        (IfOk result (λ text. Shows the_language (records (H.world host.old).seen) turns
-        (string_bytes text))) }
-    ensures steps { Told (H.world host.old)
-        (OnOk result (steps.new ≡ steps.old + applied_by (records (H.world host.old).seen))) }
-    ensures begins { Told (H.world host.old)
-        (OnOk result (take 4 (H.world host.old).seen ≡ magic)) }
-    ensures seen { ReadsAsBefore H.world host.old host.new }
-    ensures any_moment { AtAnyMoment H.world host.old host.new
-        (λ c d. (H.world host.old).may_leave c × (d ≡ (H.world host.old).deeds)) }
-    ensures disk_fault { IsErrOf result EngineFault.DiskFault
-        → DiskFailed H.faults host.old host.new }
-    ensures not_a_journal { Told (H.world host.old) (IsErrOf result EngineFault.NotAJournal
-        → (5 ≤ length (H.world host.old).seen) × (take 4 (H.world host.old).seen ≢ magic)) }
-    ensures not_started { Told (H.world host.old) (IsErrOf result EngineFault.NotStarted
-        → (records (H.world host.old).seen ≡ []) × MayHaveRecords (H.world host.old).seen) }
-    // what a history tells, or that there is none, was read behind the opening's sync
-    ensures settled { Told (H.world host.old)
-        (OnOk result (Only (H.world host.new).seen (H.world host.new).may_leave)) }
-    ensures settled_empty { Told (H.world host.old) (IsErrOf result EngineFault.NotStarted
-        → Only (H.world host.new).seen (H.world host.new).may_leave) }
-    ensures not_a_history { Told (H.world host.old)
-        (IfErr result (λ e. (n : ℕ) → e ≡ EngineFault.NotAHistory n
-        → (history_of the_language (records (H.world host.old).seen) ≡ Err n)
-        × (records (H.world host.old).seen ≢ []) × (take 4 (H.world host.old).seen ≡ magic))) }
-    ensures only { OnlyErrorsOr EngineFault.NotAHistory result (EngineFault.DiskFault ∷
-        EngineFault.NotAJournal ∷ EngineFault.NotStarted ∷ EngineFault.OutOfMemory ∷ []) }
-    ensures deeds { DoesNoDeed H.world host.old host.new }
-    ensures tells { TellsAsBefore H.world host.old host.new }
-    ensures counts { NoCountFalls H.faults host.old host.new }
+    ensures { ReadsAnEarlierState H.world H.faults steps.old steps.new host.old host.new turns
+        result }
 {
     let mut history = History::open(host)?;
     front_state(alloc, &mut history, host, turns, steps)

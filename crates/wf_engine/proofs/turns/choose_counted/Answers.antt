@@ -13,7 +13,7 @@ returns-in-None-clause-turn g c =
     let new = state_of c.choose_rest.new.machine in
     let r = c.args.reading in
     if_ok (λ all. Behind old new r (events_view c.new.result) (events_view all)) (λ all. IsTurn old new r (taken_event r c.args.taken) (events_view all)) c.choose_rest.result
-    (λ all chosen. turn_alone old new r (taken_event r c.args.taken) (events_view c.new.result) (events_view all) (ap (taken_event r) c.in-None.is) c.new.ensures chosen) c.choose_rest.ensures.chosen
+    (λ all chosen. turn_alone old new r (taken_event r c.args.taken) (events_view c.new.result) (events_view all) c.requires.last (ap (taken_event r) c.in-None.is) c.new.ensures chosen) c.choose_rest.ensures.chosen
 
 pub returns-in-None-clause-steps : goal.returns-in-None-clause-steps
 returns-in-None-clause-steps g c =

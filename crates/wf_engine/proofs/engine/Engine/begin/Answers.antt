@@ -1,4 +1,4 @@
-use Rattle.std.proofs.Common.{◌≡◌, ◌∙◌, ap, sym, subst, [], ◌∷◌, Some}
+use Rattle.std.proofs.Common.{rules, ◌≡◌, ◌∙◌, ap, refl, sym, subst, [], ◌∷◌, Some}
 use Rattle.wf_check.specs.Seen.{program_of}
 use Rattle.wf_connections.specs.Calls.{is_dropped, is_started, told}
 use Rattle.wf_engine.proofs.Beginning.{begins_quietly, not_refused, quiet_at_once, then_begins}
@@ -20,64 +20,127 @@ use Rattle.wf_replay.proofs.Language.{of_program}
 use Rattle.wf_replay.proofs.StillOpen.{tells_still}
 use Rattle.wf_replay.specs.TheLanguage.{the_language}
 
-pub returns-clause-stands : goal.returns-clause-stands
-returns-clause-stands g c = λ O here handed.
-    let mid = g.H.Host.world c.empty_history.new.host in
-    let s = start_view c.args.start.now in
-    let m = c.in_ok-machine.machine in
-    let a = c.new-connections.result in
-    let none = c.new-connections.ensures in
-    stands_as_fresh (state_of m).program (state_of m).config 1 c.last_reading-reading.result (is_started a) (is_dropped a) (told a) none.started none.dropped the_language O Run handed (records (g.H.Host.world c.begin.new.host).seen) (Now c.args.start.now.reading ∷ [])
-    (subst (λ J. StandsFor the_language O Run handed (fresh (state_of m).program (state_of m).config 1 c.last_reading-reading.result) J (Now c.args.start.now.reading ∷ []))
-    (sym (c.in_ok-begin.ensures.added (tells_still (g.H.Host.world c.args.host.now) mid c.empty_history.ensures.tells here)))
-    (stands_begun the_language O handed c.laws_of_rules.ensures.only_readings c.laws_of_steps.ensures.fresh c.laws_of_histories.ensures.start c.laws_of_runs.ensures.runs_are_bounded (record_bytes (Started s)) s (state_of m).program (state_of m).config
-    c.last_reading-reading.result (c.one_spelling.ensures.again (Started s) c.requires.spelled tt) (of_program c.each_source_is_one.ensures s.source (program_of c.args.program) c.requires.accepted ∙ ap (λ p. Some p) (sym c.in_ok-machine.ensures.program))
-    (subst (λ p. initial p s ≡ To (state_of m).config) (sym c.in_ok-machine.ensures.program) c.in_ok-machine.ensures.initial) c.last_reading-reading.ensures))
-
-pub returns-clause-any_moment : goal.returns-clause-any_moment
-returns-clause-any_moment g c = λ told.
-    let w = g.H.Host.world c.args.host.now in
-    let mid = g.H.Host.world c.empty_history.new.host in
-    then_begins w mid (g.H.Host.world c.begin.new.host) (record_bytes (Started (start_view c.args.start.now))) (c.empty_history.ensures.any_moment told)
-    (c.begin.ensures.any_moment c.in_ok-history.ensures.open (tells_still w mid c.empty_history.ensures.tells told)) (c.in_ok-history.ensures.none told) (c.empty_history.ensures.deeds told)
-
 -- no memory for the machine: nothing was done
-pub returns-in_err-machine-clause-any_moment : goal.returns-in_err-machine-clause-any_moment
-returns-in_err-machine-clause-any_moment g c = λ told.
+pub returns-in_err-machine : goal.returns-in_err-machine
+returns-in_err-machine g c =
     let w = g.H.Host.world c.args.host.now in
-    begins_quietly w w (record_bytes (Started (start_view c.args.start.now))) (quiet_at_once w (λ i d left. g.met.H.Host.only_now c.args.host.now i d told left))
-
-pub returns-in_err-machine-clause-refused_stays : goal.returns-in_err-machine-clause-refused_stays
-returns-in_err-machine-clause-refused_stays g c = λ told refused. quiet_at_once (g.H.Host.world c.args.host.now) (λ i d left. g.met.H.Host.only_now c.args.host.now i d told left)
+    record {
+      holds = search rules;
+      stands = search rules;
+      «open» = search rules;
+      session = search rules;
+      waits = search rules;
+      started = search rules;
+      any_moment = λ told. begins_quietly w w (record_bytes (Started (start_view c.args.start.now))) (quiet_at_once w (λ i d left. g.met.H.Host.only_now c.args.host.now i d told left));
+      refused_stays = λ told refused. quiet_at_once w (λ i d left. g.met.H.Host.only_now c.args.host.now i d told left);
+      refused_reads = λ told refused. refl;
+      disk_fault = search rules;
+      not_a_journal = search rules;
+      a_journal = search rules;
+      already_started = search rules;
+      settled = search rules;
+      fresh = search rules;
+      only = search rules;
+      deeds = λ told. refl;
+      tells = refl;
+      counts = search rules;
+    }
 
 -- it was only opened
-pub returns-in_err-history-clause-any_moment : goal.returns-in_err-history-clause-any_moment
-returns-in_err-history-clause-any_moment g c = λ told.
-    begins_quietly (g.H.Host.world c.args.host.now) (g.H.Host.world c.empty_history.new.host) (record_bytes (Started (start_view c.args.start.now))) (c.empty_history.ensures.any_moment told)
-
-pub returns-in_err-history-clause-refused_stays : goal.returns-in_err-history-clause-refused_stays
-returns-in_err-history-clause-refused_stays g c = λ told refused. c.empty_history.ensures.any_moment told
-
-pub returns-in_err-history-clause-refused_reads : goal.returns-in_err-history-clause-refused_reads
-returns-in_err-history-clause-refused_reads g c = λ told refused. c.empty_history.ensures.seen told
+pub returns-in_err-history : goal.returns-in_err-history
+returns-in_err-history g c =
+    let w = g.H.Host.world c.args.host.now in
+    let file = c.empty_history.ensures in
+    record {
+      holds = search rules;
+      stands = search rules;
+      «open» = search rules;
+      session = search rules;
+      waits = search rules;
+      started = search rules;
+      any_moment = λ told. begins_quietly w (g.H.Host.world c.empty_history.new.host) (record_bytes (Started (start_view c.args.start.now))) (file.any_moment told);
+      refused_stays = λ told refused. file.any_moment told;
+      refused_reads = λ told refused. file.seen told;
+      disk_fault = search rules;
+      not_a_journal = search rules;
+      a_journal = search rules;
+      already_started = search rules;
+      settled = search rules;
+      fresh = search rules;
+      only = search rules;
+      deeds = file.deeds;
+      tells = file.tells;
+      counts = file.counts;
+    }
 
 -- the start was being written
-pub returns-in_err-begin-clause-any_moment : goal.returns-in_err-begin-clause-any_moment
-returns-in_err-begin-clause-any_moment g c = λ told.
+pub returns-in_err-begin : goal.returns-in_err-begin
+returns-in_err-begin g c =
     let w = g.H.Host.world c.args.host.now in
     let mid = g.H.Host.world c.empty_history.new.host in
-    then_begins w mid (g.H.Host.world c.begin.new.host) (record_bytes (Started (start_view c.args.start.now))) (c.empty_history.ensures.any_moment told)
-    (c.begin.ensures.any_moment c.in_ok-history.ensures.open (tells_still w mid c.empty_history.ensures.tells told)) (c.in_ok-history.ensures.none told) (c.empty_history.ensures.deeds told)
-
-pub returns-in_err-begin-clause-refused_stays : goal.returns-in_err-begin-clause-refused_stays
-returns-in_err-begin-clause-refused_stays g c = λ told refused. absurd (not_refused (g.H.Host.world c.args.host.now).seen (c.in_ok-history.ensures.a_journal told) (c.in_ok-history.ensures.none told) refused)
-
-pub returns-in_err-begin-clause-refused_reads : goal.returns-in_err-begin-clause-refused_reads
-returns-in_err-begin-clause-refused_reads g c = λ told refused. absurd (not_refused (g.H.Host.world c.args.host.now).seen (c.in_ok-history.ensures.a_journal told) (c.in_ok-history.ensures.none told) refused)
+    let file = c.empty_history.ensures in
+    let none = c.in_ok-history.ensures in
+    record {
+      holds = search rules;
+      stands = search rules;
+      «open» = search rules;
+      session = search rules;
+      waits = search rules;
+      started = search rules;
+      any_moment = λ told.
+          then_begins w mid (g.H.Host.world c.begin.new.host) (record_bytes (Started (start_view c.args.start.now))) (file.any_moment told) (c.begin.ensures.any_moment none.«open» (tells_still w mid file.tells told)) (none.none told) (file.deeds told);
+      refused_stays = λ told refused. absurd (not_refused w.seen (none.a_journal told) (none.none told) refused);
+      refused_reads = λ told refused. absurd (not_refused w.seen (none.a_journal told) (none.none told) refused);
+      disk_fault = search rules;
+      not_a_journal = search rules;
+      a_journal = search rules;
+      already_started = search rules;
+      settled = search rules;
+      fresh = search rules;
+      only = search rules;
+      deeds = λ told. c.begin.ensures.deeds (tells_still w mid file.tells told) ∙ file.deeds told;
+      tells = c.begin.ensures.tells ∙ file.tells;
+      counts = search rules;
+    }
 
 -- the start stands
-pub returns-clause-refused_stays : goal.returns-clause-refused_stays
-returns-clause-refused_stays g c = λ told refused. absurd (not_refused (g.H.Host.world c.args.host.now).seen (c.in_ok-history.ensures.a_journal told) (c.in_ok-history.ensures.none told) refused)
-
-pub returns-clause-refused_reads : goal.returns-clause-refused_reads
-returns-clause-refused_reads g c = λ told refused. absurd (not_refused (g.H.Host.world c.args.host.now).seen (c.in_ok-history.ensures.a_journal told) (c.in_ok-history.ensures.none told) refused)
+pub returns : goal.returns
+returns g c =
+    let w = g.H.Host.world c.args.host.now in
+    let mid = g.H.Host.world c.empty_history.new.host in
+    let file = c.empty_history.ensures in
+    let none = c.in_ok-history.ensures in
+    record {
+      holds = λ told. (
+        c.begin.ensures.stands c.in_ok-begin.ensures.«open» (tells_still w mid file.tells told),
+        λ none. let no : record_bytes (Started (start_view c.args.start.now)) ∷ [] ≡ [] = sym (c.in_ok-begin.ensures.added (tells_still w mid file.tells told)) ∙ none in cc no,
+      );
+      stands = λ O here handed.
+          let s = start_view c.args.start.now in
+          let m = c.in_ok-machine.machine in
+          let a = c.new-connections.result in
+          let fine = c.new-connections.ensures in
+          stands_as_fresh (state_of m).program (state_of m).config 1 c.last_reading-reading.result (is_started a) (is_dropped a) (told a) fine.started fine.dropped the_language O Run handed (records (g.H.Host.world c.begin.new.host).seen) (Now c.args.start.now.reading ∷ [])
+          (subst (λ J. StandsFor the_language O Run handed (fresh (state_of m).program (state_of m).config 1 c.last_reading-reading.result) J (Now c.args.start.now.reading ∷ [])) (sym (c.in_ok-begin.ensures.added (tells_still w mid file.tells here)))
+          (stands_begun the_language O handed c.laws_of_rules.ensures.only_readings c.laws_of_steps.ensures.fresh c.laws_of_histories.ensures.start c.laws_of_runs.ensures.runs_are_bounded (record_bytes (Started s)) s (state_of m).program (state_of m).config
+          c.last_reading-reading.result (c.one_spelling.ensures.again (Started s) c.requires.spelled tt) (of_program c.each_source_is_one.ensures s.source (program_of c.args.program) c.requires.accepted ∙ ap (λ p. Some p) (sym c.in_ok-machine.ensures.program))
+          (subst (λ p. initial p s ≡ To (state_of m).config) (sym c.in_ok-machine.ensures.program) c.in_ok-machine.ensures.initial) c.last_reading-reading.ensures));
+      «open» = refl;
+      session = refl;
+      waits = refl;
+      started = λ told. c.in_ok-begin.ensures.added (tells_still w mid file.tells told);
+      any_moment = λ told.
+          then_begins w mid (g.H.Host.world c.begin.new.host) (record_bytes (Started (start_view c.args.start.now))) (file.any_moment told) (c.begin.ensures.any_moment none.«open» (tells_still w mid file.tells told)) (none.none told) (file.deeds told);
+      refused_stays = λ told refused. absurd (not_refused w.seen (none.a_journal told) (none.none told) refused);
+      refused_reads = λ told refused. absurd (not_refused w.seen (none.a_journal told) (none.none told) refused);
+      disk_fault = λ is. absurd (cc is);
+      not_a_journal = λ told is. absurd (cc is);
+      a_journal = none.a_journal;
+      already_started = λ told is. absurd (cc is);
+      settled = λ told is. absurd (cc is);
+      fresh = none.none;
+      only = tt;
+      deeds = λ told. c.begin.ensures.deeds (tells_still w mid file.tells told) ∙ file.deeds told;
+      tells = c.begin.ensures.tells ∙ file.tells;
+      counts = search rules;
+    }

@@ -1,5 +1,5 @@
-use Rattle.std.proofs.Common.{◌∙◌, ◌+◌, ap, inl, sym, subst, ℕ, length, ◌≤◌}
-use Rattle.std.specs.Prelude.{unwrap_or}
+use Rattle.std.proofs.Common.{rules, ◌≡◌, ◌∙◌, ◌+◌, ap, inl, refl, sym, subst, ℕ, suc, length, ◌≤◌, Ok}
+use Rattle.std.specs.Prelude.{IsTrue, unwrap_or}
 use Rattle.wf_connections.specs.Calls as calls
 use Rattle.wf_connections.specs.Calls.{is_dropped, is_started}
 use Rattle.wf_engine.proofs.Beginning.{opens_quietly, then_reads}
@@ -10,155 +10,169 @@ use Rattle.wf_history.specs.Stands.{ahead}
 use Rattle.wf_journal.specs.Records.{records}
 use Rattle.wf_journal.specs.Standing.{new_none}
 use Rattle.wf_deeds.specs.At.{applied_by}
+use Rattle.wf_deeds.specs.History.{history}
 use Rattle.wf_machine.specs.Seen.{state_of}
 use Rattle.wf_replay.proofs.OnlyReads.{quiet_stays, settled_behind}
 use Rattle.wf_replay.proofs.StillOpen.{tells_still}
 use Rattle.wf_replay.specs.Standing.{standing}
 use Rattle.wf_replay.specs.TheLanguage.{the_language}
 
-pub returns-then-at_end-clause-not_started : goal.returns-then-at_end-clause-not_started
-returns-then-at_end-clause-not_started g c = λ told _.
+-- there is no record
+pub returns-then-at_end : goal.returns-then-at_end
+returns-then-at_end g c =
     let w = g.H.Host.world c.args.host.now in
-    let short : length w.seen ≤ 4 = subst (λ l. length l ≤ 4) (c.open.ensures.seen told) ((c.in_ok-history.ensures.fresh told).0 (sym c.in_ok-history.ensures.fresh_end ∙ sym c.if-at_end.ensures)) in
-    (new_none w.seen short, inl short)
+    let file = c.open.ensures in
+    record {
+      holds = λ told. tt;
+      opened = λ O told. tt;
+      steps = λ told. tt;
+      «open» = tt;
+      session = λ told. tt;
+      waits = tt;
+      begins = λ told. tt;
+      seen = file.seen;
+      any_moment = λ told. opens_quietly w (g.H.Host.world c.open.new.host) (file.any_moment told);
+      disk_fault = λ is. absurd (cc is);
+      not_a_journal = λ told is. absurd (cc is);
+      not_started = λ told is.
+          let short : length w.seen ≤ 4 = subst (λ l. length l ≤ 4) (file.seen told) ((c.in_ok-history.ensures.fresh told).0 (sym c.in_ok-history.ensures.fresh_end ∙ sym c.if-at_end.ensures)) in
+          (new_none w.seen short, inl short);
+      settled = λ told is. (c.in_ok-history.ensures.stands told).journal.settled;
+      not_a_history = search rules;
+      only = search rules;
+      deeds = λ told. inl (file.deeds told);
+      finished = λ told s is ended. file.deeds told;
+      tells = file.tells;
+      counts = file.counts;
+    }
 
-pub returns-then-at_end-clause-settled : goal.returns-then-at_end-clause-settled
-returns-then-at_end-clause-settled g c = λ told _. (c.in_ok-history.ensures.stands told).journal.settled
-
-pub returns-in_err-machine-clause-settled : goal.returns-in_err-machine-clause-settled
-returns-in_err-machine-clause-settled g c = λ told _.
+-- the records are no history, or couldn't be read
+pub returns-in_err-machine : goal.returns-in_err-machine
+returns-in_err-machine g c =
     let w = g.H.Host.world c.args.host.now in
     let mid = g.H.Host.world c.open.new.host in
     let late = g.H.Host.world c.last_machine.new.host in
-    let told_mid = tells_still w mid c.open.ensures.tells told in
-    settled_behind mid late (c.last_machine.ensures.any_moment told_mid) (λ t i le now. g.met.H.Host.counts_now c.last_machine.new.host t i (tells_still mid late c.last_machine.ensures.tells told_mid) le now) (c.last_machine.ensures.seen told_mid)
+    let file = c.open.ensures in
+    let read = c.last_machine.ensures in
+    let on : IsTrue w.tells → IsTrue mid.tells = λ told. tells_still w mid file.tells told in
+    record {
+      holds = search rules;
+      opened = search rules;
+      steps = search rules;
+      «open» = search rules;
+      session = search rules;
+      waits = search rules;
+      begins = search rules;
+      seen = λ told. read.seen (on told) ∙ file.seen told;
+      any_moment = λ told. opens_quietly w late (quiet_stays w mid late (file.any_moment told) (read.any_moment (on told)) (file.seen told) (file.deeds told) (g.met.H.Host.reads_back c.args.host.now told));
+      disk_fault = search rules;
+      not_a_journal = search rules;
+      not_started = search rules;
+      settled = λ told is. settled_behind mid late (read.any_moment (on told)) (λ t i le now. g.met.H.Host.counts_now c.last_machine.new.host t i (tells_still mid late read.tells (on told)) le now) (read.seen (on told));
+      not_a_history = λ told.
+          no_history_told the_language w.seen (ahead c.in_ok-history.history mid.seen) c.from_residual-in_err-machine.result c.in_err-machine.field-0.0 c.from_residual-in_err-machine.ensures (c.in_ok-history.ensures.first told ∙ ap records (file.seen told))
+          (c.in_ok-history.ensures.a_journal told) (c.in_err-machine.ensures.not_a_history (on told));
+      only = search rules;
+      deeds = λ told. inl (read.deeds (on told) ∙ file.deeds told);
+      finished = λ told s is ended. read.deeds (on told) ∙ file.deeds told;
+      tells = read.tells ∙ file.tells;
+      counts = search rules;
+    }
 
-pub returns-in_err-machine-clause-any_moment : goal.returns-in_err-machine-clause-any_moment
-returns-in_err-machine-clause-any_moment g c = λ told.
-    let w = g.H.Host.world c.args.host.now in
-    let mid = g.H.Host.world c.open.new.host in
-    let late = g.H.Host.world c.last_machine.new.host in
-    let told_mid = tells_still w mid c.open.ensures.tells told in
-    let quiet = quiet_stays w mid late (c.open.ensures.any_moment told) (c.last_machine.ensures.any_moment told_mid) (c.open.ensures.seen told) (c.open.ensures.deeds told) (g.met.H.Host.reads_back c.args.host.now told) in
-    opens_quietly w late quiet
-
-pub returns-in_err-machine-clause-not_a_history : goal.returns-in_err-machine-clause-not_a_history
-returns-in_err-machine-clause-not_a_history g c = λ told.
-    let w = g.H.Host.world c.args.host.now in
-    let mid = g.H.Host.world c.open.new.host in
-    no_history_told the_language w.seen (ahead c.in_ok-history.history mid.seen) c.from_residual-in_err-machine.result c.in_err-machine.field-0.0 c.from_residual-in_err-machine.ensures
-    (c.in_ok-history.ensures.first told ∙ ap records (c.open.ensures.seen told)) (c.in_ok-history.ensures.a_journal told) (c.in_err-machine.ensures.not_a_history (tells_still w mid c.open.ensures.tells told))
-
-pub returns-in_err-reading-clause-any_moment : goal.returns-in_err-reading-clause-any_moment
-returns-in_err-reading-clause-any_moment g c = λ told.
+-- the clock couldn't be read
+pub returns-in_err-reading : goal.returns-in_err-reading
+returns-in_err-reading g c =
     let w = g.H.Host.world c.args.host.now in
     let mid = g.H.Host.world c.open.new.host in
     let late = g.H.Host.world c.last_machine.new.host in
     let new = g.H.Host.world c.session_reading.new.host in
-    let told_mid = tells_still w mid c.open.ensures.tells told in
-    let told_late = tells_still mid late c.last_machine.ensures.tells told_mid in
-    let seen = c.last_machine.ensures.seen told_mid ∙ c.open.ensures.seen told in
-    let deeds = c.last_machine.ensures.deeds told_mid ∙ c.open.ensures.deeds told in
-    let quiet = quiet_stays w mid late (c.open.ensures.any_moment told) (c.last_machine.ensures.any_moment told_mid) (c.open.ensures.seen told) (c.open.ensures.deeds told) (g.met.H.Host.reads_back c.args.host.now told) in
-    then_reads w late new quiet (c.session_reading.ensures.any_moment told_late) seen deeds (c.in_ok-machine.ensures.stands told_mid).journal.settled (g.met.H.Host.reads_back c.args.host.now told)
+    let file = c.open.ensures in
+    let read = c.last_machine.ensures in
+    let clock = c.session_reading.ensures in
+    let on : IsTrue w.tells → IsTrue mid.tells = λ told. tells_still w mid file.tells told in
+    let later : IsTrue w.tells → IsTrue late.tells = λ told. tells_still mid late read.tells (on told) in
+    let seen : IsTrue w.tells → late.seen ≡ w.seen = λ told. read.seen (on told) ∙ file.seen told in
+    let deeds : IsTrue w.tells → late.deeds ≡ w.deeds = λ told. read.deeds (on told) ∙ file.deeds told in
+    record {
+      holds = search rules;
+      opened = search rules;
+      steps = search rules;
+      «open» = search rules;
+      session = search rules;
+      waits = search rules;
+      begins = search rules;
+      seen = λ told. clock.seen (later told) ∙ seen told;
+      any_moment = λ told.
+          let quiet = quiet_stays w mid late (file.any_moment told) (read.any_moment (on told)) (file.seen told) (file.deeds told) (g.met.H.Host.reads_back c.args.host.now told) in
+          then_reads w late new quiet (clock.any_moment (later told)) (seen told) (deeds told) (c.in_ok-machine.ensures.stands (on told)).journal.settled (g.met.H.Host.reads_back c.args.host.now told);
+      disk_fault = search rules;
+      not_a_journal = search rules;
+      not_started = search rules;
+      settled = search rules;
+      not_a_history = search rules;
+      only = search rules;
+      deeds = λ told. deeds_on w late new (deeds told) (clock.deeds (later told));
+      finished = λ told s is ended.
+          let h = c.last_machine.new.history in
+          let m = c.in_ok-machine.machine in
+          let led = led_on the_language w mid (ahead c.in_ok-history.history mid.seen) (standing h m) (file.seen told) (c.in_ok-history.ensures.first told) (c.in_ok-machine.ensures.leads (on told)) in
+          ap (λ x. (g.H.Host.world x).deeds) (clock.finished (has_ended the_language (records w.seen) h m s led is ended)) ∙ deeds told;
+      tells = clock.tells ∙ read.tells ∙ file.tells;
+      counts = search rules;
+    }
 
-pub returns-in_err-reading-clause-deeds : goal.returns-in_err-reading-clause-deeds
-returns-in_err-reading-clause-deeds g c = λ told.
+-- it goes on from there
+pub returns : goal.returns
+returns g c =
     let w = g.H.Host.world c.args.host.now in
     let mid = g.H.Host.world c.open.new.host in
     let late = g.H.Host.world c.last_machine.new.host in
     let new = g.H.Host.world c.session_reading.new.host in
-    let told_mid = tells_still w mid c.open.ensures.tells told in
-    let told_late = tells_still mid late c.last_machine.ensures.tells told_mid in
-    let deeds = c.last_machine.ensures.deeds told_mid ∙ c.open.ensures.deeds told in
-    deeds_on w late new deeds (c.session_reading.ensures.deeds told_late)
-
-pub returns-in_err-reading-clause-finished : goal.returns-in_err-reading-clause-finished
-returns-in_err-reading-clause-finished g c = λ told s is ended.
-    let w = g.H.Host.world c.args.host.now in
-    let mid = g.H.Host.world c.open.new.host in
-    let told_mid = tells_still w mid c.open.ensures.tells told in
-    let deeds = c.last_machine.ensures.deeds told_mid ∙ c.open.ensures.deeds told in
+    let file = c.open.ensures in
+    let read = c.last_machine.ensures in
+    let clock = c.session_reading.ensures in
     let h = c.last_machine.new.history in
     let m = c.in_ok-machine.machine in
-    let led = led_on the_language w mid (ahead c.in_ok-history.history mid.seen) (standing h m) (c.open.ensures.seen told) (c.in_ok-history.ensures.first told) (c.in_ok-machine.ensures.leads told_mid) in
-    ap (λ x. (g.H.Host.world x).deeds) (c.session_reading.ensures.finished (has_ended the_language (records w.seen) h m s led is ended)) ∙ deeds
-
-pub returns-clause-holds : goal.returns-clause-holds
-returns-clause-holds g c = λ told.
-    let w = g.H.Host.world c.args.host.now in
-    let mid = g.H.Host.world c.open.new.host in
-    let late = g.H.Host.world c.last_machine.new.host in
-    let new = g.H.Host.world c.session_reading.new.host in
-    let told_mid = tells_still w mid c.open.ensures.tells told in
-    let told_late = tells_still mid late c.last_machine.ensures.tells told_mid in
-    let seen = c.last_machine.ensures.seen told_mid ∙ c.open.ensures.seen told in
-    let stood = c.in_ok-machine.ensures.stands told_mid in (
-      still_stands c.last_machine.new.history late new stood (c.session_reading.ensures.seen told_late) (c.session_reading.ensures.settled told_late stood.journal.settled),
-      λ none. c.in_ok-machine.ensures.some told_mid (c.in_ok-history.ensures.first told ∙ ap records (c.open.ensures.seen told) ∙ ap records (sym (c.session_reading.ensures.seen told_late ∙ seen)) ∙ none),
-    )
-
-pub returns-clause-opened : goal.returns-clause-opened
-returns-clause-opened g c = λ O told.
-    let w = g.H.Host.world c.args.host.now in
-    let mid = g.H.Host.world c.open.new.host in
-    let late = g.H.Host.world c.last_machine.new.host in
-    let new = g.H.Host.world c.session_reading.new.host in
-    let told_mid = tells_still w mid c.open.ensures.tells told in
-    let told_late = tells_still mid late c.last_machine.ensures.tells told_mid in
-    let seen = c.last_machine.ensures.seen told_mid ∙ c.open.ensures.seen told in
-    let deeds = c.last_machine.ensures.deeds told_mid ∙ c.open.ensures.deeds told in
-    let h = c.last_machine.new.history in
-    let m = c.in_ok-machine.machine in
-    let led = led_on the_language w mid (ahead c.in_ok-history.history mid.seen) (standing h m) (c.open.ensures.seen told) (c.in_ok-history.ensures.first told) (c.in_ok-machine.ensures.leads told_mid) in
-    let next = next_number the_language c.laws_of_moments.ensures.number_is_count c.laws_of_moments.ensures.session_is_numbered w.seen h m c.saturating_add.result c.unwrap_or-last.result.0 led (g.met.H.Host.fits c.args.host.now told)
-    (ap (λ (p : ℕ × ℕ). p.0) (c.unwrap_or-last.ensures ∙ ap (λ o. unwrap_or o (0, 0)) c.last.ensures)) c.saturating_add.ensures in
+    let found = c.in_ok-machine.ensures in
     let laws = c.laws_of_moments.ensures in
-    let a = c.new-connections.result in
-    let none = c.new-connections.ensures in
-    opened_as_fresh (state_of m).program (state_of m).config c.saturating_add.result c.in_ok-reading.reading (is_started a) (is_dropped a) (calls.told a) none.started none.dropped the_language O w new
-    (opened the_language O c.laws_of_rules.ensures.only_readings c.laws_of_steps.ensures.fresh laws.stands_before laws.no_turns_behind laws.session_is_numbered w late new h m c.saturating_add.result c.in_ok-reading.reading led (c.session_reading.ensures.seen told_late ∙ seen) deeds next
-    (c.in_ok-reading.ensures.clock told_late))
-
-pub returns-clause-session : goal.returns-clause-session
-returns-clause-session g c = λ told.
-    let w = g.H.Host.world c.args.host.now in
-    let mid = g.H.Host.world c.open.new.host in
-    let told_mid = tells_still w mid c.open.ensures.tells told in
-    let h = c.last_machine.new.history in
-    let m = c.in_ok-machine.machine in
-    let led = led_on the_language w mid (ahead c.in_ok-history.history mid.seen) (standing h m) (c.open.ensures.seen told) (c.in_ok-history.ensures.first told) (c.in_ok-machine.ensures.leads told_mid) in
-    let next = next_number the_language c.laws_of_moments.ensures.number_is_count c.laws_of_moments.ensures.session_is_numbered w.seen h m c.saturating_add.result c.unwrap_or-last.result.0 led (g.met.H.Host.fits c.args.host.now told)
+    let on : IsTrue w.tells → IsTrue mid.tells = λ told. tells_still w mid file.tells told in
+    let later : IsTrue w.tells → IsTrue late.tells = λ told. tells_still mid late read.tells (on told) in
+    let seen : IsTrue w.tells → late.seen ≡ w.seen = λ told. read.seen (on told) ∙ file.seen told in
+    let deeds : IsTrue w.tells → late.deeds ≡ w.deeds = λ told. read.deeds (on told) ∙ file.deeds told in
+    let first : IsTrue w.tells → ahead c.in_ok-history.history mid.seen ≡ records w.seen = λ told. c.in_ok-history.ensures.first told ∙ ap records (file.seen told) in
+    let led : IsTrue w.tells → history the_language (records w.seen) ≡ Ok (standing h m) = λ told. led_on the_language w mid (ahead c.in_ok-history.history mid.seen) (standing h m) (file.seen told) (c.in_ok-history.ensures.first told) (found.leads (on told)) in
+    let next : IsTrue w.tells → c.saturating_add.result ≡ suc (standing h m).session = λ told.
+    next_number the_language laws.number_is_count laws.session_is_numbered w.seen h m c.saturating_add.result c.unwrap_or-last.result.0 (led told) (g.met.H.Host.fits c.args.host.now told)
     (ap (λ (p : ℕ × ℕ). p.0) (c.unwrap_or-last.ensures ∙ ap (λ o. unwrap_or o (0, 0)) c.last.ensures)) c.saturating_add.ensures in
-    next ∙ sym (c.laws_of_moments.ensures.next_behind_history the_language (records w.seen) (standing h m) led)
-
-pub returns-clause-any_moment : goal.returns-clause-any_moment
-returns-clause-any_moment g c = λ told.
-    let w = g.H.Host.world c.args.host.now in
-    let mid = g.H.Host.world c.open.new.host in
-    let late = g.H.Host.world c.last_machine.new.host in
-    let new = g.H.Host.world c.session_reading.new.host in
-    let told_mid = tells_still w mid c.open.ensures.tells told in
-    let told_late = tells_still mid late c.last_machine.ensures.tells told_mid in
-    let seen = c.last_machine.ensures.seen told_mid ∙ c.open.ensures.seen told in
-    let deeds = c.last_machine.ensures.deeds told_mid ∙ c.open.ensures.deeds told in
-    let quiet = quiet_stays w mid late (c.open.ensures.any_moment told) (c.last_machine.ensures.any_moment told_mid) (c.open.ensures.seen told) (c.open.ensures.deeds told) (g.met.H.Host.reads_back c.args.host.now told) in
-    then_reads w late new quiet (c.session_reading.ensures.any_moment told_late) seen deeds (c.in_ok-machine.ensures.stands told_mid).journal.settled (g.met.H.Host.reads_back c.args.host.now told)
-
-pub returns-clause-finished : goal.returns-clause-finished
-returns-clause-finished g c = λ told s is ended.
-    let w = g.H.Host.world c.args.host.now in
-    let mid = g.H.Host.world c.open.new.host in
-    let told_mid = tells_still w mid c.open.ensures.tells told in
-    let deeds = c.last_machine.ensures.deeds told_mid ∙ c.open.ensures.deeds told in
-    let h = c.last_machine.new.history in
-    let m = c.in_ok-machine.machine in
-    let led = led_on the_language w mid (ahead c.in_ok-history.history mid.seen) (standing h m) (c.open.ensures.seen told) (c.in_ok-history.ensures.first told) (c.in_ok-machine.ensures.leads told_mid) in
-    ap (λ x. (g.H.Host.world x).deeds) (c.session_reading.ensures.finished (has_ended the_language (records w.seen) h m s led is ended)) ∙ deeds
-
-pub returns-clause-steps : goal.returns-clause-steps
-returns-clause-steps g c = λ told.
-    let w = g.H.Host.world c.args.host.now in
-    let mid = g.H.Host.world c.open.new.host in
-    c.in_ok-machine.ensures.steps (tells_still w mid c.open.ensures.tells told)
-    ∙ ap (λ J. c.args.steps.now + applied_by J) (c.in_ok-history.ensures.first told ∙ ap records (c.open.ensures.seen told))
+    record {
+      holds = λ told.
+          let stood = found.stands (on told) in (
+            still_stands h late new stood (clock.seen (later told)) (clock.settled (later told) stood.journal.settled),
+            λ none. found.some (on told) (first told ∙ ap records (sym (clock.seen (later told) ∙ seen told)) ∙ none),
+          );
+      opened = λ O told.
+          let a = c.new-connections.result in
+          let fine = c.new-connections.ensures in
+          opened_as_fresh (state_of m).program (state_of m).config c.saturating_add.result c.in_ok-reading.reading (is_started a) (is_dropped a) (calls.told a) fine.started fine.dropped the_language O w new
+          (opened the_language O c.laws_of_rules.ensures.only_readings c.laws_of_steps.ensures.fresh laws.stands_before laws.no_turns_behind laws.session_is_numbered w late new h m c.saturating_add.result c.in_ok-reading.reading (led told) (clock.seen (later told) ∙ seen told) (deeds told) (next told)
+          (c.in_ok-reading.ensures.clock (later told)));
+      steps = λ told. found.steps (on told) ∙ ap (λ J. c.args.steps.now + applied_by J) (first told);
+      «open» = refl;
+      session = λ told. next told ∙ sym (laws.next_behind_history the_language (records w.seen) (standing h m) (led told));
+      waits = refl;
+      begins = search rules;
+      seen = λ told. clock.seen (later told) ∙ seen told;
+      any_moment = λ told.
+          let quiet = quiet_stays w mid late (file.any_moment told) (read.any_moment (on told)) (file.seen told) (file.deeds told) (g.met.H.Host.reads_back c.args.host.now told) in
+          then_reads w late new quiet (clock.any_moment (later told)) (seen told) (deeds told) (found.stands (on told)).journal.settled (g.met.H.Host.reads_back c.args.host.now told);
+      disk_fault = λ is. absurd (cc is);
+      not_a_journal = λ told is. absurd (cc is);
+      not_started = λ told is. absurd (cc is);
+      settled = λ told is. absurd (cc is);
+      not_a_history = λ told. tt;
+      only = tt;
+      deeds = λ told. deeds_on w late new (deeds told) (clock.deeds (later told));
+      finished = λ told s is ended. ap (λ x. (g.H.Host.world x).deeds) (clock.finished (has_ended the_language (records w.seen) h m s (led told) is ended)) ∙ deeds told;
+      tells = clock.tells ∙ read.tells ∙ file.tells;
+      counts = search rules;
+    }

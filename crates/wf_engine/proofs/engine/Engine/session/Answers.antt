@@ -1,4 +1,4 @@
-use Rattle.std.proofs.Common.{◌+◌, ◌-◌, [], sym, ◌∙◌, ap, arith}
+use Rattle.std.proofs.Common.{rules, ◌+◌, ◌-◌, [], inl, refl, sym, ◌∙◌, ap, arith}
 use Rattle.wf_engine.proofs.Parts.{far_kept, far_moments}
 use Rattle.wf_engine.proofs.Polling.{part_far}
 use Rattle.wf_engine.proofs.Settling.{ends, lent_active, none_fell, result_is_over, told_on}
@@ -9,11 +9,28 @@ use Rattle.wf_model.specs.Config.{Config}
 use Rattle.wf_replay.specs.TheLanguage.{the_language}
 
 -- the first turns
-pub returns-in_err-settle-clause-any_moment : goal.returns-in_err-settle-clause-any_moment
-returns-in_err-settle-clause-any_moment g c = λ O open_now told. c.settle.ensures.any_moment O told
-
-pub returns-in_err-settle-clause-finished : goal.returns-in_err-settle-clause-finished
-returns-in_err-settle-clause-finished g c = λ told over. (c.settle.ensures.finished (settled_over c.args.self.now c.if-self.false over)).1
+pub returns-in_err-settle : goal.returns-in_err-settle
+returns-in_err-settle g c =
+    let first = c.settle.ensures in
+    record {
+      holds = search rules;
+      ended = search rules;
+      suspended = search rules;
+      result = search rules;
+      any_moment = λ O open_now told. first.any_moment O told;
+      finished = λ told over. (first.finished (settled_over c.args.self.now c.if-self.false over)).1;
+      session = first.session;
+      disk_fault = search rules;
+      poll_fault = search rules;
+      closed = search rules;
+      closes = search rules;
+      idle = search rules;
+      «open» = search rules;
+      still_open = search rules;
+      only = search rules;
+      tells = first.tells;
+      counts = first.counts;
+    }
 
 pub loop-left-init : goal.loop-left-init
 loop-left-init g c =
@@ -38,62 +55,111 @@ loop-left-init g c =
     }
 
 -- it polled so often
-pub returns-then-left-eq0-clause-suspended : goal.returns-then-left-eq0-clause-suspended
-returns-then-left-eq0-clause-suspended g c = λ O told is.
+pub returns-then-left-eq0 : goal.returns-then-left-eq0
+returns-then-left-eq0 g c =
     let e = c.args.self.now in
     let d = c.loop-left.self in
+    let w = g.H.Host.world c.args.host.now in
+    let mid = g.H.Host.world c.loop-left.host in
     let so = c.loop-left.invariant in
-    is_suspended O (memory e) (memory d) (g.H.Host.world c.args.host.now) (g.H.Host.world c.loop-left.host) c.args.waits c.loop-left.left (so.so_far O told) (omega (arith, c.if-left-eq0.true)) so.settled
-    (lent_active c.outcome.result (memory d).config.outcome c.outcome.ensures.outcome c.in-Active.is)
+    record {
+      holds = λ open_now told. so.holds told;
+      ended = λ O told. tt;
+      suspended = λ O told is.
+          is_suspended O (memory e) (memory d) w mid c.args.waits c.loop-left.left (so.so_far O told) (omega (arith, c.if-left-eq0.true)) so.settled
+          (lent_active c.outcome.result (memory d).config.outcome c.outcome.ensures.outcome c.in-Active.is);
+      result = tt;
+      any_moment = λ O open_now told. let p = so.so_far O told in far_kept the_language O (memory e) (memory d) w mid p.done p.far;
+      finished = λ told over. (so.rest over).0;
+      session = so.number;
+      disk_fault = λ is. absurd (cc is);
+      poll_fault = λ is. absurd (cc is);
+      closed = search rules;
+      closes = inl refl;
+      idle = λ is. absurd (cc is);
+      «open» = tt;
+      still_open = λ is. so.not_closed;
+      only = search rules;
+      tells = so.tells;
+      counts = so.counts;
+    }
 
-pub returns-then-left-eq0-clause-any_moment : goal.returns-then-left-eq0-clause-any_moment
-returns-then-left-eq0-clause-any_moment g c = λ O open_now told.
-    let p = c.loop-left.invariant.so_far O told in
-    far_kept the_language O (memory c.args.self.now) (memory c.loop-left.self) (g.H.Host.world c.args.host.now) (g.H.Host.world c.loop-left.host) p.done p.far
-
--- a wait
 pub wait-requires-clause-kept : goal.wait-requires-clause-kept
 wait-requires-clause-kept g c = λ told.
     let so = c.loop-left.invariant in
     so.holds (told_on (g.H.Host.world c.loop-left.host) (g.H.Host.world c.args.host.now) (sym so.tells) told)
 
 -- which failed
-pub returns-in_err-wait-clause-any_moment : goal.returns-in_err-wait-clause-any_moment
-returns-in_err-wait-clause-any_moment g c = λ O open_now told.
+pub returns-in_err-wait : goal.returns-in_err-wait
+returns-in_err-wait g c =
+    let e = c.args.self.now in
+    let d = c.loop-left.self in
     let w = g.H.Host.world c.args.host.now in
     let mid = g.H.Host.world c.loop-left.host in
     let so = c.loop-left.invariant in
-    let p = so.so_far O told in
-    far_moments the_language O (memory c.args.self.now) (memory c.loop-left.self) w mid (g.H.Host.world c.wait.new.host) p.done p.far so.number (c.wait.ensures.any_moment O (told_on w mid so.tells told))
-
-pub returns-in_err-wait-clause-finished : goal.returns-in_err-wait-clause-finished
-returns-in_err-wait-clause-finished g c = λ told over.
-    let d = c.loop-left.self in
-    let active = lent_active c.outcome.result (memory d).config.outcome c.outcome.ensures.outcome c.in-Active.is in
-    absurd (over (sym (ap (λ (x : Config). x.outcome) (c.loop-left.invariant.rest over).1) ∙ active))
+    let wait = c.wait.ensures in
+    record {
+      holds = search rules;
+      ended = search rules;
+      suspended = search rules;
+      result = search rules;
+      any_moment = λ O open_now told.
+          let p = so.so_far O told in far_moments the_language O (memory e) (memory d) w mid (g.H.Host.world c.wait.new.host) p.done p.far so.number (wait.any_moment O (told_on w mid so.tells told));
+      finished = λ told over.
+          let active = lent_active c.outcome.result (memory d).config.outcome c.outcome.ensures.outcome c.in-Active.is in
+          absurd (over (sym (ap (λ (x : Config). x.outcome) (so.rest over).1) ∙ active));
+      session = wait.session ∙ so.number;
+      disk_fault = search rules;
+      poll_fault = search rules;
+      closed = search rules;
+      closes = search rules;
+      idle = search rules;
+      «open» = search rules;
+      still_open = search rules;
+      only = search rules;
+      tells = wait.tells ∙ so.tells;
+      counts = none_fell (g.H.Host.faults c.args.host.now) (g.H.Host.faults c.loop-left.host) (g.H.Host.faults c.wait.new.host) so.counts wait.counts;
+    }
 
 -- the turns behind a wait
-pub returns-in_err-settle-2-clause-any_moment : goal.returns-in_err-settle-2-clause-any_moment
-returns-in_err-settle-2-clause-any_moment g c = λ O open_now told.
+pub returns-in_err-settle-2 : goal.returns-in_err-settle-2
+returns-in_err-settle-2 g c =
     let e = c.args.self.now in
     let d = c.loop-left.self in
     let w = g.H.Host.world c.args.host.now in
     let mid = g.H.Host.world c.loop-left.host in
     let then = g.H.Host.world c.wait.new.host in
     let so = c.loop-left.invariant in
-    let told_mid = told_on w mid so.tells told in
-    let told_then = told_on mid then c.wait.ensures.tells told_mid in
-    let wait = c.in_ok-wait.ensures.waits O told_mid in
-    let p =
-    polled_more O e d c.wait.new.self w mid then c.args.waits c.loop-left.left (c.loop-left.left - 1) wait.done (so.so_far O told) so.number (c.wait.ensures.any_moment O told_mid) wait.went (omega (arith, wait.once, c.if-left-eq0.false))
-    (λ t i le now. g.met.H.Host.counts_now c.wait.new.host t i told_then le now) (g.met.H.Host.reads_back c.wait.new.host told_then) c.in_ok-wait.ensures.«open» (c.in_ok-wait.ensures.holds told_mid) in
-    far_moments the_language O (memory e) (memory c.wait.new.self) w then (g.H.Host.world c.settle-in-loop-left.new.host) p.done p.far (c.wait.ensures.session ∙ so.number) (c.settle-in-loop-left.ensures.any_moment O told_then)
-
-pub returns-in_err-settle-2-clause-finished : goal.returns-in_err-settle-2-clause-finished
-returns-in_err-settle-2-clause-finished g c = λ told over.
-    let d = c.loop-left.self in
-    let active = lent_active c.outcome.result (memory d).config.outcome c.outcome.ensures.outcome c.in-Active.is in
-    absurd (over (sym (ap (λ (x : Config). x.outcome) (c.loop-left.invariant.rest over).1) ∙ active))
+    let wait = c.wait.ensures in
+    let next = c.settle-in-loop-left.ensures in
+    record {
+      holds = search rules;
+      ended = search rules;
+      suspended = search rules;
+      result = search rules;
+      any_moment = λ O open_now told.
+          let told_mid = told_on w mid so.tells told in
+          let told_then = told_on mid then wait.tells told_mid in
+          let waited = c.in_ok-wait.ensures.waits O told_mid in
+          let p =
+          polled_more O e d c.wait.new.self w mid then c.args.waits c.loop-left.left (c.loop-left.left - 1) waited.done (so.so_far O told) so.number (wait.any_moment O told_mid) waited.went (omega (arith, waited.once, c.if-left-eq0.false))
+          (λ t i le now. g.met.H.Host.counts_now c.wait.new.host t i told_then le now) (g.met.H.Host.reads_back c.wait.new.host told_then) c.in_ok-wait.ensures.«open» (c.in_ok-wait.ensures.holds told_mid) in
+          far_moments the_language O (memory e) (memory c.wait.new.self) w then (g.H.Host.world c.settle-in-loop-left.new.host) p.done p.far (wait.session ∙ so.number) (next.any_moment O told_then);
+      finished = λ told over.
+          let active = lent_active c.outcome.result (memory d).config.outcome c.outcome.ensures.outcome c.in-Active.is in
+          absurd (over (sym (ap (λ (x : Config). x.outcome) (so.rest over).1) ∙ active));
+      session = next.session ∙ wait.session ∙ so.number;
+      disk_fault = search rules;
+      poll_fault = search rules;
+      closed = search rules;
+      closes = search rules;
+      idle = search rules;
+      «open» = search rules;
+      still_open = search rules;
+      only = search rules;
+      tells = next.tells ∙ wait.tells ∙ so.tells;
+      counts = none_fell (g.H.Host.faults c.args.host.now) (g.H.Host.faults c.wait.new.host) (g.H.Host.faults c.settle-in-loop-left.new.host) (none_fell (g.H.Host.faults c.args.host.now) (g.H.Host.faults c.loop-left.host) (g.H.Host.faults c.wait.new.host) so.counts wait.counts) next.counts;
+    }
 
 pub loop-left-preserved : goal.loop-left-preserved
 loop-left-preserved g c =
@@ -134,20 +200,30 @@ loop-left-preserved g c =
     }
 
 -- there is an outcome
-pub returns-in_default-clause-ended : goal.returns-in_default-clause-ended
-returns-in_default-clause-ended g c = λ O told.
+pub returns-in_default : goal.returns-in_default
+returns-in_default g c =
+    let e = c.args.self.now in
     let d = c.loop-left.self in
+    let w = g.H.Host.world c.args.host.now in
+    let mid = g.H.Host.world c.loop-left.host in
     let so = c.loop-left.invariant in
     let result = ends c.outcome.result (memory d).config.outcome c.outcome.ensures.outcome (λ is. c.in_default.not-Active is) in
-    has_ended O (memory c.args.self.now) (memory d) (g.H.Host.world c.args.host.now) (g.H.Host.world c.loop-left.host) c.args.waits c.loop-left.left (so.so_far O told) so.settled (result_is_over (memory d).config.outcome result)
-
-pub returns-in_default-clause-result : goal.returns-in_default-clause-result
-returns-in_default-clause-result g c = ends c.outcome.result (memory c.loop-left.self).config.outcome c.outcome.ensures.outcome (λ is. c.in_default.not-Active is)
-
-pub returns-in_default-clause-finished : goal.returns-in_default-clause-finished
-returns-in_default-clause-finished g c = λ told over. (c.loop-left.invariant.rest over).0
-
-pub returns-in_default-clause-any_moment : goal.returns-in_default-clause-any_moment
-returns-in_default-clause-any_moment g c = λ O open_now told.
-    let p = c.loop-left.invariant.so_far O told in
-    far_kept the_language O (memory c.args.self.now) (memory c.loop-left.self) (g.H.Host.world c.args.host.now) (g.H.Host.world c.loop-left.host) p.done p.far
+    record {
+      holds = λ open_now told. so.holds told;
+      ended = λ O told. has_ended O (memory e) (memory d) w mid c.args.waits c.loop-left.left (so.so_far O told) so.settled (result_is_over (memory d).config.outcome result);
+      suspended = λ O told is. absurd (cc is);
+      result = result;
+      any_moment = λ O open_now told. let p = so.so_far O told in far_kept the_language O (memory e) (memory d) w mid p.done p.far;
+      finished = λ told over. (so.rest over).0;
+      session = so.number;
+      disk_fault = λ is. absurd (cc is);
+      poll_fault = λ is. absurd (cc is);
+      closed = search rules;
+      closes = tt;
+      idle = λ is. absurd (cc is);
+      «open» = so.not_closed;
+      still_open = λ is. so.not_closed;
+      only = tt;
+      tells = so.tells;
+      counts = so.counts;
+    }

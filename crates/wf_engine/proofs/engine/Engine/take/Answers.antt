@@ -1,4 +1,4 @@
-use Rattle.std.proofs.Common.{◌≡◌, suc, ◌+◌, max, arith}
+use Rattle.std.proofs.Common.{rules, ◌≡◌, suc, ◌+◌, max, arith, refl}
 use Rattle.wf_connections.specs.Calls.{is_dropped, is_started, told}
 use Rattle.wf_deeds.specs.Deeds.{call_of}
 use Rattle.wf_engine.proofs.Heard.{heard_ready, takable, takes}
@@ -7,15 +7,28 @@ use Rattle.wf_engine.specs.Engine.{memory}
 use Rattle.wf_replay.specs.TheLanguage.{the_language}
 
 -- what it stands for then
-pub returns-clause-takes : goal.returns-clause-takes
-returns-clause-takes c = λ O.
+pub returns : goal.returns
+returns c =
     let e = c.args.self.now in
-    let m = memory e in
     let b = c.hear.new.self in
-    let r : c.max-self.result ≡ max e.reading c.args.heard.reading = c.max-self.ensures in
-    let w : e.waits + 1 ≡ suc e.waits = omega arith in
-    takes O m.program m.config m.session m.reading m.waits m.started m.dropped m.told m.taken c.args.heard (is_started b) (is_dropped b) (told b) c.in_ok-self.field-0 c.in_ok-hear.ensures.stands.started c.in_ok-hear.ensures.heard c.laws_of_steps.ensures.hearing the_language
-    c.in_ok-hear.ensures.stands.dropped e.reading c.max-self.result (e.waits + 1) r w (c.requires.settled c.if-self.false) (c.requires.active c.if-self.false) c.requires.of_calls c.in_ok-self.ensures
+    record {
+      takes = λ O.
+          let m = memory e in
+          let r : c.max-self.result ≡ max e.reading c.args.heard.reading = c.max-self.ensures in
+          let w : e.waits + 1 ≡ suc e.waits = omega arith in
+          takes O m.program m.config m.session m.reading m.waits m.started m.dropped m.told m.taken c.args.heard (is_started b) (is_dropped b) (told b) c.in_ok-self.field-0 c.in_ok-hear.ensures.stands.started c.in_ok-hear.ensures.heard c.laws_of_steps.ensures.hearing the_language
+          c.in_ok-hear.ensures.stands.dropped e.reading c.max-self.result (e.waits + 1) r w (c.requires.settled c.if-self.false) (c.requires.active c.if-self.false) c.requires.of_calls c.in_ok-self.ensures;
+      reading = c.max-self.ensures;
+      waits = refl;
+      same = search rules;
+      session = refl;
+      holds = refl;
+      closed = search rules;
+      closes = tt;
+      idle = λ is. absurd (cc is);
+      «open» = refl;
+      only = tt;
+    }
 
 -- it can go on
 pub invariant_of-self-2 : goal.invariant_of-self-2

@@ -1,4 +1,4 @@
-use Rattle.std.proofs.Common.{◌≤◌, ◌<◌, ◌^◌, ◌+◌, length, ap, ◌∙◌, refl, sym, List, [], ◌∷◌, ◌++◌, ◌≡◌}
+use Rattle.std.proofs.Common.{rules, ◌≤◌, ◌+◌, length, ap, ◌∙◌, refl, sym, List, [], ◌∷◌, ◌++◌, ◌≡◌}
 use Rattle.std.specs.Prelude.{Option}
 use Rattle.wf_deeds.specs.Turns.{turn_of}
 use Rattle.wf_engine.proofs.Added.{Choice, Laws, is_short, is_spelled, none_of, not_none, some_of}
@@ -25,107 +25,147 @@ pub choose_turn-requires-clause-takable : goal.choose_turn-requires-clause-takab
 choose_turn-requires-clause-takable g c = λ t is. (c.args.self.now.ready c.if-self.false).takable t (sym c.take-taken.ensures.value ∙ is)
 
 -- while it is chosen
-pub returns-in_err-events-clause-any_moment : goal.returns-in_err-events-clause-any_moment
-returns-in_err-events-clause-any_moment g c = λ O open_now told command handed D s.
+pub returns-in_err-events : goal.returns-in_err-events
+returns-in_err-events g c =
+    let e = c.args.self.now in
     let w = g.H.Host.world c.args.host.now in
-    (turn_begun the_language O c.args.self.now.history w command handed D (λ i d left. g.met.H.Host.only_now c.args.host.now i d told left) (c.requires.kept open_now told).0 (c.args.self.now.ready open_now).begun c.laws_of_steps.ensures.moment (memory c.args.self.now) s).moments
+    record {
+      holds = search rules;
+      adds = search rules;
+      any_moment = λ O open_now told command handed D s.
+          (turn_begun the_language O e.history w command handed D (λ i d left. g.met.H.Host.only_now c.args.host.now i d told left) (c.requires.kept open_now told).0 (e.ready open_now).begun c.laws_of_steps.ensures.moment (memory e) s).moments;
+      goes_on = search rules;
+      counted = search rules;
+      most = search rules;
+      session = refl;
+      waits = refl;
+      reading = refl;
+      disk_fault = search rules;
+      closed = search rules;
+      closes = search rules;
+      idle = search rules;
+      «open» = search rules;
+      only = search rules;
+      tells = refl;
+      counts = search rules;
+    }
 
 -- nothing was chosen
-pub returns-then-is_empty-clause-adds : goal.returns-then-is_empty-clause-adds
-returns-then-is_empty-clause-adds g c = λ O told.
-    let m = memory c.args.self.now in
-    let now = state_of c.choose_turn.new.machine in
-    let es = events_view c.in_ok-events.events in
-    let none = none_of es c.items.result.now c.items.ensures.view c.if-is_empty.ensures in
-    let chosen = λ (o : Option Taken). turn_of m.program m.config m.reading (taken_event m.reading o) in
-    let is : Choice m es now.config = record { turn = c.in_ok-events.ensures.turn ∙ ap chosen c.take-taken.ensures.value; leads = c.in_ok-events.ensures.leads } in
-    idle the_language O m now.program now.config (taken_event m.reading c.take-taken.new.self) es c.in_ok-events.ensures.program (ap (taken_event m.reading) c.take-taken.ensures.after) refl is (g.H.Host.world c.args.host.now) none
-
-pub returns-then-is_empty-clause-any_moment : goal.returns-then-is_empty-clause-any_moment
-returns-then-is_empty-clause-any_moment g c = λ O open_now told command handed D s.
+pub returns-then-is_empty : goal.returns-then-is_empty
+returns-then-is_empty g c =
+    let e = c.args.self.now in
     let w = g.H.Host.world c.args.host.now in
-    (turn_begun the_language O c.args.self.now.history w command handed D (λ i d left. g.met.H.Host.only_now c.args.host.now i d told left) (c.requires.kept open_now told).0 (c.args.self.now.ready open_now).begun c.laws_of_steps.ensures.moment (memory c.args.self.now) s).moments
-
-pub returns-then-is_empty-clause-goes_on : goal.returns-then-is_empty-clause-goes_on
-returns-then-is_empty-clause-goes_on g c =
-    let m = memory c.args.self.now in
+    let m = memory e in
     let now = state_of c.choose_turn.new.machine in
-    goes_on m now.program now.config (taken_event m.reading c.take-taken.new.self) (taken_event m.reading c.take-taken.result) (length (events_view c.in_ok-events.events)) (ap (taken_event m.reading) c.take-taken.ensures.after) refl
-    c.in_ok-events.ensures.ended c.in_ok-events.ensures.falls
-
-pub returns-then-is_empty-clause-counted : goal.returns-then-is_empty-clause-counted
-returns-then-is_empty-clause-counted g c =
-    let m = memory c.args.self.now in
+    let turn = c.in_ok-events.ensures in
+    let es = events_view c.in_ok-events.events in
     let chosen = λ (o : Option Taken). turn_of m.program m.config m.reading (taken_event m.reading o) in
-    c.in_ok-events.ensures.counted ∙ ap (λ l. m.config.moves + counts_of l) (c.in_ok-events.ensures.turn ∙ ap chosen c.take-taken.ensures.value)
+    record {
+      holds = search rules;
+      adds = λ O told.
+          let none = none_of es c.items.result.now c.items.ensures.view c.if-is_empty.ensures in
+          let is : Choice m es now.config = record { turn = turn.turn ∙ ap chosen c.take-taken.ensures.value; leads = turn.leads } in
+          idle the_language O m now.program now.config (taken_event m.reading c.take-taken.new.self) es turn.program (ap (taken_event m.reading) c.take-taken.ensures.after) refl is w none;
+      any_moment = λ O open_now told command handed D s.
+          (turn_begun the_language O e.history w command handed D (λ i d left. g.met.H.Host.only_now c.args.host.now i d told left) (c.requires.kept open_now told).0 (e.ready open_now).begun c.laws_of_steps.ensures.moment m s).moments;
+      goes_on =
+          goes_on m now.program now.config (taken_event m.reading c.take-taken.new.self) (taken_event m.reading c.take-taken.result) (length es) (ap (taken_event m.reading) c.take-taken.ensures.after) refl
+          turn.ended turn.falls;
+      counted = turn.counted ∙ ap (λ l. m.config.moves + counts_of l) (turn.turn ∙ ap chosen c.take-taken.ensures.value);
+      most = turn.most;
+      session = refl;
+      waits = refl;
+      reading = refl;
+      disk_fault = search rules;
+      closed = search rules;
+      closes = tt;
+      idle = search rules;
+      «open» = refl;
+      only = tt;
+      tells = refl;
+      counts = search rules;
+    }
 
 -- while it is added
 pub add-requires-clause-short : goal.add-requires-clause-short
 add-requires-clause-short g c = is_short (memory c.args.self.now) (events_view c.in_ok-events.events) c.in_ok-events.ensures.bytes c.in_ok-events.ensures.short
 
-pub returns-in_err-add-clause-any_moment : goal.returns-in_err-add-clause-any_moment
-returns-in_err-add-clause-any_moment g c = λ O open_now told command handed D s.
+pub returns-in_err-add : goal.returns-in_err-add
+returns-in_err-add g c =
+    let e = c.args.self.now in
     let w = g.H.Host.world c.args.host.now in
-    let m = memory c.args.self.now in
+    let m = memory e in
     let now = state_of c.choose_turn.new.machine in
+    let turn = c.in_ok-events.ensures in
     let es = events_view c.in_ok-events.events in
-    let laws : Laws = record { again = c.one_spelling.ensures.again; chosen = c.laws_of_steps.ensures.chosen; turn = c.laws_of_steps.ensures.turn; moment = c.laws_of_steps.ensures.moment } in
-    let chosen = λ (o : Option Taken). turn_of m.program m.config m.reading (taken_event m.reading o) in
-    let is : Choice m es now.config = record { turn = c.in_ok-events.ensures.turn ∙ ap chosen c.take-taken.ensures.value; leads = c.in_ok-events.ensures.leads } in
-    let some : 1 ≤ length es = some_of es c.items.result.now c.items.ensures.view c.if-is_empty.ensures in
-    let number : m.session < 2 ^ 64 = c.numbers_fit.ensures.session in
-    let waits : m.waits < 2 ^ 64 = c.numbers_fit.ensures.waits in
-    turn_adds the_language O c.args.self.now.history w command handed D (λ i d left. g.met.H.Host.only_now c.args.host.now i d told left) (c.requires.kept open_now told).0 (c.args.self.now.ready open_now).begun laws (g.H.Host.world c.add.new.host) m now.config es s is
-    (not_none es some) (is_spelled m es number waits c.in_ok-events.ensures.spelled some c.in_ok-events.ensures.short) (c.add.ensures.any_moment (c.args.self.now.ready open_now).not_closed told)
+    record {
+      holds = search rules;
+      adds = search rules;
+      any_moment = λ O open_now told command handed D s.
+          let laws : Laws = record { again = c.one_spelling.ensures.again; chosen = c.laws_of_steps.ensures.chosen; turn = c.laws_of_steps.ensures.turn; moment = c.laws_of_steps.ensures.moment } in
+          let chosen = λ (o : Option Taken). turn_of m.program m.config m.reading (taken_event m.reading o) in
+          let is : Choice m es now.config = record { turn = turn.turn ∙ ap chosen c.take-taken.ensures.value; leads = turn.leads } in
+          let some : 1 ≤ length es = some_of es c.items.result.now c.items.ensures.view c.if-is_empty.ensures in
+          turn_adds the_language O e.history w command handed D (λ i d left. g.met.H.Host.only_now c.args.host.now i d told left) (c.requires.kept open_now told).0 (e.ready open_now).begun laws (g.H.Host.world c.add.new.host) m now.config es s is
+          (not_none es some) (is_spelled m es c.numbers_fit.ensures.session c.numbers_fit.ensures.waits turn.spelled some turn.short) (c.add.ensures.any_moment (e.ready open_now).not_closed told);
+      goes_on = search rules;
+      counted = search rules;
+      most = search rules;
+      session = refl;
+      waits = refl;
+      reading = refl;
+      disk_fault = search rules;
+      closed = search rules;
+      closes = search rules;
+      idle = search rules;
+      «open» = search rules;
+      only = search rules;
+      tells = c.add.ensures.tells;
+      counts = c.add.ensures.counts;
+    }
 
 -- it was added
-pub returns-clause-any_moment : goal.returns-clause-any_moment
-returns-clause-any_moment g c = λ O open_now told command handed D s.
+pub returns : goal.returns
+returns g c =
+    let e = c.args.self.now in
     let w = g.H.Host.world c.args.host.now in
-    let m = memory c.args.self.now in
+    let new = g.H.Host.world c.add.new.host in
+    let m = memory e in
     let now = state_of c.choose_turn.new.machine in
+    let turn = c.in_ok-events.ensures in
     let es = events_view c.in_ok-events.events in
     let laws : Laws = record { again = c.one_spelling.ensures.again; chosen = c.laws_of_steps.ensures.chosen; turn = c.laws_of_steps.ensures.turn; moment = c.laws_of_steps.ensures.moment } in
     let chosen = λ (o : Option Taken). turn_of m.program m.config m.reading (taken_event m.reading o) in
-    let is : Choice m es now.config = record { turn = c.in_ok-events.ensures.turn ∙ ap chosen c.take-taken.ensures.value; leads = c.in_ok-events.ensures.leads } in
+    let is : Choice m es now.config = record { turn = turn.turn ∙ ap chosen c.take-taken.ensures.value; leads = turn.leads } in
     let some : 1 ≤ length es = some_of es c.items.result.now c.items.ensures.view c.if-is_empty.ensures in
-    let number : m.session < 2 ^ 64 = c.numbers_fit.ensures.session in
-    let waits : m.waits < 2 ^ 64 = c.numbers_fit.ensures.waits in
-    turn_adds the_language O c.args.self.now.history w command handed D (λ i d left. g.met.H.Host.only_now c.args.host.now i d told left) (c.requires.kept open_now told).0 (c.args.self.now.ready open_now).begun laws (g.H.Host.world c.add.new.host) m now.config es s is
-    (not_none es some) (is_spelled m es number waits c.in_ok-events.ensures.spelled some c.in_ok-events.ensures.short) (c.add.ensures.any_moment (c.args.self.now.ready open_now).not_closed told)
-
-pub returns-clause-adds : goal.returns-clause-adds
-returns-clause-adds g c = λ O told.
-    let m = memory c.args.self.now in
-    let now = state_of c.choose_turn.new.machine in
-    let es = events_view c.in_ok-events.events in
-    let laws : Laws = record { again = c.one_spelling.ensures.again; chosen = c.laws_of_steps.ensures.chosen; turn = c.laws_of_steps.ensures.turn; moment = c.laws_of_steps.ensures.moment } in
-    let chosen = λ (o : Option Taken). turn_of m.program m.config m.reading (taken_event m.reading o) in
-    let is : Choice m es now.config = record { turn = c.in_ok-events.ensures.turn ∙ ap chosen c.take-taken.ensures.value; leads = c.in_ok-events.ensures.leads } in
-    let some : 1 ≤ length es = some_of es c.items.result.now c.items.ensures.view c.if-is_empty.ensures in
-    let number : m.session < 2 ^ 64 = c.numbers_fit.ensures.session in
-    let waits : m.waits < 2 ^ 64 = c.numbers_fit.ensures.waits in
-    added the_language O m now.program now.config (taken_event m.reading c.take-taken.new.self) es c.in_ok-events.ensures.program (ap (taken_event m.reading) c.take-taken.ensures.after) refl is (g.H.Host.world c.args.host.now) (g.H.Host.world c.add.new.host)
-    laws (not_none es some) (is_spelled m es number waits c.in_ok-events.ensures.spelled some c.in_ok-events.ensures.short) (c.in_ok-add.ensures.added told) (c.add.ensures.deeds told)
-
-pub returns-clause-goes_on : goal.returns-clause-goes_on
-returns-clause-goes_on g c =
-    let m = memory c.args.self.now in
-    let now = state_of c.choose_turn.new.machine in
-    goes_on m now.program now.config (taken_event m.reading c.take-taken.new.self) (taken_event m.reading c.take-taken.result) (length (events_view c.in_ok-events.events)) (ap (taken_event m.reading) c.take-taken.ensures.after) refl
-    c.in_ok-events.ensures.ended c.in_ok-events.ensures.falls
-
-pub returns-clause-counted : goal.returns-clause-counted
-returns-clause-counted g c =
-    let m = memory c.args.self.now in
-    let chosen = λ (o : Option Taken). turn_of m.program m.config m.reading (taken_event m.reading o) in
-    c.in_ok-events.ensures.counted ∙ ap (λ l. m.config.moves + counts_of l) (c.in_ok-events.ensures.turn ∙ ap chosen c.take-taken.ensures.value)
-
-pub returns-clause-holds : goal.returns-clause-holds
-returns-clause-holds g c = λ open_now told. (
-  c.add.ensures.stands c.in_ok-add.ensures.open told,
-  λ none. added_some (records (g.H.Host.world c.args.host.now).seen) _ (sym (c.in_ok-add.ensures.added told) ∙ none),
-)
+    record {
+      holds = λ open_now told. (
+        c.add.ensures.stands c.in_ok-add.ensures.«open» told,
+        λ none. added_some (records w.seen) _ (sym (c.in_ok-add.ensures.added told) ∙ none),
+      );
+      adds = λ O told.
+          added the_language O m now.program now.config (taken_event m.reading c.take-taken.new.self) es turn.program (ap (taken_event m.reading) c.take-taken.ensures.after) refl is w new
+          laws (not_none es some) (is_spelled m es c.numbers_fit.ensures.session c.numbers_fit.ensures.waits turn.spelled some turn.short) (c.in_ok-add.ensures.added told) (c.add.ensures.deeds told);
+      any_moment = λ O open_now told command handed D s.
+          turn_adds the_language O e.history w command handed D (λ i d left. g.met.H.Host.only_now c.args.host.now i d told left) (c.requires.kept open_now told).0 (e.ready open_now).begun laws new m now.config es s is
+          (not_none es some) (is_spelled m es c.numbers_fit.ensures.session c.numbers_fit.ensures.waits turn.spelled some turn.short) (c.add.ensures.any_moment (e.ready open_now).not_closed told);
+      goes_on =
+          goes_on m now.program now.config (taken_event m.reading c.take-taken.new.self) (taken_event m.reading c.take-taken.result) (length es) (ap (taken_event m.reading) c.take-taken.ensures.after) refl
+          turn.ended turn.falls;
+      counted = turn.counted ∙ ap (λ l. m.config.moves + counts_of l) (turn.turn ∙ ap chosen c.take-taken.ensures.value);
+      most = turn.most;
+      session = refl;
+      waits = refl;
+      reading = refl;
+      disk_fault = λ is. absurd (cc is);
+      closed = search rules;
+      closes = tt;
+      idle = search rules;
+      «open» = refl;
+      only = tt;
+      tells = c.add.ensures.tells;
+      counts = c.add.ensures.counts;
+    }
 
 -- it can go on
 pub invariant_of-self-2 : goal.invariant_of-self-2
@@ -134,7 +174,7 @@ invariant_of-self-2 g c = record {
       let was = c.args.self.now.ready c.if-self.false in
       let old = state_of c.args.self.now.machine in
       let now = state_of c.choose_turn.new.machine in record {
-        not_closed = c.in_ok-add.ensures.open;
+        not_closed = c.in_ok-add.ensures.«open»;
         begun = c.add.ensures.still_begun;
         ended = c.add.ensures.still_ended;
         whole = c.in_ok-events.ensures.whole;
