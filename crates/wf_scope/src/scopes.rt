@@ -10,7 +10,7 @@ use crate::key::Key;
 use crate::layer::Layer;
 use crate::written::written;
 use std::alloc::Global;
-use wf_value::{Map, OutOfMemory, Value};
+use wf_value::{Map, OutOfMemory, Text, Value};
 
 /// The greatest nesting of a variable, as `Value::depth` counts.
 const NESTING_LIMIT: u32 = 100;
@@ -125,7 +125,7 @@ impl Scopes {
     ///
     /// The first of these causes that holds is told: `TooLarge` where the total would be above the limit, `TooDeep` where the value nests
     /// deeper than 100. Besides, memory may be wanting.
-    pub fn bind(&mut self, c: Chain, name: &str, v: Value) -> Result<(), AssignFault>
+    pub fn bind(&mut self, c: Chain, name: &Text, v: Value) -> Result<(), AssignFault>
         requires { IsLive c.number (layers_of self.old) }
         ensures outcome { Answers result (layers_of self.new)
             (bound self.old.limit c.number name.now (plain v) (layers_of self.old)) }
@@ -134,7 +134,7 @@ impl Scopes {
         ensures stay { StayLive (layers_of self.old) (layers_of self.new) }
         ensures apart { StayInnermost (layers_of self.old) (layers_of self.new) }
     {
-        let counted = self.counted(c.number, name);
+        let counted = self.counted(c.number, name.as_str());
         self.bind_counted(c.number, counted, name, v)
     }
 
@@ -147,7 +147,7 @@ impl Scopes {
     pub fn assign(
         &mut self,
         c: Chain,
-        name: &str,
+        name: &Text,
         path: &[Key],
         v: Value,
     ) -> Result<(), AssignFault>
@@ -160,9 +160,9 @@ impl Scopes {
         ensures stay { StayLive (layers_of self.old) (layers_of self.new) }
         ensures apart { StayInnermost (layers_of self.old) (layers_of self.new) }
     {
-        match self.holder(c.number, name) {
+        match self.holder(c.number, name.as_str()) {
             Some((number, old)) => {
-                let counted = size_of_variable(name, old);
+                let counted = size_of_variable(name.as_str(), old);
                 match written(self.alloc, path, old, v) {
                     Ok(value) => self.bind_counted(number, counted, name, value),
                     Err(fault) => Err(fault),
@@ -185,6 +185,15 @@ impl Scopes {
         if guess < self.layers.len() && self.layers[guess].number == number {
             return guess;
         }
+        self.search(number)
+    }
+
+    // The same, wherever it stands.
+    fn search(&self, number: u64) -> usize
+        requires { IsLive number (layers_of self.now) }
+        ensures within { result < length (layers_of self.now) }
+        ensures found { slice_get (layers_of self.now) result ≡ find number (layers_of self.now) }
+    {
         match self
             .layers
             .binary_search_by_key(&number, |layer| layer.number)
@@ -263,7 +272,7 @@ impl Scopes {
         &mut self,
         number: u64,
         counted: u64,
-        name: &str,
+        name: &Text,
         v: Value,
     ) -> Result<(), AssignFault>
         requires live { IsLive number (layers_of self.old) }
@@ -277,7 +286,7 @@ impl Scopes {
         ensures stay { StayLive (layers_of self.old) (layers_of self.new) }
         ensures apart { StayInnermost (layers_of self.old) (layers_of self.new) }
     {
-        let total = self.total_with(number, counted, name, &v);
+        let total = self.total_with(number, counted, name.as_str(), &v);
         if total > self.limit {
             return Err(AssignFault::TooLarge);
         }
@@ -288,7 +297,7 @@ impl Scopes {
             return Err(AssignFault::TooDeep);
         }
         let place = self.place(number);
-        match put(self.alloc, &mut self.layers, place, name, v) {
+        match put(&mut self.layers, place, name, v) {
             Ok(()) => {
                 self.total = total;
                 Ok(())
@@ -348,10 +357,9 @@ fn size_of_variable(name: &str, value: &Value) -> u64
 
 // Makes or changes a variable of the layer at a place. Without memory all stays.
 fn put(
-    alloc: Global,
     layers: &mut Vec<Layer>,
     place: usize,
-    name: &str,
+    name: &Text,
     value: Value,
 ) -> Result<(), OutOfMemory>
     requires { place < length layers.old.items }
@@ -359,5 +367,5 @@ fn put(
         layers.old.items else layers.old.items) }
 {
     let layer = &mut layers[place];
-    layer.put(alloc, name, value)
+    layer.put(name, value)
 }

@@ -12,7 +12,6 @@ use crate::measure::Measure;
 use crate::sharing::own_entries;
 use crate::value::Entries;
 use crate::{OutOfMemory, Text, Value};
-use std::alloc::Global;
 use std::cmp::Ordering;
 use std::mem;
 use std::rc::Rc;
@@ -51,11 +50,10 @@ pub(crate) fn insert_pair(
     }
 }
 
-// The same. The key is made only where it isn't there.
+// The same. The key is shared only where it isn't there.
 pub(crate) fn put_pair(
-    alloc: Global,
     entries: &mut Rc<Entries>,
-    key: &str,
+    key: &Text,
     value: Value,
 ) -> Result<Option<Value>, OutOfMemory>
     requires order { IsInOrder entries.old.value.pairs.items }
@@ -70,7 +68,7 @@ pub(crate) fn put_pair(
 {
     own_entries(entries)?;
     match Rc::get_mut(entries) {
-        Some(own) => put_measured(alloc, own, key, value),
+        Some(own) => put_measured(own, key, value),
         None => Err(OutOfMemory),
     }
 }
@@ -125,9 +123,8 @@ fn insert_measured(
 }
 
 fn put_measured(
-    alloc: Global,
     entries: &mut Entries,
-    key: &str,
+    key: &Text,
     value: Value,
 ) -> Result<Option<Value>, OutOfMemory>
     requires order { IsInOrder entries.old.pairs.items }
@@ -140,10 +137,10 @@ fn put_measured(
     ensures measure { IsMeasure entries.new.measure
         (map (pairs_of (plain_pairs entries.new.pairs.items))) }
 {
-    match seek(entries.pairs.as_slice(), key) {
-        Ok(i) => Ok(Some(replace_at(entries, i, key, value))),
+    match seek(entries.pairs.as_slice(), key.as_str()) {
+        Ok(i) => Ok(Some(replace_at(entries, i, key.as_str(), value))),
         Err(i) => {
-            let key = Text::new(alloc, key)?;
+            let key = key.copy()?;
             insert_at(entries, i, key, value)?;
             Ok(None)
         }
@@ -211,7 +208,17 @@ fn seek(pairs: &[(Text, Value)], key: &str) -> Result<usize, usize>
     ensures place { result ≡ seek (key_cmp key.now) pairs.now }
     ensures within { IsSearchInRange result (length pairs.now) }
 {
-    pairs.binary_search_by(|pair| order(pair.0.as_str(), key))
+    let mut low = 0;
+    let mut high = pairs.len();
+    while low < high {
+        let middle = low + (high - low) / 2;
+        match order(pairs[middle].0.as_str(), key) {
+            Ordering::Less => low = middle + 1,
+            Ordering::Greater => high = middle,
+            Ordering::Equal => return Ok(middle),
+        }
+    }
+    Err(low)
 }
 
 // The order of two keys. Most are settled by their first bytes, which `cmp` doesn't look at first.

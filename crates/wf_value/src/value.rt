@@ -226,19 +226,14 @@ impl Map {
         insert_pair(&mut self.entries, key, value)
     }
 
-    /// The same as `insert`, with a key that is made only where it isn't there. Where it is, no key
-    /// is made, and none is let go.
-    pub fn put(
-        &mut self,
-        alloc: Global,
-        key: &str,
-        value: Value,
-    ) -> Result<Option<Value>, OutOfMemory>
+    /// The same as `insert`, with a key that is shared, and only where it isn't there. Where it is,
+    /// none is let go.
+    pub fn put(&mut self, key: &Text, value: Value) -> Result<Option<Value>, OutOfMemory>
         ensures after { self.new ≡ (if is_ok result then with_value key.now (plain value) self.old
             else self.old) }
         ensures old { IfOk result (λ v. option_map plain v ≡ value_at key.now self.old) }
     {
-        put_pair(alloc, &mut self.entries, key, value)
+        put_pair(&mut self.entries, key, value)
     }
 
     /// Takes a key and its value away, and gives the value. Without memory the map stays.

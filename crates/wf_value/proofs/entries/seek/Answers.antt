@@ -1,11 +1,7 @@
-use Rattle.std.proofs.Common.{rules}
-use Rattle.std.proofs.lemmas.Fn.{always_returns_same}
+use Rattle.std.proofs.Common.{◌≡◌, Less, Equal, Greater, sym, ap, ◌∙◌, arith}
 use Rattle.wf_value.specs.Maps.{key_cmp}
-use Rattle.wf_value.proofs.Searches.{search_is_seek}
+use Rattle.wf_value.proofs.Searches.{all_before, all_behind, found, holds_at, missing}
 use Rattle.wf_value.proofs.entries.seek.Goals as goal
 
-pub returns-clause-place : goal.returns-clause-place
-returns-clause-place c =
-    let facts = c.binary_search_by.ensures in
-    search_is_seek c.args.key.now c.args.pairs.now c.binary_search_by.result c.requires facts.bound
-    (facts.position (λ p. key_cmp p.0 c.args.key.now) (always_returns_same _ _ _ (λ a r f' called. search rules)))
+pub loop-low-preserved : goal.loop-low-preserved
+loop-low-preserved c = ?
