@@ -18,6 +18,9 @@ const NESTING_LIMIT: u32 = 100;
 /// No memory holds variables that come to more.
 const MOST: u64 = u64::MAX - 2;
 
+/// Most layers hold no more variables.
+const ROOM: usize = 8;
+
 /// A layer, by its number. From it are seen this layer, the one outside it, and so on outward.
 #[derive(Clone, Copy)]
 pub struct Chain {
@@ -333,7 +336,7 @@ impl Scopes {
         ensures stay { StayLive (layers_of self.old) (layers_of self.new) }
     {
         let number = self.fresh()?;
-        let vars = Map::new(self.alloc)?;
+        let vars = Map::with_capacity(self.alloc, ROOM)?;
         let layer = Layer {
             number,
             outer,

@@ -171,6 +171,19 @@ impl List {
 }
 
 impl Map {
+    /// The empty map, with room for so many pairs.
+    #[tactic(auto, using(crate::proofs::Order::in_order_empty))]
+    pub fn with_capacity(alloc: Global, count: usize) -> Result<Map, OutOfMemory>
+        ensures { IfOk result (λ m. m ≡ []) }
+    {
+        let pairs = Vec::with_capacity(alloc, count)?;
+        let measure = Measure::of_nothing();
+        match Rc::new(alloc, Entries { pairs, measure }) {
+            Ok(entries) => Ok(Map { entries }),
+            Err(_) => Err(OutOfMemory),
+        }
+    }
+
     /// The empty map.
     #[tactic(auto, using(crate::proofs::Order::in_order_empty))]
     pub fn new(alloc: Global) -> Result<Map, OutOfMemory>
