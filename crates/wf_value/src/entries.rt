@@ -50,12 +50,14 @@ pub(crate) fn insert_pair(
     }
 }
 
-// The same. The key is shared only where it isn't there.
+// The same at the place where the key stands or belongs. The key is shared only where it isn't there.
 pub(crate) fn put_pair(
     entries: &mut Rc<Entries>,
+    place: Result<usize, usize>,
     key: &Text,
     value: Value,
 ) -> Result<Option<Value>, OutOfMemory>
+    requires place { place ≡ seek (key_cmp key.now) entries.old.value.pairs.items }
     requires order { IsInOrder entries.old.value.pairs.items }
     requires measured { IsMeasure entries.old.value.measure
         (map (pairs_of (plain_pairs entries.old.value.pairs.items))) }
@@ -68,7 +70,7 @@ pub(crate) fn put_pair(
 {
     own_entries(entries)?;
     match Rc::get_mut(entries) {
-        Some(own) => put_measured(own, key, value),
+        Some(own) => put_measured(own, place, key, value),
         None => Err(OutOfMemory),
     }
 }
@@ -124,9 +126,11 @@ fn insert_measured(
 
 fn put_measured(
     entries: &mut Entries,
+    place: Result<usize, usize>,
     key: &Text,
     value: Value,
 ) -> Result<Option<Value>, OutOfMemory>
+    requires place { place ≡ seek (key_cmp key.now) entries.old.pairs.items }
     requires order { IsInOrder entries.old.pairs.items }
     requires measured { IsMeasure entries.old.measure
         (map (pairs_of (plain_pairs entries.old.pairs.items))) }
@@ -137,7 +141,7 @@ fn put_measured(
     ensures measure { IsMeasure entries.new.measure
         (map (pairs_of (plain_pairs entries.new.pairs.items))) }
 {
-    match seek(entries.pairs.as_slice(), key.as_str()) {
+    match place {
         Ok(i) => Ok(Some(replace_at(entries, i, key.as_str(), value))),
         Err(i) => {
             let key = key.copy()?;
@@ -203,7 +207,7 @@ fn take_measured(entries: &mut Entries, key: &str) -> Option<Value>
 }
 
 // Where the key stands, or where it belongs.
-fn seek(pairs: &[(Text, Value)], key: &str) -> Result<usize, usize>
+pub(crate) fn seek(pairs: &[(Text, Value)], key: &str) -> Result<usize, usize>
     requires { IsInOrder pairs.now }
     ensures place { result ≡ seek (key_cmp key.now) pairs.now }
     ensures within { IsSearchInRange result (length pairs.now) }

@@ -2,11 +2,11 @@
 ghost use Rattle.std.specs.Prelude.{◌≡◌, [], ◌∷◌, ◌++◌, IfOk, is_ok, option_map, if◌then◌else◌};
 ghost use Rattle.std.specs.List.{slice_get};
 ghost use Rattle.wf_value.specs.Data.{items_of, list, map, pairs_of};
-ghost use Rattle.wf_value.specs.Maps.{IsInOrder, value_at, with_value, without};
+ghost use Rattle.wf_value.specs.Maps.{IsInOrder, place_of, value_at, with_value, without};
 ghost use Rattle.wf_value.specs.Measures.{IsMeasure};
 ghost use Rattle.wf_value.specs.Plain.{plain, plain_items, plain_pairs};
 
-use crate::entries::{find, insert_pair, put_pair, remove_pair};
+use crate::entries::{find, insert_pair, put_pair, remove_pair, seek};
 use crate::items::push_item;
 use crate::measure::Measure;
 use crate::{Bytes, OutOfMemory, Text};
@@ -246,7 +246,31 @@ impl Map {
             else self.old) }
         ensures old { IfOk result (λ v. option_map plain v ≡ value_at key.now self.old) }
     {
-        put_pair(&mut self.entries, key, value)
+        let place = self.place(key.as_str());
+        self.put_at(place, key, value)
+    }
+
+    /// Where a key stands, or where it belongs.
+    pub fn place(&self, key: &str) -> Result<usize, usize>
+        ensures place { result ≡ place_of key.now self.now }
+        ensures order { IsInOrder self.now }
+    {
+        seek(self.entries.pairs.as_slice(), key)
+    }
+
+    /// The same as `put`, at the key's place.
+    pub fn put_at(
+        &mut self,
+        place: Result<usize, usize>,
+        key: &Text,
+        value: Value,
+    ) -> Result<Option<Value>, OutOfMemory>
+        requires { place ≡ place_of key.now self.old }
+        ensures after { self.new ≡ (if is_ok result then with_value key.now (plain value) self.old
+            else self.old) }
+        ensures old { IfOk result (λ v. option_map plain v ≡ value_at key.now self.old) }
+    {
+        put_pair(&mut self.entries, place, key, value)
     }
 
     /// Takes a key and its value away, and gives the value. Without memory the map stays.
