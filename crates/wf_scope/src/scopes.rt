@@ -200,15 +200,6 @@ impl Scopes {
         if guess < self.layers.len() && self.layers[guess].number == number {
             return guess;
         }
-        self.search(number)
-    }
-
-    // The same, wherever it stands.
-    fn search(&self, number: u64) -> usize
-        requires { IsLive number (layers_of self.now) }
-        ensures within { result < length (layers_of self.now) }
-        ensures found { slice_get (layers_of self.now) result ≡ find number (layers_of self.now) }
-    {
         match self
             .layers
             .binary_search_by_key(&number, |layer| layer.number)
