@@ -12,6 +12,16 @@ use Rattle.wf_value.specs.Maps.{IsInOrder, key_cmp}
 turned : (a b : List ℕ) (o : Ordering) → key_cmp b a ≡ o → key_cmp a b ≡ ordering_reverse o
 turned a b o h = nat_list_cmp_total.antisymm a b ∙ ap ordering_reverse h
 
+least : (o : Ordering) → ordering_index o ≤ 0 → o ≡ Less
+least Less h = refl
+least Equal h = absurd (omega arith)
+least Greater h = absurd (omega arith)
+
+greatest : (o : Ordering) → 2 ≤ ordering_index o → o ≡ Greater
+greatest Less h = absurd (omega arith)
+greatest Equal h = absurd (omega arith)
+greatest Greater h = refl
+
 module _ (k : List ℕ) where
   by_lower : (a b : List ℕ) (o : Ordering) → key_cmp a b ≡ Less → key_cmp a k ≡ o → ordering_index o ≤ ordering_index (key_cmp b k)
   by_lower a b Less less h = omega arith
@@ -62,18 +72,8 @@ module _ (k : List ℕ) where
     anywhere (p ∷ ps) (suc i) d e lt = anywhere ps i d e (omega arith)
 
     -- what holds of the element at a place
-    pub holds_at : (P : List ℕ × X → Type 0) (ps : List (List ℕ × X)) (i : ℕ) (p : List ℕ × X) → i < length ps → p ≡ slice_index_or ps i p → P p → HoldsAt P ps i
-    holds_at P ps i p lt is h d = subst P (is ∙ anywhere ps i p d lt) h
-
-    least : (o : Ordering) → ordering_index o ≤ 0 → o ≡ Less
-    least Less h = refl
-    least Equal h = absurd (omega arith)
-    least Greater h = absurd (omega arith)
-
-    greatest : (o : Ordering) → 2 ≤ ordering_index o → o ≡ Greater
-    greatest Less h = absurd (omega arith)
-    greatest Equal h = absurd (omega arith)
-    greatest Greater h = refl
+    pub holds_at : (P : List ℕ × X → Type 0) (ps : List (List ℕ × X)) (i : ℕ) (p : List ℕ × X) → i < length ps → P (slice_index_or ps i p) → HoldsAt P ps i
+    holds_at P ps i p lt h d = subst P (anywhere ps i p d lt) h
 
     -- the key is above one of them, and so above those before it
     pub all_before : (ps : List (List ℕ × X)) (i : ℕ) → IsInOrder ps → i < length ps → HoldsAt (λ p. key_cmp p.0 k ≡ Less) ps i → AllWithin (λ p. key_cmp p.0 k ≡ Less) ps 0 (i + 1)
