@@ -3,11 +3,9 @@ use Rattle.std.proofs.Common.{◌≡◌, ℕ, zero, suc, ◌+◌, ◌<◌, ◌�
 use Rattle.std.specs.Prelude.{option_map, slice_get}
 use Rattle.wf_ast.specs.Tree.{Program}
 use Rattle.wf_frames.specs.Built.{AreTargets}
-use Rattle.wf_frames.specs.Kinds.{AreWants, kind_view, wanted_at, wants_view}
-use Rattle.wf_frames.specs.declared.kinds.Kind.{Kind}
+use Rattle.wf_frames.specs.Kinds.{wanted_at, wants_view}
 use Rattle.wf_frames.specs.declared.kinds.Wants.{Wants}
 use Rattle.wf_frames.specs.declared.target.Target.{Target}
-use Rattle.wf_model.specs.Kinds.{NextKind}
 use Rattle.wf_model.specs.Spots.{Spot}
 use Rattle.wf_model.specs.declared.node.Node.{Node}
 
@@ -28,10 +26,3 @@ pub found_next : (ns : List Spot) (nodes : List Node) (targets : List Target) (n
 found_next ns nodes targets n ws vs w is long old new p named i lt =
     ap (λ xs. option_map wants_view (slice_get xs i)) is
     ∙ more wants_view ws w i (wanted_at p ns i) (λ h. old p named i (omega arith)) (λ h. new p named ∙ ap (wanted_at p ns) (sym long ∙ sym h)) (omega arith)
-
--- what one of them wants
-pub body_wanted : (o : Option Wants) (w : Wants) (k q : NextKind) → o ≡ Some w → option_map wants_view o ≡ Some (k, q) → kind_view w.body ≡ k
-body_wanted o w k q is at = let here : Some (wants_view w) ≡ Some (k, q) = sym (ap (option_map wants_view) is) ∙ at in cc here
-
-pub entry_wanted : (o : Option Wants) (w : Wants) (k q : NextKind) → o ≡ Some w → option_map wants_view o ≡ Some (k, q) → kind_view w.entry ≡ q
-entry_wanted o w k q is at = let here : Some (wants_view w) ≡ Some (k, q) = sym (ap (option_map wants_view) is) ∙ at in cc here

@@ -164,7 +164,7 @@ fn node_kind(nodes: &[Node], targets: &[Target], n: usize) -> Kind
 }
 
 /// What a node wants.
-#[derive(Debug, Clone, Copy, PartialEq, Eq)]
+#[derive(Clone, Copy)]
 pub struct Wants {
     /// As a step.
     body: Kind,
