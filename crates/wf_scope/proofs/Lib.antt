@@ -5,4 +5,3 @@ pub mod Numbers
 pub mod Seen
 pub mod Totals
 pub mod Writing
-pub mod Spotted

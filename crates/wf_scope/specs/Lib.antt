@@ -3,4 +3,3 @@ pub mod Faults
 pub mod Layers
 pub mod Places
 pub mod Store
-pub mod Spots

@@ -1,7 +1,6 @@
 // A layer of variables.
 ghost use Rattle.std.specs.Prelude.{◌≡◌, is_ok, if◌then◌else◌};
 ghost use Rattle.wf_scope.specs.Layers.{with_variable};
-ghost use Rattle.wf_value.specs.Maps.{place_of};
 ghost use Rattle.wf_value.specs.Plain.{plain};
 
 use wf_value::{Map, OutOfMemory, Text, Value};
@@ -16,18 +15,12 @@ pub(crate) struct Layer {
 }
 
 impl Layer {
-    /// Makes or changes the variable of this name, at its place. Without memory the layer stays, and the value is dropped.
-    pub(crate) fn put(
-        &mut self,
-        place: Result<usize, usize>,
-        name: &Text,
-        value: Value,
-    ) -> Result<(), OutOfMemory>
-        requires { place ≡ place_of name.now self.old.vars }
+    /// Makes or changes a variable. Without memory the layer stays, and the value is dropped.
+    pub(crate) fn put(&mut self, name: &Text, value: Value) -> Result<(), OutOfMemory>
         ensures { self.new ≡ (if is_ok result then with_variable name.now (plain value) self.old
             else self.old) }
     {
-        self.vars.put_at(place, name, value)?;
+        self.vars.put(name, value)?;
         Ok(())
     }
 }
