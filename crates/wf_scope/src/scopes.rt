@@ -352,12 +352,7 @@ fn size_of_variable(name: &str, value: &Value) -> u64
 }
 
 // Makes or changes a variable of the layer at a place. Without memory all stays.
-fn put(
-    layers: &mut Vec<Layer>,
-    place: usize,
-    name: &Text,
-    value: Value,
-) -> Result<(), OutOfMemory>
+fn put(layers: &mut Vec<Layer>, place: usize, name: &Text, value: Value) -> Result<(), OutOfMemory>
     requires { place < length layers.old.items }
     ensures { layers.new.items ≡ (if is_ok result then put_place place name.now (plain value)
         layers.old.items else layers.old.items) }
