@@ -5,7 +5,7 @@ ghost use Rattle.wf_scope.specs.Store.{layers_of};
 use std::alloc::Global;
 use wf_cases::{Case, CaseFault};
 use wf_scope::{AssignFault, Chain, Key, Scopes};
-use wf_value::{Raise, Value, to_json};
+use wf_value::{Raise, Text, Value, to_json};
 
 /// What an assignment does: a case is the limit, the variables of a layer, those of a layer inside it, and the name, the places and the
 /// value that are assigned from there. The answer is `ok` or the fault with its tag, what the name is then in the inner layer and in the
@@ -21,7 +21,8 @@ pub(crate) fn answer(alloc: Global, case: &Case<'_>) -> Result<String, CaseFault
     bind_all(alloc, &mut scopes, inner, case.item(2)?)?;
     let name = case.text(3)?;
     let path = path_of(alloc, case.item(4)?)?;
-    let outcome = scopes.assign(inner, name, path.as_slice(), case.item(5)?.copy(alloc)?);
+    let target = Text::new(alloc, name)?;
+    let outcome = scopes.assign(inner, &target, path.as_slice(), case.item(5)?.copy(alloc)?);
     let told = told(alloc, outcome)?;
     let inside = shown(alloc, scopes.look(inner, name))?;
     let outside = shown(alloc, scopes.look(outer, name))?;
@@ -50,7 +51,7 @@ fn bind_all(
             return Ok(());
         };
         let value = value.copy(alloc)?;
-        if scopes.bind(c, name, value).is_err() {
+        if scopes.bind(c, &Text::new(alloc, name)?, value).is_err() {
             return Err(CaseFault::NoCase);
         }
     }

@@ -32,7 +32,7 @@ fn called(alloc: Global, map: &mut Map, call: &Value) -> Result<String, CaseFaul
             written_if(alloc, old.as_ref())
         }
         ("put", [Value::Text(key), value]) => {
-            let old = map.put(alloc, key.as_str(), value.copy(alloc)?)?;
+            let old = map.put(key, value.copy(alloc)?)?;
             written_if(alloc, old.as_ref())
         }
         ("remove", [Value::Text(key)]) => {

@@ -24,3 +24,4 @@ pub mod Performed
 pub mod Shallow
 pub mod Assigns
 pub mod Looks
+pub mod Wanted

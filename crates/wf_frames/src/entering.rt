@@ -85,7 +85,7 @@ fn bind_all(scopes: &mut Scopes, layer: Chain, bindings: Bindings) -> Result<(),
     let mut bindings = bindings;
     while let Some(both) = bindings.take_first() {
         let (name, value) = both;
-        scopes.bind(layer, name.as_str(), value)?;
+        scopes.bind(layer, &name, value)?;
     }
     Ok(())
 }
@@ -127,9 +127,9 @@ fn bind_names(
     ensures live { IsLive layer.number (layers_of scopes.new) }
     ensures innermost { IsInnermost layer.number (layers_of scopes.new) }
 {
-    scopes.bind(layer, name.as_str(), value)?;
+    scopes.bind(layer, name, value)?;
     match index {
-        Some(index) => scopes.bind(layer, index.as_str(), Value::Int(at as i64)),
+        Some(index) => scopes.bind(layer, index, Value::Int(at as i64)),
         None => Ok(()),
     }
 }

@@ -1,13 +1,13 @@
 // Which event a move wants.
-ghost use Rattle.std.specs.Prelude.{◌≡◌, ◌<◌, ◌∷◌, ℕ, List, length, slice_get};
+ghost use Rattle.std.specs.Prelude.{◌≡◌, ◌<◌, ◌∷◌, ℕ, IfOk, List, Some, length, option_map, slice_get};
 ghost use Rattle.wf_ast.specs.Flows.{flow};
 ghost use Rattle.wf_ast.specs.Tree.{Body, Flow, Program};
 ghost use Rattle.wf_frames.specs.Fits.{HasNode};
 ghost use Rattle.wf_frames.specs.Frames.{items};
 ghost use Rattle.wf_model.specs.Config.{Item};
-ghost use Rattle.wf_model.specs.Kinds.{arms_now, body_kind, by_clock, call_kind, entry_now, is_now, next_kind, over_now, template_now};
+ghost use Rattle.wf_model.specs.Kinds.{NextKind, arms_now, body_kind, by_clock, call_kind, entry_now, is_now, next_kind, over_now, template_now};
 ghost use Rattle.wf_frames.specs.Built.{AreTargets, IsTarget, Tells};
-ghost use Rattle.wf_frames.specs.Kinds.{kind_view};
+ghost use Rattle.wf_frames.specs.Kinds.{AreWants, kind_view, wants_view};
 ghost use Rattle.wf_model.specs.NodeKinds.{entry_by, over_by};
 ghost use Rattle.wf_model.specs.Shapes.{shape_by};
 ghost use Rattle.wf_model.specs.Spots.{Spot, arms_by, entries_by, part_at, part_body, part_condition, part_entry};
@@ -17,8 +17,10 @@ ghost use Rattle.wf_value.specs.Pairs.{Text};
 use crate::nodes::{block, entries, first_of};
 use crate::target::Target;
 use crate::{Frame, is_clock_among, is_clock_in, is_clock_named};
+use std::alloc::Global;
 use wf_ast::{Func, Postfix};
 use wf_model::{EntryNode, Node, NodeKind, OverShape};
+use wf_value::OutOfMemory;
 
 /// The event that a move wants: a plain one, one with a reading of the clock, or one that makes a request.
 #[derive(Debug, Clone, Copy, PartialEq, Eq)]
@@ -43,13 +45,13 @@ fn is_entry_clock(entry: &EntryNode, codes: &[Postfix]) -> bool
 }
 
 // Whether the entry of this number does.
-fn is_entry_at(nodes: &[Node], n: u32) -> bool
+fn is_entry_at(nodes: &[Node], n: usize) -> bool
     ghost ns: { List Spot }
     requires tells { Tells ns nodes.now }
     requires within { n < length nodes.now }
     ensures { result ≡ entry_now (part_entry (part_at ns n)) }
 {
-    let node = &nodes[n as usize];
+    let node = &nodes[n];
     match &node.kind {
         NodeKind::Entry(entry) => is_entry_clock(entry, node.codes.items()),
         _ => false,
@@ -105,7 +107,7 @@ fn first_kind(nodes: &[Node], numbers: &[u32]) -> Kind
 {
     match numbers {
         [] => Kind::Plain,
-        [first, ..] => by_clock(is_entry_at(nodes, *first)),
+        [first, ..] => by_clock(is_entry_at(nodes, *first as usize)),
     }
 }
 
@@ -120,12 +122,12 @@ fn is_now(function: Func) -> bool
 }
 
 // Of the call at a number, where an argument names the clock, or none does.
-fn call_kind(targets: &[Target], n: u32, clock: bool) -> Kind
+fn call_kind(targets: &[Target], n: usize, clock: bool) -> Kind
     ensures { (fs : List Flow) (ns : List Spot) (x : Text)
         → IsTarget fs ns (slice_get targets.now n) x
         → kind_view result ≡ call_kind (flow fs x) x clock }
 {
-    let Some(target) = targets.get(n as usize) else {
+    let Some(target) = targets.get(n) else {
         return by_clock(clock);
     };
     match target {
@@ -138,14 +140,14 @@ fn call_kind(targets: &[Target], n: u32, clock: bool) -> Kind
 }
 
 // Of the body of a node.
-fn node_kind(nodes: &[Node], targets: &[Target], n: u32) -> Kind
+fn node_kind(nodes: &[Node], targets: &[Target], n: usize) -> Kind
     ghost ns: { List Spot }
     requires tells { Tells ns nodes.now }
     requires within { n < length nodes.now }
     ensures { (p : Program) → AreTargets p.flows ns nodes.now targets.now
         → kind_view result ≡ body_kind p (part_body (part_at ns n)) }
 {
-    let node = &nodes[n as usize];
+    let node = &nodes[n];
     let codes = node.codes.items();
     match &node.kind {
         NodeKind::Assign(numbers) => first_kind(nodes, numbers.as_slice()),
@@ -161,6 +163,57 @@ fn node_kind(nodes: &[Node], targets: &[Target], n: u32) -> Kind
     }
 }
 
+/// What a node wants.
+#[derive(Clone, Copy)]
+pub struct Wants {
+    /// As a step.
+    body: Kind,
+    /// As an entry of an assign.
+    entry: Kind,
+}
+
+/// What each node wants, by its number. `targets` has what a call names at the call's own number.
+pub fn wants_of(
+    alloc: Global,
+    nodes: &[Node],
+    targets: &[Target],
+) -> Result<Vec<Wants>, OutOfMemory>
+    ghost ns: { List Spot }
+    requires tells { Tells ns nodes.now }
+    ensures { IfOk result (λ v. (p : Program) → AreTargets p.flows ns nodes.now targets.now
+        → AreWants p ns nodes.now v.items) }
+{
+    let mut wants = Vec::with_capacity(alloc, nodes.len())?;
+    for n in 0..nodes.len() {
+        let body = node_kind(nodes, targets, n);
+        let entry = by_clock(is_entry_at(nodes, n));
+        wants.push(Wants { body, entry })?;
+    }
+    Ok(wants)
+}
+
+// What the node of this number wants as a step.
+fn body_at(wants: &[Wants], n: u32) -> Kind
+    ensures { (k : NextKind) (q : NextKind) → option_map wants_view (slice_get wants.now n)
+        ≡ Some (k, q) → kind_view result ≡ k }
+{
+    match wants.get(n as usize) {
+        Some(wants) => wants.body,
+        None => Kind::Plain,
+    }
+}
+
+// What the node of this number wants as an entry.
+fn entry_at(wants: &[Wants], n: u32) -> Kind
+    ensures { (k : NextKind) (q : NextKind) → option_map wants_view (slice_get wants.now n)
+        ≡ Some (k, q) → kind_view result ≡ q }
+{
+    match wants.get(n as usize) {
+        Some(wants) => wants.entry,
+        None => Kind::Plain,
+    }
+}
+
 // The number at a place among others, if there is one.
 fn number_at(numbers: &[u32], at: usize) -> Option<u32>
     ensures { result ≡ slice_get numbers.now at }
@@ -172,22 +225,22 @@ fn number_at(numbers: &[u32], at: usize) -> Option<u32>
     }
 }
 
-/// Of the innermost frame. `targets` has what a call names at the call's own number.
-pub fn frame_kind(nodes: &[Node], targets: &[Target], frame: &Frame) -> Kind
+/// Of the innermost frame. `wants` has what each node wants.
+pub fn frame_kind(nodes: &[Node], wants: &[Wants], frame: &Frame) -> Kind
     ghost ns: { List Spot }
     requires tells { Tells ns nodes.now }
     requires node { HasNode nodes.now frame.now }
-    ensures { (p : Program) (k : List Item) → AreTargets p.flows ns nodes.now targets.now
+    ensures { (p : Program) (k : List Item) → AreWants p ns nodes.now wants.now
         → kind_view result ≡ next_kind p (items ns frame.now k) }
 {
     match frame {
         Frame::Do(list, at) => match number_at(block(nodes, *list).steps.as_slice(), *at) {
-            Some(n) => node_kind(nodes, targets, n),
+            Some(n) => body_at(wants, n),
             None => Kind::Plain,
         },
-        Frame::Lone(n, false) => node_kind(nodes, targets, *n),
+        Frame::Lone(n, false) => body_at(wants, *n),
         Frame::Entries(n, at) => match number_at(entries(nodes, *n), *at) {
-            Some(entry) => by_clock(is_entry_at(nodes, entry)),
+            Some(entry) => entry_at(wants, entry),
             None => Kind::Plain,
         },
         _ => Kind::Plain,

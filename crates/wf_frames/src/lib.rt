@@ -30,7 +30,7 @@ pub use entering::{enter, enter_call};
 pub use facts::Facts;
 pub use filling::{fill_args, fill_shape};
 pub use frames::{Frame, Frames, Left};
-pub use kinds::{Kind, frame_kind};
+pub use kinds::{Kind, Wants, frame_kind, wants_of};
 pub use laws::{assigns_as_tasks_do, looks_as_tasks_do};
 pub use leaving::leave;
 pub use nodes::{are_built, block, entries, first_of, loop_node, try_node};

@@ -50,7 +50,7 @@ fn put(
         (plain value) (held_by around frames.now scopes.new)) }
     ensures linked { IfOk result (λ o. IsLinked around (own_of frames.now) scopes.new) }
 {
-    match scopes.assign(frames.layer(), name.as_str(), path, value) {
+    match scopes.assign(frames.layer(), name, path, value) {
         Ok(()) => Ok(None),
         Err(fault) => match fault.raise() {
             Raise::Error(tag) => Ok(Some(tag)),

@@ -6,6 +6,8 @@ ghost use Rattle.wf_events.specs.View.{start_view};
 ghost use Rattle.wf_machine.specs.Facts.{facts_of, facts_view};
 ghost use Rattle.wf_machine.specs.Main.{Aims, Begins, IsStanding};
 ghost use Rattle.wf_frames.specs.Built.{is_table_built};
+ghost use Rattle.wf_frames.specs.Kinds.{AreWants};
+ghost use Rattle.wf_model.specs.Spots.{spots};
 
 use crate::argument::argument_of;
 use crate::facts::Facts;
@@ -14,7 +16,7 @@ use crate::task::first_task;
 use std::alloc::Global;
 use wf_check::Checked;
 use wf_events::Start;
-use wf_frames::{Target, are_built};
+use wf_frames::{Target, Wants, are_built, wants_of};
 use wf_moves::Task;
 use wf_scope::Scopes;
 use wf_value::OutOfMemory;
@@ -22,11 +24,12 @@ use wf_value::OutOfMemory;
 /// What all variables together may come to, under the first rules.
 const VARIABLE_LIMIT: u64 = 65_536;
 
-/// What a machine begins with beside its program: what calls name, what is kept of the start, `main` before its first step if it has one,
+/// What a machine begins with beside its program: what calls name, what nodes want, what is kept of the start, `main` before its first step if it has one,
 /// and the layers of its variables.
 #[derive(Drop)]
 pub(crate) struct Beginning {
     pub(crate) targets: Vec<Target>,
+    pub(crate) wants: Vec<Wants>,
     pub(crate) facts: Facts,
     pub(crate) task: Option<Task>,
     pub(crate) scopes: Scopes,
@@ -42,6 +45,8 @@ pub(crate) fn beginning_of(
     ensures built { OnOk result (is_table_built (nodes_of program.now) ≡ true) }
     ensures aims { IfOk result (λ b. Aims (program_of program.now) (nodes_of program.now)
         b.targets.items) }
+    ensures wants { IfOk result (λ b. AreWants (program_of program.now)
+        (spots (program_of program.now).flows) (nodes_of program.now) b.wants.items) }
     ensures facts { IfOk result (λ b. facts_view b.facts ≡ facts_of (start_view start.now)) }
     ensures begins { IfOk result (λ b. Begins (program_of program.now)
         (argument_of (start_view start.now)) b.task b.scopes) }
@@ -55,12 +60,14 @@ pub(crate) fn beginning_of(
     let Some(targets) = found else {
         return Err(OutOfMemory);
     };
+    let wants = wants_of(alloc, program.nodes(), targets.as_slice())?;
     let facts = Facts::of(alloc, start)?;
     let argument = argument_of(alloc, start)?;
     let mut scopes = Scopes::new(alloc, VARIABLE_LIMIT)?;
     let task = first_task(alloc, program, argument, &mut scopes)?;
     Ok(Beginning {
         targets,
+        wants,
         facts,
         task,
         scopes,

@@ -7,6 +7,8 @@ ghost use Rattle.wf_machine.specs.Main.{Aims, Aims-prop, IsStanding, IsStanding-
 ghost use Rattle.wf_machine.specs.State.{outcome_by, outcome_depth};
 ghost use Rattle.wf_machine.specs.declared.ending.Ending.TheVariants.{Running};
 ghost use Rattle.wf_frames.specs.Built.{is_table_built};
+ghost use Rattle.wf_frames.specs.Kinds.{AreWants, AreWants-prop};
+ghost use Rattle.wf_model.specs.Spots.{spots};
 
 use crate::beginning::beginning_of;
 use crate::ending::{Ending, Outcome};
@@ -18,7 +20,7 @@ use wf_ast::Program;
 use wf_calls::{Calls, numbers_are_those_of_steps};
 use wf_check::Checked;
 use wf_events::Start;
-use wf_frames::Target;
+use wf_frames::{Target, Wants};
 use wf_http_ask::Request;
 use wf_moves::Task;
 use wf_scope::Scopes;
@@ -43,6 +45,8 @@ pub struct Machine {
     pub(crate) program: Checked,
     /// What a call names, at the call's own number, and the workflow of a predicate, at that of its `try`.
     pub(crate) targets: Vec<Target>,
+    /// Which event each node wants.
+    pub(crate) wants: Vec<Wants>,
     pub(crate) facts: Facts,
     pub(crate) tally: Tally,
     /// `main`, until it has ended.
@@ -54,6 +58,7 @@ pub struct Machine {
     pub(crate) broken: bool,
     ghost built: { is_table_built (nodes_of program) ≡ true },
     ghost aims: { Aims (program_of program) (nodes_of program) targets.items } by { Aims-prop _ _ _ },
+    ghost wanted: { AreWants (program_of program) (spots (program_of program).flows) (nodes_of program) wants.items } by { AreWants-prop _ _ _ _ },
     ghost standing: { IsStanding (program_of program) (nodes_of program) task scopes } by { IsStanding-prop _ _ _ _ },
     ghost reached: { ∥ (is_some task ≡ true → IsReached (program_of program)
         (config_of (program_of program) facts tally task scopes calls log ending)) ∥₁ },
@@ -70,6 +75,7 @@ impl Drop for Machine {
             alloc: _,
             program: _,
             targets: _,
+            wants: _,
             facts: _,
             tally: _,
             task: _,
@@ -116,6 +122,7 @@ impl Machine {
             alloc,
             program,
             targets: begun.targets,
+            wants: begun.wants,
             facts: begun.facts,
             tally: Tally {
                 last: start.reading,

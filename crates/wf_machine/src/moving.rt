@@ -53,7 +53,7 @@ impl Machine {
             return None;
         };
         if task.is_awake() {
-            Some(kind_of(&self.program, self.targets.as_slice(), task))
+            Some(kind_of(&self.program, self.wants.as_slice(), task))
         } else {
             None
         }

@@ -15,15 +15,15 @@ ghost use Rattle.wf_model.specs.Local.{Scene};
 ghost use Rattle.wf_moves.specs.Tasks.{IsFirst, MovesSo, Stays};
 ghost use Rattle.wf_moves.specs.Waits.{CanGoOn, result_in, task_local};
 ghost use Rattle.wf_model.specs.Spots.{spots};
-ghost use Rattle.wf_frames.specs.Built.{AreTargets, Tells};
-ghost use Rattle.wf_frames.specs.Kinds.{kind_view};
+ghost use Rattle.wf_frames.specs.Built.{Tells};
+ghost use Rattle.wf_frames.specs.Kinds.{AreWants, kind_view};
 ghost use Rattle.wf_value.specs.Plain as values;
 
 use crate::facts::Facts;
 use std::alloc::Global;
 use wf_calls::{Calls, Closed};
 use wf_check::Checked;
-use wf_frames::{Kind, Target};
+use wf_frames::{Kind, Target, Wants};
 use wf_moves::{Move, Task};
 use wf_scope::Scopes;
 use wf_value::{OutOfMemory, Value};
@@ -54,15 +54,15 @@ pub(crate) fn first_task(
 }
 
 /// Which event `main`'s next move wants.
-pub(crate) fn kind_of(program: &Checked, targets: &[Target], task: &Task) -> Kind
+pub(crate) fn kind_of(program: &Checked, wants: &[Wants], task: &Task) -> Kind
     ghost plain: { Program }
     requires tells { Tells (spots plain.flows) (nodes_of program.now) }
     requires fits { Fits (spots plain.flows) (nodes_of program.now) (inner task.now.frames) }
     ensures { (p : Program)
-        → AreTargets p.flows (spots plain.flows) (nodes_of program.now) targets.now
+        → AreWants p (spots plain.flows) (nodes_of program.now) wants.now
         → kind_view result ≡ next_kind p (control_of (around plain) task.now.frames) }
 {
-    task.next_kind(program.nodes(), targets)
+    task.next_kind(program.nodes(), wants)
 }
 
 /// Why `main` goes on.

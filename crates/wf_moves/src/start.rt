@@ -44,7 +44,7 @@ fn bind_argument(
 {
     match params {
         [] => Ok(()),
-        [first, ..] => match scopes.bind(layer, first.name.as_str(), argument) {
+        [first, ..] => match scopes.bind(layer, &first.name, argument) {
             Ok(()) => Ok(()),
             Err(_) => Err(OutOfMemory),
         },

@@ -24,7 +24,7 @@ use crate::sending::{Sending, Sent};
 use crate::start::{first_layer, params};
 use crate::wait::Wait;
 use std::alloc::Global;
-use wf_frames::{Facts, Frame, Frames, Kind, Target, frame_kind};
+use wf_frames::{Facts, Frame, Frames, Kind, Target, Wants, frame_kind};
 use wf_model::Node;
 use wf_scope::Scopes;
 use wf_sys_ask::Logged;
@@ -66,7 +66,7 @@ impl Task {
     ghost use Rattle.wf_frames.specs.Frames.{result_of};
     ghost use Rattle.wf_model.specs.Kinds.{next_kind};
     ghost use Rattle.wf_model.specs.Leave.{gives};
-    ghost use Rattle.wf_frames.specs.Kinds.{kind_view};
+    ghost use Rattle.wf_frames.specs.Kinds.{AreWants, kind_view};
     ghost use Rattle.wf_model.specs.Move.{due, resumed};
     ghost use Rattle.wf_moves.specs.Requests.{Reaches};
     ghost use Rattle.wf_moves.specs.Stepped.{stepped};
@@ -114,16 +114,16 @@ impl Task {
         }
     }
 
-    /// Which event the next move wants. `targets` has what a call names at the call's own number.
-    pub fn next_kind(&self, nodes: &[Node], targets: &[Target]) -> Kind
+    /// Which event the next move wants. `wants` has what each node wants.
+    pub fn next_kind(&self, nodes: &[Node], wants: &[Wants]) -> Kind
         ghost around: { Around }
         requires tells { Tells around.spots nodes.now }
         requires fits { Fits around.spots nodes.now (inner self.now.frames) }
-        ensures { (p : Program) → AreTargets p.flows around.spots nodes.now targets.now
+        ensures { (p : Program) → AreWants p around.spots nodes.now wants.now
             → kind_view result ≡ next_kind p (control_of around self.now.frames) }
     {
         match self.frames.top() {
-            Some(frame) => frame_kind(nodes, targets, frame),
+            Some(frame) => frame_kind(nodes, wants, frame),
             None => Kind::Plain,
         }
     }
@@ -334,8 +334,14 @@ impl Task {
         ensures left { IfOk result (λ d. Stays nodes.now d self.new) }
         ensures nothing_sent { IfOk result (λ d. is_sent d ≡ false) }
     {
-        let behind = self.stand(nodes, targets, scopes, facts, went)?;
-        Ok(move_by(behind))
+        match went {
+            // what most moves give leads nowhere else
+            Went::Goes => Ok(Move::Went),
+            went => {
+                let behind = self.stand(nodes, targets, scopes, facts, went)?;
+                Ok(move_by(behind))
+            }
+        }
     }
 
     // How it stands where a move leads: its error goes outward, and so does what a predicate has said.

@@ -3,8 +3,7 @@ ghost use Rattle.std.specs.Prelude.{◌≡◌, is_ok, if◌then◌else◌};
 ghost use Rattle.wf_scope.specs.Layers.{with_variable};
 ghost use Rattle.wf_value.specs.Plain.{plain};
 
-use std::alloc::Global;
-use wf_value::{Map, OutOfMemory, Value};
+use wf_value::{Map, OutOfMemory, Text, Value};
 
 /// Variables by their names. A layer has a number, that of the layer outside it, if there is one, and the count of those around it.
 #[derive(Drop)]
@@ -17,11 +16,11 @@ pub(crate) struct Layer {
 
 impl Layer {
     /// Makes or changes a variable. Without memory the layer stays, and the value is dropped.
-    pub(crate) fn put(&mut self, alloc: Global, name: &str, value: Value) -> Result<(), OutOfMemory>
+    pub(crate) fn put(&mut self, name: &Text, value: Value) -> Result<(), OutOfMemory>
         ensures { self.new ≡ (if is_ok result then with_variable name.now (plain value) self.old
             else self.old) }
     {
-        self.vars.put(alloc, name, value)?;
+        self.vars.put(name, value)?;
         Ok(())
     }
 }

@@ -10,13 +10,16 @@ use crate::key::Key;
 use crate::layer::Layer;
 use crate::written::written;
 use std::alloc::Global;
-use wf_value::{Map, OutOfMemory, Value};
+use wf_value::{Map, OutOfMemory, Text, Value};
 
 /// The greatest nesting of a variable, as `Value::depth` counts.
 const NESTING_LIMIT: u32 = 100;
 
 /// No memory holds variables that come to more.
 const MOST: u64 = u64::MAX - 2;
+
+/// Most layers hold no more variables.
+const ROOM: usize = 8;
 
 /// A layer, by its number. From it are seen this layer, the one outside it, and so on outward.
 #[derive(Clone, Copy)]
@@ -125,7 +128,7 @@ impl Scopes {
     ///
     /// The first of these causes that holds is told: `TooLarge` where the total would be above the limit, `TooDeep` where the value nests
     /// deeper than 100. Besides, memory may be wanting.
-    pub fn bind(&mut self, c: Chain, name: &str, v: Value) -> Result<(), AssignFault>
+    pub fn bind(&mut self, c: Chain, name: &Text, v: Value) -> Result<(), AssignFault>
         requires { IsLive c.number (layers_of self.old) }
         ensures outcome { Answers result (layers_of self.new)
             (bound self.old.limit c.number name.now (plain v) (layers_of self.old)) }
@@ -134,7 +137,8 @@ impl Scopes {
         ensures stay { StayLive (layers_of self.old) (layers_of self.new) }
         ensures apart { StayInnermost (layers_of self.old) (layers_of self.new) }
     {
-        let counted = self.counted(c.number, name);
+        let key = name.as_str();
+        let counted = self.counted(c.number, key);
         self.bind_counted(c.number, counted, name, v)
     }
 
@@ -147,7 +151,7 @@ impl Scopes {
     pub fn assign(
         &mut self,
         c: Chain,
-        name: &str,
+        name: &Text,
         path: &[Key],
         v: Value,
     ) -> Result<(), AssignFault>
@@ -160,9 +164,10 @@ impl Scopes {
         ensures stay { StayLive (layers_of self.old) (layers_of self.new) }
         ensures apart { StayInnermost (layers_of self.old) (layers_of self.new) }
     {
-        match self.holder(c.number, name) {
+        let key = name.as_str();
+        match self.holder(c.number, key) {
             Some((number, old)) => {
-                let counted = size_of_variable(name, old);
+                let counted = size_of_variable(key, old);
                 match written(self.alloc, path, old, v) {
                     Ok(value) => self.bind_counted(number, counted, name, value),
                     Err(fault) => Err(fault),
@@ -246,7 +251,7 @@ impl Scopes {
     }
 
     // The total once this layer's variable, which counts so much, has the value.
-    fn total_with(&self, number: u64, counted: u64, name: &str, value: &Value) -> u64
+    fn total_with(&self, number: u64, counted: u64, name: &Text, value: &Value) -> u64
         requires live { IsLive number (layers_of self.now) }
         requires counted { counted ≡ variable_size name.now
             (value_at name.now (vars_at number (layers_of self.now))) }
@@ -255,7 +260,7 @@ impl Scopes {
             (put_at number name.now (plain value.now) (layers_of self.now))) 18446744073709551615 }
     {
         let rest = self.total - counted;
-        rest.saturating_add(size_of_variable(name, value))
+        rest.saturating_add(size_of_variable(name.as_str(), value))
     }
 
     // Makes or changes a variable of a layer, which counts so much.
@@ -263,7 +268,7 @@ impl Scopes {
         &mut self,
         number: u64,
         counted: u64,
-        name: &str,
+        name: &Text,
         v: Value,
     ) -> Result<(), AssignFault>
         requires live { IsLive number (layers_of self.old) }
@@ -288,7 +293,7 @@ impl Scopes {
             return Err(AssignFault::TooDeep);
         }
         let place = self.place(number);
-        match put(self.alloc, &mut self.layers, place, name, v) {
+        match put(&mut self.layers, place, name, v) {
             Ok(()) => {
                 self.total = total;
                 Ok(())
@@ -324,7 +329,7 @@ impl Scopes {
         ensures stay { StayLive (layers_of self.old) (layers_of self.new) }
     {
         let number = self.fresh()?;
-        let vars = Map::new(self.alloc)?;
+        let vars = Map::with_capacity(self.alloc, ROOM)?;
         let layer = Layer {
             number,
             outer,
@@ -347,17 +352,11 @@ fn size_of_variable(name: &str, value: &Value) -> u64
 }
 
 // Makes or changes a variable of the layer at a place. Without memory all stays.
-fn put(
-    alloc: Global,
-    layers: &mut Vec<Layer>,
-    place: usize,
-    name: &str,
-    value: Value,
-) -> Result<(), OutOfMemory>
+fn put(layers: &mut Vec<Layer>, place: usize, name: &Text, value: Value) -> Result<(), OutOfMemory>
     requires { place < length layers.old.items }
     ensures { layers.new.items ≡ (if is_ok result then put_place place name.now (plain value)
         layers.old.items else layers.old.items) }
 {
     let layer = &mut layers[place];
-    layer.put(alloc, name, value)
+    layer.put(name, value)
 }

@@ -12,7 +12,6 @@ use crate::measure::Measure;
 use crate::sharing::own_entries;
 use crate::value::Entries;
 use crate::{OutOfMemory, Text, Value};
-use std::alloc::Global;
 use std::cmp::Ordering;
 use std::mem;
 use std::rc::Rc;
@@ -51,13 +50,14 @@ pub(crate) fn insert_pair(
     }
 }
 
-// The same. The key is made only where it isn't there.
+// The same at the place where the key stands or belongs. The key is shared only where it isn't there.
 pub(crate) fn put_pair(
-    alloc: Global,
     entries: &mut Rc<Entries>,
-    key: &str,
+    place: Result<usize, usize>,
+    key: &Text,
     value: Value,
 ) -> Result<Option<Value>, OutOfMemory>
+    requires place { place ≡ seek (key_cmp key.now) entries.old.value.pairs.items }
     requires order { IsInOrder entries.old.value.pairs.items }
     requires measured { IsMeasure entries.old.value.measure
         (map (pairs_of (plain_pairs entries.old.value.pairs.items))) }
@@ -70,7 +70,7 @@ pub(crate) fn put_pair(
 {
     own_entries(entries)?;
     match Rc::get_mut(entries) {
-        Some(own) => put_measured(alloc, own, key, value),
+        Some(own) => put_measured(own, place, key, value),
         None => Err(OutOfMemory),
     }
 }
@@ -125,11 +125,12 @@ fn insert_measured(
 }
 
 fn put_measured(
-    alloc: Global,
     entries: &mut Entries,
-    key: &str,
+    place: Result<usize, usize>,
+    key: &Text,
     value: Value,
 ) -> Result<Option<Value>, OutOfMemory>
+    requires place { place ≡ seek (key_cmp key.now) entries.old.pairs.items }
     requires order { IsInOrder entries.old.pairs.items }
     requires measured { IsMeasure entries.old.measure
         (map (pairs_of (plain_pairs entries.old.pairs.items))) }
@@ -140,10 +141,10 @@ fn put_measured(
     ensures measure { IsMeasure entries.new.measure
         (map (pairs_of (plain_pairs entries.new.pairs.items))) }
 {
-    match seek(entries.pairs.as_slice(), key) {
-        Ok(i) => Ok(Some(replace_at(entries, i, key, value))),
+    match place {
+        Ok(i) => Ok(Some(replace_at(entries, i, key.as_str(), value))),
         Err(i) => {
-            let key = Text::new(alloc, key)?;
+            let key = key.copy()?;
             insert_at(entries, i, key, value)?;
             Ok(None)
         }
@@ -206,12 +207,22 @@ fn take_measured(entries: &mut Entries, key: &str) -> Option<Value>
 }
 
 // Where the key stands, or where it belongs.
-fn seek(pairs: &[(Text, Value)], key: &str) -> Result<usize, usize>
+pub(crate) fn seek(pairs: &[(Text, Value)], key: &str) -> Result<usize, usize>
     requires { IsInOrder pairs.now }
     ensures place { result ≡ seek (key_cmp key.now) pairs.now }
     ensures within { IsSearchInRange result (length pairs.now) }
 {
-    pairs.binary_search_by(|pair| order(pair.0.as_str(), key))
+    let mut low = 0;
+    let mut high = pairs.len();
+    while low < high {
+        let middle = low + (high - low) / 2;
+        match order(pairs[middle].0.as_str(), key) {
+            Ordering::Less => low = middle + 1,
+            Ordering::Greater => high = middle,
+            Ordering::Equal => return Ok(middle),
+        }
+    }
+    Err(low)
 }
 
 // The order of two keys. Most are settled by their first bytes, which `cmp` doesn't look at first.

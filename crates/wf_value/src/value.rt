@@ -2,11 +2,11 @@
 ghost use Rattle.std.specs.Prelude.{◌≡◌, [], ◌∷◌, ◌++◌, IfOk, is_ok, option_map, if◌then◌else◌};
 ghost use Rattle.std.specs.List.{slice_get};
 ghost use Rattle.wf_value.specs.Data.{items_of, list, map, pairs_of};
-ghost use Rattle.wf_value.specs.Maps.{IsInOrder, value_at, with_value, without};
+ghost use Rattle.wf_value.specs.Maps.{IsInOrder, place_of, value_at, with_value, without};
 ghost use Rattle.wf_value.specs.Measures.{IsMeasure};
 ghost use Rattle.wf_value.specs.Plain.{plain, plain_items, plain_pairs};
 
-use crate::entries::{find, insert_pair, put_pair, remove_pair};
+use crate::entries::{find, insert_pair, put_pair, remove_pair, seek};
 use crate::items::push_item;
 use crate::measure::Measure;
 use crate::{Bytes, OutOfMemory, Text};
@@ -171,6 +171,19 @@ impl List {
 }
 
 impl Map {
+    /// The empty map, with room for so many pairs.
+    #[tactic(auto, using(crate::proofs::Order::in_order_empty))]
+    pub fn with_capacity(alloc: Global, count: usize) -> Result<Map, OutOfMemory>
+        ensures { IfOk result (λ m. m ≡ []) }
+    {
+        let pairs = Vec::with_capacity(alloc, count)?;
+        let measure = Measure::of_nothing();
+        match Rc::new(alloc, Entries { pairs, measure }) {
+            Ok(entries) => Ok(Map { entries }),
+            Err(_) => Err(OutOfMemory),
+        }
+    }
+
     /// The empty map.
     #[tactic(auto, using(crate::proofs::Order::in_order_empty))]
     pub fn new(alloc: Global) -> Result<Map, OutOfMemory>
@@ -226,19 +239,38 @@ impl Map {
         insert_pair(&mut self.entries, key, value)
     }
 
-    /// The same as `insert`, with a key that is made only where it isn't there. Where it is, no key
-    /// is made, and none is let go.
-    pub fn put(
-        &mut self,
-        alloc: Global,
-        key: &str,
-        value: Value,
-    ) -> Result<Option<Value>, OutOfMemory>
+    /// The same as `insert`, with a key that is shared, and only where it isn't there. Where it is,
+    /// none is let go.
+    pub fn put(&mut self, key: &Text, value: Value) -> Result<Option<Value>, OutOfMemory>
         ensures after { self.new ≡ (if is_ok result then with_value key.now (plain value) self.old
             else self.old) }
         ensures old { IfOk result (λ v. option_map plain v ≡ value_at key.now self.old) }
     {
-        put_pair(alloc, &mut self.entries, key, value)
+        let place = self.place(key.as_str());
+        self.put_at(place, key, value)
+    }
+
+    /// Where a key stands, or where it belongs.
+    pub fn place(&self, key: &str) -> Result<usize, usize>
+        ensures place { result ≡ place_of key.now self.now }
+        ensures order { IsInOrder self.now }
+    {
+        seek(self.entries.pairs.as_slice(), key)
+    }
+
+    /// The same as `put`, at the key's place.
+    pub fn put_at(
+        &mut self,
+        place: Result<usize, usize>,
+        key: &Text,
+        value: Value,
+    ) -> Result<Option<Value>, OutOfMemory>
+        requires { place ≡ place_of key.now self.old }
+        ensures after { self.new ≡ (if is_ok result then with_value key.now (plain value) self.old
+            else self.old) }
+        ensures old { IfOk result (λ v. option_map plain v ≡ value_at key.now self.old) }
+    {
+        put_pair(&mut self.entries, place, key, value)
     }
 
     /// Takes a key and its value away, and gives the value. Without memory the map stays.

@@ -3,7 +3,8 @@ use Rattle.wf_check.specs.Seen.{nodes_of, program_of}
 use Rattle.wf_machine.proofs.Moves.{runs}
 use Rattle.wf_machine.proofs.Places.{stands_now, tells_of}
 use Rattle.wf_machine.proofs.machine.Machine.wanted_kind.Goals as goal
-use Rattle.wf_machine.specs.Main.{Aims}
+use Rattle.wf_frames.specs.Kinds.{AreWants}
+use Rattle.wf_model.specs.Spots.{spots}
 
 pub kind_of-requires : goal.kind_of-requires
 kind_of-requires c =
@@ -18,5 +19,5 @@ returns-then-is_awake-clause-some c =
       is = c.in-Some.is;
       running = runs m.ending (sym c.is_running.ensures ∙ c.if-not-is_running.false);
       awake = sym c.if-is_awake.ensures;
-      wanted = sym (c.kind_of.ensures (program_of m.program) (subst (Aims (program_of m.program) (nodes_of m.program)) (sym c.as_slice.ensures.value) m.aims));
+      wanted = sym (c.kind_of.ensures (program_of m.program) (subst (AreWants (program_of m.program) (spots (program_of m.program).flows) (nodes_of m.program)) (sym c.as_slice.ensures.value) m.wanted));
     }

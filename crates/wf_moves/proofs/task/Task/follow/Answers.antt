@@ -1,8 +1,19 @@
 use Rattle.std.proofs.Common.{sym, ap, subst, ◌∙◌}
-use Rattle.wf_moves.proofs.Waiting.{behind_moves, behind_stays, behind_unsent}
+use Rattle.wf_frames.specs.Frames.{inner}
+use Rattle.wf_moves.proofs.Led.{goes_leads}
+use Rattle.wf_moves.proofs.Waiting.{behind_moves, behind_stays, behind_unsent, went_left}
+use Rattle.wf_moves.specs.Moved.{IsLeft, IsMove}
 use Rattle.wf_moves.specs.Tasks.{MovesSo, Stays, is_sent}
 use Rattle.wf_moves.specs.Waits.{task_local}
 use Rattle.wf_moves.proofs.task.Task.follow.Goals as goal
+
+pub returns-in-Goes-clause-moved : goal.returns-in-Goes-clause-moved
+returns-in-Goes-clause-moved g c s m sees agrees h =
+    let l = task_local g.around c.args.self.now c.args.scopes.now in
+    goes_leads g.around s m l (subst (λ w. IsMove s m w l) c.in-Goes.is h)
+
+pub returns-in-Goes-clause-left : goal.returns-in-Goes-clause-left
+returns-in-Goes-clause-left g c = went_left c.args.nodes.now c.args.self.now c.requires.1.1.1.1 (subst (λ w. IsLeft c.args.nodes.now w (inner c.args.self.now.frames)) c.in-Goes.is c.requires.1.1.1.0)
 
 pub returns-clause-moved : goal.returns-clause-moved
 returns-clause-moved g c s m sees agrees h =

@@ -1,3 +1,5 @@
+use Rattle.std.proofs.Common.{◌≡◌, ◌+◌, length, min, subst}
+use Rattle.wf_value.specs.Data.{size}
 use Rattle.wf_value.specs.Plain.{plain}
 use Rattle.wf_scope.proofs.Numbers.{live_found}
 use Rattle.wf_scope.proofs.Totals.{counted_within, total_put}
@@ -13,4 +15,5 @@ returns c =
     let s = c.args.self.now in
     let found = live_found c.args.number s.layers.items c.requires.live in
     let within = counted_within c.args.number c.args.name.now s.layers.items c.args.counted s.total c.requires.live s.counted c.requires.counted in
-    total_put c.args.number c.args.name.now (plain c.args.value.now) s.layers.items found.0 s.total c.args.counted c.size_of_variable.result c.saturating_add.result found.1 c.requires.order s.counted c.requires.counted within c.size_of_variable.ensures c.saturating_add.ensures
+    total_put c.args.number c.args.name.now (plain c.args.value.now) s.layers.items found.0 s.total c.args.counted c.size_of_variable.result c.saturating_add.result found.1 c.requires.order s.counted c.requires.counted within
+    (subst (λ x. c.size_of_variable.result ≡ min (2 + length x + size (plain c.args.value.now)) 18446744073709551615) c.as_str.ensures c.size_of_variable.ensures) c.saturating_add.ensures
