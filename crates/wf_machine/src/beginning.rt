@@ -53,14 +53,15 @@ pub(crate) fn beginning_of(
     ensures standing { IfOk result (λ b. IsStanding (program_of program.now)
         (nodes_of program.now) b.task b.scopes) }
 {
-    if !are_built(program.nodes()) {
+    let nodes = program.nodes();
+    if !are_built(nodes) {
         return Err(OutOfMemory);
     }
     let found = targets_of(alloc, program)?;
     let Some(targets) = found else {
         return Err(OutOfMemory);
     };
-    let wants = wants_of(alloc, program.nodes(), targets.as_slice())?;
+    let wants = wants_of(alloc, nodes, targets.as_slice())?;
     let facts = Facts::of(alloc, start)?;
     let argument = argument_of(alloc, start)?;
     let mut scopes = Scopes::new(alloc, VARIABLE_LIMIT)?;

@@ -15,10 +15,10 @@ loop-both-preserved c =
     let ls = layers_of c.loop-both.scopes in
     let new = layers_of c.bind.new.self in
     let xs = bindings_of c.take_first.new.self in
-    let name = c.as_str.result.now in
+    let name = c.in-Some.both.0 in
     let inv = c.loop-both.invariant in
     let put = c.in_ok-bind.ensures.outcome in
-    let here : bound lim n c.in-Some.both.0 v ls ≡ Ok new = sym (ap (λ (k : ℕ). bound k n name v ls) inv.limit ∙ ap (λ x. bound lim n x v ls) c.as_str.ensures) ∙ put in
+    let here : bound lim n c.in-Some.both.0 v ls ≡ Ok new = sym (ap (λ (k : ℕ). bound k n name v ls) inv.limit) ∙ put in
     record {
       bound = sym (bound_more lim n c.in-Some.both.0 v xs ls new (bound_all lim n xs new) here refl) ∙ ap (λ ys. bound_all lim n ys ls) (sym c.in-Some.ensures.first) ∙ inv.bound;
       rest = bound_closed c.loop-both.scopes.limit n name v ls new put ∙ inv.rest;

@@ -1,13 +1,11 @@
-use Rattle.std.proofs.Common.{map, sym, subst, ◌∙◌, None, Some}
+use Rattle.std.proofs.Common.{map, sym, ◌∙◌}
 use Rattle.wf_frames.specs.Frames.{inner}
-use Rattle.wf_frames.specs.Owned.{held_by, own_of}
-use Rattle.wf_frames.specs.Turns.{Writes}
+use Rattle.wf_frames.specs.Owned.{own_of}
 use Rattle.wf_frames.proofs.Seeing.{innermost_live}
 use Rattle.wf_frames.proofs.Storing.{answers_same, assigned_linked, refused_is, same_linked, writes_done, writes_refused}
 use Rattle.wf_scope.specs.Changes.{assigned}
 use Rattle.wf_scope.specs.Places.{key_data}
 use Rattle.wf_scope.specs.Store.{layers_of}
-use Rattle.wf_value.specs.Pairs.{Text}
 use Rattle.wf_value.specs.Plain.{plain}
 use Rattle.wf_frames.proofs.writing.put.Goals as goal
 
@@ -17,30 +15,26 @@ assign-requires g c = innermost_live g.around c.args.frames.now.first (inner c.a
 pub returns-in-Ok-clause-written : goal.returns-in-Ok-clause-written
 returns-in-Ok-clause-written g c s agrees =
     let x = c.args.scopes.now in
-    let name = c.as_str.result.now in
+    let name = c.args.name.now in
     let keys = map key_data c.args.path.now in
-    let h = held_by g.around c.args.frames.now x in
-    subst (λ (n : Text). Writes s None h n keys (plain c.args.value) (held_by g.around c.args.frames.now c.assign.new.self)) c.as_str.ensures
-    (writes_done g.around (own_of c.args.frames.now) (layers_of x) (layers_of c.assign.new.self) s (assigned x.limit c.layer.result.number name keys (plain c.args.value) (layers_of x)) name keys (plain c.args.value) c.in-Ok.ensures.outcome
-    (answers_same g.around c.args.frames.now.first (inner c.args.frames.now) x c.layer.result.number s x.standing c.requires c.layer.ensures agrees.0 agrees.1 name keys (plain c.args.value)))
+    writes_done g.around (own_of c.args.frames.now) (layers_of x) (layers_of c.assign.new.self) s (assigned x.limit c.layer.result.number name keys (plain c.args.value) (layers_of x)) name keys (plain c.args.value) c.in-Ok.ensures.outcome
+    (answers_same g.around c.args.frames.now.first (inner c.args.frames.now) x c.layer.result.number s x.standing c.requires c.layer.ensures agrees.0 agrees.1 name keys (plain c.args.value))
 
 pub returns-in-Ok-clause-linked : goal.returns-in-Ok-clause-linked
 returns-in-Ok-clause-linked g c =
     let x = c.args.scopes.now in
-    assigned_linked g.around c.args.frames.now.first (inner c.args.frames.now) x c.assign.new.self x.limit c.layer.result.number c.as_str.result.now (map key_data c.args.path.now) (plain c.args.value) x.standing c.requires c.layer.ensures c.in-Ok.ensures.outcome c.in-Ok.ensures.limit
+    assigned_linked g.around c.args.frames.now.first (inner c.args.frames.now) x c.assign.new.self x.limit c.layer.result.number c.args.name.now (map key_data c.args.path.now) (plain c.args.value) x.standing c.requires c.layer.ensures c.in-Ok.ensures.outcome c.in-Ok.ensures.limit
 
 pub returns-in-Error-clause-written : goal.returns-in-Error-clause-written
 returns-in-Error-clause-written g c s agrees =
     let x = c.args.scopes.now in
-    let name = c.as_str.result.now in
+    let name = c.args.name.now in
     let keys = map key_data c.args.path.now in
-    let h = held_by g.around c.args.frames.now x in
     let r = assigned x.limit c.layer.result.number name keys (plain c.args.value) (layers_of x) in
     let raised = sym c.raise.ensures ∙ c.in-Error.is in
-    subst (λ (n : Text). Writes s (Some c.in-Error.tag) h n keys (plain c.args.value) (held_by g.around c.args.frames.now c.assign.new.self)) c.as_str.ensures
-    (writes_refused g.around (own_of c.args.frames.now) (layers_of x) (layers_of c.assign.new.self) s r c.in-Err.fault c.in-Error.tag name keys (plain c.args.value)
+    writes_refused g.around (own_of c.args.frames.now) (layers_of x) (layers_of c.assign.new.self) s r c.in-Err.fault c.in-Error.tag name keys (plain c.args.value)
     (refused_is c.in-Err.fault c.in-Error.tag (layers_of c.assign.new.self) r raised c.in-Err.ensures.outcome) raised c.in-Err.ensures.kept
-    (answers_same g.around c.args.frames.now.first (inner c.args.frames.now) x c.layer.result.number s x.standing c.requires c.layer.ensures agrees.0 agrees.1 name keys (plain c.args.value)))
+    (answers_same g.around c.args.frames.now.first (inner c.args.frames.now) x c.layer.result.number s x.standing c.requires c.layer.ensures agrees.0 agrees.1 name keys (plain c.args.value))
 
 pub returns-in-Error-clause-linked : goal.returns-in-Error-clause-linked
 returns-in-Error-clause-linked g c = same_linked g.around (own_of c.args.frames.now) c.args.scopes.now c.assign.new.self c.requires c.in-Err.ensures.kept c.in-Err.ensures.limit

@@ -10,11 +10,11 @@ use Rattle.wf_model.specs.Spots.{spots}
 
 pub first_task-requires : goal.first_task-requires
 first_task-requires c =
-    let built = ap is_table_built (sym c.nodes.ensures.nodes) ∙ sym c.are_built.ensures ∙ c.if-not-are_built.false in
+    let built = ap is_table_built (sym c.nodes-nodes.ensures.nodes) ∙ sym c.are_built.ensures ∙ c.if-not-are_built.false in
     (tells_of c.args.program.now built, record { empty = c.in_ok-scopes.ensures.empty; keys = refl; others = refl; limit = c.in_ok-scopes.ensures.limit })
 
 pub returns-clause-built : goal.returns-clause-built
-returns-clause-built c = ap is_table_built (sym c.nodes.ensures.nodes) ∙ sym c.are_built.ensures ∙ c.if-not-are_built.false
+returns-clause-built c = ap is_table_built (sym c.nodes-nodes.ensures.nodes) ∙ sym c.are_built.ensures ∙ c.if-not-are_built.false
 
 pub returns-clause-aims : goal.returns-clause-aims
 returns-clause-aims c =
@@ -23,16 +23,16 @@ returns-clause-aims c =
 
 pub wants_of-requires : goal.wants_of-requires
 wants_of-requires c =
-    let built = ap is_table_built (sym c.nodes.ensures.nodes) ∙ sym c.are_built.ensures ∙ c.if-not-are_built.false in
-    subst (Tells (spots (program_of c.args.program.now).flows)) (sym c.nodes-2.ensures.nodes) (tells_of c.args.program.now built)
+    let built = ap is_table_built (sym c.nodes-nodes.ensures.nodes) ∙ sym c.are_built.ensures ∙ c.if-not-are_built.false in
+    subst (Tells (spots (program_of c.args.program.now).flows)) (sym c.nodes-nodes.ensures.nodes) (tells_of c.args.program.now built)
 
 pub returns-clause-wants : goal.returns-clause-wants
 returns-clause-wants c =
     let p = c.args.program.now in
     let aims = subst (λ o. IfSome o (λ v. Aims (program_of p) (nodes_of p) v.items)) c.in-Some.is c.in_ok-found.ensures in
-    subst (λ nodes. AreWants (program_of p) (spots (program_of p).flows) nodes c.in_ok-wants.wants.items) c.nodes-2.ensures.nodes
+    subst (λ nodes. AreWants (program_of p) (spots (program_of p).flows) nodes c.in_ok-wants.wants.items) c.nodes-nodes.ensures.nodes
     (c.in_ok-wants.ensures (program_of p)
-    (subst (λ nodes. AreTargets (program_of p).flows (spots (program_of p).flows) nodes c.as_slice.result.now) (sym c.nodes-2.ensures.nodes)
+    (subst (λ nodes. AreTargets (program_of p).flows (spots (program_of p).flows) nodes c.as_slice.result.now) (sym c.nodes-nodes.ensures.nodes)
     (subst (λ ts. AreTargets (program_of p).flows (spots (program_of p).flows) (nodes_of p) ts) (sym c.as_slice.ensures.value) aims)))
 
 pub returns-clause-begins : goal.returns-clause-begins
