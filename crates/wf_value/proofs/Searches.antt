@@ -2,7 +2,7 @@
 use Rattle.std.proofs.Common.{◌≡◌, ℕ, zero, suc, ◌+◌, ◌<◌, ◌≤◌, List, [], ◌∷◌, length, slice_index_or, HoldsAt, Ordering, Less, Equal, Greater, Result, Ok, Err, refl, sym, ap, subst, ◌∙◌, arith}
 use Rattle.std.proofs.lemmas.Cmp.{nat_list_cmp_total, tied_back}
 use Rattle.std.specs.List.{AllByRecursion, AllWithin}
-use Rattle.std.specs.List.Sorted.{IsStrictlySortedBy, IsNonDecreasingBy}
+use Rattle.std.specs.List.Sorted.{IsStrictlySortedBy, IsNonDecreasingBy, IsBinarySearchResult, IsSearchInRange}
 use Rattle.std.specs.Map.{keys_of}
 use Rattle.std.specs.Ordering.{ordering_index, ordering_reverse}
 use Rattle.std_collections.specs.Layout.BTreeMap.{seek, one_further}
@@ -65,6 +65,13 @@ module _ (k : List ℕ) where
     missing (p ∷ ps) (suc i) within before behind =
         let past : key_cmp k p.0 ≡ Greater = turned k p.0 Less (before 0 p (omega arith) (omega arith)) in
         rw past (ap one_further (missing ps i (omega arith) (λ j d low high. before (suc j) d (omega arith) (omega arith)) (λ j d low high. behind (suc j) d (omega arith) (omega arith))))
+
+    -- what std's search of a slice finds, for the crates above
+    pub search_is_seek : (ps : List (List ℕ × X)) (r : Result ℕ ℕ) → IsInOrder ps → IsSearchInRange r (length ps) → IsBinarySearchResult (λ p. key_cmp p.0 k) ps r → r ≡ seek (key_cmp k) ps
+    search_is_seek ps (Ok i) s within at = sym (found ps i s within at)
+    search_is_seek ps (Err i) s within parted =
+        let parts = parted (rises ps s) in
+        sym (missing ps i within parts.0 parts.1)
 
     anywhere : (ps : List (List ℕ × X)) (i : ℕ) (d e : List ℕ × X) → i < length ps → slice_index_or ps i d ≡ slice_index_or ps i e
     anywhere [] i d e lt = absurd (omega arith)
