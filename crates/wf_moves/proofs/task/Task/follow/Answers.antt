@@ -18,10 +18,10 @@ returns-in-Goes-clause-left g c = went_left c.args.nodes.now c.args.self.now c.r
 pub returns-in_ok-behind-in_default-clause-moved : goal.returns-in_ok-behind-in_default-clause-moved
 returns-in_ok-behind-in_default-clause-moved g c s m sees agrees h =
     let l = task_local g.around c.stand.new.self c.stand.new.scopes in
-    subst (λ d. MovesSo m d l) (sym c.move_by.ensures) (behind_moves m c.in_ok-behind.behind l (c.in_ok-behind.ensures.moved s m sees agrees h))
+    subst (λ d. MovesSo m d l) (sym c.move_by.ensures) (behind_moves m c.in_ok-behind-in_default.behind l (c.in_ok-behind-in_default.ensures.moved s m sees agrees h))
 
 pub returns-in_ok-behind-in_default-clause-left : goal.returns-in_ok-behind-in_default-clause-left
-returns-in_ok-behind-in_default-clause-left g c = subst (λ d. Stays c.args.nodes.now d c.stand.new.self) (sym c.move_by.ensures) (behind_stays c.args.nodes.now c.in_ok-behind.behind c.stand.new.self c.in_ok-behind.ensures.left)
+returns-in_ok-behind-in_default-clause-left g c = subst (λ d. Stays c.args.nodes.now d c.stand.new.self) (sym c.move_by.ensures) (behind_stays c.args.nodes.now c.in_ok-behind-in_default.behind c.stand.new.self c.in_ok-behind-in_default.ensures.left)
 
 pub returns-in_ok-behind-in_default-clause-nothing_sent : goal.returns-in_ok-behind-in_default-clause-nothing_sent
-returns-in_ok-behind-in_default-clause-nothing_sent g c = ap is_sent c.move_by.ensures ∙ behind_unsent c.in_ok-behind.behind
+returns-in_ok-behind-in_default-clause-nothing_sent g c = ap is_sent c.move_by.ensures ∙ behind_unsent c.in_ok-behind-in_default.behind
