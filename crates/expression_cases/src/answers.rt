@@ -5,7 +5,7 @@ use wf_expr::ExprFault;
 use wf_span::LexFault;
 use wf_value::{Raise, Text, Value, to_json};
 
-// Values of a greater size are told by it.
+/// Values of a greater size are told by it.
 const MOST_SHOWN: u64 = 100_000;
 
 /// A value as JSON, or the size of a large one.

@@ -35,7 +35,7 @@ impl Look for Names {
     }
 }
 
-// The value of a key, in the first pair that has it.
+/// The value of a key, in the first pair that has it.
 fn find<'a>(pairs: &'a [(Text, Text)], key: &str) -> Option<&'a str>
     ensures { option_map (λ t. t.now) result ≡ env_in pairs.now key.now }
 {
@@ -152,7 +152,7 @@ fn made_text(alloc: Global, pieces: &[Value]) -> Result<Value, CaseFault> {
     Ok(Value::Text(Text::new(alloc, text.as_str())?))
 }
 
-// So many lists in each other.
+/// So many lists in each other.
 fn nested(alloc: Global, depth: i64) -> Result<Value, CaseFault> {
     let mut value = Value::Null;
     for _ in 0..depth {
@@ -161,7 +161,7 @@ fn nested(alloc: Global, depth: i64) -> Result<Value, CaseFault> {
     Ok(value)
 }
 
-// A list with this one value.
+/// A list with this one value.
 fn one_in(alloc: Global, value: Value) -> Result<Value, CaseFault> {
     let mut list = List::new(alloc)?;
     list.push(value)?;

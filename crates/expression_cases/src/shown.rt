@@ -6,7 +6,7 @@ use wf_ast::{Expr, Part, Target, Template};
 use wf_cases::CaseFault;
 use wf_value::Value;
 
-// What stands at the head of an expression, behind its bracket.
+/// What stands at the head of an expression, behind its bracket.
 fn head(e: &Expr) -> &'static str {
     match e {
         Expr::Lit(_) => "",
@@ -29,19 +29,19 @@ pub(crate) fn shown(alloc: Global, e: &Expr) -> Result<String, CaseFault> {
     Ok(out)
 }
 
-// Writes a value.
+/// Writes a value.
 fn push_value(alloc: Global, out: &mut String, value: &Value) -> Result<(), CaseFault> {
     let text = value_text(alloc, value)?;
     Ok(out.push_str(text.as_str())?)
 }
 
-// Writes a text as JSON.
+/// Writes a text as JSON.
 fn push_quoted(alloc: Global, out: &mut String, text: &str) -> Result<(), CaseFault> {
     let text = quoted(alloc, text)?;
     Ok(out.push_str(text.as_str())?)
 }
 
-// Writes an expression.
+/// Writes an expression.
 fn show(alloc: Global, out: &mut String, e: &Expr) -> Result<(), CaseFault> {
     if let Expr::Lit(value) = e {
         return push_value(alloc, out, value);

@@ -90,7 +90,7 @@ fn kind_name(kind: TokenKind) -> &'static str {
     }
 }
 
-// All tokens.
+/// All tokens.
 fn listed(alloc: Global, tokens: &Tokens<'_>) -> Result<String, CaseFault> {
     let mut all = List::new(alloc)?;
     for i in 0..usize::MAX {
@@ -115,7 +115,7 @@ fn push_text(alloc: Global, list: &mut List, text: &str) -> Result<(), CaseFault
     Ok(list.push(Value::Text(text))?)
 }
 
-// How many tokens there are, and the last.
+/// How many tokens there are, and the last.
 fn counted(alloc: Global, tokens: &Tokens<'_>) -> Result<String, CaseFault> {
     let (count, last) = count_and_last(tokens);
     match last {

@@ -63,13 +63,13 @@ pub(crate) fn expression(alloc: Global, tree: &Value, depth: u32) -> Result<Expr
     }
 }
 
-// What stands at a key of a value.
+/// What stands at a key of a value.
 fn on_key(alloc: Global, a: Expr, key: &Value) -> Result<Expr, CaseFault> {
     let a = boxed(alloc, a)?;
     Ok(Expr::Key(a, text(alloc, key)?))
 }
 
-// A function on some values.
+/// A function on some values.
 fn on_all(func: &Value, all: Exprs) -> Result<Expr, CaseFault> {
     let Value::Text(name) = func else {
         return Err(CaseFault::NoCase);
@@ -80,7 +80,7 @@ fn on_all(func: &Value, all: Exprs) -> Result<Expr, CaseFault> {
     }
 }
 
-// An operator on one value.
+/// An operator on one value.
 fn on_one(alloc: Global, head: &str, a: Expr) -> Result<Expr, CaseFault> {
     let a = boxed(alloc, a)?;
     match head {
@@ -90,7 +90,7 @@ fn on_one(alloc: Global, head: &str, a: Expr) -> Result<Expr, CaseFault> {
     }
 }
 
-// An operator on two values.
+/// An operator on two values.
 fn on_two(alloc: Global, head: &str, a: Expr, b: Expr) -> Result<Expr, CaseFault> {
     let a = boxed(alloc, a)?;
     let b = boxed(alloc, b)?;
@@ -139,7 +139,7 @@ pub(crate) fn template(alloc: Global, tree: &Value, depth: u32) -> Result<Templa
     }
 }
 
-// Adds a template with the name that a value is.
+/// Adds a template with the name that a value is.
 fn push_named(
     alloc: Global,
     all: &mut NamedTemplates,
@@ -150,7 +150,7 @@ fn push_named(
     Ok(all.push(NamedTemplate { name, template })?)
 }
 
-// The template of texts and expressions in a row.
+/// The template of texts and expressions in a row.
 fn joined(alloc: Global, parts: &[Value]) -> Result<Template, CaseFault> {
     let mut all = Parts::new(alloc)?;
     for part in parts {

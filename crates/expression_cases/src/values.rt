@@ -9,7 +9,7 @@ use wf_eval::{eval, fill};
 use wf_expr::{parse, parse_template};
 use wf_value::{Text, Value};
 
-// The clock's reading, where a case has one.
+/// The clock's reading, where a case has one.
 fn reading(case: &Case<'_>) -> Result<u64, CaseFault> {
     match case.items().get(2) {
         None => Ok(0),
@@ -21,19 +21,19 @@ fn reading(case: &Case<'_>) -> Result<u64, CaseFault> {
     }
 }
 
-// What an expression comes to.
+/// What an expression comes to.
 fn evaluated(alloc: Global, case: &Case<'_>, e: &Expr) -> Result<String, CaseFault> {
     run(alloc, case, &compile(alloc, e)?)
 }
 
-// What a compiled expression comes to.
+/// What a compiled expression comes to.
 fn run(alloc: Global, case: &Case<'_>, code: &Postfix) -> Result<String, CaseFault> {
     let now = reading(case)?;
     let names = names_of(alloc, case)?;
     outcome(alloc, eval(alloc, code, &names, now))
 }
 
-// What a template comes to.
+/// What a template comes to.
 fn filled(alloc: Global, case: &Case<'_>, t: &Template) -> Result<String, CaseFault> {
     let now = reading(case)?;
     let names = names_of(alloc, case)?;
@@ -81,7 +81,7 @@ fn parsed(alloc: Global, text: &str) -> Result<Template, CaseFault> {
     }
 }
 
-// Adds a template with a name.
+/// Adds a template with a name.
 fn push_named(
     alloc: Global,
     all: &mut NamedTemplates,
@@ -92,7 +92,7 @@ fn push_named(
     Ok(all.push(NamedTemplate { name, template })?)
 }
 
-// A value of a source, whose texts are read.
+/// A value of a source, whose texts are read.
 fn source_value(alloc: Global, value: &Value, depth: u32) -> Result<Template, CaseFault> {
     if depth == 0 {
         return Err(CaseFault::NoCase);

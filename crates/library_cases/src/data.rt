@@ -27,7 +27,7 @@ pub(crate) fn called(
     })
 }
 
-// The JSON of a value, for which it may not nest too deep.
+/// The JSON of a value, for which it may not nest too deep.
 fn encoded(alloc: Global, name: &str, value: &Value) -> Result<Result<Value, Raise>, CaseFault> {
     if value.depth() > 100 {
         return Err(CaseFault::NoCase);

@@ -32,7 +32,7 @@ pub(crate) fn answer(alloc: Global, case: &Case<'_>) -> Result<String, CaseFault
     Ok(format!(in alloc; "{told} {inside} {outside} {with} {without}")?)
 }
 
-// Binds the pairs of a map, which must be within the limits.
+/// Binds the pairs of a map, which must be within the limits.
 fn bind_all(
     alloc: Global,
     scopes: &mut Scopes,
@@ -58,7 +58,7 @@ fn bind_all(
     Ok(())
 }
 
-// The places that a list of keys and indexes says.
+/// The places that a list of keys and indexes says.
 fn path_of(alloc: Global, list: &Value) -> Result<Vec<Key>, CaseFault> {
     let Value::List(list) = list else {
         return Err(CaseFault::NoCase);
@@ -77,7 +77,7 @@ fn path_of(alloc: Global, list: &Value) -> Result<Vec<Key>, CaseFault> {
     Ok(path)
 }
 
-// `ok`, or the fault and the tag that the program meets.
+/// `ok`, or the fault and the tag that the program meets.
 fn told(alloc: Global, outcome: Result<(), AssignFault>) -> Result<String, CaseFault> {
     let Err(fault) = outcome else {
         return Ok(String::from_str(alloc, "ok")?);
@@ -91,7 +91,7 @@ fn told(alloc: Global, outcome: Result<(), AssignFault>) -> Result<String, CaseF
     }
 }
 
-// A value as compact JSON, or `none`.
+/// A value as compact JSON, or `none`.
 fn shown(alloc: Global, value: Option<&Value>) -> Result<String, CaseFault> {
     let Some(value) = value else {
         return Ok(String::from_str(alloc, "none")?);

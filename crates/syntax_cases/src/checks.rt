@@ -5,7 +5,7 @@ use wf_cases::CaseFault;
 use wf_check::{CheckFault, check};
 use wf_syntax::build;
 
-// `accepted`, or the first fault with its place.
+/// `accepted`, or the first fault with its place.
 pub(crate) fn said(alloc: Global, source: &str) -> Result<String, CaseFault> {
     let Ok(program) = build(alloc, &tree_of(alloc, source)?) else {
         return Err(CaseFault::NoCase);

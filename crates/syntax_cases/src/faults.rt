@@ -9,7 +9,7 @@ use wf_syntax_rules::{SyntaxFault, SyntaxKind};
 use wf_tree::Tree;
 use wf_value::Path;
 
-// What is told of a tree.
+/// What is told of a tree.
 pub(crate) fn first_fault(alloc: Global, tree: &Tree) -> Result<String, CaseFault> {
     match build(alloc, tree) {
         Ok(_) => Ok(String::from_str(alloc, "built")?),
@@ -34,7 +34,7 @@ fn line_of(alloc: Global, kind: SyntaxKind, path: Path) -> Result<String, CaseFa
     Ok(format!(in alloc; "{} at {}", kind.name(), place.as_str())?)
 }
 
-// The kind of an expression's fault, and its place in the text where it has one.
+/// The kind of an expression's fault, and its place in the text where it has one.
 fn of_expression(fault: ExprFault) -> Result<(RefusalKind, Option<u32>), CaseFault> {
     match fault {
         ExprFault::Lex(LexFault::BadCharacter(at)) => Ok((RefusalKind::BadCharacter, Some(at))),

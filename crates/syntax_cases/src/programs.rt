@@ -4,7 +4,7 @@ use wf_ast::{Body, Flow, Over, Param, Policy, Predicate, Program, Step, StepList
 use wf_cases::CaseFault;
 use wf_value::{DefaultKind, to_json};
 
-// Each workflow with its parameters, as in `main(a, b = 7), sub()`.
+/// Each workflow with its parameters, as in `main(a, b = 7), sub()`.
 pub(crate) fn flows(alloc: Global, program: &Program) -> Result<String, CaseFault> {
     let mut texts = String::new(alloc);
     for flow in program.flows.items() {
@@ -35,12 +35,12 @@ fn param_text(alloc: Global, param: &Param) -> Result<String, CaseFault> {
     }
 }
 
-// How many named steps a program has, on all levels.
+/// How many named steps a program has, on all levels.
 pub(crate) fn step_count(alloc: Global, program: &Program) -> Result<String, CaseFault> {
     Ok(format!(in alloc; "{}", program.step_count())?)
 }
 
-// Each step of `main` with its form, as in `a assign, b return`.
+/// Each step of `main` with its form, as in `a assign, b return`.
 pub(crate) fn forms(alloc: Global, program: &Program) -> Result<String, CaseFault> {
     let mut texts = String::new(alloc);
     for step in main_of(program)?.items() {
@@ -71,8 +71,8 @@ fn form_of(body: &Body) -> &'static str {
     }
 }
 
-// The policy of each `try` of `main`: the predicate, how many retries, the first and the longest delay in milliseconds,
-// and the multiplier in thousandths.
+/// The policy of each `try` of `main`: the predicate, how many retries, the first and the longest delay in milliseconds,
+/// and the multiplier in thousandths.
 pub(crate) fn policies(alloc: Global, program: &Program) -> Result<String, CaseFault> {
     let mut texts = String::new(alloc);
     for step in main_of(program)?.items() {
@@ -110,7 +110,7 @@ fn predicate_text(alloc: Global, predicate: &Predicate) -> Result<String, CaseFa
     Ok(String::from_str(alloc, word)?)
 }
 
-// The steps of the first workflow.
+/// The steps of the first workflow.
 fn main_of(program: &Program) -> Result<&StepList, CaseFault> {
     match program.flows.items() {
         [main, ..] => Ok(&main.steps),

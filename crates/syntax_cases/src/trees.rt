@@ -6,7 +6,7 @@ use wf_syntax::build;
 use wf_tree::{PairsSoFar, Tree, TreeFault, TreeList, read_json};
 use wf_value::Text;
 
-// No source of a table with decimals is deeper.
+/// No source of a table with decimals is deeper.
 const LEVELS: u32 = 20;
 
 pub(crate) fn tree_of(alloc: Global, source: &str) -> Result<Tree, CaseFault> {
@@ -24,7 +24,7 @@ pub(crate) fn program_of(alloc: Global, source: &str) -> Result<Program, CaseFau
     }
 }
 
-// The tree with a decimal in place of each text that begins with `#`.
+/// The tree with a decimal in place of each text that begins with `#`.
 pub(crate) fn tree_with_decimals(alloc: Global, source: &str) -> Result<Tree, CaseFault> {
     with_decimals(alloc, &tree_of(alloc, source)?, LEVELS)
 }

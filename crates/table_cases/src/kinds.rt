@@ -6,7 +6,7 @@ use wf_model::{
     Block, CallNode, LoopNode, Node, NodeKind, OverShape, ParallelNode, TryNode, WorkNode,
 };
 
-// The kind and the name of a node, and its parts.
+/// The kind and the name of a node, and its parts.
 pub(crate) fn told(alloc: Global, node: &Node) -> Result<String, CaseFault> {
     let (word, parts) = parts_of(alloc, &node.kind)?;
     let name = node.name.as_str();
@@ -15,7 +15,7 @@ pub(crate) fn told(alloc: Global, node: &Node) -> Result<String, CaseFault> {
     Ok(format!(in alloc; "{word}{blank}{name}{colon}{parts}")?)
 }
 
-// The word for a kind, and its parts.
+/// The word for a kind, and its parts.
 fn parts_of(alloc: Global, kind: &NodeKind) -> Result<(&'static str, String), CaseFault> {
     match kind {
         NodeKind::Flow(flow) => Ok(("flow", steps_text(alloc, &flow.block)?)),
@@ -35,13 +35,13 @@ fn parts_of(alloc: Global, kind: &NodeKind) -> Result<(&'static str, String), Ca
     }
 }
 
-// A list of steps, and how many lists a jump from inside it may reach.
+/// A list of steps, and how many lists a jump from inside it may reach.
 fn steps_text(alloc: Global, block: &Block) -> Result<String, CaseFault> {
     let steps = numbers_text(alloc, block.steps.as_slice())?;
     Ok(format!(in alloc; "{steps} depth {}", block.depth)?)
 }
 
-// As in `[3, 4]`.
+/// As in `[3, 4]`.
 fn numbers_text(alloc: Global, numbers: &[u32]) -> Result<String, CaseFault> {
     let mut text = String::new(alloc);
     for number in numbers {
@@ -50,7 +50,7 @@ fn numbers_text(alloc: Global, numbers: &[u32]) -> Result<String, CaseFault> {
     Ok(format!(in alloc; "[{text}]")?)
 }
 
-// As in `sub(a, b) result r`.
+/// As in `sub(a, b) result r`.
 fn call_text(alloc: Global, call: &CallNode) -> Result<String, CaseFault> {
     let mut args = String::new(alloc);
     for arg in call.args.items() {
@@ -63,7 +63,7 @@ fn call_text(alloc: Global, call: &CallNode) -> Result<String, CaseFault> {
     }
 }
 
-// As in `x, i in list [3, 4] depth 1`.
+/// As in `x, i in list [3, 4] depth 1`.
 fn loop_text(alloc: Global, repeated: &LoopNode) -> Result<String, CaseFault> {
     let mut names = String::from_str(alloc, repeated.value.as_str())?;
     if let Some(index) = &repeated.index {
@@ -77,7 +77,7 @@ fn loop_text(alloc: Global, repeated: &LoopNode) -> Result<String, CaseFault> {
     Ok(format!(in alloc; "{names} in {over} {steps}")?)
 }
 
-// As in `shared x limit 2 branches [3, 5]`.
+/// As in `shared x limit 2 branches [3, 5]`.
 fn parallel_text(alloc: Global, parallel: &ParallelNode) -> Result<String, CaseFault> {
     let shared = shared_text(alloc, &parallel.shared)?;
     let limit = match parallel.limit {
@@ -107,7 +107,7 @@ fn shared_text(alloc: Global, shared: &Texts) -> Result<String, CaseFault> {
     }
 }
 
-// As in `4 retry except e [5, 6] depth 2`.
+/// As in `4 retry except e [5, 6] depth 2`.
 fn try_text(alloc: Global, tried: &TryNode) -> Result<String, CaseFault> {
     let body = tried.body;
     let retry = match &tried.policy {

@@ -6,7 +6,7 @@ use wf_cases::CaseFault;
 use wf_model::Node;
 use wf_table::table_of;
 
-// A line for each node, in the order of their numbers, and one with the workflows and their numbers.
+/// A line for each node, in the order of their numbers, and one with the workflows and their numbers.
 pub(crate) fn lines(alloc: Global, source: &str) -> Result<String, CaseFault> {
     let program = program_of(alloc, source)?;
     let table = table_of(alloc, &program)?;
@@ -28,7 +28,7 @@ pub(crate) fn lines(alloc: Global, source: &str) -> Result<String, CaseFault> {
     Ok(lines)
 }
 
-// The number of the workflow of a name, or `none`.
+/// The number of the workflow of a name, or `none`.
 pub(crate) fn found(alloc: Global, source: &str, name: &str) -> Result<String, CaseFault> {
     let table = table_of(alloc, &program_of(alloc, source)?)?;
     match table.flow(name) {
@@ -37,7 +37,7 @@ pub(crate) fn found(alloc: Global, source: &str, name: &str) -> Result<String, C
     }
 }
 
-// A node: its number, what it is, whose list it stands in, and what is next.
+/// A node: its number, what it is, whose list it stands in, and what is next.
 fn node_line(alloc: Global, number: u32, node: &Node) -> Result<String, CaseFault> {
     let kind = kinds::told(alloc, node)?;
     let codes = codes_text(alloc, node.codes.items().len())?;
@@ -46,7 +46,7 @@ fn node_line(alloc: Global, number: u32, node: &Node) -> Result<String, CaseFaul
     Ok(format!(in alloc; "{number} {kind}{codes}{owner}{next}\n")?)
 }
 
-// How many expressions it has.
+/// How many expressions it has.
 fn codes_text(alloc: Global, count: usize) -> Result<String, CaseFault> {
     match count {
         0 => Ok(String::new(alloc)),
@@ -61,7 +61,7 @@ fn owner_text(alloc: Global, owner: Option<u32>) -> Result<String, CaseFault> {
     }
 }
 
-// What is next, and where that leads.
+/// What is next, and where that leads.
 fn next_text(alloc: Global, node: &Node) -> Result<String, CaseFault> {
     let Some(next) = &node.next else {
         return Ok(String::new(alloc));

@@ -59,6 +59,7 @@ pub(crate) fn compacted(alloc: Global, items: &[Value]) -> Result<String, CaseFa
 
 /// A text is read, and its value is written and read again: whether the two are the same, and what the second one is written as.
 pub(crate) fn again(alloc: Global, items: &[Value]) -> Result<String, CaseFault> {
+    // laws that the proof uses
     said_values_come_back();
     let source = text_of(alloc, items)?;
     let first = from_json(alloc, source.as_bytes())?;

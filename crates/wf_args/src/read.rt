@@ -41,8 +41,8 @@ pub fn read_line<'w>(_alloc: Global, words: &'w [String]) -> Result<Line<'w>, Li
     }
 }
 
-// The number of the first bad word among the options behind a command. It is a small one, since
-// each option stands a few times at most, so 32 bits can tell it.
+/// The number of the first bad word among the options behind a command. It is a small one, since
+/// each option stands a few times at most, so 32 bits can tell it.
 fn bad_word(command: Command, options: &[String]) -> Option<u32>
     ensures { let words = words_view options.now in MatchOption result
         (options_at command 1 [] words
@@ -69,7 +69,7 @@ fn bad_word(command: Command, options: &[String]) -> Option<u32>
     }
 }
 
-// Whether none of the options is missing that the command can't do without.
+/// Whether none of the options is missing that the command can't do without.
 fn is_complete(command: Command, options: &[String]) -> bool
     ensures { result ≡ is_complete command (options_in (words_view options.now)) }
 {
@@ -86,14 +86,14 @@ fn is_complete(command: Command, options: &[String]) -> bool
     }
 }
 
-// The number, counted from the command, of the word with this index behind it.
+/// The number, counted from the command, of the word with this index behind it.
 fn number(index: usize) -> u32
     ensures { result ≡ min (suc index) 4294967295 }
 {
     u32::try_from(index).unwrap_or(u32::MAX).saturating_add(1)
 }
 
-// The option that a word names, where it may stand behind these.
+/// The option that a word names, where it may stand behind these.
 fn next_name(command: Command, options: &[String], word: &str) -> Option<OptionName>
     ensures { result ≡ next_name command (options_in (words_view options.now)) word.now }
 {
@@ -105,7 +105,7 @@ fn next_name(command: Command, options: &[String], word: &str) -> Option<OptionN
     }
 }
 
-// How often an option stands among these.
+/// How often an option stands among these.
 fn count_of(name: OptionName, options: &[String]) -> usize
     ensures { result ≡ count name (options_in (words_view options.now)) }
 {

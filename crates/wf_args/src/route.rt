@@ -33,7 +33,7 @@ pub(crate) fn route_in(word: &str) -> Option<RouteParts<'_>>
     Some(RouteParts { host, name, port })
 }
 
-// The port that digits write.
+/// The port that digits write.
 fn port_in(digits: &str) -> Option<u16>
     ensures { result ≡ number_to 65535 digits.now }
 {

@@ -15,7 +15,7 @@ pub(crate) fn number_to(greatest: u32, word: &str) -> Option<u32>
     }
 }
 
-// The number, where it is at most so large.
+/// The number, where it is at most so large.
 fn at_most(greatest: u32, number: u32) -> Option<u32>
     ensures { result ≡ (if nat_le number greatest then Some number else None) }
 {

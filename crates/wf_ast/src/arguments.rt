@@ -15,7 +15,7 @@ pub struct ArgumentNames {
     pub may: &'static [&'static str],
 }
 
-// The values of these names come behind those that stand there; a name that is absent adds none.
+/// The values of these names come behind those that stand there; a name that is absent adds none.
 fn add_values(
     alloc: Global,
     names: &[&str],

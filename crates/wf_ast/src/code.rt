@@ -143,7 +143,7 @@ fn emit(alloc: Global, items: &mut Vec<Instr>, e: &Expr) -> Result<(), OutOfMemo
     }
 }
 
-// The right side of an `and` or an `or`.
+/// The right side of an `and` or an `or`.
 #[cycle(emit)]
 fn emit_side(alloc: Global, e: &Expr) -> Result<Vec<Instr>, OutOfMemory>
     ensures { IfOk result (λ v. instrs v.items ≡ code (expr_view e.now) ++ check ∷ []) }
@@ -165,7 +165,7 @@ fn emit_all(alloc: Global, items: &mut Vec<Instr>, es: &[Expr]) -> Result<(), Ou
     Ok(())
 }
 
-// One more instruction.
+/// One more instruction.
 fn put(items: &mut Vec<Instr>, instr: Instr) -> Result<(), OutOfMemory>
     ensures { OnOk result (items.new.items ≡ items.old.items ++ instr ∷ []) }
 {
@@ -173,7 +173,7 @@ fn put(items: &mut Vec<Instr>, instr: Instr) -> Result<(), OutOfMemory>
     Ok(())
 }
 
-// More instructions.
+/// More instructions.
 fn put_all(items: &mut Vec<Instr>, mut more: Vec<Instr>) -> Result<(), OutOfMemory>
     ensures { OnOk result (items.new.items ≡ items.old.items ++ more.items) }
 {

@@ -9,10 +9,10 @@ use std::alloc::Global;
 use std::collections::VecDeque;
 use std::marker::Model;
 
-// How many requests may wait in one queue.
+/// How many requests may wait in one queue.
 const QUEUE_LIMIT: usize = 100;
 
-// An endpoint: its method, and the requests that wait, the oldest first.
+/// An endpoint: its method, and the requests that wait, the oldest first.
 #[derive(Drop)]
 pub(crate) struct Endpoint {
     method: Method,
@@ -30,7 +30,7 @@ impl Model for Endpoint {
 }
 
 impl Endpoint {
-    // An endpoint where nothing waits.
+    /// An endpoint where nothing waits.
     pub(crate) fn new(alloc: Global, method: Method) -> Endpoint
         ensures { result ≡ fresh (plain_method method) }
     {
@@ -40,7 +40,7 @@ impl Endpoint {
         }
     }
 
-    // Puts a request at the end of the queue.
+    /// Puts a request at the end of the queue.
     pub(crate) fn arrive(&mut self, visitor: Visitor, bytes_left: u64) -> Result<(), ArriveFault>
         ensures fault { told result ≡ fault_at (Some self.old) (plain_visitor visitor) bytes_left }
         ensures joined { OnOk result (self.new ≡ joined self.old (plain_visitor visitor)) }
@@ -58,7 +58,7 @@ impl Endpoint {
         }
     }
 
-    // Takes the oldest request out of the queue.
+    /// Takes the oldest request out of the queue.
     pub(crate) fn take(&mut self) -> Option<Visitor>
         ensures visitor { option_map plain_visitor result ≡ oldest self.old.queue }
         ensures rest { self.new ≡ shortened self.old }

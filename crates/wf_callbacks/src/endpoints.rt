@@ -78,7 +78,7 @@ impl Endpoints {
     }
 }
 
-// Where endpoint `n` stands, among so many.
+/// Where endpoint `n` stands, among so many.
 fn place(n: u64, count: usize) -> Option<usize>
     ensures { SomeIff result ((0 < n) × (n ≤ count)) (n - 1) }
 {

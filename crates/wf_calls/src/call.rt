@@ -11,7 +11,7 @@ use crate::Closed;
 use std::marker::Model;
 use wf_http_ask::Request;
 
-// An open call: the task that waits for its answer, what was sent, and until when it waits.
+/// An open call: the task that waits for its answer, what was sent, and until when it waits.
 #[derive(Drop)]
 struct Open {
     task: u32,
@@ -19,14 +19,14 @@ struct Open {
     due: u64,
 }
 
-// What is known of a call. A closed one holds no request.
+/// What is known of a call. A closed one holds no request.
 #[derive(Drop)]
 enum State {
     Open(Open),
     Closed(Closed),
 }
 
-// A call.
+/// A call.
 #[derive(Drop)]
 pub(crate) struct Call {
     state: State,
@@ -43,7 +43,7 @@ impl Model for Call {
 }
 
 impl Call {
-    // An open call.
+    /// An open call.
     pub(crate) fn open(task: u32, request: Request, due: u64) -> Call
         ensures { result ≡ OpenCall task (request_view request) due }
     {
@@ -52,7 +52,7 @@ impl Call {
         }
     }
 
-    // A call that was closed so.
+    /// A call that was closed so.
     pub(crate) fn closed(how: Closed) -> Call
         ensures { result ≡ closed_view how }
     {
@@ -61,7 +61,7 @@ impl Call {
         }
     }
 
-    // Whether it is open.
+    /// Whether it is open.
     pub(crate) fn is_open(&self) -> bool
         ensures { result ≡ is_open self.now }
     {
@@ -71,14 +71,14 @@ impl Call {
         }
     }
 
-    // Whether its due moment came before its answer.
+    /// Whether its due moment came before its answer.
     pub(crate) fn has_timed_out(&self) -> bool
         ensures { IsTrue result ↔ (self.now ≡ TimedOut) }
     {
         matches!(&self.state, State::Closed(Closed::TimedOut))
     }
 
-    // The task that waits for its answer, of an open one.
+    /// The task that waits for its answer, of an open one.
     pub(crate) fn task(&self) -> Option<u32>
         ensures { result ≡ call_task self.now }
     {
@@ -88,7 +88,7 @@ impl Call {
         }
     }
 
-    // Until when it waits, of an open one.
+    /// Until when it waits, of an open one.
     pub(crate) fn due(&self) -> Option<u64>
         ensures { result ≡ call_due self.now }
     {
@@ -98,7 +98,7 @@ impl Call {
         }
     }
 
-    // What was sent, of an open one.
+    /// What was sent, of an open one.
     pub(crate) fn request(&self) -> Option<&Request>
         ensures { option_map request_view (option_copied result) ≡ request_in self.now }
     {

@@ -116,7 +116,7 @@ impl Calls {
         None
     }
 
-    // The call of this number.
+    /// The call of this number.
     fn find(&self, number: u64) -> Option<&Call>
         ensures { unwrap_or (option_copied result) Answered ≡ call_in self.now number }
     {

@@ -19,7 +19,7 @@ use wf_check_scopes::{
 use wf_diagnostics::{Part, Stop};
 use wf_symbols::Here;
 
-// The rule of the lowest number that speaks at a node; a form that isn't built yet comes last.
+/// The rule of the lowest number that speaks at a node; a form that isn't built yet comes last.
 pub(crate) fn fault(
     alloc: Global,
     flows: &[Flow],

@@ -15,7 +15,7 @@ use wf_diagnostics::{Part, Stop, keyed};
 use wf_symbols::{Here, Inside, Names, Scopes, add_step_names, layer_of, param_names};
 use wf_value::OutOfMemory;
 
-// The scopes around the steps of a workflow.
+/// The scopes around the steps of a workflow.
 fn scopes_of(alloc: Global, flow: &Flow) -> Result<Scopes, OutOfMemory>
     ensures { IfOk result (λ s. Stands s (record { inside = NoLoop; in_branch = false })
         (flow_around (flow_view flow.now))) }
@@ -36,7 +36,7 @@ fn scopes_of(alloc: Global, flow: &Flow) -> Result<Scopes, OutOfMemory>
     Ok(scopes)
 }
 
-// The nodes of a workflow, from a number on; the number behind them.
+/// The nodes of a workflow, from a number on; the number behind them.
 fn flow(alloc: Global, flows: &[Flow], number: u64, flow: &Flow) -> Result<u64, Stop>
     ensures { Counts (map flow_view flows.now) number result (flow_nodes (flow_view flow.now)) }
 {
@@ -65,7 +65,7 @@ fn flow(alloc: Global, flows: &[Flow], number: u64, flow: &Flow) -> Result<u64, 
     Ok(progress.number)
 }
 
-// The nodes of all workflows.
+/// The nodes of all workflows.
 pub(crate) fn program(alloc: Global, flows: &[Flow]) -> Result<u64, Stop>
     ensures { Counts (map flow_view flows.now) 0 result (nodes (map flow_view flows.now)) }
 {

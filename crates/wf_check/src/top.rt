@@ -42,7 +42,7 @@ pub fn check(alloc: Global, program: Program) -> Result<Checked, CheckFault>
     }
 }
 
-// A fault with its path from the source's own node.
+/// A fault with its path from the source's own node.
 fn told(alloc: Global, stop: Stop) -> CheckFault
     ensures { IsToldOf stop result }
 {

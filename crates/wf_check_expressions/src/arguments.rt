@@ -38,7 +38,7 @@ fn is_given(name: &str, arguments: &[NamedTemplate]) -> bool
     false
 }
 
-// Each argument is one that the function takes.
+/// Each argument is one that the function takes.
 fn are_taken(arguments: &[NamedTemplate], names: &ArgumentNames) -> bool
     ensures { result ≡ all_among (field_names (fields (map field_view arguments.now)))
         ((signature_of names.now).needs ++ (signature_of names.now).may) }
@@ -52,7 +52,7 @@ fn are_taken(arguments: &[NamedTemplate], names: &ArgumentNames) -> bool
     true
 }
 
-// Each of the names is given.
+/// Each of the names is given.
 fn are_given(needs: &[&str], arguments: &[NamedTemplate]) -> bool
     ensures { result ≡ all_among (map (λ n. n.now) needs.now)
         (field_names (fields (map field_view arguments.now))) }
@@ -71,7 +71,7 @@ fn is_logged(name: &str) -> bool
     name == "data" || name == "text" || name == "json"
 }
 
-// Exactly one of the three that are logged is given.
+/// Exactly one of the three that are logged is given.
 fn logs_one(arguments: &[NamedTemplate]) -> bool
     ensures { result ≡ logs_one (field_names (fields (map field_view arguments.now))) }
 {
@@ -84,7 +84,7 @@ fn logs_one(arguments: &[NamedTemplate]) -> bool
     count == 1
 }
 
-// The function of this name takes the arguments.
+/// The function of this name takes the arguments.
 pub(crate) fn function_takes(name: &str, names: &ArgumentNames, arguments: &[NamedTemplate]) -> bool
     ensures { result ≡ call_takes name.now (signature_of names.now)
         (field_names (fields (map field_view arguments.now))) }
@@ -107,7 +107,7 @@ fn argument_names(alloc: Global, arguments: &[NamedTemplate]) -> Result<Names, O
     Ok(names)
 }
 
-// Each argument is a parameter's.
+/// Each argument is a parameter's.
 fn are_known(arguments: &[NamedTemplate], known: &Names) -> bool
     ensures { result ≡ all_among (field_names (fields (map field_view arguments.now)))
         (names_of known.now) }
@@ -120,7 +120,7 @@ fn are_known(arguments: &[NamedTemplate], known: &Names) -> bool
     true
 }
 
-// Each parameter without a default has an argument.
+/// Each parameter without a default has an argument.
 fn are_passed(params: &[Param], given: &Names) -> bool
     ensures { result ≡ all_among (required (map param_view params.now)) (names_of given.now) }
 {
@@ -140,7 +140,7 @@ fn tables_fit(flow: &Flow, arguments: &[NamedTemplate], known: &Names, given: &N
     are_known(arguments, known) && are_passed(flow.params.items(), given)
 }
 
-// The workflow takes the arguments.
+/// The workflow takes the arguments.
 pub(crate) fn flow_takes(
     alloc: Global,
     flow: &Flow,

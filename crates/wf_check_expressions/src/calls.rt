@@ -33,21 +33,21 @@ pub fn flow_named<'a>(flows: &'a [Flow], name: &str) -> Option<&'a Flow>
     None
 }
 
-// The name is of no workflow that may be called.
+/// The name is of no workflow that may be called.
 fn is_no_flow(flows: &[Flow], name: &str) -> bool
     ensures { result ≡ rules.no_flow (map flow_view flows.now) (Some name.now) }
 {
     flow_named(flows, name).is_none()
 }
 
-// The name is of no workflow and no function that may be called.
+/// The name is of no workflow and no function that may be called.
 fn is_unknown(flows: &[Flow], name: &str) -> bool
     ensures { result ≡ rules.unknown_call (map flow_view flows.now) name.now }
 {
     is_no_flow(flows, name) && signature(name).is_none()
 }
 
-// The workflow that a retry asks.
+/// The workflow that a retry asks.
 fn predicate_of(tried: &TryBody) -> Option<&Text>
     ensures { option_map (λ x. x.now) result
         ≡ rules.predicate_of (tree.Body.Try (try_view tried.now)) }
@@ -101,7 +101,7 @@ pub fn unknown_call(alloc: Global, part: &Part, flows: &[Flow]) -> Result<(), St
     }
 }
 
-// The arguments of a call fit what is called; a workflow comes before a function of its name.
+/// The arguments of a call fit what is called; a workflow comes before a function of its name.
 fn call_fits(alloc: Global, call: &CallBody, flows: &[Flow]) -> Result<bool, OutOfMemory>
     ensures { IfOk result (λ b. b ≡ rules.call_fits (map flow_view flows.now)
         (call_view call.now)) }
@@ -117,7 +117,7 @@ fn call_fits(alloc: Global, call: &CallBody, flows: &[Flow]) -> Result<bool, Out
     }
 }
 
-// The workflow that a retry asks has one parameter.
+/// The workflow that a retry asks has one parameter.
 fn predicate_fits(flows: &[Flow], name: &str) -> bool
     ensures { result ≡ rules.predicate_fits (map flow_view flows.now) (Some name.now) }
 {

@@ -107,7 +107,7 @@ fn fields_failing(alloc: Global, layers: &[Layer], members: &[NamedTemplate]) ->
 
 // ---- nodes
 
-// What a loop runs over.
+/// What a loop runs over.
 fn over_failing(alloc: Global, layers: &[Layer], over: &Over) -> Result<(), Stop>
     ensures { Tells result (λ path. as_said kinds.UnknownName
         (over_failing (sees (map layer_view layers.now)) (over_view over.now) path)) }
@@ -124,7 +124,7 @@ fn over_failing(alloc: Global, layers: &[Layer], over: &Over) -> Result<(), Stop
     }
 }
 
-// The ends of a range.
+/// The ends of a range.
 fn ends_failing(
     alloc: Global,
     layers: &[Layer],
@@ -146,7 +146,7 @@ fn ends_failing(
     }
 }
 
-// What a body reads in its own move.
+/// What a body reads in its own move.
 fn body_failing(alloc: Global, layers: &[Layer], body: &Body) -> Result<(), Stop>
     ensures { Tells result (λ path. as_said kinds.UnknownName
         (body_failing (sees (map layer_view layers.now)) (body_view body.now) path)) }
@@ -184,7 +184,7 @@ fn body_failing(alloc: Global, layers: &[Layer], body: &Body) -> Result<(), Stop
     }
 }
 
-// An entry: its places come before its value.
+/// An entry: its places come before its value.
 fn entry_failing(alloc: Global, layers: &[Layer], entry: &Entry) -> Result<(), Stop>
     ensures { Tells result (λ path. as_said kinds.UnknownName
         (part_failing (sees (map layer_view layers.now)) (EntryPart (entry_view entry.now)) path)) }
@@ -197,7 +197,7 @@ fn entry_failing(alloc: Global, layers: &[Layer], entry: &Entry) -> Result<(), S
     failing(alloc, layers, &entry.value)
 }
 
-// What a node reads in its own move.
+/// What a node reads in its own move.
 fn part_failing(alloc: Global, layers: &[Layer], part: &Part) -> Result<(), Stop>
     ensures { Tells result (λ path. as_said kinds.UnknownName
         (part_failing (sees (map layer_view layers.now)) (part_view part.now) path)) }

@@ -13,7 +13,7 @@ use std::alloc::Global;
 use wf_ast::{Body, Flow, function_named};
 use wf_diagnostics::{CheckKind, Part, Stop, speak_at};
 
-// The key of a call that names no workflow: none where its function is built.
+/// The key of a call that names no workflow: none where its function is built.
 fn uncalled(name: &str) -> Option<&'static str>
     ensures { option_map (λ k. k.now) result
         ≡ forms.uncalled (func_named name.now) (special_named name.now) }
@@ -25,7 +25,7 @@ fn uncalled(name: &str) -> Option<&'static str>
     }
 }
 
-// Whether a function of this name that only steps may call is built: a call of HTTP, a sleep, or the log.
+/// Whether a function of this name that only steps may call is built: a call of HTTP, a sleep, or the log.
 fn is_built(name: &str) -> bool
     ensures { result ≡ forms.is_built (special_named name.now) }
 {
@@ -36,7 +36,7 @@ fn is_built(name: &str) -> bool
     }
 }
 
-// The key of a body whose form isn't built.
+/// The key of a body whose form isn't built.
 fn form_key(flows: &[Flow], body: &Body) -> Option<&'static str>
     ensures { option_map (λ k. k.now) result
         ≡ forms.form_key (map flow_view flows.now) (body_view body.now) }

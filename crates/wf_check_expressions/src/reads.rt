@@ -10,7 +10,7 @@ ghost use Rattle.wf_symbols.specs.Around.{layer_view};
 use wf_ast::Expr;
 use wf_symbols::{Layer, is_visible};
 
-// Each name that the expression reads is visible.
+/// Each name that the expression reads is visible.
 #[cycle(expr)]
 pub(crate) fn sees_expr(e: &Expr, layers: &[Layer]) -> bool
     ensures { result ≡ list_all (λ x. is_visible x (map layer_view layers.now))

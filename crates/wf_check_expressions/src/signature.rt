@@ -5,10 +5,10 @@ ghost use Rattle.wf_ast.specs.Functions.{signature_of};
 
 use wf_ast::{ArgumentNames, function_named};
 
-// What an HTTP call may have.
+/// What an HTTP call may have.
 const HTTP_MAY: &[&str] = &["headers", "query", "body", "auth", "timeout"];
 
-// What a call step may name.
+/// What a call step may name.
 pub(crate) fn signature(name: &str) -> Option<ArgumentNames>
     ensures { option_map signature_of result ≡ call_signature name.now }
 {
@@ -18,7 +18,7 @@ pub(crate) fn signature(name: &str) -> Option<ArgumentNames>
     }
 }
 
-// Those that expressions may not call.
+/// Those that expressions may not call.
 fn special_signature(name: &str) -> Option<ArgumentNames>
     ensures { option_map signature_of result
         ≡ option_map (λ e. e.signature) (special_in specials name.now) }

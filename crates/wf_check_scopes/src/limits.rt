@@ -13,7 +13,7 @@ use wf_ast::{Body, Flow, LoopBody, Param, Step, Work};
 use wf_diagnostics::{CheckKind, Part, Stop, keyed, speak, speak_at, speak_within};
 use wf_value::Text;
 
-// A name has more than 256 bytes.
+/// A name has more than 256 bytes.
 fn is_long(name: &Text) -> bool
     ensures { result ≡ nat_lt 256 (length name.now) }
 {
@@ -72,7 +72,7 @@ fn many_in_body(alloc: Global, body: &Body) -> Result<(), Stop>
     }
 }
 
-// The parameters of a workflow.
+/// The parameters of a workflow.
 fn many_params(alloc: Global, params: &[Param]) -> Result<(), Stop>
     ensures { Tells result (λ path. as_said kinds.TooMany
         (rules.params_many (map param_view params.now) path 0)) }
@@ -85,7 +85,7 @@ fn many_params(alloc: Global, params: &[Param]) -> Result<(), Stop>
     Ok(())
 }
 
-// It is `main`, and has more than one parameter.
+/// It is `main`, and has more than one parameter.
 fn has_too_many(flow: &Flow) -> bool
     ensures { result ≡ (bytes_eq flow.now.name (codes "main") && nat_lt 1
         (length (params_view flow.now.params))) }

@@ -16,7 +16,7 @@ use wf_diagnostics::{CheckKind, Part, Stop, keyed, speak, speak_at};
 use wf_symbols::{Here, Layer, Names, Scopes, is_visible};
 use wf_value::Text;
 
-// A shared name of the parallel step whose task the layer is, or a name of no layer outside.
+/// A shared name of the parallel step whose task the layer is, or a name of no layer outside.
 fn may_cross(name: &str, shared: &Option<Names>, outside: &[Layer]) -> bool
     ensures { result ≡ rules.may_cross name.now (option_map names_of shared.now)
         (map layer_view outside.now) }
@@ -27,7 +27,7 @@ fn may_cross(name: &str, shared: &Option<Names>, outside: &[Layer]) -> bool
     }
 }
 
-// No task that doesn't share the name stands between here and the layer that has it.
+/// No task that doesn't share the name stands between here and the layer that has it.
 fn may_write(name: &str, layers: &[Layer]) -> bool
     ensures { result ≡ rules.may_write name.now (map layer_view layers.now) }
 {
@@ -87,7 +87,7 @@ pub fn undeclared_write(alloc: Global, part: &Part, scopes: &Scopes, here: Here)
     }
 }
 
-// The first shared name that is of no visible layer.
+/// The first shared name that is of no visible layer.
 fn unseen_shared(alloc: Global, shared: &[Text], layers: &[Layer]) -> Result<(), Stop>
     ensures { Tells result (λ path. as_said kinds.UnknownShared
         (rules.unknown_shared (map layer_view layers.now) shared.now path 0)) }

@@ -53,6 +53,7 @@ fn value_of(alloc: Global, line: &Line<'_>) -> Result<Value, ArgumentFault>
     ensures shallow { IfOk result (λ v. depth (plain v) ≤ 100) }
     ensures bad { IsErrOf result ArgumentFault.Bad → said_argument (plain_line line.now) ≡ None }
 {
+    // laws that the proof uses
     reading_is_a_function();
     reading_is_decided();
     match line.args() {

@@ -114,6 +114,7 @@ fn start_for(
     ensures spelled { IfOk result (λ s. HasSpelling (Started (start_view s))) }
     ensures fits { IfOk result (λ s. length (record_bytes (Started (start_view s))) ≤ 16777215) }
 {
+    // laws that the proof uses
     laws_of_starts();
     Ok(Start {
         id: id_for(alloc, line, reading)?,
@@ -152,6 +153,7 @@ fn begin<H: Host>(
     ensures tells { TellsAsBefore H.world host.old host.new }
     ensures counts { NoCountFalls H.faults host.old host.new }
 {
+    // laws that the proof uses
     each_source_is_one();
     laws_of_histories();
     laws_of_moments();
@@ -182,6 +184,7 @@ fn to_outcome<H: Host>(
     ensures tells { TellsAsBefore H.world host.old host.new }
     ensures counts { NoCountFalls H.faults host.old host.new }
 {
+    // laws that the proof uses
     laws_of_steps();
     let mut engine = engine;
     match engine.session(host, waits) {
@@ -214,6 +217,7 @@ fn run_program<H: Host>(
     ensures tells { TellsAsBefore H.world host.old host.new }
     ensures counts { NoCountFalls H.faults host.old host.new }
 {
+    // laws that the proof uses
     laws_of_sources();
     match begin(alloc, line, argument, source, program, host) {
         Ok(engine) => to_outcome(alloc, engine, line.waits(), host),
@@ -338,6 +342,7 @@ fn resume_counted<H: Host, L: Ledger>(
     ensures tells { TellsAsBefore H.world host.old host.new }
     ensures counts { NoCountFalls H.faults host.old host.new }
 {
+    // laws that the proof uses
     laws_of_rules();
     match Engine::open(alloc, host, steps) {
         Ok(engine) => to_outcome(alloc, engine, line.waits(), host),

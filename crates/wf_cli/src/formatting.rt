@@ -17,6 +17,7 @@ pub(crate) fn format<S: Source>(alloc: Global, source: &mut S) -> Result<Said, S
         result }
     ensures reads { S.faults source.old ≤ S.faults source.new }
 {
+    // laws that the proof uses
     read_trees_fit();
     reading_is_a_function();
     let bytes = read_up_to(alloc, source, SOURCE_LIMIT + 1)?;

@@ -85,6 +85,7 @@ fn report_counted<H: Host, L: Ledger>(
     ensures tells { TellsAsBefore H.world host.old host.new }
     ensures counts { NoCountFalls H.faults host.old host.new }
 {
+    // laws that the proof uses
     laws_of_moments();
     laws_of_rules();
     let told = text_for(alloc, line, host, steps);

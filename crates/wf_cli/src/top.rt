@@ -108,6 +108,7 @@ pub fn perform<S: Source, H: Host>(
     ensures reads { S.faults source.old ≤ S.faults source.new }
     ensures counts { NoCountFalls H.faults host.old host.new }
 {
+    // laws that the proof uses
     laws_of_deeds();
     laws_of_sources();
     let said = execute(alloc, line, source, host);
@@ -155,6 +156,7 @@ pub fn run_line<S: Source, H: Host>(
     ensures reads { S.faults source.old ≤ S.faults source.new }
     ensures counts { NoCountFalls H.faults host.old host.new }
 {
+    // laws that the proof uses
     laws_of_deeds();
     laws_of_sources();
     match read_line(alloc, words) {

@@ -115,6 +115,7 @@ impl Connections {
         ensures short { IfOk result (λ a.
             IfSome a (λ r. length (reply (reply_view r)) ≤ 2200000)) }
     {
+        // laws that the proof uses
         answers_are_small();
         let line = &self.lines[call as usize];
         match &line.state {

@@ -9,7 +9,7 @@ use wf_host::What;
 use wf_http_in::Reading;
 use wf_value::OutOfMemory;
 
-// How a line stands.
+/// How a line stands.
 #[derive(Drop)]
 pub(crate) enum State {
     // Its call wasn't started.
@@ -22,7 +22,7 @@ pub(crate) enum State {
     Dropped,
 }
 
-// The line to a call, with all that was heard of it, which only proofs read.
+/// The line to a call, with all that was heard of it, which only proofs read.
 #[derive(Drop)]
 pub(crate) struct Line {
     pub(crate) state: State,
@@ -30,7 +30,7 @@ pub(crate) struct Line {
 }
 
 impl Line {
-    // The line to a call that wasn't started.
+    /// The line to a call that wasn't started.
     pub(crate) fn unused() -> Line
         ensures used { is_used result.state ≡ false }
         ensures dropped { is_dropped result.state ≡ false }
@@ -43,7 +43,7 @@ impl Line {
         }
     }
 
-    // The line to a call that was started, and of which nothing was heard.
+    /// The line to a call that was started, and of which nothing was heard.
     pub(crate) fn new(alloc: Global) -> Result<Line, OutOfMemory>
         ensures used { IfOk result (λ l. is_used l.state ≡ true) }
         ensures dropped { IfOk result (λ l. is_dropped l.state ≡ false) }
@@ -58,21 +58,21 @@ impl Line {
         })
     }
 
-    // Whether its call was started.
+    /// Whether its call was started.
     pub(crate) fn is_used(&self) -> bool
         ensures { result ≡ is_used self.now.state }
     {
         !matches!(self.state, State::Unused)
     }
 
-    // Whether its call was dropped.
+    /// Whether its call was dropped.
     pub(crate) fn is_dropped(&self) -> bool
         ensures { result ≡ is_dropped self.now.state }
     {
         matches!(self.state, State::Dropped)
     }
 
-    // What is heard isn't wanted any more, since the call was dropped.
+    /// What is heard isn't wanted any more, since the call was dropped.
     pub(crate) fn drop_call(&mut self)
         ensures used { is_used self.new.state ≡ true }
         ensures dropped { is_dropped self.new.state ≡ true }
@@ -82,7 +82,7 @@ impl Line {
         self.state = State::Dropped;
     }
 
-    // What is heard isn't wanted any more.
+    /// What is heard isn't wanted any more.
     pub(crate) fn forget(&mut self)
         ensures used { is_used self.new.state ≡ is_used self.old.state }
         ensures dropped { is_dropped self.new.state ≡ is_dropped self.old.state }
@@ -94,7 +94,7 @@ impl Line {
         }
     }
 
-    // Hears this of its call.
+    /// Hears this of its call.
     pub(crate) fn hear(&mut self, what: &What) -> Result<(), OutOfMemory>
         ensures used { is_used self.new.state ≡ is_used self.old.state }
         ensures dropped { is_dropped self.new.state ≡ is_dropped self.old.state }
@@ -111,7 +111,7 @@ impl Line {
     }
 }
 
-// Reads this of a call. Without memory nothing was read.
+/// Reads this of a call. Without memory nothing was read.
 fn read(reading: &mut Reading, what: &What) -> Result<(), OutOfMemory>
     ensures { (k : ℕ) (t : Told) → call_of what.now ≡ Some k → HasRead reading.old t
         → HasRead reading.new (if is_ok result then tells k what.now t else t) }

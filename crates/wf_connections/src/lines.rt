@@ -7,7 +7,7 @@ use crate::line::Line;
 use wf_host::What;
 use wf_value::OutOfMemory;
 
-// Makes room for line `i`.
+/// Makes room for line `i`.
 pub(crate) fn reach(lines: &mut Vec<Line>, i: usize) -> Result<(), OutOfMemory>
     ensures room { OnOk result (i < length lines.new.items) }
     ensures same { AreSame lines.old.items lines.new.items }
@@ -19,7 +19,7 @@ pub(crate) fn reach(lines: &mut Vec<Line>, i: usize) -> Result<(), OutOfMemory>
     Ok(())
 }
 
-// The call of which something was heard.
+/// The call of which something was heard.
 pub(crate) fn call_of(what: &What) -> Option<u64>
     ensures { result ≡ call_of what.now }
 {

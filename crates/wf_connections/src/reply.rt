@@ -12,7 +12,7 @@ use wf_http_in::{Answer, Head, Reading};
 use wf_record_parts::{Reply, Response};
 use wf_value::{Bytes, OutOfMemory};
 
-// The answer of what was heard, if there is one yet.
+/// The answer of what was heard, if there is one yet.
 pub(crate) fn answer_of(alloc: Global, reading: &Reading) -> Result<Option<Reply>, OutOfMemory>
     ensures { IfOk result (λ a. (heard : List ℕ) (close : Close) → HasHeard reading.now heard close
         → AnswerOf heard close (option_map reply_view a)) }

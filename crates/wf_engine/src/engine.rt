@@ -81,6 +81,7 @@ impl Engine {
         ensures { BeginsAnExecution H.world H.faults (start_view start.now) host.old host.new
             result }
     {
+        // laws that the proof uses
         each_source_is_one();
         laws_of_histories();
         laws_of_rules();
@@ -118,6 +119,7 @@ impl Engine {
     ) -> Result<Engine, EngineFault>
         ensures { OpensAnExecution H.world H.faults steps.old steps.new host.old host.new result }
     {
+        // laws that the proof uses
         laws_of_moments();
         laws_of_rules();
         laws_of_steps();
@@ -175,6 +177,7 @@ impl Engine {
         if self.closed {
             return Err(EngineFault::Closed);
         }
+        // laws that the proof uses
         laws_of_calls();
         laws_of_steps();
         one_spelling();

@@ -31,6 +31,7 @@ impl Engine {
         if self.closed {
             return Err(EngineFault::Closed);
         }
+        // laws that the proof uses
         laws_of_steps();
         let Outcome::Active = self.machine.outcome() else {
             return Ok(());
@@ -58,6 +59,7 @@ impl Engine {
         ensures tells { TellsAsBefore H.world host.old host.new }
         ensures counts { NoCountFalls H.faults host.old host.new }
     {
+        // laws that the proof uses
         laws_of_steps();
         for place in 0..self.machine.calls() {
             self.drop_one(host, place + 1)?;
@@ -84,6 +86,7 @@ impl Engine {
         ensures tells { TellsAsBefore H.world host.old host.new }
         ensures counts { NoCountFalls H.faults host.old host.new }
     {
+        // laws that the proof uses
         laws_of_steps();
         if self.machine.request(call).is_some() {
             return Ok(());
@@ -128,6 +131,7 @@ impl Engine {
         ensures tells { TellsAsBefore H.world host.old host.new }
         ensures counts { NoCountFalls H.faults host.old host.new }
     {
+        // laws that the proof uses
         laws_of_steps();
         for place in 0..self.machine.calls() {
             self.start_one(host, place + 1)?;
@@ -155,6 +159,7 @@ impl Engine {
         ensures tells { TellsAsBefore H.world host.old host.new }
         ensures counts { NoCountFalls H.faults host.old host.new }
     {
+        // laws that the proof uses
         laws_of_steps();
         if self.connections.is_started(call) {
             return Ok(());

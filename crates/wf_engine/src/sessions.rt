@@ -100,6 +100,7 @@ impl Engine {
         ensures tells { TellsAsBefore H.world host.old host.new }
         ensures counts { NoCountFalls H.faults host.old host.new }
     {
+        // laws that the proof uses
         laws_of_steps();
         self.send_open(host)?;
         let Some(until) = self.machine.least_due() else {

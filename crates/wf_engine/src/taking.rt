@@ -35,6 +35,7 @@ impl Engine {
         if self.closed {
             return Err(EngineFault::Closed);
         }
+        // laws that the proof uses
         laws_of_steps();
         // until it is heard
         self.closed = true;

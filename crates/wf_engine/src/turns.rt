@@ -96,6 +96,7 @@ fn choose_behind<L: Ledger>(
         reading (taken_event reading (Some taken)) (events_view events)) }
     ensures steps { IfOk result (λ events. steps.new ≡ steps.old + length (events_view events)) }
 {
+    // laws that the proof uses
     laws_of_counts();
     is_sound(machine);
     let event = bring(machine, reading, taken, steps)?;
@@ -118,6 +119,7 @@ fn bring<L: Ledger>(
         (state_of machine.new) reading taken (event_view event)) }
     ensures steps { OnOk result (steps.new ≡ steps.old + 1) }
 {
+    // laws that the proof uses
     answers_lead(machine);
     let event = taken.event(reading);
     match machine.apply(&event, steps) {
@@ -144,6 +146,7 @@ fn choose_rest<L: Ledger>(
     ensures steps { IfOk result (λ all. steps.new + length (events_view events)
         ≡ steps.old + length (events_view all)) }
 {
+    // laws that the proof uses
     laws_of_choice();
     laws_of_counts();
     laws_of_readings();

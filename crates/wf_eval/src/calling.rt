@@ -116,7 +116,7 @@ fn apply_three(alloc: Global, f: Func, u: &Value, v: &Value, w: &Value) -> Resul
     }
 }
 
-// `json.encode`. No value of an expression nests deeper than the limit.
+/// `json.encode`. No value of an expression nests deeper than the limit.
 fn json_bytes(alloc: Global, v: &Value) -> Result<Value, Raise>
     ensures { Gives result (json_encode (plain v.now)) }
 {
@@ -126,7 +126,7 @@ fn json_bytes(alloc: Global, v: &Value) -> Result<Value, Raise>
     json_encode(alloc, v)
 }
 
-// `json.encode_to_string`
+/// `json.encode_to_string`
 fn json_text(alloc: Global, v: &Value) -> Result<Value, Raise>
     ensures { Gives result (json_encode_to_string (plain v.now)) }
 {
@@ -136,7 +136,7 @@ fn json_text(alloc: Global, v: &Value) -> Result<Value, Raise>
     json_encode_to_string(alloc, v)
 }
 
-// `sys.get_env`, with what it answers where the key is absent.
+/// `sys.get_env`, with what it answers where the key is absent.
 fn get_env<K: Look>(
     alloc: Global,
     look: &K,

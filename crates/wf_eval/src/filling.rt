@@ -33,7 +33,7 @@ pub fn fill<K: Look>(alloc: Global, t: &Template, look: &K, now: u64) -> Result<
     }
 }
 
-// The value of an expression.
+/// The value of an expression.
 fn evaluate<K: Look>(alloc: Global, e: &Expr, look: &K, now: u64) -> Result<Value, Raise>
     ensures { Gives result (meaning.eval (expr_view e.now) (seen (K.sight look.now) now)) }
 {
@@ -41,7 +41,7 @@ fn evaluate<K: Look>(alloc: Global, e: &Expr, look: &K, now: u64) -> Result<Valu
     eval(alloc, &postfix, look, now)
 }
 
-// The texts of the parts in a row.
+/// The texts of the parts in a row.
 fn joined<K: Look>(alloc: Global, parts: &[Part], look: &K, now: u64) -> Result<Text, Raise>
     ensures { GivesText result (meaning.joined (seen (K.sight look.now) now)
         (map part_view parts.now)) }
@@ -54,7 +54,7 @@ fn joined<K: Look>(alloc: Global, parts: &[Part], look: &K, now: u64) -> Result<
     owned(alloc, text.as_str())
 }
 
-// The text of a part.
+/// The text of a part.
 fn part_text<K: Look>(alloc: Global, part: &Part, look: &K, now: u64) -> Result<Text, Raise>
     ensures { GivesText result (meaning.part_text (seen (K.sight look.now) now)
         (part_view part.now)) }
@@ -68,7 +68,7 @@ fn part_text<K: Look>(alloc: Global, part: &Part, look: &K, now: u64) -> Result<
     }
 }
 
-// The values of the members of a list.
+/// The values of the members of a list.
 #[cycle(fill)]
 fn fill_all<K: Look>(alloc: Global, ts: &[Template], look: &K, now: u64) -> Result<List, Raise>
     ensures { Answers (λ l. items_of l) result
@@ -82,7 +82,7 @@ fn fill_all<K: Look>(alloc: Global, ts: &[Template], look: &K, now: u64) -> Resu
     Ok(list)
 }
 
-// The values of the members of a map, with their keys, in the order of the keys.
+/// The values of the members of a map, with their keys, in the order of the keys.
 #[cycle(fill)]
 fn fill_fields<K: Look>(
     alloc: Global,
@@ -102,14 +102,14 @@ fn fill_fields<K: Look>(
     Ok(pairs)
 }
 
-// The list of these values, if it keeps within the limits.
+/// The list of these values, if it keeps within the limits.
 fn keep_list(made: Result<List, Raise>) -> Result<Value, Raise>
     ensures { (d : Answer Items) → Answers (λ l. items_of l) made d → Gives result (kept_list d) }
 {
     keep(Value::List(made?))
 }
 
-// The map of these pairs, if it keeps within the limits.
+/// The map of these pairs, if it keeps within the limits.
 fn keep_map(alloc: Global, pairs: Result<Vec<(Text, Value)>, Raise>) -> Result<Value, Raise>
     ensures { (d : Answer Pairs) → Answers (λ ps. put_all ps.items no_pairs) pairs d
         → Gives result (kept_map d) }
@@ -128,7 +128,7 @@ pub fn map_of(alloc: Global, mut pairs: Vec<(Text, Value)>) -> Result<Map, Raise
     Ok(made)
 }
 
-// Puts a value at a key.
+/// Puts a value at a key.
 #[tactic(auto, using(crate::proofs::Listed::pairs_listed))]
 fn put(m: &mut Map, key: Text, value: Value) -> Result<(), Raise>
     ensures { Answers (λ u. pairs_of m.new) result (Ok (put key (plain value) (pairs_of m.old))) }

@@ -67,7 +67,7 @@ pub(crate) fn len(v: &Value) -> Result<Value, Raise>
     }
 }
 
-// No text, list or map is so long that its length is past 64 bits.
+/// No text, list or map is so long that its length is past 64 bits.
 fn counted(n: usize) -> Result<Value, Raise>
     ensures { Gives result (Ok (integer (pos n))) }
 {
@@ -128,7 +128,7 @@ pub(crate) fn int(v: &Value) -> Result<Value, Raise>
     }
 }
 
-// A text of digits, with a minus in front or without; `parse` would take a plus too.
+/// A text of digits, with a minus in front or without; `parse` would take a plus too.
 fn read_whole(s: &str) -> Result<Value, Raise>
     ensures { Gives result (as_int (text s.now)) }
 {

@@ -30,6 +30,7 @@ pub fn eval<K: Look>(alloc: Global, e: &Postfix, look: &K, now: u64) -> Result<V
     ensures { (x : t.Expr) → instrs e.now ≡ code x
         → Gives result (meaning.eval x (seen (K.sight look.now) now)) }
 {
+    // laws that the proof uses
     code_means();
     if let Some(value) = short(alloc, e.items(), look) {
         return value;
@@ -46,7 +47,7 @@ pub fn eval<K: Look>(alloc: Global, e: &Postfix, look: &K, now: u64) -> Result<V
     pop(&mut stack)
 }
 
-// One instruction, and how many are passed behind it.
+/// One instruction, and how many are passed behind it.
 fn step<K: Look>(
     alloc: Global,
     i: &Instr,
@@ -72,7 +73,7 @@ fn step<K: Look>(
     }
 }
 
-// The value of a visible name.
+/// The value of a visible name.
 fn named<K: Look>(alloc: Global, look: &K, name: &str) -> Result<Value, Raise>
     ensures { Gives result (or_error KeyError ((seen (K.sight look.now) 0).look name.now)) }
 {
@@ -152,7 +153,7 @@ fn check(stack: &mut Vec<Value>) -> Result<usize, Raise>
     put(stack, Value::Bool(truth(&v)?))
 }
 
-// Puts a value on the stack if it keeps within the limits, and passes nothing.
+/// Puts a value on the stack if it keeps within the limits, and passes nothing.
 fn settle(stack: &mut Vec<Value>, value: Result<Value, Raise>) -> Result<usize, Raise>
     ensures { (d : Answer Data) → Gives value d
         → Leads (settled d (tops stack.old.items)) result (tops stack.new.items) }
@@ -160,7 +161,7 @@ fn settle(stack: &mut Vec<Value>, value: Result<Value, Raise>) -> Result<usize, 
     put(stack, keep(value?)?)
 }
 
-// Puts a value on the stack, and passes nothing.
+/// Puts a value on the stack, and passes nothing.
 fn put(stack: &mut Vec<Value>, v: Value) -> Result<usize, Raise>
     ensures { Pushes result (tops stack.new.items) (plain v ∷ tops stack.old.items) }
 {
@@ -168,7 +169,7 @@ fn put(stack: &mut Vec<Value>, v: Value) -> Result<usize, Raise>
     Ok(0)
 }
 
-// The topmost value.
+/// The topmost value.
 fn pop(stack: &mut Vec<Value>) -> Result<Value, Raise>
     ensures { Pops result (tops stack.old.items) (tops stack.new.items) }
 {
@@ -178,7 +179,7 @@ fn pop(stack: &mut Vec<Value>) -> Result<Value, Raise>
     }
 }
 
-// The function on so many topmost values, the topmost last.
+/// The function on so many topmost values, the topmost last.
 fn call<K: Look>(
     alloc: Global,
     stack: &mut Vec<Value>,

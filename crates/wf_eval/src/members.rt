@@ -31,7 +31,7 @@ pub fn found_in(v: &Value, w: &Value) -> Result<Value, Raise>
     }
 }
 
-// Whether a value is one of some others.
+/// Whether a value is one of some others.
 fn is_item(v: &Value, items: &[Value]) -> bool
     ensures { result ≡ list_any (same (plain v.now)) (plain_items items.now) }
 {
@@ -71,7 +71,7 @@ pub fn at_index(alloc: Global, v: &Value, w: &Value) -> Result<Value, Raise>
     }
 }
 
-// The item at an index.
+/// The item at an index.
 #[tactic(auto, using(crate::proofs::Listed::items_listed))]
 fn item_at(alloc: Global, items: &[Value], i: i64) -> Result<Value, Raise>
     ensures { Gives result (item_of (plain_items items.now) i) }

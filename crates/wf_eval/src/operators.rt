@@ -35,7 +35,7 @@ pub fn operate(alloc: Global, op: Op, v: &Value, w: &Value) -> Result<Value, Rai
     }
 }
 
-// `+`
+/// `+`
 fn added(alloc: Global, v: &Value, w: &Value) -> Result<Value, Raise>
     ensures { Gives result (added (plain v.now) (plain w.now)) }
 {
@@ -52,7 +52,7 @@ fn added(alloc: Global, v: &Value, w: &Value) -> Result<Value, Raise>
     }
 }
 
-// Two texts in a row.
+/// Two texts in a row.
 fn joined(alloc: Global, a: &str, b: &str) -> Result<Value, Raise>
     ensures { Gives result (Ok (text (a.now ++ b.now))) }
 {
@@ -61,42 +61,42 @@ fn joined(alloc: Global, a: &str, b: &str) -> Result<Value, Raise>
     text(alloc, s.as_str())
 }
 
-// `-`
+/// `-`
 fn difference(v: &Value, w: &Value) -> Result<Value, Raise>
     ensures { Gives result (on_wholes whole_difference (plain v.now) (plain w.now)) }
 {
     number(sub(whole(v)?, whole(w)?))
 }
 
-// `*`
+/// `*`
 fn product(v: &Value, w: &Value) -> Result<Value, Raise>
     ensures { Gives result (on_wholes whole_product (plain v.now) (plain w.now)) }
 {
     number(mul(whole(v)?, whole(w)?))
 }
 
-// `/`
+/// `/`
 fn quotient(v: &Value, w: &Value) -> Result<Value, Raise>
     ensures { Gives result (on_wholes exact_quotient (plain v.now) (plain w.now)) }
 {
     number(div(whole(v)?, whole(w)?))
 }
 
-// `//`
+/// `//`
 fn truncated(v: &Value, w: &Value) -> Result<Value, Raise>
     ensures { Gives result (on_wholes truncated_quotient (plain v.now) (plain w.now)) }
 {
     number(trunc_div(whole(v)?, whole(w)?))
 }
 
-// `%`
+/// `%`
 fn rest(v: &Value, w: &Value) -> Result<Value, Raise>
     ensures { Gives result (on_wholes whole_rest (plain v.now) (plain w.now)) }
 {
     number(rem(whole(v)?, whole(w)?))
 }
 
-// `<`
+/// `<`
 fn is_less(v: &Value, w: &Value) -> Result<Value, Raise>
     ensures { Gives result (compared int_lt is_below (plain v.now) (plain w.now)) }
 {
@@ -113,7 +113,7 @@ fn is_less(v: &Value, w: &Value) -> Result<Value, Raise>
     }
 }
 
-// `<=`
+/// `<=`
 fn is_at_most(v: &Value, w: &Value) -> Result<Value, Raise>
     ensures { Gives result (compared int_le (λ a b. not (is_below b a)) (plain v.now)
         (plain w.now)) }
@@ -131,7 +131,7 @@ fn is_at_most(v: &Value, w: &Value) -> Result<Value, Raise>
     }
 }
 
-// Whether a text's bytes come before another's.
+/// Whether a text's bytes come before another's.
 fn is_text_below(a: &str, b: &str) -> bool
     ensures { result ≡ is_below a.now b.now }
 {

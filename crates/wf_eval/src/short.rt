@@ -38,7 +38,7 @@ pub(crate) fn short<K: Look>(
     }
 }
 
-// What one operand leaves.
+/// What one operand leaves.
 fn one<K: Look>(alloc: Global, i: &Instr, look: &K) -> Option<Result<Value, Raise>>
     ensures { IfSome result (λ r. (now : ℕ)
         → Leaves r (act (seen (K.sight look.now) now) (instr i.now) alone [])) }
@@ -47,7 +47,7 @@ fn one<K: Look>(alloc: Global, i: &Instr, look: &K) -> Option<Result<Value, Rais
     Some(copied(alloc, v))
 }
 
-// The value that an instruction puts on the stack, if it does nothing else and keeps within the limits.
+/// The value that an instruction puts on the stack, if it does nothing else and keeps within the limits.
 fn operand<'a, K: Look>(i: &'a Instr, look: &'a K) -> Option<&'a Value>
     ensures { IfSome result (λ v. IsOperand (K.sight look.now) (instr i.now) (plain v.now)) }
 {
@@ -59,7 +59,7 @@ fn operand<'a, K: Look>(i: &'a Instr, look: &'a K) -> Option<&'a Value>
     if is_kept(value) { Some(value) } else { None }
 }
 
-// What an instruction leaves of the two values that are there alone, the first one below.
+/// What an instruction leaves of the two values that are there alone, the first one below.
 fn two(alloc: Global, i: &Instr, v: &Value, w: &Value) -> Option<Result<Value, Raise>>
     ensures { IfSome result (λ r. (s : View)
         → Leaves r (act s (instr i.now) alone (plain w.now ∷ plain v.now ∷ []))) }
@@ -71,7 +71,7 @@ fn two(alloc: Global, i: &Instr, v: &Value, w: &Value) -> Option<Result<Value, R
     }
 }
 
-// The value, if it keeps within the limits.
+/// The value, if it keeps within the limits.
 fn within(value: Result<Value, Raise>) -> Result<Value, Raise>
     ensures { (d : Answer Data) → Gives value d
         → Leaves result (settled d [] alone) }

@@ -6,7 +6,7 @@ ghost use Rattle.wf_expr.specs.Callees.{callee_of};
 use crate::callee::Callee;
 use wf_ast::{Func, function_named};
 
-// The function of a name.
+/// The function of a name.
 pub(crate) fn function(name: &str) -> Option<Callee>
     ensures { result ≡ option_map callee_of (func_named name.now) }
 {

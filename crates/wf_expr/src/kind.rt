@@ -2,7 +2,7 @@
 use wf_ast::Op;
 use wf_value::Text;
 
-// What a symbol is to the grammar.
+/// What a symbol is to the grammar.
 #[derive(Drop)]
 pub(crate) enum Kind {
     // a whole number of 64 bits
@@ -31,7 +31,7 @@ pub(crate) enum Kind {
     RightBracket,
 }
 
-// A symbol, and its place in bytes.
+/// A symbol, and its place in bytes.
 #[derive(Drop)]
 pub(crate) struct Symbol {
     pub(crate) kind: Kind,

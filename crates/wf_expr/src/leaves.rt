@@ -16,7 +16,7 @@ use std::alloc::Global;
 use wf_ast::{Expr, Exprs};
 use wf_value::{Text, Value};
 
-// The value or name that the first symbol is. A decimal is none that is accepted, and is read as null.
+/// The value or name that the first symbol is. A decimal is none that is accepted, and is read as null.
 pub(crate) fn leaf(alloc: Global, symbols: &[Symbol]) -> Result<Option<Expr>, Stop>
     ensures { MatchResult result (λ e. option_map expr_view e
         ≡ option_map atom_expr (atom_of (head (syms_of symbols.now)))) (λ f. f ≡ stop.OutOfMemory) }
@@ -80,14 +80,14 @@ pub(crate) fn copied(text: &Text) -> Result<Text, Stop>
     Ok(text.copy()?)
 }
 
-// A text as it stands in the source.
+/// A text as it stands in the source.
 pub(crate) fn written(alloc: Global, text: &str) -> Result<Text, Stop>
     ensures { MatchResult result (λ t. t ≡ text.now) (λ f. f ≡ stop.OutOfMemory) }
 {
     Ok(Text::new(alloc, text)?)
 }
 
-// The name that the symbols begin with.
+/// The name that the symbols begin with.
 pub(crate) fn first_name(alloc: Global, symbols: &[Symbol]) -> Result<Option<String>, Stop>
     ensures { MatchResult result (λ x. option_map string_bytes x
         ≡ name_of (head (syms_of symbols.now))) (λ f. f ≡ stop.OutOfMemory) }
@@ -98,7 +98,7 @@ pub(crate) fn first_name(alloc: Global, symbols: &[Symbol]) -> Result<Option<Str
     }
 }
 
-// The name with one more behind a point, if there is a name.
+/// The name with one more behind a point, if there is a name.
 pub(crate) fn longer(chain: Option<String>, key: &Text) -> Result<Option<String>, Stop>
     ensures { MatchResult result (λ x. option_map string_bytes x
         ≡ longer_by (option_map string_bytes chain) key.now) (λ f. f ≡ stop.OutOfMemory) }
@@ -125,7 +125,7 @@ pub(crate) fn add(args: &mut Exprs, arg: Expr) -> Result<(), Stop>
     Ok(())
 }
 
-// The call of a function. One of a name that no function has is none that is accepted, and is read as null.
+/// The call of a function. One of a name that no function has is none that is accepted, and is read as null.
 pub(crate) fn call(name: &str, args: Exprs) -> Expr
     ensures { expr_view result ≡ call_of (func_named name.now) (exprs_view args) }
 {

@@ -14,7 +14,7 @@ use std::alloc::Global;
 use wf_span::{Token, TokenKind, Tokens};
 use wf_value::OutOfMemory;
 
-// The symbols of tokens.
+/// The symbols of tokens.
 pub(crate) fn symbols_of(alloc: Global, tokens: &Tokens<'_>) -> Result<Vec<Symbol>, OutOfMemory>
     requires range { length (token_list tokens.now) < 4294967296 }
     requires tokens { AllByRecursion IsToken (token_list tokens.now) }
@@ -40,7 +40,7 @@ fn add(symbols: &mut Vec<Symbol>, symbol: Symbol) -> Result<(), OutOfMemory>
     Ok(())
 }
 
-// The symbol of the token at an index, and the index of the token behind it.
+/// The symbol of the token at an index, and the index of the token behind it.
 fn next_symbol(
     alloc: Global,
     tokens: &Tokens<'_>,
@@ -64,7 +64,7 @@ fn next_symbol(
     }
 }
 
-// Whether the tokens are digits, a point and digits with nothing between them.
+/// Whether the tokens are digits, a point and digits with nothing between them.
 fn glued(whole: Option<Token<'_>>, point: Option<Token<'_>>, rest: Option<Token<'_>>) -> bool
     ensures { result ≡ glued_at (option_map placed_token whole.entry)
         (option_map placed_token point.entry) (option_map placed_token rest.entry) }
@@ -95,7 +95,7 @@ fn is_digits(kind: TokenKind) -> bool
     }
 }
 
-// What a token is to the grammar.
+/// What a token is to the grammar.
 fn kind(alloc: Global, token: Token<'_>) -> Result<Kind, OutOfMemory>
     requires { is_token token.kind token.text.now ≡ true }
     ensures { IfOk result (λ k. sym_of k ≡ symbol token.entry.kind token.entry.text.now) }

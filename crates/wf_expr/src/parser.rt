@@ -167,7 +167,7 @@ fn parse_atom<'a>(alloc: Global, symbols: &'a [Symbol]) -> Result<(Expr, &'a [Sy
     }
 }
 
-// Behind a `(`.
+/// Behind a `(`.
 #[cycle(parse)]
 fn parse_group<'a>(alloc: Global, symbols: &'a [Symbol]) -> Result<(Expr, &'a [Symbol]), Stop>
     ensures { MatchResult result (λ r. GroupRead (syms_of symbols.now) (expr_view r.0)
@@ -181,7 +181,7 @@ fn parse_group<'a>(alloc: Global, symbols: &'a [Symbol]) -> Result<(Expr, &'a [S
     }
 }
 
-// Behind a `[`.
+/// Behind a `[`.
 #[cycle(parse)]
 fn parse_index<'a>(alloc: Global, symbols: &'a [Symbol]) -> Result<(Expr, &'a [Symbol]), Stop>
     ensures { MatchResult result (λ r. IndexRead (syms_of symbols.now) (expr_view r.0)
@@ -195,7 +195,7 @@ fn parse_index<'a>(alloc: Global, symbols: &'a [Symbol]) -> Result<(Expr, &'a [S
     }
 }
 
-// Behind the `(` of a call.
+/// Behind the `(` of a call.
 #[cycle(parse)]
 fn parse_args<'a>(alloc: Global, symbols: &'a [Symbol]) -> Result<(Exprs, &'a [Symbol]), Stop>
     ensures { MatchResult result (λ r. ArgsRead (syms_of symbols.now) (exprs_view r.0)
@@ -219,7 +219,7 @@ fn parse_args<'a>(alloc: Global, symbols: &'a [Symbol]) -> Result<(Exprs, &'a [S
     }
 }
 
-// Behind a point.
+/// Behind a point.
 fn parse_key(symbols: &[Symbol]) -> Result<(&Text, &[Symbol]), Stop>
     ensures { MatchResult result (λ r. KeyRead (syms_of symbols.now) r.0.now (syms_of r.1.now))
         (λ stop. Fails want_key (syms_of symbols.now) stop) }

@@ -1,6 +1,6 @@
 // The pieces of a text.
 
-// A piece of a text of a source.
+/// A piece of a text of a source.
 #[derive(Drop)]
 pub(crate) enum Piece<'a> {
     // what stands as it is

@@ -4,8 +4,8 @@ ghost use Rattle.wf_expr.specs.Pieces as pieces;
 ghost use Rattle.wf_expr.specs.Splits.{length_in};
 ghost use Rattle.wf_expr.specs.declared.quoting.Quoting.TheVariants.{Bare};
 
-// How a place in an expression stands to its quoted texts: in none, in one with this quote, or
-// behind a backslash in it.
+/// How a place in an expression stands to its quoted texts: in none, in one with this quote, or
+/// behind a backslash in it.
 #[derive(Clone, Copy, Drop)]
 pub(crate) enum Quoting {
     Bare,
@@ -14,7 +14,7 @@ pub(crate) enum Quoting {
 }
 
 impl Quoting {
-    // The same behind one more byte.
+    /// The same behind one more byte.
     fn behind(self, byte: u8) -> Quoting
         ensures { result ≡ pieces.behind self byte }
     {
@@ -39,7 +39,7 @@ impl Quoting {
         }
     }
 
-    // Whether a byte here ends the expression.
+    /// Whether a byte here ends the expression.
     fn closes(self, byte: u8) -> bool
         ensures { result ≡ pieces.closes self byte }
     {
@@ -50,7 +50,7 @@ impl Quoting {
     }
 }
 
-// How many bytes stand before the `}` that ends an expression.
+/// How many bytes stand before the `}` that ends an expression.
 pub(crate) fn hole_length(bytes: &[u8]) -> Option<usize>
     ensures { result ≡ length_in Bare bytes.now }
 {

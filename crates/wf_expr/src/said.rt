@@ -8,7 +8,7 @@ ghost use Rattle.wf_span.specs.declared.token.TokenKind.TheVariants as token;
 use std::alloc::Global;
 use wf_value::{OutOfMemory, Text};
 
-// What a quoted text says.
+/// What a quoted text says.
 pub(crate) fn said(alloc: Global, text: &str) -> Result<Text, OutOfMemory>
     requires { is_token token.Text text.now ≡ true }
     ensures { IfOk result (λ t. t ≡ text_said text.now) }
@@ -41,7 +41,7 @@ fn push(out: &mut String, c: char) -> Result<(), OutOfMemory>
     Ok(())
 }
 
-// The character that an escape's letter stands for.
+/// The character that an escape's letter stands for.
 fn meant(c: char) -> char
     ensures { result ≡ escaped c }
 {

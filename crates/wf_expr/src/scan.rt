@@ -13,7 +13,7 @@ use crate::symbol::{begins_left_paren, begins_point, begins_right_paren, tail};
 use std::alloc::Global;
 use wf_value::{OutOfMemory, Text};
 
-// The first fault of symbols that begin an expression.
+/// The first fault of symbols that begin an expression.
 pub(crate) fn first_fault(
     alloc: Global,
     symbols: &[Symbol],
@@ -42,7 +42,7 @@ fn behind(symbols: &[Symbol]) -> &[Symbol]
     }
 }
 
-// The fault of the first symbol.
+/// The fault of the first symbol.
 fn own_fault(
     alloc: Global,
     after_point: bool,
@@ -76,7 +76,7 @@ fn own_fault(
     }
 }
 
-// The fault of a name at a place, with what stands behind it.
+/// The fault of a name at a place, with what stands behind it.
 fn name_fault(
     alloc: Global,
     at: u32,
@@ -99,7 +99,7 @@ fn name_fault(
     }
 }
 
-// The name behind the point that stands first.
+/// The name behind the point that stands first.
 fn key(symbols: &[Symbol]) -> Option<&Text>
     ensures { option_map (λ x. x.now) result ≡ key_behind (syms_of symbols.now) }
 {
@@ -119,7 +119,7 @@ fn key(symbols: &[Symbol]) -> Option<&Text>
     }
 }
 
-// The fault of a call at a place, with what stands behind its `(`.
+/// The fault of a call at a place, with what stands behind its `(`.
 #[tactic(auto, using(crate::proofs::Scans::same_fault, std::proofs::lemmas::Bool::Decides::nat_tests))]
 fn call_fault(at: u32, name: &str, symbols: &[Symbol]) -> Option<ExprFault>
     ensures { result ≡ first_of (call_faults at (func_named name.now)
@@ -140,7 +140,7 @@ fn call_fault(at: u32, name: &str, symbols: &[Symbol]) -> Option<ExprFault>
     }
 }
 
-// How many arguments a call has whose `(` these symbols follow, if it is closed in them.
+/// How many arguments a call has whose `(` these symbols follow, if it is closed in them.
 fn arguments(symbols: &[Symbol]) -> Option<usize>
     ensures { result ≡ arguments_in (syms_of symbols.now) }
 {

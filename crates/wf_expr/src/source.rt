@@ -16,7 +16,7 @@ use std::alloc::Global;
 use wf_ast::Expr;
 use wf_span::{LexFault, tokens};
 
-// How many characters an expression may have.
+/// How many characters an expression may have.
 const MOST_CHARACTERS: usize = 400;
 
 /// The expression that a text is. It is an error when the text has more than 400 characters, when it has no tokens,
@@ -30,7 +30,7 @@ pub fn parse(alloc: Global, src: &str) -> Result<Expr, ExprFault>
     of_symbols(alloc, src, &symbols)
 }
 
-// The symbols of a text.
+/// The symbols of a text.
 pub(crate) fn text_symbols(alloc: Global, src: &str) -> Result<Vec<Symbol>, ExprFault>
     ensures { MatchResult result (λ symbols. HasSymbols src.now (map placed_of symbols.items))
         (λ fault. HasNoSymbols src.now fault) }
@@ -52,7 +52,7 @@ fn is_long(src: &str) -> bool
     src.chars().count() > MOST_CHARACTERS
 }
 
-// The expression that the symbols of a text are.
+/// The expression that the symbols of a text are.
 fn of_symbols(alloc: Global, src: &str, symbols: &[Symbol]) -> Result<Expr, ExprFault>
     requires { length src.now < 4294967296 }
     ensures { MatchResult result (λ e. SymbolsSpell (map placed_of symbols.now) (expr_view e))
@@ -76,7 +76,7 @@ fn of_symbols(alloc: Global, src: &str, symbols: &[Symbol]) -> Result<Expr, Expr
     }
 }
 
-// The expression that symbols are by the grammar alone.
+/// The expression that symbols are by the grammar alone.
 fn whole(alloc: Global, symbols: &[Symbol]) -> Result<Expr, Stop>
     ensures { MatchResult result (λ e. Spells (syms_of symbols.now) (expr_view e))
         (λ stop. StopsWith IsExpression (syms_of symbols.now) stop) }
@@ -89,7 +89,7 @@ fn whole(alloc: Global, symbols: &[Symbol]) -> Result<Expr, Stop>
     }
 }
 
-// The place of the first symbol, or the text's end.
+/// The place of the first symbol, or the text's end.
 pub(crate) fn place(src: &str, symbols: &[Symbol]) -> u32
     requires { length src.now < 4294967296 }
     ensures { result ≡ place_of src.now (map placed_of symbols.now) }

@@ -9,7 +9,7 @@ use crate::quoting::hole_length;
 use std::alloc::Global;
 use wf_value::OutOfMemory;
 
-// The pieces of a text, in their order.
+/// The pieces of a text, in their order.
 pub(crate) fn pieces(alloc: Global, text: &str) -> Result<Vec<Piece<'_>>, OutOfMemory>
     ensures { IfOk result (λ ps. map piece_of ps.items ≡ pieces_of text.now) }
 {
@@ -28,7 +28,7 @@ pub(crate) fn pieces(alloc: Global, text: &str) -> Result<Vec<Piece<'_>>, OutOfM
     Ok(made)
 }
 
-// The expression that a text begins with, and what stands behind its `}`.
+/// The expression that a text begins with, and what stands behind its `}`.
 fn split_hole(text: &str) -> Option<(&str, &str)>
     ensures { MatchOption result (in_hole Bare text.now
         ≡ unclosed text.now ∷ []) (λ r. (in_hole Bare text.now ≡ hole r.0.now ∷ pieces_of r.1.now)
@@ -47,7 +47,7 @@ fn add<'a>(pieces: &mut Vec<Piece<'a>>, piece: Piece<'a>) -> Result<(), OutOfMem
     Ok(())
 }
 
-// Adds what is said, if anything is.
+/// Adds what is said, if anything is.
 fn add_said<'a>(pieces: &mut Vec<Piece<'a>>, text: &'a str) -> Result<(), OutOfMemory>
     ensures { IfOk result (λ _. map piece_of pieces.new.items
         ≡ map piece_of pieces.old.items ++ said_in text.now) }

@@ -5,8 +5,8 @@ ghost use Rattle.wf_expr.specs.declared.stop.Stop.TheVariants as variant;
 use std::alloc::{AllocError, AllocFailed};
 use wf_value::OutOfMemory;
 
-// Where symbols stop to begin an expression: so many of them are left from there on. Or there is no
-// memory.
+/// Where symbols stop to begin an expression: so many of them are left from there on. Or there is no
+/// memory.
 #[derive(Drop)]
 pub(crate) enum Stop {
     Syntax(usize),

@@ -7,7 +7,7 @@ use crate::kind::{Kind, Symbol};
 use wf_ast::Op;
 use wf_value::Text;
 
-// What stands behind the first symbol.
+/// What stands behind the first symbol.
 pub(crate) fn tail(symbols: &[Symbol]) -> &[Symbol]
     ensures { syms_of result.now ≡ drop 1 (syms_of symbols.now) }
 {

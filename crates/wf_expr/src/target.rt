@@ -32,7 +32,7 @@ pub fn parse_target(alloc: Global, src: &str) -> Result<Target, ExprFault>
     of_symbols(alloc, src, &symbols)
 }
 
-// The target that the symbols of a text are.
+/// The target that the symbols of a text are.
 fn of_symbols(alloc: Global, src: &str, symbols: &[Symbol]) -> Result<Target, ExprFault>
     requires { length src.now < 4294967296 }
     ensures { MatchResult result (λ t. SymbolsTarget src.now (map placed_of symbols.now)
@@ -57,7 +57,7 @@ fn of_symbols(alloc: Global, src: &str, symbols: &[Symbol]) -> Result<Target, Ex
     }
 }
 
-// The target that symbols are by the grammar alone.
+/// The target that symbols are by the grammar alone.
 fn whole(alloc: Global, src: &str, symbols: &[Symbol]) -> Result<Target, Stop>
     ensures { MatchResult result (λ t. SpellsTarget src.now (syms_of symbols.now) (target_view t))
         (λ stop. StopsWith IsTargetText (syms_of symbols.now) stop) }
@@ -79,7 +79,7 @@ fn whole(alloc: Global, src: &str, symbols: &[Symbol]) -> Result<Target, Stop>
     })
 }
 
-// A point and a name, or an index in brackets.
+/// A point and a name, or an index in brackets.
 fn one_place<'a>(alloc: Global, symbols: &'a [Symbol]) -> Result<(Expr, &'a [Symbol]), Stop>
     requires { is_end (head (syms_of symbols.now)) ≡ false }
     ensures { MatchResult result (λ r. PlaceRead (syms_of symbols.now) (expr_view r.0)
@@ -98,7 +98,7 @@ fn one_place<'a>(alloc: Global, symbols: &'a [Symbol]) -> Result<(Expr, &'a [Sym
     }
 }
 
-// Behind a `[`.
+/// Behind a `[`.
 fn index<'a>(alloc: Global, symbols: &'a [Symbol]) -> Result<(Expr, &'a [Symbol]), Stop>
     ensures { MatchResult result (λ r. IndexRead (syms_of symbols.now) (expr_view r.0)
         (syms_of r.1.now)) (λ stop. Fails want_place (syms_of symbols.now) stop) }

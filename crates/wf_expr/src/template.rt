@@ -38,14 +38,14 @@ pub fn parse_template(alloc: Global, text: &str) -> Result<Template, ExprFault>
     }
 }
 
-// An expression in a box.
+/// An expression in a box.
 fn in_box(alloc: Global, expr: Expr) -> Result<Box<Expr>, ExprFault>
     ensures { MatchResult result (λ held. held.value ≡ expr) (λ f. f ≡ fault.OutOfMemory) }
 {
     Ok(boxed(alloc, expr)?)
 }
 
-// The expression that stands alone, if one does.
+/// The expression that stands alone, if one does.
 fn alone<'a>(pieces: &[Piece<'a>]) -> Option<&'a str>
     ensures { MatchOption result (is_whole (map piece_of pieces.now)
         ≡ false) (λ s. map piece_of pieces.now ≡ hole s.now ∷ []) }
@@ -56,7 +56,7 @@ fn alone<'a>(pieces: &[Piece<'a>]) -> Option<&'a str>
     }
 }
 
-// The parts that pieces are.
+/// The parts that pieces are.
 fn parts(alloc: Global, pieces: &[Piece<'_>]) -> Result<Parts, ExprFault>
     ensures { MatchResult result (λ xs. AreParts (map piece_of pieces.now) (parts_view xs))
         (IsFaultIn (map piece_of pieces.now)) }
@@ -68,7 +68,7 @@ fn parts(alloc: Global, pieces: &[Piece<'_>]) -> Result<Parts, ExprFault>
     Ok(parts)
 }
 
-// The part that a piece is.
+/// The part that a piece is.
 fn part(alloc: Global, piece: &Piece<'_>) -> Result<Part, ExprFault>
     ensures { MatchResult result (λ x. IsPart (piece_of piece.now) (part_view x))
         (IsFaultIn (piece_of piece.now ∷ [])) }
@@ -80,7 +80,7 @@ fn part(alloc: Global, piece: &Piece<'_>) -> Result<Part, ExprFault>
     }
 }
 
-// The end of a text as a place; one past 4,294,967,295 is told as this.
+/// The end of a text as a place; one past 4,294,967,295 is told as this.
 fn end(text: &str) -> u32
     ensures { result ≡ end_of text.now }
 {

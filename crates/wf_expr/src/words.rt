@@ -11,7 +11,7 @@ use std::alloc::Global;
 use wf_ast::Op;
 use wf_value::{OutOfMemory, Text};
 
-// A word, or else a name.
+/// A word, or else a name.
 pub(crate) fn word(alloc: Global, text: &str) -> Result<Kind, OutOfMemory>
     ensures { IfOk result (λ k. sym_of k ≡ symbols.word text.now) }
 {
@@ -45,7 +45,7 @@ fn is_false(text: &str) -> bool
     text == "false" || text == "False" || text == "FALSE"
 }
 
-// A whole number of 64 bits, or else a decimal.
+/// A whole number of 64 bits, or else a decimal.
 pub(crate) fn digits(text: &str) -> Kind
     requires { is_token token.Number text.now ≡ true }
     ensures { sym_of result ≡ symbols.digits text.now }

@@ -30,7 +30,7 @@ pub struct FileHost<R: Files<File = File> + Clock + Print + Drop> {
     print_faults: u64,
 }
 
-// The system's clock, in milliseconds since 1970; 0 before.
+/// The system's clock, in milliseconds since 1970; 0 before.
 fn millis<C: Clock>(clock: &C) -> io::Result<u64> {
     match SystemTime::now(clock)?.duration_since(SystemTime::UNIX_EPOCH) {
         Ok(past) => Ok(past.as_millis().min(u64::MAX as u128) as u64),
@@ -75,7 +75,7 @@ impl<R: Files<File = File> + Clock + Print + Drop> FileHost<R> {
         }
     }
 
-    // The greatest reading so far, which a clock that can't be read repeats.
+    /// The greatest reading so far, which a clock that can't be read repeats.
     fn latest(&mut self) -> u64
         ensures not_back { last_reading self.old ≤ result }
         ensures kept { last_reading self.new ≡ result }
@@ -107,7 +107,7 @@ impl<R: Files<File = File> + Clock + Print + Drop> FileHost<R> {
 }
 
 impl<R: Files<File = File> + Clock + Print + Net + Drop> FileHost<R> {
-    // What is heard within so many milliseconds.
+    /// What is heard within so many milliseconds.
     fn hear(&mut self, millis: u64) -> Result<What, PollError>
         ensures piece { IfOk result (λ w. piece_len w ≤ 65536) }
         ensures calls_alone { IfOk result (λ w. visit_of w ≡ None) }

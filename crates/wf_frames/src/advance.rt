@@ -18,7 +18,7 @@ use wf_eval::Look;
 use wf_model::Node;
 use wf_value::OutOfMemory;
 
-// The next step of a list. Its frame was taken.
+/// The next step of a list. Its frame was taken.
 fn do_step<K: Look>(
     alloc: Global,
     nodes: &[Node],
@@ -48,7 +48,7 @@ fn do_step<K: Look>(
     carry_out(alloc, nodes, n, frames, look, now)
 }
 
-// The body of an arm, or one under a `try`. Its frame was taken.
+/// The body of an arm, or one under a `try`. Its frame was taken.
 fn lone_step<K: Look>(
     alloc: Global,
     nodes: &[Node],
@@ -77,7 +77,7 @@ fn lone_step<K: Look>(
     carry_out(alloc, nodes, n, frames, look, now)
 }
 
-// The next entry of an assign. Its frame was taken.
+/// The next entry of an assign. Its frame was taken.
 fn entry_step(nodes: &[Node], n: u32, at: usize, frames: &mut Frames) -> Result<Step, OutOfMemory>
     ghost ns: { List Spot }
     requires tells { Tells ns nodes.now }

@@ -76,7 +76,7 @@ fn is_in_piece(piece: &Piece, codes: &[Postfix]) -> bool
     }
 }
 
-// Whether the expression at a place names the clock.
+/// Whether the expression at a place names the clock.
 fn is_at(codes: &[Postfix], place: u32) -> bool
     ensures { result ≡ expr_now (hole_by codes.now place) }
 {
@@ -98,7 +98,7 @@ pub fn is_clock_among(codes: &[Postfix]) -> bool
     false
 }
 
-// Whether a compiled expression names the clock.
+/// Whether a compiled expression names the clock.
 fn is_in(code: &Postfix) -> bool
     ensures { result ≡ expr_now (decoded code.now) }
 {
@@ -110,7 +110,7 @@ fn is_in(code: &Postfix) -> bool
     false
 }
 
-// Whether an instruction reads the clock.
+/// Whether an instruction reads the clock.
 fn is_call(i: &Instr) -> bool
     ensures { result ≡ call_now (instr i.now) }
 {

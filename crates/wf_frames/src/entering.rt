@@ -70,7 +70,7 @@ pub fn enter_call(
     }
 }
 
-// Names are bound one after another in a layer.
+/// Names are bound one after another in a layer.
 fn bind_all(scopes: &mut Scopes, layer: Chain, bindings: Bindings) -> Result<(), AssignFault>
     requires live { IsLive layer.number (layers_of scopes.old) }
     requires innermost { IsInnermost layer.number (layers_of scopes.old) }
@@ -90,7 +90,7 @@ fn bind_all(scopes: &mut Scopes, layer: Chain, bindings: Bindings) -> Result<(),
     Ok(())
 }
 
-// The layer ends again where the variables would pass their limit. No value nests too deep here.
+/// The layer ends again where the variables would pass their limit. No value nests too deep here.
 fn refuse(scopes: &mut Scopes, layer: Chain, fault: AssignFault) -> Result<(), OutOfMemory>
     requires live { IsLive layer.number (layers_of scopes.old) }
     requires innermost { IsInnermost layer.number (layers_of scopes.old) }
@@ -107,7 +107,7 @@ fn refuse(scopes: &mut Scopes, layer: Chain, fault: AssignFault) -> Result<(), O
     }
 }
 
-// The names of a loop are bound in a layer.
+/// The names of a loop are bound in a layer.
 fn bind_names(
     scopes: &mut Scopes,
     layer: Chain,

@@ -39,7 +39,7 @@ pub fn fill_shape<K: Look>(
     }
 }
 
-// The texts of the pieces in a row.
+/// The texts of the pieces in a row.
 fn joined<K: Look>(
     alloc: Global,
     pieces: &[Piece],
@@ -58,7 +58,7 @@ fn joined<K: Look>(
     owned(alloc, text.as_str())
 }
 
-// The text of a piece.
+/// The text of a piece.
 fn piece_text<K: Look>(
     alloc: Global,
     piece: &Piece,
@@ -78,7 +78,7 @@ fn piece_text<K: Look>(
     }
 }
 
-// The values of the members of a list.
+/// The values of the members of a list.
 #[cycle(fill)]
 fn fill_all<K: Look>(
     alloc: Global,
@@ -99,7 +99,7 @@ fn fill_all<K: Look>(
     Ok(list)
 }
 
-// The values of the members of a map, with their keys, in the order of the keys.
+/// The values of the members of a map, with their keys, in the order of the keys.
 #[cycle(fill)]
 fn fill_named<K: Look>(
     alloc: Global,
@@ -121,7 +121,7 @@ fn fill_named<K: Look>(
     Ok(pairs)
 }
 
-// The list of these values, if it keeps within the limits.
+/// The list of these values, if it keeps within the limits.
 fn keep_list(made: Result<List, Raise>) -> Result<Value, Raise>
     ensures { (d : Answer Items) → Answers (λ l. items_of l) made d → Gives result (kept_list d) }
 {
@@ -142,7 +142,7 @@ pub fn fill_args<K: Look>(
     map_of(alloc, fill_named(alloc, named.items(), codes, look, now)?)
 }
 
-// The map of these pairs, if it keeps within the limits.
+/// The map of these pairs, if it keeps within the limits.
 fn keep_map(alloc: Global, pairs: Result<Vec<(Text, Value)>, Raise>) -> Result<Value, Raise>
     ensures { (d : Answer Pairs) → Answers (λ ps. put_all ps.items no_pairs) pairs d
         → Gives result (kept_map d) }

@@ -43,7 +43,7 @@ pub enum Frame {
 impl Frame {
     ghost use Rattle.wf_frames.specs.Frames.{is_back, mark_of};
 
-    // The number of the layer that ends with it.
+    /// The number of the layer that ends with it.
     pub(crate) fn mark(&self) -> Option<u64>
         ensures { result ≡ mark_of self.now }
     {

@@ -30,21 +30,21 @@ pub enum Kind {
     Call,
 }
 
-// With a reading, or without.
+/// With a reading, or without.
 fn by_clock(clock: bool) -> Kind
     ensures { kind_view result ≡ by_clock clock }
 {
     if clock { Kind::Clock } else { Kind::Plain }
 }
 
-// Whether an entry of an assign names the clock: its value, or the places of its target.
+/// Whether an entry of an assign names the clock: its value, or the places of its target.
 fn is_entry_clock(entry: &EntryNode, codes: &[Postfix]) -> bool
     ensures { result ≡ entry_now (entry_by codes.now entry.now) }
 {
     is_clock_in(&entry.value, codes) || is_clock_among(first_of(codes, entry.places))
 }
 
-// Whether the entry of this number does.
+/// Whether the entry of this number does.
 fn is_entry_at(nodes: &[Node], n: usize) -> bool
     ghost ns: { List Spot }
     requires tells { Tells ns nodes.now }
@@ -58,7 +58,7 @@ fn is_entry_at(nodes: &[Node], n: usize) -> bool
     }
 }
 
-// Whether what a loop goes over does.
+/// Whether what a loop goes over does.
 fn is_over(over: &OverShape, codes: &[Postfix]) -> bool
     ensures { result ≡ over_now (over_by codes.now over.now) }
 {
@@ -68,7 +68,7 @@ fn is_over(over: &OverShape, codes: &[Postfix]) -> bool
     }
 }
 
-// Whether the condition of this number does.
+/// Whether the condition of this number does.
 fn is_condition(nodes: &[Node], n: u32) -> bool
     ghost ns: { List Spot }
     requires tells { Tells ns nodes.now }
@@ -82,7 +82,7 @@ fn is_condition(nodes: &[Node], n: u32) -> bool
     }
 }
 
-// Whether the condition of one of some arms does.
+/// Whether the condition of one of some arms does.
 fn are_arms(nodes: &[Node], arms: &[u32]) -> bool
     ghost ns: { List Spot }
     requires tells { Tells ns nodes.now }
@@ -97,7 +97,7 @@ fn are_arms(nodes: &[Node], arms: &[u32]) -> bool
     false
 }
 
-// Of the first entry of an assign.
+/// Of the first entry of an assign.
 fn first_kind(nodes: &[Node], numbers: &[u32]) -> Kind
     ghost ns: { List Spot }
     requires tells { Tells ns nodes.now }
@@ -111,7 +111,7 @@ fn first_kind(nodes: &[Node], numbers: &[u32]) -> Kind
     }
 }
 
-// Whether a function reads the clock.
+/// Whether a function reads the clock.
 fn is_now(function: Func) -> bool
     ensures { result ≡ is_now function }
 {
@@ -121,7 +121,7 @@ fn is_now(function: Func) -> bool
     }
 }
 
-// Of the call at a number, where an argument names the clock, or none does.
+/// Of the call at a number, where an argument names the clock, or none does.
 fn call_kind(targets: &[Target], n: usize, clock: bool) -> Kind
     ensures { (fs : List Flow) (ns : List Spot) (x : Text)
         → IsTarget fs ns (slice_get targets.now n) x
@@ -139,7 +139,7 @@ fn call_kind(targets: &[Target], n: usize, clock: bool) -> Kind
     }
 }
 
-// Of the body of a node.
+/// Of the body of a node.
 fn node_kind(nodes: &[Node], targets: &[Target], n: usize) -> Kind
     ghost ns: { List Spot }
     requires tells { Tells ns nodes.now }
@@ -192,7 +192,7 @@ pub fn wants_of(
     Ok(wants)
 }
 
-// What the node of this number wants as a step.
+/// What the node of this number wants as a step.
 fn body_at(wants: &[Wants], n: u32) -> Kind
     ensures { (k : NextKind) (q : NextKind) → option_map wants_view (slice_get wants.now n)
         ≡ Some (k, q) → kind_view result ≡ k }
@@ -203,7 +203,7 @@ fn body_at(wants: &[Wants], n: u32) -> Kind
     }
 }
 
-// What the node of this number wants as an entry.
+/// What the node of this number wants as an entry.
 fn entry_at(wants: &[Wants], n: u32) -> Kind
     ensures { (k : NextKind) (q : NextKind) → option_map wants_view (slice_get wants.now n)
         ≡ Some (k, q) → kind_view result ≡ q }
@@ -214,7 +214,7 @@ fn entry_at(wants: &[Wants], n: u32) -> Kind
     }
 }
 
-// The number at a place among others, if there is one.
+/// The number at a place among others, if there is one.
 fn number_at(numbers: &[u32], at: usize) -> Option<u32>
     ensures { result ≡ slice_get numbers.now at }
 {

@@ -33,7 +33,7 @@ fn is_built(nodes: &[Node], node: &Node) -> bool
     }
 }
 
-// Whether the node of this number says what is next.
+/// Whether the node of this number says what is next.
 fn has_next(nodes: &[Node], n: u32) -> bool
     ensures { result ≡ has_next (view_at nodes.now n) }
 {

@@ -11,7 +11,7 @@ use std::alloc::Global;
 use wf_scope::Key;
 use wf_value::{OutOfMemory, Tag, Value};
 
-// The key that a value is; none where it is neither a text nor a whole number.
+/// The key that a value is; none where it is neither a text nor a whole number.
 fn key_of(place: &Value) -> Result<Option<Key>, OutOfMemory>
     ensures { IfOk result (IsKey (plain place.now)) }
 {
@@ -37,7 +37,7 @@ pub(crate) fn keys_of(alloc: Global, places: &[Value]) -> Result<Option<Vec<Key>
     Ok(Some(keys))
 }
 
-// What stands at a place.
+/// What stands at a place.
 fn member<'a>(value: &'a Value, place: &Value) -> Result<&'a Value, Tag>
     ensures { Reads result (member (plain place.now) (plain value.now)) }
 {
@@ -60,7 +60,7 @@ fn member<'a>(value: &'a Value, place: &Value) -> Result<&'a Value, Tag>
     }
 }
 
-// The item at an index.
+/// The item at an index.
 fn item_at(index: i64, items: &[Value]) -> Option<&Value>
     ensures { option_map (λ v. plain v.now) result ≡ item_at index (plain_items items.now) }
 {
@@ -70,7 +70,7 @@ fn item_at(index: i64, items: &[Value]) -> Option<&Value>
     }
 }
 
-// The error of a write at places below a value, of which one is no key.
+/// The error of a write at places below a value, of which one is no key.
 fn fault_below(value: &Value, places: &[Value]) -> Tag
     requires { all_keys (plain_items places.now) ≡ false }
     ensures { (new : Data) → layers.written (plain_items places.now) (plain value.now) new

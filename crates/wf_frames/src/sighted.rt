@@ -38,7 +38,7 @@ impl Look for Seen<'_> {
     }
 }
 
-// The value of a key, in the first pair that has it.
+/// The value of a key, in the first pair that has it.
 #[tactic(auto, using(crate::proofs::Environment::none_in))]
 fn find<'a>(pairs: &'a [(Text, Text)], key: &str) -> Option<&'a str>
     ensures { option_map (λ t. t.now) result ≡ env_in pairs.now key.now }

@@ -62,7 +62,7 @@ pub fn map_of(alloc: Global, tag: Tag) -> Result<Value, OutOfMemory>
     }
 }
 
-// The error of an evaluation is raised.
+/// The error of an evaluation is raised.
 fn fails(alloc: Global, raise: Raise) -> Result<Step, OutOfMemory>
     ensures raises { IfOk result (Fails raise) }
     ensures done { IfOk result IsDone }
@@ -73,7 +73,7 @@ fn fails(alloc: Global, raise: Raise) -> Result<Step, OutOfMemory>
     }
 }
 
-// A return.
+/// A return.
 fn returns<K: Look>(
     alloc: Global,
     shape: &Shape,
@@ -91,7 +91,7 @@ fn returns<K: Look>(
     }
 }
 
-// A raise, of a text or a map.
+/// A raise, of a text or a map.
 fn raises<K: Look>(
     alloc: Global,
     shape: &Shape,
@@ -113,7 +113,7 @@ fn raises<K: Look>(
     }
 }
 
-// A truth value.
+/// A truth value.
 fn truth_of(value: &Value) -> Result<bool, Raise>
     ensures { GivesBool result (truth (plain value.now)) }
 {
@@ -123,7 +123,7 @@ fn truth_of(value: &Value) -> Result<bool, Raise>
     }
 }
 
-// Whether the condition of an arm holds.
+/// Whether the condition of an arm holds.
 fn holds<K: Look>(alloc: Global, nodes: &[Node], n: u32, look: &K, now: u64) -> Result<bool, Raise>
     ghost ns: { List Spot }
     requires tells { Tells ns nodes.now }
@@ -140,7 +140,7 @@ fn holds<K: Look>(alloc: Global, nodes: &[Node], n: u32, look: &K, now: u64) -> 
     }
 }
 
-// The body of the first arm whose condition holds.
+/// The body of the first arm whose condition holds.
 fn choose<K: Look>(
     alloc: Global,
     nodes: &[Node],
@@ -171,7 +171,7 @@ fn choose<K: Look>(
     Ok(None)
 }
 
-// What a loop goes over.
+/// What a loop goes over.
 fn left_of<K: Look>(
     alloc: Global,
     over: &OverShape,
@@ -199,7 +199,7 @@ fn left_of<K: Look>(
     }
 }
 
-// A range with these ends.
+/// A range with these ends.
 fn ends_of(first: &Value, last: &Value) -> Result<Left, Raise>
     ensures { Answers left_view result (ends (plain first.now) (plain last.now)) }
 {
@@ -215,7 +215,7 @@ fn ends_of(first: &Value, last: &Value) -> Result<Left, Raise>
     }
 }
 
-// Whether a body does nothing.
+/// Whether a body does nothing.
 fn does_nothing(kind: &NodeKind) -> bool
     ensures { result ≡ is_idle_kind kind.now }
 {
@@ -228,14 +228,14 @@ fn does_nothing(kind: &NodeKind) -> bool
     }
 }
 
-// Whether a node's body does nothing, and its `next` isn't there.
+/// Whether a node's body does nothing, and its `next` isn't there.
 fn is_idle(node: &Node) -> bool
     ensures { result ≡ is_idle node.now }
 {
     does_nothing(&node.kind) && node.next.is_none()
 }
 
-// A switch: the body of the arm that is chosen stands alone, if there is anything to do in it.
+/// A switch: the body of the arm that is chosen stands alone, if there is anything to do in it.
 fn switch<K: Look>(
     alloc: Global,
     nodes: &[Node],
@@ -270,7 +270,7 @@ fn switch<K: Look>(
     Ok(Step::Goes)
 }
 
-// A loop that begins.
+/// A loop that begins.
 fn begin_loop<K: Look>(
     alloc: Global,
     n: u32,
@@ -299,7 +299,7 @@ fn begin_loop<K: Look>(
     }
 }
 
-// A call: its arguments are evaluated.
+/// A call: its arguments are evaluated.
 fn calls<K: Look>(
     alloc: Global,
     n: u32,
@@ -340,7 +340,7 @@ pub fn body_frame(nodes: &[Node], body: u32) -> Frame
     }
 }
 
-// A `try`: its body stands inside it.
+/// A `try`: its body stands inside it.
 fn enter_try(
     nodes: &[Node],
     n: u32,
@@ -363,7 +363,7 @@ fn enter_try(
     Ok(Step::Goes)
 }
 
-// The body of a node that is no call is carried out.
+/// The body of a node that is no call is carried out.
 fn perform_plain<K: Look>(
     alloc: Global,
     nodes: &[Node],
@@ -410,7 +410,7 @@ fn perform_plain<K: Look>(
     }
 }
 
-// The body of a node is carried out.
+/// The body of a node is carried out.
 fn perform<K: Look>(
     alloc: Global,
     nodes: &[Node],

@@ -35,7 +35,7 @@ pub fn assign(
     }
 }
 
-// The same with keys for places.
+/// The same with keys for places.
 fn put(
     frames: &Frames,
     scopes: &mut Scopes,

@@ -94,7 +94,7 @@ impl History {
         }
     }
 
-    // A payload that gave no record, by its number.
+    /// A payload that gave no record, by its number.
     fn fault_of(&self, fault: RecordFault) -> HistoryFault
         ensures { IsFaultAt result fault (place self.now) }
     {

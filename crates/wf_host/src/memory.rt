@@ -31,7 +31,7 @@ pub(crate) struct CallRecord {
     ghost fits: { length image.items ≤ longest },
 }
 
-// How many calls there were up to the last sync.
+/// How many calls there were up to the last sync.
 fn last_sync(past: &[Done]) -> usize
     ensures within { result ≤ length past.now }
     ensures stable { (first : List ℕ) → stable first first past.now
@@ -48,7 +48,7 @@ fn last_sync(past: &[Done]) -> usize
     last
 }
 
-// The file after these calls.
+/// The file after these calls.
 fn replayed(alloc: Global, first: &[u8], past: &[Done]) -> Result<Vec<u8>, AllocError>
     ensures { IfOk result (λ v. v.items ≡ content first.now past.now) }
 {

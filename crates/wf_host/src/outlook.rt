@@ -11,7 +11,7 @@ use std::alloc::{AllocError, Global};
 use std::marker::Model;
 use wf_value::{Bytes, OutOfMemory};
 
-// How many bytes one poll hears at most.
+/// How many bytes one poll hears at most.
 const PIECE: usize = 65_536;
 
 /// A call that was started, and tells something.
@@ -41,7 +41,7 @@ fn piece_limit() -> usize
     PIECE
 }
 
-// How many bytes a thing has.
+/// How many bytes a thing has.
 fn piece_len(what: &What) -> usize
     ensures { result ≡ piece_len what.now }
 {
@@ -55,7 +55,7 @@ fn piece_len(what: &What) -> usize
     }
 }
 
-// So many bytes at an offset, or what there is.
+/// So many bytes at an offset, or what there is.
 fn part(alloc: Global, bytes: &[u8], offset: usize, limit: usize) -> Result<Bytes, OutOfMemory>
     ensures { IfOk result (λ b. b ≡ take limit (drop offset bytes.now)) }
 {
@@ -70,14 +70,14 @@ fn part(alloc: Global, bytes: &[u8], offset: usize, limit: usize) -> Result<Byte
 }
 
 impl Speaker {
-    // Whether it tells something in the poll that comes after so many.
+    /// Whether it tells something in the poll that comes after so many.
     fn speaks(&self, polls: u64) -> bool
         ensures { result ≡ speaks polls self.now }
     {
         self.after as u64 <= polls.saturating_sub(self.since) && self.at < self.things.len()
     }
 
-    // What the poll hears.
+    /// What the poll hears.
     fn first(&self, alloc: Global, limit: usize) -> Result<What, OutOfMemory>
         ensures { IfOk result (λ w. w ≡ first_of limit self.now.left) }
     {
@@ -100,7 +100,7 @@ impl Speaker {
         }
     }
 
-    // It was heard.
+    /// It was heard.
     fn tell(&mut self, limit: usize)
         ensures { self.new ≡ spoken limit self.old }
     {
@@ -116,14 +116,14 @@ impl Speaker {
     }
 }
 
-// Which of these tells something first.
+/// Which of these tells something first.
 fn first_speaker(speakers: &[Speaker], polls: u64) -> Option<usize>
     ensures { result ≡ position (speaks polls) speakers.now }
 {
     speakers.iter().position(|s| s.speaks(polls))
 }
 
-// The first of these that tells something has told it.
+/// The first of these that tells something has told it.
 fn tell(speakers: &mut [Speaker], polls: u64, limit: usize)
     ensures { speakers.new ≡ told limit polls speakers.old }
 {
@@ -147,7 +147,7 @@ impl Model for Outlook {
     ghost view = { λ o. record { polls = o.polls; calls = o.calls.items } };
 }
 
-// The pieces of a call.
+/// The pieces of a call.
 fn pieces_of(alloc: Global, call: u64, found: &[Vec<u8>]) -> Result<Vec<What>, OutOfMemory>
     ensures { IfOk result (λ v. v.items ≡ pieces call found.now) }
 {
@@ -161,7 +161,7 @@ fn pieces_of(alloc: Global, call: u64, found: &[Vec<u8>]) -> Result<Vec<What>, O
     Ok(things)
 }
 
-// How many calls were started to an address.
+/// How many calls were started to an address.
 fn starts_to(to: &Address, deeds: &[Deed]) -> usize
     ensures { result ≡ starts_to to.now deeds.now }
 {
@@ -178,7 +178,7 @@ fn starts_to(to: &Address, deeds: &[Deed]) -> usize
     count
 }
 
-// The answer of this number, or the last one where it is told again.
+/// The answer of this number, or the last one where it is told again.
 fn answer_at(replies: &[Reply], again: bool, n: usize) -> Option<&Reply>
     ensures { option_copied result ≡ answer_at replies.now again n }
 {
@@ -186,7 +186,7 @@ fn answer_at(replies: &[Reply], again: bool, n: usize) -> Option<&Reply>
     replies.get(if again { n.min(last) } else { n })
 }
 
-// What answers a call to an address to which so many were started before.
+/// What answers a call to an address to which so many were started before.
 fn answer_to<'a>(services: &'a [Service], to: &Address, n: usize) -> Option<&'a Reply>
     ensures { option_copied result ≡ answer_to services.now to.now n }
 {
@@ -229,7 +229,7 @@ impl Outlook {
         self.polls = self.polls.saturating_add(1);
     }
 
-    // A call that is started now, with what answers it.
+    /// A call that is started now, with what answers it.
     fn speaker_of(&self, alloc: Global, call: u64, reply: &Reply) -> Result<Speaker, OutOfMemory>
         ensures { IfOk result (λ s. s ∷ [] ≡ line_of call self.now.polls (Some reply.now)) }
     {

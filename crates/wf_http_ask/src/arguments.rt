@@ -11,7 +11,7 @@ use crate::pairs::{Place, texts_of};
 use std::alloc::Global;
 use wf_value::{Map, Pairs, Raise, Tag, Text, Value};
 
-// The argument of this name.
+/// The argument of this name.
 pub(crate) fn argument<'a>(args: &'a Map, name: &str) -> Option<&'a Value>
     ensures { option_map (λ v. plain v.now) result ≡ get name.now (pairs_of args.now) }
 {
@@ -27,7 +27,7 @@ pub(crate) fn text_at<'a>(args: &'a Map, name: &str) -> Result<&'a Text, Raise>
     }
 }
 
-// A whole number; `absent` where the argument is.
+/// A whole number; `absent` where the argument is.
 pub(crate) fn whole_at(args: &Map, name: &str, absent: i64) -> Result<i64, Raise>
     ensures { Answers (λ n. n) result (as_whole absent (get name.now (pairs_of args.now))) }
 {
@@ -38,7 +38,7 @@ pub(crate) fn whole_at(args: &Map, name: &str, absent: i64) -> Result<i64, Raise
     }
 }
 
-// The pairs of a map, as texts; none where the argument is absent.
+/// The pairs of a map, as texts; none where the argument is absent.
 pub(crate) fn pairs_at(alloc: Global, args: &Map, name: &str, place: Place) -> Result<Pairs, Raise>
     ensures { Answers (λ ps. ps) result
         (pairs_by (text_in place) (get name.now (pairs_of args.now))) }

@@ -60,8 +60,8 @@ pub fn asked_of(alloc: Global, method: Option<Method>, args: &Map) -> Result<Ask
     })
 }
 
-// The method that the call's own name tells, or else the one that its arguments name; none where no
-// method has that name.
+/// The method that the call's own name tells, or else the one that its arguments name; none where no
+/// method has that name.
 fn method_at(method: Option<Method>, args: &Map) -> Result<Option<Method>, Raise>
     ensures { Answers (option_map plain_method) result
         (named (method_text (option_map plain_method method) (pairs_of args.now))) }

@@ -10,14 +10,14 @@ ghost use Rattle.wf_value.specs.Plain.{plain};
 use std::alloc::Global;
 use wf_value::{Map, OutOfMemory, Pairs, Raise, Tag, Text, Value};
 
-// Where a map of values is sent.
+/// Where a map of values is sent.
 #[derive(Clone, Copy)]
 pub(crate) enum Place {
     Headers,
     Query,
 }
 
-// The pairs of a map in their order, each value as its text.
+/// The pairs of a map in their order, each value as its text.
 pub(crate) fn texts_of(alloc: Global, map: &Map, place: Place) -> Result<Pairs, Raise>
     ensures { Answers (λ ps. ps) result (texts_by (text_in place) (pairs_of map.now)) }
 {
@@ -30,7 +30,7 @@ pub(crate) fn texts_of(alloc: Global, map: &Map, place: Place) -> Result<Pairs, 
     Ok(pairs)
 }
 
-// A text as it is, a whole number in decimal digits, and in a query a truth value as its name.
+/// A text as it is, a whole number in decimal digits, and in a query a truth value as its name.
 fn text_of(alloc: Global, value: &Value, place: Place) -> Result<Text, Raise>
     ensures { Answers (λ t. t) result (text_in place (plain value.now)) }
 {

@@ -54,7 +54,7 @@ pub fn request_of(
     }
 }
 
-// The error that a fault raises.
+/// The error that a fault raises.
 fn raise_of(fault: OutFault) -> Raise
     ensures { result ≡ raise_of fault }
 {

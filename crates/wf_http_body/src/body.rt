@@ -21,7 +21,7 @@ pub enum End {
     TooLarge,
 }
 
-// How many bytes were read, what is read next, and what comes of the body.
+/// How many bytes were read, what is read next, and what comes of the body.
 #[derive(Clone, Copy)]
 pub(crate) struct Read {
     used: usize,
@@ -78,7 +78,7 @@ impl Chunks {
         }
     }
 
-    // Takes what was read. Of a body that is settled nothing is kept.
+    /// Takes what was read. Of a body that is settled nothing is kept.
     fn settle(&mut self, read: Read)
         requires { read.used ≤ length self.old.unread.items }
         ensures { (limit : ℕ) (all content : List ℕ)
@@ -92,7 +92,7 @@ impl Chunks {
         }
     }
 
-    // So many unread bytes were read.
+    /// So many unread bytes were read.
     fn pass(&mut self, used: usize)
         requires { used ≤ length self.old.unread.items }
         ensures place { self.new.place ≡ self.old.place }
@@ -106,7 +106,7 @@ impl Chunks {
     }
 }
 
-// Reads a piece behind unread bytes. Without memory these and the content may have grown.
+/// Reads a piece behind unread bytes. Without memory these and the content may have grown.
 fn read_piece(
     place: Place,
     unread: &mut Vec<u8>,
@@ -142,8 +142,8 @@ fn read_piece(
     })
 }
 
-// Reads what the unread bytes begin, with as many bytes of a piece as that takes, and tells how
-// many these are. Then all is read, or nothing more of the piece is there.
+/// Reads what the unread bytes begin, with as many bytes of a piece as that takes, and tells how
+/// many these are. Then all is read, or nothing more of the piece is there.
 fn read_begun(
     place: Place,
     unread: &mut Vec<u8>,
@@ -192,7 +192,7 @@ fn read_begun(
     Ok((read, heard))
 }
 
-// Reads from a place on, as far as the bytes go. Without memory the content may have grown.
+/// Reads from a place on, as far as the bytes go. Without memory the content may have grown.
 fn read_parts(
     alloc: Global,
     from: Place,

@@ -9,13 +9,13 @@ use httparse::{Status, parse_chunk_size};
 use std::alloc::Global;
 use wf_value::OutOfMemory;
 
-// The greatest length of a chunk's line, with its line end.
+/// The greatest length of a chunk's line, with its line end.
 const LINE_LIMIT: usize = 4096;
 
-// The greatest length of trailer fields.
+/// The greatest length of trailer fields.
 const TRAILER_LIMIT: usize = 65_536;
 
-// What comes next of a body in chunks.
+/// What comes next of a body in chunks.
 #[derive(Debug, Clone, Copy, PartialEq, Eq)]
 pub(crate) enum Place {
     // A chunk's line.
@@ -27,8 +27,8 @@ pub(crate) enum Place {
 }
 
 impl Place {
-    // How many bytes of a piece are wanted here: to the end of a line, or all of them for the
-    // trailer fields.
+    /// How many bytes of a piece are wanted here: to the end of a line, or all of them for the
+    /// trailer fields.
     pub(crate) fn front(self, piece: &[u8]) -> usize
         requires { 0 < length piece.now }
         ensures some { 0 < result }
@@ -41,7 +41,7 @@ impl Place {
     }
 }
 
-// How far the first line goes.
+/// How far the first line goes.
 fn line_length(piece: &[u8]) -> usize
     requires { 0 < length piece.now }
     ensures some { 0 < result }
@@ -55,7 +55,7 @@ fn line_length(piece: &[u8]) -> usize
     piece.len()
 }
 
-// What stands at the front of bytes.
+/// What stands at the front of bytes.
 #[derive(Clone, Copy)]
 pub(crate) enum Step {
     // So many bytes that are no content, and what comes next.
@@ -66,7 +66,7 @@ pub(crate) enum Step {
     Ends(End),
 }
 
-// The content may have `room` bytes more.
+/// The content may have `room` bytes more.
 pub(crate) fn read_step(
     alloc: Global,
     place: Place,
@@ -98,7 +98,7 @@ fn read_line(heard: &[u8]) -> Step
     }
 }
 
-// Of a chunk whose content isn't whole.
+/// Of a chunk whose content isn't whole.
 fn read_content(heard: &[u8], left: u64, room: usize) -> Step
     requires { 1 ≤ left }
     ensures step { Steps (place.Content left) heard.now room result }
@@ -114,7 +114,7 @@ fn read_content(heard: &[u8], left: u64, room: usize) -> Step
     Step::Takes(taken as usize, Place::Content(left - taken))
 }
 
-// Behind a chunk's content.
+/// Behind a chunk's content.
 fn read_end(heard: &[u8]) -> Step
     ensures step { (room : ℕ) → Steps (place.Content 0) heard.now room result }
     ensures within { IsStepWithin heard.now result }
@@ -126,7 +126,7 @@ fn read_end(heard: &[u8]) -> Step
     }
 }
 
-// Behind the line of the last chunk.
+/// Behind the line of the last chunk.
 fn read_last(alloc: Global, heard: &[u8]) -> Result<Step, OutOfMemory>
     ensures step { IfOk result (λ s. (room : ℕ) → Steps place.Trailer heard.now room s) }
     ensures within { IfOk result (IsStepWithin heard.now) }
@@ -138,7 +138,7 @@ fn read_last(alloc: Global, heard: &[u8]) -> Result<Step, OutOfMemory>
     })
 }
 
-// The CR LF behind a chunk's content.
+/// The CR LF behind a chunk's content.
 #[derive(Clone, Copy)]
 pub(crate) enum LineEnd {
     Whole,

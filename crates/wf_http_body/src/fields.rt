@@ -4,7 +4,7 @@ ghost use Rattle.wf_value.specs.HttpText.{is_field_named, values_of};
 
 use wf_value::Bytes;
 
-// The first value of a name from a field on, without case, and the number of the field behind it.
+/// The first value of a name from a field on, without case, and the number of the field behind it.
 pub(crate) fn next_value<'a>(
     fields: &'a [(Bytes, Bytes)],
     name: &[u8],

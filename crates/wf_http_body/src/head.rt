@@ -24,7 +24,7 @@ pub fn head_length(before: &[u8], piece: &[u8]) -> usize
     piece.len()
 }
 
-// What was heard of lines.
+/// What was heard of lines.
 #[derive(Clone, Copy)]
 struct Lines {
     // Whether one isn't empty.
@@ -34,7 +34,7 @@ struct Lines {
 }
 
 impl Lines {
-    // With one byte more.
+    /// With one byte more.
     fn with(self, byte: u8) -> Lines {
         match byte {
             b'\n' => Lines {

@@ -5,7 +5,7 @@ ghost use Rattle.std.specs.List.{list_all};
 ghost use Rattle.std.specs.Str.Parse.{digits_value};
 ghost use Rattle.wf_value.specs.HttpBody as body;
 
-// Whether a value is of decimal digits.
+/// Whether a value is of decimal digits.
 pub(crate) fn is_number(value: &[u8]) -> bool
     ensures { result ≡ body.is_number value.now }
 {
@@ -17,7 +17,7 @@ pub(crate) fn is_number(value: &[u8]) -> bool
     !value.is_empty()
 }
 
-// The number that digits tell, or one more than the limit where it is greater.
+/// The number that digits tell, or one more than the limit where it is greater.
 pub(crate) fn length_told(digits: &[u8], limit: usize) -> usize
     requires digits { list_all is_ascii_digit digits.now ≡ true }
     requires limit { limit ≤ 16777216 }
@@ -30,8 +30,8 @@ pub(crate) fn length_told(digits: &[u8], limit: usize) -> usize
     length
 }
 
-// Whether digits tell the same number. Their last digits are compared first; what one has more in
-// front is zeros.
+/// Whether digits tell the same number. Their last digits are compared first; what one has more in
+/// front is zeros.
 pub(crate) fn is_same_number(mut one: &[u8], mut other: &[u8]) -> bool
     requires one { list_all is_ascii_digit one.now ≡ true }
     requires other { list_all is_ascii_digit other.now ≡ true }

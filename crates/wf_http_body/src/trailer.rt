@@ -9,7 +9,7 @@ use httparse::{Error, Status};
 use std::alloc::Global;
 use wf_value::OutOfMemory;
 
-// What the bytes heard are.
+/// What the bytes heard are.
 #[derive(Clone, Copy)]
 pub(crate) enum Section {
     Whole,
@@ -17,7 +17,7 @@ pub(crate) enum Section {
     Bad,
 }
 
-// What at most 65,536 bytes are.
+/// What at most 65,536 bytes are.
 #[derive(Clone, Copy)]
 pub(crate) enum Glance {
     Whole,
@@ -28,7 +28,7 @@ pub(crate) enum Glance {
     Never,
 }
 
-// The fields have at most `limit` bytes.
+/// The fields have at most `limit` bytes.
 pub(crate) fn read_trailer(
     alloc: Global,
     heard: &[u8],
@@ -63,7 +63,7 @@ fn glance_at(alloc: Global, front: &[u8]) -> Result<Glance, OutOfMemory>
     }
 }
 
-// The same with room for all fields, where there are too many.
+/// The same with room for all fields, where there are too many.
 fn glance_in_large_room(alloc: Global, front: &[u8]) -> Result<Glance, OutOfMemory>
     requires short { length front.now ≤ 65536 }
     requires many { SectionOverflows 100 front.now }

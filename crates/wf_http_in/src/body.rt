@@ -11,7 +11,7 @@ use crate::framing::{BODY_LIMIT, Framing};
 use wf_http_body::{Chunks, End, add, read_length};
 use wf_value::OutOfMemory;
 
-// Hears a piece of a body, and adds its content to that so far. Without memory nothing is heard.
+/// Hears a piece of a body, and adds its content to that so far. Without memory nothing is heard.
 pub(crate) fn read_body(
     chunks: &mut Chunks,
     content: &mut Vec<u8>,
@@ -35,7 +35,7 @@ pub(crate) fn read_body(
     }
 }
 
-// The same of a body that goes to the connection's end.
+/// The same of a body that goes to the connection's end.
 fn read_all(content: &mut Vec<u8>, piece: &[u8]) -> Result<End, OutOfMemory>
     ensures kept { OnErr result (content.new.items ≡ content.old.items) }
     ensures read { IfOk result (λ e. (f : plain.Framing) (c : ChunksRead) (all : List ℕ)

@@ -5,10 +5,10 @@ ghost use Rattle.wf_http_in.specs.Found.{IsFramed};
 use crate::Head;
 use wf_http_body::{Coding, Length, coding_of, length_of};
 
-// The bytes of a body, at most.
+/// The bytes of a body, at most.
 pub(crate) const BODY_LIMIT: usize = 2_097_152;
 
-// How the end of a body is told.
+/// How the end of a body is told.
 #[derive(Clone, Copy)]
 pub(crate) enum Framing {
     // There is no body.

@@ -30,7 +30,7 @@ impl Model for Head {
 }
 
 impl Head {
-    // The parts of a head that stands at the front of these bytes.
+    /// The parts of a head that stands at the front of these bytes.
     pub(crate) fn new(
         alloc: Global,
         front: &[u8],
@@ -72,7 +72,7 @@ impl Head {
         }
     }
 
-    // All fields.
+    /// All fields.
     pub(crate) fn fields(&self) -> &[(Bytes, Bytes)]
         ensures { result.now ≡ self.now.fields }
     {

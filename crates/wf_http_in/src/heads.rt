@@ -12,10 +12,10 @@ use std::alloc::Global;
 use wf_http_body::{FIELD_LIMIT, LARGE_ROOM, add, head_length};
 use wf_value::OutOfMemory;
 
-// The bytes of a head, at most.
+/// The bytes of a head, at most.
 const HEAD_LIMIT: usize = 65_536;
 
-// What the bytes heard are.
+/// What the bytes heard are.
 #[derive(Drop)]
 pub(crate) enum Heading {
     // No head yet.
@@ -26,7 +26,7 @@ pub(crate) enum Heading {
     Whole(Head, Framing, usize),
 }
 
-// What at most 65,536 bytes are.
+/// What at most 65,536 bytes are.
 #[derive(Drop)]
 pub(crate) enum Look {
     Whole(Head, Framing, usize),
@@ -38,7 +38,7 @@ pub(crate) enum Look {
 }
 
 impl Heading {
-    // Whether no more bytes are wanted for it.
+    /// Whether no more bytes are wanted for it.
     fn is_settled(&self) -> bool
         ensures { result ≡ is_settled self.now }
     {
@@ -48,7 +48,7 @@ impl Heading {
         }
     }
 
-    // How long an interim head is.
+    /// How long an interim head is.
     fn interim(&self) -> Option<usize>
         ensures { MatchOption result (IsFinal self.now) (IsInterim self.now) }
     {
@@ -59,16 +59,16 @@ impl Heading {
     }
 }
 
-// Heads of these codes are passed (RFC 9110, section 15.2).
+/// Heads of these codes are passed (RFC 9110, section 15.2).
 fn is_interim(code: u16) -> bool
     ensures { result ≡ is_interim_code code }
 {
     code >= 100 && code <= 199
 }
 
-// Adds a front of a piece to the bytes of heads: to the end of the answer's head, or all of it.
-// Tells how long the interim heads are that come first, and what stands behind them. Without memory
-// bytes may have been added.
+/// Adds a front of a piece to the bytes of heads: to the end of the answer's head, or all of it.
+/// Tells how long the interim heads are that come first, and what stands behind them. Without memory
+/// bytes may have been added.
 pub(crate) fn find_head(heard: &mut Vec<u8>, piece: &[u8]) -> Result<(usize, Heading), OutOfMemory>
     ensures grown { take (length heard.old.items) heard.new.items ≡ heard.old.items }
     ensures found { IfOk result (λ r. IsHeadFound heard.old.items piece.now heard.new.items r.0
@@ -92,7 +92,7 @@ pub(crate) fn find_head(heard: &mut Vec<u8>, piece: &[u8]) -> Result<(usize, Hea
     }
 }
 
-// How long the interim heads are that come first, and what stands behind them.
+/// How long the interim heads are that come first, and what stands behind them.
 fn read_heads(alloc: Global, heard: &[u8]) -> Result<(usize, Heading), OutOfMemory>
     ensures within { IfOk result (λ r. r.0 ≤ length heard.now) }
     ensures passed { IfOk result (λ r. IsPassed heard.now r.0) }
@@ -110,7 +110,7 @@ fn read_heads(alloc: Global, heard: &[u8]) -> Result<(usize, Heading), OutOfMemo
     }
 }
 
-// A head has at most `limit` bytes.
+/// A head has at most `limit` bytes.
 fn read_head(alloc: Global, heard: &[u8], limit: usize) -> Result<Heading, OutOfMemory>
     requires { limit ≡ 65536 }
     ensures { IfOk result (IsHeading heard.now) }
@@ -125,7 +125,7 @@ fn read_head(alloc: Global, heard: &[u8], limit: usize) -> Result<Heading, OutOf
     }
 }
 
-// By all bytes heard.
+/// By all bytes heard.
 fn heading_of(heard: &[u8], look: Look) -> Heading
     requires short { length heard.now ≤ 65536 }
     requires look { IsLook heard.now look }
@@ -155,7 +155,7 @@ fn look_at(alloc: Global, front: &[u8]) -> Result<Look, OutOfMemory>
     }
 }
 
-// The same with room for all fields, where there are too many.
+/// The same with room for all fields, where there are too many.
 fn look_in_large_room(alloc: Global, front: &[u8]) -> Result<Look, OutOfMemory>
     requires short { length front.now ≤ 65536 }
     requires many { ResponseOverflows 100 front.now }

@@ -36,7 +36,7 @@ pub struct Reading {
     close: Close,
 }
 
-// How the connection stands.
+/// How the connection stands.
 #[derive(Clone, Copy)]
 pub(crate) enum Close {
     Open,
@@ -113,7 +113,7 @@ impl Reading {
 }
 
 impl Reading {
-    // The answer where neither a head nor a body is whole.
+    /// The answer where neither a head nor a body is whole.
     fn unfinished(&self) -> Option<Answer<'_>>
         ensures { option_map answer_view result ≡ unfinished (close_view self.now.close) }
     {
@@ -123,7 +123,7 @@ impl Reading {
         }
     }
 
-    // Hears a piece behind a head that isn't whole.
+    /// Hears a piece behind a head that isn't whole.
     fn hear_head(&mut self, piece: &[u8]) -> Result<(), OutOfMemory>
         requires { self.old.stage ≡ Head }
         ensures { (heard : List ℕ) (close : Connection) → HasHeard self.old heard close
@@ -137,7 +137,7 @@ impl Reading {
         read
     }
 
-    // The same, where without memory more bytes may stand behind those of the head.
+    /// The same, where without memory more bytes may stand behind those of the head.
     fn read_head(&mut self, piece: &[u8]) -> Result<(), OutOfMemory>
         requires { self.old.stage ≡ Head }
         ensures kept { OnErr result (IsSame self.old self.new) }
@@ -161,7 +161,7 @@ impl Reading {
         Ok(())
     }
 
-    // Hears a piece of a body.
+    /// Hears a piece of a body.
     fn hear_body(&mut self, framing: Framing, piece: &[u8]) -> Result<(), OutOfMemory>
         requires { IsBodyBy framing self.old.stage }
         ensures { (heard : List ℕ) (close : Connection) → HasHeard self.old heard close
@@ -172,7 +172,7 @@ impl Reading {
         Ok(())
     }
 
-    // Goes to the stage behind an end.
+    /// Goes to the stage behind an end.
     fn settle(&mut self, end: End)
         ensures stage { self.new.stage ≡ settled end self.old.stage }
         ensures left { Leaves end self.old.chunks self.new.chunks self.old.content.items
@@ -196,7 +196,7 @@ impl Reading {
         }
     }
 
-    // So many bytes of interim heads were read.
+    /// So many bytes of interim heads were read.
     fn pass(&mut self, used: usize)
         requires { used ≤ length self.old.unread.items }
         ensures stage { self.new.stage ≡ self.old.stage }
@@ -212,7 +212,7 @@ impl Reading {
         }
     }
 
-    // What was heard isn't wanted any more, so nothing of it is kept.
+    /// What was heard isn't wanted any more, so nothing of it is kept.
     fn refuse(&mut self, stage: Stage)
         ensures stage { self.new.stage ≡ stage }
         ensures unread { self.new.unread.items ≡ [] }

@@ -16,7 +16,7 @@ use httparse::is_space_or_tab;
 use std::alloc::Global;
 use wf_value::{Bytes, OutOfMemory, Text, Value, to_json};
 
-// The bytes of a body, and its media type where the caller gives none.
+/// The bytes of a body, and its media type where the caller gives none.
 #[derive(Drop)]
 pub(crate) struct Payload {
     pub(crate) media_type: Text,
@@ -35,7 +35,7 @@ impl Payload {
     }
 }
 
-// A text is sent as its bytes, bytes as they are, and each other value as JSON.
+/// A text is sent as its bytes, bytes as they are, and each other value as JSON.
 pub(crate) fn payload_of(
     alloc: Global,
     body: &Option<Value>,
@@ -63,8 +63,8 @@ pub(crate) fn payload_of(
     }
 }
 
-// Whether the body may stand under the caller's fields: one that is sent as JSON stands under no
-// other media type.
+/// Whether the body may stand under the caller's fields: one that is sent as JSON stands under no
+/// other media type.
 pub(crate) fn is_good_body(asked: &Asked) -> bool
     ensures { result ≡ request.good_body (asked_view asked.now) }
 {
@@ -83,7 +83,7 @@ fn is_json(body: &Option<Value>) -> bool
     }
 }
 
-// Whether each Content-Type is that of JSON.
+/// Whether each Content-Type is that of JSON.
 fn are_json_types(fields: &[(Text, Text)]) -> bool
     ensures { result ≡ list_all (λ t. bytes_eq (media_type_of t) json_type)
         (request.content_types fields.now) }
@@ -96,7 +96,7 @@ fn are_json_types(fields: &[(Text, Text)]) -> bool
     true
 }
 
-// Without case, up to `;` and without the blanks around it.
+/// Without case, up to `;` and without the blanks around it.
 fn is_json_type(value: &str) -> bool
     ensures { result ≡ bytes_eq (media_type_of value.now) json_type }
 {

@@ -10,8 +10,8 @@ use crate::names::is_same_name;
 use httparse::is_token;
 use wf_value::Text;
 
-// Whether fields can be sent: each name is a token (RFC 9110, section 5.6.2), none is the request's
-// own or stands twice without case, and each value is of visible ASCII and blanks.
+/// Whether fields can be sent: each name is a token (RFC 9110, section 5.6.2), none is the request's
+/// own or stands twice without case, and each value is of visible ASCII and blanks.
 pub(crate) fn are_good_fields(fields: &[(Text, Text)]) -> bool
     ensures { result ≡ good_fields [] fields.now }
 {
@@ -33,7 +33,7 @@ fn is_good_field(earlier: &[(Text, Text)], name: &str, value: &str) -> bool
     is_token(name.as_bytes()) && !is_own(name) && !stands_in(earlier, name) && is_value(value)
 }
 
-// Whether a request has this field by itself.
+/// Whether a request has this field by itself.
 fn is_own(name: &str) -> bool
     ensures { result ≡ is_among (lowercase name.now) own_fields }
 {

@@ -16,7 +16,7 @@ use std::alloc::{AllocError, Global};
 use wf_callbacks::Method;
 use wf_value::Text;
 
-// The lines so far.
+/// The lines so far.
 #[derive(Drop)]
 pub(crate) struct Lines {
     pub(crate) text: String,
@@ -30,7 +30,7 @@ impl Lines {
         self.text.push_str(part)
     }
 
-    // The empty line.
+    /// The empty line.
     pub(crate) fn end(&mut self) -> Result<(), AllocError>
         ensures { OnOk result (string_bytes self.new.text ≡ string_bytes self.old.text ++ line []) }
     {
@@ -115,7 +115,7 @@ impl Lines {
         Ok(())
     }
 
-    // Which call of which execution this is.
+    /// Which call of which execution this is.
     pub(crate) fn call(&mut self, alloc: Global, id: &str, k: u64) -> Result<(), AllocError>
         ensures { OnOk result (string_bytes self.new.text
             ≡ string_bytes self.old.text
@@ -129,7 +129,7 @@ impl Lines {
         self.put("\r\n")
     }
 
-    // The Content-Type, where there is a body and the caller gave none.
+    /// The Content-Type, where there is a body and the caller gave none.
     pub(crate) fn media_type(
         &mut self,
         fields: &[(Text, Text)],
@@ -148,7 +148,7 @@ impl Lines {
         self.field("Content-Type", payload.media_type.as_str())
     }
 
-    // The Content-Length, where there is a body or the method has one by its nature.
+    /// The Content-Length, where there is a body or the method has one by its nature.
     pub(crate) fn length(
         &mut self,
         alloc: Global,
@@ -172,7 +172,7 @@ impl Lines {
     }
 }
 
-// What stands between a target and what is added to its query.
+/// What stands between a target and what is added to its query.
 fn query_mark(target: &str) -> &'static str
     ensures { result.now ≡ (if has_query target.now then codes "&" else codes "?") }
 {

@@ -2,7 +2,7 @@
 ghost use Rattle.std.specs.Prelude.{◌≡◌, bytes_eq};
 ghost use Rattle.http_uri.specs.ByteClasses.{lowercase};
 
-// Whether two names are the same, where ASCII letters of either case are one.
+/// Whether two names are the same, where ASCII letters of either case are one.
 pub(crate) fn is_same_name(one: &str, other: &str) -> bool
     ensures { result ≡ bytes_eq (lowercase one.now) (lowercase other.now) }
 {

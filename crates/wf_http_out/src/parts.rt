@@ -13,7 +13,7 @@ use http_uri::{Uri, UriError};
 use std::alloc::Global;
 use wf_value::{OutOfMemory, Text};
 
-// What a URL of http or https spells.
+/// What a URL of http or https spells.
 #[derive(Drop)]
 pub(crate) struct Parts {
     pub(crate) is_secure: bool,
@@ -24,7 +24,7 @@ pub(crate) struct Parts {
     pub(crate) target: Text,
 }
 
-// The parts of a URL. The errors are `BadUrl` and `OutOfMemory`.
+/// The parts of a URL. The errors are `BadUrl` and `OutOfMemory`.
 pub(crate) fn read_url(alloc: Global, text: &str) -> Result<Parts, OutFault>
     ensures ok { IfOk result (λ p. (u : Url) × IsUrl text.now u × IsPartsOf u p) }
     ensures bad_url { IsErrOf result OutFault.BadUrl → IsNoUrl text.now }
@@ -42,7 +42,7 @@ pub(crate) fn read_url(alloc: Global, text: &str) -> Result<Parts, OutFault>
     }
 }
 
-// Whether a text is short enough, and of visible ASCII without `#`.
+/// Whether a text is short enough, and of visible ASCII without `#`.
 fn is_short(text: &str) -> bool
     ensures { result ≡ is_short_text text.now }
 {
@@ -87,7 +87,7 @@ fn parts_of(alloc: Global, uri: &Uri) -> Result<Parts, OutFault>
     })
 }
 
-// A path, and its query behind it.
+/// A path, and its query behind it.
 fn target(alloc: Global, path: &str, query: Option<&str>) -> Result<Text, OutOfMemory>
     ensures { IfOk result (λ t. t ≡ path.now ++ query_text (option_copied query.entry)) }
 {

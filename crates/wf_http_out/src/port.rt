@@ -5,8 +5,8 @@ ghost use Rattle.http_uri.specs.Grammar.{authority_host};
 ghost use Rattle.wf_value.specs.HttpUrl.{is_web, is_port, port_of, port_text};
 ghost use Rattle.wf_http_out.specs.Urls.{is_sendable};
 
-// The port of a URL of http or https, 80 where it has none. There is none where it has another
-// scheme, a user, no host or a bad port.
+/// The port of a URL of http or https, 80 where it has none. There is none where it has another
+/// scheme, a user, no host or a bad port.
 pub(crate) fn web_port(scheme: &str, authority: &str, host: &str) -> Option<u16>
     requires { host.now ≡ authority_host authority.now }
     ensures { MatchOption result (is_sendable scheme.now authority.now
@@ -34,7 +34,7 @@ fn has_user(authority: &str) -> bool
     authority.as_bytes().contains(&b'@')
 }
 
-// The port that stands behind a host: nothing, or a colon and 1 to 65,535 in digits.
+/// The port that stands behind a host: nothing, or a colon and 1 to 65,535 in digits.
 fn port_behind(tail: &str) -> Option<u16>
     ensures { MatchOption result (is_port tail.now ≡ false) (λ port. (is_port tail.now ≡ true)
         × (port ≡ port_of tail.now)) }

@@ -68,7 +68,7 @@ fn written(
     Bytes::new(alloc, bytes.as_slice())
 }
 
-// The lines of a request, the empty one too.
+/// The lines of a request, the empty one too.
 fn head_of(
     alloc: Global,
     goal: &Goal,

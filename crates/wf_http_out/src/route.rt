@@ -7,7 +7,7 @@ use crate::names::is_same_name;
 use wf_host::Address;
 use wf_value::Text;
 
-// The address of the first route for a host.
+/// The address of the first route for a host.
 pub(crate) fn find_route<'a>(routes: &'a [(Text, Address)], host: &str) -> Option<&'a Address>
     ensures { option_map (λ a. address_view a.now) result
         ≡ route (routes_view routes.now) host.now }

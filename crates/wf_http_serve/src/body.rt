@@ -10,7 +10,7 @@ use crate::framing::{BODY_LIMIT, Framing};
 use wf_http_body::{Chunks, End, read_length};
 use wf_value::OutOfMemory;
 
-// Hears a piece of a body, and adds its content to that so far. Without memory nothing is heard.
+/// Hears a piece of a body, and adds its content to that so far. Without memory nothing is heard.
 pub(crate) fn read_body(
     chunks: &mut Chunks,
     content: &mut Vec<u8>,

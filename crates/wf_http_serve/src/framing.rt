@@ -5,10 +5,10 @@ ghost use Rattle.wf_http_serve.specs.Visits.{framing};
 use wf_http_body::{Coding, Length, coding_of, length_of};
 use wf_value::Bytes;
 
-// The greatest length of a body.
+/// The greatest length of a body.
 pub(crate) const BODY_LIMIT: usize = 262_144;
 
-// How the end of a body is told.
+/// How the end of a body is told.
 #[derive(Clone, Copy)]
 pub(crate) enum Framing {
     // There is no body.

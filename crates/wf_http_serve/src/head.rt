@@ -12,10 +12,10 @@ use std::alloc::Global;
 use wf_http_body::{FIELD_LIMIT, LARGE_ROOM, add, head_length};
 use wf_value::OutOfMemory;
 
-// The greatest length of a head.
+/// The greatest length of a head.
 const HEAD_LIMIT: usize = 65_536;
 
-// What the bytes heard are.
+/// What the bytes heard are.
 #[derive(Drop)]
 pub(crate) enum Heading {
     // No head yet.
@@ -26,7 +26,7 @@ pub(crate) enum Heading {
     Whole(Request, Framing, usize),
 }
 
-// What at most 65,536 bytes are.
+/// What at most 65,536 bytes are.
 #[derive(Drop)]
 pub(crate) enum Look {
     Whole(Request, Framing, usize),
@@ -38,7 +38,7 @@ pub(crate) enum Look {
 }
 
 impl Heading {
-    // Whether no more bytes are wanted for it.
+    /// Whether no more bytes are wanted for it.
     fn is_settled(&self) -> bool
         ensures { result ≡ is_settled self.now }
     {
@@ -49,8 +49,8 @@ impl Heading {
     }
 }
 
-// Adds a front of a piece to the bytes of a head: to the head's end, or all of it. Tells what they
-// are. Without memory bytes may have been added.
+/// Adds a front of a piece to the bytes of a head: to the head's end, or all of it. Tells what they
+/// are. Without memory bytes may have been added.
 pub(crate) fn find_head(heard: &mut Vec<u8>, piece: &[u8]) -> Result<Heading, OutOfMemory>
     ensures grown { take (length heard.old.items) heard.new.items ≡ heard.old.items }
     ensures found { IfOk result (IsHeadFound heard.old.items piece.now heard.new.items) }
@@ -66,7 +66,7 @@ pub(crate) fn find_head(heard: &mut Vec<u8>, piece: &[u8]) -> Result<Heading, Ou
     read_head(alloc, heard.as_slice(), HEAD_LIMIT)
 }
 
-// A head has at most `limit` bytes.
+/// A head has at most `limit` bytes.
 fn read_head(alloc: Global, heard: &[u8], limit: usize) -> Result<Heading, OutOfMemory>
     requires { limit ≡ 65536 }
     ensures { IfOk result (IsHeading heard.now) }
@@ -81,7 +81,7 @@ fn read_head(alloc: Global, heard: &[u8], limit: usize) -> Result<Heading, OutOf
     }
 }
 
-// By all bytes heard.
+/// By all bytes heard.
 fn heading_of(heard: &[u8], look: Look) -> Heading
     requires short { length heard.now ≤ 65536 }
     requires look { IsLook heard.now look }
@@ -113,7 +113,7 @@ fn look_at(alloc: Global, front: &[u8]) -> Result<Look, OutOfMemory>
     }
 }
 
-// The same with room for all fields, where there are too many.
+/// The same with room for all fields, where there are too many.
 fn look_in_large_room(alloc: Global, front: &[u8]) -> Result<Look, OutOfMemory>
     requires short { length front.now ≤ 65536 }
     requires many { RequestOverflows 100 front.now }

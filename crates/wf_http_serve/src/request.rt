@@ -10,7 +10,7 @@ use std::alloc::Global;
 use wf_callbacks::Fields;
 use wf_value::{Bytes, OutOfMemory, Text};
 
-// The head of a request.
+/// The head of a request.
 #[derive(Drop)]
 pub(crate) struct Request {
     pub(crate) method: Text,
@@ -19,7 +19,7 @@ pub(crate) struct Request {
 }
 
 impl Request {
-    // The parts of a head that stands at the front of these bytes.
+    /// The parts of a head that stands at the front of these bytes.
     pub(crate) fn new(
         alloc: Global,
         front: &[u8],

@@ -19,7 +19,7 @@ pub(crate) enum Stage {
 }
 
 impl Stage {
-    // The stage once the body is whole.
+    /// The stage once the body is whole.
     pub(crate) fn whole(self) -> Stage
         ensures { result ≡ settled Whole self }
     {

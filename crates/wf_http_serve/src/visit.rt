@@ -97,7 +97,7 @@ impl Visit {
 }
 
 impl Visit {
-    // Hears a piece behind a head that isn't whole.
+    /// Hears a piece behind a head that isn't whole.
     fn hear_head(&mut self, piece: &[u8]) -> Result<(), OutOfMemory>
         requires { self.old.stage ≡ Head }
         ensures { (heard : List ℕ) (close : Close) → HasHeard self.old heard close
@@ -111,7 +111,7 @@ impl Visit {
         read
     }
 
-    // The same, where without memory more bytes may stand behind those of the head.
+    /// The same, where without memory more bytes may stand behind those of the head.
     fn read_head(&mut self, piece: &[u8]) -> Result<(), OutOfMemory>
         requires { self.old.stage ≡ Head }
         ensures kept { OnErr result (IsSame self.old self.new) }
@@ -134,7 +134,7 @@ impl Visit {
         Ok(())
     }
 
-    // Hears a piece of a body.
+    /// Hears a piece of a body.
     fn hear_body(&mut self, framing: Framing, piece: &[u8]) -> Result<(), OutOfMemory>
         requires { IsBodyBy framing self.old.stage }
         ensures { (heard : List ℕ) (close : Close) → HasHeard self.old heard close
@@ -145,7 +145,7 @@ impl Visit {
         Ok(())
     }
 
-    // Goes to the stage behind an end.
+    /// Goes to the stage behind an end.
     fn settle(&mut self, end: End)
         ensures stage { self.new.stage ≡ settled end self.old.stage }
         ensures left { Leaves end self.old.chunks self.new.chunks self.old.content.items
@@ -169,7 +169,7 @@ impl Visit {
         }
     }
 
-    // What was heard isn't wanted any more, so nothing of it is kept.
+    /// What was heard isn't wanted any more, so nothing of it is kept.
     fn refuse(&mut self, stage: Stage)
         ensures stage { self.new.stage ≡ stage }
         ensures unread { self.new.unread.items ≡ [] }

@@ -12,8 +12,8 @@ use crate::media::{Media, is_encoded, media_of};
 use std::alloc::Global;
 use wf_value::{Bytes, Map, OutOfMemory, Text, Value};
 
-// An empty body is null, and one with a Content-Encoding is bytes. Else the media type decides.
-// Where the reading is lenient, JSON that says no value is taken as a text.
+/// An empty body is null, and one with a Content-Encoding is bytes. Else the media type decides.
+/// Where the reading is lenient, JSON that says no value is taken as a text.
 pub(crate) fn body_value(
     alloc: Global,
     is_lenient: bool,
@@ -47,7 +47,7 @@ fn json_body(alloc: Global, is_lenient: bool, body: &[u8]) -> Result<Value, Body
     }
 }
 
-// A text where the bytes are UTF-8.
+/// A text where the bytes are UTF-8.
 fn text_or_bytes(alloc: Global, body: &[u8]) -> Result<Value, OutOfMemory>
     ensures { IfOk result (λ v. plain v ≡ text_or_bytes body.now) }
 {

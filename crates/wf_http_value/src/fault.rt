@@ -21,7 +21,7 @@ impl From<OutOfMemory> for ReplyFault {
     }
 }
 
-// Why a body has no value.
+/// Why a body has no value.
 #[derive(Clone, Copy, Drop)]
 pub(crate) enum BodyFault {
     // It is to be JSON, and says no value.

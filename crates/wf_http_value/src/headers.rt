@@ -8,7 +8,7 @@ use crate::names::proper_name;
 use std::alloc::Global;
 use wf_value::{Bytes, Map, OutOfMemory, Text, Value};
 
-// The values by the names. Those of equal names are joined, in order.
+/// The values by the names. Those of equal names are joined, in order.
 pub(crate) fn header_map(alloc: Global, fields: &[(Bytes, Bytes)]) -> Result<Map, OutOfMemory>
     ensures { IfOk result (λ m. pairs_of m ≡ header_map fields.now) }
 {
@@ -19,7 +19,7 @@ pub(crate) fn header_map(alloc: Global, fields: &[(Bytes, Bytes)]) -> Result<Map
     Ok(headers)
 }
 
-// A field whose name or value isn't UTF-8 is left out.
+/// A field whose name or value isn't UTF-8 is left out.
 fn add_field(alloc: Global, headers: &mut Map, field: &(Bytes, Bytes)) -> Result<(), OutOfMemory>
     ensures { OnOk result (pairs_of headers.new ≡ with_field (pairs_of headers.old) field.now) }
 {
@@ -32,7 +32,7 @@ fn add_field(alloc: Global, headers: &mut Map, field: &(Bytes, Bytes)) -> Result
     put_field(alloc, headers, name, value)
 }
 
-// Puts a value at the proper form of a name, behind those that are there.
+/// Puts a value at the proper form of a name, behind those that are there.
 fn put_field(alloc: Global, headers: &mut Map, name: &str, value: &str) -> Result<(), OutOfMemory>
     ensures { OnOk result (pairs_of headers.new
         ≡ with_value_at (proper_name true name.now) value.now (pairs_of headers.old)) }
@@ -43,7 +43,7 @@ fn put_field(alloc: Global, headers: &mut Map, name: &str, value: &str) -> Resul
     Ok(())
 }
 
-// A value behind that of the fields of the same name before it.
+/// A value behind that of the fields of the same name before it.
 fn joined_value(alloc: Global, before: Option<&Value>, value: &str) -> Result<Value, OutOfMemory>
     ensures { IfOk result (λ v. plain v
         ≡ joined_value (option_map (λ b. plain b.now) before.entry) value.now) }

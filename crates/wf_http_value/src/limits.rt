@@ -15,7 +15,7 @@ const MAX_SIZE: u64 = 4_194_304;
 /// How deep lists and maps nest in each other, at most.
 const MAX_DEPTH: u32 = 100;
 
-// Raises the error with this tag.
+/// Raises the error with this tag.
 pub(crate) fn raise(alloc: Global, tag: Tag) -> Result<Value, ReplyFault>
     requires no_answer { tag ≢ HttpError }
     requires no_branches { tag ≢ UnhandledBranchError }
@@ -24,7 +24,7 @@ pub(crate) fn raise(alloc: Global, tag: Tag) -> Result<Value, ReplyFault>
     Err(ReplyFault::Raised(error_map(alloc, tag)?))
 }
 
-// Raises this error, or a ResourceLimitError where it nests too deep.
+/// Raises this error, or a ResourceLimitError where it nests too deep.
 pub(crate) fn raise_nested(alloc: Global, error: Value) -> Result<Value, ReplyFault>
     ensures { Gives result (Err (nested_error (plain error))) }
 {
@@ -35,7 +35,7 @@ pub(crate) fn raise_nested(alloc: Global, error: Value) -> Result<Value, ReplyFa
     }
 }
 
-// The value, if it keeps within the limits on size and on nesting.
+/// The value, if it keeps within the limits on size and on nesting.
 pub(crate) fn kept(alloc: Global, value: Value) -> Result<Value, ReplyFault>
     ensures { Gives result (as_result (plain value)) }
 {

@@ -9,7 +9,7 @@ ghost use Rattle.wf_value.specs.declared.Tag.TheVariants.{HttpError};
 use std::alloc::Global;
 use wf_value::{List, Map, OutOfMemory, Tag, Text, Value};
 
-// What an answer gives: its code, fields and body.
+/// What an answer gives: its code, fields and body.
 pub(crate) fn result_map(
     alloc: Global,
     code: u16,
@@ -25,7 +25,7 @@ pub(crate) fn result_map(
     Ok(Value::Map(pairs))
 }
 
-// The error of an answer with this code.
+/// The error of an answer with this code.
 pub(crate) fn http_error(
     alloc: Global,
     code: u16,

@@ -12,7 +12,7 @@ ghost use Rattle.wf_value.specs.Plain.{plain};
 use httparse::is_space_or_tab;
 use wf_value::{Bytes, Map, Value};
 
-// What the media type of a body makes it.
+/// What the media type of a body makes it.
 #[derive(Clone, Copy)]
 pub(crate) enum Media {
     // JSON (RFC 8259).
@@ -23,14 +23,14 @@ pub(crate) enum Media {
     Other,
 }
 
-// By the field Content-Type.
+/// By the field Content-Type.
 pub(crate) fn media_of(headers: &Map) -> Media
     ensures { result ≡ kind_of (media_type (get (codes "Content-Type") (pairs_of headers.now))) }
 {
     media_told(headers.get("Content-Type"))
 }
 
-// By the value of that field.
+/// By the value of that field.
 fn media_told(content_type: Option<&Value>) -> Media
     ensures { result ≡ kind_of (media_type (option_map (λ v. plain v.now) content_type.entry)) }
 {
@@ -40,7 +40,7 @@ fn media_told(content_type: Option<&Value>) -> Media
     }
 }
 
-// Without case, up to `;` and without the blanks around it (RFC 9110, section 8.3).
+/// Without case, up to `;` and without the blanks around it (RFC 9110, section 8.3).
 fn kind_of(value: &str) -> Media
     ensures { result ≡ kind_of (media_type_of value.now) }
 {
@@ -60,7 +60,7 @@ fn is_text(media_type: &[u8]) -> bool
     media_type.len() >= 5 && media_type[..5].eq_ignore_ascii_case(b"text/")
 }
 
-// Whether the body is encoded, by a field Content-Encoding.
+/// Whether the body is encoded, by a field Content-Encoding.
 pub(crate) fn is_encoded(fields: &[(Bytes, Bytes)]) -> bool
     ensures { result ≡ is_encoded fields.now }
 {

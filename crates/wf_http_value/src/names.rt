@@ -5,7 +5,7 @@ ghost use Rattle.wf_value.specs.HttpText.{proper_name};
 use std::alloc::Global;
 use wf_value::{OutOfMemory, Text};
 
-// The name with a capital first and after each dash, and lower case elsewhere.
+/// The name with a capital first and after each dash, and lower case elsewhere.
 pub(crate) fn proper_name(alloc: Global, name: &str) -> Result<Text, OutOfMemory>
     ensures { IfOk result (λ t. t ≡ proper_name true name.now) }
 {

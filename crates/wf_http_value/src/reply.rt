@@ -28,7 +28,7 @@ pub fn reply_value(alloc: Global, answer: &Answer<'_>) -> Result<Value, ReplyFau
     }
 }
 
-// The fields of the head, copied.
+/// The fields of the head, copied.
 fn fields_of(alloc: Global, head: &Head) -> Result<Fields, OutOfMemory>
     ensures { IfOk result (λ f. f ≡ head.now.fields) }
 {

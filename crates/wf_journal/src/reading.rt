@@ -21,7 +21,7 @@ pub(crate) enum Head {
     Shut(bool),
 }
 
-// What the bytes from a gate on say, of which there are at least five where the gate is open.
+/// What the bytes from a gate on say, of which there are at least five where the gate is open.
 fn head_of(bytes: &[u8; 5], gate: u64, size: u64) -> Head
     requires { gate < longest }
     ensures says { SaysHead bytes.now gate size result }

@@ -55,10 +55,11 @@ pub fn json_decode(alloc: Global, data: &Value) -> Result<Value, Raise>
     }
 }
 
-// The laws of reading say that what is read is the value, and that a fault leaves none.
+/// The laws of reading say that what is read is the value, and that a fault leaves none.
 fn decoded(alloc: Global, b: &[u8]) -> Result<Value, Raise>
     ensures { Gives result (json_decode (bytes b.now)) }
 {
+    // laws that the proof uses
     reading_is_a_function();
     reading_is_decided();
     match from_json(alloc, b) {
@@ -67,7 +68,7 @@ fn decoded(alloc: Global, b: &[u8]) -> Result<Value, Raise>
     }
 }
 
-// What a fault of reading raises.
+/// What a fault of reading raises.
 fn raised(fault: JsonFault) -> Raise
     ensures { result ≡ raised fault }
 {

@@ -37,7 +37,7 @@ pub fn list_prepend(alloc: Global, objs: &Value, val: &Value) -> Result<Value, R
     }
 }
 
-// The list of a value and of some items behind it.
+/// The list of a value and of some items behind it.
 fn behind(alloc: Global, first: &Value, items: &[Value]) -> Result<List, OutOfMemory>
     ensures { IfOk result (λ l. l ≡ plain first.now ∷ plain_items items.now) }
 {

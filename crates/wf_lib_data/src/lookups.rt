@@ -25,7 +25,7 @@ pub fn map_get(alloc: Global, map: &Value, keys: &Value) -> Result<Value, Raise>
     }
 }
 
-// The value at each key in turn.
+/// The value at each key in turn.
 fn at_all(alloc: Global, map: &Value, keys: &[Value]) -> Result<Value, Raise>
     ensures { Gives result (follow_all (plain map.now)
         (texts_in (items_of (plain_items keys.now)))) }
@@ -40,7 +40,7 @@ fn at_all(alloc: Global, map: &Value, keys: &[Value]) -> Result<Value, Raise>
     found(alloc, value)
 }
 
-// The value at a key; none where it is missing, or the value is no map.
+/// The value at a key; none where it is missing, or the value is no map.
 fn at_key<'a>(value: Option<&'a Value>, key: &str) -> Option<&'a Value>
     ensures { or_null result ≡ follow (or_null value.entry) key.now }
 {
@@ -50,7 +50,7 @@ fn at_key<'a>(value: Option<&'a Value>, key: &str) -> Option<&'a Value>
     }
 }
 
-// The value, or null for none, if it keeps within the limit on size.
+/// The value, or null for none, if it keeps within the limit on size.
 fn found(alloc: Global, value: Option<&Value>) -> Result<Value, Raise>
     ensures { Gives result (sized (or_null value.entry)) }
 {

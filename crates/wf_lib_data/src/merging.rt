@@ -27,10 +27,11 @@ pub fn map_merge(alloc: Global, first: &Value, second: &Value) -> Result<Value, 
     }
 }
 
-// Takes the pairs of both in the order of their keys, so that each is put at the end.
+/// Takes the pairs of both in the order of their keys, so that each is put at the end.
 fn merged(alloc: Global, first: &Map, second: &Map) -> Result<Map, OutOfMemory>
     ensures { IfOk result (λ m. pairs_of m ≡ merged (pairs_of first.now) (pairs_of second.now)) }
 {
+    // laws that the proof uses
     keys_rise(first);
     keys_rise(second);
     let mut whole = Map::new(alloc)?;
@@ -66,7 +67,7 @@ fn merged(alloc: Global, first: &Map, second: &Map) -> Result<Map, OutOfMemory>
     }
 }
 
-// A fact of every map, which a look-up carries.
+/// A fact of every map, which a look-up carries.
 fn keys_rise(map: &Map)
     ensures { IsInOrder map.now }
 {
@@ -80,7 +81,7 @@ fn put(alloc: Global, whole: &mut Map, key: &str, value: &Value) -> Result<(), O
     Ok(())
 }
 
-// No map has so many pairs that an index is past 64 bits.
+/// No map has so many pairs that an index is past 64 bits.
 fn next(i: usize) -> Result<usize, OutOfMemory>
     ensures { IfOk result (λ n. n ≡ suc i) }
 {

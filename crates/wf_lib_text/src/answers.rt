@@ -10,7 +10,7 @@ use wf_value::{Bytes, Raise, Tag, Text, Value};
 /// The greatest size of an answer.
 const MAX_SIZE: u64 = 4_194_304;
 
-// The value, if it keeps within the limit on size.
+/// The value, if it keeps within the limit on size.
 pub(crate) fn sized(value: Value) -> Result<Value, Raise>
     ensures { Gives result (sized (plain value)) }
 {
@@ -21,14 +21,14 @@ pub(crate) fn sized(value: Value) -> Result<Value, Raise>
     }
 }
 
-// The text as a value, if it keeps within the limit on size.
+/// The text as a value, if it keeps within the limit on size.
 pub(crate) fn sized_text(alloc: Global, s: &str) -> Result<Value, Raise>
     ensures { Gives result (sized (text s.now)) }
 {
     sized(Value::Text(Text::new(alloc, s)?))
 }
 
-// The bytes as a value, if they keep within the limit on size.
+/// The bytes as a value, if they keep within the limit on size.
 pub(crate) fn sized_bytes(alloc: Global, b: &[u8]) -> Result<Value, Raise>
     ensures { Gives result (sized (bytes b.now)) }
 {

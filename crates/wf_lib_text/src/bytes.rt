@@ -33,7 +33,7 @@ pub fn text_decode(alloc: Global, source: &Value) -> Result<Value, Raise>
     }
 }
 
-// The text that some bytes are, if they are UTF-8.
+/// The text that some bytes are, if they are UTF-8.
 pub(crate) fn decoded(alloc: Global, b: &[u8]) -> Result<Value, Raise>
     ensures { Gives result (as_utf8 b.now) }
 {

@@ -49,14 +49,14 @@ fn starts(alloc: Global, s: &str, part: &str) -> Result<List, OutOfMemory>
     Ok(starts)
 }
 
-// How many characters a text has.
+/// How many characters a text has.
 pub(crate) fn char_count(s: &str) -> usize
     ensures { result ≡ length (chars s.now) }
 {
     s.chars().count()
 }
 
-// No text is so long that a place in it is past 64 bits.
+/// No text is so long that a place in it is past 64 bits.
 fn sum(a: usize, b: usize) -> Result<usize, OutOfMemory>
     ensures { IfOk result (λ n. n ≡ a + b) }
 {

@@ -60,7 +60,7 @@ fn replaced(alloc: Global, s: &str, part: &str, other: &str) -> Result<Value, Ra
     sized_text(alloc, out.as_str())
 }
 
-// Adds to a text, within the limit on its length.
+/// Adds to a text, within the limit on its length.
 fn add(out: &mut String, s: &str) -> Result<(), Raise>
     ensures grown { OnOk result (string_bytes out.new ≡ string_bytes out.old ++ s.now) }
     ensures past { IfErr result (IsPast (string_bytes out.old ++ s.now)) }

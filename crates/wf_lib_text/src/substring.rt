@@ -41,7 +41,7 @@ fn substring(alloc: Global, s: &str, start: i64, end: i64) -> Result<Value, Rais
     sized_text(alloc, part.as_str())
 }
 
-// The range as places of a text with so many characters.
+/// The range as places of a text with so many characters.
 fn range_in(count: usize, start: i64, end: i64) -> Option<(usize, usize)>
     ensures inside { MatchOption result (is_range_in count start end
         ≡ false) (λ _. is_range_in count start end ≡ true) }
@@ -57,7 +57,7 @@ fn range_in(count: usize, start: i64, end: i64) -> Option<(usize, usize)>
     }
 }
 
-// The characters from one place up to before another.
+/// The characters from one place up to before another.
 fn characters(alloc: Global, s: &str, from: usize, to: usize) -> Result<String, AllocError>
     requires { from ≤ to }
     ensures { IfOk result (λ t. string_bytes t

@@ -6,7 +6,7 @@ ghost use Rattle.wf_value.specs.LibTime.{civil_seconds, has_form, is_civil, is_r
 use crate::form::{has_form, two_digits};
 use jiff::civil::DateTime;
 
-// The seconds from 1970 to a date and a time of day, both real.
+/// The seconds from 1970 to a date and a time of day, both real.
 pub(crate) fn civil_seconds(text: &[u8]) -> Option<i64>
     ensures time { MatchOption result (is_civil text.now ≡ false) (λ n. (is_civil text.now ≡ true)
         × (n ≡ civil_seconds text.now)) }

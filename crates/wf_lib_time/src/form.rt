@@ -3,7 +3,7 @@ ghost use Rattle.std.specs.Prelude.{◌≡◌, ◌+◌, ◌*◌, ◌≤◌};
 ghost use Rattle.wf_lib_time.specs.Moments.{HasTwoDigits, fits};
 ghost use Rattle.wf_value.specs.LibTime.{has_form, number_at};
 
-// Whether the text has the form, in which each `d` stands for a digit.
+/// Whether the text has the form, in which each `d` stands for a digit.
 pub(crate) fn has_form(form: &[u8], text: &[u8]) -> bool
     ensures { result ≡ has_form form.now text.now }
 {
@@ -24,7 +24,7 @@ pub(crate) fn has_form(form: &[u8], text: &[u8]) -> bool
     }
 }
 
-// Whether a byte may stand at that place of a form.
+/// Whether a byte may stand at that place of a form.
 fn fits(f: u8, b: u8) -> bool
     ensures { result ≡ fits f b }
 {
@@ -35,7 +35,7 @@ fn fits(f: u8, b: u8) -> bool
     }
 }
 
-// The number of the two digits at a place.
+/// The number of the two digits at a place.
 pub(crate) fn two_digits(text: &[u8], at: usize) -> u8
     requires { HasTwoDigits text.now at }
     ensures value { result ≡ number_at at (at + 2) text.now }

@@ -39,7 +39,7 @@ fn written(alloc: Global, seconds: i64) -> Result<Value, Raise>
     }
 }
 
-// Whether the moment has a text.
+/// Whether the moment has a text.
 pub(crate) fn is_in_time(seconds: i64) -> bool
     ensures { IsTrue result ↔ IsInTime seconds }
 {
@@ -55,7 +55,7 @@ fn stamp(alloc: Global, seconds: i64) -> Result<Text, OutOfMemory>
     Text::new(alloc, text.as_str())
 }
 
-// The date and the time of day in UTC.
+/// The date and the time of day in UTC.
 fn date_time(seconds: i64) -> DateTime
     requires { IsInTime seconds }
     ensures { civil_nanos result ≡ seconds *ℤ pos 1_000_000_000 }

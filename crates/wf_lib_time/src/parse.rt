@@ -37,7 +37,7 @@ fn moment(s: &str) -> Result<Value, Raise>
     }
 }
 
-// How many bytes a date and a time of day have.
+/// How many bytes a date and a time of day have.
 const CIVIL_LENGTH: usize = 19;
 
 fn parsed(text: &[u8]) -> Option<i64>
@@ -52,7 +52,7 @@ fn parsed(text: &[u8]) -> Option<i64>
     in_range(local, ahead)
 }
 
-// The moment of a local time, if `time.format` has it.
+/// The moment of a local time, if `time.format` has it.
 fn in_range(local: i64, ahead: i64) -> Option<i64>
     requires local { IsShort local }
     requires ahead { IsShort ahead }

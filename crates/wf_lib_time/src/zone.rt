@@ -7,7 +7,7 @@ ghost use Rattle.wf_value.specs.LibTime.{is_real_offset, minutes_ahead, offset_o
 
 use crate::form::{has_form, two_digits};
 
-// How many digits a text begins with.
+/// How many digits a text begins with.
 fn digit_count(text: &[u8]) -> usize
     ensures value { result ≡ prefix_len is_ascii_digit text.now }
     ensures within { result ≤ length text.now }
@@ -15,7 +15,7 @@ fn digit_count(text: &[u8]) -> usize
     text.iter().take_while(|b| b.is_ascii_digit()).count()
 }
 
-// What follows a point and one to nine digits, if a point stands there.
+/// What follows a point and one to nine digits, if a point stands there.
 #[tactic(auto, using(crate::proofs::Zones::no_text, crate::proofs::Zones::no_point, crate::proofs::Zones::no_digits, crate::proofs::Zones::many_digits, crate::proofs::Zones::few_digits))]
 pub(crate) fn without_fraction(text: &[u8]) -> Option<&[u8]>
     ensures { MatchOption result (without_fraction text.now ≡ None) (λ r. without_fraction text.now
@@ -34,7 +34,7 @@ pub(crate) fn without_fraction(text: &[u8]) -> Option<&[u8]>
     Some(&digits[count..])
 }
 
-// The seconds that a zone is ahead: `Z`, or hours and minutes with a sign.
+/// The seconds that a zone is ahead: `Z`, or hours and minutes with a sign.
 pub(crate) fn seconds_ahead(zone: &[u8]) -> Option<i64>
     ensures zone { result ≡ offset_of zone.now }
     ensures short { IfSome result IsShort }
@@ -50,7 +50,7 @@ pub(crate) fn seconds_ahead(zone: &[u8]) -> Option<i64>
     }
 }
 
-// The seconds of the hours and minutes behind a sign.
+/// The seconds of the hours and minutes behind a sign.
 fn offset(zone: &[u8]) -> Option<i64>
     requires hours { HasTwoDigits zone.now 1 }
     requires minutes { HasTwoDigits zone.now 4 }

@@ -35,6 +35,7 @@ impl Machine {
     pub(crate) fn due_of(&self, task: &Task) -> Option<u64>
         ensures { result ≡ due_for (rest_by self.now) (wait_by self.now task.now) }
     {
+        // laws that the proof uses
         numbers_are_those_of_steps();
         match task.call() {
             Some(call) => self.calls.due(call),
@@ -81,6 +82,7 @@ impl Machine {
         ensures { Applied (state_of self.old) (state_of self.new)
             (AnyEvent.Answer call reading (reply_view reply.now)) result }
     {
+        // laws that the proof uses
         laws_of_waiting();
         numbers_are_those_of_steps();
         if !self.ending.is_running()

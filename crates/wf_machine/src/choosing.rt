@@ -34,6 +34,7 @@ impl Machine {
         ensures enabled { IfSome result (λ e. (d : Config)
             × (next (state_of self.now).program (state_of self.now).config (event_view e) ≡ To d)) }
     {
+        // laws that the proof uses
         laws_of_waiting();
         never_wrong();
         let last = reading.max(self.tally.last);

@@ -13,6 +13,7 @@ pub fn answers_lead(machine: &Machine)
     requires { (state_of machine.now).broken ≡ false }
     ensures { AnswersLead (state_of machine.now) }
 {
+    // laws that the proof uses
     laws_of_waiting();
     never_wrong();
     let _ = machine;
@@ -24,6 +25,7 @@ pub fn is_sound(machine: &Machine)
     requires { (state_of machine.now).broken ≡ false }
     ensures { IsSound (state_of machine.now) }
 {
+    // laws that the proof uses
     laws_of_waiting();
     let _ = machine;
 }

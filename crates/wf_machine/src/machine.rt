@@ -163,6 +163,7 @@ impl Machine {
             → (state_of self.now).config.outcome ≡ Active
             → (r : ℕ) → IsTrue (quiet (state_of self.now).config r) → IsSome result }
     {
+        // laws that the proof uses
         laws_of_waiting();
         match &self.task {
             None => None,
@@ -235,6 +236,7 @@ impl Machine {
         ensures { option_map request_view (option_copied result)
             ≡ request_of (state_of self.now).config call }
     {
+        // laws that the proof uses
         numbers_are_those_of_steps();
         self.calls.request(call)
     }
@@ -243,6 +245,7 @@ impl Machine {
     pub fn has_timed_out(&self, call: u64) -> bool
         ensures { IsTrue result ↔ (call_of (state_of self.now).config call ≡ TimedOut) }
     {
+        // laws that the proof uses
         numbers_are_those_of_steps();
         self.calls.has_timed_out(call)
     }

@@ -112,6 +112,7 @@ impl Machine {
         ensures { (e : AnyEvent) → Comes self.old cause now tally e
             → Applied (state_of self.old) (state_of self.new) e result }
     {
+        // laws that the proof uses
         never_wrong();
         let Some(mut task) = self.task.take() else {
             unreachable!()

@@ -182,7 +182,7 @@ impl NodeKind {
 }
 
 impl WorkNode {
-    // The list of steps of a parallel loop.
+    /// The list of steps of a parallel loop.
     fn block(&self) -> Option<&Block>
         ensures { (cs : Compiled) → option_map block_view (option_copied result)
             ≡ side_list (side_by cs self.now) }
@@ -195,7 +195,7 @@ impl WorkNode {
 }
 
 impl TryNode {
-    // The list of the steps that take an error.
+    /// The list of the steps that take an error.
     fn block(&self) -> Option<&Block>
         ensures { option_map block_view (option_copied result)
             ≡ handler_list (handler_view self.now.except) }

@@ -27,7 +27,7 @@ pub fn shape_of(alloc: Global, t: &Template, codes: &mut Codes) -> Result<Shape,
     }
 }
 
-// The shapes of templates.
+/// The shapes of templates.
 #[cycle(shaping)]
 fn shapes(alloc: Global, ts: &[Template], codes: &mut Codes) -> Result<Shapes, OutOfMemory>
     ensures { IfOk result (λ ss. Compiles (code_list codes.old) (code_list codes.new)
@@ -59,7 +59,7 @@ pub fn named_of(
     Ok(NamedShapes { items })
 }
 
-// The pieces of a joined text.
+/// The pieces of a joined text.
 fn pieces(alloc: Global, parts: &[Part], codes: &mut Codes) -> Result<Pieces, OutOfMemory>
     ensures { IfOk result (λ ps. Compiles (code_list codes.old) (code_list codes.new)
         (λ cs. map (piece_by cs) (piece_list ps)) (map part_view parts.now)) }
@@ -71,7 +71,7 @@ fn pieces(alloc: Global, parts: &[Part], codes: &mut Codes) -> Result<Pieces, Ou
     Ok(Pieces { items })
 }
 
-// The piece of a part.
+/// The piece of a part.
 fn piece(alloc: Global, part: &Part, codes: &mut Codes) -> Result<Piece, OutOfMemory>
     ensures { IfOk result (λ p. Compiles (code_list codes.old) (code_list codes.new)
         (λ cs. piece_by cs p) (part_view part.now)) }

@@ -24,14 +24,14 @@ use wf_model::{EntryNode, Node, NodeKind};
 use wf_scope::Scopes;
 use wf_value::{OutOfMemory, Raise, Text, Value};
 
-// The value of an assignment, and those of the places of its target.
+/// The value of an assignment, and those of the places of its target.
 #[derive(Drop)]
 pub(crate) struct Assigned {
     pub(crate) value: Value,
     pub(crate) places: Vec<Value>,
 }
 
-// The value of an entry first, then those of the places.
+/// The value of an entry first, then those of the places.
 fn evaluate<K: Look>(
     alloc: Global,
     entry: &EntryNode,

@@ -26,7 +26,7 @@ use wf_model::{Node, NodeKind};
 use wf_scope::Scopes;
 use wf_value::{OutOfMemory, Tag, Text, Value};
 
-// The frames inside the innermost call are left, or all.
+/// The frames inside the innermost call are left, or all.
 fn leave_to_back(frames: &mut Frames, scopes: &mut Scopes)
     ghost around: { Around }
     requires linked { IsLinked around (own_of frames.old) scopes.old }
@@ -48,7 +48,7 @@ fn leave_to_back(frames: &mut Frames, scopes: &mut Scopes)
     }
 }
 
-// The call that ends with a frame, if a step made it.
+/// The call that ends with a frame, if a step made it.
 fn call_of(frame: &Frame) -> Option<u32>
     ensures { result ≡ call_of frame.now }
 {
@@ -60,7 +60,7 @@ fn call_of(frame: &Frame) -> Option<u32>
     }
 }
 
-// Whether the call that ends with a frame is that of a workflow that was asked about an error.
+/// Whether the call that ends with a frame is that of a workflow that was asked about an error.
 fn is_judge(frame: &Frame) -> bool
     ensures { result ≡ is_judge frame.now }
 {
@@ -71,7 +71,7 @@ fn is_judge(frame: &Frame) -> bool
     }
 }
 
-// What the workflow that was asked about an error says, which must be a truth value.
+/// What the workflow that was asked about an error says, which must be a truth value.
 fn says(alloc: Global, value: &Value) -> Result<Went, OutOfMemory>
     ensures { IfOk result (SaysSo (plain value.now)) }
 {
@@ -81,7 +81,7 @@ fn says(alloc: Global, value: &Value) -> Result<Went, OutOfMemory>
     }
 }
 
-// The variable that takes what a call gives.
+/// The variable that takes what a call gives.
 fn result_of(nodes: &[Node], call: Option<u32>) -> Option<&Text>
     ghost ns: { List Spot }
     requires tells { Tells ns nodes.now }

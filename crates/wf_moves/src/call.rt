@@ -34,7 +34,7 @@ use wf_value::{Map, OutOfMemory, Tag, Value};
 /// How many calls of workflows may stand in each other.
 pub(crate) const CALL_LIMIT: usize = 20;
 
-// What an argument gives a parameter, and else its default.
+/// What an argument gives a parameter, and else its default.
 fn value_for(alloc: Global, param: &Param, args: &Map) -> Result<Option<Value>, OutOfMemory>
     ensures { IfOk result (λ o. option_map plain o
         ≡ calls.value_for (param_view param.now) (pairs_of args.now)) }
@@ -48,7 +48,7 @@ fn value_for(alloc: Global, param: &Param, args: &Map) -> Result<Option<Value>, 
     }
 }
 
-// The parameters with their values; none where one has no value.
+/// The parameters with their values; none where one has no value.
 fn bindings(alloc: Global, params: &[Param], args: &Map) -> Result<Option<Bindings>, OutOfMemory>
     ensures { IfOk result (λ o. option_map bindings_of o
         ≡ calls.given (map param_view params.now) (pairs_of args.now)) }
@@ -67,7 +67,7 @@ fn bindings(alloc: Global, params: &[Param], args: &Map) -> Result<Option<Bindin
     Ok(Some(bindings))
 }
 
-// The call of a step begins the workflow of this number, with its parameters in a layer of their own.
+/// The call of a step begins the workflow of this number, with its parameters in a layer of their own.
 fn begin(
     alloc: Global,
     nodes: &[Node],
@@ -103,7 +103,7 @@ fn begin(
     }
 }
 
-// The call of a workflow, with its arguments by their names. Where they don't fit its parameters nothing is done.
+/// The call of a workflow, with its arguments by their names. Where they don't fit its parameters nothing is done.
 fn call_flow(
     alloc: Global,
     nodes: &[Node],
@@ -130,7 +130,7 @@ fn call_flow(
     }
 }
 
-// The call of a function, with its arguments by their names: its answer goes into the call's result.
+/// The call of a function, with its arguments by their names: its answer goes into the call's result.
 fn evaluates(
     alloc: Global,
     nodes: &[Node],

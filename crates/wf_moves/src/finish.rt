@@ -48,7 +48,7 @@ pub(crate) enum Done {
     Waits(Wait),
 }
 
-// Whether a frame has ended.
+/// Whether a frame has ended.
 fn is_ended(frame: &Frame, nodes: &[Node]) -> bool
     ghost ns: { List Spot }
     requires tells { Tells ns nodes.now }

@@ -51,7 +51,7 @@ fn said(yes: bool) -> Verdict
     if yes { Verdict::Yes } else { Verdict::No }
 }
 
-// Without a policy and with no retries left nothing is asked.
+/// Without a policy and with no retries left nothing is asked.
 fn judge(policy: &Option<Policy>, tries: u64, error: &Value) -> Verdict
     ensures { result ≡ verdict_of (judged (policy_option_view policy.now) tries (plain error.now)) }
 {
@@ -129,7 +129,7 @@ pub(crate) fn try_again(
     Ok(goes(frames, nodes, scopes))
 }
 
-// The parameter of the workflow that is asked, with the error.
+/// The parameter of the workflow that is asked, with the error.
 fn with_error(alloc: Global, param: &Param, error: &Value) -> Result<Bindings, OutOfMemory>
     ensures { IfOk result (λ b. bindings_of b ≡ (param.now.name, plain error.now) ∷ []) }
 {
@@ -138,7 +138,7 @@ fn with_error(alloc: Global, param: &Param, error: &Value) -> Result<Bindings, O
     Ok(bindings)
 }
 
-// The workflow that is asked about an error is called with it. Where the variables would pass their limit, that is the error.
+/// The workflow that is asked about an error is called with it. Where the variables would pass their limit, that is the error.
 fn question(
     alloc: Global,
     nodes: &[Node],
@@ -175,8 +175,8 @@ fn question(
     }
 }
 
-// A workflow is asked about an error: it is called with it, and what it returns decides. Where it would be one call too many in each
-// other, or the variables would pass their limit, that is the error.
+/// A workflow is asked about an error: it is called with it, and what it returns decides. Where it would be one call too many in each
+/// other, or the variables would pass their limit, that is the error.
 fn ask(
     alloc: Global,
     nodes: &[Node],

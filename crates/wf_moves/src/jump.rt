@@ -25,7 +25,7 @@ use wf_model::{Jump, Node};
 use wf_scope::Scopes;
 use wf_value::{OutOfMemory, Value};
 
-// Where a number stands first among others, if it does.
+/// Where a number stands first among others, if it does.
 fn first_place(numbers: &[u32], to: u32) -> usize
     ensures { (i : ℕ) → slice_get numbers.now i ≡ Some to
         → slice_get numbers.now result ≡ Some to }
@@ -40,8 +40,8 @@ fn first_place(numbers: &[u32], to: u32) -> usize
     place
 }
 
-// Where a number stands among others, if it does. The numbers of a list rise, so a jump costs no more in a long one; that they do is asked
-// of nobody.
+/// Where a number stands among others, if it does. The numbers of a list rise, so a jump costs no more in a long one; that they do is asked
+/// of nobody.
 fn place_of(numbers: &[u32], to: u32) -> usize
     ensures { (i : ℕ) → slice_get numbers.now i ≡ Some to
         → slice_get numbers.now result ≡ Some to }
@@ -52,7 +52,7 @@ fn place_of(numbers: &[u32], to: u32) -> usize
     }
 }
 
-// The number of a frame's node, if it is the list to which a jump leads.
+/// The number of a frame's node, if it is the list to which a jump leads.
 fn target(frame: &Frame, nodes: &[Node], keep: u32) -> Option<u32>
     requires { HasNode nodes.now frame.now }
     ensures { result ≡ target nodes.now keep frame.now }
@@ -71,7 +71,7 @@ fn target(frame: &Frame, nodes: &[Node], keep: u32) -> Option<u32>
     }
 }
 
-// The frames inside a jump's list are left, and that of the list itself. It gives the number of the list's node.
+/// The frames inside a jump's list are left, and that of the list itself. It gives the number of the list's node.
 fn leave_to(frames: &mut Frames, nodes: &[Node], scopes: &mut Scopes, jump: Jump) -> Option<u32>
     ghost around: { Around }
     requires tells { Tells around.spots nodes.now }
@@ -96,7 +96,7 @@ fn leave_to(frames: &mut Frames, nodes: &[Node], scopes: &mut Scopes, jump: Jump
     None
 }
 
-// The task stands before the step of a jump.
+/// The task stands before the step of a jump.
 fn jump_to(
     frames: &mut Frames,
     nodes: &[Node],
@@ -123,7 +123,7 @@ fn jump_to(
     Ok(())
 }
 
-// Whether a frame is a loop, or a call, in which there is none.
+/// Whether a frame is a loop, or a call, in which there is none.
 fn is_loop(frame: &Frame) -> bool
     ensures { result ≡ is_loop frame.now }
 {
@@ -134,7 +134,7 @@ fn is_loop(frame: &Frame) -> bool
     }
 }
 
-// The frames inside the innermost loop or call are left, or all.
+/// The frames inside the innermost loop or call are left, or all.
 fn leave_to_loop(frames: &mut Frames, scopes: &mut Scopes)
     ghost around: { Around }
     requires linked { IsLinked around (own_of frames.old) scopes.old }
@@ -156,7 +156,7 @@ fn leave_to_loop(frames: &mut Frames, scopes: &mut Scopes)
     }
 }
 
-// `continue`: the innermost loop goes on, or the iteration of a parallel loop ends.
+/// `continue`: the innermost loop goes on, or the iteration of a parallel loop ends.
 fn go_on_loop(frames: &mut Frames, nodes: &[Node], scopes: &mut Scopes) -> Went
     ghost around: { Around }
     requires tells { Tells around.spots nodes.now }
@@ -172,7 +172,7 @@ fn go_on_loop(frames: &mut Frames, nodes: &[Node], scopes: &mut Scopes) -> Went
     goes(frames, nodes, scopes)
 }
 
-// `break`: the innermost loop ends.
+/// `break`: the innermost loop ends.
 fn end_loop(frames: &mut Frames, nodes: &[Node], scopes: &mut Scopes) -> Went
     ghost around: { Around }
     requires tells { Tells around.spots nodes.now }
@@ -188,7 +188,7 @@ fn end_loop(frames: &mut Frames, nodes: &[Node], scopes: &mut Scopes) -> Went
     goes(frames, nodes, scopes)
 }
 
-// To the step of this name, where the table has found one.
+/// To the step of this name, where the table has found one.
 fn go_to(
     frames: &mut Frames,
     nodes: &[Node],

@@ -53,7 +53,7 @@ pub(crate) fn lead_on(frames: &mut Frames, nodes: &[Node], scopes: &mut Scopes) 
     }
 }
 
-// An error goes outward: to the nearest `try` that takes it or tries its body again, or out of the task.
+/// An error goes outward: to the nearest `try` that takes it or tries its body again, or out of the task.
 fn outward(
     alloc: Global,
     nodes: &[Node],
@@ -84,7 +84,7 @@ fn outward(
     Ok(Led::Ended(End::Error(error)))
 }
 
-// The `try` and the error on which a workflow was asked, whose call is the innermost frame.
+/// The `try` and the error on which a workflow was asked, whose call is the innermost frame.
 fn asked_on(alloc: Global, frames: &Frames) -> Result<(Tried, Value), OutOfMemory>
     requires { IsJudgeTop (inner frames.now) }
     ensures { IfOk result (λ p. (m : ℕ) × (topped (inner frames.now)
@@ -105,7 +105,7 @@ fn asked_on(alloc: Global, frames: &Frames) -> Result<(Tried, Value), OutOfMemor
     Ok((tried, error))
 }
 
-// The workflow that was asked about an error has answered: the body is to be tried again, or the `try` is through with it.
+/// The workflow that was asked about an error has answered: the body is to be tried again, or the `try` is through with it.
 fn answered(
     alloc: Global,
     nodes: &[Node],

@@ -23,7 +23,7 @@ use wf_model::Node;
 use wf_scope::Scopes;
 use wf_value::{OutOfMemory, Value};
 
-// What is left of a step that doesn't call, beside its frames.
+/// What is left of a step that doesn't call, beside its frames.
 fn finish(
     alloc: Global,
     nodes: &[Node],
@@ -53,7 +53,7 @@ fn finish(
     }
 }
 
-// What is left of a step, beside its frames.
+/// What is left of a step, beside its frames.
 fn finish_step(
     alloc: Global,
     nodes: &[Node],
@@ -83,7 +83,7 @@ fn finish_step(
     }
 }
 
-// Whether the task stands at the end of a workflow that was called.
+/// Whether the task stands at the end of a workflow that was called.
 fn is_at_back(frames: &Frames) -> bool
     ensures { result ≡ is_at_back (inner frames.now) }
 {
@@ -93,7 +93,7 @@ fn is_at_back(frames: &Frames) -> bool
     }
 }
 
-// The move of a task that stands neither at the end of a workflow that was called nor before a loop's turn. Its frame was taken.
+/// The move of a task that stands neither at the end of a workflow that was called nor before a loop's turn. Its frame was taken.
 fn step_on(
     alloc: Global,
     nodes: &[Node],

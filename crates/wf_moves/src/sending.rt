@@ -50,7 +50,7 @@ pub struct Sent {
     pub due: u64,
 }
 
-// The request for which the arguments of a call ask, which gets this number.
+/// The request for which the arguments of a call ask, which gets this number.
 fn sent_of(
     alloc: Global,
     method: Option<Method>,

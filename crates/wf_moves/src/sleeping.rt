@@ -21,7 +21,7 @@ use wf_scope::Scopes;
 use wf_sys_ask::{sleep_due, until_due};
 use wf_value::{Map, OutOfMemory, Raise};
 
-// When a sleep ends that begins at a reading.
+/// When a sleep ends that begins at a reading.
 fn nap_due(alloc: Global, nap: Nap, args: &Map, now: u64) -> Result<u64, Raise>
     ensures { Answers (λ n. n) result (nap_due nap now (pairs_of args.now)) }
 {

@@ -30,7 +30,7 @@ pub(crate) fn params(nodes: &[Node], flow: u32) -> &[Param]
     }
 }
 
-// The first parameter is bound to the argument. Without one the argument is ignored.
+/// The first parameter is bound to the argument. Without one the argument is ignored.
 fn bind_argument(
     scopes: &mut Scopes,
     layer: Chain,

@@ -43,7 +43,7 @@ pub enum Move {
     Logged(Logged, Behind),
 }
 
-// The move of a task that stands so behind it.
+/// The move of a task that stands so behind it.
 fn move_by(behind: Behind) -> Move
     ensures { result ≡ move_by behind }
 {
@@ -277,7 +277,7 @@ impl Task {
         }
     }
 
-    // A value goes into the variable that a node's call names.
+    /// A value goes into the variable that a node's call names.
     fn gives(
         &mut self,
         nodes: &[Node],
@@ -312,7 +312,7 @@ impl Task {
         self.follow(nodes, targets, scopes, facts, went)
     }
 
-    // Where a move leads: its error goes outward, and so does what a predicate has said.
+    /// Where a move leads: its error goes outward, and so does what a predicate has said.
     fn follow(
         &mut self,
         nodes: &[Node],
@@ -344,7 +344,7 @@ impl Task {
         }
     }
 
-    // How it stands where a move leads: its error goes outward, and so does what a predicate has said.
+    /// How it stands where a move leads: its error goes outward, and so does what a predicate has said.
     fn stand(
         &mut self,
         nodes: &[Node],

@@ -21,10 +21,10 @@ use wf_model::{LoopNode, Node};
 use wf_scope::Scopes;
 use wf_value::{List, OutOfMemory, Tag, Value};
 
-// No execution makes so many iterations; an index below it is a whole number of the language.
+/// No execution makes so many iterations; an index below it is a whole number of the language.
 const INDEX_LIMIT: u64 = 9_223_372_036_854_775_808;
 
-// The next value that a loop has left, and what is left behind it.
+/// The next value that a loop has left, and what is left behind it.
 fn next_of(alloc: Global, left: Left) -> Result<Option<(Value, Left)>, OutOfMemory>
     ensures { IfOk result (λ o. option_map (λ p. (plain p.0, left_view p.1)) o
         ≡ next_of (left_view left)) }
@@ -36,7 +36,7 @@ fn next_of(alloc: Global, left: Left) -> Result<Option<(Value, Left)>, OutOfMemo
     }
 }
 
-// What a range has left behind its first number.
+/// What a range has left behind its first number.
 fn behind(first: i64, last: i64) -> Left
     ensures { left_view result
         ≡ (if int_lt first last then OfRange (first +ℤ pos 1) last else OfList []) }
@@ -48,7 +48,7 @@ fn behind(first: i64, last: i64) -> Left
     }
 }
 
-// The item of a list, and those behind it.
+/// The item of a list, and those behind it.
 fn next_item(alloc: Global, list: List, at: usize) -> Result<Option<(Value, Left)>, OutOfMemory>
     ensures { IfOk result (λ o. option_map (λ p. (plain p.0, left_view p.1)) o
         ≡ next_of (left_view (left.Items list at))) }
@@ -61,7 +61,7 @@ fn next_item(alloc: Global, list: List, at: usize) -> Result<Option<(Value, Left
     Ok(Some((item, Left::Items(list, at + 1))))
 }
 
-// The loop's next iteration, with this value, and so much left behind it.
+/// The loop's next iteration, with this value, and so much left behind it.
 fn iterate(
     alloc: Global,
     nodes: &[Node],

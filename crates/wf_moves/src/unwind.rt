@@ -30,7 +30,7 @@ pub(crate) struct Tried {
     pub(crate) delay: Option<u64>,
 }
 
-// The `try` that a frame is, if it is one.
+/// The `try` that a frame is, if it is one.
 fn tried_of(frame: &Frame) -> Option<Tried>
     ensures { result ≡ tried_of frame.now }
 {
@@ -72,7 +72,7 @@ pub(crate) fn leave_to_try(frames: &mut Frames, scopes: &mut Scopes) -> Option<T
     None
 }
 
-// The steps that take the error of a `try` begin, in a layer with the error. Where the variables would pass their limit, that is the error.
+/// The steps that take the error of a `try` begin, in a layer with the error. Where the variables would pass their limit, that is the error.
 fn handle(
     alloc: Global,
     nodes: &[Node],

@@ -80,6 +80,7 @@ fn machine_of(alloc: Global, first: &Record) -> Result<Machine, EngineFault>
         → first_standing the_language (Some (record_view first.now)) ≡ None }
     ensures only { OnlyErrors result ((EngineFault.NotAHistory 0) ∷ EngineFault.OutOfMemory ∷ []) }
 {
+    // laws that the proof uses
     each_source_is_one();
     let Record::Start(start) = first else {
         return Err(EngineFault::NotAHistory(0));

@@ -88,6 +88,7 @@ fn front_state<H: Host, L: Ledger>(
     ensures tells { TellsAsBefore H.world host.old host.new }
     ensures counts { NoCountFalls H.faults host.old host.new }
 {
+    // laws that the proof uses
     laws_of_histories();
     let machine = first_machine(alloc, history, host)?;
     let stood = replay_turns(alloc, history, host, machine, turns, steps)?;

@@ -24,7 +24,7 @@ pub fn default_says(kind: DefaultKind, error: &Value) -> bool
     }
 }
 
-// Whether an error may pass by itself.
+/// Whether an error may pass by itself.
 fn may_pass(error: &Map) -> bool
     ensures { result ≡ may_pass error.now }
 {
@@ -33,7 +33,7 @@ fn may_pass(error: &Map) -> bool
         || has_tag(error, "TimeoutError")
 }
 
-// Whether the code of an error is one of these.
+/// Whether the code of an error is one of these.
 fn has_code(error: &Map, expected: &[u64]) -> bool
     ensures { result ≡ has_code expected.now (value_at (codes "code") error.now) }
 {
@@ -52,7 +52,7 @@ fn is_among(code: u64, expected: &[u64]) -> bool
     expected.iter().any(|one| code == *one)
 }
 
-// Whether the tags of an error are a list that holds this one.
+/// Whether the tags of an error are a list that holds this one.
 fn has_tag(error: &Map, tag: &str) -> bool
     ensures { result ≡ has_tag tag.now (value_at (codes "tags") error.now) }
 {

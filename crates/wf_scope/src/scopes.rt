@@ -180,7 +180,7 @@ impl Scopes {
         }
     }
 
-    // Where a live layer stands: mostly at its number.
+    /// Where a live layer stands: mostly at its number.
     fn place(&self, number: u64) -> usize
         requires { IsLive number (layers_of self.now) }
         ensures within { result < length (layers_of self.now) }
@@ -214,7 +214,7 @@ impl Scopes {
         }
     }
 
-    // The number of the innermost layer that has the name, of those that are seen, and the value there.
+    /// The number of the innermost layer that has the name, of those that are seen, and the value there.
     fn holder(&self, number: u64, name: &str) -> Option<(u64, &Value)>
         requires { IsLive number (layers_of self.now) }
         ensures holder { option_map (λ h. h.0) result
@@ -236,7 +236,7 @@ impl Scopes {
         }
     }
 
-    // What a layer's variable counts, 0 where there is none.
+    /// What a layer's variable counts, 0 where there is none.
     fn counted(&self, number: u64, name: &str) -> u64
         requires { IsLive number (layers_of self.now) }
         ensures size { result ≡ variable_size name.now
@@ -250,7 +250,7 @@ impl Scopes {
         }
     }
 
-    // The total once this layer's variable, which counts so much, has the value.
+    /// The total once this layer's variable, which counts so much, has the value.
     fn total_with(&self, number: u64, counted: u64, name: &Text, value: &Value) -> u64
         requires live { IsLive number (layers_of self.now) }
         requires counted { counted ≡ variable_size name.now
@@ -263,7 +263,7 @@ impl Scopes {
         rest.saturating_add(size_of_variable(name.as_str(), value))
     }
 
-    // Makes or changes a variable of a layer, which counts so much.
+    /// Makes or changes a variable of a layer, which counts so much.
     fn bind_counted(
         &mut self,
         number: u64,
@@ -302,7 +302,7 @@ impl Scopes {
         }
     }
 
-    // A number above those of all live layers.
+    /// A number above those of all live layers.
     #[tactic(auto, using(crate::proofs::Numbers::fresh_last))]
     fn fresh(&self) -> Result<u64, OutOfMemory>
         ensures { IfOk result (λ n. n ≡ fresh (layers_of self.now)) }
@@ -316,7 +316,7 @@ impl Scopes {
         }
     }
 
-    // One more layer.
+    /// One more layer.
     fn open(&mut self, outer: Option<u64>, depth: u64) -> Result<Chain, OutOfMemory>
         requires { stands outer depth (layers_of self.old) ≡ true }
         ensures number { IfOk result (λ c. c.number ≡ fresh (layers_of self.old)) }
@@ -341,7 +341,7 @@ impl Scopes {
     }
 }
 
-// What a variable counts: 2, the bytes of its name and the size of its value.
+/// What a variable counts: 2, the bytes of its name and the size of its value.
 fn size_of_variable(name: &str, value: &Value) -> u64
     ensures { result ≡ min (2 + length name.now + size (plain value.now)) 18446744073709551615 }
 {
@@ -351,7 +351,7 @@ fn size_of_variable(name: &str, value: &Value) -> u64
         .saturating_add(name.len() as u64)
 }
 
-// Makes or changes a variable of the layer at a place. Without memory all stays.
+/// Makes or changes a variable of the layer at a place. Without memory all stays.
 fn put(layers: &mut Vec<Layer>, place: usize, name: &Text, value: Value) -> Result<(), OutOfMemory>
     requires { place < length layers.old.items }
     ensures { layers.new.items ≡ (if is_ok result then put_place place name.now (plain value)

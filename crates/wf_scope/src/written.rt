@@ -32,7 +32,7 @@ pub(crate) fn written(
     }
 }
 
-// What stands at a place of a value.
+/// What stands at a place of a value.
 fn member<'a>(key: &Key, value: &'a Value) -> Result<&'a Value, AssignFault>
     ensures { Lends result (faulted (member (key_data key.now) (plain value.now))) }
 {
@@ -54,7 +54,7 @@ fn member<'a>(key: &Key, value: &'a Value) -> Result<&'a Value, AssignFault>
     }
 }
 
-// The item at an index.
+/// The item at an index.
 fn item_at(index: i64, items: &[Value]) -> Option<&Value>
     ensures { option_map (λ v. plain v.now) result ≡ item_at index (plain_items items.now) }
 {
@@ -64,7 +64,7 @@ fn item_at(index: i64, items: &[Value]) -> Option<&Value>
     }
 }
 
-// The value with a new one at a place.
+/// The value with a new one at a place.
 fn with_member(alloc: Global, key: &Key, new: Value, value: &Value) -> Result<Value, AssignFault>
     ensures { Gives result (faulted
         (with_member (key_data key.now) (plain new) (plain value.now))) }
@@ -78,7 +78,7 @@ fn with_member(alloc: Global, key: &Key, new: Value, value: &Value) -> Result<Va
     }
 }
 
-// The value with a new one at a key.
+/// The value with a new one at a key.
 fn with_key(alloc: Global, name: &Text, new: Value, value: &Value) -> Result<Value, AssignFault>
     ensures { Gives result (faulted (with_key name.now (plain new) (plain value.now))) }
 {
@@ -95,7 +95,7 @@ fn with_key(alloc: Global, name: &Text, new: Value, value: &Value) -> Result<Val
     Ok(changed)
 }
 
-// The list of these items with a new one at an index.
+/// The list of these items with a new one at an index.
 fn with_item(alloc: Global, index: i64, new: Value, items: &[Value]) -> Result<Value, AssignFault>
     ensures { Gives result (faulted (with_item index (plain new) (plain_items items.now))) }
 {
@@ -108,7 +108,7 @@ fn with_item(alloc: Global, index: i64, new: Value, items: &[Value]) -> Result<V
     }
 }
 
-// The list of these items with a new one at a place.
+/// The list of these items with a new one at a place.
 fn replaced(alloc: Global, items: &[Value], place: usize, new: Value) -> Result<List, OutOfMemory>
     requires { place < length items.now }
     ensures { IfOk result (λ l. l ≡ slice_set (plain_items items.now) place (plain new)) }
@@ -122,7 +122,7 @@ fn replaced(alloc: Global, items: &[Value], place: usize, new: Value) -> Result<
     Ok(list)
 }
 
-// Adds equal items at the end of a list.
+/// Adds equal items at the end of a list.
 fn append(alloc: Global, list: &mut List, items: &[Value]) -> Result<(), OutOfMemory>
     ensures { IfOk result (λ _. list.new ≡ list.old ++ plain_items items.now) }
 {

@@ -9,7 +9,7 @@ use wf_status::{Place, Refusal, RefusalKind};
 use wf_syntax_rules::SyntaxKind;
 use wf_value::Path;
 
-// The kind of an expression's fault.
+/// The kind of an expression's fault.
 fn expression_kind(fault: ExprFault) -> RefusalKind
     ensures { result ≡ programs.expression_kind fault }
 {
@@ -25,7 +25,7 @@ fn expression_kind(fault: ExprFault) -> RefusalKind
     }
 }
 
-// The place of an expression's fault in its text, from behind its `${`; none where it is too long.
+/// The place of an expression's fault in its text, from behind its `${`; none where it is too long.
 fn expression_place(fault: ExprFault, path: Path) -> Place
     ensures { result ≡ programs.expression_place fault path }
 {
@@ -41,7 +41,7 @@ fn expression_place(fault: ExprFault, path: Path) -> Place
     }
 }
 
-// The refusal of a tree that breaks a rule at a path.
+/// The refusal of a tree that breaks a rule at a path.
 pub(crate) fn refusal_of(kind: SyntaxKind, path: Path) -> Refusal
     ensures { result ≡ programs.refusal_of kind path }
 {
@@ -59,7 +59,7 @@ pub(crate) fn refusal_of(kind: SyntaxKind, path: Path) -> Refusal
     Refusal { kind, place }
 }
 
-// The kind of what the checker says.
+/// The kind of what the checker says.
 fn check_kind(kind: CheckKind) -> RefusalKind
     ensures { result ≡ programs.check_kind kind }
 {
@@ -80,7 +80,7 @@ fn check_kind(kind: CheckKind) -> RefusalKind
     }
 }
 
-// The refusal of a program of which the checker says this at a path.
+/// The refusal of a program of which the checker says this at a path.
 pub(crate) fn said_refusal(kind: CheckKind, path: Path) -> Refusal
     ensures { result ≡ programs.said_refusal (record { kind = kind; place = path }) }
 {

@@ -17,7 +17,7 @@ use wf_yaml::{Fault, Kind, YamlFault, read_yaml};
 /// The greatest length of a source, in bytes.
 pub const SOURCE_LIMIT: usize = 131_072;
 
-// A refusal of the source as a whole.
+/// A refusal of the source as a whole.
 fn refused(kind: RefusalKind) -> SourceFault
     ensures { result ≡ faults.Refused (sources.refused kind) }
 {
@@ -27,7 +27,7 @@ fn refused(kind: RefusalKind) -> SourceFault
     })
 }
 
-// Without a mark U+FEFF at the start.
+/// Without a mark U+FEFF at the start.
 fn without_mark(bytes: &[u8]) -> &[u8]
     ensures same { result.now ≡ sources.without_mark bytes.now }
     ensures length { length result.now ≤ length bytes.now }
@@ -38,7 +38,7 @@ fn without_mark(bytes: &[u8]) -> &[u8]
     }
 }
 
-// Whether the first byte that isn't white is `{` or `[`.
+/// Whether the first byte that isn't white is `{` or `[`.
 fn is_json(text: &[u8]) -> bool
     ensures { result ≡ sources.is_json text.now }
 {
@@ -52,12 +52,13 @@ fn is_json(text: &[u8]) -> bool
     false
 }
 
-// The tree of a text that is taken for JSON.
+/// The tree of a text that is taken for JSON.
 fn json_tree(alloc: Global, text: &str) -> Result<Tree, SourceFault>
     ensures tree { IfOk result (λ t. sources.of_json (read text.now) ≡ Ok (plain_tree t)) }
     ensures depth { IfOk result (λ t. depth (plain_tree t) ≤ 100) }
     ensures fault { IfErr result (Tells (sources.of_json (read text.now))) }
 {
+    // laws that the proof uses
     reading_is_decided();
     match read_json(alloc, text) {
         Ok(tree) => Ok(tree),
@@ -71,7 +72,7 @@ fn json_tree(alloc: Global, text: &str) -> Result<Tree, SourceFault>
     }
 }
 
-// The kind of a refusal in YAML.
+/// The kind of a refusal in YAML.
 fn yaml_kind(kind: Kind) -> RefusalKind
     ensures { result ≡ sources.yaml_kind kind }
 {
@@ -89,7 +90,7 @@ fn yaml_kind(kind: Kind) -> RefusalKind
     }
 }
 
-// A refusal in YAML, at its line.
+/// A refusal in YAML, at its line.
 fn yaml_refusal(fault: Fault) -> Refusal
     ensures { result ≡ sources.yaml_refusal fault }
 {
@@ -99,7 +100,7 @@ fn yaml_refusal(fault: Fault) -> Refusal
     }
 }
 
-// The tree of a text that is taken for YAML.
+/// The tree of a text that is taken for YAML.
 fn yaml_tree(alloc: Global, text: &str) -> Result<Tree, SourceFault>
     requires { length text.now < 4294967296 }
     ensures tree { IfOk result (λ t. sources.of_yaml (reading text.now) ≡ Ok (plain_tree t)) }
@@ -113,7 +114,7 @@ fn yaml_tree(alloc: Global, text: &str) -> Result<Tree, SourceFault>
     }
 }
 
-// The tree of a text, by the reader that its first byte chooses.
+/// The tree of a text, by the reader that its first byte chooses.
 fn text_tree(alloc: Global, text: &str) -> Result<Tree, SourceFault>
     requires { length text.now < 4294967296 }
     ensures tree { IfOk result (λ t. sources.text_tree text.now ≡ Ok (plain_tree t)) }
@@ -127,7 +128,7 @@ fn text_tree(alloc: Global, text: &str) -> Result<Tree, SourceFault>
     }
 }
 
-// The tree of what stands behind a mark.
+/// The tree of what stands behind a mark.
 fn content_tree(alloc: Global, content: &[u8]) -> Result<Tree, SourceFault>
     requires { length content.now < 4294967296 }
     ensures tree { IfOk result (λ t. sources.content_tree content.now ≡ Ok (plain_tree t)) }

@@ -35,8 +35,8 @@ pub fn tokens(alloc: Global, src: &str) -> Result<Tokens<'_>, LexFault>
     }
 }
 
-// The token that a source, which goes on at this place with no blank, begins with, and what stands
-// behind it.
+/// The token that a source, which goes on at this place with no blank, begins with, and what stands
+/// behind it.
 fn first_token<'a>(source: &'a str, at: u32) -> Result<(Token<'a>, &'a str), LexFault>
     requires some { 0 < length source.now }
     requires no_blank { count_while is_blank source.now ≡ 0 }

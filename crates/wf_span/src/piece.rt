@@ -5,7 +5,7 @@ ghost use Rattle.wf_span.specs.Scans.{count_while, text_end, first_bad, closed_a
 
 use crate::token::TokenKind;
 
-// What begins at a place.
+/// What begins at a place.
 #[derive(Debug, Clone, Copy, PartialEq, Eq)]
 pub(crate) enum Begins {
     // no token
@@ -18,7 +18,7 @@ pub(crate) enum Begins {
     Bad(usize),
 }
 
-// How a text goes on behind its first quote. Places are counted from that quote.
+/// How a text goes on behind its first quote. Places are counted from that quote.
 #[derive(Debug, Clone, Copy, PartialEq, Eq)]
 pub(crate) enum TextEnd {
     Closed(usize),
@@ -26,7 +26,7 @@ pub(crate) enum TextEnd {
     Open,
 }
 
-// What begins here.
+/// What begins here.
 pub(crate) fn piece(bytes: &[u8]) -> Begins
     requires { length bytes.now < 4294967296 }
     ensures { result ≡ piece_at bytes.now }
@@ -71,7 +71,7 @@ fn behind(bytes: &[u8]) -> &[u8]
     }
 }
 
-// How long the mark is that begins here, or 0.
+/// How long the mark is that begins here, or 0.
 fn mark_length(bytes: &[u8]) -> usize
     ensures { result ≡ mark_of bytes.now }
 {
@@ -106,7 +106,7 @@ fn is_pair(byte: u8, next: u8) -> bool
         || (byte == b'/' && next == b'/')
 }
 
-// How many of the first bytes are blanks.
+/// How many of the first bytes are blanks.
 pub(crate) fn blank_length(bytes: &[u8]) -> usize
     ensures { result ≡ count_while is_blank bytes.now }
 {
@@ -120,7 +120,7 @@ pub(crate) fn blank_length(bytes: &[u8]) -> usize
     count
 }
 
-// How many of the first bytes are digits.
+/// How many of the first bytes are digits.
 fn number_length(bytes: &[u8]) -> usize
     ensures { result ≡ count_while is_digit bytes.now }
 {
@@ -134,7 +134,7 @@ fn number_length(bytes: &[u8]) -> usize
     count
 }
 
-// How many of the first bytes are a name's.
+/// How many of the first bytes are a name's.
 fn name_length(bytes: &[u8]) -> usize
     ensures { result ≡ count_while is_name_byte bytes.now }
 {
@@ -154,8 +154,8 @@ fn is_name_part(byte: u8) -> bool
     byte.is_ascii_alphanumeric() || byte == b'_'
 }
 
-// Where a text ends that a quote has begun: behind its closing quote; or the first bad escape in
-// it; or nowhere.
+/// Where a text ends that a quote has begun: behind its closing quote; or the first bad escape in
+/// it; or nowhere.
 fn end_of_text(quote: u8, bytes: &[u8]) -> TextEnd
     requires { length bytes.now < 4294967296 }
     ensures { result ≡ text_end quote bytes.now }
@@ -183,7 +183,7 @@ fn end_of_text(quote: u8, bytes: &[u8]) -> TextEnd
     TextEnd::Open
 }
 
-// The first bad escape, where this one stands at a place and is fine or not.
+/// The first bad escape, where this one stands at a place and is fine or not.
 fn first_of(fine: bool, bad: Option<usize>, at: usize) -> Option<usize>
     ensures { result ≡ first_bad fine bad at }
 {

@@ -57,8 +57,8 @@ impl<'a> Iterator for Lines<'a> {
     }
 }
 
-// The text of the first line, what stands behind the line, and how many bytes it takes with its
-// end.
+/// The text of the first line, what stands behind the line, and how many bytes it takes with its
+/// end.
 fn first_text(source: &str) -> (&str, &str, usize)
     requires { 0 < length source.now }
     ensures lines { IsFirstText source.now result.0.now result.1.now result.2 }
@@ -72,7 +72,7 @@ fn first_text(source: &str) -> (&str, &str, usize)
     }
 }
 
-// The text without the CR at its end, if it has one.
+/// The text without the CR at its end, if it has one.
 fn without_return(text: &str) -> &str
     ensures value { result.now ≡ unreturned text.now }
     ensures len { length result.now ≤ length text.now }
@@ -83,7 +83,7 @@ fn without_return(text: &str) -> &str
     }
 }
 
-// The text without the spaces at its start.
+/// The text without the spaces at its start.
 fn without_spaces(text: &str) -> &str
     ensures rest { result.now ≡ drop (spaces text.now) text.now }
     ensures len { length result.now + spaces text.now ≡ length text.now }

@@ -92,7 +92,7 @@ impl Status {
     }
 }
 
-// A line that ends with a number in decimal.
+/// A line that ends with a number in decimal.
 fn numbered(alloc: Global, what: &str, number: u32) -> Result<Text, OutOfMemory>
     ensures { IfOk result (λ t. t ≡ what.now ++ line_end (decimal number)) }
 {

@@ -13,7 +13,7 @@ use std::alloc::Global;
 use wf_ast::{Arms, Body, Branches, LoopBody, Params, StepList, Texts, TryBody, Work};
 use wf_value::OutOfMemory;
 
-// The names of a block's own steps.
+/// The names of a block's own steps.
 pub(crate) fn own_names(alloc: Global, steps: &StepList) -> Result<Names, OutOfMemory>
     ensures { IfOk result (λ names. (x : Bytes)
         → is_among x (names_of names) ≡ has_step x (steps_in steps.now)) }
@@ -130,7 +130,7 @@ fn add_try_names(names: &mut Names, tried: &TryBody) -> Result<(), OutOfMemory>
     }
 }
 
-// Adds the names that a list of steps assigns in the layer in which it stands.
+/// Adds the names that a list of steps assigns in the layer in which it stands.
 #[cycle(assigned)]
 pub(crate) fn add_assigned(names: &mut Names, steps: &StepList) -> Result<(), OutOfMemory>
     ensures { OnOk result (Adds names.old names.new (assigned (steps_in steps.now))) }

@@ -17,11 +17,12 @@ use wf_expr::{ExprFault, one_target, parse_target};
 use wf_syntax_rules::SyntaxKind;
 use wf_tree::{Tree, TreeMap};
 
-// The target that a key is.
+/// The target that a key is.
 fn target(alloc: Global, key: &str) -> Result<Target, Stop>
     ensures { MatchResult result (λ x. Gives ATarget (text key.now)
         (IsTarget key.now (target_view x))) (λ stop. Fails ATarget (text key.now) stop) }
 {
+    // laws that the proof uses
     one_target();
     match parse_target(alloc, key) {
         Ok(target) => Ok(target),
@@ -30,7 +31,7 @@ fn target(alloc: Global, key: &str) -> Result<Target, Stop>
     }
 }
 
-// An assignment: a map of one, whose key is a target.
+/// An assignment: a map of one, whose key is a target.
 fn entry(alloc: Global, tree: &Tree) -> Result<Entry, Stop>
     ensures { MatchResult result (λ e. Gives AnEntry (plain_tree tree.now)
         (IsEntry (entry_view e) (plain_tree tree.now)))
@@ -68,7 +69,7 @@ fn entries(alloc: Global, tree: &Tree) -> Result<Entries, Stop>
     Ok(made)
 }
 
-// The assignments at a key, if they are there.
+/// The assignments at a key, if they are there.
 pub(crate) fn entries_at(
     alloc: Global,
     fields: &TreeMap,

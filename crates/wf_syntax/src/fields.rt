@@ -10,7 +10,7 @@ use crate::names::is_among;
 use wf_syntax_rules::SyntaxKind;
 use wf_tree::{Tree, TreeMap};
 
-// The pair of a map of one.
+/// The pair of a map of one.
 pub(crate) fn single(tree: &Tree) -> Option<(&str, &Tree)>
     ensures { option_map (λ p. (p.0.now, plain_tree p.1.now)) result
         ≡ rules.single_of (plain_tree tree.now) }
@@ -25,7 +25,7 @@ pub(crate) fn single(tree: &Tree) -> Option<(&str, &Tree)>
     }
 }
 
-// The tree at a key.
+/// The tree at a key.
 pub(crate) fn field<'a>(fields: &'a TreeMap, key: &str) -> Option<&'a Tree>
     ensures { option_map (λ t. plain_tree t.now) result
         ≡ rules.field key.now (pairs_of fields.now) }
@@ -50,7 +50,7 @@ fn has_all(fields: &TreeMap, keys: &[&str]) -> bool
     true
 }
 
-// Whether a map has keys of two lists alone.
+/// Whether a map has keys of two lists alone.
 fn has_only(fields: &TreeMap, some: &[&str], others: &[&str]) -> bool
     ensures { result ≡ rules.has_only (map (λ k. k.now) some.now ++ map (λ k. k.now) others.now)
         (pairs_of fields.now) }
@@ -69,7 +69,7 @@ fn is_in_either(key: &str, some: &[&str], others: &[&str]) -> bool
     is_among(key, some) || is_among(key, others)
 }
 
-// The fault of a map that must have some keys and may have others.
+/// The fault of a map that must have some keys and may have others.
 pub(crate) fn map_fault(fields: &TreeMap, musts: &[&str], mays: &[&str]) -> Option<SyntaxKind>
     ensures { result ≡ rules.map_fault (map (λ k. k.now) musts.now) (map (λ k. k.now) mays.now)
         (pairs_of fields.now) }
@@ -83,7 +83,7 @@ pub(crate) fn map_fault(fields: &TreeMap, musts: &[&str], mays: &[&str]) -> Opti
     }
 }
 
-// The fault of a `for`.
+/// The fault of a `for`.
 pub(crate) fn loop_fault(fields: &TreeMap) -> Option<SyntaxKind>
     ensures { result ≡ rules.loop_fault (pairs_of fields.now) }
 {
@@ -98,7 +98,7 @@ pub(crate) fn loop_fault(fields: &TreeMap) -> Option<SyntaxKind>
     }
 }
 
-// The fault of a `parallel`.
+/// The fault of a `parallel`.
 pub(crate) fn parallel_fault(fields: &TreeMap) -> Option<SyntaxKind>
     ensures { result ≡ rules.parallel_fault (pairs_of fields.now) }
 {
@@ -114,7 +114,7 @@ pub(crate) fn parallel_fault(fields: &TreeMap) -> Option<SyntaxKind>
     }
 }
 
-// The fault of the map of a `try`.
+/// The fault of the map of a `try`.
 pub(crate) fn try_fault(fields: &TreeMap) -> Option<SyntaxKind>
     ensures { result ≡ rules.try_fault (pairs_of fields.now) }
 {
@@ -125,12 +125,12 @@ pub(crate) fn try_fault(fields: &TreeMap) -> Option<SyntaxKind>
     }
 }
 
-// The forms of a body.
+/// The forms of a body.
 const FORMS: [&str; 9] = [
     "assign", "call", "for", "parallel", "raise", "return", "steps", "switch", "try",
 ];
 
-// The forms of a body, each with its fields.
+/// The forms of a body, each with its fields.
 const FORM_FIELDS: [(&str, &[&str]); 9] = [
     ("assign", &["assign", "next"]),
     ("call", &["args", "call", "next", "result"]),
@@ -143,7 +143,7 @@ const FORM_FIELDS: [(&str, &[&str]); 9] = [
     ("try", &["except", "next", "retry", "try"]),
 ];
 
-// How many of these keys a map has.
+/// How many of these keys a map has.
 fn count_of(fields: &TreeMap, keys: &[&str]) -> usize
     ensures { result ≡ count_of (pairs_of fields.now) (map (λ k. k.now) keys.now) }
 {
@@ -156,7 +156,7 @@ fn count_of(fields: &TreeMap, keys: &[&str]) -> usize
     count
 }
 
-// Whether a map has some keys and those of its form alone: `next` without a form, and none with two forms.
+/// Whether a map has some keys and those of its form alone: `next` without a form, and none with two forms.
 fn has_only_of_form(fields: &TreeMap, others: &[&str]) -> bool
     ensures { result ≡ rules.has_only
         (map (λ k. k.now) others.now ++ rules.body_fields (pairs_of fields.now))
@@ -169,7 +169,7 @@ fn has_only_of_form(fields: &TreeMap, others: &[&str]) -> bool
     }
 }
 
-// The same, by the first form that the map has.
+/// The same, by the first form that the map has.
 fn has_only_of_first(fields: &TreeMap, others: &[&str]) -> bool
     ensures { result ≡ rules.has_only
         (map (λ k. k.now) others.now ++ first_fields rules.forms (pairs_of fields.now))
@@ -178,7 +178,7 @@ fn has_only_of_first(fields: &TreeMap, others: &[&str]) -> bool
     has_only(fields, others, fields_of_first(fields))
 }
 
-// The fields of the first form that a map has.
+/// The fields of the first form that a map has.
 fn fields_of_first(fields: &TreeMap) -> &'static [&'static str]
     ensures { map (λ k. k.now) result.now ≡ first_fields rules.forms (pairs_of fields.now) }
 {
@@ -196,7 +196,7 @@ fn is_empty(fields: &TreeMap) -> bool
     fields.pairs().is_empty()
 }
 
-// The fault of the fields of a step.
+/// The fault of the fields of a step.
 pub(crate) fn step_fault(fields: &TreeMap) -> Option<SyntaxKind>
     ensures { result ≡ rules.step_fault (pairs_of fields.now) }
 {
@@ -209,7 +209,7 @@ pub(crate) fn step_fault(fields: &TreeMap) -> Option<SyntaxKind>
     }
 }
 
-// The fault of the fields of an arm.
+/// The fault of the fields of an arm.
 pub(crate) fn arm_fault(fields: &TreeMap) -> Option<SyntaxKind>
     ensures { result ≡ rules.arm_fault (pairs_of fields.now) }
 {

@@ -21,7 +21,7 @@ use wf_ast::{Flow, Flows, Param, Params, Program};
 use wf_syntax_rules::SyntaxKind;
 use wf_tree::{Tree, TreeMap};
 
-// A parameter: its name, or a map of one from its name to its default.
+/// A parameter: its name, or a map of one from its name to its default.
 fn param(alloc: Global, tree: &Tree) -> Result<Param, Stop>
     ensures { MatchResult result (λ p. Gives Parameter (plain_tree tree.now)
         (IsParam (param_view p) (plain_tree tree.now)))
@@ -45,7 +45,7 @@ fn param(alloc: Global, tree: &Tree) -> Result<Param, Stop>
     }
 }
 
-// A parameter without a default.
+/// A parameter without a default.
 fn bare_param(alloc: Global, name: &str) -> Result<Param, Stop>
     ensures { MatchResult result (λ p. Gives Parameter (text name.now)
         (IsParam (param_view p) (text name.now))) (λ stop. Fails Parameter (text name.now) stop) }
@@ -79,7 +79,7 @@ fn params(alloc: Global, tree: &Tree) -> Result<Params, Stop>
     Ok(made)
 }
 
-// The parameters at a key, and none where they aren't there.
+/// The parameters at a key, and none where they aren't there.
 fn params_at(alloc: Global, fields: &TreeMap, key: &str) -> Result<Params, Stop>
     ensures { MatchResult result (λ ps. GivesAll (at key.now Parameters (pairs_of fields.now))
         (Else (params_view ps) [] key.now (pairs_of fields.now) AreParams))
@@ -94,7 +94,7 @@ fn params_at(alloc: Global, fields: &TreeMap, key: &str) -> Result<Params, Stop>
     }
 }
 
-// The workflow of a name.
+/// The workflow of a name.
 fn flow(alloc: Global, name: &str, tree: &Tree) -> Result<Flow, Stop>
     ensures { MatchResult result (λ f. Gives (rules.Flow name.now) (plain_tree tree.now)
         (IsFlow (flow_view f) name.now (plain_tree tree.now)))
@@ -120,7 +120,7 @@ fn flow(alloc: Global, name: &str, tree: &Tree) -> Result<Flow, Stop>
     }
 }
 
-// The workflows of a map: `main` first, then the others by name.
+/// The workflows of a map: `main` first, then the others by name.
 pub(crate) fn program(alloc: Global, fields: &TreeMap) -> Result<Program, Stop>
     ensures { MatchResult result (λ p. Gives AllFlows (map (pairs_of fields.now))
         (IsProgram (program_view p) (map (pairs_of fields.now))))
@@ -155,7 +155,7 @@ pub(crate) fn program(alloc: Global, fields: &TreeMap) -> Result<Program, Stop>
     }
 }
 
-// `main`, then the others.
+/// `main`, then the others.
 fn in_order(alloc: Global, main: Flow, others: Vec<Flow>) -> Result<Flows, Stop>
     ensures { MatchResult result (λ fs. flows_view fs
         ≡ flow_view main ∷ list_map flow_view others.items) (λ s. s ≡ stop.OutOfMemory) }
@@ -168,7 +168,7 @@ fn in_order(alloc: Global, main: Flow, others: Vec<Flow>) -> Result<Flows, Stop>
     Ok(flows)
 }
 
-// The program whose only workflow has these steps.
+/// The program whose only workflow has these steps.
 pub(crate) fn main_alone(alloc: Global, tree: &Tree) -> Result<Program, Stop>
     ensures { MatchResult result (λ p. OfList (plain_tree tree.now)
         (λ xs. Gives AllFlows (rooted (list xs)) (IsProgram (program_view p) (rooted (list xs)))))

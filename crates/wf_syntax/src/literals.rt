@@ -17,7 +17,7 @@ use wf_syntax_rules::SyntaxKind;
 use wf_tree::Tree;
 use wf_value::{List, Map, Text, Value};
 
-// A value without expressions.
+/// A value without expressions.
 #[cycle(literal)]
 pub(crate) fn literal(alloc: Global, tree: &Tree) -> Result<Value, Stop>
     ensures { MatchResult result (λ v. Gives Literal (plain_tree tree.now)
@@ -57,7 +57,7 @@ fn literals(alloc: Global, items: &[Tree]) -> Result<List, Stop>
     Ok(made)
 }
 
-// The pairs stand in the order of their keys.
+/// The pairs stand in the order of their keys.
 #[cycle(literal)]
 fn named_literals(alloc: Global, pairs: &[(Text, Tree)]) -> Result<Map, Stop>
     requires { IsInOrder pairs.now }

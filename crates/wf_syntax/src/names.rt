@@ -9,7 +9,7 @@ const RESERVED: [&str; 11] = [
     "and", "or", "not", "in", "null", "true", "True", "TRUE", "false", "False", "FALSE",
 ];
 
-// Whether a text is one of some words.
+/// Whether a text is one of some words.
 pub(crate) fn is_among(text: &str, words: &[&str]) -> bool
     ensures { result ≡ among text.now (map (λ w. w.now) words.now) }
 {
@@ -21,7 +21,7 @@ pub(crate) fn is_among(text: &str, words: &[&str]) -> bool
     false
 }
 
-// Whether a text is a name: a letter or `_`, then letters, digits and `_`, and no word that is reserved.
+/// Whether a text is a name: a letter or `_`, then letters, digits and `_`, and no word that is reserved.
 pub(crate) fn is_name(text: &str) -> bool
     ensures { result ≡ names.is_name text.now }
 {
@@ -46,14 +46,14 @@ fn are_name_bytes(bytes: &[u8]) -> bool
         .all(|byte| is_letter(*byte) || byte.is_ascii_digit())
 }
 
-// Whether a step may have this name.
+/// Whether a step may have this name.
 pub(crate) fn is_step_name(text: &str) -> bool
     ensures { result ≡ names.is_step_name text.now }
 {
     !(text.is_empty() || is_among(text, &["end", "break", "continue"]))
 }
 
-// The text without the marks `${` and `}` around it, if it has both.
+/// The text without the marks `${` and `}` around it, if it has both.
 pub(crate) fn unmarked(text: &str) -> &str
     ensures { result.now ≡ names.unmarked text.now }
 {

@@ -9,7 +9,7 @@ ghost use Rattle.wf_tree.specs.Trees.{integer, text};
 
 use wf_tree::Tree;
 
-// A whole number from a least to a greatest.
+/// A whole number from a least to a greatest.
 pub(crate) fn whole_within(tree: &Tree, least: u32, most: u32) -> Option<u32>
     ensures { result ≡ numbers.whole_within least most (plain_tree tree.now) }
 {
@@ -25,7 +25,7 @@ pub(crate) fn whole_within(tree: &Tree, least: u32, most: u32) -> Option<u32>
     }
 }
 
-// A number in thousandths, up to a greatest.
+/// A number in thousandths, up to a greatest.
 pub(crate) fn thousandths_to(tree: &Tree, most: u64) -> Option<u64>
     ensures { result ≡ numbers.thousandths_to most (plain_tree tree.now) }
 {
@@ -38,7 +38,7 @@ pub(crate) fn thousandths_to(tree: &Tree, most: u64) -> Option<u64>
     if found <= most { Some(found) } else { None }
 }
 
-// The thousandths of a whole number, where they are a number of 64 bits.
+/// The thousandths of a whole number, where they are a number of 64 bits.
 fn of_whole(number: i64) -> Option<u64>
     ensures { result ≡ numbers.at_most (2 ^ 64 - 1) (numbers.thousandths (integer number)) }
 {
@@ -48,7 +48,7 @@ fn of_whole(number: i64) -> Option<u64>
     }
 }
 
-// The thousandths of digits, or of a decimal.
+/// The thousandths of digits, or of a decimal.
 fn of_text(written: &str) -> Option<u64>
     ensures { result ≡ numbers.at_most (2 ^ 64 - 1) (numbers.thousandths (text written.now)) }
 {
@@ -59,7 +59,7 @@ fn of_text(written: &str) -> Option<u64>
     }
 }
 
-// The thousandths of one to eight digits, a point and one to three digits.
+/// The thousandths of one to eight digits, a point and one to three digits.
 fn of_decimal(text: &str) -> Option<u64>
     ensures { result ≡ numbers.of_decimal text.now }
 {
@@ -75,7 +75,7 @@ fn of_decimal(text: &str) -> Option<u64>
     }
 }
 
-// The thousandths of the digits before a point and behind it.
+/// The thousandths of the digits before a point and behind it.
 fn joined(whole: &str, part: &str) -> Option<u64>
     requires whole { numbers.is_digits 8 whole.now ≡ true }
     requires part { numbers.is_digits 3 part.now ≡ true }
@@ -85,7 +85,7 @@ fn joined(whole: &str, part: &str) -> Option<u64>
     Some(parsed(whole)? * 1000 + parsed(part)? * scale(part.len()))
 }
 
-// The number that digits write, where it is one of 64 bits.
+/// The number that digits write, where it is one of 64 bits.
 fn parsed(digits: &str) -> Option<u64>
     requires { numbers.is_digits (length digits.now) digits.now ≡ true }
     ensures { result ≡ numbers.at_most (2 ^ 64 - 1) (Some (digits_value 10 digits.now)) }
@@ -93,7 +93,7 @@ fn parsed(digits: &str) -> Option<u64>
     digits.parse::<u64>().ok()
 }
 
-// What a number of so many digits behind the point is multiplied with.
+/// What a number of so many digits behind the point is multiplied with.
 fn scale(digits: usize) -> u64
     ensures { result ≡ 10 ^ (3 - digits) }
 {
@@ -105,7 +105,7 @@ fn scale(digits: usize) -> u64
     }
 }
 
-// Whether a text is of digits, one at least and so many at most.
+/// Whether a text is of digits, one at least and so many at most.
 fn are_digits(text: &str, most: usize) -> bool
     ensures { result ≡ numbers.is_digits most text.now }
 {

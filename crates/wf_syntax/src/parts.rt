@@ -19,7 +19,7 @@ use wf_ast::{
 use wf_tree::TreeMap;
 use wf_value::Text;
 
-// Each field of all forms, where it is there, in four groups in the order of the bytes of their keys.
+/// Each field of all forms, where it is there, in four groups in the order of the bytes of their keys.
 #[derive(Drop)]
 pub(crate) struct Parts {
     pub(crate) calls: CallParts,
@@ -28,7 +28,7 @@ pub(crate) struct Parts {
     pub(crate) blocks: BlockParts,
 }
 
-// The fields from `args` to `condition`.
+/// The fields from `args` to `condition`.
 pub(crate) struct CallParts {
     pub(crate) args: NamedTemplates,
     pub(crate) assign: Option<Entries>,
@@ -36,7 +36,7 @@ pub(crate) struct CallParts {
     pub(crate) condition: Option<Template>,
 }
 
-// The fields from `except` to `parallel`.
+/// The fields from `except` to `parallel`.
 pub(crate) struct LoopParts {
     pub(crate) except: Option<Except>,
     pub(crate) repeated: Option<LoopBody>,
@@ -44,7 +44,7 @@ pub(crate) struct LoopParts {
     pub(crate) parallel: Option<ParallelBody>,
 }
 
-// The fields from `raise` to `return`.
+/// The fields from `raise` to `return`.
 pub(crate) struct ValueParts {
     pub(crate) raised: Option<Template>,
     pub(crate) result: Option<Text>,
@@ -52,7 +52,7 @@ pub(crate) struct ValueParts {
     pub(crate) returned: Option<Template>,
 }
 
-// The fields from `steps` to `try`.
+/// The fields from `steps` to `try`.
 pub(crate) struct BlockParts {
     pub(crate) steps: Option<StepList>,
     pub(crate) switch: Option<Arms>,
@@ -103,17 +103,17 @@ impl Drop for BlockParts {
     }
 }
 
-// A condition where there is one, what is done, and where it goes on.
+/// A condition where there is one, what is done, and where it goes on.
 pub(crate) type Parted = (Option<Template>, Body, Option<Text>);
 
-// An error's handler and the next step, where they are there, and the loop or parallel step.
+/// An error's handler and the next step, where they are there, and the loop or parallel step.
 type Looped = (Option<Except>, Option<Text>, Option<Body>);
 
-// Where a result goes and how often is tried, where they are there, and what is raised or returned.
+/// Where a result goes and how often is tried, where they are there, and what is raised or returned.
 type Valued = (Option<Text>, Option<Policy>, Option<Body>);
 
 impl Parts {
-    // The first form that is there, and what every form may have.
+    /// The first form that is there, and what every form may have.
     pub(crate) fn body(self, alloc: Global) -> Result<Parted, Stop>
         ensures { MatchResult result (λ r. (r.0 ≡ self.calls.condition)
             × (body_view r.1 ≡ body_of self)
@@ -135,7 +135,7 @@ impl Parts {
 }
 
 impl CallParts {
-    // The condition, and the assignments or the call.
+    /// The condition, and the assignments or the call.
     fn body(self, stored: Option<Text>) -> (Option<Template>, Option<Body>)
         ensures condition { result.0 ≡ self.condition }
         ensures form { option_map body_view result.1 ≡ call_form self stored }
@@ -162,7 +162,7 @@ impl CallParts {
 }
 
 impl LoopParts {
-    // The handler, the next step, and the loop or the parallel step.
+    /// The handler, the next step, and the loop or the parallel step.
     fn body(self) -> Looped
         ensures except { result.0 ≡ self.except }
         ensures next { result.1 ≡ self.next }
@@ -186,7 +186,7 @@ impl LoopParts {
 }
 
 impl ValueParts {
-    // The name for the result, the policy, and what is raised or returned.
+    /// The name for the result, the policy, and what is raised or returned.
     fn body(self) -> Valued
         ensures name { result.0 ≡ self.result }
         ensures retry { result.1 ≡ self.retry }
@@ -210,7 +210,7 @@ impl ValueParts {
 }
 
 impl BlockParts {
-    // The steps, the arms or what is tried, or else nothing.
+    /// The steps, the arms or what is tried, or else nothing.
     fn body(
         self,
         alloc: Global,
@@ -235,7 +235,7 @@ impl BlockParts {
     }
 }
 
-// A form where it is there, or else another.
+/// A form where it is there, or else another.
 fn first(form: Option<Body>, other: Body) -> Body
     ensures { body_view result ≡ first_of (option_map body_view form) (body_view other) }
 {
@@ -245,7 +245,7 @@ fn first(form: Option<Body>, other: Body) -> Body
     }
 }
 
-// A `try`, or nothing where there is no body to try.
+/// A `try`, or nothing where there is no body to try.
 fn try_body(
     alloc: Global,
     tried: Option<Body>,
@@ -271,7 +271,7 @@ fn try_body(
     }
 }
 
-// What stands in the fields from `args` to `condition`.
+/// What stands in the fields from `args` to `condition`.
 pub(crate) fn call_parts(alloc: Global, fields: &TreeMap) -> Result<CallParts, Stop>
     ensures { MatchResult result (λ p. GivesAll (row (pairs_of fields.now) call_part_keys)
         (AreCallParts p (pairs_of fields.now)))
@@ -285,7 +285,7 @@ pub(crate) fn call_parts(alloc: Global, fields: &TreeMap) -> Result<CallParts, S
     })
 }
 
-// What stands in the fields from `raise` to `return`.
+/// What stands in the fields from `raise` to `return`.
 pub(crate) fn value_parts(alloc: Global, fields: &TreeMap) -> Result<ValueParts, Stop>
     ensures { MatchResult result (λ p. GivesAll (row (pairs_of fields.now) value_part_keys)
         (AreValueParts p (pairs_of fields.now)))

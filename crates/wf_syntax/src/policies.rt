@@ -22,9 +22,9 @@ use wf_tree::{Tree, TreeMap};
 use wf_value::{Backoff, DefaultKind};
 
 const MOST_RETRIES: u32 = 1_000_000;
-// in milliseconds: a year
+/// in milliseconds: a year
 const LONGEST_DELAY: u64 = 31_536_000_000;
-// in thousandths
+/// in thousandths
 const GREATEST_FACTOR: u64 = 1_000_000;
 
 const DEFAULT_RETRIES: u32 = 5;
@@ -35,7 +35,7 @@ const DEFAULT_BACKOFF: Backoff = Backoff {
     multiplier: 1250,
 };
 
-// A predefined policy, or a map of one's fields.
+/// A predefined policy, or a map of one's fields.
 fn policy(alloc: Global, tree: &Tree) -> Result<Policy, Stop>
     ensures { MatchResult result (λ p. Gives Retry (plain_tree tree.now)
         (IsPolicy (policy_view p) (plain_tree tree.now)))
@@ -51,7 +51,7 @@ fn policy(alloc: Global, tree: &Tree) -> Result<Policy, Stop>
     }
 }
 
-// The predefined policy of a name.
+/// The predefined policy of a name.
 fn predefined(name: &str) -> Option<Policy>
     ensures { MatchOption result (is_among name.now rules.policies
         ≡ false) (λ p. (is_among name.now rules.policies ≡ true)
@@ -74,7 +74,7 @@ fn predefined(name: &str) -> Option<Policy>
     })
 }
 
-// A policy by its fields.
+/// A policy by its fields.
 fn own_policy(alloc: Global, fields: &TreeMap) -> Result<Policy, Stop>
     ensures { MatchResult result (λ p. Gives Retry (map (pairs_of fields.now))
         (IsPolicy (policy_view p) (map (pairs_of fields.now))))
@@ -93,7 +93,7 @@ fn own_policy(alloc: Global, fields: &TreeMap) -> Result<Policy, Stop>
     })
 }
 
-// Which errors are tried again: all where nothing is said.
+/// Which errors are tried again: all where nothing is said.
 fn predicate_at(alloc: Global, fields: &TreeMap, key: &str) -> Result<Predicate, Stop>
     ensures { MatchResult result (λ q. GivesAll (at key.now rules.Predicate (pairs_of fields.now))
         (Else (predicate_view q) Always key.now (pairs_of fields.now) IsPredicate))
@@ -133,7 +133,7 @@ fn predicate(alloc: Global, tree: &Tree) -> Result<Predicate, Stop>
     }
 }
 
-// How often a body is tried again: five times where nothing is said.
+/// How often a body is tried again: five times where nothing is said.
 fn attempts_at(alloc: Global, fields: &TreeMap, key: &str) -> Result<u32, Stop>
     ensures { MatchResult result (λ n. GivesAll (at key.now rules.Attempts (pairs_of fields.now))
         (Else n most_retries key.now (pairs_of fields.now) IsAttempts))
@@ -148,7 +148,7 @@ fn attempts_at(alloc: Global, fields: &TreeMap, key: &str) -> Result<u32, Stop>
     }
 }
 
-// The delays, or those that hold where nothing is said.
+/// The delays, or those that hold where nothing is said.
 fn backoff_at(alloc: Global, fields: &TreeMap, key: &str) -> Result<Backoff, Stop>
     ensures { MatchResult result (λ b. GivesAll (at key.now rules.Backoff (pairs_of fields.now))
         (Else b default_backoff key.now (pairs_of fields.now) IsBackoff))
@@ -181,7 +181,7 @@ fn backoff(alloc: Global, tree: &Tree) -> Result<Backoff, Stop>
     })
 }
 
-// A delay at a key, in milliseconds, or a default.
+/// A delay at a key, in milliseconds, or a default.
 fn delay_at(alloc: Global, fields: &TreeMap, key: &str, default: u64) -> Result<u64, Stop>
     ensures { MatchResult result (λ n. GivesAll (at key.now Seconds (pairs_of fields.now))
         (Else n default key.now (pairs_of fields.now) IsThousandths))
@@ -196,7 +196,7 @@ fn delay_at(alloc: Global, fields: &TreeMap, key: &str, default: u64) -> Result<
     }
 }
 
-// A factor at a key, in thousandths, or a default.
+/// A factor at a key, in thousandths, or a default.
 fn factor_at(alloc: Global, fields: &TreeMap, key: &str, default: u64) -> Result<u64, Stop>
     ensures { MatchResult result (λ n. GivesAll (at key.now Factor (pairs_of fields.now))
         (Else n default key.now (pairs_of fields.now) IsThousandths))
@@ -211,7 +211,7 @@ fn factor_at(alloc: Global, fields: &TreeMap, key: &str, default: u64) -> Result
     }
 }
 
-// The policy at a key, if there is one.
+/// The policy at a key, if there is one.
 pub(crate) fn policy_at(alloc: Global, fields: &TreeMap, key: &str) -> Result<Option<Policy>, Stop>
     ensures { MatchResult result (λ o. GivesAll (at key.now Retry (pairs_of fields.now))
         (Maybe (policy_option_view o) key.now (pairs_of fields.now) IsPolicy))

@@ -35,7 +35,7 @@ pub fn build(alloc: Global, tree: &Tree) -> Result<Program, SyntaxFault>
     }
 }
 
-// A fault with its path from the source's own node.
+/// A fault with its path from the source's own node.
 fn told(alloc: Global, stop: Stop) -> SyntaxFault
     ensures { IsToldOf stop result }
 {

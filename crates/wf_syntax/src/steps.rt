@@ -26,7 +26,7 @@ use wf_syntax_rules::SyntaxKind;
 use wf_tree::{Tree, TreeMap};
 use wf_value::Text;
 
-// What a loop runs over: the range, where it is there, or else the list.
+/// What a loop runs over: the range, where it is there, or else the list.
 fn over(list: Option<Template>, range: Option<Ends>) -> Option<Over>
     ensures { option_map over_view result
         ≡ over_of (option_map template_view list) (option_map ends_view range) }
@@ -40,7 +40,7 @@ fn over(list: Option<Template>, range: Option<Ends>) -> Option<Over>
     }
 }
 
-// A loop of its parts, where those are there that must be.
+/// A loop of its parts, where those are there that must be.
 fn loop_of(
     list: Option<Template>,
     index: Option<Text>,
@@ -67,7 +67,7 @@ fn loop_of(
     })
 }
 
-// What runs in parallel: the loop, where it is there, or else the branches.
+/// What runs in parallel: the loop, where it is there, or else the branches.
 fn work(branches: Option<Branches>, repeated: Option<LoopBody>) -> Option<Work>
     ensures { option_map work_view result
         ≡ work_of (option_map branches_in branches) (option_map loop_view repeated) }
@@ -81,7 +81,7 @@ fn work(branches: Option<Branches>, repeated: Option<LoopBody>) -> Option<Work>
     }
 }
 
-// Steps in their order.
+/// Steps in their order.
 #[cycle(steps)]
 pub(crate) fn steps(alloc: Global, tree: &Tree) -> Result<StepList, Stop>
     ensures { MatchResult result (λ ss. Gives rules.Steps (plain_tree tree.now)
@@ -102,7 +102,7 @@ pub(crate) fn steps(alloc: Global, tree: &Tree) -> Result<StepList, Stop>
     Ok(made)
 }
 
-// The steps at a key, if they are there.
+/// The steps at a key, if they are there.
 #[cycle(steps)]
 pub(crate) fn steps_at(alloc: Global, fields: &TreeMap, key: &str) -> Result<Option<StepList>, Stop>
     ensures { MatchResult result (λ o. GivesAll (at key.now rules.Steps (pairs_of fields.now))
@@ -118,7 +118,7 @@ pub(crate) fn steps_at(alloc: Global, fields: &TreeMap, key: &str) -> Result<Opt
     }
 }
 
-// A map of one, from a step's name to what the step does.
+/// A map of one, from a step's name to what the step does.
 #[cycle(steps)]
 fn step(alloc: Global, tree: &Tree) -> Result<Step, Stop>
     ensures { MatchResult result (λ s. Gives rules.Step (plain_tree tree.now)
@@ -142,7 +142,7 @@ fn step(alloc: Global, tree: &Tree) -> Result<Step, Stop>
     }
 }
 
-// What a step does, and where it goes on.
+/// What a step does, and where it goes on.
 #[cycle(steps)]
 fn step_body(alloc: Global, tree: &Tree) -> Result<(Body, Option<Text>), Stop>
     ensures { MatchResult result (λ r. Gives rules.Body (plain_tree tree.now)
@@ -159,7 +159,7 @@ fn step_body(alloc: Global, tree: &Tree) -> Result<(Body, Option<Text>), Stop>
     Ok((body, next))
 }
 
-// What stands in the fields of a step or an arm, the fields in the order of their bytes.
+/// What stands in the fields of a step or an arm, the fields in the order of their bytes.
 #[cycle(steps)]
 fn parts(alloc: Global, fields: &TreeMap) -> Result<Parts, Stop>
     ensures { MatchResult result (λ p. GivesAll (rules.body_parts (pairs_of fields.now))
@@ -174,7 +174,7 @@ fn parts(alloc: Global, fields: &TreeMap) -> Result<Parts, Stop>
     })
 }
 
-// What stands in the fields from `except` to `parallel`.
+/// What stands in the fields from `except` to `parallel`.
 #[cycle(steps)]
 fn loop_parts(alloc: Global, fields: &TreeMap) -> Result<LoopParts, Stop>
     ensures { MatchResult result (λ p. GivesAll (row (pairs_of fields.now) loop_part_keys)
@@ -189,7 +189,7 @@ fn loop_parts(alloc: Global, fields: &TreeMap) -> Result<LoopParts, Stop>
     })
 }
 
-// What stands in the fields from `steps` to `try`.
+/// What stands in the fields from `steps` to `try`.
 #[cycle(steps)]
 fn block_parts(alloc: Global, fields: &TreeMap) -> Result<BlockParts, Stop>
     ensures { MatchResult result (λ p. GivesAll (row (pairs_of fields.now) block_part_keys)
@@ -203,7 +203,7 @@ fn block_parts(alloc: Global, fields: &TreeMap) -> Result<BlockParts, Stop>
     })
 }
 
-// The arms of a `switch`.
+/// The arms of a `switch`.
 #[cycle(steps)]
 fn arms(alloc: Global, tree: &Tree) -> Result<Arms, Stop>
     ensures { MatchResult result (λ all. Gives rules.Arms (plain_tree tree.now)
@@ -224,7 +224,7 @@ fn arms(alloc: Global, tree: &Tree) -> Result<Arms, Stop>
     Ok(made)
 }
 
-// The arms at a key, if they are there.
+/// The arms at a key, if they are there.
 #[cycle(steps)]
 fn arms_at(alloc: Global, fields: &TreeMap, key: &str) -> Result<Option<Arms>, Stop>
     ensures { MatchResult result (λ o. GivesAll (at key.now rules.Arms (pairs_of fields.now))
@@ -240,7 +240,7 @@ fn arms_at(alloc: Global, fields: &TreeMap, key: &str) -> Result<Option<Arms>, S
     }
 }
 
-// A condition, what is done where it holds, and where it goes on then.
+/// A condition, what is done where it holds, and where it goes on then.
 #[cycle(steps)]
 fn arm(alloc: Global, tree: &Tree) -> Result<Arm, Stop>
     ensures { MatchResult result (λ a. Gives rules.Arm (plain_tree tree.now)
@@ -267,7 +267,7 @@ fn arm(alloc: Global, tree: &Tree) -> Result<Arm, Stop>
     }
 }
 
-// A loop over the items of a list, or over a range.
+/// A loop over the items of a list, or over a range.
 #[cycle(steps)]
 fn loop_body(alloc: Global, tree: &Tree) -> Result<LoopBody, Stop>
     ensures { MatchResult result (λ l. Gives rules.Loop (plain_tree tree.now)
@@ -291,7 +291,7 @@ fn loop_body(alloc: Global, tree: &Tree) -> Result<LoopBody, Stop>
     }
 }
 
-// The loop at a key, if there is one.
+/// The loop at a key, if there is one.
 #[cycle(steps)]
 fn loop_at(alloc: Global, fields: &TreeMap, key: &str) -> Result<Option<LoopBody>, Stop>
     ensures { MatchResult result (λ o. GivesAll (at key.now rules.Loop (pairs_of fields.now))
@@ -307,7 +307,7 @@ fn loop_at(alloc: Global, fields: &TreeMap, key: &str) -> Result<Option<LoopBody
     }
 }
 
-// Branches, or a loop, whose parts run at the same time.
+/// Branches, or a loop, whose parts run at the same time.
 #[cycle(steps)]
 fn parallel(alloc: Global, tree: &Tree) -> Result<ParallelBody, Stop>
     ensures { MatchResult result (λ p. Gives rules.Parallel (plain_tree tree.now)
@@ -335,7 +335,7 @@ fn parallel(alloc: Global, tree: &Tree) -> Result<ParallelBody, Stop>
     }
 }
 
-// The parallel step at a key, if there is one.
+/// The parallel step at a key, if there is one.
 #[cycle(steps)]
 fn parallel_at(alloc: Global, fields: &TreeMap, key: &str) -> Result<Option<ParallelBody>, Stop>
     ensures { MatchResult result (λ o. GivesAll (at key.now rules.Parallel (pairs_of fields.now))
@@ -351,7 +351,7 @@ fn parallel_at(alloc: Global, fields: &TreeMap, key: &str) -> Result<Option<Para
     }
 }
 
-// The branches of a parallel step.
+/// The branches of a parallel step.
 #[cycle(steps)]
 fn branches(alloc: Global, tree: &Tree) -> Result<Branches, Stop>
     ensures { MatchResult result (λ bs. Gives rules.Branches (plain_tree tree.now)
@@ -372,7 +372,7 @@ fn branches(alloc: Global, tree: &Tree) -> Result<Branches, Stop>
     Ok(made)
 }
 
-// The branches at a key, if they are there.
+/// The branches at a key, if they are there.
 #[cycle(steps)]
 fn branches_at(alloc: Global, fields: &TreeMap, key: &str) -> Result<Option<Branches>, Stop>
     ensures { MatchResult result (λ o. GivesAll (at key.now rules.Branches (pairs_of fields.now))
@@ -388,7 +388,7 @@ fn branches_at(alloc: Global, fields: &TreeMap, key: &str) -> Result<Option<Bran
     }
 }
 
-// A map of one, from a branch's name to its steps.
+/// A map of one, from a branch's name to its steps.
 #[cycle(steps)]
 fn branch(alloc: Global, tree: &Tree) -> Result<Branch, Stop>
     ensures { MatchResult result (λ b. Gives rules.Branch (plain_tree tree.now)
@@ -407,7 +407,7 @@ fn branch(alloc: Global, tree: &Tree) -> Result<Branch, Stop>
     }
 }
 
-// A map of steps alone.
+/// A map of steps alone.
 #[cycle(steps)]
 fn block(alloc: Global, tree: &Tree) -> Result<StepList, Stop>
     ensures { MatchResult result (λ ss. Gives rules.Block (plain_tree tree.now)
@@ -426,7 +426,7 @@ fn block(alloc: Global, tree: &Tree) -> Result<StepList, Stop>
     }
 }
 
-// What is tried: a call, or steps.
+/// What is tried: a call, or steps.
 #[cycle(steps)]
 fn tried(alloc: Global, tree: &Tree) -> Result<Body, Stop>
     ensures { MatchResult result (λ b. Gives rules.Try (plain_tree tree.now)
@@ -450,7 +450,7 @@ fn tried(alloc: Global, tree: &Tree) -> Result<Body, Stop>
     }
 }
 
-// What is tried at a key, if it is there.
+/// What is tried at a key, if it is there.
 #[cycle(steps)]
 fn try_at(alloc: Global, fields: &TreeMap, key: &str) -> Result<Option<Body>, Stop>
     ensures { MatchResult result (λ o. GivesAll (at key.now rules.Try (pairs_of fields.now))
@@ -466,7 +466,7 @@ fn try_at(alloc: Global, fields: &TreeMap, key: &str) -> Result<Option<Body>, St
     }
 }
 
-// The steps that take an error, and the name that it has there.
+/// The steps that take an error, and the name that it has there.
 #[cycle(steps)]
 fn except(alloc: Global, tree: &Tree) -> Result<Except, Stop>
     ensures { MatchResult result (λ x. Gives rules.Except (plain_tree tree.now)
@@ -487,7 +487,7 @@ fn except(alloc: Global, tree: &Tree) -> Result<Except, Stop>
     }
 }
 
-// The steps that take an error, where they are at `except`.
+/// The steps that take an error, where they are at `except`.
 #[cycle(steps)]
 fn except_at(alloc: Global, fields: &TreeMap) -> Result<Option<Except>, Stop>
     ensures { MatchResult result (λ o. GivesAll

@@ -6,7 +6,7 @@ use std::alloc::Global;
 use wf_syntax_rules::SyntaxKind;
 use wf_value::{OutOfMemory, PathPart, Text};
 
-// A fault, with the way from the part to it, the last step first; or want of memory.
+/// A fault, with the way from the part to it, the last step first; or want of memory.
 #[derive(Drop)]
 pub(crate) enum Stop {
     Refused(SyntaxKind, Vec<PathPart>),
@@ -25,14 +25,14 @@ impl From<OutOfMemory> for Stop {
 }
 
 impl Stop {
-    // A fault of the part itself.
+    /// A fault of the part itself.
     pub(crate) fn here(alloc: Global, kind: SyntaxKind) -> Stop
         ensures { IsHere kind result }
     {
         Stop::Refused(kind, Vec::new(alloc))
     }
 
-    // The same from the map in which the part stands at a key.
+    /// The same from the map in which the part stands at a key.
     pub(crate) fn at_key(self, alloc: Global, key: &str) -> Stop
         ensures { IsOutside (Key key.now) self result }
     {
@@ -42,7 +42,7 @@ impl Stop {
         }
     }
 
-    // The same from the list in which the part stands at an index.
+    /// The same from the list in which the part stands at an index.
     pub(crate) fn at_index(self, index: usize) -> Stop
         ensures { IsOutside (Index index) self result }
     {

@@ -19,7 +19,7 @@ use wf_syntax_rules::SyntaxKind;
 use wf_tree::{Tree, TreeMap};
 use wf_value::{Text, Value};
 
-// A value with expressions in it.
+/// A value with expressions in it.
 #[cycle(value)]
 pub(crate) fn value(alloc: Global, tree: &Tree) -> Result<Template, Stop>
     ensures { MatchResult result (λ v. Gives AValue (plain_tree tree.now)
@@ -37,11 +37,12 @@ pub(crate) fn value(alloc: Global, tree: &Tree) -> Result<Template, Stop>
     }
 }
 
-// A text as a value.
+/// A text as a value.
 fn text_value(alloc: Global, text: &str) -> Result<Template, Stop>
     ensures { MatchResult result (λ v. Gives AValue (a_text text.now)
         (IsTemplateOf text.now (template_view v))) (λ stop. Fails AValue (a_text text.now) stop) }
 {
+    // laws that the proof uses
     one_template();
     match parse_template(alloc, text) {
         Ok(template) => Ok(template),
@@ -85,7 +86,7 @@ fn named_values(alloc: Global, pairs: &[(Text, Tree)]) -> Result<NamedTemplates,
     Ok(made)
 }
 
-// Values by name.
+/// Values by name.
 fn arguments(alloc: Global, tree: &Tree) -> Result<NamedTemplates, Stop>
     ensures { MatchResult result (λ vs. Gives Arguments (plain_tree tree.now)
         (AreArguments (fields_of (fields_view vs)) (plain_tree tree.now)))
@@ -97,7 +98,7 @@ fn arguments(alloc: Global, tree: &Tree) -> Result<NamedTemplates, Stop>
     }
 }
 
-// The two ends of a range, the first and the last.
+/// The two ends of a range, the first and the last.
 pub(crate) type Ends = (Template, Template);
 
 fn range(alloc: Global, tree: &Tree) -> Result<Ends, Stop>
@@ -121,7 +122,7 @@ fn range(alloc: Global, tree: &Tree) -> Result<Ends, Stop>
     }
 }
 
-// The value at a key, if there is one.
+/// The value at a key, if there is one.
 pub(crate) fn value_at(alloc: Global, fields: &TreeMap, key: &str) -> Result<Option<Template>, Stop>
     ensures { MatchResult result (λ o. GivesAll (at key.now AValue (pairs_of fields.now))
         (Maybe (option_map template_view o) key.now (pairs_of fields.now) IsValue))
@@ -136,7 +137,7 @@ pub(crate) fn value_at(alloc: Global, fields: &TreeMap, key: &str) -> Result<Opt
     }
 }
 
-// The arguments at a key, and none where they aren't there.
+/// The arguments at a key, and none where they aren't there.
 pub(crate) fn arguments_at(
     alloc: Global,
     fields: &TreeMap,
@@ -155,7 +156,7 @@ pub(crate) fn arguments_at(
     }
 }
 
-// The two ends of the range at a key, if there is one.
+/// The two ends of the range at a key, if there is one.
 pub(crate) fn range_at(alloc: Global, fields: &TreeMap, key: &str) -> Result<Option<Ends>, Stop>
     ensures { MatchResult result (λ o. GivesAll (at key.now Range (pairs_of fields.now))
         (Maybe (option_map ends_view o) key.now (pairs_of fields.now) (λ r x. IsRange r.0 r.1 x)))

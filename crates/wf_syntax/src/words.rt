@@ -19,7 +19,7 @@ use wf_syntax_rules::SyntaxKind;
 use wf_tree::{Tree, TreeMap};
 use wf_value::Text;
 
-// How many parts of a parallel step a limit may let run at once.
+/// How many parts of a parallel step a limit may let run at once.
 const MOST_AT_ONCE: u32 = 1000;
 
 pub(crate) fn owned(alloc: Global, text: &str) -> Result<Text, Stop>
@@ -28,7 +28,7 @@ pub(crate) fn owned(alloc: Global, text: &str) -> Result<Text, Stop>
     Ok(Text::new(alloc, text)?)
 }
 
-// Any text.
+/// Any text.
 fn any_text(alloc: Global, tree: &Tree) -> Result<Text, Stop>
     ensures { MatchResult result (λ x. Gives AnyText (plain_tree tree.now)
         (IsText x (plain_tree tree.now))) (λ stop. Fails AnyText (plain_tree tree.now) stop) }
@@ -39,7 +39,7 @@ fn any_text(alloc: Global, tree: &Tree) -> Result<Text, Stop>
     }
 }
 
-// The name of a variable.
+/// The name of a variable.
 fn variable_name(alloc: Global, tree: &Tree) -> Result<Text, Stop>
     ensures { MatchResult result (λ x. Gives VariableName (plain_tree tree.now)
         (IsText x (plain_tree tree.now))) (λ stop. Fails VariableName (plain_tree tree.now) stop) }
@@ -56,7 +56,7 @@ fn variable_name(alloc: Global, tree: &Tree) -> Result<Text, Stop>
     }
 }
 
-// The text at a key, if there is one.
+/// The text at a key, if there is one.
 pub(crate) fn text_at(alloc: Global, fields: &TreeMap, key: &str) -> Result<Option<Text>, Stop>
     ensures { MatchResult result (λ o. GivesAll (at key.now AnyText (pairs_of fields.now))
         (Maybe o key.now (pairs_of fields.now) IsText))
@@ -71,7 +71,7 @@ pub(crate) fn text_at(alloc: Global, fields: &TreeMap, key: &str) -> Result<Opti
     }
 }
 
-// The name of a variable at a key, if there is one.
+/// The name of a variable at a key, if there is one.
 pub(crate) fn name_at(alloc: Global, fields: &TreeMap, key: &str) -> Result<Option<Text>, Stop>
     ensures { MatchResult result (λ o. GivesAll (at key.now VariableName (pairs_of fields.now))
         (Maybe o key.now (pairs_of fields.now) IsText))
@@ -86,7 +86,7 @@ pub(crate) fn name_at(alloc: Global, fields: &TreeMap, key: &str) -> Result<Opti
     }
 }
 
-// The names of variables in a list.
+/// The names of variables in a list.
 fn names(alloc: Global, tree: &Tree) -> Result<Texts, Stop>
     ensures { MatchResult result (λ xs. Gives Shared (plain_tree tree.now)
         (AreTexts (texts_view xs) (plain_tree tree.now)))
@@ -106,7 +106,7 @@ fn names(alloc: Global, tree: &Tree) -> Result<Texts, Stop>
     Ok(made)
 }
 
-// The names of variables at a key, and none where it isn't there.
+/// The names of variables at a key, and none where it isn't there.
 pub(crate) fn names_at(alloc: Global, fields: &TreeMap, key: &str) -> Result<Texts, Stop>
     ensures { MatchResult result (λ xs. GivesAll (at key.now Shared (pairs_of fields.now))
         (Else (texts_view xs) [] key.now (pairs_of fields.now) AreTexts))
@@ -121,7 +121,7 @@ pub(crate) fn names_at(alloc: Global, fields: &TreeMap, key: &str) -> Result<Tex
     }
 }
 
-// The limit on parts at once at a key, if there is one.
+/// The limit on parts at once at a key, if there is one.
 pub(crate) fn limit_at(alloc: Global, fields: &TreeMap, key: &str) -> Result<Option<u32>, Stop>
     ensures { MatchResult result (λ o. GivesAll (at key.now Limit (pairs_of fields.now))
         (Maybe o key.now (pairs_of fields.now) IsLimit))
@@ -136,7 +136,7 @@ pub(crate) fn limit_at(alloc: Global, fields: &TreeMap, key: &str) -> Result<Opt
     }
 }
 
-// Sees that the word at a key, if there is one, is the one that a policy on errors may be.
+/// Sees that the word at a key, if there is one, is the one that a policy on errors may be.
 pub(crate) fn policy_word_at(alloc: Global, fields: &TreeMap, key: &str) -> Result<(), Stop>
     ensures { MatchResult result (λ _. AreSound (at key.now Policy (pairs_of fields.now)))
         (λ stop. FailsAmong (at key.now Policy (pairs_of fields.now)) stop) }

@@ -25,7 +25,7 @@ pub struct Logged {
     pub value: Value,
 }
 
-// The severity of a name, in upper case.
+/// The severity of a name, in upper case.
 fn severity_named(name: &str) -> Option<Severity>
     ensures { result ≡ severity_named name.now }
 {
@@ -43,7 +43,7 @@ fn severity_named(name: &str) -> Option<Severity>
     }
 }
 
-// The severity that the argument of this name says: `DEFAULT` where it is absent.
+/// The severity that the argument of this name says: `DEFAULT` where it is absent.
 fn severity_of(severity: Option<&Value>) -> Result<Severity, Raise>
     ensures { Answers (λ s. s) result
         (severity_told (option_map (λ v. plain v.now) severity.entry)) }
@@ -58,7 +58,7 @@ fn severity_of(severity: Option<&Value>) -> Result<Severity, Raise>
     }
 }
 
-// The argument `data`, or else `json`.
+/// The argument `data`, or else `json`.
 fn data_in(args: &Map) -> Option<&Value>
     ensures { option_map (λ v. plain v.now) result
         ≡ first_of_two (get (codes "data") (pairs_of args.now))
@@ -70,7 +70,7 @@ fn data_in(args: &Map) -> Option<&Value>
     }
 }
 
-// An equal value, or null where there is none.
+/// An equal value, or null where there is none.
 fn copied_or_null(alloc: Global, value: Option<&Value>) -> Result<Value, Raise>
     ensures { Answers plain result
         (Ok (unwrap_or (option_map (λ v. plain v.now) value.entry) null)) }
@@ -81,14 +81,14 @@ fn copied_or_null(alloc: Global, value: Option<&Value>) -> Result<Value, Raise>
     }
 }
 
-// The value of `data` or `json`, which may be any.
+/// The value of `data` or `json`, which may be any.
 fn any_logged(alloc: Global, args: &Map) -> Result<Value, Raise>
     ensures { Answers plain result (Ok (calls.logged_any (pairs_of args.now))) }
 {
     copied_or_null(alloc, data_in(args))
 }
 
-// A value that must be a text.
+/// A value that must be a text.
 fn text_of(value: &Value) -> Result<Value, Raise>
     ensures { Answers plain result (text_told (plain value.now)) }
 {
@@ -98,7 +98,7 @@ fn text_of(value: &Value) -> Result<Value, Raise>
     }
 }
 
-// The value of `text`, which must be a text, or else that of `data` or `json`.
+/// The value of `text`, which must be a text, or else that of `data` or `json`.
 fn logged_value(alloc: Global, args: &Map) -> Result<Value, Raise>
     ensures { Answers plain result (calls.logged_value (pairs_of args.now)) }
 {
@@ -108,14 +108,14 @@ fn logged_value(alloc: Global, args: &Map) -> Result<Value, Raise>
     }
 }
 
-// Whether all that is logged keeps its limit with a value more, where so much was logged before.
+/// Whether all that is logged keeps its limit with a value more, where so much was logged before.
 fn is_within(logged: u64, value: &Value) -> bool
     ensures { result ≡ nat_le (logged + size (plain value.now)) log_limit }
 {
     logged.saturating_add(value.size()) <= LOG_LIMIT
 }
 
-// The entry, where it doesn't pass that limit.
+/// The entry, where it doesn't pass that limit.
 fn within_log(logged: u64, entry: Logged) -> Result<Logged, Raise>
     ensures { Answers logged_view result (within_log logged (logged_view entry)) }
 {

@@ -23,7 +23,7 @@ pub fn due_of(now: u64, timeout: u64) -> u64
     now.saturating_add(timeout.saturating_mul(1_000))
 }
 
-// An argument that is a whole number.
+/// An argument that is a whole number.
 fn whole_at(args: &Map, name: &str) -> Result<i64, Raise>
     ensures { Answers (λ n. n) result (calls.whole_arg (get name.now (pairs_of args.now))) }
 {
@@ -33,7 +33,7 @@ fn whole_at(args: &Map, name: &str) -> Result<i64, Raise>
     }
 }
 
-// So many seconds, where no sleep is too long for them.
+/// So many seconds, where no sleep is too long for them.
 fn seconds_of(seconds: i64) -> Result<u64, Raise>
     ensures { Answers (λ n. n) result (whole_between 0 31536000 seconds) }
 {
@@ -54,7 +54,7 @@ pub fn sleep_due(args: &Map, now: u64) -> Result<u64, Raise>
     Ok(due_of(now, seconds))
 }
 
-// The moment of some seconds since 1970. No text tells one before that, nor one past the greatest.
+/// The moment of some seconds since 1970. No text tells one before that, nor one past the greatest.
 fn moment_of(seconds: i64) -> Result<u64, Raise>
     ensures { (n : ℕ) → seconds ≡ pos n → Answers (λ m. m) result (Ok (n * 1000)) }
 {
@@ -67,7 +67,7 @@ fn moment_of(seconds: i64) -> Result<u64, Raise>
     }
 }
 
-// That of the seconds that a text tells.
+/// That of the seconds that a text tells.
 fn moment_in(parsed: &Value) -> Result<u64, Raise>
     ensures { (n : ℕ) → plain parsed.now ≡ integer (pos n)
         → Answers (λ m. m) result (Ok (n * 1000)) }

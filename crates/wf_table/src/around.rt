@@ -4,7 +4,7 @@ ghost use Rattle.wf_table.specs.Made.{StandsIn};
 
 use wf_value::OutOfMemory;
 
-// Whose list of steps a body stands in, if a jump from it may reach one, and how many such lists there are.
+/// Whose list of steps a body stands in, if a jump from it may reach one, and how many such lists there are.
 #[derive(Clone, Copy)]
 pub(crate) struct Here {
     pub(crate) owner: Option<u32>,
@@ -12,7 +12,7 @@ pub(crate) struct Here {
 }
 
 impl Here {
-    // In no list.
+    /// In no list.
     pub(crate) fn outside() -> Here
         ensures { StandsIn result [] }
     {
@@ -22,7 +22,7 @@ impl Here {
         }
     }
 
-    // In the list of this node, which a jump doesn't leave.
+    /// In the list of this node, which a jump doesn't leave.
     pub(crate) fn alone(owner: u32) -> Here
         ensures { StandsIn result (owner ∷ []) }
     {
@@ -32,7 +32,7 @@ impl Here {
         }
     }
 
-    // In the list of this node, within the others.
+    /// In the list of this node, within the others.
     pub(crate) fn inside(self, owner: u32) -> Result<Here, OutOfMemory>
         ensures { IfOk result (λ inner. (os : List ℕ) → StandsIn self os
             → StandsIn inner (owner ∷ os)) }

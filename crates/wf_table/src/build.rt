@@ -20,7 +20,7 @@ use wf_model::{
 };
 use wf_value::{OutOfMemory, Text};
 
-// The nodes of workflows, and the workflows' numbers.
+/// The nodes of workflows, and the workflows' numbers.
 pub(crate) fn flows(
     alloc: Global,
     nodes: &mut Vec<Node>,
@@ -38,7 +38,7 @@ pub(crate) fn flows(
     Ok(numbers)
 }
 
-// The nodes of a workflow, and its number.
+/// The nodes of a workflow, and its number.
 fn flow_node(alloc: Global, nodes: &mut Vec<Node>, flow: &Flow) -> Result<u32, OutOfMemory>
     ensures number { IfOk result (λ n. n ≡ length nodes.old.items) }
     ensures adds { IfOk result (λ n. Adds nodes.old.items nodes.new.items
@@ -60,7 +60,7 @@ fn flow_node(alloc: Global, nodes: &mut Vec<Node>, flow: &Flow) -> Result<u32, O
     Ok(number)
 }
 
-// The nodes of a list of steps, which stands in these lists, itself among them.
+/// The nodes of a list of steps, which stands in these lists, itself among them.
 #[cycle(build)]
 fn block(
     alloc: Global,
@@ -88,7 +88,7 @@ fn block(
     })
 }
 
-// The nodes of a body, and its number.
+/// The nodes of a body, and its number.
 #[cycle(build)]
 fn body(
     alloc: Global,
@@ -118,7 +118,7 @@ fn body(
     Ok(number)
 }
 
-// What the body of this number is, and the nodes that it holds.
+/// What the body of this number is, and the nodes that it holds.
 #[cycle(build)]
 fn kind(
     alloc: Global,
@@ -152,7 +152,7 @@ fn kind(
     }
 }
 
-// The nodes of arms, and the arms' numbers.
+/// The nodes of arms, and the arms' numbers.
 #[cycle(build)]
 fn arms(
     alloc: Global,
@@ -175,7 +175,7 @@ fn arms(
     Ok(numbers)
 }
 
-// What the loop of this number is, and the nodes that it holds.
+/// What the loop of this number is, and the nodes that it holds.
 #[cycle(build)]
 fn loop_node(
     alloc: Global,
@@ -201,7 +201,7 @@ fn loop_node(
     })
 }
 
-// What runs in the parallel step of this number, and the nodes that it holds.
+/// What runs in the parallel step of this number, and the nodes that it holds.
 #[cycle(build)]
 fn work(
     alloc: Global,
@@ -225,7 +225,7 @@ fn work(
     }
 }
 
-// The nodes of branches, and the branches' numbers.
+/// The nodes of branches, and the branches' numbers.
 #[cycle(build)]
 fn branches(
     alloc: Global,
@@ -246,7 +246,7 @@ fn branches(
     Ok(numbers)
 }
 
-// The nodes of a branch, and its number.
+/// The nodes of a branch, and its number.
 #[cycle(build)]
 fn branch(
     alloc: Global,
@@ -275,7 +275,7 @@ fn branch(
     Ok(number)
 }
 
-// What the `try` of this number is, and the nodes that it holds.
+/// What the `try` of this number is, and the nodes that it holds.
 #[cycle(build)]
 fn try_node(
     alloc: Global,
@@ -302,7 +302,7 @@ fn try_node(
     })
 }
 
-// The nodes of the steps that take an error, where there are any. They stand in these lists.
+/// The nodes of the steps that take an error, where there are any. They stand in these lists.
 #[cycle(build)]
 fn handler(
     alloc: Global,
@@ -326,7 +326,7 @@ fn handler(
     }
 }
 
-// What a loop runs over.
+/// What a loop runs over.
 fn over(alloc: Global, over: &Over, codes: &mut Codes) -> Result<OverShape, OutOfMemory>
     ensures { IfOk result (λ o. Compiles (code_list codes.old) (code_list codes.new)
         (λ cs. over_by cs o) (over_view over.now)) }
@@ -341,7 +341,7 @@ fn over(alloc: Global, over: &Over, codes: &mut Codes) -> Result<OverShape, OutO
     }
 }
 
-// What a node has of a call.
+/// What a node has of a call.
 fn call_node(alloc: Global, call: &CallBody, codes: &mut Codes) -> Result<CallNode, OutOfMemory>
     ensures { IfOk result (λ x. Compiles (code_list codes.old) (code_list codes.new)
         (λ cs. call_by cs x) (call_view call.now)) }

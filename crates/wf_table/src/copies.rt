@@ -6,7 +6,7 @@ use std::alloc::Global;
 use wf_ast::{Param, Params, Policy, Predicate, Texts};
 use wf_value::{OutOfMemory, Text};
 
-// A text that may be absent.
+/// A text that may be absent.
 pub(crate) fn text(from: &Option<Text>) -> Result<Option<Text>, OutOfMemory>
     ensures { IfOk result (λ copy. copy ≡ from.now) }
 {
@@ -16,7 +16,7 @@ pub(crate) fn text(from: &Option<Text>) -> Result<Option<Text>, OutOfMemory>
     }
 }
 
-// The texts of a list.
+/// The texts of a list.
 pub(crate) fn texts(alloc: Global, from: &Texts) -> Result<Texts, OutOfMemory>
     ensures { IfOk result (λ copy. texts_view copy ≡ texts_view from.now) }
 {
@@ -27,7 +27,7 @@ pub(crate) fn texts(alloc: Global, from: &Texts) -> Result<Texts, OutOfMemory>
     Ok(copy)
 }
 
-// The parameters of a workflow.
+/// The parameters of a workflow.
 pub(crate) fn params(alloc: Global, from: &Params) -> Result<Params, OutOfMemory>
     ensures { IfOk result (λ copy. params_view copy ≡ params_view from.now) }
 {
@@ -38,7 +38,7 @@ pub(crate) fn params(alloc: Global, from: &Params) -> Result<Params, OutOfMemory
     Ok(copy)
 }
 
-// A parameter.
+/// A parameter.
 fn param(alloc: Global, from: &Param) -> Result<Param, OutOfMemory>
     ensures { IfOk result (λ copy. param_view copy ≡ param_view from.now) }
 {
@@ -55,7 +55,7 @@ fn param(alloc: Global, from: &Param) -> Result<Param, OutOfMemory>
     }
 }
 
-// A policy that may be absent.
+/// A policy that may be absent.
 pub(crate) fn policy(from: &Option<Policy>) -> Result<Option<Policy>, OutOfMemory>
     ensures { IfOk result (λ copy. policy_option_view copy ≡ policy_option_view from.now) }
 {
@@ -69,7 +69,7 @@ pub(crate) fn policy(from: &Option<Policy>) -> Result<Option<Policy>, OutOfMemor
     }
 }
 
-// A predicate.
+/// A predicate.
 fn predicate(from: &Predicate) -> Result<Predicate, OutOfMemory>
     ensures { IfOk result (λ copy. predicate_view copy ≡ predicate_view from.now) }
 {

@@ -14,7 +14,7 @@ use wf_model::grow::{add, push};
 use wf_model::{Codes, EntryNode, Node, NodeKind, shape_of};
 use wf_value::{OutOfMemory, Text};
 
-// A place at the end, for a node that is put there when its parts are.
+/// A place at the end, for a node that is put there when its parts are.
 pub(crate) fn hold(alloc: Global, nodes: &mut Vec<Node>) -> Result<u32, OutOfMemory>
     ensures number { IfOk result (λ n. n ≡ length nodes.old.items) }
     ensures grown { IfOk result (λ n. (p : TheNode)
@@ -32,7 +32,7 @@ pub(crate) fn hold(alloc: Global, nodes: &mut Vec<Node>) -> Result<u32, OutOfMem
     push(nodes, node)
 }
 
-// The node of an arm or an entry. Its name is the empty one.
+/// The node of an arm or an entry. Its name is the empty one.
 fn leaf(here: Here, name: Text, kind: NodeKind, codes: Codes) -> Node
     ensures { name ≡ [] → node_view result ≡ leaf_view here.owner (kind_by (code_list codes) kind) }
 {
@@ -46,7 +46,7 @@ fn leaf(here: Here, name: Text, kind: NodeKind, codes: Codes) -> Node
     }
 }
 
-// The node of an arm, but for its body.
+/// The node of an arm, but for its body.
 pub(crate) fn arm(
     alloc: Global,
     nodes: &mut Vec<Node>,
@@ -64,7 +64,7 @@ pub(crate) fn arm(
     push(nodes, leaf(here, name, NodeKind::Arm(condition), codes))
 }
 
-// The nodes of entries, and their numbers.
+/// The nodes of entries, and their numbers.
 pub(crate) fn entries(
     alloc: Global,
     nodes: &mut Vec<Node>,
@@ -82,7 +82,7 @@ pub(crate) fn entries(
     Ok(numbers)
 }
 
-// The node of an entry, and its number.
+/// The node of an entry, and its number.
 fn entry_node(
     alloc: Global,
     nodes: &mut Vec<Node>,
@@ -99,7 +99,7 @@ fn entry_node(
     push(nodes, leaf(here, name, NodeKind::Entry(form), codes))
 }
 
-// What a node has of an entry.
+/// What a node has of an entry.
 fn entry_form(alloc: Global, entry: &Entry, codes: &mut Codes) -> Result<EntryNode, OutOfMemory>
     ensures { IfOk result (λ e. code_list codes.old ≡ []
         → Compiles (code_list codes.old) (code_list codes.new) (λ cs. entry_by cs e)
@@ -115,7 +115,7 @@ fn entry_form(alloc: Global, entry: &Entry, codes: &mut Codes) -> Result<EntryNo
     })
 }
 
-// The codes of places, and how many there are.
+/// The codes of places, and how many there are.
 fn places(alloc: Global, places: &[Expr], codes: &mut Codes) -> Result<u32, OutOfMemory>
     ensures count { IfOk result (λ n. n ≡ length places.now) }
     ensures codes { IfOk result (λ n. Reads (code_list codes.old) (code_list codes.new)

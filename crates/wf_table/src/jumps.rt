@@ -14,7 +14,7 @@ use wf_model::grow::add;
 use wf_model::{Jump, Node};
 use wf_value::OutOfMemory;
 
-// Puts where each node jumps.
+/// Puts where each node jumps.
 pub(crate) fn set_jumps(alloc: Global, nodes: &mut Vec<Node>) -> Result<(), OutOfMemory>
     ensures views { OnOk result (map node_view nodes.new.items ≡ map node_view nodes.old.items) }
     ensures jumps { OnOk result ((fs : List Flow)
@@ -29,7 +29,7 @@ pub(crate) fn set_jumps(alloc: Global, nodes: &mut Vec<Node>) -> Result<(), OutO
     Ok(())
 }
 
-// The names of the steps of each node's list.
+/// The names of the steps of each node's list.
 fn all_names(alloc: Global, nodes: &[Node]) -> Result<Vec<Names>, OutOfMemory>
     ensures long { IfOk result (λ lists. length lists.items ≡ length nodes.now) }
     ensures finds { IfOk result (λ lists. Finds (map node_view nodes.now) lists.items) }
@@ -41,7 +41,7 @@ fn all_names(alloc: Global, nodes: &[Node]) -> Result<Vec<Names>, OutOfMemory>
     Ok(lists)
 }
 
-// The names of the steps of a node's list.
+/// The names of the steps of a node's list.
 fn list_names(alloc: Global, nodes: &[Node], node: &Node) -> Result<Names, OutOfMemory>
     ensures { IfOk result (λ names. (x : Bytes)
         → number_of names x ≡ first_named (map node_view nodes.now) x
@@ -53,7 +53,7 @@ fn list_names(alloc: Global, nodes: &[Node], node: &Node) -> Result<Names, OutOf
     }
 }
 
-// Where a node jumps.
+/// Where a node jumps.
 fn jump_of(nodes: &[Node], lists: &[Names], node: &Node) -> Option<Jump>
     ensures { (fs : List Flow) (i : ℕ) → map node_view nodes.now ≡ views_for 0 (spots fs)
         → length lists.now ≡ length nodes.now → Finds (map node_view nodes.now) lists.now
@@ -67,7 +67,7 @@ fn jump_of(nodes: &[Node], lists: &[Names], node: &Node) -> Option<Jump>
     }
 }
 
-// Where a jump from a node leads: into the first of the lists around it, innermost first, that has a step of the name.
+/// Where a jump from a node leads: into the first of the lists around it, innermost first, that has a step of the name.
 fn jump_to(nodes: &[Node], lists: &[Names], node: &Node, name: &str) -> Option<Jump>
     ensures { (fs : List Flow) (i : ℕ) → map node_view nodes.now ≡ views_for 0 (spots fs)
         → length lists.now ≡ length nodes.now → Finds (map node_view nodes.now) lists.now
@@ -91,7 +91,7 @@ fn jump_to(nodes: &[Node], lists: &[Names], node: &Node, name: &str) -> Option<J
     None
 }
 
-// How many lists a jump from inside a node's own list may reach.
+/// How many lists a jump from inside a node's own list may reach.
 fn depth(node: &Node) -> u32
     ensures { result ≡ depth_of (kind_list (node_view node.now).kind) }
 {
@@ -101,7 +101,7 @@ fn depth(node: &Node) -> u32
     }
 }
 
-// Whose list a jump may reach from a node's own list.
+/// Whose list a jump may reach from a node's own list.
 fn outer(node: &Node) -> Option<u32>
     ensures { result ≡ outer_of (node_view node.now) }
 {
@@ -112,7 +112,7 @@ fn outer(node: &Node) -> Option<u32>
     }
 }
 
-// The same, of the node of this number. A number that isn't less is none.
+/// The same, of the node of this number. A number that isn't less is none.
 fn outside(node: &Node, number: u32) -> Option<u32>
     ensures { result ≡ below number (outer_of (node_view node.now)) }
 {

@@ -10,7 +10,7 @@ use std::collections::BTreeMap;
 use wf_model::Node;
 use wf_value::OutOfMemory;
 
-// Numbers by names. One is found, and added, in a time that grows with the logarithm of their number.
+/// Numbers by names. One is found, and added, in a time that grows with the logarithm of their number.
 #[derive(Drop)]
 pub(crate) struct Names {
     alloc: Global,
@@ -18,7 +18,7 @@ pub(crate) struct Names {
 }
 
 impl Names {
-    // No names. It allocates nothing yet.
+    /// No names. It allocates nothing yet.
     pub(crate) fn new(alloc: Global) -> Names
         ensures { (x : Bytes) → number_of result x ≡ None }
     {
@@ -28,7 +28,7 @@ impl Names {
         }
     }
 
-    // The number of a name.
+    /// The number of a name.
     pub(crate) fn find(&self, name: &str) -> Option<u32>
         ensures { result ≡ number_of self.now name.now }
     {
@@ -38,7 +38,7 @@ impl Names {
         }
     }
 
-    // Adds the number of a name, unless the name has one.
+    /// Adds the number of a name, unless the name has one.
     fn add(&mut self, name: &str, number: u32) -> Result<(), OutOfMemory>
         ensures { OnOk result ((x : Bytes)
             → number_of self.new x
@@ -53,7 +53,7 @@ impl Names {
         Ok(())
     }
 
-    // Adds the number of a node's name, unless the name has one. A number behind the last node has no name.
+    /// Adds the number of a node's name, unless the name has one. A number behind the last node has no name.
     fn add_node(&mut self, nodes: &[Node], number: u32) -> Result<(), OutOfMemory>
         ensures { OnOk result ((x : Bytes)
             → number_of self.new x
@@ -67,7 +67,7 @@ impl Names {
     }
 }
 
-// The numbers of nodes by their names: of nodes of one name the first's.
+/// The numbers of nodes by their names: of nodes of one name the first's.
 pub(crate) fn names_of(alloc: Global, nodes: &[Node], numbers: &[u32]) -> Result<Names, OutOfMemory>
     ensures { IfOk result (λ names. (x : Bytes)
         → number_of names x ≡ first_named (map node_view nodes.now) x numbers.now) }

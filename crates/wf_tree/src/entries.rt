@@ -8,7 +8,7 @@ ghost use Rattle.wf_value.specs.Maps.{IsInOrder, key_cmp, value_at};
 use crate::Tree;
 use wf_value::Text;
 
-// The tree at the key.
+/// The tree at the key.
 pub(crate) fn find<'a>(pairs: &'a [(Text, Tree)], key: &str) -> Option<&'a Tree>
     requires { IsInOrder pairs.now }
     ensures { option_copied result ≡ value_at key.now pairs.now }
@@ -19,7 +19,7 @@ pub(crate) fn find<'a>(pairs: &'a [(Text, Tree)], key: &str) -> Option<&'a Tree>
     }
 }
 
-// Where the key stands, or where it belongs.
+/// Where the key stands, or where it belongs.
 fn seek(pairs: &[(Text, Tree)], key: &str) -> Result<usize, usize>
     requires { IsInOrder pairs.now }
     ensures place { result ≡ seek (key_cmp key.now) pairs.now }

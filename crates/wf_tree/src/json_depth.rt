@@ -5,14 +5,14 @@ ghost use Rattle.serde_json.specs.View.{view, items_view, members_view};
 
 use serde_json::{Map as Members, Value as Json};
 
-// Whether lists and objects nest deeper than 100.
+/// Whether lists and objects nest deeper than 100.
 pub(crate) fn is_too_deep(json: &Json) -> bool
     ensures { Decides result (100 < depth (view json.now)) }
 {
     depth_of(json) > 100
 }
 
-// A depth past 4,294,967,295 counts as that.
+/// A depth past 4,294,967,295 counts as that.
 #[cycle(depth)]
 fn depth_of(json: &Json) -> u32
     ensures { result ≡ min (depth (view json.now)) 4294967295 }

@@ -41,7 +41,7 @@ impl From<OutOfMemory> for TreeFault {
     }
 }
 
-// Why some JSON is no tree, while the path to it is built: its steps, the innermost first.
+/// Why some JSON is no tree, while the path to it is built: its steps, the innermost first.
 #[derive(Drop)]
 enum NoTree {
     Decimal(Vec<PathPart>),
@@ -98,7 +98,7 @@ fn whole_tree(alloc: Global, json: &Json) -> Result<Tree, TreeFault>
     }
 }
 
-// The path of these steps, the innermost of which stands first.
+/// The path of these steps, the innermost of which stands first.
 fn path_of(alloc: Global, steps: Vec<PathPart>) -> Result<Path, OutOfMemory>
     ensures { IfOk result (λ p. p ≡ reverse steps.items) }
 {
@@ -157,7 +157,7 @@ fn map_of(alloc: Global, members: &Members<String, Json>) -> Result<TreeMap, NoT
     Ok(TreeMap::of_pairs(pairs))
 }
 
-// The tree of an item, where a fault counts from the list on.
+/// The tree of an item, where a fault counts from the list on.
 #[cycle(read)]
 fn item_at(alloc: Global, index: u64, json: &Json) -> Result<Tree, NoTree>
     ensures tree { IfOk result (λ t. tree_of (view json.now) ≡ Some (plain_tree t)) }
@@ -169,7 +169,7 @@ fn item_at(alloc: Global, index: u64, json: &Json) -> Result<Tree, NoTree>
     }
 }
 
-// The tree of a member, where a fault counts from the object on.
+/// The tree of a member, where a fault counts from the object on.
 #[cycle(read)]
 fn member_at(alloc: Global, key: &Text, json: &Json) -> Result<Tree, NoTree>
     ensures tree { IfOk result (λ t. tree_of (view json.now) ≡ Some (plain_tree t)) }
@@ -181,7 +181,7 @@ fn member_at(alloc: Global, key: &Text, json: &Json) -> Result<Tree, NoTree>
     }
 }
 
-// A fault, seen from one step further out.
+/// A fault, seen from one step further out.
 fn outward(fault: NoTree, step: PathPart) -> NoTree
     ensures { (first : Option (List _)) → IsNoTree first fault
         → IsNoTree (behind step first) result }

@@ -8,7 +8,7 @@ use std::cmp::Ordering;
 use std::marker::Model;
 use wf_value::Text;
 
-// A text that is compared by its bytes.
+/// A text that is compared by its bytes.
 #[derive(Drop)]
 pub(crate) struct Key {
     pub(crate) text: Text,

@@ -124,7 +124,7 @@ impl TreeList {
 }
 
 impl TreeMap {
-    // The map of pairs that stand in order.
+    /// The map of pairs that stand in order.
     pub(crate) fn of_pairs(pairs: Vec<(Text, Tree)>) -> TreeMap
         requires { IsInOrder pairs.items }
         ensures { result ≡ plain_pairs pairs.items }

@@ -16,7 +16,7 @@ use std::cmp::Ordering;
 use std::mem;
 use std::rc::Rc;
 
-// The value at the key.
+/// The value at the key.
 pub(crate) fn find<'a>(pairs: &'a [(Text, Value)], key: &str) -> Option<&'a Value>
     requires { IsInOrder pairs.now }
     ensures { option_copied result ≡ value_at key.now pairs.now }
@@ -27,7 +27,7 @@ pub(crate) fn find<'a>(pairs: &'a [(Text, Value)], key: &str) -> Option<&'a Valu
     }
 }
 
-// Puts the value at the key, and gives what was there.
+/// Puts the value at the key, and gives what was there.
 pub(crate) fn insert_pair(
     entries: &mut Rc<Entries>,
     key: Text,
@@ -50,7 +50,7 @@ pub(crate) fn insert_pair(
     }
 }
 
-// The same at the place where the key stands or belongs. The key is shared only where it isn't there.
+/// The same at the place where the key stands or belongs. The key is shared only where it isn't there.
 pub(crate) fn put_pair(
     entries: &mut Rc<Entries>,
     place: Result<usize, usize>,
@@ -75,7 +75,7 @@ pub(crate) fn put_pair(
     }
 }
 
-// Takes the key and its value away.
+/// Takes the key and its value away.
 pub(crate) fn remove_pair(
     entries: &mut Rc<Entries>,
     key: &str,
@@ -151,7 +151,7 @@ fn put_measured(
     }
 }
 
-// Puts the value at the key, which stands at this place, and gives what was there.
+/// Puts the value at the key, which stands at this place, and gives what was there.
 fn replace_at(entries: &mut Entries, i: usize, key: &str, value: Value) -> Value
     requires place { Ok i ≡ seek (key_cmp key.now) entries.old.pairs.items }
     requires order { IsInOrder entries.old.pairs.items }
@@ -173,7 +173,7 @@ fn replace_at(entries: &mut Entries, i: usize, key: &str, value: Value) -> Value
     replaced
 }
 
-// Puts the pair at this place, where its key belongs.
+/// Puts the pair at this place, where its key belongs.
 fn insert_at(entries: &mut Entries, i: usize, key: Text, value: Value) -> Result<(), OutOfMemory>
     requires place { Err i ≡ seek (key_cmp key) entries.old.pairs.items }
     requires order { IsInOrder entries.old.pairs.items }
@@ -206,7 +206,7 @@ fn take_measured(entries: &mut Entries, key: &str) -> Option<Value>
     taken
 }
 
-// Where the key stands, or where it belongs.
+/// Where the key stands, or where it belongs.
 pub(crate) fn seek(pairs: &[(Text, Value)], key: &str) -> Result<usize, usize>
     requires { IsInOrder pairs.now }
     ensures place { result ≡ seek (key_cmp key.now) pairs.now }
@@ -225,7 +225,7 @@ pub(crate) fn seek(pairs: &[(Text, Value)], key: &str) -> Result<usize, usize>
     Err(low)
 }
 
-// The order of two keys. Most are settled by their first bytes, which `cmp` doesn't look at first.
+/// The order of two keys. Most are settled by their first bytes, which `cmp` doesn't look at first.
 fn order(a: &str, b: &str) -> Ordering
     ensures { result ≡ key_cmp a.now b.now }
 {

@@ -10,7 +10,7 @@ use crate::value::Items;
 use crate::{OutOfMemory, Value};
 use std::rc::Rc;
 
-// Adds an item at the end.
+/// Adds an item at the end.
 pub(crate) fn push_item(items: &mut Rc<Items>, item: Value) -> Result<(), OutOfMemory>
     requires { IsMeasure items.old.value.measure
         (list (items_of (plain_items items.old.value.values.items))) }

@@ -6,7 +6,7 @@ ghost use Rattle.wf_value.specs.Plain.{plain, plain_pairs};
 
 use crate::{Text, Value};
 
-// The size and the depth of a value. Each stops at the greatest number of its type.
+/// The size and the depth of a value. Each stops at the greatest number of its type.
 #[derive(Clone, Copy)]
 pub(crate) struct Measure {
     pub(crate) size: u64,
@@ -14,7 +14,7 @@ pub(crate) struct Measure {
 }
 
 impl Measure {
-    // Of the empty list, and of the empty map.
+    /// Of the empty list, and of the empty map.
     pub(crate) fn of_nothing() -> Measure
         ensures size { result.size ≡ 2 }
         ensures depth { result.depth ≡ 1 }
@@ -31,7 +31,7 @@ impl Measure {
         }
     }
 
-    // Of the map of these pairs.
+    /// Of the map of these pairs.
     pub(crate) fn of_pairs(pairs: &[(Text, Value)]) -> Measure
         ensures { IsMeasure result (map (pairs_of (plain_pairs pairs.now))) }
     {
@@ -42,7 +42,7 @@ impl Measure {
         measure
     }
 
-    // Of the list with this item too.
+    /// Of the list with this item too.
     pub(crate) fn with_item(self, item: Measure) -> Measure
         ensures size { result.size ≡ min (self.size + item.size) 18446744073709551615 }
         ensures depth { result.depth ≡ max self.depth (min (1 + item.depth) 4294967295) }
@@ -53,7 +53,7 @@ impl Measure {
         }
     }
 
-    // Of the map with this pair too.
+    /// Of the map with this pair too.
     pub(crate) fn with_pair(self, key: &Text, value: Measure) -> Measure
         ensures size { result.size ≡ min (self.size + (2 + length key.now + value.size))
             18446744073709551615 }
@@ -69,8 +69,8 @@ impl Measure {
         }
     }
 
-    // Of the map with the new value for the old one. None where the old one may have been what made
-    // the map so deep, or where the size is no longer known.
+    /// Of the map with the new value for the old one. None where the old one may have been what made
+    /// the map so deep, or where the size is no longer known.
     pub(crate) fn with_new(self, old: Measure, new: Measure) -> Option<Measure>
         ensures known { IfSome result (λ m. (self.size < 18446744073709551615)
             × (old.depth ≤ new.depth)) }

@@ -89,7 +89,7 @@ fn push_first(alloc: Global, text: &mut String, part: &PathPart) -> Result<(), A
     }
 }
 
-// Writes what follows another part.
+/// Writes what follows another part.
 fn push_part(alloc: Global, text: &mut String, part: &PathPart) -> Result<(), AllocError>
     ensures { IfOk result (λ _. string_bytes text.new
         ≡ string_bytes text.old ++ part_text part.now) }

@@ -6,7 +6,7 @@ use crate::{OutOfMemory, Text, Value};
 use std::alloc::Global;
 use std::rc::Rc;
 
-// Makes this the only owner of the items, which stay the same.
+/// Makes this the only owner of the items, which stay the same.
 pub(crate) fn own_items(items: &mut Rc<Items>) -> Result<(), OutOfMemory>
     ensures items { items.new.value.values.items ≡ items.old.value.values.items }
     ensures measure { items.new.value.measure ≡ items.old.value.measure }
@@ -31,7 +31,7 @@ fn copy_items(alloc: Global, items: &[Value]) -> Result<Vec<Value>, OutOfMemory>
     Ok(copies)
 }
 
-// Makes this the only owner of the pairs, which stay the same.
+/// Makes this the only owner of the pairs, which stay the same.
 pub(crate) fn own_entries(entries: &mut Rc<Entries>) -> Result<(), OutOfMemory>
     ensures pairs { entries.new.value.pairs.items ≡ entries.old.value.pairs.items }
     ensures measure { entries.new.value.measure ≡ entries.old.value.measure }

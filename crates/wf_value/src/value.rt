@@ -60,7 +60,7 @@ pub struct Map {
     entries: Rc<Entries>,
 }
 
-// What a list holds, and its measure.
+/// What a list holds, and its measure.
 #[cycle(value)]
 #[derive(Drop)]
 pub(crate) struct Items {
@@ -68,7 +68,7 @@ pub(crate) struct Items {
     pub(crate) measure: Measure,
 }
 
-// What a map holds, and its measure.
+/// What a map holds, and its measure.
 #[cycle(value)]
 #[derive(Drop)]
 pub(crate) struct Entries {
@@ -152,7 +152,7 @@ impl List {
         self.items.values.as_slice()
     }
 
-    // What the list counts for, and how deep it nests.
+    /// What the list counts for, and how deep it nests.
     pub(crate) fn measure(&self) -> Measure
         ensures { IsMeasure result (list (items_of self.now)) }
     {
@@ -197,7 +197,7 @@ impl Map {
         }
     }
 
-    // The map of pairs that stand in order.
+    /// The map of pairs that stand in order.
     pub(crate) fn of_pairs(alloc: Global, pairs: Vec<(Text, Value)>) -> Result<Map, OutOfMemory>
         requires { IsInOrder pairs.items }
         ensures { IfOk result (λ m. m ≡ plain_pairs pairs.items) }
@@ -281,7 +281,7 @@ impl Map {
         remove_pair(&mut self.entries, key)
     }
 
-    // The pairs in order.
+    /// The pairs in order.
     pub(crate) fn pairs(&self) -> &[(Text, Value)]
         ensures pairs { plain_pairs result.now ≡ self.now }
         ensures order { IsInOrder result.now }
@@ -289,7 +289,7 @@ impl Map {
         self.entries.pairs.as_slice()
     }
 
-    // What the map counts for, and how deep it nests.
+    /// What the map counts for, and how deep it nests.
     pub(crate) fn measure(&self) -> Measure
         ensures { IsMeasure result (map (pairs_of self.now)) }
     {
@@ -316,7 +316,7 @@ impl Value {
         self.share()
     }
 
-    // An equal value, which shares what it holds.
+    /// An equal value, which shares what it holds.
     pub(crate) fn share(&self) -> Result<Value, OutOfMemory>
         ensures { IfOk result (λ v. v ≡ self.now) }
     {

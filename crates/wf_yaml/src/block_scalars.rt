@@ -18,7 +18,7 @@ use wf_yaml_line::{
     text_of,
 };
 
-// The block scalar with these marks, in a block of which the floor is the least indentation.
+/// The block scalar with these marks, in a block of which the floor is the least indentation.
 pub(crate) fn block_scalar(
     alloc: Global,
     floor: usize,
@@ -36,7 +36,7 @@ pub(crate) fn block_scalar(
     noting(header_fault(number, text), tree)
 }
 
-// Nothing but blanks and a comment may stand behind the marks.
+/// Nothing but blanks and a comment may stand behind the marks.
 pub(crate) fn header_fault(number: u32, text: &[char]) -> Option<Fault>
     ensures { noted result ≡ scalars.header_fault number text.now }
 {
@@ -71,7 +71,7 @@ fn behind_marks(text: &[char]) -> &[char]
     }
 }
 
-// The indentation of a block scalar, if it has lines inside the block around.
+/// The indentation of a block scalar, if it has lines inside the block around.
 fn scalar_indent(floor: usize, behind: &[Row]) -> Option<usize>
     ensures { result ≡ scalars.scalar_indent floor (see_all behind.now) }
 {
@@ -87,7 +87,7 @@ fn scalar_indent(floor: usize, behind: &[Row]) -> Option<usize>
     None
 }
 
-// The scalar with this indentation, whose lines stand at the front of these.
+/// The scalar with this indentation, whose lines stand at the front of these.
 fn lines_tree(
     alloc: Global,
     folded: bool,
@@ -116,7 +116,7 @@ fn is_outside(indent: usize, row: &Row) -> bool
     !row.text.is_empty() && row.indent < indent
 }
 
-// How many lines stand in the scalar with this indentation.
+/// How many lines stand in the scalar with this indentation.
 fn inside_len(indent: usize, rows: &[Row]) -> usize
     ensures within { result ≤ length rows.now }
     ensures inside { see_all (take result rows.now)
@@ -132,7 +132,7 @@ fn inside_len(indent: usize, rows: &[Row]) -> usize
     rows.len()
 }
 
-// Under `>` no line may start with a further blank.
+/// Under `>` no line may start with a further blank.
 fn blank_fault(folded: bool, indent: usize, rows: &[Row]) -> Option<Fault>
     ensures { noted result ≡ cond folded (scalars.no_further_blank indent false (see_all rows.now))
         (Ok tt) }
@@ -160,7 +160,7 @@ fn no_further_blank(indent: usize, rows: &[Row]) -> Option<Fault>
     None
 }
 
-// Whether the line of the scalar in this row starts with a blank.
+/// Whether the line of the scalar in this row starts with a blank.
 fn starts_blank(begun: bool, indent: usize, row: &Row) -> bool
     ensures { result ≡ marks.starts marks.is_blank
         (scalars.scalar_line indent begun (see row.now)) }
@@ -171,14 +171,14 @@ fn starts_blank(begun: bool, indent: usize, row: &Row) -> bool
     }
 }
 
-// Whether the line of the scalar in this row is empty.
+/// Whether the line of the scalar in this row is empty.
 fn is_empty_line(begun: bool, indent: usize, row: &Row) -> bool
     ensures { result ≡ marks.is_empty (scalars.scalar_line indent begun (see row.now)) }
 {
     row.text.is_empty() && !(begun && indent < row.indent)
 }
 
-// The text of the scalar that has these lines.
+/// The text of the scalar that has these lines.
 fn block_text(
     alloc: Global,
     folded: bool,
@@ -197,7 +197,7 @@ fn block_text(
     Ok(text)
 }
 
-// The lines of the scalar in one text, with no line end behind the last that isn't empty.
+/// The lines of the scalar in one text, with no line end behind the last that isn't empty.
 fn joined(alloc: Global, folded: bool, indent: usize, rows: &[Row]) -> Result<Vec<char>, AllocError>
     ensures { IfOk result (λ t. t.items
         ≡ scalars.joined folded (scalars.scalar_lines indent false (see_all rows.now))) }
@@ -220,8 +220,8 @@ fn joined(alloc: Global, folded: bool, indent: usize, rows: &[Row]) -> Result<Ve
     Ok(text)
 }
 
-// What stands between two lines: so many line ends, or a space where lines are to be joined and
-// there are none.
+/// What stands between two lines: so many line ends, or a space where lines are to be joined and
+/// there are none.
 fn push_gap(text: &mut Vec<char>, is_joined: bool, ends: usize) -> Result<(), AllocError>
     ensures { IfOk result (λ _. text.new.items ≡ text.old.items ++ scalars.gap is_joined ends) }
 {

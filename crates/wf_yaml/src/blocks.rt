@@ -27,9 +27,9 @@ use wf_yaml_line::{
     noting, read_key, refuse_if, skip_blanks,
 };
 
-// The node that begins at this head, with the lines behind it. The floor is the least indentation
-// inside the block around, the depth is that of a list or a map here, and `delay` tells that the
-// node is the value of a key that may have a decimal.
+/// The node that begins at this head, with the lines behind it. The floor is the least indentation
+/// inside the block around, the depth is that of a list or a map here, and `delay` tells that the
+/// node is the value of a key that may have a decimal.
 #[cycle(node)]
 pub(crate) fn node(
     alloc: Global,
@@ -109,7 +109,7 @@ fn map_entries<'a>(
     }
 }
 
-// Adds the key of an entry, if it has one.
+/// Adds the key of an entry, if it has one.
 fn add_key(keys: &mut KeySet, key: Option<Key<'_>>) -> Result<(), OutOfMemory>
     ensures { IfOk result (λ _. (k : List ℕ)
         → is_one_of (keys_of keys.new) k
@@ -121,7 +121,7 @@ fn add_key(keys: &mut KeySet, key: Option<Key<'_>>) -> Result<(), OutOfMemory>
     }
 }
 
-// Adds a pair, or notes its fault.
+/// Adds a pair, or notes its fault.
 fn add_pair(
     pairs: &mut PairsSoFar,
     found: Option<Fault>,
@@ -141,7 +141,7 @@ fn add_pair(
     }
 }
 
-// An entry of a map with this indentation, of which the keys stand before.
+/// An entry of a map with this indentation, of which the keys stand before.
 #[cycle(node)]
 fn map_entry(
     alloc: Global,
@@ -172,7 +172,7 @@ fn map_entry(
     }
 }
 
-// A key with a fault by itself, or one that stands before.
+/// A key with a fault by itself, or one that stands before.
 fn pair_faults(number: u32, keys: &KeySet, key: &Key<'_>) -> Option<Fault>
     ensures { noted result ≡ blocks.pair_faults number (keys_of keys.now) (key_view key.now) }
 {
@@ -182,7 +182,7 @@ fn pair_faults(number: u32, keys: &KeySet, key: &Key<'_>) -> Option<Fault>
     )
 }
 
-// The value of a pair in a map with this indentation.
+/// The value of a pair in a map with this indentation.
 #[cycle(node)]
 fn pair_value(
     alloc: Global,
@@ -207,7 +207,7 @@ fn pair_value(
     scalar(alloc, indent + 1, depth + 1, delay, number, text, body)
 }
 
-// A value with its key, under what was noted.
+/// A value with its key, under what was noted.
 fn keyed(
     fault: Option<Fault>,
     key: &Key<'_>,
@@ -222,7 +222,7 @@ fn keyed(
     }
 }
 
-// A line at a map's indentation that is neither a pair nor an item.
+/// A line at a map's indentation that is neither a pair nor an item.
 fn stray(alloc: Global, depth: u32, number: u32, text: &[char]) -> Result<(Text, Tree), YamlFault>
     requires { depth ≤ 102 }
     ensures { Gives see_pair result (blocks.stray depth number text.now) }
@@ -287,7 +287,7 @@ fn list_entries<'a>(
     }
 }
 
-// Adds an item, or notes its fault.
+/// Adds an item, or notes its fault.
 fn add_item(
     items: &mut TreeList,
     found: Option<Fault>,
@@ -307,7 +307,7 @@ fn add_item(
     }
 }
 
-// An entry of a list with this indentation.
+/// An entry of a list with this indentation.
 #[cycle(node)]
 fn list_entry(
     alloc: Global,
@@ -348,7 +348,7 @@ fn list_entry(
     node(alloc, indent + 1, depth + 1, false, content, body)
 }
 
-// The block behind an item or a key of a block with this indentation.
+/// The block behind an item or a key of a block with this indentation.
 #[cycle(node)]
 fn block(
     alloc: Global,

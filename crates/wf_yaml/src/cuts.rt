@@ -9,7 +9,7 @@ use crate::rows::{Head, Row};
 use crate::starts::{is_item, starts_tab};
 use wf_yaml_line::{Fault, Kind, is_blank_line};
 
-// The line as the head of what stands in it.
+/// The line as the head of what stands in it.
 pub(crate) fn head_of(row: &Row) -> Head<'_>
     ensures { see_head result ≡ see row.now }
 {
@@ -20,7 +20,7 @@ pub(crate) fn head_of(row: &Row) -> Head<'_>
     }
 }
 
-// A line that fits no open block.
+/// A line that fits no open block.
 pub(crate) fn misplaced(number: u32, text: &[char]) -> Fault
     ensures { lines.misplaced_at number text.now ≡ result }
 {
@@ -32,7 +32,7 @@ pub(crate) fn misplaced(number: u32, text: &[char]) -> Fault
     Fault { line: number, kind }
 }
 
-// Without the blank lines at the front.
+/// Without the blank lines at the front.
 pub(crate) fn counting(rows: &[Row]) -> &[Row]
     ensures { see_all result.now ≡ lines.counting (see_all rows.now) }
 {
@@ -50,7 +50,7 @@ pub(crate) fn counting(rows: &[Row]) -> &[Row]
     }
 }
 
-// No line that counts may be left.
+/// No line that counts may be left.
 pub(crate) fn no_more(rows: &[Row]) -> Option<Fault>
     ensures { noted result ≡ lines.no_more (see_all rows.now) }
 {
@@ -69,7 +69,7 @@ fn is_head(in_map: bool, indent: usize, row: &Row) -> bool
     !in_map || row.indent != indent || !is_item(&row.text)
 }
 
-// How many lines stand before the next head of a map or a list with this indentation.
+/// How many lines stand before the next head of a map or a list with this indentation.
 pub(crate) fn body_len(in_map: bool, indent: usize, rows: &[Row]) -> usize
     ensures within { result ≤ length rows.now }
     ensures lead { (cuts.cut (cuts.heads in_map indent) (see_all rows.now)).lead

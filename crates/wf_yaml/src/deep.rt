@@ -15,7 +15,7 @@ use wf_yaml_line::{
     skip_blanks,
 };
 
-// A scalar by itself: of a block scalar the marks alone.
+/// A scalar by itself: of a block scalar the marks alone.
 fn line_alone(
     alloc: Global,
     delay: bool,
@@ -33,7 +33,7 @@ fn line_alone(
     }
 }
 
-// What stands behind a key on its line.
+/// What stands behind a key on its line.
 fn value_line(alloc: Global, depth: u32, number: u32, key: &Key<'_>) -> Result<Tree, YamlFault>
     requires { depth ≤ 102 }
     ensures { Gives plain_tree result (blocks.value_line number depth (key_view key.now)) }
@@ -63,7 +63,7 @@ fn other_line(alloc: Global, depth: u32, number: u32, text: &[char]) -> Result<T
     }
 }
 
-// The faults of a line past the deepest nesting. Its items stand in each other, one a turn.
+/// The faults of a line past the deepest nesting. Its items stand in each other, one a turn.
 pub(crate) fn deep(alloc: Global, depth: u32, number: u32, text: &[char]) -> Result<Tree, YamlFault>
     requires { depth ≤ 102 }
     ensures { Gives plain_tree result (blocks.deep_line (length text.now) number depth text.now) }

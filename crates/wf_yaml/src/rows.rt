@@ -1,7 +1,7 @@
 // The lines of a source, and where a node begins.
 ghost use Rattle.std.specs.Prelude.{◌+◌, ◌<◌, vec_len, length};
 
-// A line: its number, how many spaces it begins with, and the rest of it.
+/// A line: its number, how many spaces it begins with, and the rest of it.
 #[derive(Drop)]
 pub(crate) struct Row {
     pub(crate) number: u32,
@@ -10,7 +10,7 @@ pub(crate) struct Row {
     ghost small: { indent + vec_len text < 4294967296 },
 }
 
-// Where a node or an entry begins: the line's number, the column of its content, and the content.
+/// Where a node or an entry begins: the line's number, the column of its content, and the content.
 #[derive(Clone, Copy, Drop)]
 pub(crate) struct Head<'a> {
     pub(crate) number: u32,

@@ -25,7 +25,7 @@ fn goes_on(floor: usize, behind: &[Row]) -> bool
     }
 }
 
-// Whether a plain scalar goes on in the next line that counts.
+/// Whether a plain scalar goes on in the next line that counts.
 fn is_going_on(floor: usize, s: &[char], behind: &[Row]) -> bool
     ensures { result ≡ blocks.is_going_on floor s.now (see_all behind.now) }
 {
@@ -46,7 +46,7 @@ fn behind_fault(floor: usize, number: u32, s: &[char], behind: &[Row]) -> Option
     }
 }
 
-// A scalar or a flow collection in a line, with the lines behind it.
+/// A scalar or a flow collection in a line, with the lines behind it.
 pub(crate) fn scalar(
     alloc: Global,
     floor: usize,

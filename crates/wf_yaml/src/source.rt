@@ -18,7 +18,7 @@ use wf_span::{Line, lines};
 use wf_tree::Tree;
 use wf_yaml_line::{Fault, Kind, YamlFault, ends_line, ends_word, noting_after};
 
-// The lines of a source.
+/// The lines of a source.
 fn rows_of(alloc: Global, src: &str) -> Result<Vec<Row>, AllocError>
     requires { length src.now < 4294967296 }
     ensures { IfOk result (λ rs. see_all rs.items ≡ lines.rows src.now) }
@@ -42,7 +42,7 @@ fn row_of(alloc: Global, line: &Line<'_>) -> Result<Row, AllocError>
     })
 }
 
-// A source without its one `---` at the front.
+/// A source without its one `---` at the front.
 fn behind_start(rows: &[Row]) -> &[Row]
     ensures { see_all result.now ≡ lines.behind_start (see_all rows.now) }
 {
@@ -91,7 +91,7 @@ fn is_any_mark(row: &Row) -> bool
     row.indent == 0 && (is_dashes(&row.text) || is_dots(&row.text))
 }
 
-// How many lines stand before the first mark.
+/// How many lines stand before the first mark.
 fn mark_at(rows: &[Row]) -> usize
     ensures within { result ≤ length rows.now }
     ensures before { see_all (take result rows.now) ≡ lines.before_mark (see_all rows.now) }
@@ -143,7 +143,7 @@ fn no_lone_return(rows: &[Row]) -> Option<Fault>
     None
 }
 
-// The node that all these lines are.
+/// The node that all these lines are.
 fn content(alloc: Global, rows: &[Row]) -> Result<Tree, YamlFault>
     ensures { Gives plain_tree result
         (blocks.node 100 0 1 reading.no_delay (lines.counting (see_all rows.now))) }
@@ -169,7 +169,7 @@ fn read_rows(alloc: Global, rows: &[Row]) -> Result<Tree, YamlFault>
     noting_after(tree, no_lone_return(rows))
 }
 
-// The tree of a source, or its first fault.
+/// The tree of a source, or its first fault.
 pub(crate) fn read_source(alloc: Global, src: &str) -> Result<Tree, YamlFault>
     requires { length src.now < 4294967296 }
     ensures { Gives plain_tree result (reading.reading_of (lines.rows src.now)) }

@@ -37,7 +37,7 @@ pub(crate) fn starts_tab(s: &[char]) -> bool
     }
 }
 
-// Whether a block scalar begins.
+/// Whether a block scalar begins.
 pub(crate) fn starts_scalar(s: &[char]) -> bool
     ensures { result ≡ starts.starts_scalar s.now }
 {
@@ -62,7 +62,7 @@ fn starts_block(alloc: Global, s: &[char]) -> Result<bool, OutOfMemory>
     is_pair(alloc, s)
 }
 
-// Whether a tab stands behind an item's `-` and before a list or a map on its line.
+/// Whether a tab stands behind an item's `-` and before a list or a map on its line.
 pub(crate) fn has_tab_block(
     alloc: Global,
     rest: &[char],
@@ -77,7 +77,7 @@ pub(crate) fn has_tab_block(
     Ok(false)
 }
 
-// Whether a tab stands among the blanks at the front.
+/// Whether a tab stands among the blanks at the front.
 fn has_tab_gap(s: &[char]) -> bool
     ensures { result ≡ starts.has_tab_gap s.now }
 {

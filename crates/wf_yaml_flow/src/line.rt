@@ -18,7 +18,7 @@ use wf_yaml_line::{
     skip_blanks, starts_quote, text_tree, trimmed,
 };
 
-// A plain scalar, which goes to the line's end or a comment.
+/// A plain scalar, which goes to the line's end or a comment.
 fn plain_line(alloc: Global, delay: bool, line: u32, s: &[char]) -> Result<Tree, YamlFault>
     ensures { Gives plain_tree result (lines.plain_line delay line s.now) }
 {
@@ -29,7 +29,7 @@ fn plain_line(alloc: Global, delay: bool, line: u32, s: &[char]) -> Result<Tree,
     noting_after(value, refuse_if(has_colon, line, Kind::Unsupported))
 }
 
-// A quoted scalar, behind which nothing but a comment may stand.
+/// A quoted scalar, behind which nothing but a comment may stand.
 fn quoted_tree(alloc: Global, line: u32, found: &Quoted<'_>) -> Result<Tree, YamlFault>
     ensures { Gives plain_tree result
         (lines.quoted_tree line (quoted_view found.now) (quoted_view found.now).rest) }
@@ -44,7 +44,7 @@ fn quoted_tree(alloc: Global, line: u32, found: &Quoted<'_>) -> Result<Tree, Yam
     }
 }
 
-// A flow collection, behind which nothing but a comment may stand.
+/// A flow collection, behind which nothing but a comment may stand.
 fn flow_line(alloc: Global, line: u32, depth: u32, s: &[char]) -> Result<Tree, YamlFault>
     requires some { marks.starts marks.is_bracket s.now ≡ true }
     requires depth { depth ≤ 102 }
@@ -59,7 +59,7 @@ fn flow_line(alloc: Global, line: u32, depth: u32, s: &[char]) -> Result<Tree, Y
     }
 }
 
-// A tree, or why there is none.
+/// A tree, or why there is none.
 fn tree_or_fault(tree: Result<Tree, Fault>) -> Result<Tree, YamlFault>
     ensures { Gives plain_tree result (seen_tree tree) }
 {
@@ -69,7 +69,7 @@ fn tree_or_fault(tree: Result<Tree, Fault>) -> Result<Tree, YamlFault>
     }
 }
 
-// Without the characters at the front that are no blanks.
+/// Without the characters at the front that are no blanks.
 fn skip_word(s: &[char]) -> &[char]
     ensures { result.now ≡ marks.skip (λ b. not (marks.is_blank b)) s.now }
 {
@@ -87,7 +87,7 @@ fn skip_word(s: &[char]) -> &[char]
     }
 }
 
-// A node that starts with an anchor, an alias or a tag. What is lower may stand behind it.
+/// A node that starts with an anchor, an alias or a tag. What is lower may stand behind it.
 fn marked_tree(alloc: Global, line: u32, depth: u32, s: &[char]) -> Result<Tree, YamlFault>
     requires { depth ≤ 102 }
     ensures { Gives plain_tree result (lines.marked_tree line depth s.now) }
@@ -101,7 +101,7 @@ fn marked_tree(alloc: Global, line: u32, depth: u32, s: &[char]) -> Result<Tree,
     noting(property_fault(line, s), value)
 }
 
-// The tree of a text that starts with a quote.
+/// The tree of a text that starts with a quote.
 fn quoted_line(alloc: Global, line: u32, s: &[char]) -> Result<Tree, YamlFault>
     ensures { Gives plain_tree result
         (lines.quoted_tree line (quotes.quoted s.now) (quotes.quoted s.now).rest) }

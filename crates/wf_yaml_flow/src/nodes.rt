@@ -17,7 +17,7 @@ use wf_tree::Tree;
 use wf_value::OutOfMemory;
 use wf_yaml_line::{Fault, behind_first, both_noted};
 
-// Nothing more of the line can be read.
+/// Nothing more of the line can be read.
 pub(crate) fn stopped<'a>() -> Turn<'a>
     ensures seen { (n d : ℕ) → walk.turned n d result ≡ flows.stopped n }
     ensures less { walk.opened result.frame + walk.ahead result.place ≡ 0 }
@@ -29,7 +29,7 @@ pub(crate) fn stopped<'a>() -> Turn<'a>
     }
 }
 
-// The turn before which something else was noted.
+/// The turn before which something else was noted.
 #[tactic(auto, using(crate::proofs::FlowJoins::noting_turn))]
 pub(crate) fn noting_first<'a>(fault: Option<Fault>, turn: Turn<'a>) -> Turn<'a>
     ensures seen { (n d : ℕ) → walk.turned n d result
@@ -44,7 +44,7 @@ pub(crate) fn noting_first<'a>(fault: Option<Fault>, turn: Turn<'a>) -> Turn<'a>
     }
 }
 
-// A node's bracket stands here.
+/// A node's bracket stands here.
 fn opens(s: &[char]) -> Turn<'_>
     requires { marks.starts marks.is_bracket s.now ≡ true }
     ensures seen { (n d : ℕ) → walk.turned n d result
@@ -70,7 +70,7 @@ fn empty_node(s: &[char]) -> Turn<'_>
     }
 }
 
-// A scalar as a node, or the one pair of an item `k: v`.
+/// A scalar as a node, or the one pair of an item `k: v`.
 #[tactic(auto, using(crate::proofs::FlowFronts::word_rest))]
 fn item_word(alloc: Global, line: u32, depth: usize, s: &[char]) -> Result<Turn<'_>, OutOfMemory>
     ensures seen { IfOk result (λ t. walk.turned line depth t
@@ -111,7 +111,7 @@ fn item_node(alloc: Global, line: u32, depth: usize, s: &[char]) -> Result<Turn<
     item_word(alloc, line, depth, s)
 }
 
-// An item behind an anchor, an alias or a tag, where nothing may follow.
+/// An item behind an anchor, an alias or a tag, where nothing may follow.
 fn item_or_nothing(
     alloc: Global,
     line: u32,
@@ -129,7 +129,7 @@ fn item_or_nothing(
     item_node(alloc, line, depth, s)
 }
 
-// An item of a list, where it has this depth.
+/// An item of a list, where it has this depth.
 pub(crate) fn read_item(
     alloc: Global,
     line: u32,
@@ -148,7 +148,7 @@ pub(crate) fn read_item(
     Ok(noting_first(property_fault(line, s), turn))
 }
 
-// A scalar as a value, behind which no other `:` may stand.
+/// A scalar as a value, behind which no other `:` may stand.
 #[tactic(auto, using(crate::proofs::FlowFronts::word_rest))]
 fn value_word(alloc: Global, delay: bool, line: u32, s: &[char]) -> Result<Turn<'_>, OutOfMemory>
     ensures seen { (d : ℕ) → IfOk result (λ t. walk.turned line d t
@@ -185,7 +185,7 @@ fn value_node(alloc: Global, delay: bool, line: u32, s: &[char]) -> Result<Turn<
     }
 }
 
-// A value from behind its `:`.
+/// A value from behind its `:`.
 pub(crate) fn read_value(
     alloc: Global,
     delay: bool,

@@ -3,22 +3,22 @@ use wf_tree::{PairsSoFar, Tree, TreeList};
 use wf_value::Text;
 use wf_yaml_line::{Fault, KeySet};
 
-// The pairs of a map so far, and their keys. Where a value was refused, its key stands among them.
+/// The pairs of a map so far, and their keys. Where a value was refused, its key stands among them.
 #[derive(Drop)]
 pub(crate) struct MapSoFar {
     pub(crate) pairs: PairsSoFar,
     pub(crate) keys: KeySet,
 }
 
-// A collection between its elements, with those before.
+/// A collection between its elements, with those before.
 #[derive(Drop)]
 pub(crate) enum Hand {
     Items(TreeList),
     Pairs(MapSoFar),
 }
 
-// What a node that is being read will be: an item of a list, the value of a key of a map, or that
-// of the one pair of an item `k: v`.
+/// What a node that is being read will be: an item of a list, the value of a key of a map, or that
+/// of the one pair of an item `k: v`.
 #[derive(Drop)]
 pub(crate) enum Frame {
     Item(TreeList),
@@ -26,7 +26,7 @@ pub(crate) enum Frame {
     OnePair(Text),
 }
 
-// What is read next, with the text that is left.
+/// What is read next, with the text that is left.
 #[derive(Drop)]
 pub(crate) enum Spot<'a> {
     // Behind the bracket that opens a collection, a map where the flag is set.
@@ -41,7 +41,7 @@ pub(crate) enum Spot<'a> {
     Behind(Hand, &'a [char]),
 }
 
-// Where the walk stands.
+/// Where the walk stands.
 #[derive(Drop)]
 pub(crate) enum Place<'a> {
     // Something is read next.
@@ -52,7 +52,7 @@ pub(crate) enum Place<'a> {
     Stopped,
 }
 
-// What one turn of the walk finds: a fault, what is opened, and where the walk stands now.
+/// What one turn of the walk finds: a fault, what is opened, and where the walk stands now.
 #[derive(Drop)]
 pub(crate) struct Turn<'a> {
     pub(crate) fault: Option<Fault>,

@@ -6,7 +6,7 @@ ghost use Rattle.wf_yaml_flow.specs.Flow as flows;
 
 use wf_yaml_line::{Fault, Kind, ends_word, is_blank, is_flow_mark, refuse_if, skip_blanks};
 
-// Over blanks; behind a blank a comment takes the rest of the line.
+/// Over blanks; behind a blank a comment takes the rest of the line.
 pub(crate) fn flow_blanks(s: &[char]) -> &[char]
     ensures rest { result.now ≡ flows.flow_blanks s.now }
     ensures len { length result.now ≤ length s.now }
@@ -56,7 +56,7 @@ pub(crate) fn starts_comma(s: &[char]) -> bool
     }
 }
 
-// The text behind the `:` of a pair, where one follows a key.
+/// The text behind the `:` of a pair, where one follows a key.
 pub(crate) fn behind_colon(quoted: bool, s: &[char]) -> Option<&[char]>
     ensures rest { option_map (λ r. r.now) result ≡ flows.behind_colon quoted s.now }
     ensures less { IfSome result (λ r. length r.now < length s.now) }
@@ -89,7 +89,7 @@ fn is_tag(s: &[char]) -> bool
     }
 }
 
-// The fault of a text that starts with an anchor, an alias or a tag.
+/// The fault of a text that starts with an anchor, an alias or a tag.
 pub(crate) fn property_fault(line: u32, s: &[char]) -> Option<Fault>
     ensures { noted result ≡ flows.property_fault line s.now }
 {
@@ -116,7 +116,7 @@ fn skip_property(s: &[char]) -> &[char]
     }
 }
 
-// The text behind an anchor, an alias or a tag, where one stands.
+/// The text behind an anchor, an alias or a tag, where one stands.
 pub(crate) fn behind_property(s: &[char]) -> &[char]
     ensures rest { result.now ≡ flows.behind_property s.now }
     ensures len { length result.now ≤ length s.now }
@@ -128,7 +128,7 @@ pub(crate) fn behind_property(s: &[char]) -> &[char]
     }
 }
 
-// Nothing of a node stands here.
+/// Nothing of a node stands here.
 pub(crate) fn ends_node(s: &[char]) -> bool
     ensures { result ≡ flows.ends_node s.now }
 {
@@ -156,14 +156,14 @@ pub(crate) fn starts_map(s: &[char]) -> bool
     }
 }
 
-// The fault of a collection that nests so deep.
+/// The fault of a collection that nests so deep.
 pub(crate) fn depth_fault(line: u32, depth: usize) -> Option<Fault>
     ensures { noted result ≡ flows.depth_fault line depth }
 {
     refuse_if(depth > 100, line, Kind::TooDeep)
 }
 
-// The fault of a key that is quoted and has a bad escape.
+/// The fault of a key that is quoted and has a bad escape.
 pub(crate) fn key_fault(line: u32, good: bool) -> Option<Fault>
     ensures { noted result ≡ flows.key_fault line good }
 {

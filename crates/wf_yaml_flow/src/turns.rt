@@ -20,7 +20,7 @@ use wf_tree::{PairsSoFar, Tree, TreeList};
 use wf_value::{OutOfMemory, Text};
 use wf_yaml_line::{Fault, KeySet, Kind, behind_first, both_noted, refuse_if};
 
-// An empty collection.
+/// An empty collection.
 #[tactic(auto, using(crate::proofs::FlowTurns::no_items, crate::proofs::FlowTurns::no_pairs))]
 fn empty_hand(alloc: Global, is_map: bool) -> Result<Hand, OutOfMemory>
     ensures { IfOk result (λ h. (n d : ℕ) (s : List ℕ)
@@ -36,7 +36,7 @@ fn empty_hand(alloc: Global, is_map: bool) -> Result<Hand, OutOfMemory>
     }
 }
 
-// Behind the bracket that opens a collection of this depth.
+/// Behind the bracket that opens a collection of this depth.
 fn open_collection(
     alloc: Global,
     line: u32,
@@ -58,7 +58,7 @@ fn open_collection(
     })
 }
 
-// The bracket that closes a collection stands here.
+/// The bracket that closes a collection stands here.
 fn closes(hand: &Hand, s: &[char]) -> bool
     ensures { result ≡ marks.starts (λ b. b == walk.closing hand.now) s.now }
 {
@@ -71,7 +71,7 @@ fn closes(hand: &Hand, s: &[char]) -> bool
     }
 }
 
-// The tree of a collection whose elements are read.
+/// The tree of a collection whose elements are read.
 fn ended_tree(hand: Hand) -> Result<Tree, OutOfMemory>
     ensures { IfOk result (λ t. plain_tree t ≡ walk.ended hand) }
 {
@@ -81,7 +81,7 @@ fn ended_tree(hand: Hand) -> Result<Tree, OutOfMemory>
     }
 }
 
-// Behind the bracket that closes a collection.
+/// Behind the bracket that closes a collection.
 fn finished(hand: Hand, rest: &[char]) -> Result<Turn<'_>, OutOfMemory>
     ensures seen { (n d : ℕ) → IfOk result (λ t. walk.turned n d t
         ≡ flows.goes (Ok (walk.ended hand)) rest.now) }
@@ -96,7 +96,7 @@ fn finished(hand: Hand, rest: &[char]) -> Result<Turn<'_>, OutOfMemory>
     })
 }
 
-// The keys, and another one.
+/// The keys, and another one.
 fn with_key(keys: KeySet, key: &Text) -> Result<KeySet, OutOfMemory>
     ensures { IfOk result (λ new. (k : List ℕ)
         → marks.is_one_of (keys_of new) k
@@ -108,7 +108,7 @@ fn with_key(keys: KeySet, key: &Text) -> Result<KeySet, OutOfMemory>
     Ok(keys)
 }
 
-// A pair of a map up to its `:`.
+/// A pair of a map up to its `:`.
 #[tactic(auto, using(crate::proofs::FlowFronts::word_rest))]
 fn read_pair(alloc: Global, line: u32, map: MapSoFar, s: &[char]) -> Result<Turn<'_>, OutOfMemory>
     ensures seen { (d : ℕ) → IfOk result (λ t. walk.turned line d t
@@ -142,7 +142,7 @@ fn read_pair(alloc: Global, line: u32, map: MapSoFar, s: &[char]) -> Result<Turn
     })
 }
 
-// Before an element of a collection, which doesn't close here.
+/// Before an element of a collection, which doesn't close here.
 fn read_element(alloc: Global, line: u32, hand: Hand, s: &[char]) -> Result<Turn<'_>, OutOfMemory>
     requires { (marks.is_empty s.now ≡ false)
         × (marks.starts (λ b. b == walk.closing hand) s.now ≡ false) }
@@ -164,7 +164,7 @@ fn read_element(alloc: Global, line: u32, hand: Hand, s: &[char]) -> Result<Turn
     }
 }
 
-// Before an element of a collection, or its end.
+/// Before an element of a collection, or its end.
 fn at_element(alloc: Global, line: u32, hand: Hand, s: &[char]) -> Result<Turn<'_>, OutOfMemory>
     ensures seen { (d : ℕ) → IfOk result (λ t. walk.turned line d t
         ≡ walk.from_element line d hand s.now) }
@@ -180,7 +180,7 @@ fn at_element(alloc: Global, line: u32, hand: Hand, s: &[char]) -> Result<Turn<'
     read_element(alloc, line, hand, s)
 }
 
-// Behind an element of a collection: a comma and more, or the end.
+/// Behind an element of a collection: a comma and more, or the end.
 fn behind_element(hand: Hand, r: &[char]) -> Result<Turn<'_>, OutOfMemory>
     ensures seen { (n d : ℕ) → IfOk result (λ t. walk.turned n d t
         ≡ walk.behind_one n d hand r.now) }
@@ -202,7 +202,7 @@ fn behind_element(hand: Hand, r: &[char]) -> Result<Turn<'_>, OutOfMemory>
     Ok(stopped())
 }
 
-// One turn of the walk, where a node has this depth.
+/// One turn of the walk, where a node has this depth.
 pub(crate) fn turn<'a>(
     alloc: Global,
     line: u32,
@@ -222,7 +222,7 @@ pub(crate) fn turn<'a>(
     }
 }
 
-// A node becomes a part of what is open.
+/// A node becomes a part of what is open.
 #[tactic(auto, using(crate::proofs::FlowJoins::put_item, crate::proofs::FlowJoins::put_value, crate::proofs::FlowJoins::put_one_pair))]
 pub(crate) fn put<'a>(
     alloc: Global,

@@ -16,15 +16,15 @@ use wf_tree::Tree;
 use wf_value::OutOfMemory;
 use wf_yaml_line::{Fault, Kind, behind_first, both_noted, least};
 
-// What was read of the front of a text: what it is, and the text behind it. Or nothing more of the
-// line can be read.
+/// What was read of the front of a text: what it is, and the text behind it. Or nothing more of the
+/// line can be read.
 #[derive(Drop)]
 pub(crate) enum Seen<'a> {
     Goes(Result<Tree, Fault>, &'a [char]),
     Stops(Fault),
 }
 
-// What was read, unless a fault was noted.
+/// What was read, unless a fault was noted.
 fn unless_noted(fault: Option<Fault>, tree: Tree) -> Result<Tree, Fault>
     ensures { seen_tree result ≡ so_far (plain_tree tree) fault }
 {
@@ -34,7 +34,7 @@ fn unless_noted(fault: Option<Fault>, tree: Tree) -> Result<Tree, Fault>
     }
 }
 
-// A tree, or Null where a fault was noted, so that no tree nests deeper than 100.
+/// A tree, or Null where a fault was noted, so that no tree nests deeper than 100.
 fn kept_tree(fault: Option<Fault>, tree: Tree) -> Tree
     ensures { so_far (plain_tree result) fault ≡ so_far (plain_tree tree) fault }
 {
@@ -44,7 +44,7 @@ fn kept_tree(fault: Option<Fault>, tree: Tree) -> Tree
     }
 }
 
-// Opens what a turn opened.
+/// Opens what a turn opened.
 fn open_frame(frames: &mut Vec<Frame>, frame: Option<Frame>) -> Result<(), OutOfMemory>
     ensures { IfOk result (λ _. frames.new.items ≡ frames.old.items ++ option_to_list frame) }
 {
@@ -55,7 +55,7 @@ fn open_frame(frames: &mut Vec<Frame>, frame: Option<Frame>) -> Result<(), OutOf
     Ok(())
 }
 
-// Reads what is next, under all that is open.
+/// Reads what is next, under all that is open.
 fn read_next<'a>(
     alloc: Global,
     line: u32,
@@ -76,7 +76,7 @@ fn read_next<'a>(
     Ok(found.place)
 }
 
-// The flow collection at the start of a text.
+/// The flow collection at the start of a text.
 pub(crate) fn read_flow(
     alloc: Global,
     line: u32,

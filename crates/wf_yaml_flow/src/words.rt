@@ -20,8 +20,8 @@ use wf_yaml_line::{
     text_of, trimmed,
 };
 
-// The characters of a scalar or a key, whether it was quoted and has good escapes, and the text
-// behind it.
+/// The characters of a scalar or a key, whether it was quoted and has good escapes, and the text
+/// behind it.
 #[derive(Drop)]
 pub(crate) struct FlowWord<'a> {
     pub(crate) chars: Vec<char>,
@@ -30,14 +30,14 @@ pub(crate) struct FlowWord<'a> {
     pub(crate) rest: &'a [char],
 }
 
-// A scalar's tree, Null where a fault was noted.
+/// A scalar's tree, Null where a fault was noted.
 #[derive(Drop)]
 pub(crate) struct Scalar {
     pub(crate) tree: Tree,
     pub(crate) fault: Option<Fault>,
 }
 
-// Whether a plain scalar ends before this character.
+/// Whether a plain scalar ends before this character.
 fn ends_plain(after_blank: bool, c: char, rest: &[char]) -> bool
     ensures { result ≡ walk.ends_plain after_blank c rest.now }
 {
@@ -79,8 +79,8 @@ fn may_start_flow(s: &[char]) -> bool
     }
 }
 
-// The quote that an expression stands in behind a character, or a zero, and whether a backslash
-// stands before.
+/// The quote that an expression stands in behind a character, or a zero, and whether a backslash
+/// stands before.
 fn behind_character(quote: char, escaped: bool, c: char) -> (char, bool)
     requires { walk.closes_expression quote escaped c ≡ false }
     ensures { (r : List ℕ) → flows.expression_length quote escaped (c ∷ r)
@@ -103,7 +103,7 @@ fn behind_character(quote: char, escaped: bool, c: char) -> (char, bool)
     }
 }
 
-// How many characters an expression takes up to its `}`.
+/// How many characters an expression takes up to its `}`.
 fn expression_length(s: &[char]) -> Option<usize>
     ensures within { IfSome result (λ n. n ≤ length s.now) }
     ensures length { result ≡ flows.expression_length 0 false s.now }
@@ -131,7 +131,7 @@ fn starts_expression(s: &[char]) -> bool
     }
 }
 
-// A word that isn't quoted: so many characters at the start of a text.
+/// A word that isn't quoted: so many characters at the start of a text.
 fn unquoted(alloc: Global, s: &[char], n: usize) -> Result<FlowWord<'_>, OutOfMemory>
     requires { n ≤ length s.now }
     ensures { IfOk result (λ w. walk.found_word (Some w)
@@ -188,7 +188,7 @@ fn plain_word(alloc: Global, s: &[char]) -> Result<Option<FlowWord<'_>>, OutOfMe
     Ok(Some(unquoted(alloc, s, part.len())?))
 }
 
-// What stands at a place where a scalar may stand.
+/// What stands at a place where a scalar may stand.
 pub(crate) fn read_word(alloc: Global, s: &[char]) -> Result<Option<FlowWord<'_>>, OutOfMemory>
     ensures { IfOk result (λ w. walk.found_word w ≡ flows.flow_word s.now) }
 {
@@ -203,14 +203,14 @@ pub(crate) fn read_word(alloc: Global, s: &[char]) -> Result<Option<FlowWord<'_>
     }
 }
 
-// The text of a word.
+/// The text of a word.
 pub(crate) fn word_text(alloc: Global, word: &FlowWord<'_>) -> Result<Text, OutOfMemory>
     ensures { IfOk result (λ t. t ≡ encode_utf8_all word.now.chars.items) }
 {
     text_of(alloc, word.chars.as_slice())
 }
 
-// Whether a key's value may be a decimal.
+/// Whether a key's value may be a decimal.
 pub(crate) fn has_delay(key: &Text) -> bool
     ensures { result ≡ scalars.is_delay_key key.now }
 {
@@ -231,7 +231,7 @@ fn plain_or_fault(read: Result<Tree, YamlFault>) -> Result<Scalar, OutOfMemory>
     }
 }
 
-// The tree of a word that is a scalar.
+/// The tree of a word that is a scalar.
 pub(crate) fn word_tree(
     alloc: Global,
     delay: bool,

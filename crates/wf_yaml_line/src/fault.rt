@@ -71,7 +71,7 @@ impl From<AllocError> for YamlFault {
     }
 }
 
-// Where a kind stands in the order.
+/// Where a kind stands in the order.
 fn rank(kind: Kind) -> u8
     ensures { result ≡ faults.rank kind }
 {

@@ -56,7 +56,7 @@ pub fn starts_quote(s: &[char]) -> bool
     matches!(s, ['\'' | '"', ..])
 }
 
-// What stands behind the `:` with which a text starts, where a blank or the end follows it.
+/// What stands behind the `:` with which a text starts, where a blank or the end follows it.
 fn behind_colon(s: &[char]) -> Option<&[char]>
     ensures { option_map (λ r. r.now) result ≡ keys.behind_colon s.now }
 {
@@ -66,14 +66,14 @@ fn behind_colon(s: &[char]) -> Option<&[char]>
     }
 }
 
-// The fault of a quoted key: one of its escapes isn't good.
+/// The fault of a quoted key: one of its escapes isn't good.
 fn quoted_fault(good: bool) -> Option<Kind>
     ensures { result ≡ keys.quoted_fault good }
 {
     if good { None } else { Some(Kind::Quote) }
 }
 
-// The fault of a plain key: no plain scalar ends with a `:`.
+/// The fault of a plain key: no plain scalar ends with a `:`.
 fn plain_fault(key: &[char]) -> Option<Kind>
     ensures { result ≡ keys.plain_fault key.now }
 {
@@ -84,7 +84,7 @@ fn plain_fault(key: &[char]) -> Option<Kind>
     }
 }
 
-// The key of a pair that starts with a quote.
+/// The key of a pair that starts with a quote.
 fn quoted_key(alloc: Global, s: &[char]) -> Result<Option<Key<'_>>, OutOfMemory>
     ensures { IfOk result (λ k. option_map key_view k
         ≡ keys.quoted_key (quotes.quoted s.now) (quotes.quoted s.now).rest) }
@@ -103,7 +103,7 @@ fn quoted_key(alloc: Global, s: &[char]) -> Result<Option<Key<'_>>, OutOfMemory>
     }
 }
 
-// The key of a pair that starts with a plain scalar. Blanks at its end are no part of it.
+/// The key of a pair that starts with a plain scalar. Blanks at its end are no part of it.
 fn plain_key(alloc: Global, s: &[char]) -> Result<Option<Key<'_>>, OutOfMemory>
     ensures { IfOk result (λ k. option_map key_view k
         ≡ keys.plain_key (texts.around_colon false s.now)) }

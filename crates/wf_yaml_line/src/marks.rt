@@ -99,14 +99,14 @@ pub fn before_comment(s: &[char]) -> (&[char], bool)
     (s, false)
 }
 
-// Whether a comment starts with a character, where a blank stands before it or doesn't.
+/// Whether a comment starts with a character, where a blank stands before it or doesn't.
 fn is_comment(after_blank: bool, c: char) -> bool
     ensures { result ≡ (after_blank && c == texts.hash) }
 {
     after_blank && c == '#'
 }
 
-// Whether a character is a `:` that a blank or the end of the line follows.
+/// Whether a character is a `:` that a blank or the end of the line follows.
 fn ends_key(c: char, rest: &[char]) -> bool
     ensures { result ≡ (c == texts.colon && texts.ends_word rest.now) }
 {

@@ -19,7 +19,7 @@ pub struct Quoted<'a> {
     pub good: bool,
 }
 
-// Adds a character at the end.
+/// Adds a character at the end.
 fn push(chars: &mut Vec<char>, c: char) -> Result<(), OutOfMemory>
     ensures { IfOk result (λ _. chars.new.items ≡ chars.old.items ++ c ∷ []) }
 {
@@ -27,7 +27,7 @@ fn push(chars: &mut Vec<char>, c: char) -> Result<(), OutOfMemory>
     Ok(())
 }
 
-// What stands behind the opening single quote.
+/// What stands behind the opening single quote.
 fn single(alloc: Global, s: &[char]) -> Result<Quoted<'_>, OutOfMemory>
     ensures { IfOk result (λ q. view q ≡ texts.single false s.now) }
 {
@@ -63,7 +63,7 @@ fn single(alloc: Global, s: &[char]) -> Result<Quoted<'_>, OutOfMemory>
     })
 }
 
-// How many digits follow an escape's letter.
+/// How many digits follow an escape's letter.
 fn escape_width(c: char) -> usize
     ensures { result ≡ texts.escape_width c }
 {
@@ -75,7 +75,7 @@ fn escape_width(c: char) -> usize
     }
 }
 
-// The character of an escape of one letter.
+/// The character of an escape of one letter.
 fn simple_escape(c: char) -> Option<char>
     ensures { result ≡ texts.simple_escape c }
 {
@@ -94,7 +94,7 @@ fn simple_escape(c: char) -> Option<char>
     }
 }
 
-// The character that so many digits spell.
+/// The character that so many digits spell.
 fn hex_escape(width: usize, rest: &[char]) -> Option<char>
     requires { width ≤ 8 }
     ensures { result ≡ texts.hex_escape width rest.now }
@@ -113,7 +113,7 @@ fn hex_escape(width: usize, rest: &[char]) -> Option<char>
     char::from_u32(n as u32)
 }
 
-// The character of an escape, of its letter and what follows it.
+/// The character of an escape, of its letter and what follows it.
 fn escape(c: char, rest: &[char]) -> Option<char>
     ensures { result ≡ texts.escape c rest.now }
 {
@@ -125,7 +125,7 @@ fn escape(c: char, rest: &[char]) -> Option<char>
     }
 }
 
-// What stands behind the opening double quote.
+/// What stands behind the opening double quote.
 fn double(alloc: Global, s: &[char]) -> Result<Quoted<'_>, OutOfMemory>
     ensures { IfOk result (λ q. view q ≡ texts.double false 0 s.now) }
 {

@@ -21,7 +21,7 @@ pub enum Plain {
     Text,
 }
 
-// The value of a digit, 16 where it is none.
+/// The value of a digit, 16 where it is none.
 fn digit_of(c: char) -> u64
     ensures value { result ≡ words.digit_of c }
     ensures small { result ≤ 16 }
@@ -34,7 +34,7 @@ fn digit_of(c: char) -> u64
     }
 }
 
-// Whether there are only digits of the base.
+/// Whether there are only digits of the base.
 pub(crate) fn all_digits(base: u64, s: &[char]) -> bool
     ensures { result ≡ words.all_digits base s.now }
 {
@@ -46,14 +46,14 @@ pub(crate) fn all_digits(base: u64, s: &[char]) -> bool
     true
 }
 
-// Whether there are only digits of the base, and one at least.
+/// Whether there are only digits of the base, and one at least.
 fn is_number(base: u64, s: &[char]) -> bool
     ensures { result ≡ words.is_number base s.now }
 {
     !s.is_empty() && all_digits(base, s)
 }
 
-// The number that digits spell; none where it needs more than 64 bits.
+/// The number that digits spell; none where it needs more than 64 bits.
 pub(crate) fn number(base: u64, s: &[char]) -> Option<u64>
     requires { 1 ≤ base }
     ensures { MatchOption result (2 ^ 64 ≤ words.number_from base 0 s.now) (λ n. n
@@ -66,21 +66,21 @@ pub(crate) fn number(base: u64, s: &[char]) -> Option<u64>
     Some(n)
 }
 
-// The whole number n, where it has 64 bits.
+/// The whole number n, where it has 64 bits.
 fn positive(n: u64) -> Option<i64>
     ensures { result ≡ words.whole_of words.plus n }
 {
     0_i64.checked_add_unsigned(n)
 }
 
-// The whole number -n, where it has 64 bits.
+/// The whole number -n, where it has 64 bits.
 fn negative(n: u64) -> Option<i64>
     ensures { result ≡ words.whole_of words.minus n }
 {
     0_i64.checked_sub_unsigned(n)
 }
 
-// The whole number that digits spell, where it has 64 bits.
+/// The whole number that digits spell, where it has 64 bits.
 fn whole(is_negative: bool, base: u64, s: &[char]) -> Option<i64>
     requires { 1 ≤ base }
     ensures { result ≡ words.whole_of is_negative (words.number_from base 0 s.now) }
@@ -93,7 +93,7 @@ fn whole(is_negative: bool, base: u64, s: &[char]) -> Option<i64>
     }
 }
 
-// What stands behind a sign, where there is one.
+/// What stands behind a sign, where there is one.
 fn unsigned(s: &[char]) -> &[char]
     ensures { result.now ≡ words.unsigned s.now }
 {
@@ -103,28 +103,28 @@ fn unsigned(s: &[char]) -> &[char]
     }
 }
 
-// Whether a text starts with `-`.
+/// Whether a text starts with `-`.
 fn is_negative(s: &[char]) -> bool
     ensures { result ≡ words.is_negative s.now }
 {
     matches!(s, ['-', ..])
 }
 
-// Whether a text starts with a character.
+/// Whether a text starts with a character.
 fn starts_with(c: char, s: &[char]) -> bool
     ensures { result ≡ words.starts_with c s.now }
 {
     matches!(s, [d, ..] if *d == c)
 }
 
-// Whether a text starts with `0` and a letter.
+/// Whether a text starts with `0` and a letter.
 fn has_prefix(letter: char, s: &[char]) -> bool
     ensures { result ≡ words.has_prefix letter s.now }
 {
     starts_with('0', s) && starts_with(letter, behind_first(s))
 }
 
-// Whether a text has the form `([eE][-+]?[0-9]+)?`.
+/// Whether a text has the form `([eE][-+]?[0-9]+)?`.
 fn is_exponent(s: &[char]) -> bool
     ensures { result ≡ words.is_exponent s.now }
 {
@@ -132,14 +132,14 @@ fn is_exponent(s: &[char]) -> bool
         || (starts_with('e', s) || starts_with('E', s)) && is_number(10, unsigned(behind_first(s)))
 }
 
-// Whether a text starts with a digit.
+/// Whether a text starts with a digit.
 fn starts_digit(s: &[char]) -> bool
     ensures { result ≡ texts.starts texts.is_digit s.now }
 {
     matches!(s, [c, ..] if is_digit(*c))
 }
 
-// Whether a text has the form `(\.[0-9]+|[0-9]+(\.[0-9]*)?)([eE][-+]?[0-9]+)?`.
+/// Whether a text has the form `(\.[0-9]+|[0-9]+(\.[0-9]*)?)([eE][-+]?[0-9]+)?`.
 fn is_unsigned_float(s: &[char]) -> bool
     ensures { result ≡ words.is_unsigned_float s.now }
 {
@@ -152,7 +152,7 @@ fn is_unsigned_float(s: &[char]) -> bool
     }
 }
 
-// `null`, `Null`, `NULL`, `~`, or nothing.
+/// `null`, `Null`, `NULL`, `~`, or nothing.
 fn is_null_word(s: &[char]) -> bool
     ensures { result ≡ texts.is_one_of words.null_words s.now }
 {
@@ -162,7 +162,7 @@ fn is_null_word(s: &[char]) -> bool
     )
 }
 
-// `true`, `True`, `TRUE`.
+/// `true`, `True`, `TRUE`.
 fn is_true_word(s: &[char]) -> bool
     ensures { result ≡ texts.is_one_of words.true_words s.now }
 {
@@ -172,7 +172,7 @@ fn is_true_word(s: &[char]) -> bool
     )
 }
 
-// `false`, `False`, `FALSE`.
+/// `false`, `False`, `FALSE`.
 fn is_false_word(s: &[char]) -> bool
     ensures { result ≡ texts.is_one_of words.false_words s.now }
 {
@@ -182,7 +182,7 @@ fn is_false_word(s: &[char]) -> bool
     )
 }
 
-// `.inf`, `.Inf`, `.INF`.
+/// `.inf`, `.Inf`, `.INF`.
 fn is_infinity_word(s: &[char]) -> bool
     ensures { result ≡ texts.is_one_of words.infinity_words s.now }
 {
@@ -192,7 +192,7 @@ fn is_infinity_word(s: &[char]) -> bool
     )
 }
 
-// `.nan`, `.NaN`, `.NAN`.
+/// `.nan`, `.NaN`, `.NAN`.
 fn is_nan_word(s: &[char]) -> bool
     ensures { result ≡ texts.is_one_of words.nan_words s.now }
 {
@@ -202,14 +202,14 @@ fn is_nan_word(s: &[char]) -> bool
     )
 }
 
-// Whether a text is a number with a point or an exponent, an infinity, or no number.
+/// Whether a text is a number with a point or an exponent, an infinity, or no number.
 fn is_float(s: &[char]) -> bool
     ensures { result ≡ words.is_float s.now }
 {
     is_unsigned_float(unsigned(s)) || is_infinity_word(unsigned(s)) || is_nan_word(s)
 }
 
-// What a whole number is, which may need more than 64 bits.
+/// What a whole number is, which may need more than 64 bits.
 fn whole_or_decimal(n: Option<i64>) -> Plain
     ensures { result ≡ words.whole_or_decimal n }
 {
@@ -219,7 +219,7 @@ fn whole_or_decimal(n: Option<i64>) -> Plain
     }
 }
 
-// Whether a text has the form `[0-9]{1,8}\.[0-9]{1,3}`, as a retry's delay may.
+/// Whether a text has the form `[0-9]{1,8}\.[0-9]{1,3}`, as a retry's delay may.
 pub(crate) fn is_delay(s: &[char]) -> bool
     ensures { result ≡ scalars.is_delay s.now }
 {

@@ -30,8 +30,8 @@ pub fn write_yaml(alloc: Global, tree: &Tree) -> Result<Text, OutOfMemory>
     Text::new(alloc, out.as_str())
 }
 
-// Writes a tree whose first line goes on in a line that was begun; the others stand at the
-// indentation. So do the functions below. What was written has all that a tree in memory keeps.
+/// Writes a tree whose first line goes on in a line that was begun; the others stand at the
+/// indentation. So do the functions below. What was written has all that a tree in memory keeps.
 #[cycle(write)]
 fn push_tree(alloc: Global, out: &mut String, indent: u32, tree: &Tree) -> Result<(), AllocError>
     requires { indent + 2 * depth (plain_tree tree.now) ≤ 200 }
@@ -75,7 +75,7 @@ fn push_items(
     }
 }
 
-// Writes items each of which begins a line.
+/// Writes items each of which begins a line.
 #[cycle(write)]
 fn push_more_items(
     alloc: Global,
@@ -128,7 +128,7 @@ fn push_pairs(
     }
 }
 
-// Writes pairs each of which begins a line.
+/// Writes pairs each of which begins a line.
 #[cycle(write)]
 fn push_more_pairs(
     alloc: Global,
@@ -175,7 +175,7 @@ fn push_pair(
     }
 }
 
-// Whether a tree takes lines of its own.
+/// Whether a tree takes lines of its own.
 fn is_block(tree: &Tree) -> bool
     ensures { result ≡ is_block (plain_tree tree.now) }
 {
@@ -186,7 +186,7 @@ fn is_block(tree: &Tree) -> bool
     }
 }
 
-// Writes a number and ends the line.
+/// Writes a number and ends the line.
 fn push_number(alloc: Global, out: &mut String, n: i64) -> Result<(), AllocError>
     ensures { OnOk result (string_bytes out.new
         ≡ string_bytes out.old ++ signed_decimal n ++ codes "\n") }
@@ -194,7 +194,7 @@ fn push_number(alloc: Global, out: &mut String, n: i64) -> Result<(), AllocError
     push_line(out, n.to_string(alloc)?.as_str())
 }
 
-// Writes a text and ends the line.
+/// Writes a text and ends the line.
 fn push_line(out: &mut String, s: &str) -> Result<(), AllocError>
     ensures { OnOk result (string_bytes out.new ≡ string_bytes out.old ++ s.now ++ codes "\n") }
 {

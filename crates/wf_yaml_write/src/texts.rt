@@ -28,7 +28,7 @@ fn starts_plainly(s: &[u8]) -> bool
     }
 }
 
-// Whether a text ends with a space or `:`, or holds `: ` or ` #`.
+/// Whether a text ends with a space or `:`, or holds `: ` or ` #`.
 fn has_mark(s: &[u8]) -> bool
     ensures { result ≡ rules.has_mark s.now }
 {
@@ -42,7 +42,7 @@ fn has_mark(s: &[u8]) -> bool
     }
 }
 
-// The characters of a text in ASCII.
+/// The characters of a text in ASCII.
 fn characters(alloc: Global, s: &[u8]) -> Result<Vec<char>, AllocError>
     ensures { IfOk result (λ cs. cs.items ≡ s.now) }
 {
@@ -73,7 +73,7 @@ fn is_plain(alloc: Global, s: &str) -> Result<bool, AllocError>
     Ok(is_text(plain_kind(list.as_slice())))
 }
 
-// A hex digit in lower case.
+/// A hex digit in lower case.
 fn hex_digit(digit: u8) -> char
     requires { digit < 16 }
     ensures { result ≡ digit_glyph false digit }
@@ -85,7 +85,7 @@ fn hex_digit(digit: u8) -> char
     }
 }
 
-// A character in double quotes.
+/// A character in double quotes.
 fn push_escaped(out: &mut String, c: char) -> Result<(), AllocError>
     ensures { OnOk result (string_bytes out.new
         ≡ string_bytes out.old ++ rules.all_escaped (encode_utf8 c)) }
@@ -101,7 +101,7 @@ fn push_escaped(out: &mut String, c: char) -> Result<(), AllocError>
     }
 }
 
-// A character of a byte, as `\xHH`.
+/// A character of a byte, as `\xHH`.
 fn push_hex(out: &mut String, b: u8) -> Result<(), AllocError>
     ensures { OnOk result (string_bytes out.new
         ≡ string_bytes out.old ++ codes "\\x" ++ rules.hex_digits b) }
@@ -121,7 +121,7 @@ fn push_quoted(out: &mut String, s: &str) -> Result<(), AllocError>
     out.push('"')
 }
 
-// Writes a text or a key: plain where it may be, else in double quotes.
+/// Writes a text or a key: plain where it may be, else in double quotes.
 pub(crate) fn push_text(alloc: Global, out: &mut String, s: &str) -> Result<(), AllocError>
     ensures { OnOk result (string_bytes out.new
         ≡ string_bytes out.old ++ rules.written_text s.now) }
