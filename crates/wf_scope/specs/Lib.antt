@@ -3,3 +3,4 @@ pub mod Faults
 pub mod Layers
 pub mod Places
 pub mod Store
+pub mod Spots
