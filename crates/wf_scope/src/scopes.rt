@@ -1,5 +1,5 @@
 // The layers of an execution.
-ghost use Rattle.std.specs.Prelude.{true, suc, ◌≡◌, ◌≤◌, ◌<◌, ◌+◌, [], length, map, min, IfNone, IfOk, IfSome, OnErr, OnOk, is_ok, if◌then◌else◌, option_map, Some, None, slice_get};
+ghost use Rattle.std.specs.Prelude.{true, suc, ◌≡◌, ◌≤◌, ◌<◌, ◌+◌, [], length, map, min, IfNone, IfOk, OnErr, OnOk, is_ok, if◌then◌else◌, option_map, Some, None, slice_get};
 ghost use Rattle.wf_value.specs.Data.{size};
 ghost use Rattle.wf_value.specs.Maps.{place_of, value_at};
 ghost use Rattle.wf_value.specs.Plain.{plain};
