@@ -5,3 +5,4 @@ pub mod Numbers
 pub mod Seen
 pub mod Totals
 pub mod Writing
+pub mod Spotted

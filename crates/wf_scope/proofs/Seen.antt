@@ -1,6 +1,5 @@
 -- What is seen from a layer.
 use Rattle.std.proofs.Common.{◌≡◌, ◌<◌, inl, inr, ℕ, suc, Bool, true, false, List, [], ◌∷◌, ◌++◌, cond, Option, Some, None, is_some, refl, sym, ap, subst, ◌∙◌, arith}
-use Rattle.std.specs.Option.{IfNone}
 use Rattle.std.specs.Ordering.{is_eq}
 use Rattle.std.proofs.lemmas.Bool.{and_parts, eqb-true, false≢true}
 use Rattle.wf_value.specs.Data.{Data}
@@ -68,11 +67,6 @@ look_past ls rest l x c e = ap (look_in x) c ∙ ap {B = Option Data} (λ g. eli
 
 pub holder_past : (ls rest : List Layer) (l : Layer) (x : Text) → ls ≡ l ∷ rest → value_at x l.vars ≡ None → holder_in x ls ≡ holder_in x rest
 holder_past ls rest l x c e = ap (holder_in x) c ∙ ap {B = Option ℕ} (λ g. elim g [ None ↦ holder_in x rest | Some w ↦ Some l.number ]) e
-
--- what holds anyway
-pub if_none : {A P : Type 0} (o : Option A) → P → IfNone o P
-if_none None h = h
-if_none (Some a) h = tt
 
 -- the variables of a layer that was found
 pub vars_found : (n : ℕ) (ls : List Layer) (l : Layer) → find n ls ≡ Some l → vars_at n ls ≡ l.vars

@@ -79,13 +79,6 @@ counted_some n x v ls l r total f e t room is =
     let all = total_closed n ls l f in
     omega (arith, here, there, within, all, is, room, t)
 
--- the same of a live layer
-pub counted_held : (n : ℕ) (x : Text) (v : Data) (ls : List Layer) (r total : ℕ) → IsLive n ls → value_at x (vars_at n ls) ≡ Some v → total ≡ total_of ls → total ≤ 18446744073709551613 → r ≡ min (2 + length x + size v) 18446744073709551615
-    → r ≡ variable_size x (value_at x (vars_at n ls))
-counted_held n x v ls r total live e t room is =
-    let found = live_found n ls live in
-    counted_some n x v ls found.0 r total found.1 (sym (ap (value_at x) (vars_found n ls found.0 found.1)) ∙ e) t room is
-
 -- it is at most what all count
 pub counted_within : (n : ℕ) (x : Text) (ls : List Layer) (r total : ℕ) → IsLive n ls → total ≡ total_of ls → r ≡ variable_size x (value_at x (vars_at n ls)) → r ≤ total
 counted_within n x ls r total live t is =

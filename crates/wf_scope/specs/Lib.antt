@@ -2,4 +2,5 @@ pub mod Changes
 pub mod Faults
 pub mod Layers
 pub mod Places
+pub mod Spots
 pub mod Store

@@ -1,6 +1,7 @@
 // A layer of variables.
-ghost use Rattle.std.specs.Prelude.{◌≡◌, is_ok, if◌then◌else◌};
+ghost use Rattle.std.specs.Prelude.{◌≡◌, is_ok, if◌then◌else◌, option_map};
 ghost use Rattle.wf_scope.specs.Layers.{with_variable};
+ghost use Rattle.wf_value.specs.Maps.{IsInOrder, place_of, value_at};
 ghost use Rattle.wf_value.specs.Plain.{plain};
 
 use wf_value::{Map, OutOfMemory, Text, Value};
@@ -15,12 +16,35 @@ pub(crate) struct Layer {
 }
 
 impl Layer {
-    /// Makes or changes a variable. Without memory the layer stays, and the value is dropped.
-    pub(crate) fn put(&mut self, name: &Text, value: Value) -> Result<(), OutOfMemory>
+    /// Where the variable of this name stands, and its value; where it isn't there, its place is where it belongs.
+    pub(crate) fn find(&self, name: &str) -> (Result<usize, usize>, Option<&Value>)
+        ensures place { result.0 ≡ place_of name.now self.now.vars }
+        ensures value { option_map (λ v. plain v.now) result.1
+            ≡ value_at name.now self.now.vars }
+        ensures order { IsInOrder self.now.vars }
+    {
+        let place = self.vars.place(name);
+        match place {
+            Ok(i) => match self.vars.entry(i) {
+                Some((_, value)) => (place, Some(value)),
+                None => (place, None),
+            },
+            Err(_) => (place, None),
+        }
+    }
+
+    /// Makes or changes the variable of this name, at its place. Without memory the layer stays, and the value is dropped.
+    pub(crate) fn put(
+        &mut self,
+        place: Result<usize, usize>,
+        name: &Text,
+        value: Value,
+    ) -> Result<(), OutOfMemory>
+        requires { place ≡ place_of name.now self.old.vars }
         ensures { self.new ≡ (if is_ok result then with_variable name.now (plain value) self.old
             else self.old) }
     {
-        self.vars.put(name, value)?;
+        self.vars.put_at(place, name, value)?;
         Ok(())
     }
 }

@@ -1,9 +1,11 @@
 // The layers of an execution.
-ghost use Rattle.std.specs.Prelude.{true, suc, ◌≡◌, ◌≤◌, ◌<◌, ◌+◌, [], length, map, min, IfNone, IfOk, IfSome, OnErr, OnOk, is_ok, if◌then◌else◌, option_map, Some, None, slice_get};
+ghost use Rattle.std.specs.Prelude.{true, suc, ◌≡◌, ◌≤◌, ◌<◌, ◌+◌, [], length, map, min, IfNone, IfOk, OnErr, OnOk, is_ok, if◌then◌else◌, option_map, Some, None, slice_get};
 ghost use Rattle.wf_value.specs.Data.{size};
-ghost use Rattle.wf_value.specs.Maps.{IsInOrder, value_at};
+ghost use Rattle.wf_value.specs.Maps.{place_of, value_at};
 ghost use Rattle.wf_value.specs.Plain.{plain};
-ghost use Rattle.wf_scope.specs.Layers.{IsInnermost, IsLive, StayInnermost, StayLive, all_stand, chain, closed, depth_in, find, fresh, holder_in, look_in, opened, put_at, put_place, rises, stands, total_of, variable_size, vars_at};
+ghost use Rattle.wf_scope.specs.Layers.{IsInnermost, IsLive, StayInnermost, StayLive, all_stand, chain, closed, depth_in, find, fresh, holder_in, look_in, opened, put_at, put_place, rises, stands, total_of, vars_at};
+ghost use Rattle.wf_scope.specs.Spots.{IsSpot};
+ghost use Rattle.wf_scope.specs.declared.layer.Layer as declared;
 
 use crate::fault::AssignFault;
 use crate::key::Key;
@@ -42,6 +44,19 @@ pub struct Scopes {
     ghost room: { total ≤ 18446744073709551613 },
     ghost rising: { rises layers.items ≡ true },
     ghost standing: { all_stand layers.items layers.items ≡ true },
+}
+
+/// Where a variable of a layer stands, or where it belongs.
+#[derive(Clone, Copy)]
+struct Spot {
+    /// The layer's number.
+    number: u64,
+    /// Where the layer stands.
+    layer: usize,
+    /// Where the variable stands among those of the layer.
+    pair: Result<usize, usize>,
+    /// What it counts, 0 where it isn't there.
+    counted: u64,
 }
 
 impl Scopes {
@@ -138,8 +153,8 @@ impl Scopes {
         ensures apart { StayInnermost (layers_of self.old) (layers_of self.new) }
     {
         let key = name.as_str();
-        let counted = self.counted(c.number, key);
-        self.bind_counted(c.number, counted, name, v)
+        let (spot, _) = self.spot(c.number, key);
+        self.bind_at(spot, name, v)
     }
 
     /// Assigns a value to a name, or to the places below it. A variable that is seen from the layer is changed where it stands; else it is
@@ -165,16 +180,14 @@ impl Scopes {
         ensures apart { StayInnermost (layers_of self.old) (layers_of self.new) }
     {
         let key = name.as_str();
-        match self.holder(c.number, key) {
-            Some((number, old)) => {
-                let counted = size_of_variable(key, old);
-                match written(self.alloc, path, old, v) {
-                    Ok(value) => self.bind_counted(number, counted, name, value),
-                    Err(fault) => Err(fault),
-                }
-            }
+        let (spot, old) = self.target(c.number, key);
+        match old {
+            Some(old) => match written(self.alloc, path, old, v) {
+                Ok(value) => self.bind_at(spot, name, value),
+                Err(fault) => Err(fault),
+            },
             None => match path {
-                [] => self.bind(c, name, v),
+                [] => self.bind_at(spot, name, v),
                 [_, ..] => Err(AssignFault::MissingKey),
             },
         }
@@ -214,75 +227,78 @@ impl Scopes {
         }
     }
 
-    /// The number of the innermost layer that has the name, of those that are seen, and the value there.
-    fn holder(&self, number: u64, name: &str) -> Option<(u64, &Value)>
+    /// The variable of this name in a layer, and its value.
+    fn spot(&self, number: u64, name: &str) -> (Spot, Option<&Value>)
         requires { IsLive number (layers_of self.now) }
-        ensures holder { option_map (λ h. h.0) result
-            ≡ holder_in name.now (chain number (layers_of self.now)) }
-        ensures live { IfSome result (λ h. IsLive h.0 (layers_of self.now)) }
-        ensures order { IfSome result (λ h. IsInOrder (vars_at h.0 (layers_of self.now))) }
-        ensures value { IfSome result (λ h. value_at name.now (vars_at h.0 (layers_of self.now))
-            ≡ Some (plain h.1.now)) }
-        ensures absent { IfNone result (value_at name.now (vars_at number (layers_of self.now))
-            ≡ None) }
+        ensures number { result.0.number ≡ number }
+        ensures spot { IsSpot result.0 name.now (layers_of self.now) }
+        ensures value { option_map (λ v. plain v.now) result.1
+            ≡ value_at name.now (vars_at number (layers_of self.now)) }
     {
-        let layer = &self.layers[self.place(number)];
-        match layer.vars.get(name) {
-            Some(value) => Some((number, value)),
-            None => match layer.outer {
-                Some(outer) => self.holder(outer, name),
-                None => None,
+        let place = self.place(number);
+        let (pair, value) = self.layers[place].find(name);
+        let counted = match value {
+            Some(value) => size_of_variable(name, value),
+            None => 0,
+        };
+        let spot = Spot {
+            number,
+            layer: place,
+            pair,
+            counted,
+        };
+        (spot, value)
+    }
+
+    /// The variable of this name in the innermost layer that has it, of those that are seen, and its value; where none has it, its spot in
+    /// the layer itself.
+    fn target(&self, number: u64, name: &str) -> (Spot, Option<&Value>)
+        requires { IsLive number (layers_of self.now) }
+        ensures holder { option_map (λ v. result.0.number) result.1
+            ≡ holder_in name.now (chain number (layers_of self.now)) }
+        ensures absent { IfNone result.1 (result.0.number ≡ number) }
+        ensures live { IsLive result.0.number (layers_of self.now) }
+        ensures spot { IsSpot result.0 name.now (layers_of self.now) }
+        ensures value { option_map (λ v. plain v.now) result.1
+            ≡ value_at name.now (vars_at result.0.number (layers_of self.now)) }
+    {
+        let (spot, value) = self.spot(number, name);
+        match value {
+            Some(value) => (spot, Some(value)),
+            None => match self.layers[spot.layer].outer {
+                Some(outer) => match self.target(outer, name) {
+                    (outside, Some(value)) => (outside, Some(value)),
+                    (_, None) => (spot, None),
+                },
+                None => (spot, None),
             },
         }
     }
 
-    /// What a layer's variable counts, 0 where there is none.
-    fn counted(&self, number: u64, name: &str) -> u64
-        requires { IsLive number (layers_of self.now) }
-        ensures size { result ≡ variable_size name.now
-            (value_at name.now (vars_at number (layers_of self.now))) }
-        ensures order { IsInOrder (vars_at number (layers_of self.now)) }
-    {
-        let layer = &self.layers[self.place(number)];
-        match layer.vars.get(name) {
-            Some(value) => size_of_variable(name, value),
-            None => 0,
-        }
-    }
-
-    /// The total once this layer's variable, which counts so much, has the value.
-    fn total_with(&self, number: u64, counted: u64, name: &Text, value: &Value) -> u64
-        requires live { IsLive number (layers_of self.now) }
-        requires counted { counted ≡ variable_size name.now
-            (value_at name.now (vars_at number (layers_of self.now))) }
-        requires order { IsInOrder (vars_at number (layers_of self.now)) }
+    /// The total once the variable has the value.
+    fn total_with(&self, spot: Spot, name: &Text, value: &Value) -> u64
+        requires live { IsLive spot.number (layers_of self.now) }
+        requires spot { IsSpot spot name.now (layers_of self.now) }
         ensures { result ≡ min (total_of
-            (put_at number name.now (plain value.now) (layers_of self.now))) 18446744073709551615 }
+            (put_at spot.number name.now (plain value.now) (layers_of self.now)))
+            18446744073709551615 }
     {
-        let rest = self.total - counted;
+        let rest = self.total - spot.counted;
         rest.saturating_add(size_of_variable(name.as_str(), value))
     }
 
-    /// Makes or changes a variable of a layer, which counts so much.
-    fn bind_counted(
-        &mut self,
-        number: u64,
-        counted: u64,
-        name: &Text,
-        v: Value,
-    ) -> Result<(), AssignFault>
-        requires live { IsLive number (layers_of self.old) }
-        requires counted { counted ≡ variable_size name.now
-            (value_at name.now (vars_at number (layers_of self.old))) }
-        requires order { IsInOrder (vars_at number (layers_of self.old)) }
+    /// Makes or changes a variable.
+    fn bind_at(&mut self, spot: Spot, name: &Text, v: Value) -> Result<(), AssignFault>
+        requires live { IsLive spot.number (layers_of self.old) }
+        requires spot { IsSpot spot name.now (layers_of self.old) }
         ensures outcome { Answers result (layers_of self.new)
-            (bound self.old.limit number name.now (plain v) (layers_of self.old)) }
+            (bound self.old.limit spot.number name.now (plain v) (layers_of self.old)) }
         ensures kept { OnErr result (layers_of self.new ≡ layers_of self.old) }
         ensures limit { self.new.limit ≡ self.old.limit }
         ensures stay { StayLive (layers_of self.old) (layers_of self.new) }
         ensures apart { StayInnermost (layers_of self.old) (layers_of self.new) }
     {
-        let total = self.total_with(number, counted, name, &v);
+        let total = self.total_with(spot, name, &v);
         if total > self.limit {
             return Err(AssignFault::TooLarge);
         }
@@ -292,8 +308,7 @@ impl Scopes {
         if v.depth() > NESTING_LIMIT {
             return Err(AssignFault::TooDeep);
         }
-        let place = self.place(number);
-        match put(&mut self.layers, place, name, v) {
+        match put(&mut self.layers, spot.layer, spot.pair, name, v) {
             Ok(()) => {
                 self.total = total;
                 Ok(())
@@ -351,12 +366,20 @@ fn size_of_variable(name: &str, value: &Value) -> u64
         .saturating_add(name.len() as u64)
 }
 
-/// Makes or changes a variable of the layer at a place. Without memory all stays.
-fn put(layers: &mut Vec<Layer>, place: usize, name: &Text, value: Value) -> Result<(), OutOfMemory>
-    requires { place < length layers.old.items }
+/// Makes or changes a variable of the layer at a place, at its own place there. Without memory all stays.
+fn put(
+    layers: &mut Vec<Layer>,
+    place: usize,
+    pair: Result<usize, usize>,
+    name: &Text,
+    value: Value,
+) -> Result<(), OutOfMemory>
+    requires within { place < length layers.old.items }
+    requires pair { (l : declared.Layer) → slice_get layers.old.items place ≡ Some l
+        → pair ≡ place_of name.now l.vars }
     ensures { layers.new.items ≡ (if is_ok result then put_place place name.now (plain value)
         layers.old.items else layers.old.items) }
 {
     let layer = &mut layers[place];
-    layer.put(name, value)
+    layer.put(pair, name, value)
 }

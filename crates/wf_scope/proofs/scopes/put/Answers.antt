@@ -5,4 +5,4 @@ use Rattle.wf_scope.proofs.scopes.put.Goals as goal
 
 pub returns : goal.returns
 returns c =
-    set_placed (is_ok c.put.result) c.args.layers.now.items c.args.place c.args.name.now (plain c.args.value) c.index_mut-layer.result.now c.put.new.self c.requires c.index_mut-layer.ensures.value c.put.ensures
+    set_placed (is_ok c.put.result) c.args.layers.now.items c.args.place c.args.name.now (plain c.args.value) c.index_mut-layer.result.now c.put.new.self c.requires.within c.index_mut-layer.ensures.value c.put.ensures

@@ -8,12 +8,12 @@ use Rattle.wf_scope.proofs.scopes.Scopes.total_with.Goals as goal
 pub overflow_sub-rest : goal.overflow_sub-rest
 overflow_sub-rest c =
     let s = c.args.self.now in
-    counted_within c.args.number c.args.name.now s.layers.items c.args.counted s.total c.requires.live s.counted c.requires.counted
+    counted_within c.args.spot.number c.args.name.now s.layers.items c.args.spot.counted s.total c.requires.live s.counted c.requires.spot.counted
 
 pub returns : goal.returns
 returns c =
     let s = c.args.self.now in
-    let found = live_found c.args.number s.layers.items c.requires.live in
-    let within = counted_within c.args.number c.args.name.now s.layers.items c.args.counted s.total c.requires.live s.counted c.requires.counted in
-    total_put c.args.number c.args.name.now (plain c.args.value.now) s.layers.items found.0 s.total c.args.counted c.size_of_variable.result c.saturating_add.result found.1 c.requires.order s.counted c.requires.counted within
+    let found = live_found c.args.spot.number s.layers.items c.requires.live in
+    let within = counted_within c.args.spot.number c.args.name.now s.layers.items c.args.spot.counted s.total c.requires.live s.counted c.requires.spot.counted in
+    total_put c.args.spot.number c.args.name.now (plain c.args.value.now) s.layers.items found.0 s.total c.args.spot.counted c.size_of_variable.result c.saturating_add.result found.1 c.requires.spot.order s.counted c.requires.spot.counted within
     (subst (λ x. c.size_of_variable.result ≡ min (2 + length x + size (plain c.args.value.now)) 18446744073709551615) c.as_str.ensures c.size_of_variable.ensures) c.saturating_add.ensures

@@ -1,0 +1,54 @@
+-- Where a variable of a layer stands.
+use Rattle.std.proofs.Common.{◌≡◌, ℕ, true, List, [], Ok, Err, Option, Some, None, get_or, refl, sym, ap, ◌∙◌}
+use Rattle.std.specs.Prelude.{slice_get}
+use Rattle.std.proofs.lemmas.Option.{get_or_from_slice_get, slice_get-get_or}
+use Rattle.wf_value.proofs.Seeks.{found_value, found_within, missing_value}
+use Rattle.wf_value.specs.Data.{Data, null}
+use Rattle.wf_value.specs.Maps.{IsInOrder, place_of, value_at}
+use Rattle.wf_value.specs.Pairs.{Text}
+use Rattle.wf_scope.specs.Layers.{all_stand, chain, find, holder_in, vars_at, vars_in}
+use Rattle.wf_scope.specs.Spots.{IsSpot}
+use Rattle.wf_scope.specs.declared.layer.Layer.{Layer}
+use Rattle.wf_scope.specs.declared.scopes.Spot.{Spot}
+use Rattle.wf_scope.proofs.Numbers.{layer_at, number_found}
+use Rattle.wf_scope.proofs.Seen.{chain_last, chain_outer, holder_here, holder_past, vars_found}
+
+module _ (x : Text) (vs : List (Text × Data)) (i : ℕ) where
+  -- the pair at the place where it was found
+  pub value_there : (k : Text) (v : Data) → Ok i ≡ place_of x vs → Some (k, v) ≡ slice_get vs i → Some v ≡ value_at x vs
+  value_there k v h at = sym (found_value vs x i (k, v) h ∙ ap (λ p. Some p.1) (get_or_from_slice_get vs i (k, v) (k, v) (sym at)))
+
+  -- one stands there
+  pub stands_there : Ok i ≡ place_of x vs → None ≡ slice_get vs i → None ≡ value_at x vs
+  stands_there h at = let there : None ≡ Some (get_or vs i (x, null)) = at ∙ slice_get-get_or vs i (x, null) (found_within vs x i h) in cc there
+
+  pub nothing_there : IsInOrder vs → Err i ≡ place_of x vs → None ≡ value_at x vs
+  nothing_there order h = sym (missing_value vs x i order h)
+
+-- ## In a store
+-- its layer
+pub spot_layer : (s : Spot) (x : Text) (ls : List Layer) (n : ℕ) (l : Layer) → IsSpot s x ls → s.number ≡ n → l ≡ get_or ls s.layer l → find n ls ≡ Some l
+spot_layer s x ls n l is same at = layer_at n ls s.layer l is.within at (is.layer ∙ ap (λ (m : ℕ). find m ls) same)
+
+-- its place among the variables of the layer that stands there
+pub spot_pair : (s : Spot) (x : Text) (ls : List Layer) → IsSpot s x ls → (l : Layer) → slice_get ls s.layer ≡ Some l → s.pair ≡ place_of x l.vars
+spot_pair s x ls is l at = is.pair ∙ ap (place_of x) (vars_found s.number ls l (sym is.layer ∙ at))
+
+-- ## Whose variable it is
+module _ (n : ℕ) (ls : List Layer) (x : Text) where
+  -- the layer's own
+  pub holder_held : (v : Data) → value_at x (vars_at n ls) ≡ Some v → holder_in x (chain n ls) ≡ Some n
+  holder_held v at = by (find n ls) refl at
+    where
+      by : (o : Option Layer) → find n ls ≡ o → value_at x (vars_in o) ≡ Some v → holder_in x (chain n ls) ≡ Some n
+      by None e h = cc
+      by (Some l) e h = holder_here n ls l x v e h ∙ ap Some (number_found n ls l e)
+
+  -- that of a layer outside it, or none's
+  pub holder_outside : (o : ℕ) (l : Layer) → all_stand ls ls ≡ true → find n ls ≡ Some l → l.outer ≡ Some o → value_at x (vars_at n ls) ≡ None → holder_in x (chain n ls) ≡ holder_in x (chain o ls)
+  holder_outside o l stand here out at =
+      holder_past (chain n ls) (chain o ls) l x (chain_outer n o ls l stand here out) (ap (value_at x) (sym (vars_found n ls l here)) ∙ at)
+
+  pub holder_nowhere : (l : Layer) → find n ls ≡ Some l → l.outer ≡ None → value_at x (vars_at n ls) ≡ None → holder_in x (chain n ls) ≡ None
+  holder_nowhere l here out at =
+      holder_past (chain n ls) [] l x (chain_last n ls l here out) (ap (value_at x) (sym (vars_found n ls l here)) ∙ at)

@@ -1,0 +1,40 @@
+use Rattle.std.proofs.Common.{Ok, sym, ap, ◌∙◌, arith}
+use Rattle.wf_value.specs.Plain.{plain}
+use Rattle.wf_scope.specs.Layers.{total_of}
+use Rattle.wf_scope.proofs.Binding.{fits}
+use Rattle.wf_scope.proofs.Kept.{put_kept}
+use Rattle.wf_scope.proofs.Spotted.{spot_pair}
+use Rattle.wf_scope.proofs.Live.{bound_apart, bound_stay}
+use Rattle.wf_scope.proofs.scopes.Scopes.bind_at.Goals as goal
+
+pub put-requires-clause-pair : goal.put-requires-clause-pair
+put-requires-clause-pair c = spot_pair c.args.spot c.args.name.now c.args.self.now.layers.items c.requires.spot
+
+pub invariant_of-self : goal.invariant_of-self
+invariant_of-self c =
+    let s = c.args.self.now in
+    let kept = put_kept c.args.spot.number c.args.name.now (plain c.args.v) s.layers.items c.put.new.layers.items c.args.spot.layer (sym c.requires.spot.layer) c.requires.live c.in-Ok.ensures s.rising s.standing in
+    record {
+      counted = omega (arith, c.total_with-total.ensures, ap total_of kept.0);
+      room = omega arith;
+      rising = kept.1;
+      standing = kept.2;
+    }
+
+pub returns-in-Ok-clause-outcome : goal.returns-in-Ok-clause-outcome
+returns-in-Ok-clause-outcome c =
+    let s = c.args.self.now in
+    let kept = put_kept c.args.spot.number c.args.name.now (plain c.args.v) s.layers.items c.put.new.layers.items c.args.spot.layer (sym c.requires.spot.layer) c.requires.live c.in-Ok.ensures s.rising s.standing in
+    fits s.limit c.args.spot.number c.args.name.now (plain c.args.v) s.layers.items (omega (arith, c.total_with-total.ensures)) (omega (arith, c.depth.ensures)) ∙ ap Ok (sym kept.0)
+
+pub returns-in-Ok-clause-stay : goal.returns-in-Ok-clause-stay
+returns-in-Ok-clause-stay c =
+    let s = c.args.self.now in
+    let kept = put_kept c.args.spot.number c.args.name.now (plain c.args.v) s.layers.items c.put.new.layers.items c.args.spot.layer (sym c.requires.spot.layer) c.requires.live c.in-Ok.ensures s.rising s.standing in
+    bound_stay c.args.spot.number c.args.name.now (plain c.args.v) s.layers.items c.put.new.layers.items kept.0
+
+pub returns-in-Ok-clause-apart : goal.returns-in-Ok-clause-apart
+returns-in-Ok-clause-apart c =
+    let s = c.args.self.now in
+    let kept = put_kept c.args.spot.number c.args.name.now (plain c.args.v) s.layers.items c.put.new.layers.items c.args.spot.layer (sym c.requires.spot.layer) c.requires.live c.in-Ok.ensures s.rising s.standing in
+    bound_apart c.args.spot.number c.args.name.now (plain c.args.v) s.layers.items c.put.new.layers.items kept.0
