@@ -1,11 +1,12 @@
 // What a machine begins with.
 ghost use Rattle.std.specs.Prelude.{◌≡◌, true, IfOk, OnOk};
 ghost use Rattle.wf_alone.specs.Machine.{argument_of};
+ghost use Rattle.wf_ast.specs.Tree.{Program};
 ghost use Rattle.wf_check.specs.Seen.{nodes_of, program_of};
 ghost use Rattle.wf_events.specs.View.{start_view};
 ghost use Rattle.wf_machine.specs.Facts.{facts_of, facts_view};
 ghost use Rattle.wf_machine.specs.Main.{Aims, Begins, IsStanding};
-ghost use Rattle.wf_frames.specs.Built.{is_table_built};
+ghost use Rattle.wf_frames.specs.Built.{AreTargets, Tells, is_table_built};
 ghost use Rattle.wf_frames.specs.Kinds.{AreWants};
 ghost use Rattle.wf_model.specs.Spots.{spots};
 
@@ -24,8 +25,8 @@ use wf_value::OutOfMemory;
 /// What all variables together may come to, under the first rules.
 const VARIABLE_LIMIT: u64 = 65_536;
 
-/// What a machine begins with beside its program: what calls name, what nodes want, what is kept of the start, `main` before its first step if it has one,
-/// and the layers of its variables.
+/// What a machine begins with beside its program: what calls name, what nodes want, what is kept of the start, `main` before its first step
+/// if it has one, and the layers of its variables.
 #[derive(Drop)]
 pub(crate) struct Beginning {
     pub(crate) targets: Vec<Target>,
@@ -33,6 +34,17 @@ pub(crate) struct Beginning {
     pub(crate) facts: Facts,
     pub(crate) task: Option<Task>,
     pub(crate) scopes: Scopes,
+}
+
+/// What each node of a program wants.
+fn wants_by(alloc: Global, program: &Checked, targets: &[Target]) -> Result<Vec<Wants>, OutOfMemory>
+    ghost plain: { Program }
+    requires tells { Tells (spots plain.flows) (nodes_of program.now) }
+    ensures { IfOk result (λ v. (p : Program)
+        → AreTargets p.flows (spots plain.flows) (nodes_of program.now) targets.now
+        → AreWants p (spots plain.flows) (nodes_of program.now) v.items) }
+{
+    wants_of(alloc, program.nodes(), targets)
 }
 
 /// What a machine begins with at a start. A form whose moves aren't built, and a call that names nothing, are answered as if there were no
@@ -61,7 +73,7 @@ pub(crate) fn beginning_of(
     let Some(targets) = found else {
         return Err(OutOfMemory);
     };
-    let wants = wants_of(alloc, nodes, targets.as_slice())?;
+    let wants = wants_by(alloc, program, targets.as_slice())?;
     let facts = Facts::of(alloc, start)?;
     let argument = argument_of(alloc, start)?;
     let mut scopes = Scopes::new(alloc, VARIABLE_LIMIT)?;

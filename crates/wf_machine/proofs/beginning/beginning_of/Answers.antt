@@ -21,19 +21,16 @@ returns-clause-aims c =
     let p = c.args.program.now in
     subst (λ o. IfSome o (λ v. Aims (program_of p) (nodes_of p) v.items)) c.in-Some.is c.in_ok-found.ensures
 
-pub wants_of-requires : goal.wants_of-requires
-wants_of-requires c =
+pub wants_by-requires : goal.wants_by-requires
+wants_by-requires c =
     let built = ap is_table_built (sym c.nodes-nodes.ensures.nodes) ∙ sym c.are_built.ensures ∙ c.if-not-are_built.false in
-    subst (Tells (spots (program_of c.args.program.now).flows)) (sym c.nodes-nodes.ensures.nodes) (tells_of c.args.program.now built)
+    tells_of c.args.program.now built
 
 pub returns-clause-wants : goal.returns-clause-wants
 returns-clause-wants c =
     let p = c.args.program.now in
     let aims = subst (λ o. IfSome o (λ v. Aims (program_of p) (nodes_of p) v.items)) c.in-Some.is c.in_ok-found.ensures in
-    subst (λ nodes. AreWants (program_of p) (spots (program_of p).flows) nodes c.in_ok-wants.wants.items) c.nodes-nodes.ensures.nodes
-    (c.in_ok-wants.ensures (program_of p)
-    (subst (λ nodes. AreTargets (program_of p).flows (spots (program_of p).flows) nodes c.as_slice.result.now) (sym c.nodes-nodes.ensures.nodes)
-    (subst (λ ts. AreTargets (program_of p).flows (spots (program_of p).flows) (nodes_of p) ts) (sym c.as_slice.ensures.value) aims)))
+    c.in_ok-wants.ensures (program_of p) (subst (λ ts. AreTargets (program_of p).flows (spots (program_of p).flows) (nodes_of p) ts) (sym c.as_slice.ensures.value) aims)
 
 pub returns-clause-begins : goal.returns-clause-begins
 returns-clause-begins c = subst (λ v. Begins (program_of c.args.program.now) v c.in_ok-task.task c.first_task.new.scopes) c.in_ok-argument.ensures c.in_ok-task.ensures.begins
