@@ -5,6 +5,7 @@ mod Bringing
 mod Chosen
 mod Clock
 mod Connected
+mod Failing
 mod FreshEngine
 mod Heard
 mod NewSessions

@@ -1,7 +1,9 @@
-use Rattle.std.proofs.Common.{rules, ◌≡◌, ◌∙◌, ap, refl, sym, subst, [], ◌∷◌, Some}
+use Rattle.std.proofs.Common.{rules, ◌≡◌, ◌∙◌, Err, ap, inr, refl, sym, subst, [], ◌∷◌, Some}
+use Rattle.std.specs.Prelude.{IsTrue}
 use Rattle.wf_check.specs.Seen.{program_of}
 use Rattle.wf_connections.specs.Calls.{is_dropped, is_started, told}
 use Rattle.wf_engine.proofs.Beginning.{begins_quietly, not_refused, quiet_at_once, then_begins}
+use Rattle.wf_engine.proofs.Failing.{begin_failed, is_err, none_fell_yet}
 use Rattle.wf_engine.proofs.FreshEngine.{stands_as_fresh}
 use Rattle.wf_engine.proofs.NewSessions.{stands_begun}
 use Rattle.wf_engine.proofs.engine.Engine.begin.Goals as goal
@@ -19,59 +21,29 @@ use Rattle.wf_model.specs.Run.{initial}
 use Rattle.wf_replay.proofs.Language.{of_program}
 use Rattle.wf_replay.proofs.StillOpen.{tells_still}
 use Rattle.wf_replay.specs.TheLanguage.{the_language}
+use Rattle.wf_replay.specs.declared.engine_fault.EngineFault.TheVariants as fault
 
 -- no memory for the machine: nothing was done
 pub returns-in_err-machine : goal.returns-in_err-machine
 returns-in_err-machine g c =
     let w = g.H.Host.world c.args.host.now in
-    record {
-      holds = search rules;
-      stands = search rules;
-      «open» = search rules;
-      session = search rules;
-      waits = search rules;
-      started = search rules;
-      any_moment = λ told. begins_quietly w w (record_bytes (Started (start_view c.args.start.now))) (quiet_at_once w (λ i d left. g.met.H.Host.only_now c.args.host.now i d told left));
-      refused_stays = λ told refused. quiet_at_once w (λ i d left. g.met.H.Host.only_now c.args.host.now i d told left);
-      refused_reads = λ told refused. refl;
-      disk_fault = search rules;
-      not_a_journal = search rules;
-      a_journal = search rules;
-      already_started = search rules;
-      settled = search rules;
-      fresh = search rules;
-      only = search rules;
-      deeds = λ told. refl;
-      tells = refl;
-      counts = search rules;
-    }
+    let quiet = λ (told : IsTrue w.tells). quiet_at_once w (λ i d left. g.met.H.Host.only_now c.args.host.now i d told left) in
+    begin_failed g.H.Host.world g.H.Host.faults (start_view c.args.start.now) c.args.host.now c.args.host.now fault.OutOfMemory c.from_residual.result (is_err c.from_residual.result fault.OutOfMemory c.from_residual.ensures)
+    (inr (inr (inr refl))) (λ is. absurd (cc is)) (λ told is. absurd (cc is)) (λ told is. absurd (cc is)) (λ told is. absurd (cc is)) (λ told. begins_quietly w w (record_bytes (Started (start_view c.args.start.now))) (quiet told)) (λ told refused. quiet told)
+    (λ told refused. refl) (λ told. refl) refl (none_fell_yet (g.H.Host.faults c.args.host.now))
 
 -- it was only opened
 pub returns-in_err-history : goal.returns-in_err-history
 returns-in_err-history g c =
     let w = g.H.Host.world c.args.host.now in
     let file = c.empty_history.ensures in
-    record {
-      holds = search rules;
-      stands = search rules;
-      «open» = search rules;
-      session = search rules;
-      waits = search rules;
-      started = search rules;
-      any_moment = λ told. begins_quietly w (g.H.Host.world c.empty_history.new.host) (record_bytes (Started (start_view c.args.start.now))) (file.any_moment told);
-      refused_stays = λ told refused. file.any_moment told;
-      refused_reads = λ told refused. file.seen told;
-      disk_fault = search rules;
-      not_a_journal = search rules;
-      a_journal = search rules;
-      already_started = search rules;
-      settled = search rules;
-      fresh = search rules;
-      only = search rules;
-      deeds = file.deeds;
-      tells = file.tells;
-      counts = file.counts;
-    }
+    let failed = c.in_err-history.ensures in
+    let e = c.in_err-history.field-0.0 in
+    begin_failed g.H.Host.world g.H.Host.faults (start_view c.args.start.now) c.args.host.now c.empty_history.new.host e c.from_residual-in_err-history.result
+    (is_err c.from_residual-in_err-history.result e c.from_residual-in_err-history.ensures) failed.only (λ is. file.disk_fault (c.in_err-history.was ∙ ap Err is)) (λ told is. file.not_a_journal told (c.in_err-history.was ∙ ap Err is))
+    (λ told is. file.already_started told (c.in_err-history.was ∙ ap Err is)) (λ told is. file.settled told (c.in_err-history.was ∙ ap Err is))
+    (λ told. begins_quietly w (g.H.Host.world c.empty_history.new.host) (record_bytes (Started (start_view c.args.start.now))) (file.any_moment told)) (λ told refused. file.any_moment told) (λ told refused. file.seen told)
+    file.deeds file.tells file.counts
 
 -- the start was being written
 pub returns-in_err-begin : goal.returns-in_err-begin

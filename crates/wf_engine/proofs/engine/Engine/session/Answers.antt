@@ -1,7 +1,8 @@
-use Rattle.std.proofs.Common.{rules, ◌+◌, ◌-◌, [], inl, refl, sym, ◌∙◌, ap, arith}
+use Rattle.std.proofs.Common.{rules, ◌+◌, ◌-◌, [], Err, inl, refl, sym, ◌∙◌, ap, arith}
+use Rattle.wf_engine.proofs.Failing.{is_err, no_disk, no_poll, of_turns, of_waits, session_failed}
 use Rattle.wf_engine.proofs.Parts.{far_kept, far_moments}
 use Rattle.wf_engine.proofs.Polling.{part_far}
-use Rattle.wf_engine.proofs.Settling.{ends, lent_active, none_fell, result_is_over, told_on}
+use Rattle.wf_engine.proofs.Settling.{ends, lent_active, none_fell, result_is_over, rose_later, told_on}
 use Rattle.wf_engine.proofs.Waiting.{has_ended, is_suspended, polled_first, polled_more, settled_over}
 use Rattle.wf_engine.proofs.engine.Engine.session.Goals as goal
 use Rattle.wf_engine.specs.Engine.{memory}
@@ -12,25 +13,11 @@ use Rattle.wf_replay.specs.TheLanguage.{the_language}
 pub returns-in_err-settle : goal.returns-in_err-settle
 returns-in_err-settle g c =
     let first = c.settle.ensures in
-    record {
-      holds = search rules;
-      ended = search rules;
-      suspended = search rules;
-      result = search rules;
-      any_moment = λ O open_now told. first.any_moment O told;
-      finished = λ told over. (first.finished (settled_over c.args.self.now c.if-self.false over)).1;
-      session = first.session;
-      disk_fault = search rules;
-      poll_fault = search rules;
-      closed = search rules;
-      closes = search rules;
-      idle = search rules;
-      «open» = search rules;
-      still_open = search rules;
-      only = search rules;
-      tells = first.tells;
-      counts = first.counts;
-    }
+    let failed = c.in_err-settle.ensures in
+    let e = c.in_err-settle.field-0.0 in
+    session_failed g.H.Host.world g.H.Host.faults c.args.self.now c.settle.new.self c.args.host.now c.settle.new.host c.args.waits e c.from_residual.result
+    (is_err c.from_residual.result e c.from_residual.ensures) c.if-self.false failed.closes (of_turns e failed.only) (λ is. first.disk_fault (c.in_err-settle.was ∙ ap Err is)) (λ is. absurd (no_poll e failed.only is))
+    (λ O open_now told. first.any_moment O told) (λ told over. (first.finished (settled_over c.args.self.now c.if-self.false over)).1) first.session first.tells first.counts
 
 pub loop-left-init : goal.loop-left-init
 loop-left-init g c =
@@ -98,28 +85,17 @@ returns-in_err-wait g c =
     let mid = g.H.Host.world c.loop-left.host in
     let so = c.loop-left.invariant in
     let wait = c.wait.ensures in
-    record {
-      holds = search rules;
-      ended = search rules;
-      suspended = search rules;
-      result = search rules;
-      any_moment = λ O open_now told.
-          let p = so.so_far O told in far_moments the_language O (memory e) (memory d) w mid (g.H.Host.world c.wait.new.host) p.done p.far so.number (wait.any_moment O (told_on w mid so.tells told));
-      finished = λ told over.
-          let active = lent_active c.outcome.result (memory d).config.outcome c.outcome.ensures.outcome c.in-Active.is in
-          absurd (over (sym (ap (λ (x : Config). x.outcome) (so.rest over).1) ∙ active));
-      session = wait.session ∙ so.number;
-      disk_fault = search rules;
-      poll_fault = search rules;
-      closed = search rules;
-      closes = search rules;
-      idle = search rules;
-      «open» = search rules;
-      still_open = search rules;
-      only = search rules;
-      tells = wait.tells ∙ so.tells;
-      counts = none_fell (g.H.Host.faults c.args.host.now) (g.H.Host.faults c.loop-left.host) (g.H.Host.faults c.wait.new.host) so.counts wait.counts;
-    }
+    let failed = c.in_err-wait.ensures in
+    let fault = c.in_err-wait.field-0.0 in
+    session_failed g.H.Host.world g.H.Host.faults e c.wait.new.self c.args.host.now c.wait.new.host c.args.waits fault c.from_residual-in_err-wait.result
+    (is_err c.from_residual-in_err-wait.result fault c.from_residual-in_err-wait.ensures) c.if-self.false failed.closes (of_waits fault failed.only) (λ is. absurd (no_disk fault failed.only is))
+    (λ is. rose_later (g.H.Host.faults c.args.host.now).poll (g.H.Host.faults c.loop-left.host).poll (g.H.Host.faults c.wait.new.host).poll so.counts.poll (wait.poll_fault (c.in_err-wait.was ∙ ap Err is)))
+    (λ O open_now told.
+    let p = so.so_far O told in far_moments the_language O (memory e) (memory d) w mid (g.H.Host.world c.wait.new.host) p.done p.far so.number (wait.any_moment O (told_on w mid so.tells told)))
+    (λ told over.
+    let active = lent_active c.outcome.result (memory d).config.outcome c.outcome.ensures.outcome c.in-Active.is in
+    absurd (over (sym (ap (λ (x : Config). x.outcome) (so.rest over).1) ∙ active)))
+    (wait.session ∙ so.number) (wait.tells ∙ so.tells) (none_fell (g.H.Host.faults c.args.host.now) (g.H.Host.faults c.loop-left.host) (g.H.Host.faults c.wait.new.host) so.counts wait.counts)
 
 -- the turns behind a wait
 pub returns-in_err-settle-2 : goal.returns-in_err-settle-2
@@ -132,34 +108,26 @@ returns-in_err-settle-2 g c =
     let so = c.loop-left.invariant in
     let wait = c.wait.ensures in
     let next = c.settle-in-loop-left.ensures in
-    record {
-      holds = search rules;
-      ended = search rules;
-      suspended = search rules;
-      result = search rules;
-      any_moment = λ O open_now told.
-          let told_mid = told_on w mid so.tells told in
-          let told_then = told_on mid then wait.tells told_mid in
-          let waited = c.in_ok-wait.ensures.waits O told_mid in
-          let p =
-          polled_more O e d c.wait.new.self w mid then c.args.waits c.loop-left.left (c.loop-left.left - 1) waited.done (so.so_far O told) so.number (wait.any_moment O told_mid) waited.went (omega (arith, waited.once, c.if-left-eq0.false))
-          (λ t i le now. g.met.H.Host.counts_now c.wait.new.host t i told_then le now) (g.met.H.Host.reads_back c.wait.new.host told_then) c.in_ok-wait.ensures.«open» (c.in_ok-wait.ensures.holds told_mid) in
-          far_moments the_language O (memory e) (memory c.wait.new.self) w then (g.H.Host.world c.settle-in-loop-left.new.host) p.done p.far (wait.session ∙ so.number) (next.any_moment O told_then);
-      finished = λ told over.
-          let active = lent_active c.outcome.result (memory d).config.outcome c.outcome.ensures.outcome c.in-Active.is in
-          absurd (over (sym (ap (λ (x : Config). x.outcome) (so.rest over).1) ∙ active));
-      session = next.session ∙ wait.session ∙ so.number;
-      disk_fault = search rules;
-      poll_fault = search rules;
-      closed = search rules;
-      closes = search rules;
-      idle = search rules;
-      «open» = search rules;
-      still_open = search rules;
-      only = search rules;
-      tells = next.tells ∙ wait.tells ∙ so.tells;
-      counts = none_fell (g.H.Host.faults c.args.host.now) (g.H.Host.faults c.wait.new.host) (g.H.Host.faults c.settle-in-loop-left.new.host) (none_fell (g.H.Host.faults c.args.host.now) (g.H.Host.faults c.loop-left.host) (g.H.Host.faults c.wait.new.host) so.counts wait.counts) next.counts;
-    }
+    let failed = c.in_err-settle-2.ensures in
+    let fault = c.in_err-settle-2.field-0.0 in
+    let fell = none_fell (g.H.Host.faults c.args.host.now) (g.H.Host.faults c.loop-left.host) (g.H.Host.faults c.wait.new.host) so.counts wait.counts in
+    session_failed g.H.Host.world g.H.Host.faults e c.settle-in-loop-left.new.self c.args.host.now c.settle-in-loop-left.new.host c.args.waits fault c.from_residual-in_err-settle-2.result
+    (is_err c.from_residual-in_err-settle-2.result fault c.from_residual-in_err-settle-2.ensures) c.if-self.false failed.closes (of_turns fault failed.only)
+    (λ is. rose_later (g.H.Host.faults c.args.host.now).disk (g.H.Host.faults c.wait.new.host).disk (g.H.Host.faults c.settle-in-loop-left.new.host).disk fell.disk (next.disk_fault (c.in_err-settle-2.was ∙ ap Err is)))
+    (λ is. absurd (no_poll fault failed.only is))
+    (λ O open_now told.
+    let told_mid = told_on w mid so.tells told in
+    let told_then = told_on mid then wait.tells told_mid in
+    let waited = c.in_ok-wait.ensures.waits O told_mid in
+    let p =
+    polled_more O e d c.wait.new.self w mid then c.args.waits c.loop-left.left (c.loop-left.left - 1) waited.done (so.so_far O told) so.number (wait.any_moment O told_mid) waited.went (omega (arith, waited.once, c.if-left-eq0.false))
+    (λ t i le now. g.met.H.Host.counts_now c.wait.new.host t i told_then le now) (g.met.H.Host.reads_back c.wait.new.host told_then) c.in_ok-wait.ensures.«open» (c.in_ok-wait.ensures.holds told_mid) in
+    far_moments the_language O (memory e) (memory c.wait.new.self) w then (g.H.Host.world c.settle-in-loop-left.new.host) p.done p.far (wait.session ∙ so.number) (next.any_moment O told_then))
+    (λ told over.
+    let active = lent_active c.outcome.result (memory d).config.outcome c.outcome.ensures.outcome c.in-Active.is in
+    absurd (over (sym (ap (λ (x : Config). x.outcome) (so.rest over).1) ∙ active)))
+    (next.session ∙ wait.session ∙ so.number) (next.tells ∙ wait.tells ∙ so.tells)
+    (none_fell (g.H.Host.faults c.args.host.now) (g.H.Host.faults c.wait.new.host) (g.H.Host.faults c.settle-in-loop-left.new.host) fell next.counts)
 
 pub loop-left-preserved : goal.loop-left-preserved
 loop-left-preserved g c =
