@@ -1,5 +1,5 @@
 -- Which event a frame's move wants.
-use Rattle.std.proofs.Common.{◌≡◌, ℕ, ◌≤◌, Bool, true, false, List, [], ◌∷◌, length, drop, Some, None, refl, sym, ap, ◌∙◌, arith}
+use Rattle.std.proofs.Common.{◌≡◌, ℕ, ◌≤◌, Bool, true, false, List, [], ◌∷◌, length, drop, Some, None, refl, ap, ◌∙◌, arith}
 use Rattle.std.specs.Prelude.{zero, suc, ◌||◌, is_some, option_map, slice_get, Option}
 use Rattle.std.proofs.lemmas.Option.{get_or_from_slice_get, slice_get_within}
 use Rattle.wf_ast.specs.Flows.{flow}
@@ -18,17 +18,15 @@ use Rattle.wf_ast.specs.declared.functions.Function.{Function}
 use Rattle.wf_model.specs.Kinds.{ByCall, ByClock, Plainly, body_kind, by_clock, call_kind, entry_now, is_now, listed_kind, next_kind, special_kind}
 use Rattle.wf_frames.proofs.Advancing.{entries_next, from_next}
 use Rattle.wf_frames.proofs.Lists.{drop_end, entries_long, from_end}
-use Rattle.wf_frames.proofs.Parts.{as_part, entries_is, list_is, part_is}
+use Rattle.wf_frames.proofs.Parts.{as_part, entries_is, list_is}
 use Rattle.wf_frames.specs.Built.{IsFunction, IsHttp, IsLog, IsNap, IsWorkflow, function_parts, listed, nap_special}
 use Rattle.wf_frames.specs.declared.target.Nap.{Nap}
 use Rattle.wf_frames.specs.declared.target.Nap.TheVariants as nap
-use Rattle.wf_model.specs.NodeKinds.{Listed, entry_by, kind_by}
-use Rattle.wf_model.specs.Shapes.{Compiled}
+use Rattle.wf_model.specs.NodeKinds.{Listed, entry_by}
 use Rattle.wf_model.specs.Spots.{Spot, entries_by, from, part_at, part_body, part_entry, part_list}
-use Rattle.wf_model.specs.Table.{Resolves, part_by}
+use Rattle.wf_model.specs.Table.{Resolves}
 use Rattle.wf_model.specs.declared.node.EntryNode.{EntryNode}
 use Rattle.wf_model.specs.declared.node.Node.{Node}
-use Rattle.wf_model.specs.declared.node.NodeKind.{NodeKind}
 use Rattle.wf_model.specs.declared.node.NodeKind.TheVariants as kind
 use Rattle.wf_value.specs.Pairs.{Text}
 
@@ -60,33 +58,8 @@ module _ (ns : List Spot) (nodes : List Node) (n at : ℕ) (r : Resolves ns node
   entry_plain b h none = ap (λ es. next_kind p (Entries es ∷ k)) (ap (drop at) (entries_is ns nodes n b r h) ∙ drop_end (entries_by ns b) at (omega (arith, none_past b at none, entries_long ns b)))
 
 -- ## Entries
-no_entry : (ns : List Spot) (cs : Compiled) (x : Text) (next : Option Text) (k : NodeKind) → ((e : EntryNode) → k ≡ kind.Entry e → ⊥) → entry_now (part_entry (part_by ns x next (kind_by cs k))) ≡ false
-no_entry ns cs x next (kind.Entry e) h = absurd (h e refl)
-no_entry ns cs x next kind.Nothing h = refl
-no_entry ns cs x next (kind.Flow f) h = refl
-no_entry ns cs x next (kind.Assign v) h = refl
-no_entry ns cs x next (kind.Call f) h = refl
-no_entry ns cs x next (kind.Switch v) h = refl
-no_entry ns cs x next (kind.For l) h = refl
-no_entry ns cs x next (kind.Parallel p) h = refl
-no_entry ns cs x next (kind.Block b) h = refl
-no_entry ns cs x next (kind.Try t) h = refl
-no_entry ns cs x next (kind.Raise t) h = refl
-no_entry ns cs x next (kind.Return t) h = refl
-no_entry ns cs x next (kind.Arm t) h = refl
-no_entry ns cs x next (kind.Branch b) h = refl
-
-pub entry_absent : (ns : List Spot) (nodes : List Node) (n : ℕ) (x : Node) → Resolves ns nodes → slice_get nodes n ≡ Some x → ((e : EntryNode) → x.kind ≡ kind.Entry e → ⊥) → entry_now (part_entry (part_at ns n)) ≡ false
-entry_absent ns nodes n x r at h = ap (λ p. entry_now (part_entry p)) (part_is ns nodes n x r at) ∙ no_entry ns x.codes.items.items x.name x.next x.kind h
-
 pub entry_there : (ns : List Spot) (nodes : List Node) (n : ℕ) (x : Node) (e : EntryNode) → Resolves ns nodes → slice_get nodes n ≡ Some x → x.kind ≡ kind.Entry e → part_entry (part_at ns n) ≡ entry_by x.codes.items.items e
 entry_there ns nodes n x e r at h = ap part_entry (as_part ns nodes n x (kind.Entry e) r at h)
-
--- ## Bodies
-module _ (ns : List Spot) (nodes : List Node) (n : ℕ) (x : Node) (r : Resolves ns nodes) (at : slice_get nodes n ≡ Some x) (p : Program) where
-  -- the kind of a body, by the node's
-  pub body_so : (k : NodeKind) → x.kind ≡ k → body_kind p (part_body (part_at ns n)) ≡ body_kind p (part_body (part_by ns x.name x.next (kind_by x.codes.items.items k)))
-  body_so k is = ap (λ q. body_kind p (part_body q)) (as_part ns nodes n x k r at is)
 
 -- ## Calls
 -- a call of a workflow reads the clock where an argument does
@@ -168,10 +141,3 @@ log_clock fs x b h = by (flow fs x) h.free ∙ in_library (func_named x) h.unlis
     special : (g : Option SpecialListing) → option_map (λ (e : SpecialListing). e.special) g ≡ Some SysLog → listed_kind None g b ≡ by_clock b
     special None e = absurd (cc e)
     special (Some g) e = let same : g.special ≡ SysLog = cc e in ap (λ (y : Special). special_kind y b) same
-
--- a test or another
-pub either_true : (a b v : Bool) → a ≡ true → v ≡ true → v ≡ (a || b)
-either_true a b v t e = e ∙ sym (ap (λ (c : Bool). c || b) t)
-
-pub either_false : (a b v : Bool) → a ≡ false → v ≡ b → v ≡ (a || b)
-either_false a b v t e = e ∙ sym (ap (λ (c : Bool). c || b) t)

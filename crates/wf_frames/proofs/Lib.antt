@@ -9,9 +9,8 @@ pub mod Storing
 pub mod Stores
 pub mod Sums
 pub mod Called
-mod Coded
+pub mod Coded
 mod Filled
-mod Timed
 pub mod Advancing
 pub mod Asking
 pub mod Choices
@@ -24,4 +23,3 @@ pub mod Performed
 pub mod Shallow
 pub mod Assigns
 pub mod Looks
-pub mod Wanted

@@ -8,7 +8,6 @@ pub mod Sights
 pub mod Standing
 pub mod Stands
 pub mod Turns
-pub mod Clocks
 pub mod Functions
 pub mod Built
 pub mod Kinds

@@ -17,10 +17,11 @@ use crate::task::first_task;
 use std::alloc::Global;
 use wf_check::Checked;
 use wf_events::Start;
-use wf_frames::{Target, Wants, are_built, wants_of};
+use wf_frames::{Target, Wants, are_built};
 use wf_moves::Task;
 use wf_scope::Scopes;
 use wf_value::OutOfMemory;
+use wf_wants::wants_of;
 
 /// What all variables together may come to, under the first rules.
 const VARIABLE_LIMIT: u64 = 65_536;

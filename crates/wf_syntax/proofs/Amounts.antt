@@ -1,8 +1,9 @@
 -- Fields that are numbers: limits, counts, delays and factors; and fields with a default.
 use Rattle.std.proofs.Common.{◌≡◌, ℕ, Bool, true, false, Option, Some, None, is_some, if◌then◌else◌, nat_le, refl, sym, ap, subst}
 use Rattle.wf_syntax_rules.specs.Meaning.{Else, ElseBy, IsAttempts, IsLimit, IsThousandths, Maybe}
-use Rattle.wf_syntax_rules.specs.Numbers.{at_most, thousandths, thousandths_to, whole_within}
-use Rattle.wf_syntax_rules.specs.Rules.{Attempts, Factor, Limit, Seconds, at, demand, field}
+use Rattle.wf_syntax_words.specs.Numbers.{at_most, thousandths, thousandths_to, whole_within}
+use Rattle.wf_syntax_rules.specs.Rules.{Attempts, Factor, Limit, Seconds, at, demand}
+use Rattle.wf_syntax_words.specs.Fields.{field}
 use Rattle.wf_syntax_rules.specs.declared.fault.SyntaxKind.TheVariants.{WrongKind}
 use Rattle.wf_syntax.proofs.Nodes.{field_fails, field_sound, here_fails, leaf_sound}
 use Rattle.wf_syntax.specs.Answers.{FailsAmong, GivesAll, IsHere, IsOutside}

@@ -1,14 +1,13 @@
 -- Bodies of steps and arms, loops, parallel steps and tries, from their fields.
-use Rattle.std.proofs.Common.{◌≡◌, Bool, true, false, ◌||◌, List, [], ◌∷◌, Option, Some, None, option_map, codes, refl, sym, ap, ◌∙◌, subst}
+use Rattle.std.proofs.Common.{◌≡◌, true, ◌∷◌, Option, Some, None, option_map, codes, sym, ◌∙◌, subst}
 use Rattle.wf_ast.specs.Tree as t
 use Rattle.wf_ast.specs.View.{template_view}
 use Rattle.wf_ast.specs.declared.template.Template.{Template}
 use Rattle.wf_syntax_rules.proofs.Faultless.{not_missing, unless_parts}
 use Rattle.wf_syntax_rules.proofs.OneForm.{one_in_arm, one_in_step}
-use Rattle.wf_syntax_rules.specs.Faults.{IsSound}
-use Rattle.wf_syntax_rules.specs.Meaning.{At, IsBody, IsText, IsValue, Maybe}
-use Rattle.wf_syntax_rules.specs.Rules.{Arm, Body, arm_fault, body_fields, body_parts, demand, has, has_only, step_fault, unless, field}
-use Rattle.wf_syntax_rules.specs.declared.fault.SyntaxKind.{SyntaxKind}
+use Rattle.wf_syntax_rules.specs.Meaning.{IsBody, IsText, IsValue, Maybe}
+use Rattle.wf_syntax_rules.specs.Rules.{Arm, Body, arm_fault, body_parts, step_fault}
+use Rattle.wf_syntax_words.specs.Fields.{body_fields, has, has_only}
 use Rattle.wf_syntax.proofs.Nodes.{map_sound}
 use Rattle.wf_syntax.proofs.OneForm.{body_made}
 use Rattle.wf_syntax.specs.Answers.{Gives, GivesAll}

@@ -1,10 +1,10 @@
 -- How deep the parts of a node are.
-use Rattle.std.proofs.Common.{◌≡◌, ◌+◌, ◌≤◌, ◌<◌, ℕ, suc, max, Bool, true, false, if◌then◌else◌, bytes_eq, length, get_or, List, Option, Some, None, arith, ap, sym, ◌∙◌}
-use Rattle.wf_syntax_rules.specs.Rules.{field, single_of}
+use Rattle.std.proofs.Common.{◌≡◌, ◌≤◌, ◌<◌, ℕ, max, Bool, true, false, if◌then◌else◌, bytes_eq, length, get_or, List, Option, Some, None, arith, ap}
+use Rattle.wf_syntax_words.specs.Fields.{field, single_of}
 use Rattle.wf_syntax.proofs.Targets.{single_is}
 use Rattle.wf_syntax.proofs.Valued.{item_deep}
 use Rattle.wf_tree.specs.Plain.{plain_items, plain_tree}
-use Rattle.wf_tree.specs.Trees.{Tree, list, map, Items, Pairs, no_pairs, pair, depth, items_depth, items_of, pairs_depth, pairs_of}
+use Rattle.wf_tree.specs.Trees.{Tree, list, map, Pairs, no_pairs, pair, depth, items_of, pairs_depth}
 use Rattle.wf_tree.specs.declared.tree.Tree.{Tree as Node}
 use Rattle.wf_value.specs.Pairs.{Text}
 

@@ -1,5 +1,5 @@
 -- Lists of steps, arms and branches, each item in its place.
-use Rattle.std.proofs.Common.{◌≡◌, List, [], ◌∷◌, Option, sym, subst}
+use Rattle.std.proofs.Common.{List, [], ◌∷◌, Option, sym, subst}
 use Rattle.wf_ast.proofs.Views.{arms_level, branches_level, steps_level}
 use Rattle.wf_ast.specs.Tree as t
 use Rattle.wf_ast.specs.View.{arms_in, arms_view, branches_in, branches_view, steps_in, steps_view}

@@ -1,9 +1,5 @@
 pub mod Lists
 pub mod Valued
-pub mod Places
-pub mod Marks
-pub mod Digits
-pub mod Pairs
 pub mod Nodes
 pub mod Texts
 pub mod Targets

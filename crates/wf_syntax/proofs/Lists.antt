@@ -2,7 +2,8 @@
 use Rattle.std.proofs.Common.{◌≡◌, ℕ, zero, suc, ◌+◌, ◌<◌, List, [], ◌∷◌, ◌++◌, reverse, take, drop, length, get_or, Option, Some, None, refl, ap, sym, ◌∙◌, subst, arith}
 use Rattle.std.proofs.lemmas.List.{reverse-append}
 use Rattle.wf_syntax_rules.specs.Faults.{AreSound, FirstAt, IsOwn, IsSound}
-use Rattle.wf_syntax_rules.specs.Rules.{Role, Sub, each, every, own, parts, at, field, there}
+use Rattle.wf_syntax_rules.specs.Rules.{Role, Sub, each, every, own, parts, at, there}
+use Rattle.wf_syntax_words.specs.Fields.{field}
 use Rattle.wf_syntax_rules.specs.declared.fault.SyntaxKind.{SyntaxKind}
 use Rattle.wf_syntax.specs.Answers.{Fails, FailsAmong, FirstAmong, IsHere, IsOutside}
 use Rattle.wf_syntax.specs.declared.stop.Stop.{Stop}

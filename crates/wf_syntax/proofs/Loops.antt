@@ -1,13 +1,13 @@
 -- Loops, parallel steps, tries and what takes their errors, from their fields.
-use Rattle.std.proofs.Common.{◌≡◌, ℕ, Bool, true, false, ◌||◌, if◌then◌else◌, List, [], ◌∷◌, Option, Some, None, option_map, is_some, codes, refl, sym, ap, ◌∙◌, subst}
+use Rattle.std.proofs.Common.{◌≡◌, ℕ, List, [], ◌∷◌, Option, Some, None, codes, refl, sym, subst}
 use Rattle.wf_ast.proofs.Views.{steps_level}
 use Rattle.wf_ast.specs.Tree as t
 use Rattle.wf_ast.specs.View.{steps_in, steps_view}
 use Rattle.wf_ast.specs.declared.body.StepList.{StepList}
-use Rattle.wf_syntax_rules.proofs.Faultless.{choice_there, first_there, musts_there, none_missing, not_missing, second_there}
-use Rattle.wf_syntax_rules.specs.Faults.{AreSound, IsSound}
-use Rattle.wf_syntax_rules.specs.Meaning.{AreArguments, AreSteps, AreTexts, At, Else, IsCall, IsExcept, IsLimit, IsOver, IsRange, IsText, IsTried, IsValue, IsWork, Maybe}
-use Rattle.wf_syntax_rules.specs.Rules.{Block, Except, Loop, Parallel, Try, Steps, at, choice_fault, field, has, has_all, loop_fault, map_fault, parallel_fault, try_fault}
+use Rattle.wf_syntax_rules.specs.Faults.{AreSound}
+use Rattle.wf_syntax_rules.specs.Meaning.{AreSteps, AreTexts, At, Else, IsLimit, IsOver, IsRange, IsText, IsTried, IsValue, IsWork, Maybe}
+use Rattle.wf_syntax_rules.specs.Rules.{Block, Except, Loop, Parallel, Try, Steps, at, loop_fault, map_fault, parallel_fault, try_fault}
+use Rattle.wf_syntax_words.specs.Fields.{has}
 use Rattle.wf_syntax.proofs.Nodes.{map_sound}
 use Rattle.wf_syntax.proofs.Rows.{AllSound, except_keys, loop_keys, parallel_keys, row_sound, try_keys}
 use Rattle.wf_syntax.specs.Answers.{Gives}

@@ -7,7 +7,8 @@ use Rattle.std.specs.Ordering.{is_eq}
 use Rattle.wf_ast.specs.Tree as t
 use Rattle.wf_syntax_rules.specs.Faults.{AreSound}
 use Rattle.wf_syntax_rules.specs.Meaning.{FlowsIn, IsFlow, IsProgram, Maybe, others}
-use Rattle.wf_syntax_rules.specs.Rules.{Flow, Flows, Sub, demand, every, field, has}
+use Rattle.wf_syntax_rules.specs.Rules.{Flow, Flows, Sub, demand, every}
+use Rattle.wf_syntax_words.specs.Fields.{field, has}
 use Rattle.wf_syntax_rules.specs.declared.fault.SyntaxKind.TheVariants.{MissingField}
 use Rattle.wf_syntax.proofs.Lists.{every_fails, every_next, take_next}
 use Rattle.wf_syntax.proofs.Nodes.{map_fails, map_sound}

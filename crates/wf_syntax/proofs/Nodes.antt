@@ -1,12 +1,13 @@
 -- Nodes and their parts: what has no fault, and where the first one stands.
-use Rattle.std.proofs.Common.{◌≡◌, ◌+◌, ◌<◌, ℕ, zero, suc, length, take, slice_index_or, arith, not-suc-le-zero, add-one, ◌≤◌, Bool, true, false, if◌then◌else◌, List, [], ◌∷◌, ◌++◌, reverse, append_assoc, take_all, Option, Some, None, refl, sym, ap, ◌∙◌, subst, subst₂}
+use Rattle.std.proofs.Common.{◌≡◌, ◌+◌, ◌<◌, ℕ, zero, suc, length, take, slice_index_or, arith, not-suc-le-zero, add-one, ◌≤◌, Bool, true, false, if◌then◌else◌, List, [], ◌∷◌, ◌++◌, reverse, append_assoc, take_all, Some, None, refl, sym, ap, ◌∙◌, subst, subst₂}
 use Rattle.std.proofs.lemmas.List.{reverse-append, get_or-map, length-map}
 use Rattle.wf_expr.specs.declared.fault.ExprFault.{ExprFault}
 use Rattle.wf_syntax_rules.proofs.Own.{own_is}
 use Rattle.wf_syntax_rules.proofs.Sound.{node_is_sound}
 use Rattle.wf_syntax_rules.specs.Faults.{AreSound, FirstAt, IsOwn, IsSound, IsTextFault}
 use Rattle.wf_syntax_rules.specs.Meaning.{Each}
-use Rattle.wf_syntax_rules.specs.Rules.{Role, Sub, at, each, every, field, own, parts, there}
+use Rattle.wf_syntax_rules.specs.Rules.{Role, Sub, at, each, every, own, parts, there}
+use Rattle.wf_syntax_words.specs.Fields.{field}
 use Rattle.wf_syntax_rules.specs.declared.fault.SyntaxKind.{SyntaxKind}
 use Rattle.wf_syntax.specs.Answers.{Fails, FailsAmong, FirstAmong, IsHere, IsOutside}
 use Rattle.wf_syntax.specs.declared.stop.Stop.{Stop}

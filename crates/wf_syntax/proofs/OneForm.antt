@@ -6,7 +6,7 @@ use Rattle.wf_ast.specs.Tree.{fields as fields_of}
 use Rattle.wf_ast.specs.View.{arms_in, body_view, entries_view, except_option_view, fields_view, loop_view, policy_option_view, steps_in, template_view}
 use Rattle.wf_syntax_rules.proofs.OneForm.{Form, OneAtMost, after_parallel, after_steps, alone, assign_form, call_form, for_form, form_absent, form_there, parallel_form, raise_form, return_form, steps_form, switch_form, try_form}
 use Rattle.wf_syntax_rules.specs.Meaning.{AreEntries, AreSteps, At, IsBody, IsForm, IsText, IsValue, Maybe}
-use Rattle.wf_syntax_rules.specs.Rules.{forms, forms_in, has}
+use Rattle.wf_syntax_words.specs.Fields.{forms, forms_in, has}
 use Rattle.wf_value.specs.HttpRequest.{is_among}
 use Rattle.wf_syntax.specs.Forms.{AreArms, ArePartsOf, IsLoopMap, IsParallelMap, IsTriedMap, block_form, body_of, either, first_of, parallel_view}
 use Rattle.wf_syntax.specs.declared.parts.Parts.{Parts}

@@ -3,7 +3,8 @@ use Rattle.std.proofs.Common.{◌≡◌, ℕ, suc, ◌+◌, ◌<◌, ◌≤◌, 
 use Rattle.wf_ast.specs.Tree as t
 use Rattle.wf_syntax_rules.specs.Faults.{AreSound}
 use Rattle.wf_syntax_rules.specs.Meaning.{IsFlow, IsProgram}
-use Rattle.wf_syntax_rules.specs.Rules.{Flow, Flows, has}
+use Rattle.wf_syntax_rules.specs.Rules.{Flow, Flows}
+use Rattle.wf_syntax_words.specs.Fields.{has}
 use Rattle.wf_syntax.proofs.Defaults.{plain_order}
 use Rattle.wf_syntax.proofs.Mains as mains
 use Rattle.wf_syntax.proofs.Mains.{SoFar, flow_fails, main_next, other_next, program_given}

@@ -4,7 +4,7 @@ use Rattle.std.specs.Result.{IsErr, IsErrAnd}
 use Rattle.wf_ast.specs.Tree as t
 use Rattle.wf_syntax_rules.specs.Faults.{AreSound}
 use Rattle.wf_syntax_rules.specs.Meaning.{Else, IsAttempts, IsBackoff, IsPolicy, IsPredicate, IsThousandths, default_backoff, most_retries, policy_kind, predicate_of}
-use Rattle.wf_syntax_rules.specs.Names.{is_name, unmarked}
+use Rattle.wf_syntax_words.specs.Names.{is_name, unmarked}
 use Rattle.wf_syntax_rules.specs.Rules.{Attempts, Backoff, Factor, Predicate, Retry, Role, Seconds, Sub, at, demand, own, policies, predicates}
 use Rattle.wf_syntax_rules.specs.declared.fault.SyntaxKind.TheVariants.{WrongKind}
 use Rattle.wf_value.specs.HttpRequest.{is_among}

@@ -1,13 +1,13 @@
 -- Maps of one: steps and branches.
-use Rattle.std.proofs.Common.{◌≡◌, Bool, true, false, List, [], ◌∷◌, Option, Some, None, refl, sym, ap, ◌∙◌, subst}
+use Rattle.std.proofs.Common.{◌≡◌, true, false, [], Option, Some, None, refl, sym, ap, ◌∙◌, subst}
 use Rattle.wf_ast.proofs.Views.{steps_level}
 use Rattle.wf_ast.specs.Tree as t
 use Rattle.wf_ast.specs.View.{steps_in, steps_view}
 use Rattle.wf_ast.specs.declared.body.StepList.{StepList}
-use Rattle.wf_syntax_rules.specs.Faults.{IsSound}
 use Rattle.wf_syntax_rules.specs.Meaning.{IsStep}
-use Rattle.wf_syntax_rules.specs.Names.{is_step_name}
-use Rattle.wf_syntax_rules.specs.Rules.{Role, Block, Body, Branch, Step, demand, own, parts, single_of}
+use Rattle.wf_syntax_words.specs.Names.{is_step_name}
+use Rattle.wf_syntax_rules.specs.Rules.{Block, Body, Branch, Step, demand, own, parts}
+use Rattle.wf_syntax_words.specs.Fields.{single_of}
 use Rattle.wf_syntax_rules.specs.declared.fault.SyntaxKind.TheVariants.{NotAStep}
 use Rattle.wf_syntax.proofs.Nodes.{fails_part, map_fails, map_sound, own_fails}
 use Rattle.wf_syntax.proofs.Targets.{single_is}

@@ -1,9 +1,10 @@
 -- Targets.
-use Rattle.std.proofs.Common.{◌≡◌, List, [], ◌∷◌, Option, Some, None, refl, sym, ap, subst}
+use Rattle.std.proofs.Common.{◌≡◌, [], ◌∷◌, Option, Some, None, refl, sym, ap, subst}
 use Rattle.wf_ast.specs.Tree as t
 use Rattle.wf_expr.specs.Targets.{IsTarget, NotTargetAndRefused}
 use Rattle.wf_syntax_rules.specs.Faults.{IsSound}
-use Rattle.wf_syntax_rules.specs.Rules.{Entry, Target, Value, parts, single_of}
+use Rattle.wf_syntax_rules.specs.Rules.{Entry, Target, Value, parts}
+use Rattle.wf_syntax_words.specs.Fields.{single_of}
 use Rattle.wf_syntax_rules.specs.Meaning.{IsEntry, IsValue}
 use Rattle.wf_syntax.proofs.Nodes.{fails_part, leaf_sound, map_fails, map_sound}
 use Rattle.wf_syntax.specs.Answers.{Fails, Gives, IsOutside}

@@ -3,7 +3,7 @@ use Rattle.std.proofs.Common.{◌≡◌, Result, Ok, Err, MatchResult, Bool, tru
 use Rattle.wf_syntax_rules.specs.Faults.{IsSound}
 use Rattle.wf_syntax_rules.specs.Rules.{Role, AnyText, Policy, VariableName, demand}
 use Rattle.wf_syntax_rules.specs.declared.fault.SyntaxKind.TheVariants.{WrongKind}
-use Rattle.wf_syntax_rules.specs.Names.{is_name}
+use Rattle.wf_syntax_words.specs.Names.{is_name}
 use Rattle.wf_syntax.proofs.Nodes.{leaf_sound}
 use Rattle.wf_syntax.specs.Answers.{Fails, Gives}
 use Rattle.wf_syntax.specs.declared.stop.Stop.{Stop}

@@ -3,12 +3,11 @@ use Rattle.std.proofs.Common.{◌≡◌, ℕ, zero, suc, ◌+◌, ◌≤◌, ◌
 use Rattle.wf_ast.specs.Tree as t
 use Rattle.wf_ast.specs.Tree.{fields as fields_of, templates}
 use Rattle.wf_ast.specs.View.{template_view, templates_view, fields_view}
-use Rattle.wf_ast.specs.declared.template.Template.{Template, Map}
+use Rattle.wf_ast.specs.declared.template.Template.{Map}
 use Rattle.wf_ast.specs.declared.template.Template.TheViews as template
 use Rattle.wf_ast.specs.declared.template.Templates.{Templates}
 use Rattle.wf_ast.specs.declared.template.NamedTemplates.{NamedTemplates}
 use Rattle.wf_ast.proofs.Views.{view_list, view_map}
-use Rattle.wf_expr.specs.declared.fault.ExprFault.{ExprFault}
 use Rattle.wf_syntax_rules.proofs.Sound.{node_is_sound}
 use Rattle.wf_syntax_rules.specs.Faults.{AreSound, IsSound}
 use Rattle.wf_syntax_rules.specs.Meaning.{AreArguments, AreNamed, IsRange, AreValues, IsValue}

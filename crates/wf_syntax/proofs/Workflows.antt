@@ -8,8 +8,9 @@ use Rattle.wf_ast.specs.View.{steps_in, steps_view}
 use Rattle.wf_ast.specs.declared.body.StepList.{StepList}
 use Rattle.wf_syntax_rules.specs.Faults.{AreSound}
 use Rattle.wf_syntax_rules.specs.Meaning.{AreParams, AreSteps, At, Else, IsFlow, IsLiteral, IsParam, Maybe}
-use Rattle.wf_syntax_rules.specs.Names.{is_name}
-use Rattle.wf_syntax_rules.specs.Rules.{Flow, Literal, Parameter, Parameters, Steps, Sub, at, demand, every, has, has_only, keys, map_fault, own, single_of, unless}
+use Rattle.wf_syntax_words.specs.Names.{is_name}
+use Rattle.wf_syntax_rules.specs.Rules.{Flow, Literal, Parameter, Parameters, Steps, Sub, at, demand, every, map_fault, own, unless}
+use Rattle.wf_syntax_words.specs.Fields.{has, has_only, keys, single_of}
 use Rattle.wf_syntax_rules.specs.declared.fault.SyntaxKind.{SyntaxKind}
 use Rattle.wf_syntax_rules.specs.declared.fault.SyntaxKind.TheVariants.{MissingField, UnknownField, WrongKind}
 use Rattle.wf_value.specs.HttpRequest.{is_among}

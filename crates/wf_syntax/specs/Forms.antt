@@ -1,5 +1,5 @@
--- The forms of steps: those that a body has, counted; the parts of a body before one of them is taken; and what the maps and lists of steps are.
-use Rattle.std.specs.Prelude.{◌≡◌, ℕ, ◌+◌, List, [], ◌∷◌, ◌++◌, Option, Some, None, option_map, codes, if◌then◌else◌}
+-- The forms of steps: what the maps and lists of steps are, and the parts of a body before its form is taken.
+use Rattle.std.specs.Prelude.{◌≡◌, ◌+◌, List, [], ◌∷◌, ◌++◌, Option, Some, None, option_map, codes}
 use Rattle.wf_ast.specs.Tree as t
 use Rattle.wf_ast.specs.Tree.{fields as fields_of, no_fields}
 use Rattle.wf_ast.specs.View.{arms_in, body_view, entries_view, except_option_view, fields_view, loop_view, policy_option_view, steps_in, template_view, texts_view, work_view}
@@ -10,7 +10,7 @@ use Rattle.wf_ast.specs.declared.policy.Policy.{Policy}
 use Rattle.wf_ast.specs.declared.template.Template.{Template}
 use Rattle.wf_syntax_rules.specs.Meaning.{AreArguments, AreEntries, AreSteps, ArmsIn, At, BranchesIn, Else, IsBody, IsExcept, IsLoop, IsParallel, IsPolicy, IsText, IsTried, IsValue, Maybe, OfList, OfMap, OfSingle, StepsIn}
 use Rattle.wf_syntax_rules.specs.Rules as rules
-use Rattle.wf_syntax_rules.specs.Rules.{Role, Sub, at, has}
+use Rattle.wf_syntax_rules.specs.Rules.{Role, Sub, at}
 use Rattle.wf_syntax.specs.declared.parts.BlockParts.{BlockParts}
 use Rattle.wf_syntax.specs.declared.parts.CallParts.{CallParts}
 use Rattle.wf_syntax.specs.declared.parts.LoopParts.{LoopParts}
@@ -18,17 +18,6 @@ use Rattle.wf_syntax.specs.declared.parts.Parts.{Parts}
 use Rattle.wf_syntax.specs.declared.parts.ValueParts.{ValueParts}
 use Rattle.wf_tree.specs.Trees.{Tree, Pairs}
 use Rattle.wf_value.specs.Pairs.{Text}
-
--- ## Forms
--- how many of some keys a map has
-abbrev pub count_of : Pairs → List Text → ℕ
-count_of fs [] = 0
-count_of fs (k ∷ ks) = (if has k fs then 1 else 0) + count_of fs ks
-
--- the fields of the first form that a map has
-abbrev pub first_fields : List (Text × List Text) → Pairs → List Text
-first_fields [] fs = codes "next" ∷ []
-first_fields (form ∷ more) fs = let rest = first_fields more fs in if has form.0 fs then form.1 else rest
 
 -- ## Trees of steps
 -- what a step does, and where it goes on

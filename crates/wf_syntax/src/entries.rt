@@ -1,5 +1,5 @@
 // Assignments.
-ghost use Rattle.std.specs.Prelude.{◌≡◌, option_map, MatchResult};
+ghost use Rattle.std.specs.Prelude.{option_map, MatchResult};
 ghost use Rattle.wf_ast.specs.View.{entries_view, entry_view, target_view};
 ghost use Rattle.wf_expr.specs.Targets.{IsTarget};
 ghost use Rattle.wf_syntax_rules.specs.Meaning.{AreEntries, IsEntry, Maybe};
@@ -8,13 +8,13 @@ ghost use Rattle.wf_syntax.specs.Answers.{Fails, FailsAmong, Gives, GivesAll};
 ghost use Rattle.wf_tree.specs.Plain.{plain_tree};
 ghost use Rattle.wf_tree.specs.Trees.{pairs_of, text};
 
-use crate::fields::{field, single};
 use crate::stop::Stop;
 use crate::values::value;
 use std::alloc::Global;
 use wf_ast::{Entries, Entry, Target};
 use wf_expr::{ExprFault, one_target, parse_target};
 use wf_syntax_rules::SyntaxKind;
+use wf_syntax_words::{field, single};
 use wf_tree::{Tree, TreeMap};
 
 /// The target that a key is.

@@ -10,15 +10,15 @@ ghost use Rattle.wf_syntax.specs.declared.stop.Stop.TheVariants as stop;
 ghost use Rattle.wf_tree.specs.Plain.{plain_tree};
 ghost use Rattle.wf_tree.specs.Trees.{Items, list, map, pairs_of, text};
 
-use crate::fields::{field, has, map_fault, single};
+use crate::faults::map_fault;
 use crate::literals::literal;
-use crate::names::is_name;
 use crate::steps::{steps, steps_at};
 use crate::stop::Stop;
 use crate::words::owned;
 use std::alloc::Global;
 use wf_ast::{Flow, Flows, Param, Params, Program};
 use wf_syntax_rules::SyntaxKind;
+use wf_syntax_words::{field, has, is_name, single};
 use wf_tree::{Tree, TreeMap};
 
 /// A parameter: its name, or a map of one from its name to its default.

@@ -2,11 +2,9 @@
 #![tactic(auto)]
 
 mod entries;
-mod fields;
+mod faults;
 mod flows;
 mod literals;
-mod names;
-mod numbers;
 mod parts;
 mod policies;
 mod source;

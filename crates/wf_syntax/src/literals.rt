@@ -1,5 +1,5 @@
 // Values without expressions: the defaults of parameters.
-ghost use Rattle.std.specs.Prelude.{◌≡◌, MatchResult};
+ghost use Rattle.std.specs.Prelude.{MatchResult};
 ghost use Rattle.wf_syntax_rules.specs.Meaning.{AreLiterals, AreNamedLiterals, IsLiteral};
 ghost use Rattle.wf_syntax_rules.specs.Rules.{Literal, each, every};
 ghost use Rattle.wf_syntax.specs.Answers.{Fails, FailsAmong, Gives, GivesAll};

@@ -10,14 +10,13 @@ ghost use Rattle.wf_syntax.specs.Answers.{Fails, FailsAmong, Gives, GivesAll};
 ghost use Rattle.wf_tree.specs.Plain.{plain_tree};
 ghost use Rattle.wf_tree.specs.Trees.{map, pairs_of};
 
-use crate::fields::{field, map_fault};
-use crate::names::{is_name, unmarked};
-use crate::numbers::{thousandths_to, whole_within};
+use crate::faults::map_fault;
 use crate::stop::Stop;
 use crate::words::owned;
 use std::alloc::Global;
 use wf_ast::{Policy, Predicate};
 use wf_syntax_rules::SyntaxKind;
+use wf_syntax_words::{field, is_name, thousandths_to, unmarked, whole_within};
 use wf_tree::{Tree, TreeMap};
 use wf_value::{Backoff, DefaultKind};
 

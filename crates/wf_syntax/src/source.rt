@@ -1,5 +1,5 @@
 // A source's tree as a program.
-ghost use Rattle.std.specs.Prelude.{◌≡◌, IfOk, IfErr, reverse};
+ghost use Rattle.std.specs.Prelude.{IfOk, IfErr};
 ghost use Rattle.wf_ast.specs.View.{program_view};
 ghost use Rattle.wf_syntax_rules.specs.Laws.{HasSmallBackoffs};
 ghost use Rattle.wf_syntax_rules.specs.Meaning.{Builds};

@@ -9,10 +9,7 @@ ghost use Rattle.wf_syntax.specs.Forms.{AreArms, AreBlockParts, AreBranches, Are
 ghost use Rattle.wf_tree.specs.Plain.{plain_tree};
 ghost use Rattle.wf_tree.specs.Trees.{pairs_of};
 
-use crate::fields::{
-    arm_fault, field, loop_fault, map_fault, parallel_fault, single, step_fault, try_fault,
-};
-use crate::names::is_step_name;
+use crate::faults::{arm_fault, loop_fault, map_fault, parallel_fault, step_fault, try_fault};
 use crate::parts::{BlockParts, LoopParts, Parts, call_parts, value_parts};
 use crate::stop::Stop;
 use crate::values::{Ends, arguments_at, range_at, value_at};
@@ -23,6 +20,7 @@ use wf_ast::{
     StepList, Template, Work,
 };
 use wf_syntax_rules::SyntaxKind;
+use wf_syntax_words::{field, is_step_name, single};
 use wf_tree::{Tree, TreeMap};
 use wf_value::Text;
 

@@ -1,5 +1,5 @@
 // Values with expressions in them.
-ghost use Rattle.std.specs.Prelude.{◌≡◌, option_map, MatchResult};
+ghost use Rattle.std.specs.Prelude.{option_map, MatchResult};
 ghost use Rattle.wf_ast.specs.Tree.{fields as fields_of, no_fields, templates};
 ghost use Rattle.wf_ast.specs.View.{fields_view, template_view, templates_view};
 ghost use Rattle.wf_syntax.specs.Forms.{ends_view};
@@ -10,12 +10,12 @@ ghost use Rattle.wf_tree.specs.Plain.{plain_items, plain_pairs, plain_tree};
 ghost use Rattle.wf_expr.specs.Texts.{IsTemplateOf};
 ghost use Rattle.wf_tree.specs.Trees.{items_of, pairs_of, text as a_text};
 
-use crate::fields::field;
 use crate::stop::Stop;
 use std::alloc::Global;
 use wf_ast::{NamedTemplate, NamedTemplates, Template, Templates};
 use wf_expr::{ExprFault, one_template, parse_template};
 use wf_syntax_rules::SyntaxKind;
+use wf_syntax_words::field;
 use wf_tree::{Tree, TreeMap};
 use wf_value::{Text, Value};
 

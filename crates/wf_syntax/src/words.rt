@@ -9,13 +9,11 @@ ghost use Rattle.wf_syntax_rules.specs.Rules.{AnyText, Limit, Policy, Shared, Va
 ghost use Rattle.wf_tree.specs.Plain.{plain_tree};
 ghost use Rattle.wf_tree.specs.Trees.{pairs_of};
 
-use crate::fields::field;
-use crate::names::is_name;
-use crate::numbers::whole_within;
 use crate::stop::Stop;
 use std::alloc::Global;
 use wf_ast::Texts;
 use wf_syntax_rules::SyntaxKind;
+use wf_syntax_words::{field, is_name, whole_within};
 use wf_tree::{Tree, TreeMap};
 use wf_value::Text;
 

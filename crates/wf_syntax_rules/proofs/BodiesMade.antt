@@ -10,7 +10,8 @@ use Rattle.wf_syntax_rules.proofs.ValuesMade.{text_is, variable_is, texts_are, v
 use Rattle.wf_syntax_rules.specs.Faults.{AreSound, IsSound}
 use Rattle.wf_syntax_rules.specs.Made.{text_in, items_in, pairs_in, get, value_of, entries_of, call_of, policy_of, step_of, steps_in, steps_at, arms_in, range_of, over_by, loop_of, branches_in, work_by, texts_of, limit_of, parallel_of, tried_of, except_by, try_of, if_there, body_by, body_within, maybe_of}
 use Rattle.wf_syntax_rules.specs.Meaning.{AreEntries, AreSteps, AreTexts, ArmsIn, At, BranchesIn, IsBody, IsExcept, IsForm, IsLimit, IsLoop, IsOver, IsParallel, IsPolicy, IsStep, IsText, IsTried, IsValue, IsWork, Maybe, OfList, OfMap, StepsIn}
-use Rattle.wf_syntax_rules.specs.Rules.{Role, Sub, arm_fault, body_fields, body_parts, choice_fault, demand, each, field, forms, forms_in, has, has_all, has_only, loop_fault, map_fault, at, own, parallel_fault, parts, step_fault, try_fault, unless}
+use Rattle.wf_syntax_rules.specs.Rules.{Role, arm_fault, body_parts, each, map_fault, at}
+use Rattle.wf_syntax_words.specs.Fields.{body_fields, field, forms, forms_in, has, has_only}
 use Rattle.wf_syntax_rules.specs.Rules as r
 use Rattle.wf_syntax_rules.specs.declared.fault.SyntaxKind.TheVariants.{NotAStep, WrongKind}
 use Rattle.wf_value.specs.HttpRequest.{is_among}

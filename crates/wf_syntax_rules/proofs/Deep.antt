@@ -1,7 +1,8 @@
 -- The parts of a node are less deep than it.
 use Rattle.std.proofs.Common.{◌≡◌, ◌≤◌, ◌<◌, ℕ, suc, max, Bool, true, false, if◌then◌else◌, bytes_eq, List, [], ◌∷◌, ◌++◌, Option, Some, None, codes, refl, ap, arith}
 use Rattle.std.specs.List.{AllByRecursion}
-use Rattle.wf_syntax_rules.specs.Rules.{Role, Sub, field, each, every, there, at, parts}
+use Rattle.wf_syntax_rules.specs.Rules.{Role, Sub, each, every, there, at, parts}
+use Rattle.wf_syntax_words.specs.Fields.{field}
 use Rattle.wf_syntax_rules.specs.Rules as r
 use Rattle.wf_tree.specs.Trees.{Tree, list, map, Items, no_items, item, Pairs, no_pairs, pair, depth, items_depth, pairs_depth}
 use Rattle.wf_value.specs.Pairs.{Text}

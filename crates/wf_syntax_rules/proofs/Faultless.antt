@@ -2,7 +2,8 @@
 use Rattle.std.proofs.Common.{◌≡◌, Bool, true, false, not, ◌&&◌, ◌||◌, ◌++◌, if◌then◌else◌, bytes_eq, is_some, List, ◌∷◌, Option, Some, None, refl, sym, ap, ◌∙◌}
 use Rattle.std.proofs.lemmas.Bool.{and_parts, true≢false}
 use Rattle.std.proofs.lemmas.Slice.Eq.{bytes_eq-Decides}
-use Rattle.wf_syntax_rules.specs.Rules.{choice_fault, demand, field, has, has_all, has_only, map_fault, unless}
+use Rattle.wf_syntax_rules.specs.Rules.{choice_fault, demand, map_fault, unless}
+use Rattle.wf_syntax_words.specs.Fields.{field, has, has_all, has_only}
 use Rattle.wf_syntax_rules.specs.declared.fault.SyntaxKind.{SyntaxKind}
 use Rattle.wf_value.specs.HttpRequest.{is_among}
 use Rattle.wf_tree.specs.Trees.{Tree, Pairs, no_pairs, pair}

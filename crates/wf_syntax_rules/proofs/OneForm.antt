@@ -2,7 +2,8 @@
 use Rattle.std.proofs.Common.{◌≡◌, true, false, ◌++◌, if◌then◌else◌, List, [], ◌∷◌, None, codes, sym, ap, ◌∙◌, subst}
 use Rattle.std.proofs.Common.{map as mapped}
 use Rattle.std.proofs.lemmas.Bool.{true≢false}
-use Rattle.wf_syntax_rules.specs.Rules.{arm_fault, body_fields, fields_of as fields_of_forms, forms, forms_in, has, has_only, step_fault}
+use Rattle.wf_syntax_rules.specs.Rules.{arm_fault, step_fault}
+use Rattle.wf_syntax_words.specs.Fields.{body_fields, fields_of as fields_of_forms, forms, forms_in, has, has_only}
 use Rattle.wf_value.specs.HttpRequest.{is_among}
 use Rattle.wf_syntax_rules.proofs.Faultless.{unless_parts, known_key}
 use Rattle.wf_tree.specs.Trees.{Pairs}

@@ -1,11 +1,12 @@
 -- The fault of a node alone is of no expression.
 use Rattle.std.proofs.Common.{◌≡◌, ◌++◌, ◌&&◌, ◌||◌, if◌then◌else◌, not, Bool, true, false, List, [], ◌∷◌, Option, Some, is_some, bytes_eq, codes, subst}
 use Rattle.wf_syntax_rules.specs.Faults.{IsOwn}
-use Rattle.wf_syntax_rules.specs.Names.{is_name, is_step_name, unmarked}
-use Rattle.wf_syntax_rules.specs.Numbers.{thousandths_to, whole_within}
+use Rattle.wf_syntax_words.specs.Names.{is_name, is_step_name, unmarked}
+use Rattle.wf_syntax_words.specs.Numbers.{thousandths_to, whole_within}
 use Rattle.wf_value.specs.HttpRequest.{is_among}
 use Rattle.wf_expr.specs.Texts.{has_expressions}
-use Rattle.wf_syntax_rules.specs.Rules.{Role, demand, own, unless, has}
+use Rattle.wf_syntax_rules.specs.Rules.{Role, demand, own, unless}
+use Rattle.wf_syntax_words.specs.Fields.{has}
 use Rattle.wf_syntax_rules.specs.Rules as r
 use Rattle.wf_syntax_rules.specs.declared.fault.SyntaxKind.{SyntaxKind}
 use Rattle.wf_syntax_rules.specs.declared.fault.SyntaxKind.TheVariants.{NotAStep, UnknownField, MissingField, WrongKind, Expression}

@@ -8,7 +8,7 @@ use Rattle.wf_syntax_rules.proofs.Values.{both_at, both_lists, both_maps, both_s
 use Rattle.wf_syntax_rules.specs.Laws.{OneProgram}
 use Rattle.wf_syntax_rules.specs.Meaning.{ArmsIn, AreArguments, AreEntries, AreParams, AreTexts, At, BranchesIn, FlowsIn, IsAttempts, IsBackoff, IsBody, IsCall, IsEntry, IsExcept, IsFlow, IsLimit, IsLoop, IsOver, IsParallel, IsParam, IsPolicy, IsPredicate, IsProgram, IsRange, IsStep, IsText, IsThousandths, IsTried, IsTry, IsValue, IsWork, OfList, OfMap, StepsIn, others}
 use Rattle.wf_syntax_rules.specs.Faults.{rooted}
-use Rattle.wf_syntax_rules.specs.Rules.{field, form_names}
+use Rattle.wf_syntax_words.specs.Fields.{field, form_names}
 use Rattle.wf_expr.specs.Texts.{OneTemplate}
 use Rattle.wf_tree.specs.Trees.{Tree, text, list, map, Items, no_items, item, Pairs, no_pairs, pair}
 use Rattle.wf_value.specs.Data as values

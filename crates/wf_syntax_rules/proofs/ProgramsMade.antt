@@ -8,8 +8,9 @@ use Rattle.wf_syntax_rules.proofs.ValuesMade.{literal_is}
 use Rattle.wf_syntax_rules.specs.Faults.{AreSound, IsSound}
 use Rattle.wf_syntax_rules.specs.Made.{some_or, literal_of, param_of, params_of, flow_of, flows_of, program_of}
 use Rattle.wf_syntax_rules.specs.Meaning.{At, AreParams, FlowsIn, IsFlow, IsParam, IsProgram, others}
-use Rattle.wf_syntax_rules.specs.Names.{is_name}
-use Rattle.wf_syntax_rules.specs.Rules.{Role, demand, every, field, has, has_only, own, parts, unless}
+use Rattle.wf_syntax_words.specs.Names.{is_name}
+use Rattle.wf_syntax_rules.specs.Rules.{demand, every, own}
+use Rattle.wf_syntax_words.specs.Fields.{field, has, has_only}
 use Rattle.wf_syntax_rules.specs.Rules as r
 use Rattle.wf_syntax_rules.specs.declared.fault.SyntaxKind.TheVariants.{MissingField, UnknownField, WrongKind}
 use Rattle.wf_tree.specs.Trees.{Tree, null, text, list, map, Pairs, no_pairs, pair, pairs_depth}

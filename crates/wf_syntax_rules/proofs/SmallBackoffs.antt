@@ -14,7 +14,7 @@ use Rattle.wf_syntax_rules.proofs.Soundness.{some_none, sound_own, sound_parts, 
 use Rattle.wf_syntax_rules.specs.Faults.{AreSound, IsSound, rooted}
 use Rattle.wf_syntax_rules.specs.Laws.{SmallBackoffs}
 use Rattle.wf_syntax_rules.specs.Meaning.{default_backoff, others, ArmsIn, At, BranchesIn, ElseBy, FlowsIn, IsBackoff, IsBody, IsExcept, IsFlow, IsLoop, IsParallel, IsPolicy, IsProgram, IsStep, IsText, IsThousandths, IsTried, IsTry, IsWork, Maybe, OfList, OfMap, StepsIn}
-use Rattle.wf_syntax_rules.specs.Numbers.{at_most, thousandths}
+use Rattle.wf_syntax_words.specs.Numbers.{at_most, thousandths}
 use Rattle.wf_syntax_rules.specs.Rules.{Role, body_parts, demand, each, every, there, at, parts}
 use Rattle.wf_syntax_rules.specs.Rules as r
 use Rattle.wf_syntax_rules.specs.declared.fault.SyntaxKind.TheVariants.{WrongKind}

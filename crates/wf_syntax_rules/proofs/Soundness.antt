@@ -5,7 +5,8 @@ use Rattle.wf_syntax_rules.proofs.Own.{own_is}
 use Rattle.wf_syntax_rules.specs.Faults.{AreSound, IsSound}
 use Rattle.wf_syntax_rules.specs.Made.{some_or, each_of, get, else_of, maybe_of}
 use Rattle.wf_syntax_rules.specs.Meaning.{At, Each, Else, ElseBy, Maybe}
-use Rattle.wf_syntax_rules.specs.Rules.{Role, Sub, each, field, has, there, at, own, parts}
+use Rattle.wf_syntax_rules.specs.Rules.{Role, Sub, each, there, at, own, parts}
+use Rattle.wf_syntax_words.specs.Fields.{field, has}
 use Rattle.wf_syntax_rules.specs.declared.fault.SyntaxKind.{SyntaxKind}
 use Rattle.wf_tree.specs.Trees.{Tree, null, Items, no_items, item, Pairs, depth, pairs_depth}
 use Rattle.wf_value.specs.Pairs.{Text}

@@ -2,7 +2,7 @@
 use Rattle.std.proofs.Common.{◌≡◌, Bool, ℤ, List, [], ◌∷◌, Option, Some, None, refl, sym, ap, ◌∙◌, subst}
 use Rattle.wf_ast.specs.Tree.{Template, Scalar, Listed, Mapped, Templates, no_templates, template, Fields, no_fields, field as named}
 use Rattle.wf_syntax_rules.specs.Meaning.{AreNamed, AreValues, At, Each, Else, ElseBy, IsLiteral, AreLiterals, AreNamedLiterals, IsText, IsValue, Maybe, OfList, OfMap, OfSingle}
-use Rattle.wf_syntax_rules.specs.Rules.{field}
+use Rattle.wf_syntax_words.specs.Fields.{field}
 use Rattle.wf_expr.specs.Texts.{OneTemplate}
 use Rattle.wf_tree.specs.Trees.{Tree, null, boolean, integer, decimal, text, list, map, Items, no_items, item, Pairs, no_pairs, pair}
 use Rattle.wf_value.specs.Data as values

@@ -12,8 +12,9 @@ use Rattle.wf_syntax_rules.proofs.Soundness.{some_none, sound_own, sound_parts, 
 use Rattle.wf_syntax_rules.specs.Faults.{AreSound, IsSound}
 use Rattle.wf_syntax_rules.specs.Made.{ok_or, some_or, text_in, value_of, values_of, named_of, literal_of, literals_of, named_literals_of, no_target, entry_of, entries_of, arguments_of, call_of, thousandths_of, attempts_of, backoff_of, predicate_in, policy_of, texts_of, limit_of}
 use Rattle.wf_syntax_rules.specs.Meaning.{default_backoff, most_retries, AreArguments, AreEntries, AreLiterals, AreNamed, AreNamedLiterals, AreTexts, AreValues, IsAttempts, IsBackoff, IsCall, IsEntry, IsLimit, IsLiteral, IsPolicy, IsPredicate, IsText, IsThousandths, IsValue}
-use Rattle.wf_syntax_rules.specs.Numbers.{at_most, thousandths, whole_within}
-use Rattle.wf_syntax_rules.specs.Rules.{Role, demand, each, every, has, at, own, parts}
+use Rattle.wf_syntax_words.specs.Numbers.{at_most, thousandths, whole_within}
+use Rattle.wf_syntax_rules.specs.Rules.{demand, each, every, at, own}
+use Rattle.wf_syntax_words.specs.Fields.{has}
 use Rattle.wf_syntax_rules.specs.Rules as r
 use Rattle.wf_syntax_rules.specs.declared.fault.SyntaxKind.TheVariants.{WrongKind, Expression}
 use Rattle.wf_expr.proofs.Made.{template_is_it}

@@ -1,5 +1,3 @@
-pub mod Names
-pub mod Numbers
 pub mod Rules
 pub mod Faults
 pub mod First

@@ -6,9 +6,9 @@ use Rattle.wf_ast.specs.Tree as t
 use Rattle.wf_ast.specs.Tree.{Template, Scalar, Listed, Mapped, Templates, no_templates, template, Fields, no_fields, field as named}
 use Rattle.wf_expr.specs.Parser.{parse_target}
 use Rattle.wf_syntax_rules.specs.Meaning.{default_backoff, most_retries, others, policy_kind, predicate_of}
-use Rattle.wf_syntax_rules.specs.Names.{unmarked}
-use Rattle.wf_syntax_rules.specs.Numbers.{thousandths, whole_within}
-use Rattle.wf_syntax_rules.specs.Rules.{field, has}
+use Rattle.wf_syntax_words.specs.Names.{unmarked}
+use Rattle.wf_syntax_words.specs.Numbers.{thousandths, whole_within}
+use Rattle.wf_syntax_words.specs.Fields.{field, has}
 use Rattle.wf_expr.specs.Templates.{template_of}
 use Rattle.wf_tree.specs.Trees.{Tree, null, boolean, integer, text, list, map, Items, no_items, item, Pairs, no_pairs, pair, pairs_depth}
 use Rattle.wf_value.specs.Data as values

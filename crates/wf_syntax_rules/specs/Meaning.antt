@@ -2,12 +2,13 @@
 --     Builds     a tree is this program: it has no fault, and each part of the program is that of its place in the tree
 use Rattle.std.specs.Prelude.{◌≡◌, ℕ, List, [], ◌∷◌, Option, Some, None, if◌then◌else◌, codes, bytes_eq}
 use Rattle.wf_ast.specs.Tree as t
-use Rattle.wf_ast.specs.Tree.{Template, Scalar, Whole, Joined, Listed, Mapped, Templates, no_templates, template, Fields, no_fields, field as named}
+use Rattle.wf_ast.specs.Tree.{Template, Scalar, Listed, Mapped, Templates, no_templates, template, Fields, no_fields, field as named}
 use Rattle.wf_expr.specs.Targets.{IsTarget}
 use Rattle.wf_syntax_rules.specs.Faults.{IsSound, rooted}
-use Rattle.wf_syntax_rules.specs.Names.{unmarked}
-use Rattle.wf_syntax_rules.specs.Numbers.{thousandths, whole_within}
-use Rattle.wf_syntax_rules.specs.Rules.{Flows, field, form_names}
+use Rattle.wf_syntax_words.specs.Names.{unmarked}
+use Rattle.wf_syntax_words.specs.Numbers.{thousandths, whole_within}
+use Rattle.wf_syntax_rules.specs.Rules.{Flows}
+use Rattle.wf_syntax_words.specs.Fields.{field, form_names}
 use Rattle.wf_expr.specs.Texts.{IsTemplateOf}
 use Rattle.wf_tree.specs.Trees.{Tree, null, boolean, integer, text, list, map, Items, no_items, item, Pairs, no_pairs, pair}
 use Rattle.wf_value.specs.Data as values

@@ -2,12 +2,11 @@
 --     own       the fault of a node, the first rule that speaks
 --     parts     what stands in a node, in the order of the tree
 -- The texts of expressions are judged apart (Faults).
-use Rattle.std.specs.Prelude.{ℕ, suc, ◌+◌, Bool, true, false, not, ◌&&◌, ◌||◌, List, [], ◌∷◌, ◌++◌, Option, Some, None, is_some, codes, bytes_eq, if◌then◌else◌}
+use Rattle.std.specs.Prelude.{ℕ, suc, ◌+◌, Bool, not, ◌&&◌, ◌||◌, List, [], ◌∷◌, ◌++◌, Option, Some, None, is_some, codes, bytes_eq, if◌then◌else◌}
 use Rattle.std.specs.Prelude as seq
-use Rattle.std.specs.List.{list_all}
 use Rattle.wf_value.specs.HttpRequest.{is_among}
-use Rattle.wf_syntax_rules.specs.Names.{is_name, is_step_name, unmarked}
-use Rattle.wf_syntax_rules.specs.Numbers.{thousandths_to, whole_within}
+use Rattle.wf_syntax_words.specs.Names.{is_name, is_step_name, unmarked}
+use Rattle.wf_syntax_words.specs.Numbers.{thousandths_to, whole_within}
 use Rattle.wf_syntax_rules.specs.declared.fault.SyntaxKind.{SyntaxKind}
 use Rattle.wf_syntax_rules.specs.declared.fault.SyntaxKind.TheVariants.{NotAStep, UnknownField, MissingField, WrongKind}
 use Rattle.wf_expr.specs.Texts.{has_expressions}
@@ -60,35 +59,6 @@ pub data Role : Type 0 where
   Factor : Role
   Except : Role
 
--- ## Maps
-abbrev pub keys : Pairs → List Text
-keys no_pairs = []
-keys (pair k t fs) = k ∷ keys fs
-
--- the tree at a key
-abbrev pub field : Text → Pairs → Option Tree
-field k no_pairs = None
-field k (pair j t fs) = let more = field k fs in if bytes_eq k j then Some t else more
-
-abbrev pub has : Text → Pairs → Bool
-has k fs = is_some (field k fs)
-
-abbrev pub is_empty : Pairs → Bool
-is_empty no_pairs = true
-is_empty (pair k t fs) = false
-
--- whether each of these keys is there, and whether there are no others
-abbrev pub has_all : List Text → Pairs → Bool
-has_all ks fs = list_all (λ k. has k fs) ks
-
-abbrev pub has_only : List Text → Pairs → Bool
-has_only ks fs = list_all (λ k. is_among k ks) (keys fs)
-
--- the pair of a map of one
-abbrev pub single_of : Tree → Option (Text × Tree)
-single_of (map (pair k t no_pairs)) = Some (k, t)
-single_of t = None
-
 -- ## The first rule that speaks
 abbrev pub unless : Bool → SyntaxKind → Option SyntaxKind → Option SyntaxKind
 unless holds k more = if holds then more else Some k
@@ -112,37 +82,6 @@ abbrev pub parallel_fault : Pairs → Option SyntaxKind
 parallel_fault fs = choice_fault (codes "branches") (codes "for") [] (codes "concurrency_limit" ∷ codes "exception_policy" ∷ codes "shared" ∷ []) fs
 
 -- ## Bodies
--- the forms of a body, and the fields of each
-abbrev pub forms : List (Text × List Text)
-forms =
-    (codes "assign", codes "assign" ∷ codes "next" ∷ [])
-    ∷ (codes "call", codes "args" ∷ codes "call" ∷ codes "next" ∷ codes "result" ∷ [])
-    ∷ (codes "for", codes "for" ∷ codes "next" ∷ [])
-    ∷ (codes "parallel", codes "next" ∷ codes "parallel" ∷ [])
-    ∷ (codes "raise", codes "raise" ∷ [])
-    ∷ (codes "return", codes "return" ∷ [])
-    ∷ (codes "steps", codes "next" ∷ codes "steps" ∷ [])
-    ∷ (codes "switch", codes "next" ∷ codes "switch" ∷ [])
-    ∷ (codes "try", codes "except" ∷ codes "next" ∷ codes "retry" ∷ codes "try" ∷ [])
-    ∷ []
-
--- the forms that a body has
-abbrev pub forms_in : List (Text × List Text) → Pairs → List (Text × List Text)
-forms_in [] fs = []
-forms_in (form ∷ more) fs = (if has form.0 fs then form ∷ [] else []) ++ forms_in more fs
-
-abbrev pub form_names : Pairs → List Text
-form_names fs = seq.map (λ f. f.0) (forms_in forms fs)
-
--- the fields of a body with these forms; a body of two forms has none
-abbrev pub fields_of : List (Text × List Text) → List Text
-fields_of [] = codes "next" ∷ []
-fields_of (form ∷ []) = form.1
-fields_of more = []
-
-abbrev pub body_fields : Pairs → List Text
-body_fields fs = fields_of (forms_in forms fs)
-
 -- a step has at least one field
 abbrev pub step_fault : Pairs → Option SyntaxKind
 step_fault fs = unless (has_only (body_fields fs) fs) UnknownField (demand (not (is_empty fs)) MissingField)

@@ -1,6 +1,6 @@
 use Rattle.std.proofs.Common.{ap, ◌∙◌}
 use Rattle.wf_ast.specs.View.{policy_view}
-use Rattle.wf_syntax_rules.specs.Names.{unmarked}
+use Rattle.wf_syntax_words.specs.Names.{unmarked}
 use Rattle.wf_syntax.proofs.Retries.{policy_given}
 use Rattle.wf_syntax.proofs.policies.policy.Goals as goal
 use Rattle.wf_tree.specs.Plain.{plain_tree}

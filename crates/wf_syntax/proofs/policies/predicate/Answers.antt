@@ -1,7 +1,7 @@
 use Rattle.std.proofs.Common.{sym, ap, ◌∙◌}
 use Rattle.wf_ast.specs.Tree.{Always, FlowNamed, Never, Predefined}
 use Rattle.wf_syntax_rules.specs.Meaning.{predicate_of}
-use Rattle.wf_syntax_rules.specs.Names.{unmarked}
+use Rattle.wf_syntax_words.specs.Names.{unmarked}
 use Rattle.wf_syntax.proofs.Retries.{flow_named, is_predicate, named_is, predicate_given}
 use Rattle.wf_syntax.proofs.policies.predicate.Goals as goal
 use Rattle.wf_tree.specs.Plain.{plain_tree}

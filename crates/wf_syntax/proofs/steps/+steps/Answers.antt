@@ -1,4 +1,4 @@
-use Rattle.std.proofs.Common.{◌≡◌, [], ◌∷◌, codes, Result, Err, Some, None, option_map, is_ok, arith, rules, refl, sym, ap, ◌∙◌, subst}
+use Rattle.std.proofs.Common.{◌≡◌, [], ◌∷◌, codes, Err, Some, None, option_map, is_ok, arith, refl, sym, ap, ◌∙◌, subst}
 use Rattle.wf_ast.proofs.Views.{branch_made, except_made}
 use Rattle.wf_ast.specs.Tree as plain
 use Rattle.wf_ast.specs.View.{arms_in, arms_view, branches_in, branches_view, fields_view, steps_in, steps_view}

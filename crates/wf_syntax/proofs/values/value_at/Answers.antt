@@ -1,4 +1,3 @@
-use Rattle.std.proofs.Common.{◌≡◌, sym}
 use Rattle.wf_syntax_rules.specs.Rules.{Value}
 use Rattle.wf_syntax.proofs.Lists.{at_fails}
 use Rattle.wf_tree.specs.Plain.{plain_tree}

@@ -1,5 +1,5 @@
 use Rattle.std.proofs.Common.{sym, ap, ◌∙◌}
-use Rattle.wf_syntax_rules.specs.Names.{is_name}
+use Rattle.wf_syntax_words.specs.Names.{is_name}
 use Rattle.wf_syntax.proofs.Texts.{name_given}
 use Rattle.wf_syntax.proofs.words.variable_name.Goals as goal
 use Rattle.wf_tree.specs.Plain.{plain_tree}

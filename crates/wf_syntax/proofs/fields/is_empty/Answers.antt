@@ -1,6 +1,0 @@
-use Rattle.std.proofs.Common.{◌∙◌}
-use Rattle.wf_syntax.proofs.Pairs.{empty_is}
-use Rattle.wf_syntax.proofs.fields.is_empty.Goals as goal
-
-pub returns : goal.returns
-returns c = c.is_empty.ensures ∙ empty_is c.pairs.result.now c.args.fields.now c.pairs.ensures.pairs

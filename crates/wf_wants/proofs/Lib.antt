@@ -1,0 +1,3 @@
+mod Timed
+mod Wanted
+mod Nodes
