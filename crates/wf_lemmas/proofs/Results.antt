@@ -1,0 +1,14 @@
+-- Answers and errors.
+use Rattle.std.proofs.Common.{◌≡◌, ◌⊎◌, ⊎_elim, Bool, true, false, refl, sym, ap, ◌∙◌}
+use Rattle.std.specs.Prelude.{◌↔◌, Result, Ok, Err, IsErr, IsErrAnd, IsErrOf}
+
+-- an error that is handed on
+pub passed_on : {T A E : Type 0} (r : Result T E) (cause e : E) → IsErr r × IsErrAnd r (λ x. x ≡ cause) → r ≡ Err e → IsErrOf {T = A} (Err cause) e
+passed_on (Ok x) cause e gives is = absurd cc
+passed_on (Err f) cause e gives is = let same : f ≡ e = cc is in ap Err (sym gives.1 ∙ same)
+
+-- what was open and is closed by one error alone is open behind an answer
+pub still_open : {A E : Type 0} (before after : Bool) (e : E) (r : Result A E) (a : A) → r ≡ Ok a → before ≡ false → (after ≡ true ↔ (before ≡ true) ⊎ IsErrOf r e) → after ≡ false
+still_open before false e r a is was closes = refl
+still_open before true e r a is was closes =
+    absurd (⊎_elim (λ shut. let no : true ≡ false = sym shut ∙ was in cc no) (λ err. let no : Err e ≡ Ok a = sym err ∙ is in cc no) (closes.0 refl))

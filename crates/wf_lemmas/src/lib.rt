@@ -1,0 +1,2 @@
+//! Lemmas on std's notions alone, for the proofs of the crates above. No code.
+#![tactic(auto)]
