@@ -3,7 +3,7 @@
 --     merges                   what it comes to
 --     not_nowhere              that it comes to something
 --     limit_here, below_limit  the limit
-use Rattle.std.proofs.Common.{◌≡◌, ◌<◌, ◌≤◌, ℕ, suc, ◌+◌, ◌-◌, Bool, true, false, List, [], None, refl, sym, ◌∙◌, ap, subst, arith}
+use Rattle.std.proofs.Common.{◌≡◌, ◌<◌, ◌≤◌, ℕ, suc, ◌+◌, ◌-◌, Bool, true, false, List, [], None, refl, sym, ◌∙◌, ap, subst, arith, add-one}
 use Rattle.std.specs.Prelude.{if◌then◌else◌, nat_lt}
 use Rattle.std.proofs.lemmas.Bool.{lt-ltb, ltb-true}
 use Rattle.wf_alone.specs.Laws.{MainMerges}
@@ -71,10 +71,6 @@ not_less a b le = false_unless (nat_lt a b) (λ is. let less : a < b = ltb-true 
     false_unless true never = absurd (never refl)
     false_unless false never = refl
 
--- one more
-pub one_more : (m : ℕ) → m + 1 ≡ suc m
-one_more m = omega arith
-
 -- below the limit
 below : (m : ℕ) → m + 1 < 100000 → nat_lt (suc m) move_limit ≡ true
 below m lt = lt-ltb (suc m) move_limit (omega (arith, lt))
@@ -92,10 +88,10 @@ module _ (x : Rest) (tasks : List (ℕ × Task)) (o : Outcome) (f : Config → A
   pub limit_here : 100000 ≤ x.moves + 1 → counted (config_by x tasks o) f ≡ To (config_by (alone.one_more x) tasks (Raised (error_map ResourceLimitError)))
   limit_here le =
       ap (λ b. if b then f (At (suc x.moves)) else To (stopped (At (suc x.moves)))) (at_least x.moves le)
-      ∙ ap (λ n. To (config_by (record x { moves = n }) tasks (Raised (error_map ResourceLimitError)))) (sym (one_more x.moves))
+      ∙ ap (λ n. To (config_by (record x { moves = n }) tasks (Raised (error_map ResourceLimitError)))) (sym (add-one x.moves))
 
   -- one below it is
   pub below_limit : x.moves + 1 < 100000 → counted (config_by x tasks o) f ≡ f (config_by (alone.one_more x) tasks o)
   below_limit lt =
       ap (λ b. if b then f (At (suc x.moves)) else To (stopped (At (suc x.moves)))) (below x.moves lt)
-      ∙ ap (λ n. f (At n)) (sym (one_more x.moves))
+      ∙ ap (λ n. f (At n)) (sym (add-one x.moves))

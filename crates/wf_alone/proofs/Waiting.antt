@@ -7,6 +7,7 @@ use Rattle.std.proofs.Common.{◌≡◌, ◌≤◌, ℕ, zero, suc, ◌+◌, ◌
 use Rattle.std.proofs.Math.Dec.{eqb-zero-suc}
 use Rattle.std.proofs.lemmas.Bool.{le-leb, lt-leb}
 use Rattle.std.specs.Prelude.{◌||◌, nat_le, if◌then◌else◌}
+use Rattle.wf_lemmas.proofs.Bools.{and_none}
 use Rattle.wf_alone.proofs.Carried.{by_main}
 use Rattle.wf_alone.proofs.Off.{call_same, due_same}
 use Rattle.wf_alone.specs.Laws.{MainIsAnswered, MainIsDue, MainIsFlooded, MainWaits}
@@ -86,10 +87,6 @@ chosen f t now true a = refl
 chosen f t now false true = refl
 chosen f t now false false = refl
 
-and_true : (b : Bool) → b && true ≡ b
-and_true true = refl
-and_true false = refl
-
 -- what is due is waited for
 pub asleep : (x : Rest) (w : Wait) (d : ℕ) → due_for x w ≡ Some d → is_awake w ≡ false
 asleep x Awake d is = absurd (cc is)
@@ -106,7 +103,7 @@ waiting p x k ls w d is =
       due = ap (λ o. least_in (elim o [ None ↦ [] | Some e ↦ e ∷ [] ])) at;
       still = λ r.
           ap (λ b. not ((b && not (stands_waiting k)) || (b && begins k) || is_by r (due_of (main_at x k ls w) w)) && true) sleeps
-          ∙ ap (λ o. not (is_by r o) && true) at ∙ and_true (not (nat_le d r));
+          ∙ ap (λ o. not (is_by r o) && true) at ∙ and_none (not (nat_le d r));
       chosen = λ r.
           let t : ℕ × Task = (0, main_task k ls w) in
           let now = max r x.last in

@@ -2,14 +2,14 @@
 use Rattle.std.proofs.Common.{◌≡◌, ◌+◌, ◌*◌, ◌<◌, ◌≤◌, ℕ, suc, Bool, true, false, cond, List, [], ◌∷◌, ◌++◌, length, Err, refl, sym, ap, ◌∙◌, arith, length-append}
 use Rattle.std.specs.Prelude.{nat_lt}
 use Rattle.std.specs.List.{list_any}
-use Rattle.std.proofs.lemmas.Bool.{ltb-true}
+use Rattle.std.proofs.lemmas.Bool.{ltb-true, and_parts}
 use Rattle.std.proofs.lemmas.List.Sums.{sum_by-cons}
 use Rattle.wf_args.specs.declared.command.Command.{Command}
 use Rattle.wf_args.specs.declared.option.OptionName.{OptionName}
 use Rattle.wf_args.specs.declared.option.OptionName.TheVariants.{Source, Journal, Args, Id, Route, Env, Waits, Turn, Grep}
 use Rattle.wf_args.specs.Lines.{names, same_name, count, most, may_stand, options_of, options_at}
 use Rattle.wf_args.proofs.Names.{same_name-is, count_more}
-use Rattle.wf_args.proofs.Reading.{by_end, by_last, by_pair, both, next_named}
+use Rattle.wf_args.proofs.Reading.{by_end, by_last, by_pair, next_named}
 
 -- none stands more often than it may
 abbrev pub Within : List (OptionName × List ℕ) → Type 0
@@ -30,7 +30,7 @@ more_by false m n k more same is within below =
 pub more_within : (c : Command) (options : List (OptionName × List ℕ)) (o : OptionName) (word : List ℕ) → may_stand c options o ≡ true → Within options → Within (options ++ (o, word) ∷ [])
 more_within c options o word stands within n =
     more_by (same_name o n) o n (count n options) (count n (options ++ (o, word) ∷ [])) refl (count_more n options (o, word)) (within n)
-    (λ same. ltb-true (count n options) (most n) (ap (λ (m : OptionName). nat_lt (count m options) (most m)) (sym same) ∙ (both (list_any (same_name o) (options_of c)) (nat_lt (count o options) (most o)) stands).1))
+    (λ same. ltb-true (count n options) (most n) (ap (λ (m : OptionName). nat_lt (count m options) (most m)) (sym same) ∙ (and_parts (list_any (same_name o) (options_of c)) (nat_lt (count o options) (most o)) stands).1))
 
 -- each option is one of these
 pub count-cons : (n : OptionName) (o : OptionName × List ℕ) (options : List (OptionName × List ℕ)) → count n (o ∷ options) ≡ cond (same_name o.0 n) 1 0 + count n options

@@ -3,7 +3,7 @@ use Rattle.std.proofs.Common.{◌≡◌, ◌+◌, ◌<◌, ◌≤◌, ◌⊎◌,
 use Rattle.std.specs.Prelude.{nat_lt, ◌&&◌, codes}
 use Rattle.std.specs.List.{list_any, list_all}
 use Rattle.std.specs.Option.{option_map_or}
-use Rattle.std.proofs.lemmas.Bool.{ltb-true, ltb-false, lt-ltb}
+use Rattle.std.proofs.lemmas.Bool.{ltb-true, ltb-false, lt-ltb, and_from, and_parts}
 use Rattle.wf_args.specs.declared.command.Command.{Command}
 use Rattle.wf_args.specs.declared.command.Command.TheVariants.{Check, Format, Run, Resume, Show, At, Log, Help, Version}
 use Rattle.wf_args.specs.declared.option.OptionName.{OptionName}
@@ -11,7 +11,7 @@ use Rattle.wf_args.specs.declared.option.OptionName.TheVariants.{Source, Journal
 use Rattle.wf_args.specs.Lines.{PlainLine, command_of, name_word, options_of, required, most, is_word, same_name, count, may_stand, is_complete, next_name, options_at, line_of}
 use Rattle.wf_args.specs.Laws.{Reads, reads, Begins, IsLeastBadWord}
 use Rattle.wf_args.proofs.Names.{name_of_word, same_name-refl, count_more}
-use Rattle.wf_args.proofs.Reading.{by_end, by_last, by_pair, both, next_pair, unknown_name, unfit_word, named_next}
+use Rattle.wf_args.proofs.Reading.{by_end, by_last, by_pair, next_pair, unknown_name, unfit_word, named_next}
 
 -- a bad line is no line
 pub not_read : (r : Result PlainLine ℕ) (n : ℕ) → r ≡ Err n → Reads r → ⊥
@@ -59,9 +59,6 @@ takes_required Log = refl
 takes_required Help = refl
 takes_required Version = refl
 
-pub conjunction : (a b : Bool) → a ≡ true → b ≡ true → (a && b) ≡ true
-conjunction a b first second = (λ i. first i && second i)
-
 by_test : (P : Type 0) (b : Bool) → (b ≡ true → P) → (b ≡ false → P) → P
 by_test P true if_true if_false = if_true refl
 by_test P false if_true if_false = if_false refl
@@ -70,10 +67,10 @@ by_test P false if_true if_false = if_false refl
 may_be_added : (c : Command) (options : List (OptionName × List ℕ)) (n : OptionName) → takes_one c n ≡ true → nat_lt 0 (count n options) ≡ false → may_stand c options n ≡ true
 unfolding takes_one
 may_be_added c options n takes missing =
-    let parts = both (list_any (same_name n) (options_of c)) (nat_lt 0 (most n)) takes in
+    let parts = and_parts (list_any (same_name n) (options_of c)) (nat_lt 0 (most n)) takes in
     let none = ltb-false 0 (count n options) missing in
     let some = ltb-true 0 (most n) parts.1 in
-    conjunction (list_any (same_name n) (options_of c)) (nat_lt (count n options) (most n)) parts.0 (lt-ltb (count n options) (most n) (omega (arith, none, some)))
+    and_from (list_any (same_name n) (options_of c)) (nat_lt (count n options) (most n)) parts.0 (lt-ltb (count n options) (most n) (omega (arith, none, some)))
 
 -- reading on behind a pair
 pub pair_begins : (c : Command) (n : ℕ) (options : List (OptionName × List ℕ)) (name word : List ℕ) (o : OptionName) (words : List (List ℕ)) → next_name c options name ≡ Some o → is_word o word ≡ true → BeginsAt c (suc (suc n)) (options ++ (o, word) ∷ []) words → BeginsAt c n options (name ∷ word ∷ words)
@@ -87,17 +84,17 @@ complete : (names : List OptionName) (c : Command) (n : ℕ) (options : List (Op
 complete [] c n options takes done =
     ([], by_end (λ r. Reads r) c n options (λ missing. absurd (grind (arith, missing, done options (λ m. omega arith) refl))) (λ all. reads (record { command = c; options = options })))
 complete (m ∷ names) c n options takes done =
-    let parts = both (takes_one c m) (list_all (takes_one c) names) takes in
+    let parts = and_parts (takes_one c m) (list_all (takes_one c) names) takes in
     by_test (BeginsAt c n options []) (nat_lt 0 (count m options))
     (λ stands. complete names c n options parts.1 (λ more grows all.
     let below = ltb-true 0 (count m options) stands in
-    done more grows (conjunction (nat_lt 0 (count m more)) (list_all (λ k. nat_lt 0 (count k more)) names) (lt-ltb 0 (count m more) (omega (arith, below, grows m))) all)))
+    done more grows (and_from (nat_lt 0 (count m more)) (list_all (λ k. nat_lt 0 (count k more)) names) (lt-ltb 0 (count m more) (omega (arith, below, grows m))) all)))
     (λ missing.
     let known = named_next c options (name_word m) m (name_of_word m) (may_be_added c options m parts.0 missing) in
     let one = count_more m options (m, example m) ∙ ap (λ b. count m options + cond b 1 0) (same_name-refl m) in
     let b = complete names c (suc (suc n)) (options ++ (m, example m) ∷ []) parts.1 (λ more grows all.
     done more (λ k. let added = count_more k options (m, example m) in omega (arith, added, grows k))
-    (conjunction (nat_lt 0 (count m more)) (list_all (λ k. nat_lt 0 (count k more)) names) (lt-ltb 0 (count m more) (omega (arith, one, grows m))) all)) in
+    (and_from (nat_lt 0 (count m more)) (list_all (λ k. nat_lt 0 (count k more)) names) (lt-ltb 0 (count m more) (omega (arith, one, grows m))) all)) in
     let begins = pair_begins c n options (name_word m) (example m) m [] known (example_fits m) b in
     (name_word m ∷ example m ∷ begins.0, begins.1))
 

@@ -89,11 +89,6 @@ pub named_next : (c : Command) (options : List (OptionName × List ℕ)) (word :
 named_next c options word n named stands =
     ap (λ (o : Option OptionName). option_and_then (λ m. if may_stand c options m then Some m else None) o) named ∙ ap (λ (b : Bool). if b then Some n else None) stands
 
--- a conjunction of tests
-pub both : (a b : Bool) → (a && b) ≡ true → (a ≡ true) × (b ≡ true)
-both true b is = (refl, is)
-both false b is = absurd (grind (arith, is))
-
 -- where the words end
 pub by_end : (P : Result PlainLine ℕ → Type 0) (c : Command) (n : ℕ) (options : List (OptionName × List ℕ)) → (is_complete c options ≡ false → P (Err n)) → (is_complete c options ≡ true → P (Ok (record { command = c; options = options }))) → P (options_at c n options [])
 by_end P c n options missing complete = pair_if P (is_complete c options) (Ok (record { command = c; options = options })) (Err n) missing complete

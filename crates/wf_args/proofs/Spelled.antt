@@ -3,7 +3,7 @@ use Rattle.std.proofs.Common.{◌≡◌, ◌+◌, ◌≤◌, ℕ, suc, Bool, tru
 use Rattle.std.specs.Prelude.{nat_lt, ◌&&◌, bytes_eq, flat_map, option_and_then, is_ok, if◌then◌else◌}
 use Rattle.std.specs.List.{list_any, list_all, cons_option}
 use Rattle.std.specs.Option.{option_map_or}
-use Rattle.std.proofs.lemmas.Bool.{lt-ltb}
+use Rattle.std.proofs.lemmas.Bool.{lt-ltb, and_from, and_parts}
 use Rattle.std.proofs.lemmas.List.Folds.{list_all-append}
 use Rattle.std.proofs.lemmas.List.Sums.{sum_by-append}
 use Rattle.std.proofs.lemmas.Slice.Eq.{bytes_eq-Decides}
@@ -13,9 +13,8 @@ use Rattle.wf_args.specs.declared.option.OptionName.{OptionName}
 use Rattle.wf_args.specs.Lines.{PlainLine, commands, command_of, command_word, name_of, name_word, options_of, most, is_word, same_name, count, is_complete, next_name, options_at, options_in, line_of}
 use Rattle.wf_args.specs.Laws.{spelling, IsLine, LinesAreSpelled}
 use Rattle.wf_args.proofs.Names.{find_passes, name_of_word, named_word, same_name-refl}
-use Rattle.wf_args.proofs.Reading.{by_end, by_last, by_pair, both, next_pair, next_named, named_next, read_options, ok_is}
+use Rattle.wf_args.proofs.Reading.{by_end, by_last, by_pair, next_pair, next_named, named_next, read_options, ok_is}
 use Rattle.wf_args.proofs.Counts.{none_within, more_within, count-cons}
-use Rattle.wf_args.proofs.Least.{conjunction}
 
 -- options as words
 abbrev pub spelled : List (OptionName × List ℕ) → List (List ℕ)
@@ -37,13 +36,13 @@ none_read : (c : Command) → AreRead c []
 none_read c = record { taken = refl; fit = refl; within = none_within }
 
 one_passes : {X : Type 0} (p : X → Bool) (xs : List X) (x : X) → list_all p xs ≡ true → p x ≡ true → list_all p (xs ++ x ∷ []) ≡ true
-one_passes p xs x before it = list_all-append p xs (x ∷ []) ∙ conjunction (list_all p xs) (p x && true) before (conjunction (p x) true it refl)
+one_passes p xs x before it = list_all-append p xs (x ∷ []) ∙ and_from (list_all p xs) (p x && true) before (and_from (p x) true it refl)
 
 more_read : (c : Command) (options : List (OptionName × List ℕ)) (name word : List ℕ) (o : OptionName) → next_name c options name ≡ Some o → is_word o word ≡ true → AreRead c options → AreRead c (options ++ (o, word) ∷ [])
 more_read c options name word o known fits r =
     let stands = (next_named c options name o known).1 in
     record {
-      taken = one_passes (is_taken c) options (o, word) r.taken (both (list_any (same_name o) (options_of c)) (nat_lt (count o options) (most o)) stands).0;
+      taken = one_passes (is_taken c) options (o, word) r.taken (and_parts (list_any (same_name o) (options_of c)) (nat_lt (count o options) (most o)) stands).0;
       fit = one_passes is_fit options (o, word) r.fit fits;
       within = more_within c options o word stands r.within;
     }
@@ -110,7 +109,7 @@ read_is_spelled (word ∷ words) l is = spelled_behind word words l (command_of 
 
 last_part : {X : Type 0} (p : X → Bool) (xs : List X) (x : X) (ys : List X) → list_all p (xs ++ x ∷ ys) ≡ true → p x ≡ true
 last_part p xs x ys all =
-    (both (p x) (list_all p ys) (both (list_all p xs) (list_all p (x ∷ ys)) (sym (list_all-append p xs (x ∷ ys)) ∙ all)).1).0
+    (and_parts (p x) (list_all p ys) (and_parts (list_all p xs) (list_all p (x ∷ ys)) (sym (list_all-append p xs (x ∷ ys)) ∙ all)).1).0
 
 read_back : (c : Command) (n : ℕ) (options rest : List (OptionName × List ℕ)) → IsLine (record { command = c; options = options ++ rest }) → options_at c n options (spelled rest) ≡ Ok (record { command = c; options = options ++ rest })
 read_back c n options [] line =
@@ -122,7 +121,7 @@ read_back c n options ((o, word) ∷ rest) line =
     let parts = sum_by-append (λ (p : OptionName × List ℕ). cond (same_name p.0 o) 1 0) options ((o, word) ∷ rest) in
     let one = count-cons o (o, word) rest ∙ ap (λ b. cond b 1 0 + count o rest) (same_name-refl o) in
     let below = lt-ltb (count o options) (most o) (omega (arith, parts, one, line.within o)) in
-    let known = named_next c options (name_word o) o (name_of_word o) (conjunction (list_any (same_name o) (options_of c)) (nat_lt (count o options) (most o)) taken below) in
+    let known = named_next c options (name_word o) o (name_of_word o) (and_from (list_any (same_name o) (options_of c)) (nat_lt (count o options) (most o)) taken below) in
     let all : (options ++ (o, word) ∷ []) ++ rest ≡ options ++ (o, word) ∷ rest = append_assoc options ((o, word) ∷ []) rest in
     next_pair c n options (name_word o) word (spelled rest) o known fits
     ∙ read_back c (suc (suc n)) (options ++ (o, word) ∷ []) rest (subst (λ os. IsLine (record { command = c; options = os })) (sym all) line)

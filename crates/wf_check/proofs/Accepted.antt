@@ -1,6 +1,7 @@
 -- What it is that nothing is said of a program.
 use Rattle.std.proofs.Common.{◌≡◌, ℕ, suc, Bool, true, false, ◌&&◌, List, [], ◌∷◌, Option, Some, None, IsTrue, is_none, option_map, refl, sym, subst}
 use Rattle.std.specs.List.{list_all}
+use Rattle.std.proofs.lemmas.Bool.{and_parts}
 use Rattle.wf_ast.specs.Accept.{Accept, Fault, after_part, fault, first_among, first_fault, small_backoff}
 use Rattle.wf_ast.specs.Nodes.{Node, nodes}
 use Rattle.wf_ast.specs.Tree.{Flow, Program}
@@ -36,10 +37,6 @@ forms_built fs n e (v ∷ vs) h =
     let here = none_of_both (option_map said_of (fault fs n e v)) (as_said kinds.NotYet (not_yet fs v.part v.path)) both.0 in
     subst (λ o. IsTrue (is_none o && list_all (node_built fs) vs)) (sym (no_fault kinds.NotYet (not_yet fs v.part v.path) here.1)) (forms_built fs (suc n) (after_part v.part e) vs both.1)
 
-parts : (a b : Bool) → IsTrue (a && b) → IsTrue a × IsTrue b
-parts true b h = (refl, h)
-parts false b h = let no : ⊥ = cc in absurd no
-
 none_there : (o : Option Said) → IsTrue (is_none o) → o ≡ None
 none_there None h = refl
 none_there (Some x) h = let no : ⊥ = cc in absurd no
@@ -50,11 +47,11 @@ accepted_when p none small = subst (λ o. IsTrue (is_none o && list_all small_ba
 
 -- nothing is said of it
 pub silent : (p : Program) → IsTrue (is_accepted p) → first_said p ≡ None
-silent p h = none_there (first_said p) (parts (is_none (first_said p)) (list_all small_backoff (nodes p.flows)) h).0
+silent p h = none_there (first_said p) (and_parts (is_none (first_said p)) (list_all small_backoff (nodes p.flows)) h).0
 
 pub accept_of : (p : Program) → IsTrue (is_accepted p) → Accept p
 unfolding first_fault
-accept_of p h = (rules_silent p.flows 0 [] (nodes p.flows) (silent p h), (parts (is_none (first_said p)) (list_all small_backoff (nodes p.flows)) h).1)
+accept_of p h = (rules_silent p.flows 0 [] (nodes p.flows) (silent p h), (and_parts (is_none (first_said p)) (list_all small_backoff (nodes p.flows)) h).1)
 
 pub built_of : (p : Program) → IsTrue (is_accepted p) → IsTrue (program_built p)
 built_of p h = forms_built p.flows 0 [] (nodes p.flows) (silent p h)

@@ -1,10 +1,11 @@
 -- Walks over nodes one after another, and seen from further out.
 use Rattle.std.proofs.Common.{◌≡◌, ℕ, suc, ◌+◌, ◌<◌, ◌≤◌, drop, get_or, add-one, List, [], ◌∷◌, ◌++◌, length, map, Option, Some, None, Result, Ok, Err, refl, sym, ap, ◌∙◌, subst, length-append, add-zero, arith}
+use Rattle.std.proofs.Math.Nat.{add_assoc}
+use Rattle.wf_lemmas.proofs.Lists.{item_at, drop_end}
 use Rattle.wf_ast.specs.Accept.{after_part}
 use Rattle.wf_ast.specs.Nodes.{Around, Node, Path, below, nth}
 use Rattle.wf_ast.specs.Tree.{Flow}
 use Rattle.wf_diagnostics.proofs.Told.{further}
-use Rattle.wf_symbols.proofs.Places.{item_at, none_left}
 use Rattle.wf_diagnostics.specs.Answers.{IsKeyed, IsOutside}
 use Rattle.wf_symbols.specs.Around.{Alike, SameNames, Stands, Still, around_view, inside_view, layer_view, reach}
 use Rattle.wf_symbols.specs.Names.{names_of}
@@ -60,14 +61,11 @@ stands_still a b h r s k =
     } in
     subst (λ w. Alike w r) (sym same) k
 
-append_plus : (a b c : ℕ) → (a + b) + c ≡ a + (b + c)
-append_plus a b c = omega arith
-
 pub goes_on : (fs : List Flow) (p q : Path) (old mid new : Progress) (r : Result (Unit {0}) Stop) (e : List Text) (xs ys : List Node) → Walks fs p old mid (Ok tt) e xs → Walks fs q mid new r (after xs e) ys
     → Walks fs q old new r e (xs ++ ys)
 goes_on fs p q old mid new (Ok u) e xs ys h k = (
   behind fs old.number mid.number e xs ys h.0 h.1 ∙ k.0,
-  k.1 ∙ ap (λ m. m + length ys) h.1 ∙ sym (ap (λ l. old.number + l) (length-append xs ys) ∙ sym (append_plus old.number (length xs) (length ys))),
+  k.1 ∙ ap (λ m. m + length ys) h.1 ∙ sym (ap (λ l. old.number + l) (length-append xs ys) ∙ sym (add_assoc old.number (length xs) (length ys))),
   subst (λ l. SameNames (names_of new.seen) l) (sym (after_append xs ys e)) k.2,
   still_then old.scopes mid.scopes new.scopes h.3 k.3,
 )
@@ -175,4 +173,4 @@ module _ {A : Type 0} (fs : List Flow) (path : Path) (row : List A → ℕ → L
       item_fails initial now mid new earlier all vs x s outer lt is e h (λ names seen. at_text fs (nth path i) key k now mid found (Err s) names vs same o (w names seen)) out
 
   pub items_done : (initial now : Progress) (earlier : List Text) (all : List Node) → length xs ≤ i → row [] i ≡ [] → Rest fs path initial now earlier all (row (drop i xs) i) → Walks fs path initial now (Ok tt) earlier all
-  items_done initial now earlier all le e h = ends fs path initial now earlier all (subst (λ l. Rest fs path initial now earlier all l) (ap (λ l. row l i) (none_left xs i le) ∙ e) h)
+  items_done initial now earlier all le e h = ends fs path initial now earlier all (subst (λ l. Rest fs path initial now earlier all l) (ap (λ l. row l i) (drop_end xs i le) ∙ e) h)

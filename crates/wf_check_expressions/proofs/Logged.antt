@@ -1,9 +1,9 @@
 -- How many of the arguments are logged.
 use Rattle.std.proofs.Common.{◌≡◌, ℕ, suc, ◌+◌, ◌<◌, Bool, true, false, List, [], ◌∷◌, codes, cond, drop, filter, get_or, length, map, refl, sym, ap, ◌∙◌}
+use Rattle.wf_lemmas.proofs.Lists.{item_at}
 use Rattle.wf_ast.specs.Tree.{field_names, fields}
 use Rattle.wf_ast.specs.View.{field_view}
 use Rattle.wf_ast.specs.declared.template.NamedTemplate.{NamedTemplate}
-use Rattle.wf_symbols.proofs.Places.{item_at}
 use Rattle.wf_value.specs.HttpRequest.{is_among}
 use Rattle.wf_value.specs.Pairs.{Text}
 

@@ -1,7 +1,7 @@
 -- The blocks that a jump may reach, from an index on.
 use Rattle.std.proofs.Common.{◌≡◌, ℕ, ◌+◌, ◌<◌, ◌||◌, List, [], Bool, length, drop, get_or, if◌then◌else◌, sym, ap, ◌∙◌}
+use Rattle.wf_lemmas.proofs.Lists.{item_at}
 use Rattle.wf_ast.specs.Blocks.{in_blocks}
-use Rattle.wf_symbols.proofs.Places.{item_at}
 use Rattle.wf_symbols.proofs.Surrounds.{has_named}
 use Rattle.wf_symbols.specs.Around.{reach}
 use Rattle.wf_symbols.specs.Names.{names_of}

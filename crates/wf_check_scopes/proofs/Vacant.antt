@@ -3,6 +3,7 @@ use Rattle.std.proofs.Common.{◌≡◌, ◌==◌, ◌||◌, ℕ, ◌+◌, ◌<�
 use Rattle.std.proofs.Math.Dec.{eqb-suc-zero}
 use Rattle.std.proofs.lemmas.List.{reverse-append}
 use Rattle.std.proofs.lemmas.List.Folds.{list_any-append}
+use Rattle.wf_lemmas.proofs.Lists.{item_at}
 use Rattle.wf_ast.proofs.Views.{branches_level, loop_level, steps_level}
 use Rattle.wf_ast.specs.Blocks.{at_if, has_no_steps, loop_empty, work_empty}
 use Rattle.wf_ast.specs.Nodes.{Path, below}
@@ -14,7 +15,6 @@ use Rattle.wf_ast.specs.declared.body.Branches.{Branches}
 use Rattle.wf_ast.specs.declared.body.LoopBody.{LoopBody}
 use Rattle.wf_ast.specs.declared.body.Step.{Step}
 use Rattle.wf_symbols.proofs.Bodies.{branch_named}
-use Rattle.wf_symbols.proofs.Places.{item_at}
 use Rattle.wf_value.specs.HttpRequest.{is_among}
 use Rattle.wf_value.specs.Pairs.{Text}
 

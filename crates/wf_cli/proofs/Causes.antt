@@ -1,5 +1,6 @@
 -- The causes of statuses, and which of them come together.
 use Rattle.std.proofs.Common.{◌≡◌, ◌<◌, inl, inr, IsTrue, ℕ, Bool, true, false, List, Option, None, Some, Result, Ok, Err, refl, sym, ◌∙◌, ap, subst, arith}
+use Rattle.wf_lemmas.proofs.Options.{same_some}
 use Rattle.wf_cli.specs.Top.{IsLineOf, IsBadLine, IsBadArgument, IsRefused, HasOtherMagic, IsStarted, IsNotStarted, IsNoHistory, Reported, TellsHistory, Gives, IsOfFile, Says, bad_line, bad_argument, refused, reported, of_file}
 use Rattle.wf_engine.specs.Printed as end
 use Rattle.wf_engine.specs.Printed.{Scene, uses_source, uses_journal, executes, needs_history, status_of, tells_history}
@@ -38,13 +39,6 @@ same_ok r a b is js = ap (ok_value a) (sym is ∙ js)
     ok_value : {A B : Type 0} → A → Result A B → A
     ok_value d (Ok c) = c
     ok_value d (Err e) = d
-
-pub same_some : {A : Type 0} (o : Option A) (a b : A) → o ≡ Some a → o ≡ Some b → a ≡ b
-same_some o a b is js = ap (some_value a) (sym is ∙ js)
-  where
-    some_value : {A : Type 0} → A → Option A → A
-    some_value d None = d
-    some_value d (Some c) = c
 
 -- ## Lines
 -- two facts of the line's command are of one command

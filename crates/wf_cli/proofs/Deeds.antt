@@ -2,6 +2,7 @@
 use Rattle.std.proofs.Common.{◌≡◌, ◌+◌, ◌||◌, ℕ, suc, Bool, true, false, nat_eq, List, [], ◌∷◌, ◌++◌, refl, sym, ◌∙◌, ap, subst, append_assoc, arith}
 use Rattle.std.specs.List.{AllByRecursion}
 use Rattle.std.proofs.lemmas.List.Elements.{All-head, All-tail}
+use Rattle.wf_lemmas.proofs.Lists.{all_at}
 use Rattle.wf_cli.specs.Top.{IsPrint}
 use Rattle.wf_deeds.specs.Deeds.{polls, nows, poll_readings, printed, before_poll, was_replied, IsSmall}
 use Rattle.wf_host.specs.declared.data.Deed.{Deed}
@@ -93,9 +94,6 @@ printed_same (Drop k ∷ D) = printed_same D
 printed_same (Print b ∷ D) = ap (λ l. b ++ l) (printed_same D)
 
 -- ## All of them
-pub all_both : {A : Type 0} (P : A → Type 0) (xs ys : List A) → AllByRecursion P xs → AllByRecursion P ys → AllByRecursion P (xs ++ ys)
-all_both P [] ys all more = more
-all_both P (x ∷ xs) ys all more = (all.0, all_both P xs ys all.1 more)
 
 print_is : (d : Deed) → printing.IsPrint d → IsPrint d
 print_is d (b, is) = subst IsPrint (sym is) tt
@@ -115,11 +113,6 @@ print_small (Print b) is = tt
 pub prints_small : (D : List Deed) → AllByRecursion IsPrint D → AllByRecursion IsSmall D
 prints_small [] all = tt
 prints_small (d ∷ D) all = (print_small d all.0, prints_small D all.1)
-
--- what holds of all holds of the one between
-pub all_at : {A : Type 0} (P : A → Type 0) (before : List A) (x : A) (behind : List A) → AllByRecursion P (before ++ x ∷ behind) → P x
-all_at P [] x behind all = all.0
-all_at P (y ∷ before) x behind all = all_at P before x behind all.1
 
 -- ## A deed among deeds with prints behind
 abbrev first_of : Deed → List Deed → Deed

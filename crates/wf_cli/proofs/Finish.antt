@@ -43,10 +43,6 @@ rose_by a b c rose le = omega (arith, le, rose)
 pub le_refl : (n : ℕ) → n ≤ n
 le_refl n = omega arith
 
--- no count falls by nothing, nor by one call after another
-pub fell_refl : (f : Faults) → NoneFell f f
-fell_refl f = record { disk = omega arith; poll = omega arith; print = omega arith }
-
 pub none_fell : (a b c : Faults) → NoneFell a b → NoneFell b c → NoneFell a c
 none_fell a b c first second = record { disk = omega arith; poll = omega arith; print = omega arith }
 

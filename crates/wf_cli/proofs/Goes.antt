@@ -1,7 +1,7 @@
 -- An execution that has gone on to its outcome, or to where it waits no more.
 use Rattle.std.proofs.Common.{◌≡◌, ◌≢◌, ◌⊎◌, inl, inr, IsTrue, ℕ, Bool, true, false, List, ◌++◌, Some, None, Result, Ok, Err, IfOk, refl, sym, ◌∙◌, ap, subst, arith}
 use Rattle.std.proofs.lemmas.List.{append_cancel_left}
-use Rattle.wf_cli.proofs.Causes.{same_some}
+use Rattle.wf_lemmas.proofs.Options.{same_some}
 use Rattle.wf_cli.proofs.Safe.{of_command}
 use Rattle.wf_cli.specs.Said.{SaysFault, SaysOutcome, SaysStatus, SaysStanding, DoneSilently, Unwritten, SaysHistory, Going}
 use Rattle.wf_cli.specs.declared.end.Said.{Said}

@@ -3,7 +3,8 @@ use Rattle.std.proofs.Common.{◌≡◌, ◌≢◌, ◌≤◌, ◌⊎◌, inl, i
 use Rattle.std.specs.List.{AllByRecursion}
 use Rattle.std.proofs.lemmas.List.{append-nil, append_cancel_left}
 use Rattle.std.proofs.lemmas.List.Elements.{All-nil, Contains-append_left}
-use Rattle.wf_cli.proofs.Deeds.{nows_both, printed_both, all_both, all_at}
+use Rattle.wf_lemmas.proofs.Lists.{all_at, all_both}
+use Rattle.wf_cli.proofs.Deeds.{nows_both, printed_both}
 use Rattle.wf_cli.proofs.Safe.{no_start, no_deed, of_command}
 use Rattle.wf_cli.specs.Reports.{the_reports}
 use Rattle.wf_cli.specs.Said.{IsOpened}

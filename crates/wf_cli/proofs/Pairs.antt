@@ -5,9 +5,10 @@ use Rattle.std.specs.List.{AllByRecursion, flat_map}
 use Rattle.std.proofs.lemmas.Grind.{flat_map-append}
 use Rattle.std.proofs.lemmas.List.{length-append, take_all}
 use Rattle.std.proofs.lemmas.Option.{slice_get_within}
+use Rattle.wf_lemmas.proofs.Lists.{all_push, none_past, take_push}
 use Rattle.wf_args.specs.Laws.{IsEnv}
 use Rattle.wf_args.specs.Lines.{PlainLine, env_of}
-use Rattle.wf_cli.proofs.Routes.{none_left, one_more, string_is, take_more}
+use Rattle.wf_cli.proofs.Routes.{string_is}
 use Rattle.wf_events.specs.Spelling.{IsPair}
 use Rattle.wf_record_parts.specs.Spelling.{Each, four, listed, pair, string}
 
@@ -31,7 +32,7 @@ pub pair_more : (l : PlainLine) (env : List (List ℕ × List ℕ)) (index : ℕ
 pair_more l env index p key value so_far is fits key_is value_is utf8 utf8_value =
     let next : index + 1 ≡ suc index = omega arith in
     let kept : (key, value) ≡ p = (λ i. (key_is i, value_is i)) in
-    let taken : take (index + 1) (env_of l) ≡ take index (env_of l) ++ p ∷ [] = ap (λ k. take k (env_of l)) next ∙ take_more (env_of l) index p is in
+    let taken : take (index + 1) (env_of l) ≡ take index (env_of l) ++ p ∷ [] = ap (λ k. take k (env_of l)) next ∙ take_push (env_of l) index p is in
     let inside = slice_get_within (env_of l) index p is in
     let both = fits.short in
     let key_long = ap length key_is in
@@ -44,7 +45,7 @@ pair_more l env index p key value so_far is fits key_is value_is utf8 utf8_value
     record {
       same = (λ i. so_far.same i ++ kept i ∷ []) ∙ sym taken;
       within = omega (arith, inside);
-      spelled = one_more IsPair env (key, value) so_far.spelled one;
+      spelled = all_push IsPair env (key, value) so_far.spelled one;
       short = omega (arith, longer, last, pair_is (key, value), before, both, key_long, value_long);
       counted = length-append env ((key, value) ∷ []) ∙ ap (λ k. k + 1) so_many;
     }
@@ -56,7 +57,7 @@ pub record AreAll (l : PlainLine) (env : List (List ℕ × List ℕ)) : Type 0 w
 
 pub all_pairs : (l : PlainLine) (env : List (List ℕ × List ℕ)) (index : ℕ) → SoFar l env index → slice_get (env_of l) index ≡ None → length (env_of l) ≤ 20 → AreAll l env
 all_pairs l env index so_far is few =
-    let past = none_left (env_of l) index is in
+    let past = none_past (env_of l) index is in
     let within = so_far.within in
     let so_many = so_far.counted in
     let before = so_far.short in

@@ -5,6 +5,7 @@ use Rattle.std.specs.List.{AllByRecursion, flat_map}
 use Rattle.std.proofs.lemmas.Grind.{flat_map-append}
 use Rattle.std.proofs.lemmas.List.{length-append, map-append, take_all}
 use Rattle.std.proofs.lemmas.Option.{slice_get_within}
+use Rattle.wf_lemmas.proofs.Lists.{all_push, none_past, take_push}
 use Rattle.wf_args.specs.Laws as line
 use Rattle.wf_args.specs.Lines.{PlainLine, PlainRoute, routes_of}
 use Rattle.wf_engine.specs.Starts.{kept_route, kept_routes}
@@ -15,19 +16,6 @@ use Rattle.wf_record_parts.specs.Spelling.{Each, four, listed, string, two}
 use Rattle.wf_value.specs.Events as plain
 
 -- ## Lists
-pub take_more : {X : Type 0} (xs : List X) (k : ℕ) (x : X) → slice_get xs k ≡ Some x → take (suc k) xs ≡ take k xs ++ x ∷ []
-take_more [] k x is = absurd (cc is)
-take_more (y ∷ xs) zero x is = let same : y ≡ x = cc is in ap (λ y. y ∷ []) same
-take_more (y ∷ xs) (suc k) x is = ap (λ ys. y ∷ ys) (take_more xs k x is)
-
-pub none_left : {X : Type 0} (xs : List X) (k : ℕ) → slice_get xs k ≡ None → length xs ≤ k
-none_left [] k is = omega arith
-none_left (x ∷ xs) zero is = absurd (cc is)
-none_left (x ∷ xs) (suc k) is = let rest = none_left xs k is in omega (arith, rest)
-
-pub one_more : {X : Type 0} (P : X → Type 0) (xs : List X) (x : X) → AllByRecursion P xs → P x → AllByRecursion P (xs ++ x ∷ [])
-one_more P [] x all it = (it, tt)
-one_more P (y ∷ xs) x all it = (all.0, one_more P xs x all.1 it)
 
 -- ## Lengths
 pub string_is : (s : List ℕ) → length (string s) ≡ 4 + length s
@@ -62,7 +50,7 @@ route_more l routes index p host to so_far is fits host_is name_is port_is utf8 
     let kept : route_view (host, to) ≡ kept_route p = (λ i. (host_is i, record { name = name_is i; port = port_is i })) in
     let next : index + 1 ≡ suc index = omega arith in
     let taken : map kept_route (take (index + 1) (routes_of l)) ≡ map kept_route (take index (routes_of l)) ++ kept_route p ∷ [] =
-    ap (λ k. map kept_route (take k (routes_of l))) next ∙ ap (map kept_route) (take_more (routes_of l) index p is) ∙ map-append kept_route (take index (routes_of l)) (p ∷ []) in
+    ap (λ k. map kept_route (take k (routes_of l))) next ∙ ap (map kept_route) (take_push (routes_of l) index p is) ∙ map-append kept_route (take index (routes_of l)) (p ∷ []) in
     let inside = slice_get_within (routes_of l) index p is in
     let both = fits.short in
     let host_long = ap length host_is in
@@ -77,7 +65,7 @@ route_more l routes index p host to so_far is fits host_is name_is port_is utf8 
     record {
       same = added ∙ (λ i. so_far.same i ++ kept i ∷ []) ∙ sym taken;
       within = omega (arith, inside);
-      spelled = subst (AllByRecursion IsRoute) (sym added) (one_more IsRoute (map route_view routes) (route_view (host, to)) so_far.spelled one);
+      spelled = subst (AllByRecursion IsRoute) (sym added) (all_push IsRoute (map route_view routes) (route_view (host, to)) so_far.spelled one);
       short = omega (arith, longer, last, route_is (route_view (host, to)), before, both, host_long, name_long);
       counted = ap length added ∙ length-append (map route_view routes) (route_view (host, to) ∷ []) ∙ ap (λ k. k + 1) so_many;
     }
@@ -89,7 +77,7 @@ pub record AreAll (l : PlainLine) (routes : List (List ℕ × Address)) : Type 0
 
 pub all_routes : (l : PlainLine) (routes : List (List ℕ × Address)) (index : ℕ) → SoFar l routes index → slice_get (routes_of l) index ≡ None → length (routes_of l) ≤ 20 → AreAll l routes
 all_routes l routes index so_far is few =
-    let past = none_left (routes_of l) index is in
+    let past = none_past (routes_of l) index is in
     let within = so_far.within in
     let so_many = so_far.counted in
     let before = so_far.short in

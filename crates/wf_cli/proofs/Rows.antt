@@ -1,7 +1,8 @@
 -- The rows of the statuses, each from how the call ended.
 use Rattle.std.proofs.Common.{◌≡◌, ◌<◌, ◌⊎◌, inl, inr, ⊎_elim, IsTrue, ℕ, Bool, true, false, List, ◌++◌, None, Some, refl, sym, ◌∙◌, ap, subst, arith}
 use Rattle.std.specs.Prelude.{codes, decimal}
-use Rattle.wf_cli.proofs.Causes.{same_ok, same_some, no_bad_line, one_command, executing, not_both_journals, check_reports, executes_line, format_reports, idle_tells, needs_line, run_executes, reported_idle, reported_line, telling_line, tells_line, Cause, says_cause, says_text, EarlyCause, says_early, text_early, not_said}
+use Rattle.wf_lemmas.proofs.Options.{same_some}
+use Rattle.wf_cli.proofs.Causes.{same_ok, no_bad_line, one_command, executing, not_both_journals, check_reports, executes_line, format_reports, idle_tells, needs_line, run_executes, reported_idle, reported_line, telling_line, tells_line, Cause, says_cause, says_text, EarlyCause, says_early, text_early, not_said}
 use Rattle.wf_cli.proofs.Together.{IsOrBefore, where_bad_line, where_bad_argument, where_told, when_told, where_refused, where_of_file, where_no_history, at_magic, at_started, at_not_started}
 use Rattle.wf_cli.specs.Top.{Call, IsLineOf, IsBadArgument, IsRefused, IsChecked, HasOutcome, IsSuspended, Reported, Gives, IsTaken, IsOfFile, ComesBack, Says, bad_line, bad_argument, refused, reported, of_file, Ends, said, cut, unread, failed, unheard, no_memory, Prints, IsOrYields, Exactly, BadLineRow, BadArgumentRow, ReadFaultRow, RefusedRow, DiskFaultRow, NotAJournalRow, AlreadyStartedRow, NotStartedRow, NotAHistoryRow, WaitsNoMore, SuspendedRow, OutcomeRow, DoneRow, TellingRow, TellsHistory, AcceptedRow, ComesBackRow, PrintFaultRow, PollFaultRow, IsPassed}
 use Rattle.wf_engine.specs.Printed as end

@@ -2,7 +2,8 @@
 use Rattle.std.proofs.Common.{◌≡◌, ◌≤◌, ◌⊎◌, ◌≢◌, inl, inr, ⊎_elim, IsTrue, ℕ, true, false, List, [], ◌∷◌, ◌++◌, length, take, Contains, Option, None, Some, option_map, refl, sym, ◌∙◌, ap, subst, append_assoc}
 use Rattle.std.specs.List.{AllByRecursion}
 use Rattle.std.proofs.lemmas.List.{append-nil}
-use Rattle.wf_cli.proofs.Deeds.{nows_behind, polls_behind, poll_readings_behind, printed_both, all_both, prints_small, before_prints, replied_behind}
+use Rattle.wf_lemmas.proofs.Lists.{all_both}
+use Rattle.wf_cli.proofs.Deeds.{nows_behind, polls_behind, poll_readings_behind, printed_both, prints_small, before_prints, replied_behind}
 use Rattle.wf_cli.specs.Top.{IsPrint}
 use Rattle.wf_deeds.specs.Deeds.{polls, nows, poll_readings, greatest, reading_by, starts_or_polls, printed, was_replied, before_poll, IsSmall}
 use Rattle.wf_deeds.specs.Kept.{Command, Session, Kept, Answers, Decides, config, last_of}

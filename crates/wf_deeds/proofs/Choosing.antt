@@ -2,6 +2,7 @@
 use Rattle.std.specs.Prelude.{◌≡◌, ◌≢◌, ◌⊎◌, ◌≤◌, max, ℕ, zero, suc, List, [], ◌∷◌, ◌++◌, Option, Some, None, unwrap_or, IsTrue}
 use Rattle.std.specs.List.{AllByRecursion}
 use Rattle.std.proofs.Common.{inl, inr, ⊎_elim, refl, sym, ◌∙◌, ap, subst, arith}
+use Rattle.wf_lemmas.proofs.Lists.{all_at}
 use Rattle.wf_ast.specs.Tree.{Program}
 use Rattle.wf_deeds.proofs.Hearing.{opt_case}
 use Rattle.wf_deeds.proofs.Turned.{begins_there}
@@ -66,12 +67,8 @@ run_last read p b c (e ∷ es) reading all le leads =
     let (d, first) = begins_there p (next p b e) es c leads in
     run_last read p d c es reading all.1 (still_last read p b d e reading all.0 le first) (ap (λ a. run_on p a es) (sym first) ∙ leads)
 
-all_at : {A : Type 0} (P : A → Type 0) (front back : List A) (x : A) → AllByRecursion P (front ++ x ∷ back) → P x
-all_at P [] back x all = all.0
-all_at P (y ∷ ys) back x all = all_at P ys back x all.1
-
 take_reading : (reading : ℕ) (es : List Event) → AllByRecursion (Takes reading) es → TakeReading reading es
-take_reading reading es all e r front back is has = all_at (Takes reading) front back e (subst (AllByRecursion (Takes reading)) is all) r has
+take_reading reading es all e r front back is has = all_at (Takes reading) front e back (subst (AllByRecursion (Takes reading)) is all) r has
 
 -- ## What is chosen
 abbrev LastBelow : ℕ → After → Type 0

@@ -3,6 +3,7 @@ use Rattle.std.specs.Prelude.{◌≡◌, ◌⊎◌, ◌≤◌, ◌+◌, ◌||◌
 use Rattle.std.proofs.Common.{inl, inr, ⊎_elim, refl, sym, ◌∙◌, ap, subst, arith}
 use Rattle.std.proofs.lemmas.List.{append-nil}
 use Rattle.std.proofs.lemmas.List.Elements.{All-weaker, All-contains, Contains-append_right}
+use Rattle.std.proofs.lemmas.Option.{same_Some}
 use Rattle.wf_deeds.proofs.Carried.{SameAt, start_carried, poll_carried, answers_carried, decides_carried, reply_carried, answered_carried, decided_carried}
 use Rattle.wf_deeds.proofs.Lists.{polls-append, nows-append, reading_stays, starts_or_polls-append, was_replied_more}
 use Rattle.wf_deeds.proofs.Splits.{split_of_more}
@@ -164,20 +165,18 @@ deed_keeps_rules L O x d kept none may =
     }
 
 -- ## An end
-status_of : (status n : ℕ) → Some status ≡ Some n → status ≡ n
-status_of status n is = cc is
 
 pub end_keeps_rules : EndKeepsRules
 end_keeps_rules L O x status kept none may =
     let y = with_end x status in
     let same : (w : ℕ) → SameAt L O x y w = λ w. record { config = refl; reading = refl } in
-    let goods : EndsWell L O y → AnswersStand L O x × RepliesAreMade L O x = λ ends. may.0 (⊎_elim (λ is. inl (status_of status 0 is)) (λ more. inr (⊎_elim (λ is. inl (status_of status 1 is)) (λ is. inr (status_of status 13 is)) more)) ends) in
+    let goods : EndsWell L O y → AnswersStand L O x × RepliesAreMade L O x = λ ends. may.0 (⊎_elim (λ is. inl (same_Some status 0 is)) (λ more. inr (⊎_elim (λ is. inl (same_Some status 1 is)) (λ is. inr (same_Some status 13 is)) more)) ends) in
     record {
       calls = λ before behind k to bytes comes. start_carried L O x y before k to bytes (same (polls before)) (kept.calls before behind k to bytes comes);
       waits = record {
         polls_wait = λ before behind until h comes. poll_carried L O x y before until (same (polls before)) refl (kept.waits.polls_wait before behind until h comes);
         drops_closed = kept.waits.drops_closed;
-        at_end = λ is. may.1 (status_of status 13 is);
+        at_end = λ is. may.1 (same_Some status 13 is);
       };
       answers = record {
         only = λ t k r a p. let q = kept.answers.only t k r a p in (q.0, answered_carried L O x y [] t.waits k a (sym (append-nil x.deeds)) q.1);

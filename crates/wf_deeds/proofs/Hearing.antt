@@ -1,17 +1,17 @@
 -- What an engine stands for once it heard something.
 use Rattle.std.specs.Prelude.{◌≡◌, ◌≢◌, ◌⊎◌, ◌≤◌, ◌&&◌, ℕ, suc, max, true, false, IsTrue, is_some, nat_eq, nat_le, nat_lt, if◌then◌else◌, List, [], ◌∷◌, ◌++◌, length, take, Option, Some, None, option_map, option_and_then}
 use Rattle.std.proofs.Common.{inl, inr, ⊎_elim, refl, sym, ◌∙◌, ap, subst, arith, length-append}
-use Rattle.std.proofs.lemmas.Bool.{and_from, eq-eqb, eqb-true, le-leb, leb-true, or_left, or_right}
+use Rattle.std.proofs.lemmas.Bool.{and_from, eq-eqb, eqb-true, le-leb, leb-true, or_left, or_right, and_parts}
 use Rattle.std.proofs.lemmas.List.{append-nil, take_all}
 use Rattle.std.proofs.lemmas.List.Elements.{All-weaker}
+use Rattle.wf_lemmas.proofs.Bools.{or_none}
 use Rattle.wf_deeds.proofs.Answered.{OneAnswered}
 use Rattle.wf_deeds.proofs.Carried.{decides_carried, answers_carried}
 use Rattle.wf_deeds.proofs.DeedMore.{front_polls, one_of}
 use Rattle.wf_deeds.proofs.Lists.{polls-append, nows-append, poll_readings-append, readings_of_polls, was_started-append, was_dropped-append, was_replied_more, split_at}
-use Rattle.wf_deeds.proofs.Sending.{stands_at, quiet_at, last_split, or-none}
+use Rattle.wf_deeds.proofs.Sending.{stands_at, quiet_at, last_split}
 use Rattle.wf_deeds.proofs.Splits.{split_of_more}
 use Rattle.wf_deeds.proofs.Telling.{told_of_new, told_of_started, visits_on-append}
-use Rattle.wf_deeds.proofs.TurnMore.{both_true}
 use Rattle.wf_deeds.proofs.Visits.{bool_case, decision_is, find_put, undecided_put, weight_of, piece, piece_by, heard_is, piece_number}
 use Rattle.wf_deeds.specs.Deeds.{polls, nows, poll_readings, greatest, reading_by, was_started, was_dropped, was_replied, before_poll, Told, tells, told_of, IsAnswered, ComesTo, call_of, Visit, Decision, decision, visit_of, visits_after, hears_visit, put_visit, find_visit, undecided as undecided_in, poll_at}
 use Rattle.wf_deeds.specs.Kept.{IsOpen, Decides, own, reading_of, last_of}
@@ -88,7 +88,7 @@ later_by : (session waits : ℕ) (s : Standing) → IsTrue (is_by session waits 
 later_by session waits s is = ⊎_elim
     (λ less. or_left (nat_lt s.session session) (nat_eq s.session session && nat_le s.waits (suc waits)) less)
     (λ more.
-    let both = both_true (nat_eq s.session session) (nat_le s.waits waits) more in
+    let both = and_parts (nat_eq s.session session) (nat_le s.waits waits) more in
     or_right (nat_lt s.session session) (nat_eq s.session session && nat_le s.waits (suc waits))
     (and_from (nat_eq s.session session) (nat_le s.waits (suc waits)) both.0 (le-leb s.waits (suc waits) (let le = leb-true s.waits waits both.1 in omega (arith, le)))))
     (one_of (nat_lt s.session session) (nat_eq s.session session && nat_le s.waits waits) is)
@@ -108,7 +108,7 @@ some_request None is = absurd (let f : false ≡ true = is in cc f)
 gave : (m : Memory) (k : ℕ) (h : Heard) (o : Option Event) (e : Event) → IsAnswerBy m k h o → o ≡ Some e → Gave m k h e
 gave m k h o e (inl none) is = absurd (let f : None ≡ Some e = sym none.1 ∙ is in cc f)
 gave m k h o e (inr comes) is =
-    let both = both_true (is_some (request_of m.config k)) (m.started k) comes.awaited in
+    let both = and_parts (is_some (request_of m.config k)) (m.started k) comes.awaited in
     by comes.answer comes.answered (sym comes.event ∙ is) (some_request (request_of m.config k) both.0) both.1
   where
     by : (a : Option plain.Reply) → IsAnswered (tells k h.what (m.told k)) a → option_map (plain.Answer k (max m.reading h.reading)) a ≡ Some e → IsOpen m.config k → m.started k ≡ true → Gave m k h e
@@ -239,8 +239,8 @@ hearing_goes_on one_answer there rules L O command handed m J D until h told vis
       reading = ap (λ r. max r h.reading) s.reading ∙ sym (polled (last_of (config_before (journal L J) m.session)) D until h m.waits s.waits);
       last = let le = s.last in omega (arith, le);
       clock = λ go. ap length clocks ∙ s.clock go;
-      started = λ j. s.started j ∙ sym (or-none (was_started j D)) ∙ sym (was_started-append j D (d ∷ []));
-      dropped = λ j. s.dropped j ∙ sym (or-none (was_dropped j D)) ∙ sym (was_dropped-append j D (d ∷ []));
+      started = λ j. s.started j ∙ sym (or_none (was_started j D)) ∙ sym (was_started-append j D (d ∷ []));
+      dropped = λ j. s.dropped j ∙ sym (or_none (was_dropped j D)) ∙ sym (was_dropped-append j D (d ∷ []));
       issued = s.issued;
       told = λ k still was. hears.told_is k still was ∙ now_told k still was;
       unanswered = λ go k still was. ⊎_elim

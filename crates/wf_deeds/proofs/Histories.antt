@@ -1,13 +1,14 @@
 -- The computed history, and the facts that tell one.
 use Rattle.std.specs.Prelude.{◌≡◌, ◌<◌, ◌≤◌, ◌+◌, ℕ, zero, suc, IsTrue, List, [], ◌∷◌, ◌++◌, map, length, take, Some, None, Result, Ok, Err, option_and_then}
 use Rattle.std.proofs.Common.{inl, inr, refl, sym, ◌∙◌, ap, ap₂, subst, arith}
-use Rattle.std.proofs.lemmas.Bool.{and_from}
+use Rattle.std.proofs.lemmas.Bool.{and_from, and_parts}
+use Rattle.wf_lemmas.proofs.Lists.{same_head, same_tail}
 use Rattle.wf_events.specs.Reading.{meaning}
 use Rattle.wf_events.specs.Records.{Started, Turned}
 use Rattle.wf_model.specs.Config.{Config, To}
 use Rattle.wf_model.specs.Run.{initial, run_on}
 use Rattle.wf_model.specs.RunLaws.{RunsJoin}
-use Rattle.wf_deeds.proofs.Runs.{Begins, GoesOn, begins_by, both, from_config, goes_on_by, turned_on}
+use Rattle.wf_deeds.proofs.Runs.{Begins, GoesOn, begins_by, from_config, goes_on_by, turned_on}
 use Rattle.wf_deeds.proofs.Steps.{off, on}
 use Rattle.wf_deeds.specs.History.{History, Standing, are_numbered, events, first_standing, goes_on, goes_on_at, goes_to, history, history_from, in_order, is_numbered, started, told}
 use Rattle.wf_deeds.specs.Language.{Language}
@@ -64,11 +65,6 @@ computed joins L (b ∷ bs) s is =
     ]) refl is
 
 -- ## And back
-pub first_is : {A : Type 0} (x y : A) (xs ys : List A) → x ∷ xs ≡ y ∷ ys → x ≡ y
-first_is x y xs ys is = cc is
-
-pub rest_is : {A : Type 0} (x y : A) (xs ys : List A) → x ∷ xs ≡ y ∷ ys → xs ≡ ys
-rest_is x y xs ys is = cc is
 
 led_by : RunsJoin → (s : Standing) (bs : List (List ℕ)) (turns : List Turn) (c : Config) → map meaning bs ≡ map (λ t. Some (Turned t)) turns → IsTrue (in_order s.session s.waits turns)
     → IsTrue (are_numbered s.number turns) → run_on s.program (To s.config) (events turns) ≡ To c → (t : Standing) × (goes_to s bs ≡ Ok t) × (t.config ≡ c)
@@ -77,11 +73,11 @@ led_by joins s [] (u ∷ us) c meant order numbers leads = absurd cc
 led_by joins s (b ∷ bs) [] c meant order numbers leads = absurd cc
 led_by joins s (b ∷ bs) (u ∷ us) c meant order numbers leads =
     let (d, there, on_from) = from_config s.program (run_on s.program (To s.config) u.events) (events us) c (sym (joins s.program (To s.config) u.events (events us)) ∙ leads) in
-    let ordered = both (goes_on_at s.session s.waits u) (in_order u.session u.waits us) order in
-    let numbered = both (is_numbered s.number u) (are_numbered (suc s.number) us) numbers in
+    let ordered = and_parts (goes_on_at s.session s.waits u) (in_order u.session u.waits us) order in
+    let numbered = and_parts (is_numbered s.number u) (are_numbered (suc s.number) us) numbers in
     let v : Standing = record { program = s.program; config = d; number = suc s.number; session = u.session; waits = u.waits } in
-    let (t, is, same) = led_by joins v bs us c (rest_is (meaning b) (Some (Turned u)) (map meaning bs) (map (λ t. Some (Turned t)) us) meant) ordered.1 numbered.1 on_from in
-    (t, on s v b bs (ap (λ m. goes_on s m) (first_is (meaning b) (Some (Turned u)) (map meaning bs) (map (λ t. Some (Turned t)) us) meant) ∙ turned_on s u d numbered.0 ordered.0 there) ∙ is, same)
+    let (t, is, same) = led_by joins v bs us c (same_tail (meaning b) (Some (Turned u)) (map meaning bs) (map (λ t. Some (Turned t)) us) meant) ordered.1 numbered.1 on_from in
+    (t, on s v b bs (ap (λ m. goes_on s m) (same_head (meaning b) (Some (Turned u)) (map meaning bs) (map (λ t. Some (Turned t)) us) meant) ∙ turned_on s u d numbered.0 ordered.0 there) ∙ is, same)
 
 pub complete : RunsJoin → HistoryIsComputed
 unfolding history
@@ -89,8 +85,8 @@ complete joins L [] c h = absurd (let no = h.meanings in cc no)
 complete joins L (b ∷ bs) c h =
     let (d, there, on_from) = from_config h.program (initial h.program h.start) (events h.turns) c h.one_run in
     let v : Standing = record { program = h.program; config = d; number = 1; session = 0; waits = 0 } in
-    let (t, is, same) = led_by joins v bs h.turns c (rest_is (meaning b) (Some (Started h.start)) (map meaning bs) (map (λ t. Some (Turned t)) h.turns) h.meanings) h.order h.numbers on_from in
-    let begins : first_standing L (meaning b) ≡ Some v = ap (λ m. first_standing L m) (first_is (meaning b) (Some (Started h.start)) (map meaning bs) (map (λ t. Some (Turned t)) h.turns) h.meanings)
+    let (t, is, same) = led_by joins v bs h.turns c (same_tail (meaning b) (Some (Started h.start)) (map meaning bs) (map (λ t. Some (Turned t)) h.turns) h.meanings) h.order h.numbers on_from in
+    let begins : first_standing L (meaning b) ≡ Some v = ap (λ m. first_standing L m) (same_head (meaning b) (Some (Started h.start)) (map meaning bs) (map (λ t. Some (Turned t)) h.turns) h.meanings)
     ∙ ap (λ o. option_and_then (λ p. started p (initial p h.start)) o) h.accepted ∙ ap (λ a. started h.program a) there in
     (t, ap (λ o. history_from o bs) begins ∙ is, same)
 

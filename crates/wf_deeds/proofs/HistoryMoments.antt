@@ -2,15 +2,15 @@
 use Rattle.std.specs.Prelude.{◌≡◌, ◌⊎◌, ◌<◌, ◌≤◌, ◌+◌, ◌&&◌, ◌||◌, ℕ, suc, Bool, true, false, IsTrue, nat_eq, nat_le, nat_lt, List, [], ◌∷◌, ◌++◌, length, map, if◌then◌else◌, Option, Some, None, Ok, option_map, Err}
 use Rattle.std.specs.List.{list_all}
 use Rattle.std.proofs.Common.{inl, inr, refl, sym, ◌∙◌, ap, subst, arith, append_assoc, append-nil}
-use Rattle.std.proofs.lemmas.Bool.{and_from, eq-eqb, eqb-true, le-leb, le-ltb, leb-true, lt-ltb, ltb-true, ne_eqb, or_left, or_right}
+use Rattle.std.proofs.lemmas.Bool.{and_from, eq-eqb, eqb-true, le-leb, le-ltb, leb-true, lt-ltb, ltb-true, ne_eqb, or_left, or_right, and_parts}
+use Rattle.wf_lemmas.proofs.Lists.{same_head, same_tail}
 use Rattle.wf_events.specs.Reading.{meaning}
 use Rattle.wf_events.specs.Records.{Record, Started, Turned}
 use Rattle.wf_model.specs.Config.{Config}
 use Rattle.wf_model.specs.Run as model
 use Rattle.wf_model.specs.Run.{is_before}
 use Rattle.wf_model.specs.TurnLaws.{AllTurnsAreTheRun, LaterTurnDoesNotCount}
-use Rattle.wf_deeds.proofs.Histories.{first_is, rest_is}
-use Rattle.wf_deeds.proofs.Runs.{GoesOn, both, goes_on_by, begins_by}
+use Rattle.wf_deeds.proofs.Runs.{GoesOn, goes_on_by, begins_by}
 use Rattle.wf_deeds.specs.At.{Journal, begins, config_at, config_before, events_before, journal, last_session, next_session, of_session, reached, session_turns, turns_in, with_turn}
 use Rattle.wf_deeds.specs.History.{History, Standing, events, first_standing, goes_on, goes_on_at, goes_to, history, history_from, in_order, told}
 use Rattle.wf_deeds.specs.Language.{Language}
@@ -98,7 +98,7 @@ earlier : (a b c d : ℕ) → IsTrue (nat_lt a c || (nat_eq a c && nat_le b d)) 
 earlier a b c d is =
     (elim (nat_lt a c) as (λ v. nat_lt a c ≡ v → IsTrue (v || (nat_eq a c && nat_le b d)) → (a < c) ⊎ ((a ≡ c) × (b ≤ d))) [
       | true ↦ λ lt _. inl (ltb-true a c lt)
-      | false ↦ λ _ rest. let (same, le) = both (nat_eq a c) (nat_le b d) rest in inr (eqb-true a c same, leb-true b d le)
+      | false ↦ λ _ rest. let (same, le) = and_parts (nat_eq a c) (nat_le b d) rest in inr (eqb-true a c same, leb-true b d le)
     ]) refl is
 
 not_later : (a b c d : ℕ) → (a < c) ⊎ ((a ≡ c) × (b ≤ d)) → IsTrue (nat_lt a c || (nat_eq a c && nat_le b d))
@@ -121,13 +121,13 @@ by_then session waits s (b ∷ bs) (u ∷ us) t is meant by =
     (elim (goes_on s (meaning b)) as (λ o. goes_on s (meaning b) ≡ o → (elim o [ None ↦ Err (told s.number) | Some v ↦ goes_to v bs ]) ≡ Ok t → IsTrue (list_all (is_before session waits) (u ∷ us)) × IsTrue (is_by session waits s)) [
       | None ↦ λ e no. absurd (cc no)
       | Some v ↦ λ e on.
-          let rest = by_then session waits v bs us t on (rest_is (meaning b) (Some (Turned u)) (map meaning bs) (map (λ t. Some (Turned t)) us) meant) by in
+          let rest = by_then session waits v bs us t on (same_tail (meaning b) (Some (Turned u)) (map meaning bs) (map (λ t. Some (Turned t)) us) meant) by in
           first v (goes_on_by s (meaning b) v e) rest
     ]) refl is
   where
     first : (v : Standing) → GoesOn s (meaning b) v → IsTrue (list_all (is_before session waits) us) × IsTrue (is_by session waits v) → IsTrue (list_all (is_before session waits) (u ∷ us)) × IsTrue (is_by session waits s)
     first v g rest =
-        let same : g.turn ≡ u = let it = sym g.meant ∙ first_is (meaning b) (Some (Turned u)) (map meaning bs) (map (λ t. Some (Turned t)) us) meant in cc it in
+        let same : g.turn ≡ u = let it = sym g.meant ∙ same_head (meaning b) (Some (Turned u)) (map meaning bs) (map (λ t. Some (Turned t)) us) meant in cc it in
         let there : IsTrue (is_before session waits g.turn) = subst (λ w. IsTrue (is_by session waits w)) (sym g.is) rest.1 in (
           and_from (is_before session waits u) (list_all (is_before session waits) us) (subst (λ w. IsTrue (is_before session waits w)) same there) rest.0,
           not_later s.session s.waits session waits (in_turn s.session s.waits g.turn.session g.turn.waits session waits (earlier s.session s.waits g.turn.session g.turn.waits g.order) (earlier g.turn.session g.turn.waits session waits there)),
@@ -150,15 +150,15 @@ turns_are [] [] meant = refl
 turns_are [] (u ∷ us) meant = absurd cc
 turns_are (b ∷ bs) [] meant = absurd cc
 turns_are (b ∷ bs) (u ∷ us) meant =
-    ap (λ r. with_turn r (turns_in bs)) (first_is (meaning b) (Some (Turned u)) (map meaning bs) (map (λ t. Some (Turned t)) us) meant)
-    ∙ ap (λ ts. u ∷ ts) (turns_are bs us (rest_is (meaning b) (Some (Turned u)) (map meaning bs) (map (λ t. Some (Turned t)) us) meant))
+    ap (λ r. with_turn r (turns_in bs)) (same_head (meaning b) (Some (Turned u)) (map meaning bs) (map (λ t. Some (Turned t)) us) meant)
+    ∙ ap (λ ts. u ∷ ts) (turns_are bs us (same_tail (meaning b) (Some (Turned u)) (map meaning bs) (map (λ t. Some (Turned t)) us) meant))
 
 -- the journal of a history
 journal_of : (L : Language) (b : List ℕ) (bs : List (List ℕ)) (c : Config) (h : History L (b ∷ bs) c) → journal L (b ∷ bs) ≡ Some (record { start = h.start; program = h.program; turns = h.turns })
 journal_of L b bs c h =
-    ap (λ r. begins L r (turns_in bs)) (first_is (meaning b) (Some (Started h.start)) (map meaning bs) (map (λ t. Some (Turned t)) h.turns) h.meanings)
+    ap (λ r. begins L r (turns_in bs)) (same_head (meaning b) (Some (Started h.start)) (map meaning bs) (map (λ t. Some (Turned t)) h.turns) h.meanings)
     ∙ ap (λ o. option_map (λ p. record { start = h.start; program = p; turns = turns_in bs }) o) h.accepted
-    ∙ ap (λ ts. Some (record { start = h.start; program = h.program; turns = ts })) (turns_are bs h.turns (rest_is (meaning b) (Some (Started h.start)) (map meaning bs) (map (λ t. Some (Turned t)) h.turns) h.meanings))
+    ∙ ap (λ ts. Some (record { start = h.start; program = h.program; turns = ts })) (turns_are bs h.turns (same_tail (meaning b) (Some (Started h.start)) (map meaning bs) (map (λ t. Some (Turned t)) h.turns) h.meanings))
 
 -- where the records behind the first one begin
 record Behind (L : Language) (b : List ℕ) (bs : List (List ℕ)) (s : Standing) : Type 0 where
@@ -184,7 +184,7 @@ history_stands_there computed all L [] s session waits is by = absurd (no_record
 history_stands_there computed all L (b ∷ bs) s session waits is by =
     let h = computed L (b ∷ bs) s is in
     let d = behind L b bs s is in
-    let meant = rest_is (meaning b) (Some (Started h.start)) (map meaning bs) (map (λ t. Some (Turned t)) h.turns) h.meanings in
+    let meant = same_tail (meaning b) (Some (Started h.start)) (map meaning bs) (map (λ t. Some (Turned t)) h.turns) h.meanings in
     ap (λ o. config_at o session waits) (journal_of L b bs s.config h)
     ∙ ap reached (all h.program h.start h.turns session waits (by_then session waits d.first bs h.turns s d.leads meant by).0 ∙ h.one_run)
 
@@ -192,7 +192,7 @@ history_stands_there computed all L (b ∷ bs) s session waits is by =
 last_of : (L : Language) (b : List ℕ) (bs : List (List ℕ)) (s : Standing) (h : History L (b ∷ bs) s.config) → history L (b ∷ bs) ≡ Ok s → last_from 0 h.turns ≡ s.session
 last_of L b bs s h is =
     let d = behind L b bs s is in
-    let meant = rest_is (meaning b) (Some (Started h.start)) (map meaning bs) (map (λ t. Some (Turned t)) h.turns) h.meanings in
+    let meant = same_tail (meaning b) (Some (Started h.start)) (map meaning bs) (map (λ t. Some (Turned t)) h.turns) h.meanings in
     ap (λ ts. last_from 0 ts) (sym (turns_are bs h.turns meant)) ∙ ap (λ n. last_from n (turns_in bs)) (sym d.fresh) ∙ last_by d.first bs s d.leads
 
 pub next_behind_history : ComputedIsHistory → NextBehindHistory
@@ -214,7 +214,7 @@ not_over a b c d (inr (same, le)) = omega (arith, same)
 are_earlier : (session n w : ℕ) (ts : List Turn) → IsTrue (in_order n w ts) → last_from n ts < session → (n < session) × IsTrue (all_earlier session ts)
 are_earlier session n w [] order lt = (lt, refl)
 are_earlier session n w (t ∷ ts) order lt =
-    let ordered = both (goes_on_at n w t) (in_order t.session t.waits ts) order in
+    let ordered = and_parts (goes_on_at n w t) (in_order t.session t.waits ts) order in
     let rest = are_earlier session t.session t.waits ts ordered.1 lt in
     let first : n ≤ t.session = not_over n w t.session t.waits (earlier n w t.session t.waits ordered.0) in
     let there : t.session < session = rest.0 in (
@@ -225,13 +225,13 @@ are_earlier session n w (t ∷ ts) order lt =
 all_before : (session : ℕ) (ts : List Turn) → IsTrue (all_earlier session ts) → events_before session ts ≡ events ts
 all_before session [] all = refl
 all_before session (t ∷ ts) all =
-    let parts = both (nat_lt t.session session) (all_earlier session ts) all in
+    let parts = and_parts (nat_lt t.session session) (all_earlier session ts) all in
     ap (λ b. if b then t.events ++ events_before session ts else events_before session ts) parts.0 ∙ ap (λ es. t.events ++ es) (all_before session ts parts.1)
 
 none_of : (session : ℕ) (ts : List Turn) → IsTrue (all_earlier session ts) → of_session session ts ≡ []
 none_of session [] all = refl
 none_of session (t ∷ ts) all =
-    let parts = both (nat_lt t.session session) (all_earlier session ts) all in
+    let parts = and_parts (nat_lt t.session session) (all_earlier session ts) all in
     let lt : t.session < session = ltb-true t.session session parts.0 in
     ap (λ b. if b then t ∷ of_session session ts else of_session session ts) (ne_eqb t.session session (λ same. omega (arith, lt, same))) ∙ none_of session ts parts.1
 
@@ -272,7 +272,7 @@ numbered_by s (b ∷ bs) t is lt =
       | None ↦ λ e no. absurd (cc no)
       | Some v ↦ λ e on.
           let g = goes_on_by s (meaning b) v e in
-          let le : g.turn.session ≤ s.number = leb-true g.turn.session s.number (both (nat_le 1 g.turn.session) (nat_le g.turn.session s.number) g.numbered).1 in
+          let le : g.turn.session ≤ s.number = leb-true g.turn.session s.number (and_parts (nat_le 1 g.turn.session) (nat_le g.turn.session s.number) g.numbered).1 in
           numbered_by v bs t on (subst (λ w. w.session < w.number) g.is (omega (arith, le)))
     ]) refl is
 

@@ -2,6 +2,7 @@
 use Rattle.std.specs.Prelude.{◌≡◌, ◌≤◌, ◌+◌, ◌||◌, ℕ, zero, suc, Bool, true, false, nat_eq, List, [], ◌∷◌, ◌++◌, length, take, Some, None}
 use Rattle.std.proofs.Common.{refl, sym, ◌∙◌, ap, subst, arith, append_assoc}
 use Rattle.std.proofs.lemmas.List.{append-nil, take-append-le}
+use Rattle.wf_lemmas.proofs.Bools.{or_assoc}
 use Rattle.wf_deeds.specs.Deeds.{polls, nows, poll_readings, greatest, reading_by, starts_or_polls, was_started, was_dropped, was_replied, before_poll, Split, poll_from}
 use Rattle.wf_host.specs.declared.data.Deed.{Deed}
 use Rattle.wf_host.specs.declared.data.Deed.TheVariants.{Start, Poll, Now, Reply, Drop, Print}
@@ -63,13 +64,9 @@ starts_or_polls-append (Reply n b ∷ ds) es = starts_or_polls-append ds es
 starts_or_polls-append (Drop k ∷ ds) es = starts_or_polls-append ds es
 starts_or_polls-append (Print b ∷ ds) es = starts_or_polls-append ds es
 
-or-assoc : (a b c : Bool) → a || (b || c) ≡ (a || b) || c
-or-assoc true b c = refl
-or-assoc false b c = refl
-
 pub was_started-append : (k : ℕ) (ds es : List Deed) → was_started k (ds ++ es) ≡ was_started k ds || was_started k es
 was_started-append k [] es = refl
-was_started-append k (Start j to b ∷ ds) es = ap (λ v. nat_eq j k || v) (was_started-append k ds es) ∙ or-assoc (nat_eq j k) (was_started k ds) (was_started k es)
+was_started-append k (Start j to b ∷ ds) es = ap (λ v. nat_eq j k || v) (was_started-append k ds es) ∙ or_assoc (nat_eq j k) (was_started k ds) (was_started k es)
 was_started-append k (Poll until h ∷ ds) es = was_started-append k ds es
 was_started-append k (Now t ∷ ds) es = was_started-append k ds es
 was_started-append k (Reply n b ∷ ds) es = was_started-append k ds es
@@ -78,7 +75,7 @@ was_started-append k (Print b ∷ ds) es = was_started-append k ds es
 
 pub was_dropped-append : (k : ℕ) (ds es : List Deed) → was_dropped k (ds ++ es) ≡ was_dropped k ds || was_dropped k es
 was_dropped-append k [] es = refl
-was_dropped-append k (Drop j ∷ ds) es = ap (λ v. nat_eq j k || v) (was_dropped-append k ds es) ∙ or-assoc (nat_eq j k) (was_dropped k ds) (was_dropped k es)
+was_dropped-append k (Drop j ∷ ds) es = ap (λ v. nat_eq j k || v) (was_dropped-append k ds es) ∙ or_assoc (nat_eq j k) (was_dropped k ds) (was_dropped k es)
 was_dropped-append k (Poll until h ∷ ds) es = was_dropped-append k ds es
 was_dropped-append k (Now t ∷ ds) es = was_dropped-append k ds es
 was_dropped-append k (Reply n b ∷ ds) es = was_dropped-append k ds es
@@ -87,7 +84,7 @@ was_dropped-append k (Print b ∷ ds) es = was_dropped-append k ds es
 
 pub was_replied-append : (n : ℕ) (ds es : List Deed) → was_replied n (ds ++ es) ≡ was_replied n ds || was_replied n es
 was_replied-append n [] es = refl
-was_replied-append n (Reply j b ∷ ds) es = ap (λ v. nat_eq j n || v) (was_replied-append n ds es) ∙ or-assoc (nat_eq j n) (was_replied n ds) (was_replied n es)
+was_replied-append n (Reply j b ∷ ds) es = ap (λ v. nat_eq j n || v) (was_replied-append n ds es) ∙ or_assoc (nat_eq j n) (was_replied n ds) (was_replied n es)
 was_replied-append n (Poll until h ∷ ds) es = was_replied-append n ds es
 was_replied-append n (Now t ∷ ds) es = was_replied-append n ds es
 was_replied-append n (Drop k ∷ ds) es = was_replied-append n ds es

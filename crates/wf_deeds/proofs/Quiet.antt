@@ -2,6 +2,7 @@
 use Rattle.std.specs.Prelude.{◌≡◌, ◌≢◌, List, [], ◌∷◌, ◌++◌, Some}
 use Rattle.std.specs.List.{AllByRecursion}
 use Rattle.std.proofs.Common.{subst}
+use Rattle.wf_lemmas.proofs.Lists.{all_at, not_nil}
 use Rattle.wf_deeds.specs.Deeds.{IsSmall}
 use Rattle.wf_deeds.specs.Kept.{Session, Place, Kept, own, ReadingsAreOfTheClock}
 use Rattle.wf_deeds.specs.Outside.{Outside}
@@ -10,18 +11,9 @@ use Rattle.wf_host.specs.declared.data.Deed.TheVariants.{Start, Poll, Reply, Dro
 use Rattle.wf_deeds.specs.Language.{Language}
 use Rattle.wf_value.specs.Events.{Event, Turn, Answer, Arrive}
 
--- what holds of all holds of the one between
-all_at : {A : Type 0} (P : A → Type 0) (before : List A) (x : A) (behind : List A) → AllByRecursion P (before ++ x ∷ behind) → P x
-all_at P [] x behind all = all.0
-all_at P (y ∷ before) x behind all = all_at P before x behind all.1
-
 -- a deed between others
 deed_at : (ds before behind : List Deed) (d : Deed) → AllByRecursion IsSmall ds → ds ≡ before ++ d ∷ behind → IsSmall d
 deed_at ds before behind d small is = all_at IsSmall before d behind (subst (λ l. AllByRecursion IsSmall l) is small)
-
-not_nil : {A : Type 0} (xs ys : List A) (y : A) → [] ≡ xs ++ y ∷ ys → ⊥
-not_nil [] ys y is = cc is
-not_nil (x ∷ xs) ys y is = cc is
 
 -- no event stands where there is no turn
 no_place : (ts : List Turn) (t : Turn) (e : Event) → ts ≡ [] → Place ts t e → ⊥

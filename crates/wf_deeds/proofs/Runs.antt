@@ -9,10 +9,6 @@ use Rattle.wf_deeds.specs.History.{Standing, first_standing, goes_on, goes_on_at
 use Rattle.wf_deeds.specs.Language.{Language}
 use Rattle.wf_value.specs.Events.{Event, Start, Turn}
 
-pub both : (x y : Bool) → IsTrue (x && y) → IsTrue x × IsTrue y
-both true y is = (refl, is)
-both false y is = absurd cc
-
 from_nowhere : (p : Program) (es : List Event) → run_on p NotNow es ≡ NotNow
 from_nowhere p [] = refl
 from_nowhere p (e ∷ es) = refl

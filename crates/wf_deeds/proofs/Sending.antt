@@ -3,6 +3,7 @@ use Rattle.std.specs.Prelude.{◌≡◌, ◌⊎◌, ◌≤◌, ◌<◌, ◌||◌
 use Rattle.std.proofs.Common.{inl, inr, ⊎_elim, refl, sym, ◌∙◌, ap, subst, arith}
 use Rattle.std.proofs.lemmas.Bool.{eq-eqb, eqb-true}
 use Rattle.std.proofs.lemmas.List.{append-nil}
+use Rattle.wf_lemmas.proofs.Bools.{or_comm, or_none}
 use Rattle.wf_deeds.proofs.Carried.{decides_carried, answers_carried}
 use Rattle.wf_deeds.proofs.Lists.{IsNoPoll, polls-append, nows-append, was_started-append, was_dropped-append, was_replied-append, was_replied_more, reading_stays, split_at, poll_behind}
 use Rattle.wf_deeds.proofs.Splits.{split_of_more}
@@ -99,16 +100,6 @@ either k j b is = (elim (nat_eq k j) as (λ v. nat_eq k j ≡ v → v || b ≡ t
   | false ↦ λ _ rest. inr rest
 ]) refl is
 
-or-comm : (a b : Bool) → a || b ≡ b || a
-or-comm true true = refl
-or-comm true false = refl
-or-comm false true = refl
-or-comm false false = refl
-
-pub or-none : (a : Bool) → a || false ≡ a
-or-none true = refl
-or-none false = refl
-
 pub start_goes_on : IsAnswered nothing_told None → HistoryStandsThere → DeedKeepsRules → StartGoesOn
 start_goes_on hears there rules L O command handed m J D k to bytes started told s settled active asks new is =
     let x = session command handed m J D in
@@ -117,8 +108,8 @@ start_goes_on hears there rules L O command handed m J D k to bytes started told
     let n = with_calls m started m.dropped told in
     let q : Request = record { address = address_view to; bytes = bytes } in
     let now_started : (j : ℕ) → started j ≡ was_started j E = λ j.
-    is.is j ∙ ap (λ b. nat_eq k j || b) (s.started j) ∙ or-comm (nat_eq k j) (was_started j D)
-    ∙ ap (λ b. was_started j D || b) (sym (or-none (nat_eq k j))) ∙ sym (was_started-append j D (d ∷ [])) in
+    is.is j ∙ ap (λ b. nat_eq k j || b) (s.started j) ∙ or_comm (nat_eq k j) (was_started j D)
+    ∙ ap (λ b. was_started j D || b) (sym (or_none (nat_eq k j))) ∙ sym (was_started-append j D (d ∷ [])) in
     let old_told : (j : ℕ) → m.started j ≡ true → told_of j E ≡ told_of j D = λ j was. told_of_stays j D d tt (sym (s.started j) ∙ was) in
     let new_told : told_of k E ≡ nothing_told = told_of_new k D (d ∷ []) (sym (s.started k) ∙ new)
     ∙ ap (λ v. if v then nothing_told else nothing_told) (eq-eqb k k refl) in
@@ -141,7 +132,7 @@ start_goes_on hears there rules L O command handed m J D k to bytes started told
       last = s.last;
       clock = λ go. ap length (still_nows L O command handed m J D s d tt refl) ∙ s.clock go;
       started = now_started;
-      dropped = λ j. s.dropped j ∙ sym (or-none (was_dropped j D)) ∙ sym (was_dropped-append j D (d ∷ []));
+      dropped = λ j. s.dropped j ∙ sym (or_none (was_dropped j D)) ∙ sym (was_dropped-append j D (d ∷ []));
       issued = λ j was. ⊎_elim (λ same. subst (λ i. i ≤ length m.config.calls) (sym same) (was_issued m.config k q asks)) (λ old. s.issued j old) (either k j (m.started j) (sym (is.is j) ∙ was));
       told = λ j still was. ⊎_elim
           (λ same. subst (λ i. told i ≡ told_of i E) (sym same) (is.first ∙ sym new_told))
@@ -177,10 +168,10 @@ drop_goes_on there rules L O command handed m J D k dropped s settled timed is =
       reading = still_reading L O command handed m J D s d tt refl;
       last = s.last;
       clock = λ go. ap length (still_nows L O command handed m J D s d tt refl) ∙ s.clock go;
-      started = λ j. s.started j ∙ sym (or-none (was_started j D)) ∙ sym (was_started-append j D (d ∷ []));
+      started = λ j. s.started j ∙ sym (or_none (was_started j D)) ∙ sym (was_started-append j D (d ∷ []));
       dropped = λ j.
-          is j ∙ ap (λ b. nat_eq k j || b) (s.dropped j) ∙ or-comm (nat_eq k j) (was_dropped j D)
-          ∙ ap (λ b. was_dropped j D || b) (sym (or-none (nat_eq k j))) ∙ sym (was_dropped-append j D (d ∷ []));
+          is j ∙ ap (λ b. nat_eq k j || b) (s.dropped j) ∙ or_comm (nat_eq k j) (was_dropped j D)
+          ∙ ap (λ b. was_dropped j D || b) (sym (or_none (nat_eq k j))) ∙ sym (was_dropped-append j D (d ∷ []));
       issued = s.issued;
       told = λ j still was. s.told j still was ∙ sym (old_told j was);
       unanswered = λ go j still was. ⊎_elim (λ to_it. inl to_it) (λ none. inr (subst (λ (t : Told). IsAnswered t None) (sym (old_told j was)) none)) (s.unanswered go j still was);
@@ -229,7 +220,7 @@ reply_goes_on there rules L O command handed m J D o s untaken waiting =
           ap (λ l. was_replied choice.visit l) (all_before_poll (t.rest ++ d ∷ []) (omega (arith, none, polls-append t.rest (d ∷ []))))
           ∙ was_replied-append choice.visit t.rest (d ∷ [])
           ∙ ap (λ b. was_replied choice.visit t.rest || (b || false)) (eq-eqb o.visit choice.visit (sym visit))
-          ∙ or-comm (was_replied choice.visit t.rest) true)
+          ∙ or_comm (was_replied choice.visit t.rest) true)
           (λ some. was_replied_more choice.visit t.rest (d ∷ []) (s.kept.visits.replied before t.rest until h choice v t.is old (inl some))))
       | inr t ↦ absurd (no_poll d until h tt t.last)
     ] in
@@ -252,8 +243,8 @@ reply_goes_on there rules L O command handed m J D o s untaken waiting =
       reading = still_reading L O command handed m J D s d tt refl;
       last = s.last;
       clock = λ go. ap length (still_nows L O command handed m J D s d tt refl) ∙ s.clock go;
-      started = λ j. s.started j ∙ sym (or-none (was_started j D)) ∙ sym (was_started-append j D (d ∷ []));
-      dropped = λ j. s.dropped j ∙ sym (or-none (was_dropped j D)) ∙ sym (was_dropped-append j D (d ∷ []));
+      started = λ j. s.started j ∙ sym (or_none (was_started j D)) ∙ sym (was_started-append j D (d ∷ []));
+      dropped = λ j. s.dropped j ∙ sym (or_none (was_dropped j D)) ∙ sym (was_dropped-append j D (d ∷ []));
       issued = s.issued;
       told = λ j still was. s.told j still was ∙ sym (old_told j was);
       unanswered = λ go j still was. ⊎_elim (λ to_it. inl to_it) (λ none. inr (subst (λ (t : Told). IsAnswered t None) (sym (old_told j was)) none)) (s.unanswered go j still was);
@@ -296,8 +287,8 @@ print_goes_on rules L O command handed m J D text s untaken unowed =
       reading = still_reading L O command handed m J D s d tt refl;
       last = s.last;
       clock = λ go. ap length (still_nows L O command handed m J D s d tt refl) ∙ s.clock go;
-      started = λ j. s.started j ∙ sym (or-none (was_started j D)) ∙ sym (was_started-append j D (d ∷ []));
-      dropped = λ j. s.dropped j ∙ sym (or-none (was_dropped j D)) ∙ sym (was_dropped-append j D (d ∷ []));
+      started = λ j. s.started j ∙ sym (or_none (was_started j D)) ∙ sym (was_started-append j D (d ∷ []));
+      dropped = λ j. s.dropped j ∙ sym (or_none (was_dropped j D)) ∙ sym (was_dropped-append j D (d ∷ []));
       issued = s.issued;
       told = λ j still was. s.told j still was ∙ sym (old_told j was);
       unanswered = λ go j still was. ⊎_elim (λ to_it. inl to_it) (λ none. inr (subst (λ (t : Told). IsAnswered t None) (sym (old_told j was)) none)) (s.unanswered go j still was);

@@ -2,7 +2,7 @@
 use Rattle.std.specs.Prelude.{◌≡◌, ◌≢◌, ◌⊎◌, ◌≤◌, ◌<◌, ◌&&◌, ℕ, suc, Bool, true, false, IsTrue, nat_eq, nat_le, nat_lt, List, [], ◌∷◌, ◌++◌, All, Some}
 use Rattle.std.specs.List.{AllByRecursion}
 use Rattle.std.proofs.Common.{inl, inr, ⊎_elim, refl, sym, ◌∙◌, ap, subst, arith}
-use Rattle.std.proofs.lemmas.Bool.{leb-true, ltb-true}
+use Rattle.std.proofs.lemmas.Bool.{leb-true, ltb-true, and_parts}
 use Rattle.std.proofs.lemmas.List.{append-nil}
 use Rattle.std.proofs.lemmas.List.Elements.{All-push}
 use Rattle.wf_deeds.proofs.Carried.{SameAt, first_more, start_carried, poll_carried, answers_carried, decides_carried, reply_carried, answered_carried, decided_carried}
@@ -37,15 +37,11 @@ never : (v : Bool) → (IsTrue v → ⊥) → v ≡ false
 never true not_so = absurd (not_so refl)
 never false not_so = refl
 
-pub both_true : (x y : Bool) → IsTrue (x && y) → IsTrue x × IsTrue y
-both_true true y is = (refl, is)
-both_true false y is = absurd (let f : false ≡ true = is in cc f)
-
 -- a turn of this session with more waits stands behind the moment
 stands_behind : (number w : ℕ) (t : Turn) → t.session ≡ number → w < t.waits → is_before number w t ≡ false
 stands_behind number w t session lt = never (is_before number w t) (λ is. ⊎_elim
     (λ less. let f = ltb-true t.session number less in omega (arith, f, session))
-    (λ more. let f = leb-true t.waits w (both_true (nat_eq t.session number) (nat_le t.waits w) more).1 in omega (arith, f, lt))
+    (λ more. let f = leb-true t.waits w (and_parts (nat_eq t.session number) (nat_le t.waits w) more).1 in omega (arith, f, lt))
     (one_of (nat_lt t.session number) (nat_eq t.session number && nat_le t.waits w) is))
 
 -- ## What a turn more leaves as it was

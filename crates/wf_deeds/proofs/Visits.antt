@@ -1,7 +1,7 @@
 -- The visits that were heard, with one more piece.
 use Rattle.std.specs.Prelude.{◌≡◌, ◌+◌, ◌||◌, ℕ, suc, Bool, true, false, nat_eq, is_some, if◌then◌else◌, List, [], ◌∷◌, Option, Some, None, option_map, option_and_then}
 use Rattle.std.proofs.Common.{refl, sym, ◌∙◌, ap, arith}
-use Rattle.std.proofs.lemmas.Bool.{eq-eqb, eqb-true}
+use Rattle.std.proofs.lemmas.Bool.{eq-eqb, eqb-true, ne_eqb}
 use Rattle.wf_deeds.specs.Deeds.{Told, nothing_told, Visit, visit_of, tells_visit, undecided, find_visit, put_visit, decision_of, decision, with_piece}
 use Rattle.wf_deeds.specs.Memory.{forgotten, decision_by, visit_by}
 use Rattle.wf_deeds.specs.Outside.{Outside}
@@ -16,9 +16,6 @@ bool_case P false if_true if_false = if_false refl
 not_equal : (a b : ℕ) → nat_eq a b ≡ false → a ≡ b → ⊥
 not_equal a b is same = let f : true ≡ false = sym (eq-eqb a b same) ∙ is in cc f
 
-unequal : (a b : ℕ) → (a ≡ b → ⊥) → nat_eq a b ≡ false
-unequal a b differ = bool_case (λ v. v ≡ false) (nat_eq a b) (λ same. absurd (differ (eqb-true a b same))) (λ _. refl)
-
 -- ## A visit is put in its place
 pub find_put : (x : Visit) (vs : List Visit) (j : ℕ) → find_visit j (put_visit x vs) ≡ (if nat_eq x.number j then Some x else find_visit j vs)
 find_put x [] j = refl
@@ -26,9 +23,9 @@ find_put x (v ∷ vs) j =
     bool_case (λ b. find_visit j (if b then x ∷ vs else v ∷ put_visit x vs) ≡ (if nat_eq x.number j then Some x else (if nat_eq v.number j then Some v else find_visit j vs))) (nat_eq v.number x.number)
     (λ same. bool_case (λ b. (if b then Some x else find_visit j vs) ≡ (if b then Some x else (if nat_eq v.number j then Some v else find_visit j vs))) (nat_eq x.number j)
     (λ _. refl)
-    (λ other. ap (λ b. if b then Some v else find_visit j vs) (sym (unequal v.number j (λ is. not_equal x.number j other (sym (eqb-true v.number x.number same) ∙ is))))))
+    (λ other. ap (λ b. if b then Some v else find_visit j vs) (sym (ne_eqb v.number j (λ is. not_equal x.number j other (sym (eqb-true v.number x.number same) ∙ is))))))
     (λ apart. bool_case (λ b. (if b then Some v else find_visit j (put_visit x vs)) ≡ (if nat_eq x.number j then Some x else (if b then Some v else find_visit j vs))) (nat_eq v.number j)
-    (λ this. ap (λ b. if b then Some x else Some v) (sym (unequal x.number j (λ is. not_equal v.number x.number apart (eqb-true v.number j this ∙ sym is)))))
+    (λ this. ap (λ b. if b then Some x else Some v) (sym (ne_eqb x.number j (λ is. not_equal v.number x.number apart (eqb-true v.number j this ∙ sym is)))))
     (λ _. find_put x vs j))
 
 light : (v : Visit) (vs : List Visit) → undecided (v ∷ vs) ≡ weight (Some v) + undecided vs

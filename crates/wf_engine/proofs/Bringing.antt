@@ -132,8 +132,3 @@ turn_behind law old mid new reading t e before all b active sound first behind =
     let from : Behind mid new reading (e ∷ []) all = subst (λ l. Behind mid new reading l all) first behind in
     let (es, is, chosen) = from in
     subst (λ l. IsTurn old new reading (Some (Answer t.call reading (reply_view t.reply))) l) (sym is) (then_chosen old mid new reading t e es b chosen law active sound)
-
--- of a result
-pub if_ok : {T E : Type 0} (P Q : T → Type 0) (r : Result T E) → ((x : T) → P x → Q x) → IfOk r P → IfOk r Q
-if_ok P Q (Ok x) on is = on x is
-if_ok P Q (Err e) on is = tt

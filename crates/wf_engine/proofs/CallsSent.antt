@@ -4,6 +4,7 @@ use Rattle.std.proofs.Common.{inl, inr, refl, sym, ◌∙◌, ap, subst, arith}
 use Rattle.std.proofs.lemmas.Bool.{cases_lt}
 use Rattle.std.proofs.lemmas.List.{append-nil}
 use Rattle.std.proofs.lemmas.Option.{slice_get_past}
+use Rattle.wf_host.proofs.Printings.{NoneFell-refl}
 use Rattle.wf_deeds.specs.Clauses.{IsSending, KeptThroughout, SendsOpen, StandsIsKept, drop, is_timed_out, none, start, those, to_drop, to_start}
 use Rattle.wf_deeds.specs.Memory.{AllIsSent, IsSettled, Memory, StandsFor}
 use Rattle.wf_deeds.specs.Outside.{Outside}
@@ -30,9 +31,6 @@ use Rattle.wf_value.specs.HttpRequest.{Request}
 
 pub told_then : (w new : World) → new.tells ≡ w.tells → IsTrue w.tells → IsTrue new.tells
 told_then w new same told = subst IsTrue (sym same) told
-
-pub none_fell : (f : Faults) → NoneFell f f
-none_fell f = record { disk = omega arith; poll = omega arith; print = omega arith }
 
 pub falls_then : (f g h : Faults) → NoneFell f g → NoneFell g h → NoneFell f h
 falls_then f g h a b = record { disk = omega (arith, a.disk, b.disk); poll = omega (arith, a.poll, b.poll); print = omega (arith, a.print, b.print) }
@@ -79,7 +77,7 @@ part_first moment w f e only not_closed holds = record {
   moments = λ O told. kept_before moment the_language O (memory e) e.history w (only told) (holds told).0 (e.ready not_closed).begun;
   seen = λ told. refl;
   tells = refl;
-  counts = none_fell f;
+  counts = NoneFell-refl f;
 }
 
 -- where there is nothing to do

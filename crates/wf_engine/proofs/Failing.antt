@@ -1,12 +1,13 @@
 -- Calls that fail: of an error most of what is promised is plain.
---     is_err, none_fell_yet              an error that is handed on; no count has fallen
+--     is_err, NoneFell-refl              an error that is handed on; no count has fallen
 --     session_failed                     of `session`
 --     begin_failed, open_failed          of `begin` and `open`
 use Rattle.std.proofs.Common.{arith, ap, inl, inr, subst, sym, ◌∙◌}
 use Rattle.std.specs.Prelude.{◌≡◌, ◌≢◌, ◌⊎◌, ◌≤◌, ◌<◌, ◌++◌, ℕ, true, false, [], ◌∷◌, length, take, Result, Ok, Err, IsErr, IsErrAnd, IsErrOf}
+use Rattle.wf_host.proofs.Printings.{NoneFell-refl}
+use Rattle.wf_lemmas.proofs.Bools.{clash}
 use Rattle.wf_deeds.specs.Clauses.{KeptThroughout}
 use Rattle.wf_deeds.specs.History.{Standing, history}
-use Rattle.wf_engine.proofs.Settling.{not_both}
 use Rattle.wf_engine.specs.Engine.{OpeningMoment, is_closed, memory}
 use Rattle.wf_engine.specs.Promises.{BeginsAnExecution, OpensAnExecution, RunsASession}
 use Rattle.wf_engine.specs.TheOutside.{InTheOutside}
@@ -30,10 +31,6 @@ is_err (Err f) cause gives = ap Err gives.1
 
 same_fault : {A : Type 0} (e f : EngineFault) → IsErrOf {T = A} (Err e) f → e ≡ f
 same_fault e f is = cc is
-
--- no count has fallen at once
-pub none_fell_yet : (f : Faults) → NoneFell f f
-none_fell_yet f = record { disk = omega arith; poll = omega arith; print = omega arith }
 
 -- ## Of a session
 -- the faults of its turns and of its waits
@@ -77,7 +74,7 @@ pub session_failed : {H : Type 0} (world : H → World) (faults : H → Faults) 
     → RunsASession world faults before behind old new bound r
 session_failed world faults before behind old new bound e r is went shut one disk poll moments finished session tells counts =
     subst (λ x. RunsASession world faults before behind old new bound x) (sym is) record {
-      holds = λ still told. absurd (not_both (is_closed behind) still shut);
+      holds = λ still told. absurd (clash (is_closed behind) still shut);
       ended = λ O told. tt;
       suspended = λ O told so. absurd (not_suspended e one (same_fault e fault.Suspended so));
       result = tt;
@@ -86,7 +83,7 @@ session_failed world faults before behind old new bound e r is went shut one dis
       session = session;
       disk_fault = λ so. disk (same_fault e fault.DiskFault so);
       poll_fault = λ so. poll (same_fault e fault.PollFault so);
-      closed = (λ so. absurd (not_closed e one (same_fault e fault.Closed so)), λ was. absurd (not_both (is_closed before) went was));
+      closed = (λ so. absurd (not_closed e one (same_fault e fault.Closed so)), λ was. absurd (clash (is_closed before) went was));
       closes = inr shut;
       idle = λ so. absurd (not_closed e one (same_fault e fault.Closed so));
       «open» = tt;

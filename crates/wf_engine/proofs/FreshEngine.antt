@@ -1,6 +1,7 @@
 -- What an engine stands for that has sent and heard nothing yet.
 use Rattle.std.specs.Prelude.{◌≡◌, ℕ, Bool, true, false, List, Option, None, Some}
 use Rattle.std.proofs.Common.{sym, ◌∙◌}
+use Rattle.wf_lemmas.proofs.Bools.{clash}
 use Rattle.wf_ast.specs.Tree.{Program}
 use Rattle.wf_deeds.specs.Clauses.{Opened}
 use Rattle.wf_deeds.specs.Deeds.{Told}
@@ -33,9 +34,6 @@ begun p c number reading started dropped told = record {
   owed = None;
 }
 
-off : (b : Bool) → b ≡ false → b ≡ true → ⊥
-off b is on = let no : false ≡ true = sym is ∙ on in cc no
-
 module _ (p : Program) (c : Config) (number reading : ℕ) (started dropped : ℕ → Bool) (told : ℕ → Told) (none_started : (k : ℕ) → started k ≡ false) (none_dropped : (k : ℕ) → dropped k ≡ false) where
   as_settled : IsSettled (fresh p c number reading) → IsSettled (begun p c number reading started dropped told)
   as_settled s = record { taken = s.taken; owed = s.owed; still = s.still }
@@ -54,9 +52,9 @@ module _ (p : Program) (c : Config) (number reading : ℕ) (started dropped : �
     clock = s.clock;
     started = λ k. none_started k ∙ s.started k;
     dropped = λ k. none_dropped k ∙ s.dropped k;
-    issued = λ k is. absurd (off (started k) (none_started k) is);
-    told = λ k opened is. absurd (off (started k) (none_started k) is);
-    unanswered = λ active k opened is. absurd (off (started k) (none_started k) is);
+    issued = λ k is. absurd (clash (started k) (none_started k) is);
+    told = λ k opened is. absurd (clash (started k) (none_started k) is);
+    unanswered = λ active k opened is. absurd (clash (started k) (none_started k) is);
     settled = λ before behind d is sent polled. as_settled (s.settled before behind d is sent polled);
     visit = s.visit;
     undecided = s.undecided;

@@ -1,6 +1,7 @@
 -- What an engine stands for once it took what was heard.
 use Rattle.std.specs.Prelude.{◌≡◌, ◌≤◌, ◌&&◌, ℕ, suc, max, Bool, true, false, is_some, [], ◌∷◌, ◌++◌, Option, Some, None, option_map, option_and_then}
 use Rattle.std.proofs.Common.{inl, inr, refl, sym, ◌∙◌, ap, subst, arith}
+use Rattle.std.proofs.lemmas.Bool.{and_parts}
 use Rattle.wf_ast.specs.Tree.{Program}
 use Rattle.wf_connections.specs.Calls.{StandsAsBefore}
 use Rattle.wf_connections.specs.declared.connections.Connections.{Connections}
@@ -42,10 +43,6 @@ plain_memory p c number reading waits started dropped told taken = record {
   owed = None;
 }
 
-both_true : (a b : Bool) → a && b ≡ true → (a ≡ true) × (b ≡ true)
-both_true true b is = (refl, is)
-both_true false b is = absurd (let no : false ≡ true = is in cc no)
-
 module _ (O : Outside) (p : Program) (c : Config) (number reading waits : ℕ) (s d : ℕ → Bool) (t : ℕ → Told) (o : Option Event) (h : Heard) (s2 d2 : ℕ → Bool) (t2 : ℕ → Told) (taken : Option Taken) (same : (k : ℕ) → s2 k ≡ s k) (told : (k : ℕ) → s k ≡ true → t2 k ≡ tells k h.what (t k)) where
   abbrev Before : Memory
   Before = plain_memory p c number reading waits s d t o
@@ -57,7 +54,7 @@ module _ (O : Outside) (p : Program) (c : Config) (number reading waits : ℕ) (
   brings_call : (r k : ℕ) → FindsBy (between r) taken (Some k) → IsAnswerBy Before k h (taken_event (max reading h.reading) taken)
   brings_call r k (inl none) = inl (ap (λ b. is_some (request_of c k) && b) (sym (same k)) ∙ none.0, ap (taken_event (max reading h.reading)) none.1)
   brings_call r k (inr finds) =
-      let both = both_true (is_some (request_of c k)) (s2 k) finds.awaited in
+      let both = and_parts (is_some (request_of c k)) (s2 k) finds.awaited in
       inr (record {
         awaited = ap (λ b. is_some (request_of c k) && b) (sym (same k)) ∙ finds.awaited;
         answer = finds.answer;
@@ -118,7 +115,7 @@ pub takable : (m : Memory) (w : Option ℕ) (o : Option Taken) → m.config.outc
 takable m None o active none u is = absurd (let no : None ≡ Some u = sym none ∙ is in cc no)
 takable m (Some k) o active (inl none) u is = absurd (let no : None ≡ Some u = sym none.1 ∙ is in cc no)
 takable m (Some k) o active (inr finds) u is =
-    let both = both_true (is_some (request_of m.config k)) (m.started k) finds.awaited in
+    let both = and_parts (is_some (request_of m.config k)) (m.started k) finds.awaited in
     record { active = active; opened = ap (λ i. is_some (request_of m.config i)) (takable_of m k 0 o u finds is) ∙ both.0 }
 
 -- ## It can still go on

@@ -4,6 +4,7 @@ use Rattle.std.specs.List.{AllByRecursion}
 use Rattle.std.proofs.Common.{inl, inr, ⊎_elim, refl, sym, ◌∙◌, ap, subst, arith}
 use Rattle.std.proofs.lemmas.Bool.{lt-ltb, or_left}
 use Rattle.std.proofs.lemmas.List.Elements.{All-nil}
+use Rattle.wf_lemmas.proofs.Lists.{not_nil, same_tail}
 use Rattle.wf_ast.specs.Tree.{Program}
 use Rattle.wf_deeds.specs.Deeds.{nows, polls, reading_by, starts_or_polls, IsSmall}
 use Rattle.wf_deeds.specs.Kept.{Run, Resume, Session, Place, own, last_of, ReadingsAreOfTheClock}
@@ -30,13 +31,6 @@ use Rattle.wf_value.specs.Events.{Event, Start, Turn}
 abbrev pub OneReading : List Deed → Type 0
 OneReading D = (D ≡ []) ⊎ ((t : ℕ) × (D ≡ Now t ∷ []))
 
-not_nil : {A : Type 0} (xs ys : List A) (y : A) → [] ≡ xs ++ y ∷ ys → ⊥
-not_nil [] ys y is = cc is
-not_nil (x ∷ xs) ys y is = cc is
-
-rest_is : {A : Type 0} (x y : A) (xs ys : List A) → x ∷ xs ≡ y ∷ ys → xs ≡ ys
-rest_is x y xs ys is = cc is
-
 all_small : (D : List Deed) → OneReading D → AllByRecursion IsSmall D
 all_small D (inl is) = subst (λ l. AllByRecursion IsSmall l) (sym is) tt
 all_small D (inr (t, is)) = subst (λ l. AllByRecursion IsSmall l) (sym is) (tt, tt)
@@ -51,7 +45,7 @@ one_at_most D (inr (t, is)) = omega (arith, ap (λ l. length (nows l)) is)
 
 lone : (t : ℕ) (before behind : List Deed) (d : Deed) → Now t ∷ [] ≡ before ++ d ∷ behind → Now t ≡ d
 lone t [] behind d is = cc is
-lone t (x ∷ before) behind d is = absurd (not_nil before behind d (rest_is (Now t) x [] (before ++ d ∷ behind) is))
+lone t (x ∷ before) behind d is = absurd (not_nil before behind d (same_tail (Now t) x [] (before ++ d ∷ behind) is))
 
 no_poll_in : (D before behind : List Deed) (d : Deed) → OneReading D → D ≡ before ++ d ∷ behind → starts_or_polls (d ∷ []) ≡ false
 no_poll_in D before behind d (inl none) is = absurd (not_nil before behind d (sym none ∙ is))

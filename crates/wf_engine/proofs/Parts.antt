@@ -3,6 +3,7 @@ use Rattle.std.specs.Prelude.{◌≡◌, ℕ, Bool, false, List, [], ◌∷◌, 
 use Rattle.std.specs.List.{AllByRecursion}
 use Rattle.std.proofs.Common.{refl, sym, ◌∙◌, ap, subst, arith, append_assoc}
 use Rattle.std.proofs.lemmas.List.{append-nil, append_cancel_left}
+use Rattle.wf_lemmas.proofs.Lists.{all_both}
 use Rattle.wf_deeds.proofs.Lists.{polls-append}
 use Rattle.wf_deeds.specs.Clauses.{IsOfSession, IsSending, KeptAt, KeptThroughout, Takes, Went, drop, none, start}
 use Rattle.wf_deeds.specs.Deeds.{polls, printed}
@@ -36,10 +37,6 @@ printed-append (Drop k ∷ ds) E = printed-append ds E
 -- with nothing printed by either
 silent_both : (D E : List Deed) → printed D ≡ [] → printed E ≡ [] → printed (D ++ E) ≡ []
 silent_both D E one two = printed-append D E ∙ ap (λ l. l ++ printed E) one ∙ two
-
-all_both : {A : Type 0} (P : A → Type 0) (xs ys : List A) → AllByRecursion P xs → AllByRecursion P ys → AllByRecursion P (xs ++ ys)
-all_both P [] ys all more = more
-all_both P (x ∷ xs) ys all more = (all.0, all_both P xs ys all.1 more)
 
 -- turns of the session, and then more of them
 own_both : (n m : Memory) (added more : List (List ℕ)) → n.session ≡ m.session → AllByRecursion (IsOfSession m.session) added → AllByRecursion (IsOfSession n.session) more → AllByRecursion (IsOfSession m.session) (added ++ more)

@@ -1,6 +1,7 @@
 -- A history that was read to its end, and the session that goes on from it.
 use Rattle.std.specs.Prelude.{◌≡◌, ◌≢◌, ◌⊎◌, ◌≤◌, ◌+◌, min, ℕ, zero, suc, Bool, true, false, if◌then◌else◌, List, [], ◌∷◌, ◌++◌, length, take, drop, Option, Some, None, Result, Ok, Err, IfErr, IsErr, IsErrAnd, unwrap_or}
 use Rattle.std.proofs.Common.{inl, inr, refl, sym, ◌∙◌, ap, arith, length-drop}
+use Rattle.wf_lemmas.proofs.Lists.{few_if}
 use Rattle.wf_engine.proofs.NewSessions.{stands_opened}
 use Rattle.wf_deeds.specs.Clauses.{Opened}
 use Rattle.wf_deeds.specs.Laws.{OnlyReadings}
@@ -48,9 +49,6 @@ still_stands h w new s same settled = record {
 }
 
 -- ## The number of the session
-few_if : (open_now : Bool) (n : ℕ) (first : List ℕ) (more : List (List ℕ)) → length more ≤ n → length (if open_now then first ∷ more else []) ≤ suc n
-few_if true n first more le = omega (arith, le)
-few_if false n first more le = omega arith
 
 -- there are no more payloads than bytes
 few : (n : ℕ) (bytes : List ℕ) → length (payloads n bytes) ≤ n

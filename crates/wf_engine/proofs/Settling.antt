@@ -18,8 +18,6 @@ use Rattle.wf_replay.specs.TheLanguage.{the_language}
 use Rattle.wf_value.specs.Events.{Event}
 
 -- ## Counts and errors
-pub falls_none : (f : Faults) → NoneFell f f
-falls_none f = record { disk = omega arith; poll = omega arith; print = omega arith }
 
 pub none_fell : (f g h : Faults) → NoneFell f g → NoneFell g h → NoneFell f h
 none_fell f g h a b = record { disk = omega (arith, a.disk, b.disk); poll = omega (arith, a.poll, b.poll); print = omega (arith, a.print, b.print) }
@@ -29,14 +27,6 @@ rose_later a b c le rose = omega (arith, le, rose)
 
 pub told_on : (w new : World) → new.tells ≡ w.tells → IsTrue w.tells → IsTrue new.tells
 told_on w new same told = subst IsTrue (sym same) told
-
--- an error that is handed on
-pub passed_on : {T A E : Type 0} (r : Result T E) (cause e : E) → IsErr r × IsErrAnd r (λ x. x ≡ cause) → r ≡ Err e → IsErrOf {T = A} (Err cause) e
-passed_on (Ok x) cause e gives is = absurd cc
-passed_on (Err f) cause e gives is = let same : f ≡ e = cc is in ap Err (sym gives.1 ∙ same)
-
-pub not_both : (b : Bool) → b ≡ false → b ≡ true → ⊥
-not_both b open_now shut = let no : false ≡ true = sym open_now ∙ shut in cc no
 
 -- one of two that isn't the other
 pub first_of : {A B C : Type 0} → (A × B) ⊎ C → (C → ⊥) → A × B

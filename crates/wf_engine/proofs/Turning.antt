@@ -5,6 +5,7 @@ use Rattle.std.proofs.Common.{inl, inr, ⊎_elim, refl, sym, ◌∙◌, ap, subs
 use Rattle.std.proofs.lemmas.List.{append-nil}
 use Rattle.std.proofs.Math.Bridge.{le_prop}
 use Rattle.std.proofs.Math.Logic.{∥∥₁_elim}
+use Rattle.wf_lemmas.proofs.Lists.{all_at, all_push}
 use Rattle.wf_ast.specs.Tree.{Program}
 use Rattle.wf_engine.proofs.Chosen.{Turning, chosen_none, turn_ends, turn_is_full, turns_at_first, turns_on}
 use Rattle.wf_deeds.specs.Kept.{reading_of}
@@ -26,13 +27,6 @@ use Rattle.wf_model.specs.WaitLaws.{Sound}
 use Rattle.wf_value.specs.Events.{Event, Move, MoveAt, Begin, Issue, Answer, Due, Arrive, Cancel}
 
 -- ## Lists
-pub all_more : {A : Type 0} (P : A → Type 0) (xs : List A) (x : A) → AllByRecursion P xs → P x → AllByRecursion P (xs ++ x ∷ [])
-all_more P [] x all holds = (holds, tt)
-all_more P (y ∷ ys) x all holds = (all.0, all_more P ys x all.1 holds)
-
-pub all_at : {A : Type 0} (P : A → Type 0) (front back : List A) (x : A) → AllByRecursion P (front ++ x ∷ back) → P x
-all_at P [] back x all = all.0
-all_at P (y ∷ ys) back x all = all_at P ys back x all.1
 
 -- ## Readings
 -- both say the same
@@ -51,7 +45,7 @@ abbrev pub Takes : ℕ → Event → Type 0
 Takes reading e = (r : ℕ) → reading_of e ≡ Some r → r ≡ reading
 
 pub take_reading : (reading : ℕ) (es : List Event) → AllByRecursion (Takes reading) es → TakeReading reading es
-take_reading reading es all e r front back is has = all_at (Takes reading) front back e (subst (AllByRecursion (Takes reading)) is all) r has
+take_reading reading es all e r front back is has = all_at (Takes reading) front e back (subst (AllByRecursion (Takes reading)) is all) r has
 
 takes : (reading last : ℕ) (e : Event) → last ≤ reading → (choice.reading_of e ≡ None) ⊎ (choice.reading_of e ≡ Some (max reading last)) → Takes reading e
 takes reading last e le (inl none) r has = absurd (let no : None ≡ Some r = sym none ∙ sym (same_reading e) ∙ has in cc no)
@@ -98,9 +92,9 @@ tells_on law from n first mid new reading es e t turning is old more most last =
   turning = turning;
   counted = omega (arith, more, t.counted, counts_more es e);
   most = most;
-  inside = all_more IsFromInside es e t.inside (from mid.program mid.config reading e is);
-  spelled = all_more IsOld es e t.spelled old;
-  readings = λ le. all_more (Takes reading) es e (t.readings le) (takes reading mid.config.last e (t.last le) (law mid.program mid.config reading e is));
+  inside = all_push IsFromInside es e t.inside (from mid.program mid.config reading e is);
+  spelled = all_push IsOld es e t.spelled old;
+  readings = λ le. all_push (Takes reading) es e (t.readings le) (takes reading mid.config.last e (t.last le) (law mid.program mid.config reading e is));
   last = λ le. still_last reading mid.config.last new.config.last e (t.last le) (law mid.program mid.config reading e is) last;
 }
 

@@ -4,6 +4,9 @@ use Rattle.std.proofs.lemmas.Bool.Decides.{nat_tests}
 use Rattle.std.specs.Char.{digit_value, is_ascii_digit}
 use Rattle.std.specs.List.{list_all}
 use Rattle.std.specs.Str.Parse.{AllDigits, IsNumeral, digits_value, starts_with_minus, without_leading_sign, without_leading_plus, signed_digits_value}
+use Rattle.std.proofs.lemmas.Bool.{and_from}
+use Rattle.wf_lemmas.proofs.Texts.{digit_small, digit_told}
+use Rattle.wf_lemmas.proofs.Bools.{and_left, and_right}
 use Rattle.wf_ast.specs.Apply.{is_digits, has_minus, digits_in, read_whole, as_int}
 use Rattle.wf_value.specs.Data.{Data, integer, text}
 use Rattle.wf_value.specs.Errors.{Answer}
@@ -15,38 +18,20 @@ use Rattle.wf_value.specs.declared.value.Value.TheVariants as value
 use Rattle.wf_eval.specs.Answers.{Gives}
 
 -- ## Digits
-digit_low : (c : ℕ) → digit_value c < 10 → is_ascii_digit c ≡ true
-digit_low c h = grind (arith, nat_tests, h)
-
-low_digit : (c : ℕ) → is_ascii_digit c ≡ true → digit_value c < 10
-low_digit c h = grind (arith, nat_tests, h)
-
-both : (a b : Bool) → a ≡ true → b ≡ true → (a && b) ≡ true
-both true true h k = refl
-both false b h k = h
-both true false h k = k
-
-first : (a b : Bool) → (a && b) ≡ true → a ≡ true
-first true b h = refl
-first false b h = h
-
-second : (a b : Bool) → (a && b) ≡ true → b ≡ true
-second true b h = h
-second false b h = cc
 
 all_low : (ds : List ℕ) → AllDigits 10 ds → list_all is_ascii_digit ds ≡ true
 all_low [] h = refl
-all_low (c ∷ cs) h = both _ _ (digit_low c h.0) (all_low cs h.1)
+all_low (c ∷ cs) h = and_from _ _ (digit_told c h.0) (all_low cs h.1)
 
 low_all : (ds : List ℕ) → list_all is_ascii_digit ds ≡ true → AllDigits 10 ds
 low_all [] h = tt
-low_all (c ∷ cs) h = (low_digit c (first _ _ h), low_all cs (second _ _ h))
+low_all (c ∷ cs) h = (digit_small c (and_left _ _ h), low_all cs (and_right _ _ h))
 
 numeral_is : (ds : List ℕ) → IsNumeral 10 ds → is_digits ds ≡ true
-numeral_is ds h = both _ _ (grind (arith, nat_tests, h.0)) (all_low ds h.1)
+numeral_is ds h = and_from _ _ (grind (arith, nat_tests, h.0)) (all_low ds h.1)
 
 is_numeral : (ds : List ℕ) → is_digits ds ≡ true → IsNumeral 10 ds
-is_numeral ds h = (let e : nat_lt 0 (length ds) ≡ true = first _ _ h in grind (arith, nat_tests, e), low_all ds (second _ _ h))
+is_numeral ds h = (let e : nat_lt 0 (length ds) ≡ true = and_left _ _ h in grind (arith, nat_tests, e), low_all ds (and_right _ _ h))
 
 -- ## Signs
 and_true : (a : Bool) → (a && true) ≡ a

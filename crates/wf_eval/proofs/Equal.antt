@@ -1,8 +1,9 @@
 -- The test of equality on plain values tells whether they are equal.
 use Rattle.std.proofs.Common.{◌≡◌, ◌≢◌, ℕ, Bool, true, false, ◌&&◌, List, ℤ, pos, negsuc, refl, sym, ap, ◌∙◌, bytes_eq}
 use Rattle.std.specs.Bool.{Decides}
-use Rattle.std.proofs.lemmas.Bool.{eq-eqb, eqb-true}
+use Rattle.std.proofs.lemmas.Bool.{eq-eqb, eqb-true, and_from}
 use Rattle.std.proofs.lemmas.Slice.Eq.{bytes_eq-Decides}
+use Rattle.wf_lemmas.proofs.Bools.{and_left, and_right, same_answer}
 use Rattle.wf_value.specs.Data.{Data, null, boolean, integer, text, bytes, list, map, Items, no_items, item, Pairs, no_pairs, pair}
 use Rattle.wf_value.specs.Pairs.{bool_eq, int_eq, same, same_items, same_pairs}
 use Rattle.wf_value.specs.Plain.{plain}
@@ -21,19 +22,6 @@ int_refl : (a : ℤ) → int_eq a a ≡ true
 int_refl (pos a) = eq-eqb a a refl
 int_refl (negsuc a) = eq-eqb a a refl
 
-both : (a b : Bool) → a ≡ true → b ≡ true → (a && b) ≡ true
-both true true h k = refl
-both false b h k = h
-both true false h k = k
-
-first : (a b : Bool) → (a && b) ≡ true → a ≡ true
-first true b h = refl
-first false b h = h
-
-second : (a b : Bool) → (a && b) ≡ true → b ≡ true
-second true b h = h
-second false b h = absurd (let p : ⊥ = cc in p)
-
 mutual
   refl_value : (v : Data) → same v v ≡ true
   refl_value null = refl
@@ -46,11 +34,11 @@ mutual
 
   refl_items : (vs : Items) → same_items vs vs ≡ true
   refl_items no_items = refl
-  refl_items (item v vs) = both _ _ (refl_value v) (refl_items vs)
+  refl_items (item v vs) = and_from _ _ (refl_value v) (refl_items vs)
 
   refl_pairs : (ps : Pairs) → same_pairs ps ps ≡ true
   refl_pairs no_pairs = refl
-  refl_pairs (pair k v ps) = both _ _ (both _ _ (bytes_refl k) (refl_value v)) (refl_pairs ps)
+  refl_pairs (pair k v ps) = and_from _ _ (and_from _ _ (bytes_refl k) (refl_value v)) (refl_pairs ps)
 
 -- ## Values that are the same are equal
 bytes_are : (a b : List ℕ) → bytes_eq a b ≡ true → a ≡ b
@@ -80,13 +68,13 @@ mutual
 
   items_are : (vs ws : Items) → same_items vs ws ≡ true → vs ≡ ws
   items_are no_items no_items h = refl
-  items_are (item v vs) (item w ws) h = λ i. item (values_are v w (first _ _ h) i) (items_are vs ws (second _ _ h) i)
+  items_are (item v vs) (item w ws) h = λ i. item (values_are v w (and_left _ _ h) i) (items_are vs ws (and_right _ _ h) i)
   items_are vs ws h = absurd (let p : ⊥ = cc in p)
 
   pairs_are : (ps qs : Pairs) → same_pairs ps qs ≡ true → ps ≡ qs
   pairs_are no_pairs no_pairs h = refl
   pairs_are (pair k v ps) (pair l w qs) h =
-      λ i. pair (bytes_are k l (first _ _ (first _ _ h)) i) (values_are v w (second _ _ (first _ _ h)) i) (pairs_are ps qs (second _ _ h) i)
+      λ i. pair (bytes_are k l (and_left _ _ (and_left _ _ h)) i) (values_are v w (and_right _ _ (and_left _ _ h)) i) (pairs_are ps qs (and_right _ _ h) i)
   pairs_are ps qs h = absurd (let p : ⊥ = cc in p)
 
 -- ## The test on values
@@ -94,11 +82,6 @@ neither : (r : Bool) → r ≢ true → r ≡ false
 neither true h = absurd (h refl)
 neither false h = refl
 
-decided : (r s : Bool) → (r ≡ true → s ≡ true) → (s ≡ true → r ≡ true) → r ≡ s
-decided true s f g = sym (f refl)
-decided false true f g = g refl
-decided false false f g = refl
-
 pub same_decided : (r : Bool) (v w : Value) → Decides r (v ≡ w) → r ≡ same (plain v) (plain w)
 same_decided r v w h =
-    decided r (same (plain v) (plain w)) (λ yes. ap (λ x. same (plain v) (plain x)) (sym (h.0 yes)) ∙ refl_value (plain v)) (λ yes. h.1 (plain-one v w (values_are (plain v) (plain w) yes)))
+    same_answer r (same (plain v) (plain w)) (λ yes. ap (λ x. same (plain v) (plain x)) (sym (h.0 yes)) ∙ refl_value (plain v)) (λ yes. h.1 (plain-one v w (values_are (plain v) (plain w) yes)))

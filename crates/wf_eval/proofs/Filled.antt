@@ -2,6 +2,7 @@
 use Rattle.std.proofs.Common.{◌≡◌, ℕ, ◌+◌, ◌<◌, ◌≤◌, List, [], ◌∷◌, ◌++◌, Bool, true, Result, Ok, Err, refl, sym, ap, ◌∙◌, subst, length, get_or, drop, suc, add-one, drop-cons, max, zero, arith}
 use Rattle.std.proofs.Common as seq
 use Rattle.std.proofs.lemmas.List.{drop_all}
+use Rattle.wf_lemmas.proofs.Lists.{item_at}
 use Rattle.wf_ast.specs.Apply.{View}
 use Rattle.wf_ast.specs.Eval.{fill, fill_all, fill_fields}
 use Rattle.wf_ast.specs.Tree as t
@@ -58,10 +59,6 @@ module _ {A B : Type 0} where
   stops f g OutOfMemory first left add all h seen = tt {0}
   stops f g (Error t) first left add all h seen = subst (λ (x : Answer B). Answers f (Err (Error t)) x) (sym (seen ∙ ap (λ m. (m >>= left) >>= λ d. Ok (add d)) (raised g t first h))) refl
 
--- what stands at an index, and what is left behind it
-next : {X : Type 0} (xs : List X) (i : ℕ) (x : X) → i < length xs → x ≡ get_or xs i x → drop i xs ≡ x ∷ drop (i + 1) xs
-next xs i x h is = drop-cons xs i x h ∙ ap (λ y. y ∷ drop (suc i) xs) (sym is) ∙ ap (λ j. x ∷ drop j xs) (sym (add-one i))
-
 -- ## A list
 list_is : (x : Template) (ts : Templates) (xs : List Template) → x ≡ template.List ts → xs ≡ template_list ts → template_view x ≡ t.Listed (templates (seq.map template_view xs))
 list_is x ts xs is seen = ap template_view is ∙ view_list ts ∙ ap (λ l. t.Listed (templates (seq.map template_view l))) (sym seen)
@@ -81,7 +78,7 @@ module _ (s : View) (xs : List Template) where
 
   module _ (i : ℕ) (x : Template) (old : List Data) (within : i < length xs) (is : x ≡ get_or xs i x) where
     list_next : all_of xs ≡ (all_of (drop i xs) >>= λ vs. Ok (onto old vs)) → all_of xs ≡ ((fill (template_view x) s >>= λ v. all_of (drop (i + 1) xs) >>= λ vs. Ok (item v vs)) >>= λ vs. Ok (onto old vs))
-    list_next seen = seen ∙ ap (λ l. all_of l >>= λ vs. Ok (onto old vs)) (next xs i x within is)
+    list_next seen = seen ∙ ap (λ l. all_of l >>= λ vs. Ok (onto old vs)) (item_at xs i x within is)
 
     pub list_step : (new : List Data) (v : Value) → Gives (Ok v) (fill (template_view x) s) → new ≡ old ++ plain v ∷ [] → all_of xs ≡ (all_of (drop i xs) >>= λ vs. Ok (onto old vs)) → all_of xs ≡ (all_of (drop (i + 1) xs) >>= λ vs. Ok (onto new vs))
     list_step new v h n seen =
@@ -113,7 +110,7 @@ module _ (s : View) (xs : List NamedTemplate) where
 
   module _ (i : ℕ) (x : NamedTemplate) (old : List (Text × Value)) (within : i < length xs) (is : x ≡ get_or xs i x) where
     map_next : fields_of xs ≡ (fields_of (drop i xs) >>= λ ps. Ok (put_all old ps)) → fields_of xs ≡ ((fill (template_view x.template) s >>= λ v. fields_of (drop (i + 1) xs) >>= λ ps. Ok (put x.name v ps)) >>= λ ps. Ok (put_all old ps))
-    map_next seen = seen ∙ ap (λ l. fields_of l >>= λ ps. Ok (put_all old ps)) (next xs i x within is)
+    map_next seen = seen ∙ ap (λ l. fields_of l >>= λ ps. Ok (put_all old ps)) (item_at xs i x within is)
 
     pub map_step : (new : List (Text × Value)) (k : Text) (v : Value) → Gives (Ok v) (fill (template_view x.template) s) → GivesText (Ok k) (Ok x.name) → new ≡ old ++ (k, v) ∷ [] → fields_of xs ≡ (fields_of (drop i xs) >>= λ ps. Ok (put_all old ps)) → fields_of xs ≡ (fields_of (drop (i + 1) xs) >>= λ ps. Ok (put_all new ps))
     map_step new k v h named n seen =

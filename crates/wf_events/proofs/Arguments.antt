@@ -2,6 +2,7 @@
 use Rattle.std.proofs.Common.{◌≡◌, ℕ, ◌<◌, ◌≤◌, Bool, true, false, nat_le, min, Option, Some, None, refl, sym, ap, ◌∙◌, arith}
 use Rattle.std.specs.Str.{bytes_eq}
 use Rattle.std.proofs.lemmas.Bool.Decides.{nat_tests}
+use Rattle.wf_lemmas.proofs.Options.{same_some}
 use Rattle.wf_events.specs.Reading.{is_argument, is_written}
 use Rattle.wf_record_parts.specs.Spelling.{Bytes}
 use Rattle.wf_value.proofs.JsonCases.{value_found}
@@ -11,9 +12,6 @@ use Rattle.wf_value.specs.Json.{value_of, json_text, IsNotJson, HasDecimal, IsTo
 
 none_some : {A : Type 0} (o : Option A) (a : A) → o ≡ None → o ≡ Some a → ⊥
 none_some {A = A} o a none some = let bad : ◌≡◌ {A = Option A} None (Some a) = sym none ∙ some in cc bad
-
-same_some : {A : Type 0} (o : Option A) (a b : A) → o ≡ Some a → o ≡ Some b → a ≡ b
-same_some o a b first other = let both : Some a ≡ Some b = sym first ∙ other in cc both
 
 none_at : (b : Bytes) (o : Option Data) → json_value b ≡ o → ((d : Data) → IsValue b d → ⊥) → false ≡ is_written b o
 none_at b None is unsaid = refl

@@ -2,6 +2,7 @@
 use Rattle.std.proofs.Common.{◌≡◌, ◌+◌, ◌-◌, ◌==◌, ℕ, suc, true, false, List, [], ◌∷◌, ◌++◌, length, drop, take, map, Some, None, refl, sym, ap, ◌∙◌, subst, arith, append-nil}
 use Rattle.std.proofs.lemmas.List.{map-append, take-append-drop, length-append}
 use Rattle.std.specs.List.{AllByRecursion}
+use Rattle.std.proofs.lemmas.Option.{same_Some}
 use Rattle.wf_ast.specs.Tree.{Expr}
 use Rattle.wf_expr.proofs.Parsing.{stuck_at}
 use Rattle.wf_expr.proofs.Reading.{if_false}
@@ -42,14 +43,12 @@ whole_fails ts (stop.Syntax n) h = (h.0, h.1, stuck_place ts h.0 (h.2 top))
 whole_fails ts stop.OutOfMemory h = tt
 
 -- ## The cut
-pub some_sym : (t u : Sym) → Some t ≡ Some u → t ≡ u
-some_sym t u h = cc
 
 split_before : (xs : List Symbol) (b r : List Sym) → syms_of xs ≡ b ++ r → syms_of (take (length b) xs) ≡ b
 split_before xs [] r h = refl
 split_before [] (t ∷ b) r h = let p : ⊥ = cc in absurd p
 split_before (x ∷ xs) (t ∷ b) r h =
-    ap (λ u. u ∷ syms_of (take (length b) xs)) (some_sym _ t (ap head h)) ∙ ap (λ l. t ∷ l) (split_before xs b r (ap (drop 1) h))
+    ap (λ u. u ∷ syms_of (take (length b) xs)) (same_Some _ t (ap head h)) ∙ ap (λ l. t ∷ l) (split_before xs b r (ap (drop 1) h))
 
 split_rest : (xs : List Symbol) (b r : List Sym) → syms_of xs ≡ b ++ r → syms_of (drop (length b) xs) ≡ r
 split_rest xs [] r h = h

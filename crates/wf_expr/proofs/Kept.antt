@@ -1,5 +1,6 @@
 -- What the machine has read is kept in the place that it has come to.
 use Rattle.std.proofs.Common.{◌≡◌, Bool, true, false, List, [], ◌∷◌, ◌++◌, Option, Some, None, option_map, if◌then◌else◌, refl, sym, ap, ◌∙◌, subst, append_assoc, append-nil}
+use Rattle.std.proofs.lemmas.Option.{same_Some}
 use Rattle.wf_ast.specs.declared.expr.Op.{Op}
 use Rattle.wf_ast.specs.declared.expr.Op.TheVariants as op
 use Rattle.wf_expr.specs.Grammar.{Ors, or_one, or_more, Ands, and_one, and_more, Nots, not_one, negated, alone, compared, Sums, sum_one, sum_more, Terms, term_one, term_more, Unary, plain, minus, Access, first, at_name, at_index, number, decimal, quoted, literal, name, call, group, Args, no_args, args, names_text, or_text, and_text, not_text, sum_text, term_text, unary_text, access_text, args_text, given_text}
@@ -167,26 +168,20 @@ end_is : (t : Option Sym) → is_end t ≡ true → t ≡ None
 end_is None h = refl
 end_is (Some t) h = cc
 
-some_op : (o r : Op) → Some o ≡ Some r → o ≡ r
-some_op o r h = cc
-
 pub relation_is : (t : Option Sym) (o : Op) → relation_of t ≡ Some o → t ≡ Some (s.relation o)
-relation_is (Some (s.relation r)) o h = ap (λ x. Some (s.relation x)) (some_op r o h)
+relation_is (Some (s.relation r)) o h = ap (λ x. Some (s.relation x)) (same_Some r o h)
 relation_is t o h = cc
 
 pub sign_is : (t : Option Sym) (o : Op) → sign_of t ≡ Some o → t ≡ Some (s.sign o)
-sign_is (Some (s.sign r)) o h = ap (λ x. Some (s.sign x)) (some_op r o h)
+sign_is (Some (s.sign r)) o h = ap (λ x. Some (s.sign x)) (same_Some r o h)
 sign_is t o h = cc
 
 pub product_is : (t : Option Sym) (o : Op) → product_of t ≡ Some o → t ≡ Some (s.product o)
-product_is (Some (s.product r)) o h = ap (λ x. Some (s.product x)) (some_op r o h)
+product_is (Some (s.product r)) o h = ap (λ x. Some (s.product x)) (same_Some r o h)
 product_is t o h = cc
 
-some_name : (x y : Text) → Some x ≡ Some y → x ≡ y
-some_name x y h = cc
-
 pub name_is : (t : Option Sym) (x : Text) → name_of t ≡ Some x → t ≡ Some (s.name x)
-name_is (Some (s.name y)) x h = ap (λ z. Some (s.name z)) (some_name y x h)
+name_is (Some (s.name y)) x h = ap (λ z. Some (s.name z)) (same_Some y x h)
 name_is t x h = cc
 
 -- ## A symbol behind what was read

@@ -1,6 +1,7 @@
 -- The function of a name, as the library's table has it.
 use Rattle.std.proofs.Common.{◌≡◌, ◌+◌, List, Option, Some, None, length, option_map, refl, sym, ap, ◌∙◌}
 use Rattle.std.proofs.lemmas.List.{length-map}
+use Rattle.std.proofs.lemmas.Option.{same_Some}
 use Rattle.wf_ast.specs.Func.{Listing}
 use Rattle.wf_ast.specs.Tree.{Expr, exprs}
 use Rattle.wf_expr.specs.Callees.{callee_of}
@@ -28,10 +29,7 @@ module _ (o : Option Function) where
   lacks None is same = refl
   lacks (Some e) is same = absurd (cc (ap (option_map function_of) (sym is) ∙ same))
 
-some_callee : (f g : Callee) → Some f ≡ Some g → f ≡ g
-some_callee f g h = cc
-
 -- a call of a function that was found
 pub called : (o : Option Listing) (f : Callee) (es : List Expr) → Some f ≡ option_map callee_of o → Expr.Call f.func (exprs es) ≡ call_of o es
 called None f es h = let p : ⊥ = cc in absurd p
-called (Some l) f es h = ap (λ (g : Callee). Expr.Call g.func (exprs es)) (some_callee f (callee_of l) h)
+called (Some l) f es h = ap (λ (g : Callee). Expr.Call g.func (exprs es)) (same_Some f (callee_of l) h)

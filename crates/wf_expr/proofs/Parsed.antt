@@ -4,8 +4,9 @@ use Rattle.std.specs.Prelude.{Ok, Err}
 use Rattle.std.proofs.lemmas.Bool.{ltb-true, ltb-false}
 use Rattle.std.proofs.lemmas.List.{take-append-drop, length-append}
 use Rattle.std.specs.List.{AllByRecursion}
+use Rattle.std.proofs.lemmas.Option.{same_Some}
 use Rattle.wf_ast.specs.Tree.{exprs}
-use Rattle.wf_expr.proofs.Judged.{end_cut, further, no_more, some_sym}
+use Rattle.wf_expr.proofs.Judged.{end_cut, further, no_more}
 use Rattle.wf_expr.proofs.Scans.{of_symbols}
 use Rattle.wf_expr.proofs.Stops.{stuck_place, target_place, target_text, whole_text}
 use Rattle.wf_expr.proofs.TargetEnds.{target_ends}
@@ -69,7 +70,7 @@ by_cut Is source Means before rest (f ∷ more) e none go = go f (of_first befor
 split_before : (ps : List Placed) (b r : List Sym) → syms ps ≡ b ++ r → syms (take (length b) ps) ≡ b
 split_before ps [] r h = refl
 split_before [] (t ∷ b) r h = let p : ⊥ = cc in absurd p
-split_before (p ∷ ps) (t ∷ b) r h = ap (λ u. u ∷ syms (take (length b) ps)) (some_sym _ t (ap head h)) ∙ ap (λ l. t ∷ l) (split_before ps b r (ap (drop 1) h))
+split_before (p ∷ ps) (t ∷ b) r h = ap (λ u. u ∷ syms (take (length b) ps)) (same_Some _ t (ap head h)) ∙ ap (λ l. t ∷ l) (split_before ps b r (ap (drop 1) h))
 
 split_rest : (ps : List Placed) (b r : List Sym) → syms ps ≡ b ++ r → syms (drop (length b) ps) ≡ r
 split_rest ps [] r h = h

@@ -1,6 +1,7 @@
 -- What the parser's functions answer, put together.
 use Rattle.std.proofs.Common.{◌≡◌, ◌+◌, true, false, List, [], ◌∷◌, ◌++◌, length, drop, codes, Option, Some, None, Result, Ok, Err, option_map, refl, sym, ap, ◌∙◌, arith}
 use Rattle.std.specs.Result.{MatchResult}
+use Rattle.std.proofs.lemmas.Option.{same_Some}
 use Rattle.wf_ast.specs.Func.{func_named}
 use Rattle.wf_ast.specs.Tree.{Expr}
 use Rattle.wf_ast.specs.declared.expr.Op.{Op}
@@ -219,12 +220,9 @@ access_index ts mid rest e i o h k a =
 pub access_index_fails : (ts mid : List Sym) (e : Expr) (o : Option Text) (f : Stop) → AccessSoFar ts e o mid → is_left_bracket (head mid) ≡ true → Fails want_index (drop 1 mid) f → Fails want_unary ts f
 access_index_fails ts mid e o f h k a = fails_within want_index want_unary (λ c. (h.0, c)) ts (drop 1 mid) f (λ c. h.4 c ∙ bracket_taken c h.0 mid k) a
 
-some_text : (x y : Text) → Some x ≡ Some y → x ≡ y
-some_text x y h = cc
-
 call_named : (o : Option (Text × List Text)) (x : Text) → option_map (λ f. joined f.0 f.1) o ≡ Some x → (f : Text × List Text) × (o ≡ Some f) × (joined f.0 f.1 ≡ x)
 call_named None x h = let p : ⊥ = cc in absurd p
-call_named (Some f) x h = (f, refl, some_text (joined f.0 f.1) x h)
+call_named (Some f) x h = (f, refl, same_Some (joined f.0 f.1) x h)
 
 pub access_call : (ts mid rest : List Sym) (e g : Expr) (x : Text) (es : List Expr) → AccessSoFar ts e (Some x) mid → is_left_paren (head mid) ≡ true → ArgsRead (drop 1 mid) es rest → g ≡ call_of (func_named x) es → AccessSoFar ts g None rest
 access_call ts mid rest e g x es h k a q =
@@ -298,36 +296,30 @@ atom_group ts rest e h a =
 pub atom_group_fails : (ts : List Sym) (f : Stop) → is_left_paren (head ts) ≡ true → Fails want_group (drop 1 ts) f → Fails want_unary ts f
 atom_group_fails ts f h a = fails_within want_group want_unary (λ c. c) ts (drop 1 ts) f (λ c. group_taken ts c h) a
 
-some_atom : (a b : Atom) → Some a ≡ Some b → a ≡ b
-some_atom a b h = cc
-
 atom_begins : (t : Option Sym) (a : Atom) (c : InUnary) → atom_of t ≡ Some a → begin_unary t c ≡ goes (have_access (first a) c)
-atom_begins (Some (s.number n)) a c h = ap (λ b. goes (have_access (first b) c)) (some_atom _ a h)
-atom_begins (Some s.decimal) a c h = ap (λ b. goes (have_access (first b) c)) (some_atom _ a h)
-atom_begins (Some (s.quoted x)) a c h = ap (λ b. goes (have_access (first b) c)) (some_atom _ a h)
-atom_begins (Some (s.literal v)) a c h = ap (λ b. goes (have_access (first b) c)) (some_atom _ a h)
-atom_begins (Some (s.name x)) a c h = ap (λ b. goes (have_access (first b) c)) (some_atom _ a h)
+atom_begins (Some (s.number n)) a c h = ap (λ b. goes (have_access (first b) c)) (same_Some _ a h)
+atom_begins (Some s.decimal) a c h = ap (λ b. goes (have_access (first b) c)) (same_Some _ a h)
+atom_begins (Some (s.quoted x)) a c h = ap (λ b. goes (have_access (first b) c)) (same_Some _ a h)
+atom_begins (Some (s.literal v)) a c h = ap (λ b. goes (have_access (first b) c)) (same_Some _ a h)
+atom_begins (Some (s.name x)) a c h = ap (λ b. goes (have_access (first b) c)) (same_Some _ a h)
 atom_begins t a c h = let p : ⊥ = cc in absurd p
 
 atom_named : (t : Option Sym) (a : Atom) → atom_of t ≡ Some a → chain_name (first a) ≡ name_of t
-atom_named (Some (s.number n)) a h = ap (λ b. chain_name (first b)) (sym (some_atom _ a h))
-atom_named (Some s.decimal) a h = ap (λ b. chain_name (first b)) (sym (some_atom _ a h))
-atom_named (Some (s.quoted x)) a h = ap (λ b. chain_name (first b)) (sym (some_atom _ a h))
-atom_named (Some (s.literal v)) a h = ap (λ b. chain_name (first b)) (sym (some_atom _ a h))
-atom_named (Some (s.name x)) a h = ap (λ b. chain_name (first b)) (sym (some_atom _ a h))
+atom_named (Some (s.number n)) a h = ap (λ b. chain_name (first b)) (sym (same_Some _ a h))
+atom_named (Some s.decimal) a h = ap (λ b. chain_name (first b)) (sym (same_Some _ a h))
+atom_named (Some (s.quoted x)) a h = ap (λ b. chain_name (first b)) (sym (same_Some _ a h))
+atom_named (Some (s.literal v)) a h = ap (λ b. chain_name (first b)) (sym (same_Some _ a h))
+atom_named (Some (s.name x)) a h = ap (λ b. chain_name (first b)) (sym (same_Some _ a h))
 atom_named t a h = let p : ⊥ = cc in absurd p
 
 atom_leads : (ts : List Sym) (a : Atom) (c : InUnary) → atom_of (head ts) ≡ Some a → run ts (want_unary c) ≡ run (drop 1 ts) (have_access (first a) c)
 atom_leads [] a c h = let p : ⊥ = cc in absurd p
 atom_leads (t ∷ ts) a c h = ap (λ o. go_on o (t ∷ ts) (run ts)) (atom_begins (Some t) a c h)
 
-some_expr : (x y : Expr) → Some x ≡ Some y → x ≡ y
-some_expr x y h = cc
-
 pub atom_read : (ts : List Sym) (o : Option Atom) (e : Expr) → atom_of (head ts) ≡ o → Some e ≡ option_map atom_expr o → AtomRead ts e (drop 1 ts)
 atom_read ts None e h k = let p : ⊥ = cc in absurd p
 atom_read [] (Some a) e h k = let p : ⊥ = cc in absurd p
-atom_read (t ∷ ts) (Some a) e h k = (a, sym (some_expr e (atom_expr a) k), atom_named (Some t) a h, omega arith, λ c. atom_leads (t ∷ ts) a c h ∙ run-resume ts (have_access (first a) c))
+atom_read (t ∷ ts) (Some a) e h k = (a, sym (same_Some e (atom_expr a) k), atom_named (Some t) a h, omega arith, λ c. atom_leads (t ∷ ts) a c h ∙ run-resume ts (have_access (first a) c))
 
 no_atom : (ts : List Sym) (o : Option Atom) (c : InUnary) → is_minus (head ts) ≡ false → is_left_paren (head ts) ≡ false → atom_of (head ts) ≡ o → None ≡ option_map atom_expr o → begin_unary (head ts) c ≡ nowhere
 no_atom ts None c h k g q = if_false (is_minus (head ts)) _ _ h ∙ if_false (is_left_paren (head ts)) _ _ k ∙ ap (λ o. by_atom o c) g

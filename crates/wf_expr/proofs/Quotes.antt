@@ -3,6 +3,7 @@ use Rattle.std.proofs.Common.{◌≡◌, ◌<◌, ◌≤◌, ℕ, suc, Bool, tru
 use Rattle.std.proofs.lemmas.Bool.{cases_lt, eq-eqb, ne_eqb, eqb-true, and_parts, true≢false}
 use Rattle.std.proofs.lemmas.Str.{inside_one, encode_ascii, char_from_byte, length-encode, len_utf8_bounds}
 use Rattle.std.specs.Char.{encode_utf8}
+use Rattle.wf_lemmas.proofs.Texts.{high_bytes}
 use Rattle.wf_expr.specs.Symbols.{escaped, said, text_said}
 use Rattle.wf_span.specs.Tokens.{is_token, is_quote, is_closed, is_escaped}
 use Rattle.wf_span.specs.declared.token.TokenKind.TheVariants as token
@@ -15,9 +16,6 @@ AllHigh (b ∷ l) = (128 ≤ b) × AllHigh l
 all_high : (l : List ℕ) → ((k : ℕ) → k < length l → 128 ≤ get_or l k 0) → AllHigh l
 all_high [] h = tt
 all_high (b ∷ l) h = (h 0 (omega arith), all_high l (λ k a. h (suc k) (omega arith)))
-
-high_bytes : (c : ℕ) → 128 ≤ c → (k : ℕ) → k < length (encode_utf8 c) → (get_or (encode_utf8 c) k 0 < 128) ⊎ (128 ≤ get_or (encode_utf8 c) k 0) → 128 ≤ get_or (encode_utf8 c) k 0
-high_bytes c h k l = ⊎_elim (λ m. let e : c ≡ get_or (encode_utf8 c) k 0 = inside_one c [] (encode_utf8 c) k (sym (append-nil (encode_utf8 c))) l m in omega arith) (λ m. m)
 
 high_encoded : (c : ℕ) → 128 ≤ c → AllHigh (encode_utf8 c)
 high_encoded c h = all_high (encode_utf8 c) (λ k l. high_bytes c h k l (cases_lt (get_or (encode_utf8 c) k 0) 128))

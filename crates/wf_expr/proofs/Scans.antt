@@ -1,6 +1,7 @@
 -- The faults of symbols, one symbol after the other.
 use Rattle.std.proofs.Common.{◌≡◌, nat_le, ◌&&◌, ℕ, Bool, true, false, List, [], ◌∷◌, ◌++◌, drop, codes, Option, Some, None, option_map, if◌then◌else◌, refl, sym, ap, ◌∙◌}
 use Rattle.std.specs.List.{AllByRecursion}
+use Rattle.std.proofs.lemmas.Option.{same_Some}
 use Rattle.wf_ast.specs.Func.{Listing, func_named}
 use Rattle.wf_expr.specs.Callees.{callee_of}
 use Rattle.wf_expr.specs.Calls.{arguments, call_faults, faults_at, faults_in, name_faults, takes_so_many}
@@ -20,19 +21,14 @@ pub first_none : (l : List ExprFault) → None ≡ first_of l → l ≡ []
 first_none [] h = refl
 first_none (f ∷ l) h = let x : ⊥ = cc in absurd x
 
-some_fault : (f g : ExprFault) → Some f ≡ Some g → f ≡ g
-some_fault f g h = cc
-
 pub first_some : (l : List ExprFault) (f : ExprFault) → Some f ≡ first_of l → (more : List ExprFault) × (l ≡ f ∷ more)
 first_some [] f h = let x : ⊥ = cc in absurd x
-first_some (g ∷ l) f h = (l, ap (λ x. x ∷ l) (sym (some_fault f g h)))
+first_some (g ∷ l) f h = (l, ap (λ x. x ∷ l) (sym (same_Some f g h)))
 
 -- ## Names
-some_text : (x y : Text) → Some x ≡ Some y → x ≡ y
-some_text x y h = cc
 
 pub name_more : (at : ℕ) (x y : Text) (ss : List Sym) → key_behind ss ≡ Some y → name_faults at (x ++ codes "." ++ y) (drop 1 (drop 1 ss)) ≡ name_faults at x ss
-name_more at x y (s.point ∷ s.name z ∷ ss) h = ap (λ w. name_faults at (x ++ codes "." ++ w) ss) (sym (some_text z y h))
+name_more at x y (s.point ∷ s.name z ∷ ss) h = ap (λ w. name_faults at (x ++ codes "." ++ w) ss) (sym (same_Some z y h))
 name_more at x y ss h = let p : ⊥ = cc in absurd p
 
 pub name_called : (at : ℕ) (x : Text) (ss : List Sym) → is_left_paren (head ss) ≡ true → name_faults at x ss ≡ call_faults at (func_named x) (arguments (drop 1 ss))

@@ -2,6 +2,7 @@
 use Rattle.std.proofs.Common.{◌≡◌, ◌⊎◌, inl, inr, ℕ, zero, suc, ◌+◌, ◌<◌, ◌≤◌, List, [], ◌∷◌, ◌++◌, Bool, true, false, not, ◌&&◌, ◌==◌, Option, Some, None, is_some, Result, Ok, Err, IfOk, refl, subst, arith}
 use Rattle.std.proofs.lemmas.Bool.{cases_lt}
 use Rattle.std.specs.List.{AllByRecursion}
+use Rattle.wf_lemmas.proofs.Lists.{all_push}
 use Rattle.wf_tree.specs.Trees.{Tree, list, map, items_of, pairs_of}
 use Rattle.wf_value.specs.Maps.{with_value}
 use Rattle.wf_yaml_flow.proofs.Shallow.{Any, any, both_is, cond_is, within}
@@ -41,9 +42,6 @@ scalar_is floor d delay n s behind =
     (both_is kept (DecimalsFit delay) Any (DecimalsFit delay) (one_line delay n d s) (behind_fault floor n s behind) (λ t a p q. p) (one_line_is delay n d s) (any _))
 
 -- ## Lists and maps
-all_append : {A : Type 0} (P : A → Type 0) (xs : List A) (x : A) → AllByRecursion P xs → P x → AllByRecursion P (xs ++ x ∷ [])
-all_append P [] x all is = (is, tt)
-all_append P (y ∷ xs) x all is = (all.0, all_append P xs x all.1 is)
 
 -- Past the depth at which lists and maps are refused nothing is asked of what stands inside.
 module _ (inner : Reading) (d : ℕ) (H : d ≤ 100 → (floor : ℕ) (delay : Bool) (rs : List Row) → IfOk (inner floor (d + 1) delay rs) (DecimalsFit delay)) where
@@ -59,7 +57,7 @@ module _ (inner : Reading) (d : ℕ) (H : d ≤ 100 → (floor : ℕ) (delay : B
   entries_are le n so_far [] all = all
   entries_are le n so_far (e ∷ es) all =
       entries_are le n (both (λ ts t. ts ++ t ∷ []) so_far (list_entry inner n d e)) es
-      (both_is (λ ts t. ts ++ t ∷ []) ItemsFit (DecimalsFit false) ItemsFit so_far (list_entry inner n d e) (λ ts t. all_append (DecimalsFit false) ts t) all (entry_is le n e))
+      (both_is (λ ts t. ts ++ t ∷ []) ItemsFit (DecimalsFit false) ItemsFit so_far (list_entry inner n d e) (λ ts t. all_push (DecimalsFit false) ts t) all (entry_is le n e))
 
   block_list_is : (delay : Bool) (r : Row) (behind : List Row) → IfOk (block_list inner d r behind) (DecimalsFit delay)
   block_list_is delay r behind = by (cases_lt 100 d)

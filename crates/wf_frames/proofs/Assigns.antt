@@ -2,6 +2,7 @@
 use Rattle.std.proofs.Common.{◌≡◌, inl, inr, ℕ, zero, suc, ◌+◌, Bool, true, false, ◌&&◌, List, [], ◌∷◌, map, length, pos, negsuc, slice_get, slice_set, Option, Some, None, Ok, Err, is_some, refl, sym, ap, subst, ◌∙◌, arith}
 use Rattle.std.specs.Prelude.{if◌then◌else◌, nat_eq, nat_le, unwrap_or}
 use Rattle.std.proofs.lemmas.Bool.{eqb-false, eqb-true, ne_eqb}
+use Rattle.wf_lemmas.proofs.Numbers.{unequal_turned}
 use Rattle.wf_model.specs.Config as model
 use Rattle.wf_model.specs.Config.{limits}
 use Rattle.wf_model.specs.Layers.{Done, Refused, Held, Own, Outside, Nowhere, all_share, assign, assign_at, held, held_in, held_outside, made_new, put_layer, put_outer, put_outside, put_own, within_limits, written}
@@ -28,8 +29,6 @@ use Rattle.wf_scope.proofs.Totals.{put_size, put_total}
 use Rattle.wf_scope.proofs.Writing.{pairs_listed, written_last, written_more}
 
 -- ## A layer behind a change
-turned : (a b : ℕ) → nat_eq a b ≡ false → nat_eq b a ≡ false
-turned a b h = ne_eqb b a (λ s. eqb-false a b h (sym s))
 
 other_vars : (k n : ℕ) (x : Text) (u : Data) (ls : List Layer) → nat_eq k n ≡ false → vars_at k (put_at n x u ls) ≡ vars_at k ls
 other_vars k n x u [] h = refl
@@ -82,7 +81,7 @@ module _ (x : Text) (ls : List Layer) where
   same_own : (n : ℕ) (u : Data) (os : List task.Own) (fs : List Far) → AreOthers n (numbers os fs) → own_layers os (put_at n x u ls) ≡ own_layers os ls
   same_own n u [] fs h = refl
   same_own n u (o ∷ os) fs h =
-      ap (λ y. y ∷ own_layers os (put_at n x u ls)) (same_layer o.number n o.by_call u (turned n o.number h.0)) ∙ ap (λ ys. layer_of o.number o.by_call ls ∷ ys) (same_own n u os fs h.1)
+      ap (λ y. y ∷ own_layers os (put_at n x u ls)) (same_layer o.number n o.by_call u (unequal_turned n o.number h.0)) ∙ ap (λ ys. layer_of o.number o.by_call ls ∷ ys) (same_own n u os fs h.1)
 
   far_stays : (f : Far) (n : ℕ) (u : Data) → nat_eq f.number n ≡ false → far_layer f (put_at n x u ls) ≡ far_layer f ls
   far_stays f n u h = ap (as_far f) (same_layer f.number n f.by_call u h)
@@ -90,7 +89,7 @@ module _ (x : Text) (ls : List Layer) where
   same_far : (n : ℕ) (u : Data) (fs : List Far) → AreOthers n (map (λ f. f.number) fs) → far_layers fs (put_at n x u ls) ≡ far_layers fs ls
   same_far n u [] h = refl
   same_far n u (f ∷ fs) h =
-      ap (λ y. y ∷ far_layers fs (put_at n x u ls)) (far_stays f n u (turned n f.number h.0)) ∙ ap (λ ys. far_layer f ls ∷ ys) (same_far n u fs h.1)
+      ap (λ y. y ∷ far_layers fs (put_at n x u ls)) (far_stays f n u (unequal_turned n f.number h.0)) ∙ ap (λ ys. far_layer f ls ∷ ys) (same_far n u fs h.1)
 
   others_far : (n : ℕ) (os : List task.Own) (fs : List Far) → AreOthers n (numbers os fs) → AreOthers n (map (λ f. f.number) fs)
   others_far n [] fs h = h

@@ -3,6 +3,7 @@ use Rattle.std.proofs.Common.{◌≡◌, ℕ, ◌+◌, ◌<◌, ◌≤◌, Bool,
 use mathlib.Core.Logic.{inl, inr}
 use Rattle.std.specs.Prelude.{◌⊎◌, zero, suc, is_none, slice_get, Result, Option}
 use Rattle.std.proofs.Math.Seq.{drop-cons}
+use Rattle.std.proofs.lemmas.Bool.{and_parts}
 use Rattle.wf_ast.specs.Apply.{View}
 use Rattle.wf_ast.specs.Eval.{fill, truth}
 use Rattle.wf_ast.specs.Tree.{Body, Template, Scalar}
@@ -137,17 +138,13 @@ busy_body ns cs x next (kind.Arm t) h e = absurd (cc h)
 busy_body ns cs x next (kind.Entry y) h e = absurd (cc h)
 busy_body ns cs x next (kind.Branch b) h e = absurd (cc h)
 
-both_true : (a b : Bool) → a && b ≡ true → (a ≡ true) × (b ≡ true)
-both_true true b h = (refl, h)
-both_true false b h = absurd (cc h)
-
 none_is : {A : Type 0} (o : Option A) → is_none o ≡ true → o ≡ None
 none_is None h = refl
 none_is (Some a) h = absurd (cc h)
 
 pub idle_is : (ns : List Spot) (nodes : List Node) (n : ℕ) (x : Node) → Tells ns nodes → slice_get nodes n ≡ Some x → is_idle x ≡ true → (part_body (part_at ns n) ≡ Body.Nothing) × (part_next (part_at ns n) ≡ None)
 idle_is ns nodes n x r e h =
-    let two = both_true (is_idle_kind x.kind) (is_none x.next) h in
+    let two = and_parts (is_idle_kind x.kind) (is_none x.next) h in
     (ap part_body (part_is ns nodes n x r.resolves e) ∙ idle_body ns x.codes.items.items x.name x.next x.kind two.0, r.nexts n x e ∙ none_is x.next two.1)
 
 either_false : (a b : Bool) → a && b ≡ false → (a ≡ true → b ≡ true → ⊥)

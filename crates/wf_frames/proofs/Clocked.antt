@@ -2,6 +2,7 @@
 use Rattle.std.proofs.Common.{◌≡◌, ℕ, ◌≤◌, Bool, true, false, List, [], ◌∷◌, length, drop, Some, None, refl, ap, ◌∙◌, arith}
 use Rattle.std.specs.Prelude.{zero, suc, ◌||◌, is_some, option_map, slice_get, Option}
 use Rattle.std.proofs.lemmas.Option.{get_or_from_slice_get, slice_get_within}
+use Rattle.wf_lemmas.proofs.Lists.{none_past, drop_end}
 use Rattle.wf_ast.specs.Flows.{flow}
 use Rattle.wf_ast.specs.Func.{HttpCall, Listing, Special, SpecialListing, SysLog, SysSleep, SysSleepUntil, CreateEndpoint, AwaitCallback, func_named, special_named}
 use Rattle.wf_ast.specs.Tree.{Flow, Program}
@@ -17,7 +18,7 @@ use Rattle.wf_model.specs.Config.{Item, Do, Entries}
 use Rattle.wf_ast.specs.declared.functions.Function.{Function}
 use Rattle.wf_model.specs.Kinds.{ByCall, ByClock, Plainly, body_kind, by_clock, call_kind, entry_now, is_now, listed_kind, next_kind, special_kind}
 use Rattle.wf_frames.proofs.Advancing.{entries_next, from_next}
-use Rattle.wf_frames.proofs.Lists.{drop_end, entries_long, from_end}
+use Rattle.wf_frames.proofs.Lists.{entries_long, from_end}
 use Rattle.wf_frames.proofs.Parts.{as_part, entries_is, list_is}
 use Rattle.wf_frames.specs.Built.{IsFunction, IsHttp, IsLog, IsNap, IsWorkflow, function_parts, listed, nap_special}
 use Rattle.wf_frames.specs.declared.target.Nap.{Nap}
@@ -29,11 +30,6 @@ use Rattle.wf_model.specs.declared.node.EntryNode.{EntryNode}
 use Rattle.wf_model.specs.declared.node.Node.{Node}
 use Rattle.wf_model.specs.declared.node.NodeKind.TheVariants as kind
 use Rattle.wf_value.specs.Pairs.{Text}
-
-pub none_past : {A : Type 0} (xs : List A) (i : ℕ) → slice_get xs i ≡ None → length xs ≤ i
-none_past [] i e = omega arith
-none_past (x ∷ xs) zero e = absurd (cc e)
-none_past (x ∷ xs) (suc i) e = omega (arith, none_past xs i e)
 
 -- ## Frames
 module _ (ns : List Spot) (nodes : List Node) (n at : ℕ) (r : Resolves ns nodes) (p : Program) (k : List Item) where

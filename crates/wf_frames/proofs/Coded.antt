@@ -1,6 +1,7 @@
 -- Compiled expressions by their code.
 use Rattle.std.proofs.Common.{◌≡◌, ℕ, ◌+◌, ◌<◌, ◌≤◌, zero, suc, true, List, [], ◌∷◌, ◌++◌, Ok, Err, Some, refl, sym, ap, subst, ◌∙◌, length, get_or, drop, slice_get, add-one, drop-cons, map}
 use Rattle.std.proofs.lemmas.List.{append-nil, drop_all}
+use Rattle.wf_lemmas.proofs.Lists.{item_at}
 use Rattle.wf_ast.specs.Apply.{View}
 use Rattle.wf_ast.specs.Eval.{eval, eval_all}
 use Rattle.wf_ast.specs.Tree.{Expr, exprs}
@@ -37,8 +38,6 @@ pub hole_is : (cs : Compiled) (n : ℕ) (is : List Instr) → slice_get cs n ≡
 hole_is cs n is h = sym (ap expr_of h)
 
 -- ## Some expressions
-pub next : {X : Type 0} (xs : List X) (i : ℕ) (x : X) → i < length xs → x ≡ get_or xs i x → drop i xs ≡ x ∷ drop (i + 1) xs
-next xs i x h is = drop-cons xs i x h ∙ ap (λ y. y ∷ drop (suc i) xs) (sym is) ∙ ap (λ j. x ∷ drop j xs) (sym (add-one i))
 
 module _ (s : View) (cs : Compiled) where
   -- what some of them give
@@ -59,7 +58,7 @@ module _ (s : View) (cs : Compiled) where
 
   module _ (i : ℕ) (x : List Instr) (old : List Value) (within : i < length cs) (is : x ≡ get_or cs i x) (seen : all_of cs ≡ behind old (all_of (drop i cs))) where
     opened : all_of cs ≡ behind old (eval (decoded x) s >>= λ v. all_of (drop (i + 1) cs) >>= λ ds. Ok (v ∷ ds))
-    opened = seen ∙ ap (λ l. behind old (all_of l)) (next cs i x within is)
+    opened = seen ∙ ap (λ l. behind old (all_of l)) (item_at cs i x within is)
 
     pub step : (new : List Value) (v : Value) → Gives (Ok v) (eval (decoded x) s) → new ≡ old ++ v ∷ [] → all_of cs ≡ behind new (all_of (drop (i + 1) cs))
     step new v h n =

@@ -4,6 +4,7 @@ use Rattle.std.proofs.Common as seq
 use Rattle.std.proofs.lemmas.List.{drop_all}
 use Rattle.wf_ast.specs.Apply.{View}
 use Rattle.std.proofs.lemmas.List.{append_assoc}
+use Rattle.wf_lemmas.proofs.Lists.{item_at}
 use Rattle.wf_ast.specs.Eval.{fill, fill_all, fill_fields, joined, part_text}
 use Rattle.wf_ast.specs.Tree as t
 use Rattle.wf_ast.specs.Tree.{templates, fields}
@@ -24,7 +25,7 @@ use Rattle.wf_value.specs.Plain.{plain}
 use Rattle.wf_value.specs.declared.value.Value.{Value}
 use Rattle.wf_value.specs.declared.errors.Raise.{Raise}
 use Rattle.wf_value.specs.declared.errors.Raise.TheVariants.{Error, OutOfMemory}
-use Rattle.wf_frames.proofs.Coded.{answered, raised, next}
+use Rattle.wf_frames.proofs.Coded.{answered, raised}
 
 module _ {A B : Type 0} where
   gives : (f : A → B) (v : A) (d : Answer B) → d ≡ Ok (f v) → Answers f (Ok v) d
@@ -48,7 +49,7 @@ module _ (cs : Compiled) (s : View) (xs : List Piece) where
 
   module _ (i : ℕ) (x : Piece) (old : Text) (within : i < length xs) (is : x ≡ get_or xs i x) (seen : texts_of xs ≡ (texts_of (drop i xs) >>= λ u. Ok (old ++ u))) where
     text_next : texts_of xs ≡ ((part_text s (piece_by cs x) >>= λ t. texts_of (drop (i + 1) xs) >>= λ u. Ok (t ++ u)) >>= λ u. Ok (old ++ u))
-    text_next = seen ∙ ap (λ l. texts_of l >>= λ u. Ok (old ++ u)) (next xs i x within is)
+    text_next = seen ∙ ap (λ l. texts_of l >>= λ u. Ok (old ++ u)) (item_at xs i x within is)
 
     pub text_step : (new t : Text) → GivesText (Ok t) (part_text s (piece_by cs x)) → new ≡ old ++ t → texts_of xs ≡ (texts_of (drop (i + 1) xs) >>= λ u. Ok (new ++ u))
     text_step new t h n =
@@ -78,7 +79,7 @@ module _ (cs : Compiled) (s : View) (xs : List Shape) where
 
   module _ (i : ℕ) (x : Shape) (old : List Data) (within : i < length xs) (is : x ≡ get_or xs i x) where
     list_next : all_of xs ≡ (all_of (drop i xs) >>= λ vs. Ok (onto old vs)) → all_of xs ≡ ((fill (shape_by cs x) s >>= λ v. all_of (drop (i + 1) xs) >>= λ vs. Ok (item v vs)) >>= λ vs. Ok (onto old vs))
-    list_next seen = seen ∙ ap (λ l. all_of l >>= λ vs. Ok (onto old vs)) (next xs i x within is)
+    list_next seen = seen ∙ ap (λ l. all_of l >>= λ vs. Ok (onto old vs)) (item_at xs i x within is)
 
     pub list_step : (new : List Data) (v : Value) → Gives (Ok v) (fill (shape_by cs x) s) → new ≡ old ++ plain v ∷ [] → all_of xs ≡ (all_of (drop i xs) >>= λ vs. Ok (onto old vs)) → all_of xs ≡ (all_of (drop (i + 1) xs) >>= λ vs. Ok (onto new vs))
     list_step new v h n seen =
@@ -111,7 +112,7 @@ module _ (cs : Compiled) (s : View) (xs : List NamedShape) where
 
   module _ (i : ℕ) (x : NamedShape) (old : List (Text × Value)) (within : i < length xs) (is : x ≡ get_or xs i x) where
     map_next : fields_of xs ≡ (fields_of (drop i xs) >>= λ ps. Ok (put_all old ps)) → fields_of xs ≡ ((fill (shape_by cs x.shape) s >>= λ v. fields_of (drop (i + 1) xs) >>= λ ps. Ok (put x.name v ps)) >>= λ ps. Ok (put_all old ps))
-    map_next seen = seen ∙ ap (λ l. fields_of l >>= λ ps. Ok (put_all old ps)) (next xs i x within is)
+    map_next seen = seen ∙ ap (λ l. fields_of l >>= λ ps. Ok (put_all old ps)) (item_at xs i x within is)
 
     pub map_step : (new : List (Text × Value)) (k : Text) (v : Value) → Gives (Ok v) (fill (shape_by cs x.shape) s) → GivesText (Ok k) (Ok x.name) → new ≡ old ++ (k, v) ∷ [] → fields_of xs ≡ (fields_of (drop i xs) >>= λ ps. Ok (put_all old ps)) → fields_of xs ≡ (fields_of (drop (i + 1) xs) >>= λ ps. Ok (put_all new ps))
     map_step new k v h named n seen =

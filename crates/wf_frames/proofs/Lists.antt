@@ -27,11 +27,6 @@ from_more ns (x ∷ xs) zero h = record { first = _; rest = _; is = refl }
 from_more ns (x ∷ xs) (suc n) h = let r = from_more ns xs n (omega (arith, h)) in record { first = r.first; rest = r.rest; is = r.is }
 
 -- ## Entries
-pub drop_end : {A : Type 0} (xs : List A) (n : ℕ) → length xs ≤ n → drop n xs ≡ []
-drop_end [] zero h = refl
-drop_end [] (suc n) h = refl
-drop_end (x ∷ xs) zero h = absurd (omega (arith, h))
-drop_end (x ∷ xs) (suc n) h = drop_end xs n (omega (arith, h))
 
 pub record Stays {A : Type 0} (xs : List A) (n : ℕ) : Type 0 where
   pub first : A

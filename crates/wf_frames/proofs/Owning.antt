@@ -1,7 +1,7 @@
 -- A task's layers, by its frames.
 use Rattle.std.proofs.Common.{◌≡◌, ◌<◌, ℕ, zero, suc, ◌+◌, true, false, List, [], ◌∷◌, ◌++◌, length, take, get_or, Some, None, refl, sym, ap, subst, ◌∙◌, arith}
 use Rattle.std.specs.Prelude.{drop, reverse}
-use Rattle.wf_frames.proofs.Reversed.{reverse_push}
+use Rattle.wf_lemmas.proofs.Lists.{reverse_push}
 use Rattle.wf_frames.proofs.Stores.{Closes, closes, order_closed}
 use Rattle.wf_frames.proofs.Sums.{SumIs, sum_closed}
 use Rattle.wf_frames.specs.Frames.{innermost, is_back, mark_of, own, owned}

@@ -154,10 +154,6 @@ pub one_left : (xs : List ℕ) → 1 ≤ length xs → xs ≡ get_or xs 0 0 ∷ 
 one_left [] h = absurd (omega (arith, h))
 one_left (x ∷ xs) h = refl
 
-pub with_ok : {A E : Type 0} (P Q : A → Type 0) (r : Result A E) → ((a : A) → P a → Q a) → IfOk r P → IfOk r Q
-with_ok P Q (Ok a) f p = f a p
-with_ok P Q (Err e) f p = p
-
 pub with_both : {A E C : Type 0} (P Q : A → Type 0) (r : Result A E) → ((a : A) → P a → C → Q a) → IfOk r P → OnOk r C → IfOk r Q
 with_both P Q (Ok a) f p x = f a p x
 with_both P Q (Err e) f p x = p

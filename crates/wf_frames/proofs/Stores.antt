@@ -2,6 +2,7 @@
 use Rattle.std.proofs.Common.{◌≡◌, ℕ, Bool, true, false, List, [], ◌∷◌, Option, Some, None, is_some, refl, sym, ap, subst, ◌∙◌, arith}
 use Rattle.std.specs.Prelude.{nat_eq, nat_lt, if◌then◌else◌, map as each}
 use Rattle.std.proofs.lemmas.Bool.{and_parts, eqb-true, eqb-false, eq-eqb, ne_eqb, ltb-true}
+use Rattle.wf_lemmas.proofs.Numbers.{unequal_turned}
 use Rattle.wf_frames.specs.Owned.{AreAlone, IsInside, KeysStand, Linked, OnlyInside, OwnStand, first_key, next_own, outer_for}
 use Rattle.wf_scope.proofs.Kept.{find_closed}
 use Rattle.wf_scope.proofs.Numbers.{find_tail}
@@ -54,16 +55,14 @@ pub inside_live : (n : ℕ) (o : Option ℕ) (ls : List Layer) → IsInside n o 
 inside_live n o ls i = ap is_some i.1
 
 -- ## A layer less
-turned : (a b : ℕ) → nat_eq a b ≡ false → nat_eq b a ≡ false
-turned a b h = ne_eqb b a (λ s. eqb-false a b h (sym s))
 
 own_stay_closed : (n : ℕ) (os : List Own) (ks : List Far) (ls : List Layer) → AreOthers n (numbers os ks) → OwnStay ls (closed n ls) os
 own_stay_closed n [] ks ls h = tt
-own_stay_closed n (o ∷ os) ks ls h = (find_closed n o.number ls (turned n o.number h.0), own_stay_closed n os ks ls h.1)
+own_stay_closed n (o ∷ os) ks ls h = (find_closed n o.number ls (unequal_turned n o.number h.0), own_stay_closed n os ks ls h.1)
 
 far_stay_closed : (n : ℕ) (ks : List Far) (ls : List Layer) → AreOthers n (each (λ k. k.number) ks) → KeysStay ls (closed n ls) ks
 far_stay_closed n [] ls h = tt
-far_stay_closed n (k ∷ ks) ls h = (find_closed n k.number ls (turned n k.number h.0), far_stay_closed n ks ls h.1)
+far_stay_closed n (k ∷ ks) ls h = (find_closed n k.number ls (unequal_turned n k.number h.0), far_stay_closed n ks ls h.1)
 
 keys_stay_closed : (n : ℕ) (os : List Own) (ks : List Far) (ls : List Layer) → AreOthers n (numbers os ks) → KeysStay ls (closed n ls) ks
 keys_stay_closed n [] ks ls h = far_stay_closed n ks ls h

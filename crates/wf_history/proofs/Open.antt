@@ -9,12 +9,6 @@ pub was_open : {A E : Type 0} (before : Bool) (e : E) (r : Result A E) (a : A) �
 was_open false e r a is closed = refl
 was_open true e r a is closed = absurd (let no : Err e ≡ Ok a = sym (closed.1 refl) ∙ is in cc no)
 
--- and stays open
-pub still_open : {A E : Type 0} (before after : Bool) (e : E) (r : Result A E) (a : A) → r ≡ Ok a → before ≡ false → (after ≡ true ↔ (before ≡ true) ⊎ IsErrOf r e) → after ≡ false
-still_open before false e r a is was closes = refl
-still_open before true e r a is was closes =
-    absurd (⊎_elim (λ shut. let no : true ≡ false = sym shut ∙ was in cc no) (λ err. let no : Err e ≡ Ok a = sym err ∙ is in cc no) (closes.0 refl))
-
 -- an append of a short payload to an open journal gives no error that leaves it open
 pub no_error : {A : Type 0} (before after : Bool) (length_now : ℕ) (r : Result A JournalFault) (f : JournalFault) → r ≡ Err f → before ≡ false → after ≡ false → length_now ≤ 16777215
     → (after ≡ true ↔ (before ≡ true) ⊎ IsErrOf r fault.DiskFault) → (IsErrOf r fault.Closed ↔ before ≡ true) → (IsErrOf r fault.TooLong ↔ (before ≡ false) × (16777215 < length_now))

@@ -1,15 +1,12 @@
 -- How a history's place goes with the payloads that it has passed.
 use Rattle.std.specs.Prelude.{◌≡◌, ◌≤◌, ◌+◌, ◌-◌, ◌^◌, min, ℕ, Bool, true, false, zero, suc, List, [], ◌∷◌, ◌++◌, length, if◌then◌else◌, take, drop}
 use Rattle.std.proofs.Common.{sym, ◌∙◌, ap, arith, append_assoc, length-append, length-drop}
+use Rattle.wf_lemmas.proofs.Lists.{few_if}
 use Rattle.wf_host.specs.World.{World, longest}
 use Rattle.wf_history.specs.Stands.{Stands, ahead}
 use Rattle.wf_history.specs.declared.history.History.{History}
 use Rattle.wf_journal.specs.Records.{records, payloads, is_open, length_of}
 use Rattle.wf_journal.specs.Stands as journal
-
-few_if : (open_now : Bool) (n : ℕ) (first : List ℕ) (more : List (List ℕ)) → length more ≤ n → length (if open_now then first ∷ more else []) ≤ suc n
-few_if true n first more le = omega (arith, le)
-few_if false n first more le = omega arith
 
 -- there are no more payloads than bytes
 few : (n : ℕ) (bytes : List ℕ) → length (payloads n bytes) ≤ n

@@ -5,6 +5,7 @@ use Rattle.std.proofs.lemmas.List.{drop-append-le, drop-drop, drop_at, take_all}
 use Rattle.std.proofs.lemmas.List.Elements.{All-head, All-nil}
 use Rattle.std.specs.List.{flat_map}
 use Rattle.std.specs.Prelude.{IsTrue, IsFalse, ◌≢◌, Option, Some, None}
+use Rattle.wf_lemmas.proofs.Lists.{drop_past, piece_joined}
 use Rattle.httparse.specs.Grammar.{ResponseHead, IsResponseHead, ReadsResponse, HasNoResponse, print_response}
 use Rattle.wf_value.specs.Events.{Reply, Response, Broken, TooLong}
 use Rattle.wf_value.specs.HttpBody as plain
@@ -174,20 +175,11 @@ joined_heads heard unread piece joined n h found (hs, rest, skips, (is, less)) =
           (subst (λ (s : List ℕ). SkipsHeads (heard ++ take found.front piece) hs s) joined_is grown) found.passed.1,
     )
 
-piece_is : (heard piece : List ℕ) (front : ℕ) → (heard ++ take front piece) ++ drop front piece ≡ heard ++ piece
-piece_is heard piece front = append_assoc heard (take front piece) (drop front piece) ∙ ap (λ (s : List ℕ). heard ++ s) (take-append-drop front piece)
-
--- what stands behind a head ends where the piece does
-drop_past : (n : ℕ) (xs ys : List ℕ) → length xs ≤ n → drop n (xs ++ ys) ≡ drop (n - length xs) ys
-drop_past n xs ys le =
-    let e : length xs + (n - length xs) ≡ n = omega arith in
-    sym (ap (λ (k : ℕ). drop k (xs ++ ys)) e) ∙ sym (drop-drop (n - length xs) (length xs) (xs ++ ys)) ∙ ap (drop (n - length xs)) (drop_at xs ys (length xs) refl)
-
 behind_head : (unread piece joined : List ℕ) (front n len : ℕ) → joined ≡ unread ++ take front piece → length unread ≤ n + len → n + len ≤ length joined
     → drop len (drop n joined) ++ drop front piece ≡ drop (n + len - length unread) piece
 behind_head unread piece joined front n len is past within =
     ap (λ (s : List ℕ). s ++ drop front piece) (drop-drop len n joined) ∙ sym (drop-append-le (n + len) joined (drop front piece) within)
-    ∙ ap (λ (s : List ℕ). drop (n + len) (s ++ drop front piece)) is ∙ ap (drop (n + len)) (piece_is unread piece front) ∙ drop_past (n + len) unread piece past
+    ∙ ap (λ (s : List ℕ). drop (n + len) (s ++ drop front piece)) is ∙ ap (drop (n + len)) (piece_joined unread piece front) ∙ drop_past (n + len) unread piece past
 
 -- no head is whole in bytes of which none was
 first_past : (unread more joined rest : List ℕ) (h : ResponseHead) → joined ≡ unread ++ more → HasNoResponse unread → ReadsResponse joined h rest → length unread < length (print_response h)
@@ -245,7 +237,7 @@ head_read next h r f n len heard unread piece joined rest left content grown new
     let some = head_some whole.head whole.reads.0 in
     let rest_is : drop len (drop n joined) ++ drop found.front piece ≡ rest = behind_head unread piece joined found.front n len found.heard_is past (omega arith) ∙ sym same_rest in
     let at : IsBehind (heard ++ piece) r f rest = subst (IsBehind (heard ++ piece) r f) rest_is
-    (subst (λ (s : List ℕ). IsBehind s r f (drop len (drop n joined) ++ drop found.front piece)) (piece_is heard piece found.front) all) in
+    (subst (λ (s : List ℕ). IsBehind s r f (drop len (drop n joined) ++ drop found.front piece)) (piece_joined heard piece found.front) all) in
     let told = reads (answer.framing at.head) [] at.taken.framed (nothing_read f was content none fresh) in
     at_stage next e r f left read now grown new (heard ++ piece) goes leaves (comes e r f read (heard ++ piece) rest left grown at told)
 
@@ -255,7 +247,7 @@ head_bad next h n heard unread piece joined left content new was now (behind_int
     let heads = joined_heads heard unread piece joined n h found behind_interim in
     let bad = bad_heads (heard ++ take found.front piece) (heads.0, drop n joined, heads.1, subst (IsHeading (drop n joined)) is_bad found.heading_is) in
     subst (λ (t : Stage). IsStage t left now new (heard ++ piece)) (sym goes)
-    (subst (λ (s : List ℕ). Stays s Broken) (piece_is heard piece found.front) (again (heard ++ take found.front piece) (drop found.front piece) Broken bad))
+    (subst (λ (s : List ℕ). Stays s Broken) (piece_joined heard piece found.front) (again (heard ++ take found.front piece) (drop found.front piece) Broken bad))
 
 pub head_open : (next : Stage) (h : Heading) (n : ℕ) (heard unread piece joined left content new : List ℕ) (was now : Chunks) → IsAtHead unread was content heard → h ≡ heading.NotYet
     → IsHeadFound unread piece joined n h → next ≡ stage.Head → left ≡ drop n joined → now ≡ was → new ≡ content → IsStage next left now new (heard ++ piece)

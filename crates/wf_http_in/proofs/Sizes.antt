@@ -4,18 +4,16 @@ use Rattle.std.specs.Prelude.{All, None, codes}
 use Rattle.std.specs.Char.{is_ascii_digit}
 use Rattle.std.proofs.lemmas.List.Elements.{All-nil}
 use Rattle.std.proofs.lemmas.List.Sums.{AllPass-from_list_all}
+use Rattle.wf_lemmas.proofs.Lists.{end_length}
 use Rattle.httparse.specs.Grammar.{crlf, MayBecomeResponse, print_end, print_blank, print_version, print_reason, IsField, print_section, ResponseHead, IsResponseHead, print_response, HasNoResponse}
 use Rattle.httparse.specs.Spans.{ResponseExceeds}
 use Rattle.wf_http_body.proofs.Sizes.{section_three}
-
-at_the_end : (a s : List ℕ) → length s ≤ length (a ++ s)
-at_the_end a s = rw (length-append a s) (omega arith)
 
 response_three : (h : ResponseHead) → All IsField h.fields → 3 * length h.fields + 1 ≤ length (print_response h)
 unfolding print_response
 response_three h all =
     let here = section_three h.fields h.last all in
-    let more = at_the_end (print_blank h.blank ++ print_version h.minor ++ 32 ∷ h.digits ++ print_reason h.reason ++ print_end h.line_end) (print_section h.fields h.last) in
+    let more = end_length (print_blank h.blank ++ print_version h.minor ++ 32 ∷ h.digits ++ print_reason h.reason ++ print_end h.line_end) (print_section h.fields h.last) in
     omega arith
 
 pub few_fields : (buf : List ℕ) (room : ℕ) → ResponseExceeds room buf → 3 * room < length buf

@@ -5,6 +5,7 @@ use Rattle.std.proofs.lemmas.Bool.{cases_lt, le-leb, lt-ltb, le-ltb, lt-leb}
 use Rattle.std.proofs.lemmas.List.{length-map, length-reverse}
 use Rattle.std.proofs.lemmas.List.Sums.{sum_by-cons}
 use Rattle.std.specs.Prelude.{Some, if◌then◌else◌}
+use Rattle.wf_lemmas.proofs.Lists.{end_length}
 use Rattle.httparse.specs.Grammar.{ResponseHead, print_response, print_section, print_field, print_end, print_blank, print_version, print_reason, Field, field_value, is_ows, skip_ows, trim_ows}
 use Rattle.wf_value.specs.Events.{Reply, Response, Broken, TooLong}
 use Rattle.wf_value.specs.HttpBody.{Close, Open, Ended, Broke, BodyState, Complete, Waiting, Malformed, Oversize, Framing, NoBody, OfLength, InChunks, ToTheEnd, BadFraming, unless_closed, at_close, length_state, end_state, name_and_value, headers_of, head_limit}
@@ -43,15 +44,12 @@ section_less (f ∷ fs) =
     length-append (print_field f) (flat_map print_field fs) in
     omega (arith, here, later, size, bytes)
 
-at_the_end : (a s : List ℕ) → length s ≤ length (a ++ s)
-at_the_end a s = rw (length-append a s) (omega arith)
-
 head_less : (h : ResponseHead) → fields_size (headers_of h.fields) ≤ length (print_response h)
 unfolding print_response
 head_less h =
     let fields = section_less h.fields in
     let section = length-append (flat_map print_field h.fields) (print_end h.last) in
-    let more = at_the_end (print_blank h.blank ++ print_version h.minor ++ 32 ∷ h.digits ++ print_reason h.reason ++ print_end h.line_end) (print_section h.fields h.last) in
+    let more = end_length (print_blank h.blank ++ print_version h.minor ++ 32 ∷ h.digits ++ print_reason h.reason ++ print_end h.line_end) (print_section h.fields h.last) in
     omega (arith, fields, section, more)
 
 -- ## Bodies

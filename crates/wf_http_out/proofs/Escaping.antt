@@ -5,6 +5,7 @@ use Rattle.std.specs.Char.{is_ascii_alphanumeric}
 use Rattle.std.specs.List.{list_any}
 use Rattle.std.proofs.lemmas.Bool.{agree_below, agree_below_at}
 use Rattle.std.proofs.lemmas.List.Elements.{All-head, All-tail}
+use Rattle.wf_lemmas.proofs.Bools.{if_not}
 use Rattle.percent_encoding.specs.AsciiSet.{should_percent_encode}
 use Rattle.percent_encoding.specs.Percent.{percent_encode, percent_encode_byte, encode_byte}
 use Rattle.wf_value.specs.LibText.{url_encoded, url_encoded_byte}
@@ -17,14 +18,10 @@ checked : agree_below (should_percent_encode URL) (λ b. not (is_kept b)) 256 �
 unfolding should_percent_encode
 checked = refl
 
-swapped : (t : Bool) (x y : List ℕ) → (if not t then x else y) ≡ (if t then y else x)
-swapped true x y = refl
-swapped false x y = refl
-
 one : (b : ℕ) → b < 256 → encode_byte URL b ≡ url_encoded_byte b
 one b small =
     ap (λ t. if t then percent_encode_byte b else b ∷ []) (agree_below_at (should_percent_encode URL) (λ c. not (is_kept c)) 256 b checked small)
-    ∙ swapped (is_kept b) (percent_encode_byte b) (b ∷ [])
+    ∙ if_not (is_kept b) (percent_encode_byte b) (b ∷ [])
 
 abbrev pub IsByte : ℕ → Type 0
 IsByte b = b < 256

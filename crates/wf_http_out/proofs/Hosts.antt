@@ -7,6 +7,7 @@ use Rattle.std.specs.Str.Parse.{AllDigits, IsNumeral, digits_value}
 use Rattle.std.proofs.lemmas.Bool.{and_from, and_parts, le-leb, leb-true, lt-ltb, ltb-true, ne_eqb, eqb-true, false_from_ne_true}
 use Rattle.std.proofs.lemmas.Bool.Decides.{nat_tests}
 use Rattle.std.proofs.lemmas.List.Sums.{get_or-le-sum_by, suffix_len_is, sum_by-cons}
+use Rattle.wf_lemmas.proofs.Texts.{digit_small, digit_told}
 use Rattle.http_uri.specs.ByteClasses.{count_of, index_of, rsplit_once_back}
 use Rattle.http_uri.specs.Grammar.{authority_host}
 use Rattle.wf_value.specs.HttpUrl.{is_port, port_text}
@@ -54,15 +55,10 @@ host_first a none =
     (either_front (slice_index a 0 == 91) (index_of 93 a + 1) (index_of 58 a) a)
 
 -- ## Digits
-digit_below : (c : ℕ) → digit_value c < 10 → is_ascii_digit c ≡ true
-digit_below c h = grind (arith, nat_tests)
-
-digit_small : (c : ℕ) → is_ascii_digit c ≡ true → digit_value c < 10
-digit_small c h = grind (arith, nat_tests)
 
 pub all_digits : (ds : Text) → AllDigits 10 ds → list_all is_ascii_digit ds ≡ true
 all_digits [] h = refl
-all_digits (c ∷ cs) h = and_from _ _ (digit_below c h.0) (all_digits cs h.1)
+all_digits (c ∷ cs) h = and_from _ _ (digit_told c h.0) (all_digits cs h.1)
 
 pub all_small : (ds : Text) → list_all is_ascii_digit ds ≡ true → AllDigits 10 ds
 all_small [] h = tt

@@ -1,6 +1,7 @@
 -- A name is among those of some fields where one of them has it.
 use Rattle.std.proofs.Common.{◌≡◌, ℕ, zero, suc, ◌<◌, ◌||◌, Bool, true, false, List, [], ◌∷◌, length, get_or, refl, sym, ap, subst, ◌∙◌, arith}
 use Rattle.std.specs.Prelude.{bytes_eq, fold}
+use Rattle.wf_lemmas.proofs.Bools.{or_true}
 use Rattle.http_uri.specs.ByteClasses.{lowercase}
 use Rattle.wf_value.specs.HttpRequest.{is_among}
 use Rattle.wf_http_out.specs.Fields.{names_before}
@@ -8,10 +9,6 @@ use Rattle.wf_value.specs.Pairs.{Text}
 
 abbrev names_behind : List Text → List (Text × Text) → List Text
 names_behind names fs = fold (λ ns f. lowercase f.0 ∷ ns) names fs
-
-or_true : (t u : Bool) → u ≡ true → (t || u) ≡ true
-or_true true u h = refl
-or_true false u h = h
 
 stays : (x : Text) (names : List Text) (fs : List (Text × Text)) → is_among x names ≡ true → is_among x (names_behind names fs) ≡ true
 stays x names [] h = h

@@ -9,6 +9,7 @@ use Rattle.std.proofs.lemmas.List.Elements.{All-drop}
 use Rattle.std.proofs.lemmas.List.Sums.{get_or-le-sum_by, AllPass-from_list_all, list_all-from_AllPass}
 use Rattle.std.proofs.lemmas.Slice.Eq.{bytes_eq-Decides}
 use Rattle.std.proofs.lemmas.Str.{IsUtf8-from_ascii}
+use Rattle.std.proofs.lemmas.Option.{same_Some}
 use Rattle.http_uri.specs.ByteClasses.{count_of, split_once_back, is_path_byte, is_query_byte, is_delimiter, index_of}
 use Rattle.http_uri.specs.Grammar.{AllPass, IsAuthority, IsTail, IsPathAndQuery, IsAbsoluteForm, IsUriText, HasScheme, MayFollow, normal_scheme, scheme_len, authority_len, without_fragment}
 use Rattle.http_uri.specs.declared.uri.Uri.{Uri as Target}
@@ -34,9 +35,6 @@ use Rattle.wf_http_out.specs.View.{Gives, goal_view}
 if_some : (b : Bool) (x : Option Url) (u : Url) → cond b x None ≡ Some u → (b ≡ true) × (x ≡ Some u)
 if_some true x u h = (refl, h)
 if_some false x u h = absurd cc
-
-same_url : (a b : Url) → Some a ≡ Some b → a ≡ b
-same_url a b h = cc
 
 under : (x t : Bool) → (not x || t) ≡ true → x ≡ true → t ≡ true
 under true t h e = h
@@ -206,7 +204,7 @@ url_of_rest s u low high bytes short mark read =
     let form : IsAbsoluteForm s scheme name (kept_path tail) =
     absolute_from_cuts s scheme name (kept_path tail) n end has refl (AllPass_front s n refl, few) refl refl authority.0 is_tail in
     let small : length s ≤ 65534 = omega arith in
-    subst (IsUrl s) (same_url (url_parts scheme name (kept_path tail)) u inner.1)
+    subst (IsUrl s) (same_Some (url_parts scheme name (kept_path tail)) u inner.1)
     (record {
       reads = (small, form);
       short = (low, high);

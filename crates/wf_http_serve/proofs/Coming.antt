@@ -3,6 +3,7 @@ use Rattle.std.proofs.Common.{◌≡◌, ℕ, ◌+◌, ◌-◌, ◌<◌, ◌≤�
 use Rattle.std.proofs.lemmas.Bool.{cases_lt, false≢true, le-ltb, lt-leb}
 use Rattle.std.proofs.lemmas.List.{drop-append-le, drop-drop, drop_at}
 use Rattle.std.specs.Prelude.{◌≢◌, IfOk}
+use Rattle.wf_lemmas.proofs.Lists.{drop_past, piece_joined}
 use Rattle.httparse.specs.Grammar.{HasNoRequest, print_request}
 use Rattle.wf_value.specs.HttpBody as plain
 use Rattle.wf_value.specs.HttpBody.{Close, Open, Ended, Broke, length_state, unless_closed, Complete, Malformed, Oversize, BodyState, headers_of}
@@ -178,20 +179,12 @@ chunked code was c piece old new (Ok e) is read = λ f all framed part.
 chunked code was c piece old new (Err x) is read = tt
 
 -- ## Heads
-piece_is : (heard piece : List ℕ) (front : ℕ) → (heard ++ take front piece) ++ drop front piece ≡ heard ++ piece
-piece_is heard piece front = append_assoc heard (take front piece) (drop front piece) ∙ ap (λ (s : List ℕ). heard ++ s) (take-append-drop front piece)
-
--- what stands behind a head ends where the piece does
-drop_past : (n : ℕ) (xs ys : List ℕ) → length xs ≤ n → drop n (xs ++ ys) ≡ drop (n - length xs) ys
-drop_past n xs ys le =
-    let e : length xs + (n - length xs) ≡ n = omega arith in
-    sym (ap (λ (k : ℕ). drop k (xs ++ ys)) e) ∙ sym (drop-drop (n - length xs) (length xs) (xs ++ ys)) ∙ ap (drop (n - length xs)) (drop_at xs ys (length xs) refl)
 
 behind_head : (unread piece joined : List ℕ) (front len : ℕ) → joined ≡ unread ++ take front piece → length unread ≤ len → len ≤ length joined
     → drop len joined ++ drop front piece ≡ drop (len - length unread) piece
 behind_head unread piece joined front len is past within =
     sym (drop-append-le len joined (drop front piece) within) ∙ ap (λ (s : List ℕ). drop len (s ++ drop front piece)) is
-    ∙ ap (drop len) (piece_is unread piece front) ∙ drop_past len unread piece past
+    ∙ ap (drop len) (piece_joined unread piece front) ∙ drop_past len unread piece past
 
 -- no head is whole in bytes of which none was
 head_past : (unread more joined : List ℕ) (len : ℕ) (r : Request) (f : Framing) → joined ≡ unread ++ more → HasNoRequest unread → IsWholeHead joined r f len → length unread ≤ len
@@ -225,7 +218,7 @@ head_read next h r f len heard unread piece joined rest left content grown new w
     let past = head_past unread (take found.front piece) joined len r f found.heard_is (subst HasNoRequest (sym same_heard) less.none) whole in
     let rest_is : drop len joined ++ drop found.front piece ≡ rest = behind_head unread piece joined found.front len found.heard_is past whole.within ∙ sym same_rest in
     let joined_is : joined ++ drop found.front piece ≡ heard ++ piece =
-    ap (λ (s : List ℕ). s ++ drop found.front piece) found.heard_is ∙ piece_is unread piece found.front ∙ ap (λ (s : List ℕ). s ++ piece) same_heard in
+    ap (λ (s : List ℕ). s ++ drop found.front piece) found.heard_is ∙ piece_joined unread piece found.front ∙ ap (λ (s : List ℕ). s ++ piece) same_heard in
     let at : IsBehind (heard ++ piece) r f rest = record {
       head = whole.head;
       has = subst (λ (s : List ℕ). HasHead s whole.head rest) joined_is
@@ -239,7 +232,7 @@ pub head_bad : (next : Stage) (h : Heading) (heard unread piece joined left cont
     → IsHeadFound unread piece joined h → next ≡ stage.Bad → IsStage next left now new (heard ++ piece)
 head_bad next h heard unread piece joined left content new was now (same_heard, none, fresh, less) is_bad found goes =
     let joined_is : joined ++ drop found.front piece ≡ heard ++ piece =
-    ap (λ (s : List ℕ). s ++ drop found.front piece) found.heard_is ∙ piece_is unread piece found.front ∙ ap (λ (s : List ℕ). s ++ piece) same_heard in
+    ap (λ (s : List ℕ). s ++ drop found.front piece) found.heard_is ∙ piece_joined unread piece found.front ∙ ap (λ (s : List ℕ). s ++ piece) same_heard in
     subst (λ (t : Stage). IsStage t left now new (heard ++ piece)) (sym goes)
     (subst (λ (b : List ℕ). Stays b visits.Bad) joined_is
     (again joined (drop found.front piece) visits.Bad (bad_heads joined (subst (IsHeading joined) is_bad found.heading_is))))

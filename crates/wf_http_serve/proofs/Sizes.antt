@@ -1,18 +1,16 @@
 -- A field line has at least three bytes, so short bytes hold few fields.
 use Rattle.std.proofs.Common.{◌≡◌, ℕ, ◌+◌, ◌*◌, ◌<◌, ◌≤◌, List, [], ◌∷◌, ◌++◌, length, ap, arith, length-append}
 use Rattle.std.specs.Prelude.{All}
+use Rattle.wf_lemmas.proofs.Lists.{end_length}
 use Rattle.httparse.specs.Grammar.{print_end, print_blank, print_version, IsField, print_section, RequestHead, print_request, HasNoRequest}
 use Rattle.httparse.specs.Spans.{RequestExceeds}
 use Rattle.wf_http_body.proofs.Sizes.{section_three}
-
-at_the_end : (a s : List ℕ) → length s ≤ length (a ++ s)
-at_the_end a s = rw (length-append a s) (omega arith)
 
 request_three : (h : RequestHead) → All IsField h.fields → 3 * length h.fields + 1 ≤ length (print_request h)
 unfolding print_request
 request_three h all =
     let here = section_three h.fields h.last all in
-    let more = at_the_end (print_blank h.blank ++ h.method ++ 32 ∷ h.target ++ 32 ∷ print_version h.minor ++ print_end h.line_end) (print_section h.fields h.last) in
+    let more = end_length (print_blank h.blank ++ h.method ++ 32 ∷ h.target ++ 32 ∷ print_version h.minor ++ print_end h.line_end) (print_section h.fields h.last) in
     omega arith
 
 pub few_request_fields : (buf : List ℕ) (room : ℕ) → RequestExceeds room buf → 3 * room < length buf

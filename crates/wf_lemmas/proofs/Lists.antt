@@ -1,6 +1,6 @@
 -- Lists: heads and tails, places, ends, and what holds of all of one.
-use Rattle.std.proofs.Common.{◌≡◌, ℕ, zero, suc, ◌+◌, ◌-◌, ◌<◌, ◌≤◌, Bool, true, false, if◌then◌else◌, List, [], ◌∷◌, ◌++◌, length, take, drop, get_or, drop-cons, add-one, append_assoc, length-append, take-append-drop, refl, sym, ap, ◌∙◌, arith}
-use Rattle.std.proofs.lemmas.List.{drop-drop, drop_at}
+use Rattle.std.proofs.Common.{◌≡◌, ℕ, zero, suc, ◌+◌, ◌-◌, ◌<◌, ◌≤◌, Bool, true, false, if◌then◌else◌, List, [], ◌∷◌, ◌++◌, length, take, drop, get_or, drop-cons, add-one, append_assoc, length-append, take-append-drop, reverse, refl, sym, ap, ◌∙◌, arith}
+use Rattle.std.proofs.lemmas.List.{drop-drop, drop_all, drop_at, reverse-append}
 use Rattle.std.specs.List.{AllByRecursion}
 use Rattle.std.specs.Prelude.{None, Some, slice_get}
 
@@ -32,7 +32,14 @@ take_push [] i x h = absurd (cc h)
 take_push (y ∷ xs) zero x h = let same : y ≡ x = cc h in ap (λ y. y ∷ []) same
 take_push (y ∷ xs) (suc i) x h = ap (λ ys. y ∷ ys) (take_push xs i x h)
 
+-- nothing is left at the end or behind it
+pub drop_end : {A : Type 0} (xs : List A) (i : ℕ) → length xs ≤ i → drop i xs ≡ []
+drop_end xs i le = drop_all i xs le
+
 -- ## Parts and lengths
+pub reverse_push : {A : Type 0} (xs : List A) (x : A) → reverse (xs ++ x ∷ []) ≡ x ∷ reverse xs
+reverse_push xs x = reverse-append xs (x ∷ [])
+
 pub end_length : (a s : List ℕ) → length s ≤ length (a ++ s)
 end_length a s = rw (length-append a s) (omega arith)
 

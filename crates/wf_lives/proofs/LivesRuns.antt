@@ -1,8 +1,9 @@
 -- Histories, one of which goes on from the other.
 use Rattle.std.specs.Prelude.{◌≡◌, ◌≢◌, ◌⊎◌, ◌<◌, ◌≤◌, ◌&&◌, ◌||◌, ℕ, zero, suc, Bool, true, false, IsTrue, nat_eq, nat_le, nat_lt, List, [], ◌∷◌, ◌++◌, map, length, slice_get, if◌then◌else◌, Option, Some, None, Ok, option_map}
 use Rattle.std.proofs.Common.{inl, inr, ⊎_elim, refl, sym, ◌∙◌, ap, subst, arith, append_assoc}
-use Rattle.std.proofs.lemmas.Bool.{and_from, eq-eqb, eqb-true, le-leb, leb-true, lt-ltb, ltb-true, or_left, or_right}
+use Rattle.std.proofs.lemmas.Bool.{and_from, eq-eqb, eqb-true, le-leb, leb-true, lt-ltb, ltb-true, or_left, or_right, and_parts}
 use Rattle.std.proofs.lemmas.Grind.{flat_map-append}
+use Rattle.wf_lemmas.proofs.Lists.{same_head, same_tail}
 use Rattle.wf_ast.specs.Tree.{Program}
 use Rattle.wf_events.specs.Reading.{meaning}
 use Rattle.wf_events.specs.Records.{Record, Started, Turned}
@@ -25,12 +26,6 @@ pub record Facts (L : Language) (J : List (List ℕ)) (c : Config) : Type 0 wher
   pub order : IsTrue (in_order 0 0 found.turns)
   pub whole : Run found.program found.start (events found.turns) c
 
-first_is : {A : Type 0} (x y : A) (xs ys : List A) → x ∷ xs ≡ y ∷ ys → x ≡ y
-first_is x y xs ys is = cc is
-
-rest_is : {A : Type 0} (x y : A) (xs ys : List A) → x ∷ xs ≡ y ∷ ys → xs ≡ ys
-rest_is x y xs ys is = cc is
-
 abbrev turned : Turn → Option Record
 turned t = Some (Turned t)
 
@@ -40,14 +35,14 @@ turns_are [] [] meant = refl
 turns_are [] (u ∷ us) meant = absurd cc
 turns_are (b ∷ bs) [] meant = absurd cc
 turns_are (b ∷ bs) (u ∷ us) meant =
-    ap (λ r. with_turn r (turns_in bs)) (first_is (meaning b) (Some (Turned u)) (map meaning bs) (map turned us) meant)
-    ∙ ap (λ ts. u ∷ ts) (turns_are bs us (rest_is (meaning b) (Some (Turned u)) (map meaning bs) (map turned us) meant))
+    ap (λ r. with_turn r (turns_in bs)) (same_head (meaning b) (Some (Turned u)) (map meaning bs) (map turned us) meant)
+    ∙ ap (λ ts. u ∷ ts) (turns_are bs us (same_tail (meaning b) (Some (Turned u)) (map meaning bs) (map turned us) meant))
 
 journal_of : (L : Language) (b : List ℕ) (bs : List (List ℕ)) (c : Config) (h : History L (b ∷ bs) c) → journal L (b ∷ bs) ≡ Some (record { start = h.start; program = h.program; turns = h.turns })
 journal_of L b bs c h =
-    ap (λ r. begins L r (turns_in bs)) (first_is (meaning b) (Some (Started h.start)) (map meaning bs) (map turned h.turns) h.meanings)
+    ap (λ r. begins L r (turns_in bs)) (same_head (meaning b) (Some (Started h.start)) (map meaning bs) (map turned h.turns) h.meanings)
     ∙ ap (λ o. option_map (λ p. record { start = h.start; program = p; turns = turns_in bs }) o) h.accepted
-    ∙ ap (λ ts. Some (record { start = h.start; program = h.program; turns = ts })) (turns_are bs h.turns (rest_is (meaning b) (Some (Started h.start)) (map meaning bs) (map turned h.turns) h.meanings))
+    ∙ ap (λ ts. Some (record { start = h.start; program = h.program; turns = ts })) (turns_are bs h.turns (same_tail (meaning b) (Some (Started h.start)) (map meaning bs) (map turned h.turns) h.meanings))
 
 pub facts : ComputedIsHistory → (L : Language) (J : List (List ℕ)) (s : Standing) → history L J ≡ Ok s → Facts L J s.config
 unfolding history
@@ -118,15 +113,11 @@ same_end front agree nothing L J K more c d f g same ended =
 abbrev NotBehind : ℕ → ℕ → ℕ → ℕ → Type 0
 NotBehind a b c d = (a < c) ⊎ ((a ≡ c) × (b ≤ d))
 
-both : (x y : Bool) → IsTrue (x && y) → IsTrue x × IsTrue y
-both true y is = (refl, is)
-both false y is = absurd cc
-
 not_behind : (a b c d : ℕ) → IsTrue (nat_lt a c || (nat_eq a c && nat_le b d)) → NotBehind a b c d
 not_behind a b c d is =
     (elim (nat_lt a c) as (λ v. nat_lt a c ≡ v → IsTrue (v || (nat_eq a c && nat_le b d)) → NotBehind a b c d) [
       | true ↦ λ lt _. inl (ltb-true a c lt)
-      | false ↦ λ _ rest. let (same, le) = both (nat_eq a c) (nat_le b d) rest in inr (eqb-true a c same, leb-true b d le)
+      | false ↦ λ _ rest. let (same, le) = and_parts (nat_eq a c) (nat_le b d) rest in inr (eqb-true a c same, leb-true b d le)
     ]) refl is
 
 in_turn : (a b c d e f : ℕ) → NotBehind a b c d → NotBehind c d e f → NotBehind a b e f
@@ -140,7 +131,7 @@ module _ (session waits : ℕ) where
   none_to : (a b : ℕ) (ts : List Turn) → IsTrue (in_order a b ts) → (NotBehind a b session waits → ⊥) → events_to session waits ts ≡ []
   none_to a b [] order behind = refl
   none_to a b (t ∷ ts) order behind =
-      let (next_one, rest) = both (goes_on_at a b t) (in_order t.session t.waits ts) order in
+      let (next_one, rest) = and_parts (goes_on_at a b t) (in_order t.session t.waits ts) order in
       let later : NotBehind t.session t.waits session waits → ⊥ = λ by. behind (in_turn a b t.session t.waits session waits (not_behind a b t.session t.waits next_one) by) in
       (elim (is_before session waits t) as (λ v. is_before session waits t ≡ v → (if v then t.events ++ events_to session waits ts else events_to session waits ts) ≡ []) [
         | true ↦ λ yes. absurd (later (not_behind t.session t.waits session waits yes))
@@ -151,7 +142,7 @@ module _ (session waits : ℕ) where
   front_to : (a b : ℕ) (ts : List Turn) → IsTrue (in_order a b ts) → (rest : List Event) × (events ts ≡ events_to session waits ts ++ rest)
   front_to a b [] order = ([], refl)
   front_to a b (t ∷ ts) order =
-      let (next_one, rest) = both (goes_on_at a b t) (in_order t.session t.waits ts) order in
+      let (next_one, rest) = and_parts (goes_on_at a b t) (in_order t.session t.waits ts) order in
       (elim (is_before session waits t) as (λ v. is_before session waits t ≡ v → (rest : List Event) × (t.events ++ events ts ≡ (if v then t.events ++ events_to session waits ts else events_to session waits ts) ++ rest)) [
         | true ↦ λ _. let (more, same) = front_to t.session t.waits ts rest in (more, ap (λ es. t.events ++ es) same ∙ sym (append_assoc t.events (events_to session waits ts) more))
         | false ↦ λ no.
@@ -205,11 +196,11 @@ fronts : (us vs ws zs : List Event) → us ++ vs ≡ ws ++ zs → ((es : List Ev
 fronts [] vs ws zs same = inl (ws, refl)
 fronts (a ∷ us) vs [] zs same = inr (a ∷ us, refl)
 fronts (a ∷ us) vs (c ∷ ws) zs same =
-    let first : a ≡ c = first_is a c (us ++ vs) (ws ++ zs) same in
+    let first : a ≡ c = same_head a c (us ++ vs) (ws ++ zs) same in
     ⊎_elim
     (λ (es, is). inl (es, ap (λ x. x ∷ ws) (sym first) ∙ ap (λ xs. a ∷ xs) is))
     (λ (es, is). inr (es, ap (λ x. x ∷ us) first ∙ ap (λ xs. c ∷ xs) is))
-    (fronts us vs ws zs (rest_is a c (us ++ vs) (ws ++ zs) same))
+    (fronts us vs ws zs (same_tail a c (us ++ vs) (ws ++ zs) same))
 
 open_in : (xs : List Call) (n : ℕ) (q : Request) → request_in (elim (slice_get xs n) [ None ↦ Answered | Some x ↦ x ]) ≡ Some q → n < length xs
 open_in [] n q is = absurd cc
@@ -248,7 +239,7 @@ last_is (t ∷ u ∷ ts) = last_is (u ∷ ts)
 rises : (a b : ℕ) (ts : List Turn) → IsTrue (in_order a b ts) → a ≤ last_from a ts
 rises a b [] order = omega arith
 rises a b (t ∷ ts) order =
-    let (next_one, rest) = both (goes_on_at a b t) (in_order t.session t.waits ts) order in
+    let (next_one, rest) = and_parts (goes_on_at a b t) (in_order t.session t.waits ts) order in
     let more = rises t.session t.waits ts rest in
     ⊎_elim (λ lt. omega (arith, lt, more)) (λ (same, le). omega (arith, same, more)) (not_behind a b t.session t.waits next_one)
 
@@ -257,7 +248,7 @@ module _ (session waits : ℕ) where
   all_to : (a b : ℕ) (ts : List Turn) → IsTrue (in_order a b ts) → last_from a ts < session → events_to session waits ts ≡ events ts
   all_to a b [] order lt = refl
   all_to a b (t ∷ ts) order lt =
-      let (next_one, rest) = both (goes_on_at a b t) (in_order t.session t.waits ts) order in
+      let (next_one, rest) = and_parts (goes_on_at a b t) (in_order t.session t.waits ts) order in
       let le = rises t.session t.waits ts rest in
       let before : is_before session waits t ≡ true = or_left (nat_lt t.session session) (nat_eq t.session session && nat_le t.waits waits) (lt-ltb t.session session (omega (arith, le, lt))) in
       ap (λ v. if v then t.events ++ events_to session waits ts else events_to session waits ts) before ∙ ap (λ es. t.events ++ es) (all_to t.session t.waits ts rest lt)

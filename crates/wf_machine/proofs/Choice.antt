@@ -5,6 +5,7 @@
 use Rattle.std.proofs.Common.{◌≡◌, ◌≤◌, ℕ, zero, suc, max, Bool, true, false, not, List, [], ◌∷◌, Option, None, Some, refl, sym, ap, ◌∙◌, subst, arith}
 use Rattle.std.specs.Prelude.{◌&&◌, IsTrue, if◌then◌else◌, is_some, nat_le}
 use Rattle.std.proofs.lemmas.Bool.{le-leb, leb-true}
+use Rattle.wf_lemmas.proofs.Bools.{and_none}
 use Rattle.wf_alone.proofs.Reached.{can_step, dues_can_come}
 use Rattle.wf_alone.proofs.Steps.{main_is_busy, main_is_chosen}
 use Rattle.wf_alone.proofs.Waiting.{waiting}
@@ -125,14 +126,10 @@ call_same x ts o (suc n) = refl
 pub call_by_is : (m : Machine) (n : ℕ) → call (state_of m).config n ≡ call_by (rest_by m) n
 call_by_is m n = call_same (rest_by m) (tasks_view (program_of m.program) m.task m.scopes) (outcome_by m.ending) n
 
-and_true : (b : Bool) → b && true ≡ b
-and_true true = refl
-and_true false = refl
-
 -- of the one task that waits for call n
 calling_quiet : (x : Rest) (k : List Item) (ls : List Layer) (n : ℕ) (v : Option Text) (o : Outcome) (r : ℕ) → quiet (main_by x k ls (Calling n v) o) r ≡ not (is_by r (call_due (call_by x n)))
 calling_quiet x k ls n v o r =
-    and_true (not (is_by r (call_due (call (main_by x k ls (Calling n v) o) n)))) ∙ ap (λ y. not (is_by r (call_due y))) (call_same x ((0, main_task k ls (Calling n v)) ∷ []) o n)
+    and_none (not (is_by r (call_due (call (main_by x k ls (Calling n v) o) n)))) ∙ ap (λ y. not (is_by r (call_due y))) (call_same x ((0, main_task k ls (Calling n v)) ∷ []) o n)
 
 -- the least of one moment
 least_one : (o : Option ℕ) → least_in (elim o [ None ↦ [] | Some d ↦ d ∷ [] ]) ≡ o
@@ -146,8 +143,8 @@ module _ (m : Machine) (t : Task) (is : m.task ≡ Some t) where
   -- it is still where it waits for what isn't due yet
   quiet_by : (w : Wait) (r : ℕ) → (not (is_awake_in w) && not (is_by r (due_for (X m t is) (wait_view (around (P m t is)) w)))) ≡ quiet (main_by (X m t is) (K m t is) (Ls m t is) (wait_view (around (P m t is)) w) (outcome_by m.ending)) r
   quiet_by wait.Awake r = sym ((main_is_busy (X m t is) (K m t is) (Ls m t is) (plain m t is)).0 r)
-  quiet_by (wait.Sleep due node) r = sym (and_true (not (nat_le due r)))
-  quiet_by (wait.Delay due) r = sym (and_true (not (nat_le due r)))
+  quiet_by (wait.Sleep due node) r = sym (and_none (not (nat_le due r)))
+  quiet_by (wait.Delay due) r = sym (and_none (not (nat_le due r)))
   quiet_by (wait.Calling n node) r = sym (calling_quiet (X m t is) (K m t is) (Ls m t is) n (result_of (spots (P m t is).flows) (Some node)) (outcome_by m.ending) r)
 
   -- where it stands, with or without an outcome

@@ -1,12 +1,13 @@
 -- Calls are awaited by their tasks, at each step.
 use Rattle.std.specs.Prelude.{◌≡◌, ◌≢◌, ◌⊎◌, ℕ, zero, suc, ◌+◌, ◌<◌, ◌≤◌, ◌&&◌, ◌||◌, not, min, length, Bool, true, false, List, [], ◌∷◌, ◌++◌, if◌then◌else◌, nat_eq, nat_lt, nat_le, slice_get, slice_set, Some, None, Ok, Err, Option, option_map, unwrap_or}
 use Rattle.std.proofs.Common.{inl, inr, ⊎_elim, refl, sym, ◌∙◌, ap, subst, arith}
-use Rattle.std.proofs.lemmas.Bool.{eq-eqb}
+use Rattle.std.proofs.lemmas.Bool.{eq-eqb, cases_eq, ne_eqb}
+use Rattle.wf_lemmas.proofs.Options.{by_cases}
 use Rattle.wf_ast.specs.Tree.{Steps, LoopBody, ParallelBody, parallel, OfBranches, OfLoop, branch, no_branches, Program}
 use Rattle.wf_model.proofs.After.{Leads, led_to}
 use Rattle.wf_model.proofs.LocalWaits.{NotCalling, IsFree, Plain, goes_plain, move_plain, resumed_plain, due_plain, SendsOne, issue_issued}
 use Rattle.wf_model.proofs.Numbers.{some_case}
-use Rattle.wf_model.proofs.TaskLists.{same_or, apart, higher, put_rises, drop_rises, known, put_same, put_other, drop_other, drop_same}
+use Rattle.wf_model.proofs.TaskLists.{higher, put_rises, drop_rises, known, put_same, put_other, drop_other, drop_same}
 use Rattle.wf_model.proofs.Walk.{bool_case, when_leads}
 use Rattle.wf_model.specs.Config.{Left, WorkLeft, BranchesLeft, ValuesLeft, Item, Do, Wait, Awake, Sleep, Delay, Calling, Await, Task, Call, Open, Answered, TimedOut, Outcome, Active, Returned, Raised, Cancelled, Config, After, To, Wrong, NotNow, body_limit, move_limit, task, task_in, with_task, next_of}
 use Rattle.wf_model.specs.Kinds.{NextKind, Plainly, ByClock, ByCall, next_kind}
@@ -76,7 +77,7 @@ same_self c h = record { calls = refl; infos = λ i. refl; outcome = refl; made 
 put_info : (c : Config) (b i : ℕ) (t : Task) → (i ≡ b) ⊎ (i ≡ b → ⊥) → info_at (with_task b t c) i ≡ (if nat_eq i b then Some (info t) else info_at c i)
 put_info c b i t (inl same) =
     ap (λ n. info_at (with_task b t c) n) same ∙ ap (option_map info) (put_same b t c.tasks) ∙ sym (ap (λ v. if v then Some (info t) else info_at c i) (eq-eqb i b same))
-put_info c b i t (inr differ) = ap (option_map info) (put_other b i t c.tasks differ) ∙ sym (ap (λ v. if v then Some (info t) else info_at c i) (apart i b differ))
+put_info c b i t (inr differ) = ap (option_map info) (put_other b i t c.tasks differ) ∙ sym (ap (λ v. if v then Some (info t) else info_at c i) (ne_eqb i b differ))
 
 put_at : (c : Config) (b : ℕ) (t : Task) → info_at (with_task b t c) b ≡ Some (info t)
 put_at c b t = ap (option_map info) (put_same b t c.tasks)
@@ -90,7 +91,7 @@ same_put c b t u h there like = record {
   infos = λ i. ⊎_elim
       (λ same. ap (λ n. info_at (with_task b u c) n) same ∙ put_at c b u ∙ ap (λ x. Some x) like ∙ sym (ap (option_map info) there) ∙ ap (λ n. info_at c n) (sym same))
       (λ differ. put_off c b i u differ)
-      (same_or i b);
+      (cases_eq i b);
   outcome = refl;
   made = refl;
   rises = put_rises 0 c.made b u c.tasks (omega arith) (known 0 c.made b c.tasks t h there) h;
@@ -130,20 +131,20 @@ put_free b t u c h there parent free = record {
   stands = λ i k r p at. ⊎_elim
       (λ same. absurd (free_wait u.wait u.wait k r u.parent p free (sym (put_at c b u) ∙ ap (λ n. info_at (with_task b u c) n) (sym same) ∙ at)))
       (λ differ. h.stands i k r p differ (sym (put_off c b i u differ) ∙ at))
-      (same_or i b);
+      (cases_eq i b);
   parents = λ i w p at is. ⊎_elim
       (λ same.
       let two : ◌≡◌ {A = Option Info} (Some (u.wait, u.parent)) (Some (w, Some p)) = sym (put_at c b u) ∙ ap (λ n. info_at (with_task b u c) n) (sym same) ∙ at in
       let one : u.parent ≡ Some p = some_parent (u.wait, u.parent) (w, Some p) two in
       h.parents b t.wait p (ap (option_map info) there ∙ ap (λ o. Some (t.wait, o)) (sym parent ∙ one)) (is ∙ same))
       (λ differ. h.parents i w p (sym (put_off c b i u differ) ∙ at) is)
-      (same_or i b);
+      (cases_eq i b);
   root = λ go.
       let (w, at) = h.root go in
       ⊎_elim
       (λ same. (u.wait, put_root b t u c w there parent same at))
       (λ differ. (w, put_off c b 0 u differ ∙ at))
-      (same_or 0 b);
+      (cases_eq 0 b);
 }
 
 no_task_good : (b : ℕ) (c : Config) → Except b c → task c b ≡ None → Good c
@@ -153,18 +154,14 @@ no_task_good b c h gone = record {
   stands = λ i k r p at. ⊎_elim
       (λ same. absurd (let f : None ≡ Some (Calling k r, p) = sym (ap (option_map info) gone) ∙ ap (λ n. info_at c n) (sym same) ∙ at in cc f))
       (λ differ. h.stands i k r p differ at)
-      (same_or i b);
+      (cases_eq i b);
   parents = h.parents;
   root = h.root;
 }
 
-pub gone_case : {A B : Type 0} (P : B → Type 0) (o : Option A) (x : B) (f : A → B) → (o ≡ None → P x) → ((t : A) → o ≡ Some t → P (f t)) → P (elim o [ None ↦ x | Some t ↦ f t ])
-gone_case P None x f h k = h refl
-gone_case P (Some t) x f h k = k t refl
-
 put_back_good : (b : ℕ) (l : Local) (c : Config) → Except b c → IsFree l → Good (put_back b l c)
 put_back_good b l c h free =
-    gone_case Good (task c b) c (λ t. put_outer l.outer (with_task b (record t { control = l.control; layers = l.layers; wait = l.wait }) c))
+    by_cases Good (task c b) c (λ t. put_outer l.outer (with_task b (record t { control = l.control; layers = l.layers; wait = l.wait }) c))
     (no_task_good b c h)
     (λ t there.
     let u = record t { control = l.control; layers = l.layers; wait = l.wait } in
@@ -179,11 +176,11 @@ without_good b c h other = record {
   stands = λ i k r p at. ⊎_elim
       (λ same. absurd (let f : None ≡ Some (Calling k r, p) = sym (ap (option_map info) (drop_same 0 c.made b c.tasks h.rises)) ∙ ap (λ n. info_at (without_task b c) n) (sym same) ∙ at in cc f))
       (λ differ. h.stands i k r p differ (sym (ap (option_map info) (drop_other b i c.tasks differ)) ∙ at))
-      (same_or i b);
+      (cases_eq i b);
   parents = λ i w p at is. ⊎_elim
       (λ same. let f : None ≡ Some (w, Some p) = sym (ap (option_map info) (drop_same 0 c.made b c.tasks h.rises)) ∙ ap (λ n. info_at (without_task b c) n) (sym same) ∙ at in cc f)
       (λ differ. h.parents i w p (sym (ap (option_map info) (drop_other b i c.tasks differ)) ∙ at) is)
-      (same_or i b);
+      (cases_eq i b);
   root = λ go. let (w, at) = h.root go in (w, ap (option_map info) (drop_other b 0 c.tasks (λ same. other go (sym same))) ∙ at);
 }
 
@@ -298,7 +295,7 @@ closed_except b n t r x c g there wait shut =
                 let waits : Calling n r ≡ Calling k s = some_wait (Calling n r, t.parent) (Calling k s, p) two in let one : n ≡ k = cc waits in differ (sym one)),
             (s, p, info_is i ∙ at),
           ))
-          (same_or k n);
+          (cases_eq k n);
       stands = λ i k s p apart at.
           let (q, d, is) = g.stands i k s p (sym (info_is i) ∙ at) in (
             q,
@@ -309,7 +306,7 @@ closed_except b n t r x c g there wait shut =
                 let two : Open i q d ≡ Open b q2 d2 = sym is ∙ ap (λ j. call c j) same ∙ is2 in
                 let one : i ≡ b = cc two in apart one))
                 (λ differ. close_off n k x c differ ∙ is)
-                (same_or k n),
+                (cases_eq k n),
           );
       parents = λ i w p at. g.parents i w p (sym (info_is i) ∙ at);
       root = λ go. let (w, at) = g.root (sym (close_outcome n x c) ∙ go) in (w, info_is 0 ∙ at);
@@ -385,7 +382,7 @@ sent_call b (suc n) i q r d e c is = ⊎_elim
     (λ differ.
     let lt : n < length (c.calls ++ Open b q d ∷ []) = issued_call (c.calls ++ Open b q d ∷ []) n i r e is in
     inr (sym (call_old c.calls (Open b q d) n (below n (length c.calls) (omega (arith, lt, length_more c.calls (Open b q d))) differ)) ∙ is))
-    (same_or n (length c.calls))
+    (cases_eq n (length c.calls))
   where
     length_more : (xs : List Call) (x : Call) → length (xs ++ x ∷ []) ≡ suc (length xs)
     length_more [] x = refl
@@ -421,17 +418,17 @@ sent_good b t u q d r c h there parent wait =
           let one : n ≡ k = cc waits in
           (q, d, ap (λ j. call e j) (sym one) ∙ new_call ∙ ap (λ j. Open j q d) (sym same)))
           (λ differ. let (s, f, is) = h.stands i k o p differ (sym (put_off e b i u differ) ∙ at) in (s, f, sent_old b k i q s d f c is))
-          (same_or i b);
+          (cases_eq i b);
       parents = λ i w p at is. ⊎_elim
           (λ same.
           let two : ◌≡◌ {A = Option Info} (Some (u.wait, u.parent)) (Some (w, Some p)) = sym (put_at e b u) ∙ ap (λ j. info_at (with_task b u e) j) (sym same) ∙ at in
           let one : u.parent ≡ Some p = some_parent (u.wait, u.parent) (w, Some p) two in
           h.parents b t.wait p (ap (option_map info) there ∙ ap (λ o. Some (t.wait, o)) (sym parent ∙ one)) (is ∙ same))
           (λ differ. h.parents i w p (sym (put_off e b i u differ) ∙ at) is)
-          (same_or i b);
+          (cases_eq i b);
       root = λ go.
           let (w, at) = h.root go in
-          ⊎_elim (λ same. (u.wait, put_root b t u e w there parent same at)) (λ differ. (w, put_off e b 0 u differ ∙ at)) (same_or 0 b);
+          ⊎_elim (λ same. (u.wait, put_root b t u e w there parent same at)) (λ differ. (w, put_off e b 0 u differ ∙ at)) (cases_eq 0 b);
     }
 
 -- ## By the kind of event
@@ -447,7 +444,7 @@ sends_good : (b : ℕ) (t : Task) (m : Moved) (c : Config) → Except b c → ta
 sends_good b t m c h there s =
     let e = sent b s.request s.due c in
     let goal : Good (put_back b s.local e) =
-    gone_case Good (task e b) e (λ v. put_outer s.local.outer (with_task b (record v { control = s.local.control; layers = s.local.layers; wait = s.local.wait }) e))
+    by_cases Good (task e b) e (λ v. put_outer s.local.outer (with_task b (record v { control = s.local.control; layers = s.local.layers; wait = s.local.wait }) e))
     (λ gone. absurd (let f : None ≡ Some t = sym gone ∙ there in cc f))
     (λ v at.
     let u = record v { control = s.local.control; layers = s.local.layers; wait = s.local.wait } in
@@ -526,7 +523,7 @@ waiting_free n b low made t (u ∷ us) h found at =
     subst (λ (v : Task). NotCalling v.wait) same (waits_free n u.1.wait on))
     (λ _ is there.
     let more = waiting_from n b (suc u.0) made us h.2 is in
-    waiting_free n b (suc u.0) made t us h.2 is (sym (ap (λ v. if v then Some u.1 else task_in us b) (apart u.0 b (λ same. omega (arith, more, same)))) ∙ there))
+    waiting_free n b (suc u.0) made t us h.2 is (sym (ap (λ v. if v then Some u.1 else task_in us b) (ne_eqb u.0 b (λ same. omega (arith, more, same)))) ∙ there))
     found at
 
 taken_good : (p : Program) (n : ℕ) (v : Visitor) (o : Option ℕ) (c : Config) → Good c → ((b : ℕ) (t : Task) → o ≡ Some b → task c b ≡ Some t → NotCalling t.wait) → Leads Good (taken_by p n v o c)
@@ -573,13 +570,13 @@ module _ (a : ℕ) (t : Task) where
             let first : a ≡ p.0 = ap (λ (z : ℕ × ℕ). z.0) pair in
             omega (arith, less, first, is, same))
             (λ differ. h.parents i w p (sym (put_off e b i u differ) ∙ at) is)
-            (same_or i b);
+            (cases_eq i b);
         root = λ go. let (w, at) = h.root go in (w, put_off e b 0 u (live 0 (w, None) at) ∙ at);
       }
     where
       not_live : (i : ℕ) (x : Info) → info_at c i ≡ Some x → i ≡ c.made → ⊥
       not_live i x at same =
-          gone_case (λ o. o ≡ Some x → ⊥) (task_in c.tasks i) None (λ v. Some (info v)) (λ _ is. cc is)
+          by_cases (λ o. o ≡ Some x → ⊥) (task_in c.tasks i) None (λ v. Some (info v)) (λ _ is. cc is)
           (λ v there is. let lt = known 0 c.made i c.tasks v rises there in omega (arith, lt, same)) at
 
   starts_good : (body : ParallelBody) (left : WorkLeft) (n : ℕ) (running : List ℕ) (es : List (ℕ × Data)) (k : List Item) (ss : Steps) (ps : Answer Pairs) (c : Config) → Good c → task c a ≡ Some t → Leads Good (starts a t body left n running es k ss ps c)
@@ -646,7 +643,7 @@ run_good p (Wrong k) (e ∷ es) h = tt
 run_good p NotNow (e ∷ es) h = tt
 
 first_info : (s : Start) (i : ℕ) → (i ≡ 0 → ⊥) → info_at (empty s) i ≡ None
-first_info s i differ = ap (λ v. option_map info (if v then Some main_task else None)) (apart 0 i (λ same. differ (sym same)))
+first_info s i differ = ap (λ v. option_map info (if v then Some main_task else None)) (ne_eqb 0 i (λ same. differ (sym same)))
 
 no_calls : (s : Start) (k i : ℕ) (q : Request) (d : ℕ) → call (empty s) k ≡ Open i q d → ⊥
 no_calls s zero i q d is = let f : Answered ≡ Open i q d = is in cc f
@@ -665,7 +662,7 @@ initial_good p s =
           let two : ◌≡◌ {A = Option Info} (Some (Awake, None)) (Some (w, Some o)) = ap (λ j. info_at (empty s) j) (sym same) ∙ at in
           let f : None ≡ Some o = some_parent (Awake, None) (w, Some o) two in cc f)
           (λ differ. let f : None ≡ Some (w, Some o) = sym (first_info s i differ) ∙ at in cc f)
-          (same_or i 0);
+          (cases_eq i 0);
       root = λ go. (Awake, refl);
     })
     (λ o is. absurd (let f : None ≡ Some o = is in cc f))
@@ -673,7 +670,7 @@ initial_good p s =
 
 pub task_of : (c : Config) (b : ℕ) (x : Info) → info_at c b ≡ Some x → (t : Task) × (task c b ≡ Some t) × (info t ≡ x)
 task_of c b x is =
-    gone_case (λ o. o ≡ Some x → (t : Task) × (task_in c.tasks b ≡ Some t) × (info t ≡ x)) (task_in c.tasks b) None (λ t. Some (info t))
+    by_cases (λ o. o ≡ Some x → (t : Task) × (task_in c.tasks b ≡ Some t) × (info t ≡ x)) (task_in c.tasks b) None (λ t. Some (info t))
     (λ _ none. absurd (let f : None ≡ Some x = none in cc f))
     (λ t there some. (t, there, let one : info t ≡ x = cc some in one)) is
 
@@ -722,7 +719,7 @@ least_of c b t d (u ∷ us) there is =
     (e, ap (λ o. least_in (elim o [ None ↦ dues_in c us | Some f ↦ f ∷ dues_in c us ])) due_is ∙ least))
     (λ _ here.
     let (e, least) = least_of c b t d us here is in
-    gone_case (λ l. (g : ℕ) × (least_in l ≡ Some g)) (due_of c u.1.wait) (dues_in c us) (λ f. f ∷ dues_in c us) (λ _. (e, least)) (λ f _. least_more f (dues_in c us)))
+    by_cases (λ l. (g : ℕ) × (least_in l ≡ Some g)) (due_of c u.1.wait) (dues_in c us) (λ f. f ∷ dues_in c us) (λ _. (e, least)) (λ f _. least_more f (dues_in c us)))
     there
 
 pub waiting_has_a_due : WaitingHasADue

@@ -2,6 +2,7 @@
 use Rattle.std.specs.Prelude.{◌≡◌, ℕ, ◌%◌, max, Bool, true, false, not, ◌&&◌, ◌||◌, ◌≢◌, ◌⊎◌, List, [], ◌∷◌, if◌then◌else◌, nat_le, Some, None, Option, option_map}
 use Rattle.std.proofs.Math.Dec.{leb-zero}
 use Rattle.std.proofs.Common.{inl, inr}
+use Rattle.wf_lemmas.proofs.Options.{some_not_none}
 use mathlib.Core.Path.{refl, sym, subst, ◌∙◌}
 use Rattle.wf_ast.specs.Tree.{Program}
 use Rattle.wf_model.specs.ChoiceLaws.{NothingIsChosenWhenQuiet, NothingIsChosenBehindAnOutcome, reading_of, ChoiceTakesTheReading}
@@ -15,9 +16,6 @@ use Rattle.wf_value.specs.HttpUrl.{first_of_two}
 -- ## Truth values and options
 false_is_not_true : false ≡ true → ⊥
 false_is_not_true h = cc h
-
-some_is_not_none : {A : Type 0} (a : A) → Some a ≡ None → ⊥
-some_is_not_none a h = cc h
 
 no_parts : (a b d n : Bool) → (not (a || b || d) && n) ≡ true → (a ≡ false) × (b ≡ false) × (d ≡ false) × (n ≡ true)
 no_parts true b d n h = absurd (false_is_not_true h)
@@ -42,18 +40,18 @@ and_both true b h k = k
 and_both false b h k = absurd (false_is_not_true h)
 
 none_of : {A : Type 0} (b : Bool) (x : A) (o : Option A) → (if b then Some x else o) ≡ None → (b ≡ false) × (o ≡ None)
-none_of true x o h = absurd (some_is_not_none x h)
+none_of true x o h = absurd (some_not_none x h)
 none_of false x o h = (refl, h)
 
 three_none : {A B C D : Type 0} (f : A → D) (g : B → D) (k : C → D) (x : Option A) (y : Option B) (z : Option C)
     → first_of_two (option_map f x) (first_of_two (option_map g y) (option_map k z)) ≡ None → (x ≡ None) × (y ≡ None) × (z ≡ None)
-three_none f g k (Some a) y z h = absurd (some_is_not_none _ h)
-three_none f g k None (Some b) z h = absurd (some_is_not_none _ h)
-three_none f g k None None (Some d) h = absurd (some_is_not_none _ h)
+three_none f g k (Some a) y z h = absurd (some_not_none _ h)
+three_none f g k None (Some b) z h = absurd (some_not_none _ h)
+three_none f g k None None (Some d) h = absurd (some_not_none _ h)
 three_none f g k None None None h = (refl, refl, refl)
 
 two_none : {A : Type 0} (x y : Option A) → first_of_two x y ≡ None → y ≡ None
-two_none (Some a) y h = absurd (some_is_not_none a h)
+two_none (Some a) y h = absurd (some_not_none a h)
 two_none None y h = h
 
 -- ## Where no task goes on

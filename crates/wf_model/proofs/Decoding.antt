@@ -1,5 +1,6 @@
 -- The code of an expression is the code of that expression alone.
 use Rattle.std.proofs.Common.{◌≡◌, ℕ, suc, ◌+◌, List, [], ◌∷◌, ◌++◌, drop, length, refl, ap, ◌∙◌, arith}
+use Rattle.wf_lemmas.proofs.Numbers.{plus_zero, suc_moved}
 use Rattle.wf_ast.specs.Tree.{Expr, Exprs, no_exprs, expr}
 use Rattle.wf_ast.specs.declared.expr.Func.{Func}
 use Rattle.wf_ast.specs.Machine.{Instr, negate, invert, combine, member, index, call, and_skip, or_skip, check, many, code, all_code}
@@ -19,25 +20,19 @@ unfolding before
 before_none no_exprs = refl
 before_none (expr e es) = ap (expr e) (before_none es)
 
-moved : (m n : ℕ) → suc m + n ≡ m + suc n
-moved m n = omega arith
-
 taken : (es : Exprs) (n : ℕ) (st : List Expr) (fs : Exprs) → topmost (many es + n) (pushed es st) fs ≡ topmost n st (before es fs)
 unfolding pushed before
 taken no_exprs n st fs = ap (λ m. topmost m st fs) (let e : 0 + n ≡ n = omega arith in e)
-taken (expr e es) n st fs = ap (λ m. topmost m (pushed es (e ∷ st)) fs) (moved (many es) n) ∙ taken es (suc n) (e ∷ st) fs
+taken (expr e es) n st fs = ap (λ m. topmost m (pushed es (e ∷ st)) fs) (suc_moved (many es) n) ∙ taken es (suc n) (e ∷ st) fs
 
 left : (es : Exprs) (n : ℕ) (st : List Expr) → drop (many es + n) (pushed es st) ≡ drop n st
 unfolding pushed
 left no_exprs n st = ap (λ m. drop m st) (let e : 0 + n ≡ n = omega arith in e)
-left (expr e es) n st = ap (λ m. drop m (pushed es (e ∷ st))) (moved (many es) n) ∙ left es (suc n) (e ∷ st)
-
-plus_none : (n : ℕ) → n ≡ n + 0
-plus_none n = omega arith
+left (expr e es) n st = ap (λ m. drop m (pushed es (e ∷ st))) (suc_moved (many es) n) ∙ left es (suc n) (e ∷ st)
 
 called : (f : Func) (es : Exprs) (st : List Expr) → undo (call f (many es)) (pushed es st) ≡ Expr.Call f es ∷ st
 called f es st =
-    ap (λ n. Expr.Call f (topmost n (pushed es st) no_exprs) ∷ drop n (pushed es st)) (plus_none (many es))
+    ap (λ n. Expr.Call f (topmost n (pushed es st) no_exprs) ∷ drop n (pushed es st)) (plus_zero (many es))
     ∙ ap (λ (xs : Exprs). Expr.Call f xs ∷ drop (many es + 0) (pushed es st)) (taken es 0 st no_exprs ∙ before_none es)
     ∙ ap (λ (xs : List Expr). Expr.Call f es ∷ xs) (left es 0 st)
 

@@ -1,25 +1,12 @@
--- Lists of live tasks: their numbers rise, and the one that is put in or taken out is told apart from the others.
+-- Lists of live tasks: their numbers rise, and the one that is put in or taken out is told ne_eqb from the others.
 use Rattle.std.specs.Prelude.{◌≡◌, ◌⊎◌, ℕ, suc, ◌<◌, ◌≤◌, Bool, true, false, List, [], ◌∷◌, if◌then◌else◌, nat_eq, nat_lt, Some, None}
 use Rattle.std.proofs.Common.{inl, inr, refl, sym, ◌∙◌, ap, subst, arith}
-use Rattle.std.proofs.lemmas.Bool.{eq-eqb, eqb-true, eqb-false, ltb-true, ltb-false}
+use Rattle.std.proofs.lemmas.Bool.{eq-eqb, eqb-true, eqb-false, ltb-true, ltb-false, ne_eqb}
 use Rattle.wf_model.proofs.Walk.{bool_case}
 use Rattle.wf_model.specs.Config.{Task, task_in, put_in, drop_in}
 use Rattle.wf_model.specs.RunLaws.{RisesFrom}
 
 -- ## Numbers
-pub same_or : (a b : ℕ) → (a ≡ b) ⊎ (a ≡ b → ⊥)
-same_or a b = split (nat_eq a b) refl
-  where
-    split : (v : Bool) → nat_eq a b ≡ v → (a ≡ b) ⊎ (a ≡ b → ⊥)
-    split true is = inl (eqb-true a b is)
-    split false is = inr (λ same. let f : true ≡ false = sym (eq-eqb a b same) ∙ is in cc f)
-
-pub apart : (a b : ℕ) → (a ≡ b → ⊥) → nat_eq a b ≡ false
-apart a b differ = split (nat_eq a b) refl
-  where
-    split : (v : Bool) → nat_eq a b ≡ v → nat_eq a b ≡ false
-    split true is = absurd (differ (eqb-true a b is))
-    split false is = is
 
 -- ## Rising numbers
 pub lower : (low from made : ℕ) (ts : List (ℕ × Task)) → low ≤ from → RisesFrom from made ts → RisesFrom low made ts
@@ -62,26 +49,26 @@ put_same b t (u ∷ us) =
     (λ _. ap (λ v. if v then Some u.1 else task_in (put_in b t us) b) off ∙ put_same b t us))
 
 pub put_other : (b i : ℕ) (t : Task) (ts : List (ℕ × Task)) → (i ≡ b → ⊥) → task_in (put_in b t ts) i ≡ task_in ts i
-put_other b i t [] differ = ap (λ v. if v then Some t else None) (apart b i (λ same. differ (sym same)))
+put_other b i t [] differ = ap (λ v. if v then Some t else None) (ne_eqb b i (λ same. differ (sym same)))
 put_other b i t (u ∷ us) differ =
     bool_case (λ l. task_in l i ≡ task_in (u ∷ us) i) (nat_eq u.0 b) ((b, t) ∷ us) (if nat_lt b u.0 then (b, t) ∷ u ∷ us else u ∷ put_in b t us)
-    (λ on. ap (λ v. if v then Some t else task_in us i) (apart b i (λ same. differ (sym same)))
-    ∙ sym (ap (λ v. if v then Some u.1 else task_in us i) (apart u.0 i (λ same. differ (sym same ∙ eqb-true u.0 b on)))))
+    (λ on. ap (λ v. if v then Some t else task_in us i) (ne_eqb b i (λ same. differ (sym same)))
+    ∙ sym (ap (λ v. if v then Some u.1 else task_in us i) (ne_eqb u.0 i (λ same. differ (sym same ∙ eqb-true u.0 b on)))))
     (λ off. bool_case (λ l. task_in l i ≡ task_in (u ∷ us) i) (nat_lt b u.0) ((b, t) ∷ u ∷ us) (u ∷ put_in b t us)
-    (λ _. ap (λ v. if v then Some t else task_in (u ∷ us) i) (apart b i (λ same. differ (sym same))))
+    (λ _. ap (λ v. if v then Some t else task_in (u ∷ us) i) (ne_eqb b i (λ same. differ (sym same))))
     (λ _. ap (λ o. if nat_eq u.0 i then Some u.1 else o) (put_other b i t us differ)))
 
 pub drop_other : (b i : ℕ) (ts : List (ℕ × Task)) → (i ≡ b → ⊥) → task_in (drop_in b ts) i ≡ task_in ts i
 drop_other b i [] differ = refl
 drop_other b i (u ∷ us) differ =
     bool_case (λ l. task_in l i ≡ task_in (u ∷ us) i) (nat_eq u.0 b) us (u ∷ drop_in b us)
-    (λ on. sym (ap (λ v. if v then Some u.1 else task_in us i) (apart u.0 i (λ same. differ (sym same ∙ eqb-true u.0 b on)))))
+    (λ on. sym (ap (λ v. if v then Some u.1 else task_in us i) (ne_eqb u.0 i (λ same. differ (sym same ∙ eqb-true u.0 b on)))))
     (λ _. ap (λ o. if nat_eq u.0 i then Some u.1 else o) (drop_other b i us differ))
 
 pub none_below : (low made b : ℕ) (ts : List (ℕ × Task)) → RisesFrom low made ts → b < low → task_in ts b ≡ None
 none_below low made b [] h lt = refl
 none_below low made b (u ∷ us) h lt =
-    ap (λ v. if v then Some u.1 else task_in us b) (apart u.0 b (λ same. let le = h.0 in omega (arith, le, same, lt)))
+    ap (λ v. if v then Some u.1 else task_in us b) (ne_eqb u.0 b (λ same. let le = h.0 in omega (arith, le, same, lt)))
     ∙ none_below (suc u.0) made b us h.2 (let le = h.0 in omega (arith, le, lt))
 
 pub drop_same : (low made b : ℕ) (ts : List (ℕ × Task)) → RisesFrom low made ts → task_in (drop_in b ts) b ≡ None

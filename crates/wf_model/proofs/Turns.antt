@@ -2,6 +2,7 @@
 use Rattle.std.specs.Prelude.{◌≡◌, ℕ, Bool, true, false, ◌&&◌, List, [], ◌∷◌, ◌++◌, if◌then◌else◌}
 use Rattle.std.specs.List.{list_all, flat_map}
 use Rattle.std.proofs.Common.{append_assoc}
+use Rattle.std.proofs.lemmas.Bool.{and_parts}
 use mathlib.Core.Path.{refl, sym, ap, ◌∙◌}
 use Rattle.wf_model.proofs.Runs.{runs_join}
 use Rattle.wf_model.specs.Run.{run, initial, is_before, events_to}
@@ -11,10 +12,6 @@ use Rattle.wf_value.specs.Events.{Event, Turn}
 append_none : (es : List Event) → es ++ [] ≡ es
 append_none [] = refl
 append_none (e ∷ es) = ap (λ fs. e ∷ fs) (append_none es)
-
-both_true : (a b : Bool) → (a && b) ≡ true → (a ≡ true) × (b ≡ true)
-both_true true b h = (refl, h)
-both_true false b h = cc h
 
 counted_turn : (b : Bool) (es fs : List Event) → b ≡ true → (if b then es ++ fs else fs) ≡ es ++ fs
 counted_turn true es fs h = refl
@@ -43,7 +40,7 @@ module _ (session waits : ℕ) where
   all_before : (ts : List Turn) → list_all (is_before session waits) ts ≡ true → events_to session waits ts ≡ flat_map (λ t. t.events) ts
   all_before [] h = refl
   all_before (t ∷ ts) h =
-      let k = both_true (is_before session waits t) (list_all (is_before session waits) ts) h in
+      let k = and_parts (is_before session waits t) (list_all (is_before session waits) ts) h in
       counted_turn (is_before session waits t) t.events (events_to session waits ts) k.0 ∙ ap (λ fs. t.events ++ fs) (all_before ts k.1)
 
 pub next_turn_goes_on : NextTurnGoesOn

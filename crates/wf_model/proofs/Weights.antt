@@ -1,12 +1,13 @@
 -- What the waits of the live tasks weigh, at each step.
 use Rattle.std.specs.Prelude.{◌≡◌, ◌≤◌, ◌+◌, ◌*◌, ℕ, suc, Bool, true, false, List, [], ◌∷◌, ◌++◌, length, if◌then◌else◌, nat_eq, nat_lt, nat_le, Some, None, Ok, Err, Option, Result, option_map}
 use Rattle.std.proofs.Common.{refl, sym, ◌∙◌, ap, subst, arith}
-use Rattle.std.proofs.lemmas.Bool.{eq-eqb, ltb-true}
+use Rattle.std.proofs.lemmas.Bool.{eq-eqb, ltb-true, ne_eqb}
+use Rattle.wf_lemmas.proofs.Options.{by_cases}
 use Rattle.wf_ast.specs.Flows.{flow}
 use Rattle.wf_ast.specs.Tree.{Steps, Param, Flow, LoopBody, ParallelBody, parallel, OfBranches, OfLoop, branch, no_branches, Program, TryBody, try, no_except, except}
 use Rattle.wf_model.proofs.After.{Leads, led_to}
-use Rattle.wf_model.proofs.Awaited.{Same, close_tasks, gone_case, put_outer_same, task_of, waiting_from}
-use Rattle.wf_model.proofs.TaskLists.{apart, higher, put_rises, drop_rises, known, drop_other, none_below, put_other, put_same}
+use Rattle.wf_model.proofs.Awaited.{Same, close_tasks, put_outer_same, task_of, waiting_from}
+use Rattle.wf_model.proofs.TaskLists.{higher, put_rises, drop_rises, known, drop_other, none_below, put_other, put_same}
 use Rattle.wf_model.proofs.Counts.{Same as Same_of, same_stays}
 use Rattle.wf_model.proofs.Numbers.{some_case}
 use Rattle.wf_model.proofs.Walk.{bool_case, leads_on, when_leads, by_itself_stays, begins_stays, timed_out_stays}
@@ -247,7 +248,7 @@ Gains c w n e = weigh e.tasks + w ≤ weigh c.tasks + n
 
 merged_gains : (n b : ℕ) (parent : Option (ℕ × ℕ)) (m : Moved) (c : Config) (t : Task) → RisesFrom 0 c.made c.tasks → task c b ≡ Some t → ((p : ℕ × ℕ) → parent ≡ Some p → p.0 ≡ b → ⊥) → By (Within n) m → Leads (Gains c (weight t.wait) n) (merged b parent m c)
 merged_gains n b parent (Goes l) c t h there far by =
-    gone_case (Gains c (weight t.wait) n) (task c b) c (λ v. put_outer l.outer (with_task b (record v { control = l.control; layers = l.layers; wait = l.wait }) c))
+    by_cases (Gains c (weight t.wait) n) (task c b) c (λ v. put_outer l.outer (with_task b (record v { control = l.control; layers = l.layers; wait = l.wait }) c))
     (λ gone. absurd (let f : None ≡ Some t = sym gone ∙ there in cc f))
     (λ v at.
     let u = record v { control = l.control; layers = l.layers; wait = l.wait } in
@@ -510,7 +511,7 @@ waiting_weighs n b low made t (u ∷ us) h found at =
     subst (λ (v : Task). 1 ≤ weight v.wait) same (waits_weigh n u.1.wait on))
     (λ _ is there.
     let more = waiting_from n b (suc u.0) made us h.2 is in
-    waiting_weighs n b (suc u.0) made t us h.2 is (sym (ap (λ v. if v then Some u.1 else task_in us b) (apart u.0 b (λ same. omega (arith, more, same)))) ∙ there))
+    waiting_weighs n b (suc u.0) made t us h.2 is (sym (ap (λ v. if v then Some u.1 else task_in us b) (ne_eqb u.0 b (λ same. omega (arith, more, same)))) ∙ there))
     found at
 
 taken_light : (p : Program) (n : ℕ) (v : Visitor) (o : Option ℕ) (c : Config) → Placed c → ((b : ℕ) (t : Task) → o ≡ Some b → task c b ≡ Some t → 1 ≤ weight t.wait) → Leads (λ e. weigh e.tasks ≤ weigh c.tasks) (taken_by p n v o c)

@@ -3,6 +3,7 @@ use Rattle.std.proofs.Common.{◌≡◌, ◌≤◌, ◌<◌, ℕ, Bool, true, fa
 use Rattle.std.specs.Prelude.{Option, if◌then◌else◌, is_some, nat_le, option_map, slice_get, suc, zero}
 use Rattle.std.proofs.lemmas.Option.{slice_get_within}
 use Rattle.std.proofs.lemmas.Bool.{leb-true, leb-false}
+use Rattle.wf_lemmas.proofs.Lists.{none_past}
 use Rattle.wf_ast.specs.Flows.{flow}
 use Rattle.wf_ast.specs.Tree.{Flow, Param}
 use Rattle.wf_ast.specs.View.{default_view, param_view}
@@ -19,7 +20,6 @@ use Rattle.wf_model.specs.declared.node.CallNode.{CallNode}
 use Rattle.wf_model.specs.declared.node.Node.{Node}
 use Rattle.wf_model.specs.declared.node.NodeKind.TheVariants as variant
 use Rattle.wf_value.specs.HttpUrl.{first_of_two}
-use Rattle.wf_frames.proofs.Clocked.{none_past}
 use Rattle.wf_frames.proofs.Parts.{part_is, seen_list, view_is}
 use Rattle.wf_scope.proofs.Writing.{pairs_listed}
 use Rattle.wf_value.specs.Maps.{value_at}

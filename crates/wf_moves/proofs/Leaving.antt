@@ -3,6 +3,7 @@ use Rattle.std.proofs.Common.{◌≡◌, ℕ, ◌<◌, ◌≤◌, Bool, true, fa
 use Rattle.std.specs.Prelude.{Option}
 use Rattle.std.proofs.Math.Dec.{leb}
 use Rattle.std.proofs.lemmas.Bool.{leb-true, leb-false}
+use Rattle.wf_lemmas.proofs.Lists.{drop_end}
 use Rattle.wf_ast.specs.Tree.{more}
 use Rattle.wf_frames.specs.Fits.{Fits, HasNode, entries_at, list_at}
 use Rattle.wf_frames.specs.Frames.{body_entries, control, is_back, items, mark_of, topped}
@@ -13,7 +14,7 @@ use Rattle.wf_frames.specs.declared.frames.Frame.TheVariants as frame
 use Rattle.wf_frames.specs.declared.frames.Left.{Left}
 use Rattle.wf_model.specs.Config.{Item, Do, Entries}
 use Rattle.wf_model.specs.Local.{Goes, Local, Scene, ended, settle, settled}
-use Rattle.wf_frames.proofs.Lists.{drop_end, drop_more, entries_long, from_end, from_more}
+use Rattle.wf_frames.proofs.Lists.{drop_more, entries_long, from_end, from_more}
 use Rattle.wf_frames.proofs.Parts.{entries_is, list_is}
 use Rattle.wf_moves.specs.Moved.{HasMove, IsEnd, IsGoing, IsMove, IsSettled, Settled, is_at_back}
 use Rattle.wf_moves.specs.declared.finish.End.TheVariants as end

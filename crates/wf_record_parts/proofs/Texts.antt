@@ -2,12 +2,9 @@
 use Rattle.std.proofs.Common.{◌≡◌, Bool, true, false, length, Ok, Err, refl}
 use Rattle.std.specs.Str.{is_utf8, IsUtf8}
 use Rattle.std.proofs.lemmas.Str.{IsUtf8-from_is_utf8, is_utf8-from_IsUtf8}
+use Rattle.wf_lemmas.proofs.Bools.{false_unless}
 use Rattle.wf_record_parts.specs.Reading.{string_at, text_at}
 use Rattle.wf_record_parts.specs.Spelling.{Bytes}
-
-is_false : (b : Bool) → (b ≡ true → ⊥) → b ≡ false
-is_false true h = absurd (h refl)
-is_false false h = refl
 
 pub text_taken : (bytes s rest t : Bytes) → string_at bytes ≡ Ok (s, rest) → IsUtf8 s → t ≡ s → text_at bytes ≡ Ok (t, rest)
 unfolding text_at
@@ -15,4 +12,4 @@ text_taken bytes s rest t e utf8 same = rw (e, is_utf8-from_IsUtf8 s utf8, same)
 
 pub no_text : (bytes s rest : Bytes) → string_at bytes ≡ Ok (s, rest) → (IsUtf8 s → ⊥) → text_at bytes ≡ Err (length bytes)
 unfolding text_at
-no_text bytes s rest e bad = rw (e, is_false (is_utf8 s) (λ h. bad (IsUtf8-from_is_utf8 s h))) refl
+no_text bytes s rest e bad = rw (e, false_unless (is_utf8 s) (λ h. bad (IsUtf8-from_is_utf8 s h))) refl

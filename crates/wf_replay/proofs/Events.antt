@@ -69,8 +69,3 @@ never m n es i view same is none c leads_to =
 pub still_whole : {T E : Type 0} (broken : Bool) (r : Result T E) (e : E) (x : T) → r ≡ Ok x → (broken ≡ true ↔ IsErrOf r e) → broken ≡ false
 still_whole false r e x is breaks = refl
 still_whole true r e x is breaks = absurd (let no : Err e ≡ Ok x = sym (breaks.0 refl) ∙ is in cc no)
-
--- an error that `?` passes on is the one that came
-pub passed_on : {T A E : Type 0} (r : Result T E) (cause e : E) → IsErr r × IsErrAnd r (λ x. x ≡ cause) → r ≡ Err e → IsErrOf {T = A} (Err cause) e
-passed_on (Ok x) cause e gives is = absurd cc
-passed_on (Err f) cause e gives is = let same : f ≡ e = cc is in ap Err (sym gives.1 ∙ same)

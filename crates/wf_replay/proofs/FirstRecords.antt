@@ -37,10 +37,6 @@ start_leads L s p m accepted program begins_at =
     ∙ ap (λ q. Some (record { program = q; config = (state_of m).config; number = 1; session = 0; waits = 0 })) (sym program)
     ∙ ap Some (sym (at_first m))
 
-pub none_of : {A : Type 0} (o : Option A) → ((x : A) → o ≡ Some x → ⊥) → o ≡ None
-none_of None other = refl
-none_of (Some x) other = absurd (other x refl)
-
 pub start_refused : (L : Language) (s : Start) → L.source s.source ≡ None → first_standing L (Some (Started s)) ≡ None
 start_refused L s refused = ap (λ o. option_and_then (λ q. started q (initial q s)) o) refused
 

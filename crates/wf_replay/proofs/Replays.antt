@@ -32,10 +32,6 @@ pub record Kept (first now : World) (before after : Faults) (h g : History) (m n
   pub counts : NoneFell before after
   pub idle : is_closed h ≡ true → nothing_done
 
--- no count falls by nothing
-pub none_fell : (f : Faults) → NoneFell f f
-none_fell f = record { disk = omega arith; poll = omega arith; print = omega arith }
-
 -- before the first record
 pub starts : (w : World) (h : History) (m : Machine) (steps : ℕ) → ((c : List ℕ) (d : List Deed) → w.left_since w.moment c d → w.may_leave c × (d ≡ w.deeds)) → (is_closed h ≡ false → Stands h w) → SoFar w w h h m m steps steps
 starts w h m steps only stands = record {

@@ -3,12 +3,6 @@ use Rattle.std.specs.Prelude.{◌≡◌, ◌⊎◌, ◌↔◌, Bool, true, false
 use Rattle.std.proofs.Common.{refl, sym, ◌∙◌, ⊎_elim, subst}
 use Rattle.wf_host.specs.World.{World}
 
--- what answered Ok stays open
-pub still_open : {A E : Type 0} (before after : Bool) (e : E) (r : Result A E) (a : A) → r ≡ Ok a → before ≡ false → (after ≡ true ↔ (before ≡ true) ⊎ IsErrOf r e) → after ≡ false
-still_open before false e r a is was closes = refl
-still_open before true e r a is was closes =
-    absurd (⊎_elim (λ shut. let no : true ≡ false = sym shut ∙ was in cc no) (λ err. let no : Err e ≡ Ok a = sym err ∙ is in cc no) (closes.0 refl))
-
 -- what was open wasn't closed before
 pub not_closed : {A E : Type 0} (before : Bool) (e : E) (r : Result A E) → before ≡ false → (IsErrOf r e ↔ before ≡ true) → IsErrOf r e → ⊥
 not_closed before e r was closed err = let no : false ≡ true = sym was ∙ closed.0 err in cc no

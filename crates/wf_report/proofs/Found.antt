@@ -5,6 +5,7 @@ use Rattle.std.specs.Str.Iter.{HasSubslice}
 use Rattle.std.proofs.Common.{refl, ap}
 use Rattle.std.proofs.lemmas.Bool.Decides.{Decides-eqb}
 use Rattle.std.proofs.lemmas.Slice.Eq.{starts_is}
+use Rattle.wf_lemmas.proofs.Bools.{same_answer}
 use Rattle.wf_report.specs.Texts.{holds}
 
 behind : (c : ℕ) (cs n : List ℕ) → HasSubslice cs n → HasSubslice (c ∷ cs) n
@@ -29,12 +30,6 @@ finds n (c ∷ cs) is =
       | true ↦ λ here _. ([], drop (length n) (c ∷ cs), (starts_is Decides-eqb (c ∷ cs) n (starts_with nat_eq (c ∷ cs) n) refl).0 here)
       | false ↦ λ _ later. behind c cs n (finds n cs later)
     ]) refl is
-
-same_answer : (r t : Bool) → (r ≡ true → t ≡ true) → (t ≡ true → r ≡ true) → r ≡ t
-same_answer true true there back = refl
-same_answer true false there back = absurd (let no : false ≡ true = there refl in cc no)
-same_answer false true there back = absurd (let no : false ≡ true = back refl in cc no)
-same_answer false false there back = refl
 
 pub is_found : (r : Bool) (n s : List ℕ) → ((r ≡ true) ↔ HasSubslice s n) → r ≡ holds n s
 is_found r n s h = same_answer r (holds n s) (λ is. let f = h.0 is in found_by n s f.0 f.1 f.2) (λ is. h.1 (finds n s is))

@@ -4,19 +4,9 @@ use Rattle.std.specs.Prelude.{flat_map, slice_get}
 use Rattle.std.proofs.lemmas.Grind.{flat_map-append}
 use Rattle.std.proofs.lemmas.List.{take_all}
 use Rattle.std.proofs.lemmas.Option.{slice_get_within}
+use Rattle.wf_lemmas.proofs.Lists.{none_past, take_push}
 use Rattle.wf_model.specs.Config.{LogEntry}
 use Rattle.wf_report.specs.Texts.{logged, told_of}
-
--- one entry more
-take_more : {X : Type 0} (xs : List X) (k : ℕ) (x : X) → slice_get xs k ≡ Some x → take (suc k) xs ≡ take k xs ++ x ∷ []
-take_more [] k x is = absurd (cc is)
-take_more (y ∷ xs) zero x is = let same : y ≡ x = cc is in ap (λ y. y ∷ []) same
-take_more (y ∷ xs) (suc k) x is = ap (λ ys. y ∷ ys) (take_more xs k x is)
-
-none_left : {X : Type 0} (xs : List X) (k : ℕ) → slice_get xs k ≡ None → length xs ≤ k
-none_left [] k is = omega arith
-none_left (x ∷ xs) zero is = absurd (cc is)
-none_left (x ∷ xs) (suc k) is = let rest = none_left xs k is in omega (arith, rest)
 
 -- the lines of the first entries
 abbrev pub so_far : Option (List ℕ) → List LogEntry → ℕ → List ℕ
@@ -26,11 +16,11 @@ pub line_more : (grep : Option (List ℕ)) (es : List LogEntry) (k n : ℕ) (e :
 line_more grep es k n e text new one before at more =
     let next : suc k ≡ n = omega (arith, one) in
     more ∙ ap (λ l. l ++ told_of grep e) before ∙ ap (λ l. so_far grep es k ++ l) (sym (append-nil (told_of grep e)))
-    ∙ sym (flat_map-append (told_of grep) (take k es) (e ∷ [])) ∙ ap (flat_map (told_of grep)) (sym (take_more es k e at)) ∙ ap (so_far grep es) next
+    ∙ sym (flat_map-append (told_of grep) (take k es) (e ∷ [])) ∙ ap (flat_map (told_of grep)) (sym (take_push es k e at)) ∙ ap (so_far grep es) next
 
 pub all_lines : (grep : Option (List ℕ)) (es : List LogEntry) (k : ℕ) (text : List ℕ) → text ≡ so_far grep es k → slice_get es k ≡ None → text ≡ logged grep es
 unfolding logged
-all_lines grep es k text is past = is ∙ ap (flat_map (told_of grep)) (take_all k es (none_left es k past))
+all_lines grep es k text is past = is ∙ ap (flat_map (told_of grep)) (take_all k es (none_past es k past))
 
 pub fewer_left : (es : List LogEntry) (k n : ℕ) (e : LogEntry) → n ≡ k + 1 → slice_get es k ≡ Some e → length es - n < length es - k
 fewer_left es k n e one is = let inside = slice_get_within es k e is in omega (arith, inside, one)

@@ -1,6 +1,7 @@
 -- What some JSON is as a source: its tree, or that it nests too deep.
 use Rattle.std.proofs.Common.{◌≡◌, ◌<◌, ◌≤◌, ℕ, List, true, false, nat_le, if◌then◌else◌, Option, Some, None, Ok, Err, refl, ap, ◌∙◌, arith}
-use Rattle.std.proofs.lemmas.Bool.Decides.{nat_tests}
+use Rattle.std.proofs.lemmas.Bool.{le-leb, lt-leb}
+use Rattle.wf_lemmas.proofs.Options.{none_unless}
 use Rattle.serde_json.specs.Read.{read}
 use Rattle.wf_source.specs.Sources.{json_tree, of_json, refused}
 use Rattle.wf_status.specs.declared.RefusalKind.TheVariants as kind
@@ -9,26 +10,16 @@ use Rattle.wf_tree.specs.Json.{IsTree, IsTooDeep, first_decimal}
 use Rattle.wf_tree.specs.JsonLaws.{NoTwoHold}
 use Rattle.wf_tree.specs.Trees.{Tree, depth}
 
-none_or : {A : Type 0} (o : Option A) → ((a : A) → o ≡ Some a → ⊥) → o ≡ None
-none_or None other = refl
-none_or (Some a) other = absurd (other a refl)
-
-low : (n : ℕ) → n ≤ 100 → nat_le n 100 ≡ true
-low n h = grind (arith, nat_tests)
-
-high : (n : ℕ) → 100 < n → nat_le n 100 ≡ false
-high n h = grind (arith, nat_tests)
-
 pub tree_read : (s : List ℕ) (t : Tree) → NoTwoHold s → IsTree s t → of_json (read s) ≡ Ok t
 tree_read s t laws (j, reads, is, le) =
-    let none : first_decimal j ≡ None = none_or (first_decimal j) (λ p at. laws.tree_or_decimal (t, (j, reads, is, le)) (p, (j, reads, at))) in
+    let none : first_decimal j ≡ None = none_unless (first_decimal j) (λ p at. laws.tree_or_decimal (t, (j, reads, is, le)) (p, (j, reads, at))) in
     ap of_json reads.1
     ∙ (λ i. json_tree (none i) (shallow (is i)))
-    ∙ ap (λ b. json_tree None (if b then Some t else None)) (low (depth t) le)
+    ∙ ap (λ b. json_tree None (if b then Some t else None)) (le-leb (depth t) 100 le)
 
 pub too_deep : (s : List ℕ) → NoTwoHold s → IsTooDeep s → of_json (read s) ≡ Err (refused kind.TooDeep)
 too_deep s laws (j, t, reads, is, gt) =
-    let none : first_decimal j ≡ None = none_or (first_decimal j) (λ p at. laws.decimal_or_too_deep (p, (j, reads, at)) (j, t, reads, is, gt)) in
+    let none : first_decimal j ≡ None = none_unless (first_decimal j) (λ p at. laws.decimal_or_too_deep (p, (j, reads, at)) (j, t, reads, is, gt)) in
     ap of_json reads.1
     ∙ (λ i. json_tree (none i) (shallow (is i)))
-    ∙ ap (λ b. json_tree None (if b then Some t else None)) (high (depth t) gt)
+    ∙ ap (λ b. json_tree None (if b then Some t else None)) (lt-leb (depth t) 100 gt)

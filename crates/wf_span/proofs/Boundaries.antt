@@ -5,11 +5,12 @@ use Rattle.std.specs.Str.{IsUtf8, IsCharBoundary}
 use Rattle.std.proofs.Math.Seq.{get_or-append_seam}
 use Rattle.std.proofs.lemmas.Str.{IsCharBoundary-after_ascii, IsCharBoundary-start}
 use Rattle.std.proofs.lemmas.Bool.{eqb-true, false≢true}
+use Rattle.wf_lemmas.proofs.Bools.{and_left, and_right}
 use Rattle.wf_span.specs.Tokens.{is_blank, is_digit, is_letter, is_name_byte, is_quote, is_escaped, is_mark, is_closed, is_token}
 use Rattle.wf_span.specs.Scans.{count_while}
 use Rattle.wf_span.specs.declared.token.TokenKind.{TokenKind}
 use Rattle.wf_span.specs.declared.token.TokenKind.TheVariants.{Name, Number, Text, Mark}
-use Rattle.wf_span.proofs.Classes.{and_left, and_right, quote_ascii, blank_ascii, digit_ascii, letter_ascii, name_ascii, mark_ascii, pair_ascii}
+use Rattle.wf_span.proofs.Classes.{quote_ascii, blank_ascii, digit_ascii, letter_ascii, name_ascii, mark_ascii, pair_ascii}
 use Rattle.wf_span.proofs.Texts.{closed_rest, closed_behind}
 use Rattle.wf_span.proofs.Longest.{run}
 

@@ -2,6 +2,7 @@
 use Rattle.std.proofs.Common.{◌≡◌, ℕ, ◌<◌, List, [], ◌∷◌, Bool, true, false, ◌&&◌, ◌||◌, ◌==◌, refl, sym, ap, ◌∙◌, arith, codes}
 use Rattle.std.specs.List.{list_any}
 use Rattle.std.proofs.lemmas.Bool.{eqb-true, false≢true}
+use Rattle.wf_lemmas.proofs.Bools.{clash, or_left, or_right}
 use Rattle.wf_span.specs.Tokens.{is_blank, is_digit, is_letter, is_name_byte, is_quote, is_mark_byte, is_mark_pair}
 
 -- ## Small facts
@@ -9,29 +10,6 @@ use Rattle.wf_span.specs.Tokens.{is_blank, is_digit, is_letter, is_name_byte, is
 abbrev pub first : List ℕ → ℕ
 first [] = 0
 first (x ∷ r) = x
-
-pub and_left : (p q : Bool) → (p && q) ≡ true → p ≡ true
-and_left true q h = refl
-and_left false q h = h
-
-pub and_right : (p q : Bool) → (p && q) ≡ true → q ≡ true
-and_right true q h = h
-and_right false q h = absurd (false≢true h)
-
-pub both : (p q : Bool) → p ≡ true → q ≡ true → (p && q) ≡ true
-both true q h k = k
-both false q h k = h
-
-pub clash : (p : Bool) → p ≡ false → p ≡ true → ⊥
-clash p h k = false≢true (sym h ∙ k)
-
-pub or_left : (p q : Bool) → (p || q) ≡ false → p ≡ false
-or_left true q h = h
-or_left false q h = refl
-
-pub or_right : (p q : Bool) → (p || q) ≡ false → q ≡ false
-or_right true q h = absurd (false≢true (sym h))
-or_right false q h = h
 
 -- what passes stands in no list of which none passes
 pub not_in : (p : ℕ → Bool) (c : ℕ) (ms : List ℕ) → p c ≡ true → list_any p ms ≡ false → list_any (λ m. c == m) ms ≡ false

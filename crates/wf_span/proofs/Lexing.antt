@@ -2,6 +2,7 @@
 use Rattle.std.proofs.Common.{◌≡◌, ℕ, zero, suc, ◌+◌, ◌<◌, ◌≤◌, List, [], ◌∷◌, length, take, drop, true, refl, sym, ap, subst, ◌∙◌, arith, length-append}
 use Rattle.std.specs.Prelude.{Result, Ok, Err}
 use Rattle.std.proofs.lemmas.List.{length-take, length-drop}
+use Rattle.wf_lemmas.proofs.Bools.{clash}
 use Rattle.wf_span.specs.Tokens.{PlacedToken, TokensFrom, FaultFrom, FaultAt, no_token, bad_escape, open_text, Leads, IsLongest, is_blank, is_token}
 use Rattle.wf_span.specs.Scans.{count_while, piece_at}
 use Rattle.wf_span.specs.Lexer.{Lexes, onto, by_piece, behind_blanks, lex_within, lex}
@@ -11,7 +12,6 @@ use Rattle.wf_span.specs.declared.token.LexFault.{LexFault}
 use Rattle.wf_span.specs.declared.token.LexFault.TheVariants.{BadCharacter, OpenText}
 use Rattle.wf_span.specs.declared.piece.Begins.{Begins}
 use Rattle.wf_span.specs.declared.piece.Begins.TheVariants as b
-use Rattle.wf_span.proofs.Classes.{clash}
 use Rattle.wf_span.proofs.Longest.{Means, piece_is, longest_cut, empty_token}
 use Rattle.wf_span.proofs.Sequence.{leads, no_blank_left, blanks_within, all_blank, fault_here}
 use Rattle.wf_span.proofs.Unique.{tokens_are_one}

@@ -2,7 +2,8 @@
 use Rattle.std.proofs.Common.{◌≡◌, ℕ, suc, ◌<◌, ◌≤◌, List, [], ◌∷◌, ◌++◌, length, drop, take, Bool, true, false, ◌||◌, cond, refl, sym, ap, subst, ◌∙◌, arith, length-append}
 use Rattle.std.specs.List.{list_all}
 use Rattle.std.proofs.Math.Seq.{take-append_seam, drop-append_seam}
-use Rattle.std.proofs.lemmas.Bool.{false≢true}
+use Rattle.std.proofs.lemmas.Bool.{false≢true, and_from}
+use Rattle.wf_lemmas.proofs.Bools.{and_left, and_right, clash, false_unless}
 use Rattle.wf_span.specs.Tokens.{is_blank, is_digit, is_letter, is_name_byte, is_quote, is_escaped, is_mark, is_mark_byte, is_mark_pair, is_closed, is_token, IsLongest, IsNoToken, IsOpen, IsBadEscape}
 use Rattle.wf_span.specs.Scans.{count_while, text_end, mark_of, text_piece, mark_piece, piece_at}
 use Rattle.wf_span.specs.declared.token.TokenKind.{TokenKind}
@@ -11,7 +12,7 @@ use Rattle.wf_span.specs.declared.piece.Begins.{Begins}
 use Rattle.wf_span.specs.declared.piece.Begins.TheVariants as b
 use Rattle.wf_span.specs.declared.piece.TextEnd.{TextEnd}
 use Rattle.wf_span.specs.declared.piece.TextEnd.TheVariants.{Closed, BadEscape, Open}
-use Rattle.wf_span.proofs.Classes.{first, and_left, and_right, both, clash, quote_no_digit, quote_no_letter, digit_no_letter, quote_no_mark, digit_no_mark, letter_no_mark, quote_no_pair, digit_no_pair, letter_no_pair, quote_no_slash}
+use Rattle.wf_span.proofs.Classes.{first, quote_no_digit, quote_no_letter, digit_no_letter, quote_no_mark, digit_no_mark, letter_no_mark, quote_no_pair, digit_no_pair, letter_no_pair, quote_no_slash}
 use Rattle.wf_span.proofs.Texts.{Ends, ends, closed_once}
 
 -- what a source begins with
@@ -27,7 +28,7 @@ abbrev pub Run : (ℕ → Bool) → List ℕ → Type 0
 Run p bs = (text : List ℕ) × (behind : List ℕ) × (bs ≡ text ++ behind) × (list_all p text ≡ true) × (length text ≡ count_while p bs)
 
 run_by : (p : ℕ → Bool) (c : ℕ) (r : List ℕ) (t : Bool) → p c ≡ t → Run p r → (text : List ℕ) × (behind : List ℕ) × (c ∷ r ≡ text ++ behind) × (list_all p text ≡ true) × (length text ≡ cond t (suc (count_while p r)) 0)
-run_by p c r true h x = (c ∷ x.0, x.1, ap (λ l. c ∷ l) x.2, both (p c) (list_all p x.0) h x.3, ap suc x.4)
+run_by p c r true h x = (c ∷ x.0, x.1, ap (λ l. c ∷ l) x.2, and_from (p c) (list_all p x.0) h x.3, ap suc x.4)
 run_by p c r false h x = ([], c ∷ r, refl, refl, refl)
 
 pub run : (p : ℕ → Bool) (bs : List ℕ) → Run p bs
@@ -61,17 +62,13 @@ empty_token Number = refl
 empty_token Text = refl
 empty_token Mark = refl
 
-false_if_not : (t : Bool) → (t ≡ true → ⊥) → t ≡ false
-false_if_not true h = absurd (h refl)
-false_if_not false h = refl
-
 mark_one : (c : ℕ) (t : Bool) → is_blank c ≡ false → is_quote c ≡ false → is_digit c ≡ false → is_letter c ≡ false → is_mark_byte c ≡ t → Means (c ∷ []) (mark_piece (cond t 1 0))
 mark_one c true w q d l h = (c ∷ [], [], refl, record { whole = refl; token = h; longest = λ j other more e o. omega (arith, ap length e, length-append other more) })
 mark_one c false w q d l h = record { first = c; more = []; whole = refl; no_blank = w; no_quote = q; none = none }
   where
     none : (k : TokenKind) (text behind : List ℕ) → c ∷ [] ≡ text ++ behind → is_token k text ≡ false
     none k [] behind e = empty_token k
-    none k (x ∷ []) behind e = false_if_not (is_token k (x ∷ [])) (λ o. clash (is_mark_byte c) h (ap is_mark_byte (ap first e) ∙ is_marked c q d l k x [] (ap first e) o))
+    none k (x ∷ []) behind e = false_unless (is_token k (x ∷ [])) (λ o. clash (is_mark_byte c) h (ap is_mark_byte (ap first e) ∙ is_marked c q d l k x [] (ap first e) o))
     none k (x ∷ y ∷ t) behind e = absurd (omega (arith, ap length e))
 
 mark_two : (c n : ℕ) (r : List ℕ) (s t : Bool) → is_blank c ≡ false → is_quote c ≡ false → is_digit c ≡ false → is_letter c ≡ false → is_mark_pair c n ≡ s → is_mark_byte c ≡ t → Means (c ∷ n ∷ r) (mark_piece (cond s 2 (cond t 1 0)))
@@ -93,9 +90,9 @@ mark_two c n r false false w q d l p h = record { first = c; more = n ∷ r; who
   where
     none : (k : TokenKind) (text behind : List ℕ) → c ∷ n ∷ r ≡ text ++ behind → is_token k text ≡ false
     none k [] behind e = empty_token k
-    none k (x ∷ []) behind e = false_if_not (is_token k (x ∷ [])) (λ o. clash (is_mark_byte c) h (ap is_mark_byte (ap first e) ∙ is_marked c q d l k x [] (ap first e) o))
-    none k (x ∷ y ∷ []) behind e = false_if_not (is_token k (x ∷ y ∷ [])) (λ o. clash (is_mark_pair c n) p ((λ i. is_mark_pair (ap first e i) (ap first (ap (drop 1) e) i)) ∙ is_marked c q d l k x (y ∷ []) (ap first e) o))
-    none k (x ∷ y ∷ z ∷ t) behind e = false_if_not (is_token k (x ∷ y ∷ z ∷ t)) (λ o. false≢true (is_marked c q d l k x (y ∷ z ∷ t) (ap first e) o))
+    none k (x ∷ []) behind e = false_unless (is_token k (x ∷ [])) (λ o. clash (is_mark_byte c) h (ap is_mark_byte (ap first e) ∙ is_marked c q d l k x [] (ap first e) o))
+    none k (x ∷ y ∷ []) behind e = false_unless (is_token k (x ∷ y ∷ [])) (λ o. clash (is_mark_pair c n) p ((λ i. is_mark_pair (ap first e i) (ap first (ap (drop 1) e) i)) ∙ is_marked c q d l k x (y ∷ []) (ap first e) o))
+    none k (x ∷ y ∷ z ∷ t) behind e = false_unless (is_token k (x ∷ y ∷ z ∷ t)) (λ o. false≢true (is_marked c q d l k x (y ∷ z ∷ t) (ap first e) o))
 
 mark_means : (c : ℕ) (r : List ℕ) → is_blank c ≡ false → is_quote c ≡ false → is_digit c ≡ false → is_letter c ≡ false → Means (c ∷ r) (mark_piece (mark_of (c ∷ r)))
 mark_means c [] w q d l = mark_one c (is_mark_byte c) w q d l refl
@@ -123,7 +120,7 @@ number_means c r h =
       c ∷ x.0,
       x.1,
       ap suc x.4 ∙ ap (λ t. cond t (suc (count_while is_digit r)) 0) (sym h),
-      record { whole = ap (λ l. c ∷ l) x.2; token = both (is_digit c) (list_all is_digit x.0) h x.3; longest = λ j other more e o. omega (arith, x.4, longest_number c r h j other more e o) },
+      record { whole = ap (λ l. c ∷ l) x.2; token = and_from (is_digit c) (list_all is_digit x.0) h x.3; longest = λ j other more e o. omega (arith, x.4, longest_number c r h j other more e o) },
     )
 
 name_means : (c : ℕ) (r : List ℕ) → is_quote c ≡ false → is_digit c ≡ false → is_letter c ≡ true → Means (c ∷ r) (b.Token Name (count_while is_name_byte (c ∷ r)))
@@ -132,7 +129,7 @@ name_means c r q d h =
       c ∷ x.0,
       x.1,
       ap suc x.4 ∙ ap (λ t. cond (t || is_digit c) (suc (count_while is_name_byte r)) 0) (sym h),
-      record { whole = ap (λ l. c ∷ l) x.2; token = both (is_letter c) (list_all is_name_byte x.0) h x.3; longest = λ j other more e o. omega (arith, x.4, longest_name c r q d h j other more e o) },
+      record { whole = ap (λ l. c ∷ l) x.2; token = and_from (is_letter c) (list_all is_name_byte x.0) h x.3; longest = λ j other more e o. omega (arith, x.4, longest_name c r q d h j other more e o) },
     )
 
 -- ## Texts
@@ -150,7 +147,7 @@ text_means c r (Closed n) h x = (
   c ∷ x.0,
   x.1,
   omega (arith, x.4),
-  record { whole = ap (λ l. c ∷ l) x.2; token = both (is_quote c) (is_closed is_escaped c x.0) h x.3; longest = longest_text c r x.0 x.1 h x.2 x.3 },
+  record { whole = ap (λ l. c ∷ l) x.2; token = and_from (is_quote c) (is_closed is_escaped c x.0) h x.3; longest = longest_text c r x.0 x.1 h x.2 x.3 },
 )
 text_means c r (BadEscape n) h x = record {
   quote = c;
@@ -160,7 +157,7 @@ text_means c r (BadEscape n) h x = record {
   behind = x.3;
   whole = ap (λ l. c ∷ l) x.4;
   place = omega (arith, x.5);
-  fine_before = both (is_quote c) (is_closed is_escaped c (x.0 ++ c ∷ [])) h x.6;
+  fine_before = and_from (is_quote c) (is_closed is_escaped c (x.0 ++ c ∷ [])) h x.6;
   bad = x.7;
   closed = x.8;
 }

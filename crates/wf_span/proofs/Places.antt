@@ -3,6 +3,7 @@ use Rattle.std.proofs.Common.{◌≡◌, ℕ, zero, suc, ◌+◌, ◌≤◌, Lis
 use Rattle.std.specs.List.{slice_split, AllByRecursion, join_with_byte}
 use Rattle.std.proofs.Math.Seq.{drop-append_seam, take-append_seam}
 use Rattle.std.proofs.lemmas.List.Splits.{join_with_byte-slice_split}
+use Rattle.std.proofs.lemmas.List.{append-nil}
 use Rattle.wf_span.specs.Lines.{placed, lines_of, last_line, source_lines, is_newline, without_return, spaces}
 use Rattle.wf_span.specs.Places.{IsPartAt}
 
@@ -54,13 +55,9 @@ kept [] = record { tail = []; whole = refl }
 kept (b ∷ []) = record { tail = (kept_one b (b == 13)).0; whole = (kept_one b (b == 13)).1 }
 kept (b ∷ c ∷ r) = record { tail = (kept (c ∷ r)).tail; whole = ap (λ l. b ∷ l) (kept (c ∷ r)).whole }
 
-pub append_none : (s : List ℕ) → s ++ [] ≡ s
-append_none [] = refl
-append_none (b ∷ s) = ap (λ l. b ∷ l) (append_none s)
-
 last_part : (source front x : List ℕ) (n at : ℕ) → source ≡ front ++ x → at ≡ length front → AllByRecursion (IsPartAt source) (last_line n at x)
 last_part source front [] n at e h = tt
-last_part source front (b ∷ r) n at e h = (is_part source front (b ∷ r) [] n at (e ∙ ap (λ s. front ++ s) (sym (append_none (b ∷ r)))) h, tt)
+last_part source front (b ∷ r) n at e h = (is_part source front (b ∷ r) [] n at (e ∙ ap (λ s. front ++ s) (sym (append-nil (b ∷ r)))) h, tt)
 
 pub parts_law : (source front : List ℕ) (parts : List (List ℕ)) (n at : ℕ) → source ≡ front ++ join_with_byte 10 parts → at ≡ length front → AllByRecursion (IsPartAt source) (lines_of n at parts)
 parts_law source front [] n at e h = tt

@@ -1,11 +1,12 @@
 -- Where a text ends.
 use Rattle.std.proofs.Common.{◌≡◌, ℕ, suc, ◌+◌, ◌≤◌, List, [], ◌∷◌, ◌++◌, length, drop, Bool, true, false, not, ◌&&◌, cond, ◌==◌, refl, sym, ap, ◌∙◌, arith, Some, None}
-use Rattle.std.proofs.lemmas.Bool.{eqb-true, false≢true}
+use Rattle.std.proofs.lemmas.Bool.{eqb-true, false≢true, and_from}
+use Rattle.wf_lemmas.proofs.Bools.{and_right, clash}
 use Rattle.wf_span.specs.Tokens.{is_escaped, is_closed, any}
 use Rattle.wf_span.specs.Scans.{scan, first_bad, closed_at}
 use Rattle.wf_span.specs.declared.piece.TextEnd.{TextEnd}
 use Rattle.wf_span.specs.declared.piece.TextEnd.TheVariants.{Closed, BadEscape, Open}
-use Rattle.wf_span.proofs.Classes.{first, and_right, both, clash, same_self}
+use Rattle.wf_span.proofs.Classes.{first, same_self}
 
 -- how a scan of these bytes ends that begins at place i with no bad escape so far
 abbrev pub Ends : ℕ → ℕ → List ℕ → TextEnd → Type 0
@@ -77,8 +78,8 @@ plain q i c bs (BadEscape n) h k x = (c ∷ x.0, x.1, x.2, x.3, ap (λ l. c ∷ 
 plain q i c bs Open h k x = unclosed_plain q c bs h k x
 
 escape : (q i c d : ℕ) (bs : List ℕ) (end : TextEnd) → (c == q) ≡ false → (c == 92) ≡ true → is_escaped d ≡ true → Ends q (suc (suc i)) bs end → Ends q i (c ∷ d ∷ bs) end
-escape q i c d bs (Closed n) h k p x = (c ∷ d ∷ x.0, x.1, ap (λ l. c ∷ d ∷ l) x.2, closed_escape is_escaped q c d x.0 k ∙ both (is_escaped d) (is_closed is_escaped q x.0) p x.3, omega (arith, x.4))
-escape q i c d bs (BadEscape n) h k p x = (c ∷ d ∷ x.0, x.1, x.2, x.3, ap (λ l. c ∷ d ∷ l) x.4, omega (arith, x.5), closed_escape is_escaped q c d (x.0 ++ q ∷ []) k ∙ both (is_escaped d) (is_closed is_escaped q (x.0 ++ q ∷ [])) p x.6, x.7, x.8)
+escape q i c d bs (Closed n) h k p x = (c ∷ d ∷ x.0, x.1, ap (λ l. c ∷ d ∷ l) x.2, closed_escape is_escaped q c d x.0 k ∙ and_from (is_escaped d) (is_closed is_escaped q x.0) p x.3, omega (arith, x.4))
+escape q i c d bs (BadEscape n) h k p x = (c ∷ d ∷ x.0, x.1, x.2, x.3, ap (λ l. c ∷ d ∷ l) x.4, omega (arith, x.5), closed_escape is_escaped q c d (x.0 ++ q ∷ []) k ∙ and_from (is_escaped d) (is_closed is_escaped q (x.0 ++ q ∷ [])) p x.6, x.7, x.8)
 escape q i c d bs Open h k p x = unclosed_escape q c d bs h k x
 
 bad_here : (q i c d : ℕ) (bs : List ℕ) (end : TextEnd) → (c == q) ≡ false → (c == 92) ≡ true → is_escaped d ≡ false → EndsBad q i bs end → Ends q i (c ∷ d ∷ bs) end

@@ -1,8 +1,9 @@
--- A source has one list of tokens or one first fault, and not both.
+-- A source has one list of tokens or one first fault, and not and_from.
 use Rattle.std.proofs.Common.{◌≡◌, ℕ, suc, ◌+◌, ◌<◌, ◌≤◌, List, [], ◌∷◌, ◌++◌, length, take, drop, Bool, true, false, not, ◌&&◌, cond, ◌==◌, refl, sym, ap, subst, ◌∙◌, arith, append_assoc, append-nil}
 use Rattle.std.specs.List.{list_all}
 use Rattle.std.proofs.Math.Seq.{take-append_seam, drop-append_seam}
-use Rattle.std.proofs.lemmas.Bool.{eqb-true, false≢true}
+use Rattle.std.proofs.lemmas.Bool.{eqb-true, false≢true, and_from, not-true}
+use Rattle.wf_lemmas.proofs.Bools.{and_left, and_right, clash}
 use Rattle.wf_span.specs.Tokens.{PlacedToken, Leads, IsLongest, TokensFrom, FaultFrom, FaultAt, no_token, bad_escape, open_text, IsNoToken, IsOpen, IsBadEscape, is_blank, is_digit, is_letter, is_name_byte, is_quote, is_escaped, is_mark_pair, is_closed, any, is_token}
 use Rattle.wf_span.specs.Laws.{TokensAreOne}
 use Rattle.wf_span.specs.Scans.{count_while}
@@ -10,7 +11,7 @@ use Rattle.wf_span.specs.declared.token.TokenKind.{TokenKind}
 use Rattle.wf_span.specs.declared.token.TokenKind.TheVariants.{Name, Number, Text, Mark}
 use Rattle.wf_span.specs.declared.token.LexFault.{LexFault}
 use Rattle.wf_span.specs.declared.token.LexFault.TheVariants.{BadCharacter}
-use Rattle.wf_span.proofs.Classes.{first, and_left, and_right, both, clash, marks, not_in, quote_no_digit, quote_no_letter, digit_no_letter, quote_no_mark, digit_no_mark, letter_no_mark, quote_no_pair, digit_no_pair, letter_no_pair, quote_no_slash, same_self}
+use Rattle.wf_span.proofs.Classes.{first, marks, not_in, quote_no_digit, quote_no_letter, digit_no_letter, quote_no_mark, digit_no_mark, letter_no_mark, quote_no_pair, digit_no_pair, letter_no_pair, quote_no_slash, same_self}
 use Rattle.wf_span.proofs.Texts.{closed_plain, closed_escape, closed_rest, closed_behind}
 use Rattle.wf_span.proofs.Longest.{no_mark_start, empty_token}
 
@@ -83,7 +84,7 @@ plain_or_any : (q c d : ℕ) (r : List ℕ) (s : Bool) → (c == 92) ≡ s → i
 plain_or_any q c d r true k h f g = closed_escape any q c d r k ∙ f (closed_behind is_escaped q c d r k h)
 plain_or_any q c d r false k h f g =
     ap (λ t. cond t (is_closed any q r) (not (c == q) && is_closed any q (d ∷ r))) k
-    ∙ both (not (c == q)) (is_closed any q (d ∷ r)) (and_left (not (c == q)) (is_closed is_escaped q (d ∷ r)) (sym (ap (λ t. cond t (is_escaped d && is_closed is_escaped q r) (not (c == q) && is_closed is_escaped q (d ∷ r))) k) ∙ h)) (g (closed_rest is_escaped q c d r k h))
+    ∙ and_from (not (c == q)) (is_closed any q (d ∷ r)) (and_left (not (c == q)) (is_closed is_escaped q (d ∷ r)) (sym (ap (λ t. cond t (is_escaped d && is_closed is_escaped q r) (not (c == q) && is_closed is_escaped q (d ∷ r))) k) ∙ h)) (g (closed_rest is_escaped q c d r k h))
 
 closed_any : (q : ℕ) (text : List ℕ) → is_closed is_escaped q text ≡ true → is_closed any q text ≡ true
 closed_any q [] h = h
@@ -101,12 +102,8 @@ fine_rest : (q c : ℕ) (b : List ℕ) → (c == 92) ≡ false → IsFine q (c �
 fine_rest q c [] k h = same_self q
 fine_rest q c (d ∷ b) k h = closed_rest is_escaped q c d (b ++ q ∷ []) k h
 
-not_true : (t : Bool) → not t ≡ true → t ≡ false
-not_true true h = sym h
-not_true false h = refl
-
 no_quote_in : (q c d : ℕ) (r : List ℕ) → (c == 92) ≡ false → is_closed is_escaped q (c ∷ d ∷ r) ≡ true → (c == q) ≡ false
-no_quote_in q c d r k h = not_true (c == q) (and_left (not (c == q)) (is_closed is_escaped q (d ∷ r)) (sym (ap (λ t. cond t (is_escaped d && is_closed is_escaped q r) (not (c == q) && is_closed is_escaped q (d ∷ r))) k) ∙ h))
+no_quote_in q c d r k h = not-true (c == q) (and_left (not (c == q)) (is_closed is_escaped q (d ∷ r)) (sym (ap (λ t. cond t (is_escaped d && is_closed is_escaped q r) (not (c == q) && is_closed is_escaped q (d ∷ r))) k) ∙ h))
 
 fine_plain : (q c : ℕ) (b : List ℕ) → (c == 92) ≡ false → IsFine q (c ∷ b) → (c == q) ≡ false
 fine_plain q c [] k h = no_quote_in q c q [] k h

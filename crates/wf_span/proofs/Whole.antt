@@ -3,9 +3,10 @@ use Rattle.std.proofs.Common.{◌≡◌, ◌≢◌, ℕ, zero, suc, ◌+◌, ◌
 use Rattle.std.specs.List.{slice_split, onto_first, join_with_byte, repeat, AllByRecursion}
 use Rattle.std.proofs.lemmas.Bool.{eqb-true, eqb-false}
 use Rattle.std.proofs.lemmas.List.Splits.{join_with_byte-slice_split}
+use Rattle.std.proofs.lemmas.List.{append-nil}
 use Rattle.wf_span.specs.Lines.{Placed, placed, lines_of, last_line, source_lines, is_newline, without_return, spaces}
 use Rattle.wf_span.specs.Places.{CountFrom, RiseFrom, IsEnding, feed, return_and_feed, end, IsLine, StandFrom}
-use Rattle.wf_span.proofs.Places.{spaces_le, append_none}
+use Rattle.wf_span.proofs.Places.{spaces_le}
 
 -- ## Spaces
 
@@ -105,7 +106,7 @@ moved number at at2 source ls e h = subst (λ (a : ℕ). StandFrom number a sour
 
 stand_last : (number at : ℕ) (x : List ℕ) → HasNoFeed x → StandFrom number at x (last_line number at x)
 stand_last number at [] clean = refl
-stand_last number at (b ∷ r) clean = ([], [], refl, stands number at (b ∷ r) (b ∷ r) [] [] (omega arith) (sym (append_none (b ∷ r))) clean (end refl), refl)
+stand_last number at (b ∷ r) clean = ([], [], refl, stands number at (b ∷ r) (b ∷ r) [] [] (omega arith) (sym (append-nil (b ∷ r))) clean (end refl), refl)
 
 abbrev After : ℕ → ℕ → List ℕ → List Placed → Type 0
 After number at rest ls = StandFrom (suc number) at rest ls

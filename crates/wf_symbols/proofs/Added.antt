@@ -2,7 +2,8 @@
 use Rattle.std.proofs.Common.{◌≡◌, ℕ, ◌+◌, ◌<◌, ◌≤◌, Bool, true, false, ◌||◌, List, [], ◌∷◌, ◌++◌, length, drop, get_or, refl, sym, ap, ◌∙◌, subst}
 use Rattle.std.proofs.lemmas.List.Folds.{list_any-append}
 use Rattle.std.specs.Prelude.{bytes_eq}
-use Rattle.wf_symbols.proofs.Places.{item_at, none_left}
+use Rattle.wf_lemmas.proofs.Bools.{or_none, or_regrouped}
+use Rattle.wf_lemmas.proofs.Lists.{item_at, drop_end}
 use Rattle.wf_symbols.specs.Names.{Adds, names_of}
 use Rattle.wf_symbols.specs.declared.names.Names.{Names}
 use Rattle.wf_value.specs.HttpRequest.{is_among}
@@ -13,13 +14,9 @@ or_turn true true o = refl
 or_turn true false o = refl
 or_turn false q o = refl
 
-or_none : (p o : Bool) → (p || o) ≡ ((p || false) || o)
-or_none true o = refl
-or_none false o = refl
-
-or_false : (p : Bool) → (p || false) ≡ p
-or_false true = refl
-or_false false = refl
+or_within : (p o : Bool) → (p || o) ≡ ((p || false) || o)
+or_within true o = refl
+or_within false o = refl
 
 pub adds_none : (a : Names) → Adds a a []
 adds_none a = record { has = λ x. refl }
@@ -31,7 +28,7 @@ adds_then a b c xs ys h k = record {
 }
 
 pub adds_one : (a b : Names) (n m : Text) → m ≡ n → ((x : Text) → is_among x (names_of b) ≡ (bytes_eq x m || is_among x (names_of a))) → Adds a b (n ∷ [])
-adds_one a b n m e h = record { has = λ x. h x ∙ ap (λ k. bytes_eq x k || is_among x (names_of a)) e ∙ or_none (bytes_eq x n) (is_among x (names_of a)) }
+adds_one a b n m e h = record { has = λ x. h x ∙ ap (λ k. bytes_eq x k || is_among x (names_of a)) e ∙ or_within (bytes_eq x n) (is_among x (names_of a)) }
 
 -- whatever adds the rest from here on adds all from the beginning
 pub record AddsOn (initial : Names) (now : Names) (all : List Text) (rest : List Text) : Type 0 where
@@ -53,16 +50,10 @@ pub on_ends : (initial now : Names) (all : List Text) → AddsOn initial now all
 on_ends initial now all k = k.on now (adds_none now)
 
 pub items_end : {A : Type 0} (row : List A → List Text) (xs : List A) (i : ℕ) (initial now : Names) (all : List Text) → length xs ≤ i → row [] ≡ [] → AddsOn initial now all (row (drop i xs)) → Adds initial now all
-items_end row xs i initial now all le e k = on_ends initial now all (subst (λ l. AddsOn initial now all l) (ap row (none_left xs i le) ∙ e) k)
-
--- the names of a block's own steps
-or_own : (p a o : Bool) → ((p || a) || o) ≡ (a || (p || o))
-or_own true true o = refl
-or_own true false o = refl
-or_own false a o = refl
+items_end row xs i initial now all le e k = on_ends initial now all (subst (λ l. AddsOn initial now all l) (ap row (drop_end xs i le) ∙ e) k)
 
 pub own_next : (x n m : Text) (rest old new : Bool) (all : Bool) → m ≡ n → ((bytes_eq x n || rest) || old) ≡ all → new ≡ (bytes_eq x m || old) → (rest || new) ≡ all
-own_next x n m rest old new all e h k = ap (λ o. rest || o) (k ∙ ap (λ y. bytes_eq x y || old) e) ∙ sym (or_own (bytes_eq x n) rest old) ∙ h
+own_next x n m rest old new all e h k = ap (λ o. rest || o) (k ∙ ap (λ y. bytes_eq x y || old) e) ∙ sym (or_regrouped (bytes_eq x n) rest old) ∙ h
 
 pub only_those : (empty now : Names) (xs : List Text) → names_of empty ≡ [] → Adds empty now xs → (x : Text) → is_among x (names_of now) ≡ is_among x xs
-only_those empty now xs none h x = h.has x ∙ ap (λ l. is_among x xs || is_among x l) none ∙ or_false (is_among x xs)
+only_those empty now xs none h x = h.has x ∙ ap (λ l. is_among x xs || is_among x l) none ∙ or_none (is_among x xs)

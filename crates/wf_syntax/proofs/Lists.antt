@@ -1,6 +1,7 @@
 -- Parts in a row: their first fault, and none.
 use Rattle.std.proofs.Common.{◌≡◌, ℕ, zero, suc, ◌+◌, ◌<◌, List, [], ◌∷◌, ◌++◌, reverse, take, drop, length, get_or, Option, Some, None, refl, ap, sym, ◌∙◌, subst, arith}
 use Rattle.std.proofs.lemmas.List.{reverse-append}
+use Rattle.wf_lemmas.proofs.Lists.{reverse_push}
 use Rattle.wf_syntax_rules.specs.Faults.{AreSound, FirstAt, IsOwn, IsSound}
 use Rattle.wf_syntax_rules.specs.Rules.{Role, Sub, each, every, own, parts, at, there}
 use Rattle.wf_syntax_words.specs.Fields.{field}
@@ -43,16 +44,12 @@ pub fails_here : (r : Role) (t : Tree) (k : SyntaxKind) (s : Stop) → IsOwn r t
 fails_here r t k (stop.Refused j ps) h e = subst (λ (l : List PathPart). FirstAt (reverse l) j r t) (sym e.1) (subst (λ (i : SyntaxKind). IsOwn r t i) (sym e.0) h)
 fails_here r t k stop.OutOfMemory h e = tt
 
--- the last step of the way is the first of the path
-pub reverse_last : {A : Type 0} (s : List A) (x : A) → reverse (s ++ x ∷ []) ≡ x ∷ reverse s
-reverse_last s x = reverse-append s (x ∷ [])
-
 -- a part's stop, seen from the row of the parts
 pub fails_among : (before after : List Sub) (s : Sub) (ss : List Sub) (p : PathPart) (i o : Stop) → ss ≡ before ++ s ∷ after → AreSound before → s.part ≡ p → Fails s.role s.tree i → IsOutside p i o → FailsAmong ss o
 fails_among before after s ss p i stop.OutOfMemory e sound is h out = tt
 fails_among before after s ss p stop.OutOfMemory (stop.Refused j qs) e sound is h out = absurd out
 fails_among before after s ss p (stop.Refused k ps) (stop.Refused j qs) e sound is h out =
-    subst (λ (l : List PathPart). FirstAmong l j ss) (sym (ap reverse out.1 ∙ reverse_last ps.items p))
+    subst (λ (l : List PathPart). FirstAmong l j ss) (sym (ap reverse out.1 ∙ reverse_push ps.items p))
     (before, s, after, e, sound, is, subst (λ (i : SyntaxKind). FirstAt (reverse ps.items) i s.role s.tree) (sym out.0) h)
 
 first_of_parts : (r : Role) (t : Tree) (ps : List PathPart) (k : SyntaxKind) → own r t ≡ None → FirstAmong ps k (parts r t) → FirstAt ps k r t

@@ -1,6 +1,7 @@
 -- Nodes and their parts: what has no fault, and where the first one stands.
 use Rattle.std.proofs.Common.{◌≡◌, ◌+◌, ◌<◌, ℕ, zero, suc, length, take, slice_index_or, arith, not-suc-le-zero, add-one, ◌≤◌, Bool, true, false, if◌then◌else◌, List, [], ◌∷◌, ◌++◌, reverse, append_assoc, take_all, Some, None, refl, sym, ap, ◌∙◌, subst, subst₂}
 use Rattle.std.proofs.lemmas.List.{reverse-append, get_or-map, length-map}
+use Rattle.wf_lemmas.proofs.Lists.{reverse_push}
 use Rattle.wf_expr.specs.declared.fault.ExprFault.{ExprFault}
 use Rattle.wf_syntax_rules.proofs.Own.{own_is}
 use Rattle.wf_syntax_rules.proofs.Sound.{node_is_sound}
@@ -19,9 +20,6 @@ use Rattle.wf_tree.specs.declared.tree.Tree as code
 use Rattle.wf_value.specs.Pairs.{Text}
 use Rattle.wf_value.specs.declared.path.PathPart.{PathPart}
 use Rattle.wf_value.specs.declared.path.PathPart.TheVariants.{Index, Key}
-
-reverse_push : {X : Type 0} (xs : List X) (x : X) → reverse (xs ++ x ∷ []) ≡ x ∷ reverse xs
-reverse_push xs x = reverse-append xs (x ∷ [])
 
 -- ## Parts in a row
 pub both_sound : (xs ys : List Sub) → AreSound xs → AreSound ys → AreSound (xs ++ ys)

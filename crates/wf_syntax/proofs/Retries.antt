@@ -15,6 +15,7 @@ use Rattle.wf_syntax.specs.declared.stop.Stop.{Stop}
 use Rattle.wf_tree.specs.Trees.{Pairs, Tree, map, text}
 use Rattle.wf_value.specs.Pairs.{Text}
 use Rattle.std.proofs.lemmas.Slice.Eq.{bytes_eq-Decides}
+use Rattle.wf_lemmas.proofs.Bools.{or_true}
 use Rattle.wf_value.specs.declared.Backoff as code
 use Rattle.wf_value.specs.declared.DefaultKind.TheVariants.{Idempotent, NonIdempotent}
 
@@ -115,9 +116,5 @@ flow_named n h i j k =
     by_tests n (bytes_eq n (codes "http.default_retry_predicate")) (bytes_eq n (codes "http.default_retry_predicate_non_idempotent")) (bytes_eq n (codes "retry.always")) (bytes_eq n (codes "retry.never"))
     (unlike n _ h) (unlike n _ i) (unlike n _ j) (unlike n _ k)
 
-or_right : (a b : Bool) → b ≡ true → (a || b) ≡ true
-or_right true b h = refl
-or_right false b h = h
-
 pub named_is : (n : Text) → is_name n ≡ true → is_predicate n ≡ true
-named_is n h = or_right (is_among n predicates) (is_name n) h
+named_is n h = or_true (is_among n predicates) (is_name n) h

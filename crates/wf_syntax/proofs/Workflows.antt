@@ -2,6 +2,7 @@
 use Rattle.std.proofs.Common.{◌≡◌, ◌&&◌, ◌||◌, Bool, true, false, List, [], ◌∷◌, Option, Some, None, codes, bytes_eq, refl, sym, ap, ◌∙◌, subst}
 use Rattle.std.specs.List.{list_all}
 use Rattle.std.specs.Prelude.{option_map}
+use Rattle.wf_lemmas.proofs.Bools.{or_swapped}
 use Rattle.wf_ast.proofs.Views.{steps_level}
 use Rattle.wf_ast.specs.Tree as t
 use Rattle.wf_ast.specs.View.{steps_in, steps_view}
@@ -43,15 +44,10 @@ param_given u k v p d e is h name default =
     (map_sound Parameter u (pair k v no_pairs) (single_is u k v e) (named k is) (λ f z. z) (h.0, tt), subst (λ y. IsParam p y) (sym (single_is u k v e)) (name, (d, default, h.1)))
 
 -- ## Workflows
-either : (a b c : Bool) → (a || (b || c)) ≡ (b || (a || c))
-either true true c = refl
-either true false c = refl
-either false true c = refl
-either false false c = refl
 
 turned : (a b : Text) (ks : List Text) → list_all (λ k. is_among k (a ∷ b ∷ [])) ks ≡ list_all (λ k. is_among k (b ∷ a ∷ [])) ks
 turned a b [] = refl
-turned a b (k ∷ ks) = ap (λ x. x && list_all (λ j. is_among j (a ∷ b ∷ [])) ks) (either (bytes_eq k a) (bytes_eq k b) false) ∙ ap (λ x. is_among k (b ∷ a ∷ []) && x) (turned a b ks)
+turned a b (k ∷ ks) = ap (λ x. x && list_all (λ j. is_among j (a ∷ b ∷ [])) ks) (or_swapped (bytes_eq k a) (bytes_eq k b) false) ∙ ap (λ x. is_among k (b ∷ a ∷ []) && x) (turned a b ks)
 
 -- the same, as the code sees it: the fields first
 abbrev pub fields_fault : Pairs → Option SyntaxKind

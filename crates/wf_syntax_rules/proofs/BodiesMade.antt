@@ -1,11 +1,12 @@
 -- Steps, loops, tries and bodies that are made of trees without faults.
 use Rattle.std.proofs.Common.{◌≡◌, ◌≤◌, ◌<◌, ℕ, zero, suc, List, [], ◌∷◌, Option, Some, None, Bool, true, false, ◌||◌, if◌then◌else◌, is_some, codes, refl, sym, ap, ◌∙◌, arith}
 use Rattle.std.proofs.Common.{map as mapped}
+use Rattle.wf_lemmas.proofs.Options.{none_of, some_not_none}
 use Rattle.wf_ast.specs.Tree as t
 use Rattle.wf_syntax_rules.proofs.Deep.{body_keys}
 use Rattle.wf_syntax_rules.proofs.Faultless.{choice_there, demanded, first_there, musts_there, second_there, unless_parts}
 use Rattle.wf_syntax_rules.proofs.OneForm.{Form, OneAtMost, one_in_step, one_in_arm, form_there, form_absent, alone, assign_form, call_form, for_form, parallel_form, raise_form, return_form, steps_form, switch_form, try_form, after_steps, after_parallel}
-use Rattle.wf_syntax_rules.proofs.Soundness.{some_none, sound_own, sound_parts, AllSound, row_all, maybe_is, else_is, at_is, none_of, given}
+use Rattle.wf_syntax_rules.proofs.Soundness.{sound_own, sound_parts, AllSound, row_all, maybe_is, else_is, at_is, given}
 use Rattle.wf_syntax_rules.proofs.ValuesMade.{text_is, variable_is, texts_are, value_is, entries_are, call_is, limit_is, policy_is}
 use Rattle.wf_syntax_rules.specs.Faults.{AreSound, IsSound}
 use Rattle.wf_syntax_rules.specs.Made.{text_in, items_in, pairs_in, get, value_of, entries_of, call_of, policy_of, step_of, steps_in, steps_at, arms_in, range_of, over_by, loop_of, branches_in, work_by, texts_of, limit_of, parallel_of, tried_of, except_by, try_of, if_there, body_by, body_within, maybe_of}
@@ -48,7 +49,7 @@ range_is : (x : Tree) (fs : Pairs) → field (codes "range") fs ≡ Some x → I
 range_is (list (item x (item y no_items))) fs e h =
     let p = sound_parts r.Range (list (item x (item y no_items))) h in
     (list (item x (item y no_items)), e, (value_is x p.0, value_is y p.1.0))
-range_is x fs e h = absurd (some_none WrongKind (sound_own r.Range x h))
+range_is x fs e h = absurd (some_not_none WrongKind (sound_own r.Range x h))
 
 over_is : (o : Option Tree) (fs : Pairs) → field (codes "range") fs ≡ o → (has (codes "in") fs || has (codes "range") fs) ≡ true → AreSound (at (codes "in") r.Value fs) → AreSound (r.there (codes "range") r.Range o) → IsOver (over_by o fs) fs
 over_is (Some x) fs e there inside range = range_is x fs e range.0
@@ -78,11 +79,11 @@ module _ (n : ℕ) (body : Pairs → t.Body) (bodies : AreBodies n body) where
       let all = sound_parts r.Body (map fs) h in
       let a = row_all fs body_keys all in
       (bodies fs (omega arith) (one_in_step fs (sound_own r.Body (map fs) h)) all, next_is fs a.1.1.1.1.1.1.0)
-  in_step x d h = absurd (some_none WrongKind (sound_own r.Body x h))
+  in_step x d h = absurd (some_not_none WrongKind (sound_own r.Body x h))
 
   step_is : (x : Tree) → depth x ≤ n → IsSound r.Step x → IsStep (step_of body x) x
   step_is (map (pair k y no_pairs)) d h = (refl, in_step y (omega arith) (sound_parts r.Step (map (pair k y no_pairs)) h).0)
-  step_is x d h = absurd (some_none NotAStep (sound_own r.Step x h))
+  step_is x d h = absurd (some_not_none NotAStep (sound_own r.Step x h))
 
   steps_are : (i : ℕ) (xs : Items) → items_depth xs ≤ n → AreSound (each r.Step i xs) → StepsIn (steps_in body xs) xs
   steps_are i no_items d h = tt
@@ -90,7 +91,7 @@ module _ (n : ℕ) (body : Pairs → t.Body) (bodies : AreBodies n body) where
 
   steps_list : (x : Tree) → depth x ≤ n → IsSound r.Steps x → AreSteps (steps_in body (items_in x)) x
   steps_list (list xs) d h = steps_are 0 xs (omega arith) (sound_parts r.Steps (list xs) h)
-  steps_list x d h = absurd (some_none WrongKind (sound_own r.Steps x h))
+  steps_list x d h = absurd (some_not_none WrongKind (sound_own r.Steps x h))
 
   steps_there : (fs : Pairs) → pairs_depth fs ≤ n → has (codes "steps") fs ≡ true → AreSound (at (codes "steps") r.Steps fs) → At (codes "steps") fs (AreSteps (steps_at body fs))
   steps_there fs d there s = at_is (λ x. steps_in body (items_in x)) AreSteps (codes "steps") r.Steps fs there s (λ x e h. steps_list x (omega arith) h)
@@ -108,7 +109,7 @@ module _ (n : ℕ) (body : Pairs → t.Body) (bodies : AreBodies n body) where
         bodies fs (omega arith) (one_in_arm fs e) all,
         next_is fs a.1.1.1.1.1.1.0,
       )
-  arm_is x d h = absurd (some_none WrongKind (sound_own r.Arm x h))
+  arm_is x d h = absurd (some_not_none WrongKind (sound_own r.Arm x h))
 
   arms_are : (i : ℕ) (xs : Items) → items_depth xs ≤ n → AreSound (each r.Arm i xs) → ArmsIn (arms_in body xs) xs
   arms_are i no_items d h = tt
@@ -116,7 +117,7 @@ module _ (n : ℕ) (body : Pairs → t.Body) (bodies : AreBodies n body) where
 
   arms_list : (x : Tree) → depth x ≤ n → IsSound r.Arms x → OfList x (λ xs. ArmsIn (arms_in body (items_in x)) xs)
   arms_list (list xs) d h = arms_are 0 xs (omega arith) (sound_parts r.Arms (list xs) h)
-  arms_list x d h = absurd (some_none WrongKind (sound_own r.Arms x h))
+  arms_list x d h = absurd (some_not_none WrongKind (sound_own r.Arms x h))
 
   -- ## Loops and parallel steps
   loop_is : (x : Tree) → depth x ≤ n → IsSound r.Loop x → OfMap x (λ fs. IsLoop (loop_of body (pairs_in x)) fs)
@@ -128,23 +129,23 @@ module _ (n : ℕ) (body : Pairs → t.Body) (bodies : AreBodies n body) where
         over_is (field (codes "range") fs) fs refl e.0 a.0 a.1.1.0,
         steps_there fs (omega arith) (first_there (codes "steps") (codes "value" ∷ []) fs e.1) a.1.1.1.0,
       )
-  loop_is x d h = absurd (some_none WrongKind (sound_own r.Loop x h))
+  loop_is x d h = absurd (some_not_none WrongKind (sound_own r.Loop x h))
 
   in_branch : (x : Tree) → depth x ≤ n → IsSound r.Block x → OfMap x (λ fs. At (codes "steps") fs (AreSteps (steps_at body (pairs_in x))))
   in_branch (map fs) d h =
       let a = row_all fs ((codes "steps", r.Steps) ∷ []) (sound_parts r.Block (map fs) h) in
       steps_there fs (omega arith) (first_there (codes "steps") [] fs (musts_there (codes "steps" ∷ []) [] fs (sound_own r.Block (map fs) h))) a.0
-  in_branch x d h = absurd (some_none WrongKind (sound_own r.Block x h))
+  in_branch x d h = absurd (some_not_none WrongKind (sound_own r.Block x h))
 
   branches_are : (i : ℕ) (xs : Items) → items_depth xs ≤ n → AreSound (each r.Branch i xs) → BranchesIn (branches_in body xs) xs
   branches_are i no_items d h = tt
   branches_are i (item (map (pair k y no_pairs)) xs) d h =
       ((refl, in_branch y (omega arith) (sound_parts r.Branch (map (pair k y no_pairs)) h.0).0), branches_are (suc i) xs (omega arith) h.1)
-  branches_are i (item x xs) d h = absurd (some_none NotAStep (sound_own r.Branch x h.0))
+  branches_are i (item x xs) d h = absurd (some_not_none NotAStep (sound_own r.Branch x h.0))
 
   branches_list : (x : Tree) → depth x ≤ n → IsSound r.Branches x → OfList x (λ xs. BranchesIn (branches_in body (items_in x)) xs)
   branches_list (list xs) d h = branches_are 0 xs (omega arith) (sound_parts r.Branches (list xs) h)
-  branches_list x d h = absurd (some_none WrongKind (sound_own r.Branches x h))
+  branches_list x d h = absurd (some_not_none WrongKind (sound_own r.Branches x h))
 
   work_is : (o : Option Tree) (fs : Pairs) → field (codes "for") fs ≡ o → pairs_depth fs ≤ n → (has (codes "branches") fs || has (codes "for") fs) ≡ true → AreSound (at (codes "branches") r.Branches fs) → ((x : Tree) → o ≡ Some x → OfMap x (λ gs. IsLoop (loop_of body (pairs_in x)) gs)) → IsWork (work_by body o fs) fs
   work_is (Some x) fs e d there branches loop = (x, e, loop x refl)
@@ -162,7 +163,7 @@ module _ (n : ℕ) (body : Pairs → t.Body) (bodies : AreBodies n body) where
         maybe_is limit_of IsLimit (codes "concurrency_limit") r.Limit fs a.1.0 (λ x k s. limit_is x s),
         work_is (field (codes "for") fs) fs refl (omega arith) e.0 a.0 (given (codes "for") r.Loop fs (λ x. OfMap x (λ gs. IsLoop (loop_of body (pairs_in x)) gs)) a.1.1.1.0 (λ x k s. loop_is x (omega arith) s)),
       )
-  parallel_is x d h = absurd (some_none WrongKind (sound_own r.Parallel x h))
+  parallel_is x d h = absurd (some_not_none WrongKind (sound_own r.Parallel x h))
 
   -- ## Tries
   tried_by : (b : Bool) (fs : Pairs) → has (codes "call") fs ≡ b → pairs_depth fs ≤ n
@@ -174,7 +175,7 @@ module _ (n : ℕ) (body : Pairs → t.Body) (bodies : AreBodies n body) where
 
   tried_is : (x : Tree) → depth x ≤ n → IsSound r.Try x → OfMap x (λ fs. IsTried (tried_of body (pairs_in x)) fs)
   tried_is (map fs) d h = tried_by (has (codes "call") fs) fs refl (omega arith) (sound_own r.Try (map fs) h) (row_all fs try_keys (sound_parts r.Try (map fs) h))
-  tried_is x d h = absurd (some_none WrongKind (sound_own r.Try x h))
+  tried_is x d h = absurd (some_not_none WrongKind (sound_own r.Try x h))
 
   in_except : (x : Tree) → depth x ≤ n → IsSound r.Except x → OfMap x (λ gs. At (codes "as") gs (IsText (text_in (get (codes "as") (pairs_in x)))) × At (codes "steps") gs (AreSteps (steps_at body (pairs_in x))))
   in_except (map fs) d h =
@@ -183,7 +184,7 @@ module _ (n : ℕ) (body : Pairs → t.Body) (bodies : AreBodies n body) where
         at_is text_in IsText (codes "as") r.VariableName fs (first_there (codes "as") (codes "steps" ∷ []) fs e) a.0 (λ x k s. variable_is x s),
         steps_there fs (omega arith) (second_there (codes "as") (codes "steps") [] fs e) a.1.0,
       )
-  in_except x d h = absurd (some_none WrongKind (sound_own r.Except x h))
+  in_except x d h = absurd (some_not_none WrongKind (sound_own r.Except x h))
 
   except_is : (o : Option Tree) (fs : Pairs) → field (codes "except") fs ≡ o
       → ((x : Tree) → o ≡ Some x → OfMap x (λ gs. At (codes "as") gs (IsText (text_in (get (codes "as") (pairs_in x)))) × At (codes "steps") gs (AreSteps (steps_at body (pairs_in x)))))

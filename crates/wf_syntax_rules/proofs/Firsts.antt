@@ -1,11 +1,9 @@
 -- The first of a list that is faulty, and the place where symbols are cut, are one.
 use Rattle.std.proofs.Common.{◌≡◌, List, [], ◌∷◌, ◌++◌, drop, refl, sym, ap, ◌∙◌, subst}
 use Rattle.std.specs.List.{AllByRecursion}
+use Rattle.wf_lemmas.proofs.Lists.{same_head}
 use Rattle.wf_expr.specs.Begins.{BeginsOne, GoesNoFurther}
 use Rattle.wf_expr.specs.Symbols.{Sym, Placed, syms}
-
-same_head : {A : Type 0} (x y : A) (xs ys : List A) → x ∷ xs ≡ y ∷ ys → x ≡ y
-same_head x y xs ys e = cc
 
 -- Those before are sound, and none is sound and faulty. Places are compared here, not what stands there.
 pub one_first : {A : Type 0} (Good Bad : A → Type 0) → ((a : A) → Good a → Bad a → ⊥) → (before more : List A) (x y : A) (after behind : List A) → before ++ x ∷ after ≡ more ++ y ∷ behind → AllByRecursion Good before → AllByRecursion Good more → Bad x → Bad y → x ≡ y

@@ -1,6 +1,7 @@
 -- A tree is one program at most.
 use Rattle.std.proofs.Common.{◌≡◌, ℕ, Bool, true, false, bytes_eq, length, List, [], ◌∷◌, Option, Some, None, codes, refl, sym, ap, ◌∙◌}
 use Rattle.std.proofs.lemmas.Bool.{true≢false}
+use Rattle.std.proofs.lemmas.Option.{same_Some}
 use Rattle.wf_ast.specs.Tree as t
 use Rattle.wf_ast.specs.Tree.{Template}
 use Rattle.wf_expr.specs.Targets.{OneTarget}
@@ -14,9 +15,6 @@ use Rattle.wf_tree.specs.Trees.{Tree, text, list, map, Items, no_items, item, Pa
 use Rattle.wf_value.specs.Data as values
 use Rattle.wf_value.specs.Pairs.{Text}
 use Rattle.wf_value.specs.declared.Backoff.{Backoff}
-
-some_number : (n m : ℕ) → Some n ≡ Some m → n ≡ m
-some_number n m h = cc
 
 -- ## Assignments and calls
 entry_eq : (d e : t.Entry) → d.target ≡ e.target → d.value ≡ e.value → d ≡ e
@@ -53,13 +51,13 @@ one_texts ss rs x h g = absurd h
 
 -- ## Policies
 one_thousandths : (n m : ℕ) (x : Tree) → IsThousandths n x → IsThousandths m x → n ≡ m
-one_thousandths n m x h g = some_number n m (sym h ∙ g)
+one_thousandths n m x h g = same_Some n m (sym h ∙ g)
 
 one_attempts : (n m : ℕ) (x : Tree) → IsAttempts n x → IsAttempts m x → n ≡ m
-one_attempts n m x h g = some_number n m (sym h ∙ g)
+one_attempts n m x h g = same_Some n m (sym h ∙ g)
 
 one_limit : (n m : ℕ) (x : Tree) → IsLimit n x → IsLimit m x → n ≡ m
-one_limit n m x h g = some_number n m (sym h ∙ g)
+one_limit n m x h g = same_Some n m (sym h ∙ g)
 
 one_predicate : (p q : t.Predicate) (x : Tree) → IsPredicate p x → IsPredicate q x → p ≡ q
 one_predicate p q (text s) h g = h ∙ sym g

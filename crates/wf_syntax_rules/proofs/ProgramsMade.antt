@@ -1,9 +1,10 @@
 -- The program that is made of a tree without faults is the tree's.
 use Rattle.std.proofs.Common.{◌≡◌, [], ◌∷◌, Option, Some, None, Bool, true, false, if◌then◌else◌, is_some, bytes_eq, codes, refl, sym, subst, arith}
 use Rattle.std.proofs.lemmas.Slice.Eq.{bytes_eq-Decides}
+use Rattle.wf_lemmas.proofs.Options.{some_not_none}
 use Rattle.wf_syntax_rules.proofs.BodiesMade.{steps_made}
 use Rattle.wf_syntax_rules.proofs.Faultless.{demanded, unless_parts}
-use Rattle.wf_syntax_rules.proofs.Soundness.{some_none, sound_own, sound_parts, row_all, else_is, each_is}
+use Rattle.wf_syntax_rules.proofs.Soundness.{sound_own, sound_parts, row_all, else_is, each_is}
 use Rattle.wf_syntax_rules.proofs.ValuesMade.{literal_is}
 use Rattle.wf_syntax_rules.specs.Faults.{AreSound, IsSound}
 use Rattle.wf_syntax_rules.specs.Made.{some_or, literal_of, param_of, params_of, flow_of, flows_of, program_of}
@@ -20,11 +21,11 @@ use Rattle.wf_value.specs.Pairs.{Text}
 param_is : (x : Tree) → IsSound r.Parameter x → IsParam (param_of x) x
 param_is (text s) h = refl
 param_is (map (pair k x no_pairs)) h = (refl, (literal_of x, refl, literal_is x (sound_parts r.Parameter (map (pair k x no_pairs)) h).0))
-param_is x h = absurd (some_none WrongKind (sound_own r.Parameter x h))
+param_is x h = absurd (some_not_none WrongKind (sound_own r.Parameter x h))
 
 params_are : (x : Tree) → IsSound r.Parameters x → AreParams (params_of x) x
 params_are (list xs) h = each_is param_of IsParam r.Parameter param_is 0 xs (sound_parts r.Parameters (list xs) h)
-params_are x h = absurd (some_none WrongKind (sound_own r.Parameters x h))
+params_are x h = absurd (some_not_none WrongKind (sound_own r.Parameters x h))
 
 -- ## Workflows
 steps_there : (name : Text) (fs : Pairs) → own (r.Flow name) (map fs) ≡ None → has (codes "steps") fs ≡ true
@@ -37,7 +38,7 @@ flow_is k (map fs) h =
       else_is [] params_of AreParams (codes "params") r.Parameters fs a.0 (λ x d s. params_are x s),
       steps_made (pairs_depth fs) fs (omega arith) (steps_there k fs (sound_own (r.Flow k) (map fs) h)) a.1.0,
     )
-flow_is k x h = absurd (some_none WrongKind (sound_own (r.Flow k) x h))
+flow_is k x h = absurd (some_not_none WrongKind (sound_own (r.Flow k) x h))
 
 flows_are : (ps : Pairs) → AreSound (every r.Flow ps) → FlowsIn (flows_of ps) ps
 flows_are no_pairs h = tt
@@ -59,7 +60,7 @@ at_key true k j x y more e h rest is =
 at_key false k j x y more e h rest is = rest is
 
 pub flow_sound : (k : Text) (ps : Pairs) (y : Tree) → AreSound (every r.Flow ps) → field k ps ≡ Some y → IsSound (r.Flow k) y
-flow_sound k no_pairs y h e = absurd (some_none y (sym e))
+flow_sound k no_pairs y h e = absurd (some_not_none y (sym e))
 flow_sound k (pair j x ps) y h e = at_key (bytes_eq k j) k j x y (field k ps) refl h.0 (flow_sound k ps y h.1) e
 
 main_by : (fs : Pairs) (o : Option Tree) → field (codes "main") fs ≡ o → is_some o ≡ true → AreSound (every r.Flow fs) → At (codes "main") fs (IsFlow (flow_of (codes "main") (some_or null o)) (codes "main"))
@@ -70,4 +71,4 @@ pub program_is : (x : Tree) → IsSound r.Flows x → IsProgram (program_of x) x
 program_is (map fs) h =
     let all = sound_parts r.Flows (map fs) h in
     (_, _, refl, main_by fs (field (codes "main") fs) refl (demanded (has (codes "main") fs) MissingField (sound_own r.Flows (map fs) h)) all, flows_are (others fs) (others_sound fs all))
-program_is x h = absurd (some_none WrongKind (sound_own r.Flows x h))
+program_is x h = absurd (some_not_none WrongKind (sound_own r.Flows x h))

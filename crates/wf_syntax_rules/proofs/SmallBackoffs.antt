@@ -3,6 +3,7 @@ use Rattle.std.proofs.Common.{◌≡◌, ◌++◌, ℕ, suc, Bool, true, false, 
 use Rattle.std.proofs.lemmas.Bool.{and_from, le-leb, leb-true}
 use Rattle.std.proofs.lemmas.List.Folds.{list_all-append}
 use Rattle.std.specs.List.{list_all}
+use Rattle.wf_lemmas.proofs.Options.{some_not_none}
 use Rattle.wf_ast.specs.Accept.{is_small_backoff, small_backoff}
 use Rattle.wf_ast.specs.Nodes as n
 use Rattle.wf_ast.specs.Nodes.{Around, Node, Path, BodyPart, node, nodes, below, nth, in_block, in_layer, in_loop, in_task, loop_binds, InParallelLoop, NoLoop}
@@ -10,7 +11,7 @@ use Rattle.wf_ast.specs.Tree as t
 use Rattle.wf_syntax_rules.proofs.BodiesMade.{loop_keys, parallel_keys, try_keys, except_keys}
 use Rattle.wf_syntax_rules.proofs.Deep.{body_keys}
 use Rattle.wf_syntax_rules.proofs.ProgramsMade.{flow_sound, others_sound}
-use Rattle.wf_syntax_rules.proofs.Soundness.{some_none, sound_own, sound_parts, AllSound, row_all, given}
+use Rattle.wf_syntax_rules.proofs.Soundness.{sound_own, sound_parts, AllSound, row_all, given}
 use Rattle.wf_syntax_rules.specs.Faults.{AreSound, IsSound, rooted}
 use Rattle.wf_syntax_rules.specs.Laws.{SmallBackoffs}
 use Rattle.wf_syntax_rules.specs.Meaning.{default_backoff, others, ArmsIn, At, BranchesIn, ElseBy, FlowsIn, IsBackoff, IsBody, IsExcept, IsFlow, IsLoop, IsParallel, IsPolicy, IsProgram, IsStep, IsText, IsThousandths, IsTried, IsTry, IsWork, Maybe, OfList, OfMap, StepsIn}
@@ -33,10 +34,10 @@ AreSmallNumbers b = IsTrue (list_all (λ k. nat_le k 31536000000) (b.initial ∷
 
 within_by : (b : Bool) (k : ℕ) → demand (is_some (if b then Some k else None)) WrongKind ≡ None → IsTrue b
 within_by true k h = refl
-within_by false k h = absurd (some_none WrongKind h)
+within_by false k h = absurd (some_not_none WrongKind h)
 
 within : (most k : ℕ) (o : Option ℕ) → demand (is_some (at_most most o)) WrongKind ≡ None → o ≡ Some k → IsTrue (nat_le k most)
-within most k None h e = absurd (some_none k (sym e))
+within most k None h e = absurd (some_not_none k (sym e))
 within most k (Some j) h e = let same : j ≡ k = cc in subst (λ (i : ℕ). IsTrue (nat_le i most)) same (within_by (nat_le j most) j h)
 
 seconds_small : (k : ℕ) (x : Tree) → IsSound r.Seconds x → IsThousandths k x → IsSmall k

@@ -1,5 +1,7 @@
 -- What holds of a tree without faults: of its node, and of its parts.
 use Rattle.std.proofs.Common.{◌≡◌, ◌≤◌, ℕ, suc, List, [], ◌∷◌, ◌++◌, Option, Some, None, true, false, is_some, option_map, refl, sym, ◌∙◌, subst, append_assoc}
+use Rattle.std.proofs.lemmas.Option.{same_Some}
+use Rattle.wf_lemmas.proofs.Options.{some_not_none}
 use Rattle.wf_syntax_rules.proofs.Deep.{row_after, row, field_deep}
 use Rattle.wf_syntax_rules.proofs.Own.{own_is}
 use Rattle.wf_syntax_rules.specs.Faults.{AreSound, IsSound}
@@ -10,12 +12,6 @@ use Rattle.wf_syntax_words.specs.Fields.{field, has}
 use Rattle.wf_syntax_rules.specs.declared.fault.SyntaxKind.{SyntaxKind}
 use Rattle.wf_tree.specs.Trees.{Tree, null, Items, no_items, item, Pairs, depth, pairs_depth}
 use Rattle.wf_value.specs.Pairs.{Text}
-
-pub some_none : {A : Type 0} (k : A) → Some k ≡ None → ⊥
-some_none k h = cc
-
-some_tree : (x y : Tree) → Some x ≡ Some y → x ≡ y
-some_tree x y h = cc
 
 -- ## A node
 own_by : (r : Role) (t : Tree) (o : Option SyntaxKind) → own r t ≡ o → IsSound r t → own r t ≡ None
@@ -57,8 +53,8 @@ row_all fs (k ∷ ks) h = after_all (at k.0 k.1 fs) fs ks h
 
 -- ## Fields
 there_sound : (k : Text) (r : Role) (o : Option Tree) (x : Tree) → o ≡ Some x → AreSound (there k r o) → IsSound r x
-there_sound k r None x e h = absurd (some_none x (sym e))
-there_sound k r (Some y) x e h = subst (λ (z : Tree). IsSound r z) (some_tree y x e) h.0
+there_sound k r None x e h = absurd (some_not_none x (sym e))
+there_sound k r (Some y) x e h = subst (λ (z : Tree). IsSound r z) (same_Some y x e) h.0
 
 -- what holds of a sound tree that is no deeper than the fields holds of the tree at a key
 abbrev pub Holds : ℕ → Role → (Tree → Type 0) → Type 0
@@ -87,10 +83,6 @@ at_by f Is k fs (Some x) e t h = (x, e, h x refl)
 
 pub at_is : {A : Type 0} (f : Tree → A) (Is : A → Tree → Type 0) (k : Text) (r : Role) (fs : Pairs) → has k fs ≡ true → AreSound (at k r fs) → Holds (pairs_depth fs) r (λ x. Is (f x) x) → At k fs (Is (f (get k fs)))
 at_is f Is k r fs t s h = at_by f Is k fs (field k fs) refl t (given k r fs (λ x. Is (f x) x) s h)
-
-pub none_of : {A : Type 0} (o : Option A) → is_some o ≡ false → o ≡ None
-none_of None h = refl
-none_of (Some x) h = let p : ⊥ = cc in absurd p
 
 -- ## Items
 pub each_is : {A : Type 0} (f : Tree → A) (Is : A → Tree → Type 0) (r : Role) → ((x : Tree) → IsSound r x → Is (f x) x) → (i : ℕ) (xs : Items) → AreSound (each r i xs) → Each Is (each_of f xs) xs

@@ -1,5 +1,6 @@
 -- A tree is one value at most.
 use Rattle.std.proofs.Common.{◌≡◌, Bool, ℤ, List, [], ◌∷◌, Option, Some, None, refl, sym, ap, ◌∙◌, subst}
+use Rattle.std.proofs.lemmas.Option.{same_Some}
 use Rattle.wf_ast.specs.Tree.{Template, Scalar, Listed, Mapped, Templates, no_templates, template, Fields, no_fields, field as named}
 use Rattle.wf_syntax_rules.specs.Meaning.{AreNamed, AreValues, At, Each, Else, ElseBy, IsLiteral, AreLiterals, AreNamedLiterals, IsText, IsValue, Maybe, OfList, OfMap, OfSingle}
 use Rattle.wf_syntax_words.specs.Fields.{field}
@@ -9,12 +10,10 @@ use Rattle.wf_value.specs.Data as values
 use Rattle.wf_value.specs.Pairs.{Text}
 
 -- ## Fields
-some_tree : (x y : Tree) → Some x ≡ Some y → x ≡ y
-some_tree x y h = cc
 
 -- two parts of one field are of one tree
 pub both_at : (k : Text) (fs : Pairs) (Is Was : Tree → Type 0) → At k fs Is → At k fs Was → (x : Tree) × Is x × Was x
-both_at k fs Is Was h g = (h.0, h.2, subst Was (some_tree g.0 h.0 (sym g.1 ∙ h.1)) g.2)
+both_at k fs Is Was h g = (h.0, h.2, subst Was (same_Some g.0 h.0 (sym g.1 ∙ h.1)) g.2)
 
 pub both_lists : (x : Tree) (Is Was : Items → Type 0) → OfList x Is → OfList x Was → (xs : Items) × Is xs × Was xs
 both_lists (list xs) Is Was h g = (xs, h, g)

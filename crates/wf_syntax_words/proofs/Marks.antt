@@ -5,10 +5,10 @@ use Rattle.std.proofs.lemmas.List.{get_or_default, take-append-drop}
 use Rattle.std.proofs.lemmas.Slice.Eq.{bytes_eq-Decides}
 use Rattle.std.specs.Bool.{one_answer}
 use Rattle.std.specs.Prelude.{bytes_eq}
+use Rattle.wf_lemmas.proofs.Lists.{item_at}
 use Rattle.wf_value.specs.HttpRequest.{is_among}
 use Rattle.wf_syntax_words.specs.Names.{unmarked}
 use Rattle.wf_value.specs.Pairs.{Text}
-use Rattle.wf_syntax_words.proofs.Places.{item_at}
 
 -- ## Words
 pub same_either_way : (x y : Text) → bytes_eq x y ≡ bytes_eq y x

@@ -4,6 +4,8 @@ use Rattle.std.proofs.lemmas.Bool.Decides.{nat_tests}
 use Rattle.std.proofs.lemmas.List.{get_or_default}
 use Rattle.std.proofs.lemmas.Map.Text.{is_eq-slice_cmp}
 use Rattle.std.specs.Prelude.{bytes_eq, slice_get, is_some, option_map}
+use Rattle.wf_lemmas.proofs.Options.{some_mapped}
+use Rattle.wf_lemmas.proofs.Lists.{item_at}
 use Rattle.wf_syntax_words.specs.Fields.{field, has, has_all, has_only, is_empty, single_of}
 use Rattle.wf_tree.specs.Plain.{plain_pairs}
 use Rattle.wf_syntax_words.specs.Fields.{count_of, first_fields}
@@ -12,7 +14,6 @@ use Rattle.wf_tree.specs.Trees.{Tree, Pairs, pairs_of}
 use Rattle.wf_tree.specs.declared.tree.Tree.{Tree as Node}
 use Rattle.wf_value.specs.Maps.{value_at}
 use Rattle.wf_value.specs.Pairs.{Text}
-use Rattle.wf_syntax_words.proofs.Places.{item_at}
 
 pub value_at_is : (k : Text) (ps : List (Text × Tree)) → value_at k ps ≡ field k (pairs_of ps)
 value_at_is k [] = refl
@@ -77,9 +78,6 @@ row_more fs rs i d r all before lt is none =
     before ∙ row_next fs rs i d r lt is ∙ ap (λ b. cond b (map (λ k. k.now) (get_or rs i d).1.now) (first_row fs (drop (i + 1) rs))) none
 
 -- ## A map of one pair
-is_some-option_map : {A B : Type 0} (f : A → B) (o : Option A) → is_some (option_map f o) ≡ is_some o
-is_some-option_map f None = refl
-is_some-option_map f (Some a) = refl
 
 two_pairs_at : (ps : List (Text × Tree)) → is_some (slice_get ps 1) ≡ true → None ≡ single_of (trees.map (pairs_of ps))
 two_pairs_at [] is = refl
@@ -92,10 +90,10 @@ one_pair_at (p ∷ []) is = refl
 one_pair_at (p ∷ q ∷ ps) is = absurd (cc is)
 
 pub two_pairs : {A : Type 0} (f : A → Text × Tree) (ps : List (Text × Tree)) (o : Option A) (t : Tree) → t ≡ trees.map (pairs_of ps) → option_map f o ≡ slice_get ps 1 → is_some o ≡ true → None ≡ single_of t
-two_pairs f ps o t is at some = two_pairs_at ps (ap is_some (sym at) ∙ is_some-option_map f o ∙ some) ∙ ap single_of (sym is)
+two_pairs f ps o t is at some = two_pairs_at ps (ap is_some (sym at) ∙ some_mapped f o ∙ some) ∙ ap single_of (sym is)
 
 pub one_pair : {A : Type 0} (f : A → Text × Tree) (ps : List (Text × Tree)) (o : Option A) (first : Option (Text × Tree)) (t : Tree) → t ≡ trees.map (pairs_of ps) → option_map f o ≡ slice_get ps 1 → is_some o ≡ false → first ≡ slice_get ps 0 → first ≡ single_of t
-one_pair f ps o first t is at none is_first = is_first ∙ one_pair_at ps (ap is_some (sym at) ∙ is_some-option_map f o ∙ none) ∙ ap single_of (sym is)
+one_pair f ps o first t is at none is_first = is_first ∙ one_pair_at ps (ap is_some (sym at) ∙ some_mapped f o ∙ none) ∙ ap single_of (sym is)
 
 -- ## No pairs
 empty_at : (ps : List Entry) → (length ps == 0) ≡ is_empty (pairs_of (plain_pairs ps))

@@ -1,19 +1,11 @@
 -- Nodes that are added one after another.
 use Rattle.std.proofs.Common.{◌≡◌, ℕ, suc, ◌+◌, List, [], ◌∷◌, ◌++◌, length, map, set, refl, sym, ap, ◌∙◌, append_assoc, arith, length-append, Result, Ok, Err, IfOk}
 use Rattle.std.proofs.lemmas.List.{append-nil, length-map, map-append, map-set, set_at}
+use Rattle.wf_lemmas.proofs.Numbers.{plus_zero, suc_moved}
 use Rattle.wf_model.specs.NodeKinds.{node_view}
 use Rattle.wf_table.specs.Made.{Adds, view_for, views_for}
 use Rattle.wf_model.specs.Spots.{Spot}
 use Rattle.wf_model.specs.declared.node.Node.{Node}
-
-plus_zero : (n : ℕ) → n ≡ n + 0
-plus_zero n = omega arith
-
-plus_suc : (n m : ℕ) → suc n + m ≡ n + suc m
-plus_suc n m = omega arith
-
-plus_plus : (a b c : ℕ) → (a + b) + c ≡ a + (b + c)
-plus_plus a b c = omega arith
 
 pub views_length : (n : ℕ) (xs : List Spot) → length (views_for n xs) ≡ length xs
 views_length n [] = refl
@@ -21,7 +13,7 @@ views_length n (s ∷ xs) = ap suc (views_length (suc n) xs)
 
 pub views_append : (n : ℕ) (xs ys : List Spot) → views_for n (xs ++ ys) ≡ views_for n xs ++ views_for (n + length xs) ys
 views_append n [] ys = ap (λ m. views_for m ys) (plus_zero n)
-views_append n (s ∷ xs) ys = ap (λ l. view_for n s ∷ l) (views_append (suc n) xs ys ∙ ap (λ m. views_for (suc n) xs ++ views_for m ys) (plus_suc n (length xs)))
+views_append n (s ∷ xs) ys = ap (λ l. view_for n s ∷ l) (views_append (suc n) xs ys ∙ ap (λ m. views_for (suc n) xs ++ views_for m ys) (suc_moved n (length xs)))
 
 pub longer : (a b : List Node) (xs : List Spot) → Adds a b xs → length b ≡ length a + length xs
 longer a b xs h =

@@ -45,8 +45,6 @@ entries_below ns [] n os h = tt
 entries_below ns (e ∷ es) n os h = (within ns n _ _ h, entries_below ns es (suc n) os (others ns n _ _ h))
 
 -- ## Arms
-next_arm : (n m : ℕ) → n + suc (suc m) ≡ suc (suc n) + m
-next_arm n m = omega arith
 
 -- the parts of the body of the first arm, and those behind it
 pub arm_body : (ns : List Spot) (t : Template) (body : Body) (next : Option Text) (rest : Arms) (n : ℕ) (os : List ℕ) → Lies ns n (arms_spots (arm t body next rest) n os) → Lies ns (suc n) (spot (BodyAt [] body next) os ∷ body_spots body (suc n) os)

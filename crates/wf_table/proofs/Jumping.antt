@@ -3,6 +3,8 @@ use Rattle.std.proofs.Common.{◌≡◌, ℕ, zero, suc, ◌+◌, ◌<◌, ◌�
 use Rattle.std.proofs.lemmas.Bool.Decides.{Decides-ltb}
 use Rattle.std.proofs.lemmas.List.{length-map}
 use Rattle.std.proofs.lemmas.Option.{slice_get-map, slice_get_within}
+use Rattle.std.proofs.Math.Nat.{add-zero}
+use Rattle.wf_lemmas.proofs.Numbers.{suc_taken}
 use Rattle.wf_ast.specs.Tree.{Step, Steps, no_steps, more, Body, parallel, try, Flow}
 use Rattle.wf_model.specs.Unwind.{from_step}
 use Rattle.wf_value.specs.HttpUrl.{first_of_two}
@@ -19,16 +21,11 @@ use Rattle.wf_model.specs.declared.node.Node.{Node}
 use Rattle.wf_value.specs.Pairs.{Text}
 
 -- ## Nodes of parts
-stay : (n : ℕ) → n + 0 ≡ n
-stay n = omega arith
-
-moved : (n m : ℕ) → n + suc m ≡ suc n + m
-moved n m = omega arith
 
 views_at : (xs : List Spot) (n i : ℕ) → slice_get (views_for n xs) i ≡ option_map (view_for (n + i)) (slice_get xs i)
 views_at [] n i = refl
-views_at (s ∷ xs) n zero = ap (λ m. Some (view_for m s)) (sym (stay n))
-views_at (s ∷ xs) n (suc i) = views_at xs (suc n) i ∙ ap (λ m. option_map (view_for m) (slice_get xs i)) (sym (moved n i))
+views_at (s ∷ xs) n zero = ap (λ m. Some (view_for m s)) (sym (add-zero n))
+views_at (s ∷ xs) n (suc i) = views_at xs (suc n) i ∙ ap (λ m. option_map (view_for m) (slice_get xs i)) (sym (suc_taken n i))
 
 no_more : (n : ℕ) → 0 + n ≡ n
 no_more n = omega arith

@@ -1,5 +1,6 @@
 -- Parts that lie in a row among the parts of a program.
 use Rattle.std.proofs.Common.{◌≡◌, ℕ, zero, suc, ◌+◌, ◌<◌, List, [], ◌∷◌, ◌++◌, length, drop, slice_get, Some, sym, ap, ◌∙◌, append_assoc, arith}
+use Rattle.wf_lemmas.proofs.Numbers.{plus_zero, suc_moved}
 use Rattle.wf_model.specs.Spots.{Part, Spot, owners_at, part_at, spot, spot_owners, spot_part}
 
 -- from number n on these parts lie
@@ -43,13 +44,7 @@ others ns n s xs h = record { after = h.after; from = next_on ns n s (xs ++ h.af
 pub left : (ns : List Spot) (n : ℕ) (xs ys : List Spot) → Lies ns n (xs ++ ys) → Lies ns n xs
 left ns n xs ys h = record { after = ys ++ h.after; from = h.from ∙ append_assoc xs ys h.after }
 
-moved : (n m : ℕ) → suc n + m ≡ n + suc m
-moved n m = omega arith
-
-stay : (n : ℕ) → n ≡ n + 0
-stay n = omega arith
-
 -- behind some parts
 pub behind : (ns : List Spot) (xs ys : List Spot) (n m : ℕ) → m ≡ n + length xs → Lies ns n (xs ++ ys) → Lies ns m ys
-behind ns [] ys n m is h = record { after = h.after; from = ap (λ k. drop k ns) (is ∙ sym (stay n)) ∙ h.from }
-behind ns (x ∷ xs) ys n m is h = behind ns xs ys (suc n) m (is ∙ sym (moved n (length xs))) (others ns n x (xs ++ ys) h)
+behind ns [] ys n m is h = record { after = h.after; from = ap (λ k. drop k ns) (is ∙ sym (plus_zero n)) ∙ h.from }
+behind ns (x ∷ xs) ys n m is h = behind ns xs ys (suc n) m (is ∙ sym (suc_moved n (length xs))) (others ns n x (xs ++ ys) h)

@@ -3,6 +3,8 @@
 --     sound        it holds of each
 use Rattle.std.proofs.Common.{◌≡◌, ℕ, zero, suc, ◌+◌, ◌<◌, List, [], ◌∷◌, ◌++◌, length, slice_get, Option, None, Some, refl, sym, ap, ◌∙◌, subst, arith}
 use Rattle.std.proofs.lemmas.List.{append-nil}
+use Rattle.std.proofs.Math.Nat.{add-zero}
+use Rattle.wf_lemmas.proofs.Numbers.{suc_taken, two_taken}
 use Rattle.wf_ast.specs.Tree.{Template, Entry, Step, step, Steps, no_steps, more, Body, Arms, no_arms, arm, LoopBody, loop, ParallelBody, parallel, Work, OfBranches, OfLoop, Branches, no_branches, branch, TryBody, try, Except, no_except, except, Flow, Policy}
 use Rattle.wf_value.specs.Pairs.{Text}
 use Rattle.wf_table.proofs.Found.{arm_body, arms_found, arms_stand, behind_arm, behind_branch, behind_step, branch_steps, branches_below, branches_found, entries_below, entries_found, steps_below, steps_found, steps_rising, steps_stand}
@@ -33,15 +35,9 @@ abbrev pub AllSound : List Spot → ℕ → List Spot → Type 0
 AllSound ns n [] = Unit {0}
 AllSound ns n (s ∷ xs) = Sound ns n s × AllSound ns (suc n) xs
 
-moved : (n m : ℕ) → n + suc m ≡ suc n + m
-moved n m = omega arith
-
-stay : (n : ℕ) → n + 0 ≡ n
-stay n = omega arith
-
 all_append : (ns : List Spot) (xs ys : List Spot) (n m : ℕ) → n + length xs ≡ m → AllSound ns n xs → AllSound ns m ys → AllSound ns n (xs ++ ys)
-all_append ns [] ys n m is h k = subst (λ (z : ℕ). AllSound ns z ys) (sym is ∙ stay n) k
-all_append ns (x ∷ xs) ys n m is h k = (h.0, all_append ns xs ys (suc n) m (sym (moved n (length xs)) ∙ is) h.1 k)
+all_append ns [] ys n m is h k = subst (λ (z : ℕ). AllSound ns z ys) (sym is ∙ add-zero n) k
+all_append ns (x ∷ xs) ys n m is h k = (h.0, all_append ns xs ys (suc n) m (sym (suc_taken n (length xs)) ∙ is) h.1 k)
 
 pub later : (ns : List Spot) (os : List ℕ) (n m : ℕ) → n < suc m → Nested ns n os → Nested ns m os
 later ns [] n m le h = tt
@@ -66,9 +62,6 @@ list_inside ns ss n m os out is h = (
 
 two_on : (n k : ℕ) → n + suc (suc k) ≡ suc n + suc k
 two_on n k = omega arith
-
-over : (n k : ℕ) → n + suc (suc k) ≡ suc (suc n) + k
-over n k = omega arith
 
 -- the steps that take an error lie behind the body
 handler_lies : (ns : List Spot) (body : Body) (policy : Option Policy) (x : Except) (n : ℕ) (os : List ℕ) → Lies ns (suc n) (try_spots (try body policy x) n os)
@@ -216,7 +209,7 @@ mutual
         record { describes = describes_arm ns t n os _ h; nested = nest },
         (
           record { describes = describes_body ns [] body next (suc n) os p o (others ns (suc n) _ _ k); nested = nest_body },
-          all_append ns (body_spots body (suc n) os) (arms_spots rest m os) (suc (suc n)) m (ap (λ z. suc (suc n) + z) (body_long body (suc n) os) ∙ sym (over n (body_size body)))
+          all_append ns (body_spots body (suc n) os) (arms_spots rest m os) (suc (suc n)) m (ap (λ z. suc (suc n) + z) (body_long body (suc n) os) ∙ sym (two_taken n (body_size body)))
               (body_sound ns body [] next (suc n) os nest_body p o (others ns (suc n) _ _ k))
               (arms_sound ns rest m os (later ns os n m (omega arith) nest) (behind_arm ns t body next rest n os h)),
         ),
@@ -240,7 +233,7 @@ mutual
       let k = branch_steps ns x ss bs n os h in
       let m = n + suc (steps_size ss) in (
         record { describes = describes_branch ns x ss n os _ h k; nested = nest },
-        all_append ns (steps_spots ss (suc n) (n ∷ [])) (branches_spots bs m os) (suc n) m (ap (λ z. suc n + z) (steps_long ss (suc n) (n ∷ [])) ∙ sym (moved n (steps_size ss)))
+        all_append ns (steps_spots ss (suc n) (n ∷ [])) (branches_spots bs m os) (suc n) m (ap (λ z. suc n + z) (steps_long ss (suc n) (n ∷ [])) ∙ sym (suc_taken n (steps_size ss)))
             (steps_sound ns ss (suc n) (n ∷ []) (omega arith, ap (λ q. outside_of q (owners_at ns n)) (part_is ns n (BranchAt x ss) os _ h)) k)
             (branches_sound ns bs m os (later ns os n m (omega arith) nest) (behind_branch ns x ss bs n os h)),
       )
@@ -252,7 +245,7 @@ mutual
       let p = part_is ns (suc n) (BodyAt [] body None) os _ k in
       let o = owners_are ns (suc n) (BodyAt [] body None) os _ k in (
         record { describes = describes_body ns [] body None (suc n) os p o (others ns (suc n) _ _ k); nested = nest },
-        all_append ns (body_spots body (suc n) os) (except_spots y m (n ∷ os)) (suc (suc n)) m (ap (λ z. suc (suc n) + z) (body_long body (suc n) os) ∙ sym (over n (body_size body)))
+        all_append ns (body_spots body (suc n) os) (except_spots y m (n ∷ os)) (suc (suc n)) m (ap (λ z. suc (suc n) + z) (body_long body (suc n) os) ∙ sym (two_taken n (body_size body)))
             (body_sound ns body [] None (suc n) os nest p o (others ns (suc n) _ _ k))
             (except_sound ns y m (n ∷ os) (omega arith, out) (handler_lies ns body policy y n os h)),
       )
@@ -275,8 +268,8 @@ flows_sound ns (f ∷ fs) n h =
 
 at : (ns : List Spot) (xs : List Spot) (n i : ℕ) (s : Spot) → AllSound ns n xs → slice_get xs i ≡ Some s → Sound ns (n + i) s
 at ns [] n i s h is = absurd (cc)
-at ns (x ∷ xs) n zero s h is = let e : x ≡ s = cc in subst (λ (m : ℕ). Sound ns m s) (sym (stay n)) (subst (λ (y : Spot). Sound ns n y) e h.0)
-at ns (x ∷ xs) n (suc i) s h is = subst (λ (m : ℕ). Sound ns m s) (sym (moved n i)) (at ns xs (suc n) i s h.1 is)
+at ns (x ∷ xs) n zero s h is = let e : x ≡ s = cc in subst (λ (m : ℕ). Sound ns m s) (sym (add-zero n)) (subst (λ (y : Spot). Sound ns n y) e h.0)
+at ns (x ∷ xs) n (suc i) s h is = subst (λ (m : ℕ). Sound ns m s) (sym (suc_taken n i)) (at ns xs (suc n) i s h.1 is)
 
 -- each part of a program
 pub sound : (fs : List Flow) (i : ℕ) (s : Spot) → slice_get (spots fs) i ≡ Some s → Sound (spots fs) i s

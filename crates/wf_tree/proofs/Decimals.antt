@@ -1,6 +1,7 @@
 -- Some JSON is a tree exactly where it has no decimal.
 use Rattle.std.proofs.Common.{◌≡◌, ℕ, suc, List, Bool, true, false, ◌&&◌, Option, Some, None, option_map, option_and_then, is_some, is_none, if◌then◌else◌, refl, sym, ap, ◌∙◌, true≢false}
 use Rattle.std.specs.Option.{option_or}
+use Rattle.wf_lemmas.proofs.Options.{some_mapped}
 use Rattle.serde_json.specs.Data as json
 use Rattle.serde_json.specs.Find.{as_i64}
 use Rattle.wf_value.specs.declared.path.PathPart.{PathPart}
@@ -10,10 +11,6 @@ use Rattle.wf_tree.specs.Json.{tree_of, items_tree, members_tree, behind, first_
 
 abbrev Parts : Type 0
 Parts = Option (List PathPart)
-
-pub some_map : {A B : Type 0} (f : A → B) (o : Option A) → is_some (option_map f o) ≡ is_some o
-some_map f None = refl
-some_map f (Some a) = refl
 
 none_number : {A : Type 0} (o : Option A) (p : List PathPart) → is_none (if is_some o then None else Some p) ≡ is_some o
 none_number None p = refl
@@ -26,7 +23,7 @@ none_both part (Some p) b = refl
 
 pub some_both : {A B C : Type 0} (f : A → B → C) (a : Option A) (b : Option B) → is_some (option_and_then (λ t. option_map (f t) b) a) ≡ (is_some a && is_some b)
 some_both f None b = refl
-some_both f (Some t) b = some_map (f t) b
+some_both f (Some t) b = some_mapped (f t) b
 
 pub both : {a b c d : Bool} → a ≡ b → c ≡ d → (a && c) ≡ (b && d)
 both p q = λ i. p i && q i
@@ -35,10 +32,10 @@ mutual
   pub agree : (j : json.Data) → is_none (first_decimal j) ≡ is_some (tree_of j)
   agree json.null = refl
   agree (json.boolean b) = refl
-  agree (json.number n) = none_number (as_i64 n) _ ∙ sym (some_map _ (as_i64 n))
+  agree (json.number n) = none_number (as_i64 n) _ ∙ sym (some_mapped _ (as_i64 n))
   agree (json.string s) = refl
-  agree (json.array js) = agree_items 0 js ∙ sym (some_map _ (items_tree js))
-  agree (json.object ms) = agree_members ms ∙ sym (some_map _ (members_tree ms))
+  agree (json.array js) = agree_items 0 js ∙ sym (some_mapped _ (items_tree js))
+  agree (json.object ms) = agree_members ms ∙ sym (some_mapped _ (members_tree ms))
 
   agree_items : (i : ℕ) (js : json.Items) → is_none (first_in_items i js) ≡ is_some (items_tree js)
   agree_items i json.no_items = refl
@@ -66,7 +63,3 @@ some_decimal j h = by_some (first_decimal j) (agree j ∙ ap is_some h)
 
 pub none_some : (j : json.Data) (p : List PathPart) → first_decimal j ≡ Some p → is_some (tree_of j) ≡ false
 none_some j p h = sym (agree j) ∙ ap is_none h
-
-pub some_none : {A : Type 0} (o : Option A) → is_some o ≡ false → o ≡ None
-some_none None h = refl
-some_none (Some a) h = absurd (true≢false h)

@@ -2,16 +2,15 @@
 use Rattle.std.proofs.Common.{◌≡◌, ◌≤◌, ℕ, List, Bool, true, false, nat_le, Option, Some, None, option_and_then, if◌then◌else◌, refl, ap, ◌∙◌}
 use Rattle.std.specs.Str.{is_utf8}
 use Rattle.std.proofs.lemmas.Str.{IsUtf8-from_is_utf8, is_utf8-from_IsUtf8}
-use Rattle.std.proofs.lemmas.Bool.{false≢true}
+use Rattle.std.proofs.lemmas.Bool.{false≢true, le-leb, leb-true}
 use Rattle.serde_json.specs.Data as json
 use Rattle.serde_json.specs.Read.{read}
 use Rattle.wf_tree.specs.Trees.{Tree, depth}
 use Rattle.wf_tree.specs.Decode.{json_tree, shallow}
 use Rattle.wf_tree.specs.Json.{tree_of, IsTree}
-use Rattle.wf_tree.proofs.JsonCases.{le_of, le_is}
 
 within : (e t : Tree) (u : Bool) → nat_le (depth e) 100 ≡ u → (if u then Some e else None) ≡ Some t → (Some e ≡ Some t) × (depth t ≤ 100)
-within e t true h is = let same : e ≡ t = cc in (is, rw (← same) (le_of (depth e) h))
+within e t true h is = let same : e ≡ t = cc in (is, rw (← same) (leb-true (depth e) 100 h))
 within e t false h is = cc
 
 shallow_is : (o : Option Tree) (t : Tree) → shallow o ≡ Some t → (o ≡ Some t) × (depth t ≤ 100)
@@ -38,7 +37,7 @@ again t j false o u r v le = absurd (false≢true u)
 again t j true None u r v le = cc
 again t j true (Some i) u r v le =
     let same : i ≡ j = cc in
-    ap shallow (ap tree_of same ∙ v) ∙ kept t _ (le_is (depth t) le)
+    ap shallow (ap tree_of same ∙ v) ∙ kept t _ (le-leb (depth t) 100 le)
 
 -- the function finds the tree
 pub found_tree : (b : List ℕ) (t : Tree) → IsTree b t → json_tree b ≡ Some t

@@ -3,7 +3,8 @@ use Rattle.std.proofs.Common.{◌≡◌, ◌⊎◌, ◌↔◌, ◌≤◌, ◌<�
 use Rattle.std.specs.Str.{is_utf8}
 use Rattle.std.proofs.lemmas.Str.{IsUtf8-from_is_utf8, is_utf8-from_IsUtf8}
 use Rattle.std.proofs.lemmas.Bool.Decides.{nat_tests}
-use Rattle.std.proofs.lemmas.Bool.{false≢true}
+use Rattle.std.proofs.lemmas.Bool.{false≢true, leb-false, leb-true}
+use Rattle.wf_lemmas.proofs.Options.{none_of, some_mapped}
 use Rattle.serde_json.specs.Data as json
 use Rattle.serde_json.specs.Find.{as_i64}
 use Rattle.serde_json.specs.Read.{read}
@@ -12,23 +13,14 @@ use Rattle.wf_value.specs.Json.{Reads, IsNotJson, HasDecimal}
 use Rattle.wf_tree.specs.Trees.{Tree, depth}
 use Rattle.wf_tree.specs.Json.{tree_of, items_tree, members_tree, first_decimal, IsTooDeep}
 use Rattle.wf_tree.specs.JsonLaws.{HasTree, HasPath, NoTwoHold}
-use Rattle.wf_tree.proofs.Decimals.{no_decimal, some_decimal, some_map, some_both, both, none_some, some_none}
+use Rattle.wf_tree.proofs.Decimals.{no_decimal, some_decimal, some_both, both, none_some}
 
 abbrev Case : List ℕ → Type 0
 Case b = HasTree b ⊎ (IsNotJson b ⊎ (HasPath b ⊎ IsTooDeep b))
 
-pub le_of : (n : ℕ) → nat_le n 100 ≡ true → n ≤ 100
-le_of n h = grind (arith, nat_tests)
-
-gt_of : (n : ℕ) → nat_le n 100 ≡ false → 100 < n
-gt_of n h = grind (arith, nat_tests)
-
-pub le_is : (n : ℕ) → n ≤ 100 → nat_le n 100 ≡ true
-le_is n h = grind (arith, nat_tests)
-
 by_depth : (b : List ℕ) (j : json.Data) (t : Tree) (u : Bool) → Reads b j → tree_of j ≡ Some t → nat_le (depth t) 100 ≡ u → Case b
-by_depth b j t true r is h = inl (t, (j, r, is, le_of (depth t) h))
-by_depth b j t false r is h = inr (inr (inr (j, t, r, is, gt_of (depth t) h)))
+by_depth b j t true r is h = inl (t, (j, r, is, leb-true (depth t) 100 h))
+by_depth b j t false r is h = inr (inr (inr (j, t, r, is, leb-false (depth t) 100 h)))
 
 by_tree : (b : List ℕ) (j : json.Data) (o : Option Tree) → Reads b j → tree_of j ≡ o → Case b
 by_tree b j None r is =
@@ -80,10 +72,10 @@ mutual
   same_values : (j : json.Data) → is_some (value.value_of j) ≡ is_some (tree_of j)
   same_values json.null = refl
   same_values (json.boolean b) = refl
-  same_values (json.number n) = some_map _ (as_i64 n) ∙ sym (some_map _ (as_i64 n))
+  same_values (json.number n) = some_mapped _ (as_i64 n) ∙ sym (some_mapped _ (as_i64 n))
   same_values (json.string s) = refl
-  same_values (json.array js) = some_map _ (value.items_value js) ∙ same_items js ∙ sym (some_map _ (items_tree js))
-  same_values (json.object ms) = some_map _ (value.members_value ms) ∙ same_members ms ∙ sym (some_map _ (members_tree ms))
+  same_values (json.array js) = some_mapped _ (value.items_value js) ∙ same_items js ∙ sym (some_mapped _ (items_tree js))
+  same_values (json.object ms) = some_mapped _ (value.members_value ms) ∙ same_members ms ∙ sym (some_mapped _ (members_tree ms))
 
   same_items : (js : json.Items) → is_some (value.items_value js) ≡ is_some (items_tree js)
   same_items json.no_items = refl
@@ -98,6 +90,6 @@ mutual
 -- a decimal is told of trees where it is of values
 pub as_values : (b : List ℕ) → HasPath b ↔ HasDecimal b
 as_values b = (
-  λ h. (h.1.0, h.1.1, some_none (value.value_of h.1.0) (same_values h.1.0 ∙ none_some h.1.0 h.0 h.1.2)),
-  λ h. let found = some_decimal h.0 (some_none (tree_of h.0) (sym (same_values h.0) ∙ ap is_some h.2)) in (found.0, (h.0, h.1, found.1)),
+  λ h. (h.1.0, h.1.1, none_of (value.value_of h.1.0) (same_values h.1.0 ∙ none_some h.1.0 h.0 h.1.2)),
+  λ h. let found = some_decimal h.0 (none_of (tree_of h.0) (sym (same_values h.0) ∙ ap is_some h.2)) in (found.0, (h.0, h.1, found.1)),
 )

@@ -2,12 +2,14 @@
 use Rattle.std.proofs.Common.{◌≡◌, ℕ, ◌+◌, ◌<◌, ◌≤◌, Bool, true, false, ◌||◌, List, [], ◌∷◌, ◌++◌, length, drop, get_or, refl, sym, ap, ◌∙◌}
 use Rattle.std.proofs.Common as seq
 use Rattle.std.proofs.lemmas.List.{drop_all}
+use Rattle.wf_lemmas.proofs.Bools.{or_assoc, or_comm, or_none}
+use Rattle.wf_lemmas.proofs.Lists.{item_at}
 use Rattle.wf_ast.specs.Tree.{Expr, Exprs, no_exprs, expr, templates, fields}
 use Rattle.wf_model.specs.Kinds.{expr_now, exprs_now, is_now, template_now, templates_now, fields_now}
 use Rattle.wf_ast.specs.Instrs.{instr, instrs}
 use Rattle.wf_ast.specs.Machine.{Instr, and_skip, call, check, code, all_code, combine, index, invert, many, member, negate, or_skip}
 use Rattle.wf_ast.specs.declared.code.Instr as declared
-use Rattle.wf_frames.proofs.Coded.{coded, next}
+use Rattle.wf_frames.proofs.Coded.{coded}
 use Rattle.wf_wants.specs.Clocks.{any_now, call_now}
 use Rattle.wf_model.proofs.Views.{view_list, view_map}
 use Rattle.wf_model.specs.Shapes.{Compiled, decoded, named_by, named_list, shape_by, shape_list}
@@ -16,20 +18,6 @@ use Rattle.wf_model.specs.declared.shape.NamedShapes.{NamedShapes}
 use Rattle.wf_model.specs.declared.shape.Shape.{Shape, Map}
 use Rattle.wf_model.specs.declared.shape.Shape.TheViews as shape
 use Rattle.wf_model.specs.declared.shape.Shapes.{Shapes}
-
-or_assoc : (a b c : Bool) → a || (b || c) ≡ (a || b) || c
-or_assoc true b c = refl
-or_assoc false b c = refl
-
-or_none : (a : Bool) → a || false ≡ a
-or_none true = refl
-or_none false = refl
-
-or_turned : (a b : Bool) → a || b ≡ b || a
-or_turned true true = refl
-or_turned true false = refl
-or_turned false true = refl
-or_turned false false = refl
 
 any_joined : (xs ys : List Instr) → any_now (xs ++ ys) ≡ any_now xs || any_now ys
 any_joined [] ys = refl
@@ -59,7 +47,7 @@ mutual
       any_joined (code a) (code b ++ index ∷ [])
       ∙ ap (λ (c : Bool). any_now (code a) || c) (any_ended (code b) index refl ∙ any_code b) ∙ ap (λ (c : Bool). c || expr_now b) (any_code a)
   any_code (Expr.Call f es) =
-      any_joined (all_code es) (call f (many es) ∷ []) ∙ ap (λ (c : Bool). any_now (all_code es) || c) (or_none (is_now f)) ∙ ap (λ (c : Bool). c || is_now f) (any_codes es) ∙ or_turned (exprs_now es) (is_now f)
+      any_joined (all_code es) (call f (many es) ∷ []) ∙ ap (λ (c : Bool). any_now (all_code es) || c) (or_none (is_now f)) ∙ ap (λ (c : Bool). c || is_now f) (any_codes es) ∙ or_comm (exprs_now es) (is_now f)
 
   any_codes : (es : Exprs) → any_now (all_code es) ≡ exprs_now es
   any_codes no_exprs = refl
@@ -82,7 +70,7 @@ module _ (is items : List declared.Instr) (i : ℕ) (e : Expr) (same : items ≡
   tells = sym seen ∙ ap (λ l. any_now (instrs l)) same ∙ clock_told is e of
 
   pub told_there : (x : declared.Instr) → i < length items → x ≡ get_or items i x → call_now (instr x) ≡ true → true ≡ expr_now (decoded is)
-  told_there x within here t = sym (ap (λ (c : Bool). c || any_now (instrs (drop (i + 1) items))) t) ∙ sym (ap (λ l. any_now (instrs l)) (next items i x within here)) ∙ tells
+  told_there x within here t = sym (ap (λ (c : Bool). c || any_now (instrs (drop (i + 1) items))) t) ∙ sym (ap (λ l. any_now (instrs l)) (item_at items i x within here)) ∙ tells
 
   pub told_nowhere : length items ≤ i → false ≡ expr_now (decoded is)
   told_nowhere past = sym (ap (λ l. any_now (instrs l)) (drop_all i items past)) ∙ tells

@@ -1,6 +1,7 @@
 -- A source gives a tree exactly where it is that tree.
 use Rattle.std.proofs.Common.{◌≡◌, ℕ, List, [], ◌∷◌, false, Ok, refl, sym, ap, ◌∙◌, subst}
 use Rattle.std.specs.List.{AllByRecursion}
+use Rattle.wf_lemmas.proofs.Bools.{cond_false}
 use Rattle.wf_tree.specs.Trees.{Tree}
 use Rattle.wf_yaml_line.specs.declared.fault.Kind.TheVariants as kinds
 use Rattle.wf_yaml_line.specs.Fault.{kept}
@@ -11,7 +12,6 @@ use Rattle.wf_yaml.specs.Reading.{no_delay, document, reading}
 use Rattle.wf_yaml.specs.Relation.{Reads, body, IsTreeOf, TreesAreRead, OneTreeAtMost}
 use Rattle.wf_yaml.specs.Rows.{Row, rows, counting, before_mark, is_any_mark, no_mark, no_lone_return}
 use Rattle.wf_yaml.proofs.Relation.{parts, made, ok_same, cleared, nodes_agree}
-use Rattle.wf_yaml.proofs.Steps.{no}
 
 -- ---- marks and returns
 
@@ -23,11 +23,11 @@ unmarked (r ∷ rs) a h =
 
 no_mark_made : (rs : List Row) → AllByRecursion (λ r. is_any_mark r ≡ false) rs → no_mark rs ≡ Ok tt
 no_mark_made [] all = refl
-no_mark_made (r ∷ rs) all = no (is_any_mark r) _ _ all.0 ∙ no_mark_made rs all.1
+no_mark_made (r ∷ rs) all = cond_false (is_any_mark r) _ _ all.0 ∙ no_mark_made rs all.1
 
 all_before : (rs : List Row) → AllByRecursion (λ r. is_any_mark r ≡ false) rs → before_mark rs ≡ rs
 all_before [] all = refl
-all_before (r ∷ rs) all = no (is_any_mark r) _ _ all.0 ∙ ap (λ l. r ∷ l) (all_before rs all.1)
+all_before (r ∷ rs) all = cond_false (is_any_mark r) _ _ all.0 ∙ ap (λ l. r ∷ l) (all_before rs all.1)
 
 unreturned : (rs : List Row) (a : Unit {0}) → no_lone_return rs ≡ Ok a → AllByRecursion (λ r. among r.text return_mark ≡ false) rs
 unreturned [] a h = tt
@@ -37,7 +37,7 @@ unreturned (r ∷ rs) a h =
 
 no_return_made : (rs : List Row) → AllByRecursion (λ r. among r.text return_mark ≡ false) rs → no_lone_return rs ≡ Ok tt
 no_return_made [] all = refl
-no_return_made (r ∷ rs) all = no (among r.text return_mark) _ _ all.0 ∙ no_return_made rs all.1
+no_return_made (r ∷ rs) all = cond_false (among r.text return_mark) _ _ all.0 ∙ no_return_made rs all.1
 
 -- ---- the source
 

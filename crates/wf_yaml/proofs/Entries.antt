@@ -3,6 +3,8 @@ use Rattle.std.proofs.Common.{◌≡◌, ◌⊎◌, inl, inr, ℕ, ◌+◌, List
 use Rattle.std.proofs.lemmas.Map.Lookups.{exact_bytes}
 use Rattle.std.specs.Map.{keys_of}
 use Rattle.std.specs.Ordering.{match_ordering}
+use Rattle.wf_lemmas.proofs.Bools.{or_left, or_right}
+use Rattle.wf_lemmas.proofs.Lists.{same_head, same_tail}
 use Rattle.wf_tree.specs.Trees.{pairs_of}
 use Rattle.wf_value.specs.Maps.{key_cmp, with_value}
 use Rattle.wf_yaml_line.specs.Marks.{is_same, is_one_of}
@@ -18,12 +20,6 @@ Match n d es ps = PairsRead n d es (pairs_of ps)
 
 -- ---- lists
 
-first_same : {A : Type 0} (x y : A) (xs ys : List A) → x ∷ xs ≡ y ∷ ys → x ≡ y
-first_same x y xs ys h = cc
-
-rest_same : {A : Type 0} (x y : A) (xs ys : List A) → x ∷ xs ≡ y ∷ ys → xs ≡ ys
-rest_same x y xs ys h = cc
-
 -- where one list is cut in two ways, and the second cut is at an element
 record LaterCut {A : Type 0} (a b x : List A) (z : A) (y : List A) : Type 0 where
   pub between : List A
@@ -37,25 +33,17 @@ record EarlierCut {A : Type 0} (a b x : List A) (z : A) (y : List A) : Type 0 wh
 
 cuts : {A : Type 0} (a b x : List A) (z : A) (y : List A) → a ++ b ≡ x ++ z ∷ y → EarlierCut a b x z y ⊎ LaterCut a b x z y
 cuts [] b x z y h = inr (record { between = x; left = refl; right = h })
-cuts (c ∷ a) b [] z y h = inl (record { between = a; left = ap (λ e. e ∷ a) (first_same c z (a ++ b) y h); right = sym (rest_same c z (a ++ b) y h) })
-cuts (c ∷ a) b (w ∷ x) z y h = by (cuts a b x z y (rest_same c w (a ++ b) (x ++ z ∷ y) h))
+cuts (c ∷ a) b [] z y h = inl (record { between = a; left = ap (λ e. e ∷ a) (same_head c z (a ++ b) y h); right = sym (same_tail c z (a ++ b) y h) })
+cuts (c ∷ a) b (w ∷ x) z y h = by (cuts a b x z y (same_tail c w (a ++ b) (x ++ z ∷ y) h))
   where
     same : c ≡ w
-    same = first_same c w (a ++ b) (x ++ z ∷ y) h
+    same = same_head c w (a ++ b) (x ++ z ∷ y) h
 
     by : EarlierCut a b x z y ⊎ LaterCut a b x z y → EarlierCut (c ∷ a) b (w ∷ x) z y ⊎ LaterCut (c ∷ a) b (w ∷ x) z y
     by (inl k) = inl (record { between = k.between; left = (λ i. same i ∷ k.left i); right = k.right })
     by (inr k) = inr (record { between = k.between; left = (λ i. sym same i ∷ k.left i); right = k.right })
 
 -- ---- an entry more
-
-later_new : (a b : Bool) → (a || b) ≡ false → b ≡ false
-later_new true b h = absurd (true≢false h)
-later_new false b h = h
-
-first_new : (a b : Bool) → (a || b) ≡ false → a ≡ false
-first_new true b h = absurd (true≢false h)
-first_new false b h = refl
 
 module _ (n d : ℕ) (e : Entry) (p : Named) (is : One n d e p) where
   at_front : (a b : List Entry) (ps : List Named) → Match n d (a ++ b) ps → Match n d (a ++ e ∷ b) (p ∷ ps)
@@ -93,7 +81,7 @@ module _ (n d : ℕ) (e : Entry) (p : Named) (is : One n d e p) where
   pub put : (ps : List Named) → is_one_of (keys_of ps) p.0 ≡ false → (a b : List Entry) → Match n d (a ++ b) ps → Match n d (a ++ e ∷ b) (with_value p.0 p.1 ps)
   put [] new a b h = at_front a b [] h
   put (q ∷ ps) new a b h =
-      placed q ps (with_value p.0 p.1 ps) (λ x y. put ps (later_new (is_same q.0 p.0) (is_one_of (keys_of ps) p.0) new) x y) (key_cmp p.0 q.0) refl (first_new (is_same q.0 p.0) (is_one_of (keys_of ps) p.0) new) a b h
+      placed q ps (with_value p.0 p.1 ps) (λ x y. put ps (or_right (is_same q.0 p.0) (is_one_of (keys_of ps) p.0) new) x y) (key_cmp p.0 q.0) refl (or_left (is_same q.0 p.0) (is_one_of (keys_of ps) p.0) new) a b h
 
 -- ---- the pair of the first entry
 
@@ -109,9 +97,9 @@ module _ (n d : ℕ) (e : Entry) where
   taken_at : (es : List Entry) (p : Named) (ps : List Named) (entry : Entry) (before after : List Entry) → One n d entry p → e ∷ es ≡ before ++ entry ∷ after → Match n d (before ++ after) ps
       → ((xs : List Entry) → Match n d (e ∷ xs) ps → Taken n d e xs ps) → Taken n d e es (p ∷ ps)
   taken_at es p ps entry [] after is all others more =
-      record { before = []; pair = p; after = ps; all = refl; one = subst (λ x. One n d x p) (sym (first_same e entry es after all)) is; others = subst (λ l. Match n d l ps) (sym (rest_same e entry es after all)) others }
+      record { before = []; pair = p; after = ps; all = refl; one = subst (λ x. One n d x p) (sym (same_head e entry es after all)) is; others = subst (λ l. Match n d l ps) (sym (same_tail e entry es after all)) others }
   taken_at es p ps entry (b ∷ bs) after is all others more =
-      let same = first_same e b es (bs ++ entry ∷ after) all in
+      let same = same_head e b es (bs ++ entry ∷ after) all in
       let t = more (bs ++ after) (subst (λ x. Match n d (x ∷ (bs ++ after)) ps) (sym same) others) in
       record {
         before = p ∷ t.before;
@@ -119,7 +107,7 @@ module _ (n d : ℕ) (e : Entry) where
         after = t.after;
         all = ap (λ l. p ∷ l) t.all;
         one = t.one;
-        others = record { before = bs; entry = entry; after = after; all = rest_same e b es (bs ++ entry ∷ after) all; one = is; others = t.others };
+        others = record { before = bs; entry = entry; after = after; all = same_tail e b es (bs ++ entry ∷ after) all; one = is; others = t.others };
       }
 
   pub taken : (es : List Entry) (ps : List Named) → Match n d (e ∷ es) ps → Taken n d e es ps

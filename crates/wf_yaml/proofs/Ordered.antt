@@ -7,6 +7,7 @@ use Rattle.std.specs.List.{AllByRecursion}
 use Rattle.std.specs.List.Sorted.{IsStrictlySortedBy}
 use Rattle.std.specs.Map.{keys_of}
 use Rattle.std.specs.Ordering.{match_ordering, ordering_reverse}
+use Rattle.wf_lemmas.proofs.Bools.{or_swapped, or_twice}
 use Rattle.wf_tree.specs.Trees.{Tree}
 use Rattle.wf_value.specs.Maps.{IsInOrder, key_cmp, with_value}
 use Rattle.wf_yaml_line.specs.Marks.{is_same, is_one_of}
@@ -51,21 +52,12 @@ turn s t o h = nat_list_cmp_total.antisymm t s ∙ ap ordering_reverse h
 
 -- ---- the keys of pairs
 
-one_of_either : (a b c : Bool) → (a || (b || c)) ≡ (b || (a || c))
-one_of_either true true c = refl
-one_of_either true false c = refl
-one_of_either false b c = refl
-
-once : (a b : Bool) → (a || b) ≡ (a || (a || b))
-once true b = refl
-once false b = refl
-
 put_first : (k l : List ℕ) (v : Tree) (p : Named) (ps more : List Named) (o : Ordering) → key_cmp l p.0 ≡ o
     → is_one_of (keys_of more) k ≡ (is_same l k || is_one_of (keys_of ps) k)
     → is_one_of (keys_of (match_ordering o ((l, v) ∷ p ∷ ps) ((p.0, v) ∷ ps) (p ∷ more))) k ≡ (is_same l k || is_one_of (keys_of (p ∷ ps)) k)
 put_first k l v p ps more Less e h = refl
-put_first k l v p ps more Equal e h = once (is_same p.0 k) (is_one_of (keys_of ps) k) ∙ ap (λ m. is_same m k || is_one_of (keys_of (p ∷ ps)) k) (sym (exact_bytes l p.0 e))
-put_first k l v p ps more Greater e h = ap (λ b. is_same p.0 k || b) h ∙ one_of_either (is_same p.0 k) (is_same l k) (is_one_of (keys_of ps) k)
+put_first k l v p ps more Equal e h = or_twice (is_same p.0 k) (is_one_of (keys_of ps) k) ∙ ap (λ m. is_same m k || is_one_of (keys_of (p ∷ ps)) k) (sym (exact_bytes l p.0 e))
+put_first k l v p ps more Greater e h = ap (λ b. is_same p.0 k || b) h ∙ or_swapped (is_same p.0 k) (is_same l k) (is_one_of (keys_of ps) k)
 
 -- a key stands among those of the pairs, with one put in
 pub key_put : (k l : List ℕ) (v : Tree) (ps : List Named) → is_one_of (keys_of (with_value l v ps)) k ≡ (is_same l k || is_one_of (keys_of ps) k)

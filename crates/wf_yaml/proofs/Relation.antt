@@ -3,6 +3,8 @@ use Rattle.std.proofs.Common.{◌≡◌, ◌↔◌, inl, inr, ℕ, zero, suc, �
 use Rattle.std.proofs.lemmas.Bool.Decides.{nat_tests}
 use Rattle.std.specs.List.{AllByRecursion}
 use Rattle.std.specs.Map.{keys_of}
+use Rattle.std.proofs.lemmas.Bool.{and_parts, not-true}
+use Rattle.wf_lemmas.proofs.Bools.{cond_false, cond_true}
 use Rattle.wf_tree.specs.Trees.{Tree, Items, Pairs, null, boolean, integer, decimal, text, list, map, no_items, item, no_pairs, pair, items_of, pairs_of}
 use Rattle.wf_value.specs.Maps.{IsInOrder, with_value}
 use Rattle.wf_value.proofs.Order.{in_order_with_value, in_order_empty}
@@ -20,7 +22,6 @@ use Rattle.wf_yaml.specs.Cuts.{entries_of, heads}
 use Rattle.wf_yaml.specs.Starts.{is_item, starts_block, has_tab_gap}
 use Rattle.wf_yaml.specs.Blocks.{Reading, scalar, compact, item_content, list_entry, list_entries, pair_value, pair_faults, pair_entry, map_entry, with_key, map_entries, list_of_entries, block_list, map_of_entries, block_map, node_at, deep, node}
 use Rattle.wf_yaml.specs.Relation.{BeginsList, BeginsMap, IsLeaf, Entry, IsBlock, IsItem, listed, Reads, ItemsRead, PairsRead}
-use Rattle.wf_yaml.proofs.Steps.{yes, no}
 use Rattle.wf_yaml.proofs.Ordered.{Named, HasNot, AreDistinct, key_put, added, first_put, in_order_distinct, in_order_added, others_distinct, others_all}
 use Rattle.wf_yaml.proofs.Entries.{One, Match, put, taken}
 
@@ -62,14 +63,6 @@ pub cleared : {A : Type 0} (b : Bool) (x : Result A Fault) (g : Fault) (a : A) �
 cleared true x g a h = absurd (cc)
 cleared false x g a h = (refl, h)
 
-both_true : (a b : Bool) → (a && b) ≡ true → (a ≡ true) × (b ≡ true)
-both_true true b h = (refl, h)
-both_true false b h = absurd (true≢false (sym h))
-
-not_true : (a : Bool) → not a ≡ true → a ≡ false
-not_true true h = absurd (true≢false (sym h))
-not_true false h = refl
-
 -- ---- what an item or a pair holds, below or beside
 
 held : (b g : Bool) (x y : Result Tree Fault) (f : Fault) (t : Tree) (X Y : Type 0) → (x ≡ Ok t → X) → (y ≡ Ok t → Y) → cond b x (cond g (Err f) y) ≡ Ok t → (b ≡ true → X) × (b ≡ false → g ≡ false) × (b ≡ false → Y)
@@ -79,7 +72,7 @@ held false false x y f t X Y p q h = (λ e. absurd (true≢false (sym e)), λ _.
 
 holds : (b g : Bool) (x y : Result Tree Fault) (f : Fault) (t : Tree) → (b ≡ true → x ≡ Ok t) → (b ≡ false → g ≡ false) → (b ≡ false → y ≡ Ok t) → cond b x (cond g (Err f) y) ≡ Ok t
 holds true g x y f t p u q = p refl
-holds false g x y f t p u q = no g (Err f) y (u refl) ∙ q refl
+holds false g x y f t p u q = cond_false g (Err f) y (u refl) ∙ q refl
 
 valued : (b : Bool) (x y : Result Tree Fault) (t : Tree) (X : Type 0) → (x ≡ Ok t → X) → cond b x y ≡ Ok t → (b ≡ true → X) × (b ≡ false → y ≡ Ok t)
 valued true x y t X p h = (λ _. p h, λ e. absurd (true≢false e))
@@ -120,15 +113,15 @@ module _ (inner : Reading) (n d : ℕ) (agrees : Agrees inner (d + 1)) where
   item_there : (e : Entry) (t : Tree) → list_entry inner n d e ≡ Ok t → Item e t
   item_there e t h =
       let p = passed (not (has_tab e.0) && (e.0.indent == n) && is_item e.0.text) (item_content inner n d e.0 e.1) (misplaced_at e.0.number e.0.text) t h in
-      let q = both_true (not (has_tab e.0) && (e.0.indent == n)) (is_item e.0.text) p.0 in
-      let s = both_true (not (has_tab e.0)) (e.0.indent == n) q.0 in
+      let q = and_parts (not (has_tab e.0) && (e.0.indent == n)) (is_item e.0.text) p.0 in
+      let s = and_parts (not (has_tab e.0)) (e.0.indent == n) q.0 in
       let c = held (ends_line (behind_first e.0.text)) (has_tab_gap (behind_first e.0.text) && starts_block (compact n e.0).text) (inner (n + 1) (d + 1) false (counting e.1)) (inner (n + 1) (d + 1) false (compact n e.0 ∷ e.1))
       (record { line = e.0.number; kind = kinds.Tab }) t _ _ (agrees (n + 1) false (counting e.1) t).0 (agrees (n + 1) false (compact n e.0 ∷ e.1) t).0 p.1 in
-      record { untabbed = not_true (has_tab e.0) s.0; column = eqb-true e.0.indent n s.1; begins = q.1; below = c.0; untabbed_block = c.1; beside = c.2 }
+      record { untabbed = not-true (has_tab e.0) s.0; column = eqb-true e.0.indent n s.1; begins = q.1; below = c.0; untabbed_block = c.1; beside = c.2 }
 
   item_made : (e : Entry) (t : Tree) → Item e t → list_entry inner n d e ≡ Ok t
   item_made e t is =
-      yes (not (has_tab e.0) && (e.0.indent == n) && is_item e.0.text) _ _ (λ i. not (is.untabbed i) && eq-eqb e.0.indent n is.column i && is.begins i)
+      cond_true (not (has_tab e.0) && (e.0.indent == n) && is_item e.0.text) _ _ (λ i. not (is.untabbed i) && eq-eqb e.0.indent n is.column i && is.begins i)
       ∙ holds (ends_line (behind_first e.0.text)) (has_tab_gap (behind_first e.0.text) && starts_block (compact n e.0).text) (inner (n + 1) (d + 1) false (counting e.1)) (inner (n + 1) (d + 1) false (compact n e.0 ∷ e.1))
       (record { line = e.0.number; kind = kinds.Tab }) t (λ b. (agrees (n + 1) false (counting e.1) t).1 (is.below b)) is.untabbed_block (λ b. (agrees (n + 1) false (compact n e.0 ∷ e.1) t).1 (is.beside b))
 
@@ -156,7 +149,7 @@ module _ (inner : Reading) (n d : ℕ) (agrees : Agrees inner (d + 1)) where
 
   -- ---- maps
 
-  -- the entry is this pair, and no pair before has its key
+  -- the entry is this pair, and cond_false pair before has its key
   abbrev IsNew : List (List ℕ) → Entry → Named → Type 0
   IsNew keys e p = One n d e p × (is_one_of keys p.0 ≡ false) × (with_key (key_of e.0.text) keys ≡ p.0 ∷ keys)
 
@@ -184,8 +177,8 @@ module _ (inner : Reading) (n d : ℕ) (agrees : Agrees inner (d + 1)) where
   entry_there : (keys : List (List ℕ)) (e : Entry) (p : Named) → map_entry inner n d keys e ≡ Ok p → IsNew keys e p
   entry_there keys e p h =
       let q = passed (not (has_tab e.0) && (e.0.indent == n)) (pair_entry inner n d keys e.0 e.1 (key_of e.0.text)) (misplaced_at e.0.number e.0.text) p h in
-      let s = both_true (not (has_tab e.0)) (e.0.indent == n) q.0 in
-      pair_there keys e p (not_true (has_tab e.0) s.0) (eqb-true e.0.indent n s.1) (key_of e.0.text) refl q.1
+      let s = and_parts (not (has_tab e.0)) (e.0.indent == n) q.0 in
+      pair_there keys e p (not-true (has_tab e.0) s.0) (eqb-true e.0.indent n s.1) (key_of e.0.text) refl q.1
 
   entry_made : (keys : List (List ℕ)) (e : Entry) (p : Named) → One n d e p → is_one_of keys p.0 ≡ false → (map_entry inner n d keys e ≡ Ok p) × (with_key (key_of e.0.text) keys ≡ p.0 ∷ keys)
   entry_made keys e p is new =
@@ -194,7 +187,7 @@ module _ (inner : Reading) (n d : ℕ) (agrees : Agrees inner (d + 1)) where
       let value = values (ends_line k.rest) (inner (n + 1) (d + 1) (is_delay_key p.0) (counting e.1)) (scalar (n + 1) (d + 1) (is_delay_key p.0) e.0.number (skip_blanks k.rest) e.1) p.1 (λ b. (agrees (n + 1) (is_delay_key p.0) (counting e.1) p.1).1 (is.below b)) is.beside in
       let value_is : pair_value inner n d (is_delay_key k.text) e.0.number k.rest e.1 ≡ Ok p.1 = ap (λ b. pair_value inner n d b e.0.number k.rest e.1) delay ∙ value in
       let faults : pair_faults e.0.number keys k ≡ Ok tt = faultless _ (is_one_of keys k.text) _ _ is.good (ap (is_one_of keys) is.named ∙ new) in (
-        yes (not (has_tab e.0) && (e.0.indent == n)) _ _ (λ i. not (is.untabbed i) && eq-eqb e.0.indent n is.column i)
+        cond_true (not (has_tab e.0) && (e.0.indent == n)) _ _ (λ i. not (is.untabbed i) && eq-eqb e.0.indent n is.column i)
             ∙ ap (pair_entry inner n d keys e.0 e.1) is.begins
             ∙ made (λ _ t. (k.text, t)) (pair_faults e.0.number keys k) (pair_value inner n d (is_delay_key k.text) e.0.number k.rest e.1) tt p.1 faults value_is
             ∙ ap (λ name. Ok (name, p.1)) is.named,
@@ -324,13 +317,13 @@ module _ (inner : Reading) (d : ℕ) (agrees : InsideAgrees inner d) where
 
   leaf_made : (floor : ℕ) (delay : Bool) (rs : List Row) (t : Tree) → IsLeaf floor d delay rs t → node_at inner floor d delay rs ≡ Ok t
   leaf_made floor delay [] t is = ap Ok (sym is)
-  leaf_made floor delay (r ∷ behind) t is = no (has_tab r) _ _ is.0.0 ∙ no (is_item r.text) _ _ is.0.1 ∙ no (is_some (key_of r.text)) _ _ is.0.2 ∙ is.1
+  leaf_made floor delay (r ∷ behind) t is = cond_false (has_tab r) _ _ is.0.0 ∙ cond_false (is_item r.text) _ _ is.0.1 ∙ cond_false (is_some (key_of r.text)) _ _ is.0.2 ∙ is.1
 
   list_block_made : (floor : ℕ) (delay : Bool) (rs : List Row) (ts : Items) → IsBlock false BeginsList d rs (λ n es. ItemsRead n d es ts) → node_at inner floor d delay rs ≡ Ok (list ts)
   list_block_made floor delay rs ts is =
       let r = is.first in
       let entries = list_made inner r.indent d (agrees is.shallow) (entries_of (heads false r.indent) r is.behind) ts is.entries in
-      ap (node_at inner floor d delay) is.lines ∙ no (has_tab r) _ _ is.begins.0 ∙ yes (is_item r.text) _ _ is.begins.1
+      ap (node_at inner floor d delay) is.lines ∙ cond_false (has_tab r) _ _ is.begins.0 ∙ cond_true (is_item r.text) _ _ is.begins.1
       ∙ made (λ _ t. t) (depth_fault r.number d) (list_of_entries inner d r is.behind) tt (list (items_of (trees_in ts))) (depth_made r.number d is.shallow) (ap (given (λ ts. list (items_of ts))) entries)
       ∙ ap (λ l. Ok (list l)) (trees_back ts)
 
@@ -338,7 +331,7 @@ module _ (inner : Reading) (d : ℕ) (agrees : InsideAgrees inner d) where
   map_block_made floor delay rs ps is order =
       let r = is.first in
       let entries = map_made inner r.indent d (agrees is.shallow) (entries_of (heads true r.indent) r is.behind) ps is.entries order in
-      ap (node_at inner floor d delay) is.lines ∙ no (has_tab r) _ _ is.begins.0 ∙ no (is_item r.text) _ _ is.begins.1 ∙ yes (is_some (key_of r.text)) _ _ is.begins.2
+      ap (node_at inner floor d delay) is.lines ∙ cond_false (has_tab r) _ _ is.begins.0 ∙ cond_false (is_item r.text) _ _ is.begins.1 ∙ cond_true (is_some (key_of r.text)) _ _ is.begins.2
       ∙ made (λ _ t. t) (depth_fault r.number d) (map_of_entries inner d r is.behind) tt (map (pairs_of (listed ps))) (depth_made r.number d is.shallow) (ap (given (λ ps. map (pairs_of ps))) entries)
       ∙ ap (λ l. Ok (map l)) (pairs_back ps)
 

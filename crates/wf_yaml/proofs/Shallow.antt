@@ -1,6 +1,7 @@
 -- What is read of a source nests at most 100 deep.
 use Rattle.std.proofs.Common.{ℕ, zero, suc, ◌+◌, ◌≤◌, List, [], ◌∷◌, ◌++◌, length, Bool, true, false, not, ◌&&◌, ◌==◌, Option, Some, None, is_some, Result, Ok, Err, IfOk, subst, add-one, arith}
 use Rattle.std.specs.List.{AllByRecursion}
+use Rattle.wf_lemmas.proofs.Lists.{all_push}
 use Rattle.wf_tree.specs.Trees.{Tree, list, map, items_of, pairs_of, depth}
 use Rattle.wf_value.specs.Maps.{with_value}
 use Rattle.wf_yaml_flow.proofs.Shallow.{IsShallow, Any, any, both_is, cond_is, list_is, map_is, within, with_value_all, one_line_is}
@@ -44,10 +45,6 @@ scalar_is floor d delay n s behind =
 next : (d : ℕ) (r : Result Tree Fault) → IfOk r (IsShallow (d + 1)) → IfOk r (IsShallow (suc d))
 next d r is = subst (λ e. IfOk r (IsShallow e)) (add-one d) is
 
-all_append : {A : Type 0} (P : A → Type 0) (xs : List A) (x : A) → AllByRecursion P xs → P x → AllByRecursion P (xs ++ x ∷ [])
-all_append P [] x all is = (is, tt)
-all_append P (y ∷ xs) x all is = (all.0, all_append P xs x all.1 is)
-
 module _ (inner : Reading) (H : (floor d : ℕ) (delay : Bool) (rs : List Row) → IfOk (inner floor d delay rs) (IsShallow d)) where
   item_is : (n d : ℕ) (r : Row) (behind : List Row) → IfOk (item_content inner n d r behind) (IsShallow (suc d))
   item_is n d r behind =
@@ -60,7 +57,7 @@ module _ (inner : Reading) (H : (floor d : ℕ) (delay : Bool) (rs : List Row) �
   entries_are : (n d : ℕ) (so_far : Result (List Tree) Fault) (es : List (Row × List Row)) → IfOk so_far (AllByRecursion (IsShallow (suc d))) → IfOk (list_entries inner n d so_far es) (AllByRecursion (IsShallow (suc d)))
   entries_are n d so_far [] all = all
   entries_are n d so_far (e ∷ es) all =
-      entries_are n d (both (λ ts t. ts ++ t ∷ []) so_far (list_entry inner n d e)) es (both_is (λ ts t. ts ++ t ∷ []) (AllByRecursion (IsShallow (suc d))) (IsShallow (suc d)) (AllByRecursion (IsShallow (suc d))) so_far (list_entry inner n d e) (λ ts t. all_append (IsShallow (suc d)) ts t) all (entry_is n d e))
+      entries_are n d (both (λ ts t. ts ++ t ∷ []) so_far (list_entry inner n d e)) es (both_is (λ ts t. ts ++ t ∷ []) (AllByRecursion (IsShallow (suc d))) (IsShallow (suc d)) (AllByRecursion (IsShallow (suc d))) so_far (list_entry inner n d e) (λ ts t. all_push (IsShallow (suc d)) ts t) all (entry_is n d e))
 
   block_list_is : (d : ℕ) (r : Row) (behind : List Row) → IfOk (block_list inner d r behind) (IsShallow d)
   block_list_is d r behind =

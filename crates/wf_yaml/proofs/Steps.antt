@@ -4,6 +4,7 @@ use Rattle.std.proofs.lemmas.Bool.{eq-eqb}
 use Rattle.std.proofs.lemmas.List.{take_rest}
 use Rattle.std.specs.List.{slice_get}
 use Rattle.std.specs.Option.{IfSome}
+use Rattle.wf_lemmas.proofs.Bools.{cond_false, cond_true}
 use Rattle.wf_tree.specs.Trees.{Tree, null}
 use Rattle.wf_value.specs.Maps.{with_value}
 use Rattle.wf_yaml_line.specs.declared.fault.Fault.{Fault}
@@ -61,14 +62,6 @@ holds_first Q (x ∷ xs) (suc k) next h e some is q = holds_first Q xs k next h 
 
 -- ---- lists
 
-pub yes : {A : Type 0} (t : Bool) (x y : A) → t ≡ true → cond t x y ≡ x
-yes true x y e = refl
-yes false x y e = absurd (cc)
-
-pub no : {A : Type 0} (t : Bool) (x y : A) → t ≡ false → cond t x y ≡ y
-no true x y e = absurd (cc)
-no false x y e = refl
-
 all_three : (a b c : Bool) → a ≡ false → b ≡ true → c ≡ true → (not a && b && c) ≡ true
 all_three a b c p q r = (λ i. not (p i) && q i && r i)
 
@@ -83,9 +76,9 @@ pub item_on_line : (inner : Reading) (n d : ℕ) (r : Row) (rest content : List 
 item_on_line inner n d r rest content body tab same item e ends k refused =
     let t = behind_first r.text in
     let c : skip_blanks t ≡ content = ap skip_blanks (sym e) ∙ sym k in
-    yes (not (starts_tab r.text) && (r.indent == n) && is_item r.text) _ _ (all_three _ _ _ tab (eq-eqb r.indent n same) item)
-    ∙ no (ends_line t) _ _ (ap ends_line (sym e) ∙ ends)
-    ∙ no (has_tab_gap t && starts_block (skip_blanks t)) _ _ ((λ i. has_tab_gap (sym e i) && starts_block (c i)) ∙ refused)
+    cond_true (not (starts_tab r.text) && (r.indent == n) && is_item r.text) _ _ (all_three _ _ _ tab (eq-eqb r.indent n same) item)
+    ∙ cond_false (ends_line t) _ _ (ap ends_line (sym e) ∙ ends)
+    ∙ cond_false (has_tab_gap t && starts_block (skip_blanks t)) _ _ ((λ i. has_tab_gap (sym e i) && starts_block (c i)) ∙ refused)
     ∙ (λ i. inner (n + 1) (d + 1) false (at r.number (n + 1 + (length (sym e i) - length (c i))) (c i) ∷ body))
 
 pub item_goes_on : (n d : ℕ) (r : Row) (rest content : List ℕ) (body : List Row) → d ≤ 100 → starts_tab r.text ≡ false → r.indent ≡ n → is_item r.text ≡ true
@@ -147,17 +140,17 @@ map_next inner n d p s s' keys keys' o r h rest body next more whole lead entrie
 
 pub deep_other : (m n d : ℕ) (s : List ℕ) → m ≢ 0 → is_item s ≡ false → deep_line m n d s ≡ other_line n d s (key_of s)
 deep_other zero n d s h e = absurd (h refl)
-deep_other (suc m) n d s h e = no (is_item s) _ _ e
+deep_other (suc m) n d s h e = cond_false (is_item s) _ _ e
 
 pub deep_end : (m n d : ℕ) (s : List ℕ) → m ≢ 0 → is_item s ≡ true → ends_line (behind_first s) ≡ true → deep_line m n d s ≡ Ok null
 deep_end zero n d s h e k = absurd (h refl)
-deep_end (suc m) n d s h e k = yes (is_item s) _ _ e ∙ yes (ends_line (behind_first s)) _ _ k
+deep_end (suc m) n d s h e k = cond_true (is_item s) _ _ e ∙ cond_true (ends_line (behind_first s)) _ _ k
 
 pub deep_tab : (m n d : ℕ) (s rest content : List ℕ) → m ≢ 0 → is_item s ≡ true → rest ≡ behind_first s → ends_line rest ≡ false → content ≡ skip_blanks rest → (has_tab_gap rest && starts_block content) ≡ true → deep_line m n d s ≡ refuse n kinds.Tab
 deep_tab zero n d s rest content h e r k c t = absurd (h refl)
 deep_tab (suc m) n d s rest content h e r k c t =
-    yes (is_item s) _ _ e ∙ no (ends_line (behind_first s)) _ _ (ap ends_line (sym r) ∙ k)
-    ∙ yes (has_tab_gap (behind_first s) && starts_block (skip_blanks (behind_first s))) _ _ ((λ i. has_tab_gap (sym r i) && starts_block ((ap skip_blanks (sym r) ∙ sym c) i)) ∙ t)
+    cond_true (is_item s) _ _ e ∙ cond_false (ends_line (behind_first s)) _ _ (ap ends_line (sym r) ∙ k)
+    ∙ cond_true (has_tab_gap (behind_first s) && starts_block (skip_blanks (behind_first s))) _ _ ((λ i. has_tab_gap (sym r i) && starts_block ((ap skip_blanks (sym r) ∙ sym c) i)) ∙ t)
 
 pub deep_inner : (m n d : ℕ) (s rest content : List ℕ) → m ≢ 0 → is_item s ≡ true → rest ≡ behind_first s → ends_line rest ≡ false → content ≡ skip_blanks rest → (has_tab_gap rest && starts_block content) ≡ false → deep_line (m - 1) n d content ≡ deep_line m n d s
 deep_inner zero n d s rest content h e r k c t = absurd (h refl)
@@ -165,5 +158,5 @@ deep_inner (suc m) n d s rest content h e r k c t =
     let at : suc m - 1 ≡ m = omega arith in
     ap (λ j. deep_line j n d content) at
     ∙ ap (deep_line m n d) (c ∙ ap skip_blanks r)
-    ∙ sym (yes (is_item s) _ _ e ∙ no (ends_line (behind_first s)) _ _ (ap ends_line (sym r) ∙ k)
-    ∙ no (has_tab_gap (behind_first s) && starts_block (skip_blanks (behind_first s))) _ _ ((λ i. has_tab_gap (sym r i) && starts_block ((ap skip_blanks (sym r) ∙ sym c) i)) ∙ t))
+    ∙ sym (cond_true (is_item s) _ _ e ∙ cond_false (ends_line (behind_first s)) _ _ (ap ends_line (sym r) ∙ k)
+    ∙ cond_false (has_tab_gap (behind_first s) && starts_block (skip_blanks (behind_first s))) _ _ ((λ i. has_tab_gap (sym r i) && starts_block ((ap skip_blanks (sym r) ∙ sym c) i)) ∙ t))

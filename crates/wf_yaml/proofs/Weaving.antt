@@ -1,5 +1,7 @@
 -- The text of a block scalar, row by row.
 use Rattle.std.proofs.Common.{◌≡◌, ℕ, zero, suc, ◌-◌, ◌<◌, List, [], ◌∷◌, ◌++◌, Bool, true, false, cond, not, ◌&&◌, ◌||◌, refl, sym, ap, ◌∙◌, arith, append_assoc}
+use Rattle.std.proofs.lemmas.List.{append-nil}
+use Rattle.wf_lemmas.proofs.Bools.{cond_false, cond_true}
 use Rattle.wf_yaml_line.specs.Marks.{is_empty, space, newline}
 use Rattle.wf_yaml.specs.Rows.{Row}
 use Rattle.wf_yaml.specs.BlockScalars.{scalar_line, scalar_lines, gap, folded_text, literal_text, joined, without_last, are_empty, copies}
@@ -49,21 +51,9 @@ by_test : {P : Type 0} (t : Bool) → (t ≡ true → P) → (t ≡ false → P)
 by_test true f g = f refl
 by_test false f g = g refl
 
-yes : {A : Type 0} (t : Bool) (x y : A) → t ≡ true → cond t x y ≡ x
-yes true x y e = refl
-yes false x y e = absurd (cc)
-
-no : {A : Type 0} (t : Bool) (x y : A) → t ≡ false → cond t x y ≡ y
-no true x y e = absurd (cc)
-no false x y e = refl
-
 none_last : (ls : List (List ℕ)) → are_empty ls ≡ true → without_last ls ≡ []
 none_last [] e = refl
-none_last (l ∷ ls) e = yes (are_empty (l ∷ ls)) [] (l ∷ without_last ls) e
-
-append_none : (s : List ℕ) → s ++ [] ≡ s
-append_none [] = refl
-append_none (b ∷ s) = ap (λ t. b ∷ t) (append_none s)
+none_last (l ∷ ls) e = cond_true (are_empty (l ∷ ls)) [] (l ∷ without_last ls) e
 
 -- ---- folded text
 
@@ -81,7 +71,7 @@ folded_last : (begun : Bool) (n : ℕ) (ls : List (List ℕ)) → folded_text be
 folded_last begun n [] = refl
 folded_last begun n ([] ∷ ls) =
     by_test (are_empty ls) (λ e. folded_none begun (suc n) ls e ∙ sym (ap (folded_text begun n) (none_last ([] ∷ ls) e)))
-    (λ e. folded_last begun (suc n) ls ∙ sym (ap (folded_text begun n) (no (are_empty ls) [] ([] ∷ without_last ls) e)))
+    (λ e. folded_last begun (suc n) ls ∙ sym (ap (folded_text begun n) (cond_false (are_empty ls) [] ([] ∷ without_last ls) e)))
 folded_last begun n ((b ∷ l) ∷ ls) = ap (λ x. gap begun n ++ ((b ∷ l) ++ x)) (folded_last true 0 ls)
 
 -- ---- literal text
@@ -89,7 +79,7 @@ folded_last begun n ((b ∷ l) ∷ ls) = ap (λ x. gap begun n ++ ((b ∷ l) ++ 
 literal_more : (l : List ℕ) (ls : List (List ℕ)) → are_empty ls ≡ false → literal_text (l ∷ without_last ls) ≡ l ++ newline ∷ literal_text (without_last ls)
 literal_more l [] e = absurd (cc)
 literal_more l (k ∷ ks) e =
-    let some = no (are_empty (k ∷ ks)) [] (k ∷ without_last ks) e in
+    let some = cond_false (are_empty (k ∷ ks)) [] (k ∷ without_last ks) e in
     ap (λ x. literal_text (l ∷ x)) some ∙ sym (ap (λ x. l ++ newline ∷ literal_text x) some)
 
 copies_more : (n b : ℕ) (s : List ℕ) → b ∷ (copies n b ++ s) ≡ copies n b ++ b ∷ s
@@ -100,15 +90,15 @@ literal_is : (begun : Bool) (n : ℕ) (ls : List (List ℕ)) → stitched false 
 literal_is begun n [] = refl
 literal_is begun n ([] ∷ ls) =
     literal_is begun (suc n) ls
-    ∙ by_test (are_empty ls) (λ e. yes (are_empty ls) [] _ e ∙ sym (yes (are_empty ls) [] _ e))
-    (λ e. no (are_empty ls) [] _ e ∙ copies_more n newline (literal_text (without_last ls))
-    ∙ sym (ap (λ x. copies n newline ++ x) (ap literal_text (no (are_empty ls) [] ([] ∷ without_last ls) e) ∙ literal_more [] ls e))
-    ∙ sym (no (are_empty ls) [] (copies n newline ++ literal_text (without_last ([] ∷ ls))) e))
+    ∙ by_test (are_empty ls) (λ e. cond_true (are_empty ls) [] _ e ∙ sym (cond_true (are_empty ls) [] _ e))
+    (λ e. cond_false (are_empty ls) [] _ e ∙ copies_more n newline (literal_text (without_last ls))
+    ∙ sym (ap (λ x. copies n newline ++ x) (ap literal_text (cond_false (are_empty ls) [] ([] ∷ without_last ls) e) ∙ literal_more [] ls e))
+    ∙ sym (cond_false (are_empty ls) [] (copies n newline ++ literal_text (without_last ([] ∷ ls))) e))
 literal_is begun n ((b ∷ l) ∷ ls) =
     ap (λ x. copies n newline ++ ((b ∷ l) ++ x)) (literal_is true 1 ls)
     ∙ by_test (are_empty ls)
-    (λ e. ap (λ x. copies n newline ++ ((b ∷ l) ++ x)) (yes (are_empty ls) [] _ e) ∙ ap (λ x. copies n newline ++ x) (append_none (b ∷ l) ∙ sym (ap (λ x. literal_text ((b ∷ l) ∷ x)) (none_last ls e))))
-    (λ e. ap (λ x. copies n newline ++ ((b ∷ l) ++ x)) (no (are_empty ls) [] _ e) ∙ ap (λ x. copies n newline ++ x) (sym (literal_more (b ∷ l) ls e)))
+    (λ e. ap (λ x. copies n newline ++ ((b ∷ l) ++ x)) (cond_true (are_empty ls) [] _ e) ∙ ap (λ x. copies n newline ++ x) (append-nil (b ∷ l) ∙ sym (ap (λ x. literal_text ((b ∷ l) ∷ x)) (none_last ls e))))
+    (λ e. ap (λ x. copies n newline ++ ((b ∷ l) ++ x)) (cond_false (are_empty ls) [] _ e) ∙ ap (λ x. copies n newline ++ x) (sym (literal_more (b ∷ l) ls e)))
 
 -- the loop's text is that of the lines
 pub woven_all : (f : Bool) (m : ℕ) (rs : List Row) → woven f m false 0 rs ≡ joined f (scalar_lines m false rs)
@@ -116,7 +106,7 @@ woven_all true m rs = woven_is true m false 0 rs ∙ folded_is false 0 (scalar_l
 woven_all false m rs =
     let ls = scalar_lines m false rs in
     woven_is false m false 0 rs ∙ literal_is false 0 ls
-    ∙ by_test (are_empty ls) (λ e. yes (are_empty ls) [] (literal_text (without_last ls)) e ∙ sym (ap literal_text (none_last ls e))) (λ e. no (are_empty ls) [] (literal_text (without_last ls)) e)
+    ∙ by_test (are_empty ls) (λ e. cond_true (are_empty ls) [] (literal_text (without_last ls)) e ∙ sym (ap literal_text (none_last ls e))) (λ e. cond_false (are_empty ls) [] (literal_text (without_last ls)) e)
 
 -- one copy more
 pub one_copy : (s : List ℕ) (n b : ℕ) (t : List ℕ) → 0 < n → t ≡ s ++ b ∷ [] → t ++ copies (n - 1) b ≡ s ++ copies n b

@@ -1,5 +1,6 @@
 -- The whole walk over a flow collection.
 use Rattle.std.proofs.Common.{◌≡◌, ℕ, suc, ◌+◌, ◌*◌, List, [], ◌∷◌, ◌++◌, length, Bool, true, ◌==◌, Option, Some, None, option_to_list, Result, Ok, Err, refl, sym, ap, ◌∙◌, arith}
+use Rattle.std.proofs.Math.Nat.{add-zero}
 use Rattle.wf_yaml_line.specs.declared.fault.Fault.{Fault}
 use Rattle.wf_yaml_line.specs.Fault.{both, kept, noted, first_of_two}
 use Rattle.wf_yaml_line.specs.declared.fault.Kind.TheVariants as kinds
@@ -13,14 +14,11 @@ use Rattle.wf_yaml_flow.specs.FlowWalk.{inner, noting, complete, resume, here, w
 use Rattle.wf_yaml_flow.proofs.FlowBounds.{flow_inner}
 use Rattle.wf_yaml_flow.proofs.FlowJoins.{noting_nothing, noting_turn, resume_stops, resume_more}
 
-plus_none : (d : ℕ) → d + 0 ≡ d
-plus_none d = omega arith
-
 pub begins : (n d : ℕ) (is_map : Bool) (r s : List ℕ) → starts is_bracket s ≡ true → is_map ≡ starts (λ b. b == open_map) s → r ≡ behind_first s
     → noting (Ok tt) (inner n (d + 0) is_map r) ≡ flow n d s
 begins n d is_map r s some em er =
     noting_nothing tt (inner n (d + 0) is_map r)
-    ∙ (λ i. inner n (plus_none d i) (em i) (er i))
+    ∙ (λ i. inner n (add-zero d i) (em i) (er i))
     ∙ sym (flow_inner is_bracket n d s some)
 
 err_same : (f g : Fault) → noted (Some f) ≡ Err g → f ≡ g

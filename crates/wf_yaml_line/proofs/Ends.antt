@@ -44,10 +44,6 @@ kept_at s (suc m) x t p h r a b e =
     let read : x ≡ get_or s m 0 = get_or_read s m x (omega arith) (r ∙ ap (λ k. get_or s k x) at) 0 in
     sym (last_kept s m (omega arith) (ap is_blank (sym read) ∙ sym a ∙ b)) ∙ e
 
-pub not_true : (t : Bool) → not t ≡ true → t ≡ false
-not_true true e = sym e
-not_true false e = refl
-
 -- ---- the last character
 
 last_at : (s : List ℕ) (m d : ℕ) → length s ≡ suc m → (get_or s m d == 58) ≡ ends_with_colon s

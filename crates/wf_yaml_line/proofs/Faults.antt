@@ -1,5 +1,6 @@
 -- The order of faults.
 use Rattle.std.proofs.Common.{◌≡◌, ◌⊎◌, inl, inr, ℕ, ◌<◌, ◌≤◌, Bool, true, false, cond, ◌&&◌, ◌||◌, ◌==◌, nat_lt, nat_le, Result, Ok, Err, refl, sym, ap, ◌∙◌, true≢false, arith, eqb-true, eq-eqb, ltb-true, ltb-false, lt-ltb, leb-true, leb-false, le-leb, le_refl}
+use Rattle.wf_lemmas.proofs.Bools.{or_true}
 use Rattle.wf_yaml_line.specs.declared.fault.Kind.{Kind}
 use Rattle.wf_yaml_line.specs.declared.fault.Kind.TheVariants as kinds
 use Rattle.wf_yaml_line.specs.Fault.{Fault, rank, speaks_before, first_of_two, both}
@@ -40,10 +41,6 @@ before_by f g false false low l s k h = absurd (true≢false (sym h))
 
 before : (f g : Fault) → speaks_before f g ≡ true → IsBefore f g
 before f g h = before_by f g (nat_lt f.line g.line) (f.line == g.line) (nat_le (rank f.kind) (rank g.kind)) refl refl refl h
-
-or_true : (a b : Bool) → b ≡ true → (a || b) ≡ true
-or_true true b h = refl
-or_true false b h = h
 
 speaks : (f g : Fault) → IsBefore f g → speaks_before f g ≡ true
 speaks f g (inl less) = ap (λ b. b || (f.line == g.line && nat_le (rank f.kind) (rank g.kind))) (lt-ltb f.line g.line less)

@@ -9,6 +9,7 @@ use Rattle.std.specs.Str.{bytes_eq}
 use Rattle.std.proofs.lemmas.Cmp.{nat_list_eq_equiv}
 use Rattle.std.proofs.lemmas.Map.Text.{is_eq-slice_cmp, btree_set_updates_text}
 use Rattle.std.proofs.lemmas.Slice.Eq.{bytes_eq-Decides}
+use Rattle.wf_lemmas.proofs.Bools.{cond_or}
 use Rattle.wf_yaml_line.specs.Marks.{is_same, is_one_of}
 
 pub bytes_same : (s t : List ℕ) → bytes_eq s t ≡ is_same s t
@@ -20,10 +21,6 @@ bytes_same (a ∷ s) (b ∷ t) = ap (λ e. a == b && e) (bytes_same s t)
 pub turned : (s t : List ℕ) → bytes_eq s t ≡ is_same t s
 turned s t = nat_list_eq_equiv.symm s t ∙ bytes_same t s
 
-pub some_mapped : {X Y : Type 0} (f : X → Y) (o : Option X) → is_some (option_map f o) ≡ is_some o
-some_mapped f None = refl
-some_mapped f (Some v) = refl
-
 pub same_is : (s t : List ℕ) → is_same s t ≡ true → s ≡ t
 same_is s t e = (bytes_eq-Decides s t).0 (bytes_same s t ∙ e)
 
@@ -34,10 +31,6 @@ other false n = refl
 -- a text that is none of three
 pub none_of_three : (a b c k : List ℕ) → (k ≡ a → ⊥) → (k ≡ b → ⊥) → (k ≡ c → ⊥) → false ≡ is_one_of (a ∷ b ∷ c ∷ []) k
 none_of_three a b c k x y z = λ i. other (is_same a k) (λ e. x (sym (same_is a k e))) i || (other (is_same b k) (λ e. y (sym (same_is b k e))) i || (other (is_same c k) (λ e. z (sym (same_is c k e))) i || false))
-
-cond_or : (a b : Bool) → cond a true b ≡ (a || b)
-cond_or true b = refl
-cond_or false b = refl
 
 -- ---- the keys of a set
 

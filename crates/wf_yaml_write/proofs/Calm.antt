@@ -1,6 +1,7 @@
 -- Texts that hold nothing that ends a plain scalar or a key.
 use Rattle.std.proofs.Common.{◌≡◌, ℕ, List, [], ◌∷◌, ◌++◌, Bool, true, false, cond, ◌&&◌, ◌||◌, ◌==◌, nat_le, Some, None, option_map, refl, ap, sym, subst, ◌∙◌, arith}
 use Rattle.std.proofs.lemmas.Bool.{and_parts, and_left, or_parts, leb-true, ne_eqb}
+use Rattle.wf_lemmas.proofs.Bools.{or_none}
 use Rattle.wf_yaml_line.specs.Marks.{hash, colon, space, tabulator, starts, is_empty, is_blank, ends_with_colon, ends_word, trimmed, before_comment, around_colon}
 use Rattle.wf_yaml_write.specs.Layout.{is_printable, has_mark}
 
@@ -11,10 +12,6 @@ IsCalm after_blank [] = Unit {0}
 IsCalm after_blank (b ∷ s) = ((after_blank && b == hash) ≡ false) × ((b == colon && ends_word s) ≡ false) × ((is_blank b && is_empty s) ≡ false) × IsCalm (is_blank b) s
 
 -- ---- which texts are calm
-
-or_none : (t : Bool) → (t || false) ≡ t
-or_none true = refl
-or_none false = refl
 
 -- of the printable bytes the space alone is a blank
 space_alone : (b : ℕ) (s : List ℕ) → is_printable (b ∷ s) ≡ true → is_blank b ≡ (b == space)

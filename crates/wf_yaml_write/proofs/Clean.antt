@@ -6,9 +6,9 @@ use Rattle.std.specs.Str.{encode_utf8_all, all_scalars}
 use Rattle.std.proofs.lemmas.Bool.{cases_lt, cases_Bool, and_parts, and_from, or_from, ltb-true, leb-true, le-leb, ne_eqb}
 use Rattle.std.proofs.lemmas.Bool.Decides.{nat_tests}
 use Rattle.std.proofs.lemmas.Str.{encode_ascii}
+use Rattle.wf_lemmas.proofs.Texts.{high_bytes}
 use Rattle.wf_yaml_line.specs.Marks.{among, return_mark}
 use Rattle.wf_yaml_write.specs.Layout.{is_plain, is_printable, escaped, all_escaped, hex_digits, in_quotes, written_text}
-use Rattle.wf_yaml_write.proofs.Escapes.{high_bytes}
 use Rattle.wf_yaml_write.proofs.EscapeCases.{by_escape}
 use Rattle.wf_yaml_write.proofs.PlainBack.{plain_facts}
 use Rattle.wf_yaml_write.proofs.TextBack.{written_plain, written_quoted, all_low, low_hex, printable_all_low}

@@ -4,6 +4,7 @@ use Rattle.std.proofs.lemmas.Str.{inside_one, encode_ascii}
 use Rattle.std.proofs.lemmas.Bool.Decides.{nat_tests}
 use Rattle.std.proofs.lemmas.Bool.{cases_lt}
 use Rattle.std.specs.Char.{encode_utf8}
+use Rattle.wf_lemmas.proofs.Texts.{high_bytes}
 use Rattle.wf_yaml_write.specs.Layout.{escaped, all_escaped}
 
 -- a byte that isn't one of those with an escape
@@ -22,9 +23,6 @@ high (b ∷ l) h =
     let first : 128 ≤ b = h 0 (omega arith) in
     let is : escaped b ≡ b ∷ [] = own b (record { quote = λ e. omega arith; backslash = λ e. omega arith; control = omega arith; delete = λ e. omega arith }) in
     rw is (ap (λ r. b ∷ r) (high l (λ k a. h (suc k) (omega arith))))
-
-pub high_bytes : (c : ℕ) → 128 ≤ c → (k : ℕ) → k < length (encode_utf8 c) → (get_or (encode_utf8 c) k 0 < 128) ⊎ (128 ≤ get_or (encode_utf8 c) k 0) → 128 ≤ get_or (encode_utf8 c) k 0
-high_bytes c h k l = ⊎_elim (λ m. let e : c ≡ get_or (encode_utf8 c) k 0 = inside_one c [] (encode_utf8 c) k (sym (append-nil (encode_utf8 c))) l m in omega arith) (λ m. m)
 
 -- such a character stands for itself
 pub own_escape : (c : ℕ) → IsOwn c → all_escaped (encode_utf8 c) ≡ encode_utf8 c

@@ -4,6 +4,7 @@ use Rattle.std.specs.Ordering.{match_ordering, ordering_reverse}
 use Rattle.std.specs.BTreeMap.{insert_entry}
 use Rattle.std.proofs.lemmas.Bool.{cases_Bool, and_parts, or_from, eqb-true, le-ltb, true≢false}
 use Rattle.std.proofs.lemmas.Cmp.{nat_list_cmp_total, tied_itself}
+use Rattle.wf_lemmas.proofs.Bools.{cond_false, cond_true}
 use Rattle.wf_value.specs.Maps.{key_cmp, with_value}
 use Rattle.wf_tree.specs.Trees.{Tree, map, Pairs, no_pairs, pair, pairs_of}
 use Rattle.wf_yaml_line.specs.declared.fault.Kind.TheVariants as kinds
@@ -14,7 +15,6 @@ use Rattle.wf_yaml.specs.Rows.{has_tab}
 use Rattle.wf_yaml.specs.Starts.{is_item}
 use Rattle.wf_yaml.specs.Cuts.{cut, heads}
 use Rattle.wf_yaml.specs.Blocks.{Reading, map_entries, map_of_entries, with_key, node_at}
-use Rattle.wf_yaml.proofs.Steps.{yes, no}
 use Rattle.wf_yaml_write.specs.Layout.{layout, as_pair, is_block, pairs_layout}
 use Rattle.wf_yaml_write.specs.Whole.{IsBelow}
 use Rattle.wf_yaml_write.proofs.RowsBack.{at, rows_at}
@@ -121,7 +121,7 @@ map_read inner number n floor d delay k t ps h le =
     ap (λ es. given as_map (map_entries inner n d (Ok []) [] es)) (entries_cut true number n (pair_text k t) (pairs_layout ps) e (is_pair_head k (pair_text k t) number n p))
     ∙ ap (given as_map) (pairs_read inner number n d [] [] (pair k t ps) h tt tt) ∙ ap (λ qs. Ok (map qs)) (same_pairs (pair k t ps)) in
     ap (node_at inner floor d delay) (entry_rows number n (pair_text k t) (pairs_layout ps) e)
-    ∙ no (has_tab head) _ _ p.head.fresh.no_tab
-    ∙ no (is_item p.text) _ _ p.no_item
-    ∙ yes (is_some (key_of p.text)) _ _ (ap is_some p.key)
+    ∙ cond_false (has_tab head) _ _ p.head.fresh.no_tab
+    ∙ cond_false (is_item p.text) _ _ p.no_item
+    ∙ cond_true (is_some (key_of p.text)) _ _ (ap is_some p.key)
     ∙ (λ i. both (λ _ u. u) (refuse_if (le-ltb 100 d le i) number kinds.TooDeep) (entries i))

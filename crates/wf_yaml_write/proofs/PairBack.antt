@@ -3,6 +3,7 @@ use Rattle.std.proofs.Common.{◌≡◌, ℕ, suc, ◌+◌, ◌≤◌, List, [],
 use Rattle.std.specs.Str.{encode_utf8_all, all_scalars, IsUtf8}
 use Rattle.std.proofs.lemmas.Bool.{and_from, and_right, eq-eqb, le-leb, not_from_false}
 use Rattle.std.proofs.lemmas.Str.{encodes-append}
+use Rattle.wf_lemmas.proofs.Bools.{cond_false, cond_true}
 use Rattle.wf_tree.specs.Trees.{Tree, depth}
 use Rattle.wf_yaml_line.specs.declared.fault.Kind.TheVariants as kinds
 use Rattle.wf_yaml_line.specs.Marks.{is_blank_line, is_one_of, ends_line, ends_word}
@@ -14,7 +15,6 @@ use Rattle.wf_yaml.specs.Rows.{has_tab, no_more}
 use Rattle.wf_yaml.specs.Starts.{is_item, starts_scalar}
 use Rattle.wf_yaml.specs.Cuts.{heads, is_list_head}
 use Rattle.wf_yaml.specs.Blocks.{Reading, scalar, behind_fault, pair_value, pair_faults, pair_entry, map_entry}
-use Rattle.wf_yaml.proofs.Steps.{yes, no}
 use Rattle.wf_yaml_write.specs.Layout.{layout, as_pair, further_in, is_block, written_text}
 use Rattle.wf_yaml_write.proofs.TextBack.{key_back, utf8_kept, all_low, low_same}
 use Rattle.wf_yaml_write.proofs.LineBack.{IsLine}
@@ -28,7 +28,7 @@ use Rattle.wf_yaml_write.proofs.CutBack.{IsEntry}
 pub scalar_read : (floor d : ℕ) (delay : Bool) (n : ℕ) (s : List ℕ) (t : Tree) → starts_scalar s ≡ false → one_line delay n d s ≡ Ok t → scalar floor d delay n s [] ≡ Ok t
 scalar_read floor d delay n s t e read =
     let behind : behind_fault floor n s [] ≡ Ok tt = ap (λ u. cond u (refuse n kinds.Unsupported) (no_more [])) (and_right _ false refl) in
-    no (starts_scalar s) _ _ e ∙ (λ i. both kept (read i) (behind i))
+    cond_false (starts_scalar s) _ _ e ∙ (λ i. both kept (read i) (behind i))
 
 -- ---- a pair's lines
 
@@ -95,7 +95,7 @@ lines_beside k line t u clean block written = subst (λ j. IsPair j (as_pair j (
 
 value_beside : (inner : Reading) (n d number : ℕ) (delay : Bool) (line : List ℕ) (t : Tree) → IsScalarLine line → one_line delay number (d + 1) line ≡ Ok t → pair_value inner n d delay number (codes " " ++ line) [] ≡ Ok t
 value_beside inner n d number delay line t begins read =
-    no (ends_line (codes " " ++ line)) _ _ begins.fresh.counts
+    cond_false (ends_line (codes " " ++ line)) _ _ begins.fresh.counts
     ∙ ap (λ u. scalar (n + 1) (d + 1) delay number u []) (skip_none line begins.fresh.no_blank)
     ∙ scalar_read (n + 1) (d + 1) delay number line t begins.no_block read
 
@@ -171,6 +171,6 @@ pair_read inner number n d keys k t h new =
     let head = at number n p.text in
     let body = rows_at (suc number) (n + 2) p.inside in
     let faults : pair_faults number keys (key_in k p.rest) ≡ Ok tt = ap (λ u. both kept (Ok (tt {0})) (refuse_if u number kinds.DoubleKey)) new in
-    yes (not (has_tab head) && (n == n)) _ _ (and_from (not (has_tab head)) (n == n) (not_from_false _ p.head.fresh.no_tab) (eq-eqb n n refl))
+    cond_true (not (has_tab head) && (n == n)) _ _ (and_from (not (has_tab head)) (n == n) (not_from_false _ p.head.fresh.no_tab) (eq-eqb n n refl))
     ∙ ap (pair_entry inner n d keys head body) p.key
     ∙ (λ i. both (λ _ u. (k, u)) (faults i) (h.read number (suc number) i))

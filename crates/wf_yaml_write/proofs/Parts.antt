@@ -31,10 +31,6 @@ pub first_rest : {A : Type 0} (s : List A) (x : A) → 1 ≤ length s → x ≡ 
 first_rest [] x h e = absurd (omega (arith, h))
 first_rest (y ∷ s) x h e = ap (λ z. z ∷ s) (sym e) ∙ ap (λ r. x ∷ r) (sym (take_rest (y ∷ s) 1))
 
--- a list that has x at i
-pub next_rest : {A : Type 0} (s : List A) (i : ℕ) (x : A) → i < length s → x ≡ get_or s i x → drop i s ≡ x ∷ drop (i + 1) s
-next_rest s i x h e = rw (add-one, drop-cons s i x h) (ap (λ y. y ∷ drop (suc i) s) (sym e))
-
 -- ---- items
 
 abbrev pub items_text : ℕ → List Tree → List ℕ

@@ -2,6 +2,7 @@
 use Rattle.std.proofs.Common.{◌≡◌, ⊎_elim, ℕ, zero, suc, ◌+◌, ◌≤◌, List, [], ◌∷◌, ◌++◌, Bool, false, is_some, Ok, refl, ap, sym, subst, ◌∙◌, arith}
 use Rattle.std.specs.Str.{encode_utf8_all, IsUtf8}
 use Rattle.std.proofs.lemmas.Bool.{cases_Bool, true≢false}
+use Rattle.wf_lemmas.proofs.Bools.{cond_false}
 use Rattle.wf_tree.specs.Trees.{Tree, null, boolean, integer, decimal, text, list, map, Items, no_items, item, Pairs, no_pairs, pair, depth, items_depth, pairs_depth}
 use Rattle.wf_yaml_line.specs.Fault.{both, kept}
 use Rattle.wf_yaml_flow.specs.Flow.{max_depth}
@@ -11,7 +12,7 @@ use Rattle.wf_yaml.specs.Rows.{has_tab, counting, behind_start, before_mark}
 use Rattle.wf_yaml.specs.Starts.{is_item}
 use Rattle.wf_yaml.specs.Blocks.{inside, node}
 use Rattle.wf_yaml.specs.Reading.{no_delay, document, reading_of, reading}
-use Rattle.wf_yaml.proofs.Steps.{no, node_is}
+use Rattle.wf_yaml.proofs.Steps.{node_is}
 use Rattle.wf_yaml_write.specs.Layout.{layout, as_item, further_in, is_block, items_layout, pairs_layout}
 use Rattle.wf_yaml_write.specs.Back.{IsOnOneLine}
 use Rattle.wf_yaml_write.specs.Whole.{TreesComeBack}
@@ -122,9 +123,9 @@ line_back t b (suc m) floor n d k delay sum deep f =
     ap (λ ls. inside (suc m) floor d delay (rows_at k n ls)) l.written
     ∙ ap (λ q. inside (suc m) floor d delay (q ∷ [])) (head_row k n (encode_utf8_all l.line) l.line (line_head delay t l))
     ∙ node_is m floor d delay (r ∷ [])
-    ∙ no (has_tab r) _ _ l.begins.fresh.no_tab
-    ∙ no (is_item l.line) _ _ l.begins.no_item
-    ∙ no (is_some (key_of l.line)) _ _ (ap is_some l.no_pair)
+    ∙ cond_false (has_tab r) _ _ l.begins.fresh.no_tab
+    ∙ cond_false (is_item l.line) _ _ l.begins.no_item
+    ∙ cond_false (is_some (key_of l.line)) _ _ (ap is_some l.no_pair)
     ∙ scalar_read floor d delay k l.line t l.begins.no_block (l.read k d deep)
 
 are_read : (m n d : ℕ) (ts : Items) → AreBack ts → ItemsFit ts → m + d ≡ 101 → items_depth ts + d ≤ 100 → AreRead (inside m) n d ts

@@ -1,8 +1,8 @@
 use Rattle.std.proofs.Common.{◌≡◌, ◌+◌, [], ◌++◌, map, drop, length, length-append, arith, sym, ap, ◌∙◌}
+use Rattle.wf_lemmas.proofs.Lists.{item_at, drop_end}
 use Rattle.wf_ast.specs.Nodes.{flow_nodes, nodes}
 use Rattle.wf_ast.specs.View.{flow_view}
 use Rattle.wf_check.proofs.Counted.{all_told, counted_on, counts_first}
-use Rattle.wf_symbols.proofs.Places.{item_at, none_left}
 use Rattle.wf_check.proofs.flows.program.Goals as goal
 use Rattle.wf_check.specs.Said.{said_among}
 
@@ -33,5 +33,5 @@ each-preserved c =
 
 pub returns : goal.returns
 returns c =
-    let none = ap (λ l. map flow_view l) (none_left c.args.flows.now c.each.item-index c.each-test.false) in
+    let none = ap (λ l. map flow_view l) (drop_end c.args.flows.now c.each.item-index c.each-test.false) in
     all_told (map flow_view c.args.flows.now) c.each.number (map flow_view (drop c.each.item-index c.args.flows.now)) none c.each.invariant.told c.each.invariant.counted

@@ -1,10 +1,10 @@
 use Rattle.std.proofs.Common.{not, suc, ◌+◌, add-one, map, drop, Err, sym, ap, ◌∙◌}
+use Rattle.wf_lemmas.proofs.Lists.{item_at}
 use Rattle.wf_ast.proofs.Views.{view_list, view_map}
 use Rattle.wf_ast.specs.Blocks.{at_if}
 use Rattle.wf_ast.specs.Nodes.{Path, below, nth}
 use Rattle.wf_ast.specs.Tree as tree
 use Rattle.wf_ast.specs.View.{expr_view, field_view, template_view}
-use Rattle.wf_symbols.proofs.Places.{item_at}
 use Rattle.wf_diagnostics.proofs.Told.{part_first, part_later, tells_as, tells_outside}
 use Rattle.wf_check_expressions.proofs.expressions.+template.Goals as goal
 use Rattle.wf_check_expressions.specs.Expressions.{failing, fields_failing, items_failing}

@@ -1,6 +1,6 @@
 use Rattle.std.proofs.Common.{true, false, map, sym, ap, ◌∙◌}
+use Rattle.wf_lemmas.proofs.Lists.{drop_end}
 use Rattle.wf_ast.specs.View.{branch_view}
-use Rattle.wf_symbols.proofs.Places.{none_left}
 use Rattle.wf_check_scopes.proofs.Vacant.{among_reverse, named_next}
 use Rattle.wf_check_scopes.proofs.blocks.is_named.Goals as goal
 use Rattle.wf_value.specs.HttpRequest.{is_among}
@@ -18,4 +18,4 @@ loop-branch-preserved c =
 pub returns : goal.returns
 returns c = let bs = c.args.branches.now in
     sym (among_reverse c.args.name.now (map (λ y. (branch_view y).0) bs) ∙ c.loop-branch.invariant
-    ∙ ap (λ l. is_among c.args.name.now (map (λ y. (branch_view y).0) l)) (none_left bs c.loop-branch.branch-index c.loop-branch-test.false))
+    ∙ ap (λ l. is_among c.args.name.now (map (λ y. (branch_view y).0) l)) (drop_end bs c.loop-branch.branch-index c.loop-branch-test.false))

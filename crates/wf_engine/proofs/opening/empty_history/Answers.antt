@@ -1,5 +1,6 @@
 use Rattle.std.proofs.Common.{◌≡◌, ◌∙◌, ap, sym, subst, List, ℕ, [], ◌∷◌, Some}
 use Rattle.std.specs.Prelude.{MatchOption}
+use Rattle.wf_lemmas.proofs.Results.{still_open}
 use Rattle.wf_engine.proofs.opening.empty_history.Goals as goal
 use Rattle.wf_events.specs.Reading.{meaning}
 use Rattle.wf_events.specs.View.{record_view}
@@ -7,7 +8,7 @@ use Rattle.wf_history.specs.Stands.{ahead, is_closed}
 use Rattle.wf_history.specs.declared.fault.HistoryFault.TheVariants as fault
 use Rattle.wf_journal.specs.Records.{records}
 use Rattle.wf_replay.proofs.OnlyReads.{settled_behind}
-use Rattle.wf_replay.proofs.StillOpen.{some_first, still_open, tells_still}
+use Rattle.wf_replay.proofs.StillOpen.{some_first, tells_still}
 
 pub returns-in-Ok-None-clause-stands : goal.returns-in-Ok-None-clause-stands
 returns-in-Ok-None-clause-stands g c = λ told.

@@ -1,6 +1,7 @@
 use Rattle.std.proofs.Common.{subst, sym, ap, arith, length, ◌≡◌, ◌+◌}
 use Rattle.std.specs.Prelude.{IfOk}
-use Rattle.wf_engine.proofs.Bringing.{Behind, if_ok, turn_alone}
+use Rattle.wf_lemmas.proofs.Results.{with_ok}
+use Rattle.wf_engine.proofs.Bringing.{Behind, turn_alone}
 use Rattle.wf_engine.proofs.turns.choose_counted.Goals as goal
 use Rattle.wf_engine.specs.Taken.{taken_event}
 use Rattle.wf_engine.specs.Turn.{IsTurn}
@@ -12,12 +13,12 @@ returns-in-None-clause-turn g c =
     let old = state_of c.args.machine.now in
     let new = state_of c.choose_rest.new.machine in
     let r = c.args.reading in
-    if_ok (λ all. Behind old new r (events_view c.new.result) (events_view all)) (λ all. IsTurn old new r (taken_event r c.args.taken) (events_view all)) c.choose_rest.result
+    with_ok (λ all. Behind old new r (events_view c.new.result) (events_view all)) (λ all. IsTurn old new r (taken_event r c.args.taken) (events_view all)) c.choose_rest.result
     (λ all chosen. turn_alone old new r (taken_event r c.args.taken) (events_view c.new.result) (events_view all) c.requires.last (ap (taken_event r) c.in-None.is) c.new.ensures chosen) c.choose_rest.ensures.chosen
 
 pub returns-in-None-clause-steps : goal.returns-in-None-clause-steps
 returns-in-None-clause-steps g c =
-    if_ok (λ all. c.choose_rest.new.steps + length (events_view c.new.result) ≡ c.args.steps.now + length (events_view all)) (λ all. c.choose_rest.new.steps ≡ c.args.steps.now + length (events_view all)) c.choose_rest.result
+    with_ok (λ all. c.choose_rest.new.steps + length (events_view c.new.result) ≡ c.args.steps.now + length (events_view all)) (λ all. c.choose_rest.new.steps ≡ c.args.steps.now + length (events_view all)) c.choose_rest.result
     (λ all is. omega (arith, is, ap length c.new.ensures)) c.choose_rest.ensures.steps
 
 pub returns-in-Some-clause-turn : goal.returns-in-Some-clause-turn

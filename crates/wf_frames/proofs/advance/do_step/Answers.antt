@@ -1,12 +1,12 @@
 use Rattle.std.proofs.Common.{◌≡◌, ◌<◌, ◌∷◌, ℕ, length, sym, ap, subst, ◌∙◌}
 use Rattle.std.proofs.lemmas.List.{get_or_read}
 use Rattle.std.specs.Prelude.{is_some}
+use Rattle.wf_lemmas.proofs.Results.{with_ok}
 use Rattle.wf_eval.specs.Sight.{seen}
 use Rattle.wf_frames.specs.Fits.{reach}
 use Rattle.wf_frames.specs.Frames.{inner}
 use Rattle.wf_frames.specs.declared.frames.Frame.TheVariants as frame
 use Rattle.wf_frames.proofs.Advancing.{do_moves, same_list, step_fits, step_inside, step_within}
-use Rattle.wf_frames.proofs.Performed.{with_ok}
 use Rattle.wf_frames.proofs.Asking.{do_issues, do_wants, of_same}
 use Rattle.wf_frames.specs.Steps.{CarriesCall, CarriesOut, IsOf, Issues, Moves, WantsSame}
 use Rattle.wf_model.specs.NodeKinds.{Listed, block_view}

@@ -1,10 +1,10 @@
 use Rattle.std.proofs.Common.{◌∷◌, false, refl, ap, sym, subst, ◌∙◌}
+use Rattle.wf_lemmas.proofs.Results.{with_ok}
 use Rattle.wf_eval.specs.Sight.{seen}
 use Rattle.wf_frames.specs.Fits.{Fits, reach}
 use Rattle.wf_frames.specs.Frames.{inner}
 use Rattle.wf_frames.specs.declared.frames.Frame.TheVariants as frame
 use Rattle.wf_frames.proofs.Advancing.{lone_moves}
-use Rattle.wf_frames.proofs.Performed.{with_ok}
 use Rattle.wf_frames.proofs.Asking.{lone_issues, of_same}
 use Rattle.wf_frames.specs.Steps.{CarriesCall, CarriesOut, IsOf, Issues, Moves, WantsSame}
 use Rattle.wf_model.specs.Spots.{part_at, part_body, part_next}

@@ -1,12 +1,12 @@
 use Rattle.std.proofs.Common.{refl, ◌∷◌, sym, subst}
 use Rattle.std.specs.Prelude.{IfOk}
+use Rattle.wf_lemmas.proofs.Results.{with_ok}
 use Rattle.wf_eval.specs.Sight.{seen}
 use Rattle.wf_frames.specs.Fits.{Fits}
 use Rattle.wf_frames.specs.Frames.{inner}
 use Rattle.wf_frames.specs.declared.frames.Frame.TheVariants as frame
 use Rattle.wf_ast.specs.Apply.{View}
 use Rattle.wf_frames.proofs.Advancing.{lone_first, some_step}
-use Rattle.wf_frames.proofs.Performed.{with_ok}
 use Rattle.wf_frames.specs.declared.step.Step.TheVariants as step
 use Rattle.wf_frames.proofs.Asking.{entries_issue, no_call_same, then_issues}
 use Rattle.wf_frames.specs.Steps.{HasStep, IsNoCall, Issues, Moves, WantsSame}

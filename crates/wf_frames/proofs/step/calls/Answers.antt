@@ -5,11 +5,11 @@ use Rattle.wf_model.specs.NodeKinds.{call_by}
 use Rattle.wf_model.specs.Shapes.{fields_by}
 use Rattle.wf_frames.proofs.Asking.{ask_fails, asked_with}
 use Rattle.wf_frames.proofs.Evaluated.{gave}
-use Rattle.wf_frames.proofs.Performed.{with_ok}
 use Rattle.wf_frames.proofs.Shallow.{args_shallow}
 use Rattle.wf_frames.specs.Steps.{AsksWith, Fails}
 use Rattle.wf_value.specs.Data.{pairs_of}
 use Rattle.wf_frames.proofs.step.calls.Goals as goal
+use Rattle.wf_lemmas.proofs.Results.{with_ok}
 
 pub returns-in-Ok-clause-asked : goal.returns-in-Ok-clause-asked
 returns-in-Ok-clause-asked g c =

@@ -1,11 +1,12 @@
 use Rattle.std.proofs.Common.{sym, ap, ◌∙◌}
+use Rattle.wf_lemmas.proofs.Results.{with_ok}
 use Rattle.wf_eval.specs.Sight.{seen}
 use Rattle.wf_frames.specs.Fits.{reach}
 use Rattle.wf_frames.specs.Frames.{inner}
 use Rattle.wf_frames.proofs.Choices.{busy_body, idle_body}
 use Rattle.wf_frames.proofs.Fitting.{jump_ready, then_fits}
 use Rattle.wf_frames.proofs.Parts.{node_at, part_is}
-use Rattle.wf_frames.proofs.Performed.{carries_beside, carries_jump, carries_plainly, with_ok}
+use Rattle.wf_frames.proofs.Performed.{carries_beside, carries_jump, carries_plainly}
 use Rattle.wf_frames.proofs.Asking.{asks_beside, asks_plainly, idle_carries}
 use Rattle.wf_frames.specs.Steps.{CarriesCall, CarriesOut, Performs, PerformsCall}
 use Rattle.wf_model.specs.Spots.{part_at, part_body, part_next}

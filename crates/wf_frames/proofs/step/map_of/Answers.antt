@@ -1,5 +1,5 @@
 use Rattle.std.proofs.Common.{◌≡◌, ◌≤◌, sym, subst}
-use Rattle.wf_frames.proofs.Performed.{with_ok}
+use Rattle.wf_lemmas.proofs.Results.{with_ok}
 use Rattle.wf_frames.proofs.Shallow.{error_shallow}
 use Rattle.wf_value.specs.Data.{Data, depth}
 use Rattle.wf_value.specs.Errors.{error_map}

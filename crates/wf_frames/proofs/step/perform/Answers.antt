@@ -1,4 +1,5 @@
 use Rattle.std.proofs.Common.{sym, ap, ◌∙◌}
+use Rattle.wf_lemmas.proofs.Results.{with_ok}
 use Rattle.wf_ast.specs.Tree.{Body}
 use Rattle.wf_eval.specs.Sight.{seen}
 use Rattle.wf_frames.specs.Frames.{inner}
@@ -7,7 +8,7 @@ use Rattle.wf_model.specs.Spots.{part_at, part_body}
 use Rattle.wf_model.specs.declared.node.NodeKind.TheVariants as kind
 use Rattle.wf_frames.proofs.Asking.{no_call_of, performs_asked, plain_performs}
 use Rattle.wf_frames.proofs.Parts.{as_part, node_at, other_node}
-use Rattle.wf_frames.proofs.Performed.{performs_call, with_ok}
+use Rattle.wf_frames.proofs.Performed.{performs_call}
 use Rattle.wf_frames.specs.Steps.{AsksWith, CallsWith, IsNoCall, IsOf, Performs, PerformsCall}
 use Rattle.wf_frames.proofs.step.perform.Goals as goal
 

@@ -1,12 +1,13 @@
 use Rattle.std.proofs.Common.{ℕ, List, ◌<◌, arith, length, get_or, drop, sym, ap, ◌∙◌, subst, refl}
 use Rattle.std.specs.Prelude.{IfOk}
+use Rattle.wf_lemmas.proofs.Results.{with_ok}
 use Rattle.wf_ast.specs.Tree.{Body}
 use Rattle.wf_eval.specs.Sight.{seen}
 use Rattle.wf_frames.specs.Fits.{reach}
 use Rattle.wf_frames.specs.Frames.{inner}
 use Rattle.wf_frames.proofs.Fitting.{block_fits, entries_fits, entry_ready}
 use Rattle.wf_frames.proofs.Parts.{as_part, never_parallel, node_at}
-use Rattle.wf_frames.proofs.Performed.{nothing_done, default_body, loop_body, none_left, one_left, with_ok, block_put, none_assigned, first_assigned, performs_return, performs_raise}
+use Rattle.wf_frames.proofs.Performed.{nothing_done, default_body, loop_body, none_left, one_left, block_put, none_assigned, first_assigned, performs_return, performs_raise}
 use Rattle.wf_frames.specs.Steps.{Performs, ReturnsValue, RaisesValue}
 use Rattle.wf_model.specs.NodeKinds.{kind_by}
 use Rattle.wf_model.specs.Shapes.{shape_by}

@@ -1,4 +1,5 @@
 use Rattle.std.proofs.Common.{Ok, Err, sym, subst}
+use Rattle.wf_lemmas.proofs.Results.{with_ok}
 use Rattle.wf_moves.proofs.Assigning.{entry_failed, entry_given}
 use Rattle.wf_frames.proofs.Clocked.{entry_there}
 use Rattle.wf_frames.proofs.Parts.{node_at}
@@ -10,7 +11,7 @@ use Rattle.wf_moves.proofs.Raised.{raised, raised_left}
 use Rattle.wf_value.specs.Errors.{error_map}
 use Rattle.wf_frames.specs.Sights.{sight_of}
 use Rattle.wf_model.specs.Move.{assigns}
-use Rattle.wf_frames.proofs.Performed.{with_both, with_ok}
+use Rattle.wf_frames.proofs.Performed.{with_both}
 use Rattle.wf_moves.specs.Assigned.{entry_values, values_of}
 use Rattle.wf_moves.specs.Moved.{IsMove}
 use Rattle.wf_model.specs.NodeKinds.{entry_by}

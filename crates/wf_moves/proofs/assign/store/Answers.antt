@@ -1,11 +1,11 @@
 use Rattle.std.proofs.Common.{None, Some, map, subst}
+use Rattle.wf_lemmas.proofs.Results.{with_ok}
 use Rattle.wf_frames.specs.Frames.{inner}
 use Rattle.wf_frames.specs.Owned.{control_of, held_by, local_of}
 use Rattle.wf_frames.specs.Turns.{Writes}
 use Rattle.wf_moves.proofs.Assigning.{refused, stored}
 use Rattle.wf_moves.proofs.Raised.{raised, raised_left}
 use Rattle.wf_value.specs.Errors.{error_map}
-use Rattle.wf_frames.proofs.Performed.{with_ok}
 use Rattle.wf_moves.proofs.assign.store.Goals as goal
 use Rattle.wf_value.specs.Plain.{plain}
 

@@ -1,10 +1,10 @@
 use Rattle.std.proofs.Common.{List, ap, subst, map}
 use Rattle.std.specs.Prelude.{Option}
+use Rattle.wf_lemmas.proofs.Results.{with_ok}
 use Rattle.wf_frames.specs.Owned.{beside, control_of, local_of}
 use Rattle.wf_model.specs.Layers.{assign}
 use Rattle.wf_model.specs.Leave.{gives, on_assigned}
 use Rattle.wf_moves.specs.Moved.{IsMove}
-use Rattle.wf_frames.proofs.Performed.{with_ok}
 use Rattle.wf_value.specs.Data.{Data}
 use Rattle.wf_value.specs.Pairs.{Text}
 use Rattle.wf_value.specs.Plain.{plain}

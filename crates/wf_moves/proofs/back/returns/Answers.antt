@@ -1,5 +1,6 @@
 use Rattle.std.proofs.Common.{ℕ, refl, sym, subst, ◌∙◌}
 use Rattle.std.specs.Prelude.{Option}
+use Rattle.wf_lemmas.proofs.Results.{with_ok}
 use Rattle.wf_frames.specs.Fits.{IsCallOf}
 use Rattle.wf_frames.specs.Frames.{inner, result_of}
 use Rattle.wf_frames.specs.Owned.{beside, control_of, held_by, local_of}
@@ -10,7 +11,6 @@ use Rattle.wf_moves.proofs.Returning.{call_node, ends_with, gives_on, judge_top,
 use Rattle.wf_moves.specs.Moved.{IsMove}
 use Rattle.wf_moves.specs.declared.finish.End.TheVariants as end
 use Rattle.wf_moves.specs.declared.finish.Went.TheVariants as went
-use Rattle.wf_frames.proofs.Performed.{with_ok}
 use Rattle.wf_value.specs.Plain.{plain}
 use Rattle.wf_moves.proofs.back.returns.Goals as goal
 

@@ -1,5 +1,6 @@
 use Rattle.std.proofs.Common.{◌∷◌, List, ℕ, Some, true, refl, sym, ap, subst, ◌∙◌, arith}
 use Rattle.std.specs.Prelude.{Option}
+use Rattle.wf_lemmas.proofs.Results.{with_ok}
 use Rattle.wf_frames.specs.Bound.{bindings_of}
 use Rattle.wf_frames.specs.Frames.{body_result, control, inner, own}
 use Rattle.wf_frames.specs.Held.{standing}
@@ -14,7 +15,6 @@ use Rattle.wf_moves.specs.Tasks.{flow_at}
 use Rattle.wf_model.specs.Spots.{part_at, part_body}
 use Rattle.wf_scope.specs.Store.{layers_of}
 use Rattle.wf_frames.specs.Tasks.{Own}
-use Rattle.wf_frames.proofs.Performed.{with_ok}
 use Rattle.wf_value.specs.Errors.{error_map}
 use Rattle.wf_value.specs.declared.Tag.TheVariants.{RecursionError, ResourceLimitError}
 use Rattle.wf_moves.proofs.call.begin.Goals as goal

@@ -1,6 +1,7 @@
 use Rattle.std.proofs.Common.{◌≡◌, Some, ap, sym, subst, ◌∙◌}
 use Rattle.std.specs.Prelude.{Option, slice_get}
 use Rattle.std.proofs.lemmas.Option.{slice_get-get_or}
+use Rattle.wf_lemmas.proofs.Results.{with_ok}
 use Rattle.wf_moves.proofs.Calling.{target_within}
 use Rattle.wf_frames.specs.Owned.{beside, control_of, local_of}
 use Rattle.wf_moves.proofs.Stepping.{flow_leads, function_leads, http_leads, log_leads, sleep_leads}
@@ -11,7 +12,6 @@ use Rattle.wf_model.specs.NodeKinds.{call_by}
 use Rattle.wf_model.specs.Spots.{part_body}
 use Rattle.wf_model.specs.declared.node.NodeKind.TheVariants as kind
 use Rattle.wf_frames.proofs.Parts.{as_part}
-use Rattle.wf_frames.proofs.Performed.{with_ok}
 use Rattle.wf_frames.specs.Built.{IsTarget}
 use Rattle.wf_frames.specs.Steps.{asks_with, calls_by}
 use Rattle.wf_value.specs.Data.{pairs_of}

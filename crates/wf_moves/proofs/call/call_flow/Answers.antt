@@ -1,5 +1,6 @@
 use Rattle.std.proofs.Common.{◌≡◌, Some, None, sym, ap, subst, ◌∙◌}
 use Rattle.std.specs.Prelude.{option_map}
+use Rattle.wf_lemmas.proofs.Results.{with_ok}
 use Rattle.wf_ast.specs.Flows.{flow}
 use Rattle.wf_frames.specs.Bound.{bindings_of}
 use Rattle.wf_frames.specs.Frames.{body_result}
@@ -11,7 +12,6 @@ use Rattle.wf_moves.specs.Tasks.{flow_at}
 use Rattle.wf_model.specs.Spots.{Part, part_at, part_body}
 use Rattle.wf_model.specs.declared.node.NodeKind.TheVariants as kind
 use Rattle.wf_frames.proofs.Parts.{as_part}
-use Rattle.wf_frames.proofs.Performed.{with_ok}
 use Rattle.wf_frames.specs.Steps.{calls_by}
 use Rattle.wf_value.specs.Data.{pairs_of}
 use Rattle.wf_moves.proofs.call.call_flow.Goals as goal

@@ -1,5 +1,6 @@
 use Rattle.std.proofs.Common.{Ok, Err, ap, sym, subst, ◌∙◌}
 use Rattle.std.specs.Prelude.{is_some}
+use Rattle.wf_lemmas.proofs.Results.{with_ok}
 use Rattle.wf_ast.specs.Apply.{View}
 use Rattle.wf_ast.specs.Flows.{flow}
 use Rattle.wf_frames.specs.Frames.{body_result, inner}
@@ -15,7 +16,7 @@ use Rattle.wf_model.specs.Spots.{part_body}
 use Rattle.wf_model.specs.declared.node.NodeKind.TheVariants as kind
 use Rattle.wf_frames.specs.Functions.{answer_of}
 use Rattle.wf_frames.proofs.Parts.{as_part}
-use Rattle.wf_frames.proofs.Performed.{with_both, with_ok}
+use Rattle.wf_frames.proofs.Performed.{with_both}
 use Rattle.wf_frames.specs.Steps.{calls_by}
 use Rattle.wf_value.specs.Data.{pairs_of}
 use Rattle.wf_value.specs.Plain.{plain}

@@ -1,8 +1,8 @@
 use Rattle.std.proofs.Common.{inl, sym, ap, subst, ◌∙◌}
+use Rattle.wf_lemmas.proofs.Results.{with_ok}
 use Rattle.wf_frames.specs.Owned.{beside, control_of, local_of}
 use Rattle.wf_moves.proofs.Retrying.{asked_there, decided_asks, decided_no, decided_yes}
 use Rattle.wf_moves.specs.Retries.{IsDecided, IsLed, caught}
-use Rattle.wf_frames.proofs.Performed.{with_ok}
 use Rattle.wf_value.specs.Plain.{plain}
 use Rattle.wf_moves.proofs.judging.decide.Goals as goal
 

@@ -1,12 +1,12 @@
 use Rattle.std.proofs.Common.{[], Option, ap, sym, subst, ◌∙◌, bytes_eq, codes}
 use Rattle.std.specs.Prelude.{unwrap_or}
+use Rattle.wf_lemmas.proofs.Results.{with_ok}
 use Rattle.wf_frames.specs.Frames.{inner}
 use Rattle.wf_frames.specs.Owned.{beside, control_of, local_of}
 use Rattle.wf_model.specs.Leave.{jumps}
 use Rattle.wf_model.specs.Local.{Moved}
 use Rattle.wf_moves.proofs.Jumps.{jumps_break, jumps_continue, jumps_end, jumps_step, node_leads}
 use Rattle.wf_frames.proofs.Parts.{node_at}
-use Rattle.wf_frames.proofs.Performed.{with_ok}
 use Rattle.wf_moves.specs.Moved.{IsMove}
 use Rattle.wf_value.specs.Pairs.{Text}
 use Rattle.wf_moves.proofs.jump.jump.Goals as goal

@@ -1,11 +1,11 @@
 use Rattle.std.proofs.Common.{refl, sym, ap, subst, ◌∙◌}
+use Rattle.wf_lemmas.proofs.Results.{with_ok}
 use Rattle.wf_frames.specs.Frames.{inner}
 use Rattle.wf_frames.specs.Owned.{beside, control_of, held_by, local_of}
 use Rattle.wf_frames.specs.declared.frames.Frame.TheVariants as frame
 use Rattle.wf_moves.proofs.Leaving.{fits_after}
 use Rattle.wf_moves.proofs.Retrying.{judge_at, judge_no, judge_yes}
 use Rattle.wf_moves.specs.Retries.{IsLed, caught}
-use Rattle.wf_frames.proofs.Performed.{with_ok}
 use Rattle.wf_moves.proofs.leading.answered.Goals as goal
 
 pub retry-requires : goal.retry-requires

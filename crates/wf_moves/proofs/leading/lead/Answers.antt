@@ -1,9 +1,9 @@
 use Rattle.std.proofs.Common.{subst}
+use Rattle.wf_lemmas.proofs.Results.{with_ok}
 use Rattle.wf_frames.specs.Frames.{inner}
 use Rattle.wf_frames.specs.Owned.{local_of}
 use Rattle.wf_moves.proofs.Led.{ends_lead, goes_leads, raised_leads, said_leads}
 use Rattle.wf_moves.specs.Moved.{IsLeft, IsMove}
-use Rattle.wf_frames.proofs.Performed.{with_ok}
 use Rattle.wf_moves.proofs.leading.lead.Goals as goal
 
 pub outward-requires : goal.outward-requires

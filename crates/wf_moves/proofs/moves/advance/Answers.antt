@@ -1,4 +1,5 @@
 use Rattle.std.proofs.Common.{◌∷◌, sym, subst, ap, ◌∙◌}
+use Rattle.wf_lemmas.proofs.Results.{with_ok}
 use Rattle.wf_frames.proofs.Owning.{own_pushed}
 use Rattle.wf_frames.specs.Fits.{Fits}
 use Rattle.wf_frames.specs.Frames.{inner}
@@ -9,7 +10,6 @@ use Rattle.wf_frames.specs.Owned.{IsLinked, beside, local_of, own_of}
 use Rattle.wf_frames.specs.declared.frames.Frame.TheVariants as frame
 use Rattle.wf_moves.proofs.Leaving.{going_has, going_plain, going_step, no_back}
 use Rattle.wf_moves.proofs.Stepping.{back_stepped, loop_stepped, stepped_same}
-use Rattle.wf_frames.proofs.Performed.{with_ok}
 use Rattle.wf_moves.proofs.Turning.{loop_there, moved_same}
 use Rattle.wf_scope.specs.Store.{layers_of}
 use Rattle.wf_moves.proofs.moves.advance.Goals as goal

@@ -1,4 +1,5 @@
 use Rattle.std.proofs.Common.{refl, sym, subst}
+use Rattle.wf_lemmas.proofs.Results.{with_ok}
 use Rattle.wf_frames.specs.Frames.{inner}
 use Rattle.wf_frames.specs.Held.{standing}
 use Rattle.wf_frames.specs.Owned.{beside, control_of, held_by, local_of}
@@ -7,7 +8,6 @@ use Rattle.wf_moves.proofs.Raised.{raised_so}
 use Rattle.wf_moves.specs.declared.finish.Went.TheVariants as went
 use Rattle.wf_value.specs.Plain.{plain}
 use Rattle.wf_moves.specs.Moved.{IsMove}
-use Rattle.wf_frames.proofs.Performed.{with_ok}
 use Rattle.wf_frames.specs.Steps.{IsNoCall, IsReady, come}
 use Rattle.wf_moves.proofs.moves.finish.Goals as goal
 

@@ -1,4 +1,5 @@
 use Rattle.std.proofs.Common.{◌∷◌, subst}
+use Rattle.wf_lemmas.proofs.Results.{with_ok}
 use Rattle.wf_eval.specs.Sight.{seen}
 use Rattle.wf_frames.specs.Frames.{inner}
 use Rattle.wf_frames.specs.Held.{standing}
@@ -8,7 +9,6 @@ use Rattle.wf_moves.proofs.Stepping.{stepped_on}
 use Rattle.wf_moves.specs.Stepped.{leads}
 use Rattle.wf_moves.specs.Tasks.{IsDone}
 use Rattle.wf_scope.specs.Store.{layers_of}
-use Rattle.wf_frames.proofs.Performed.{with_ok}
 use Rattle.wf_moves.proofs.moves.step_on.Goals as goal
 
 pub returns-clause-moved : goal.returns-clause-moved

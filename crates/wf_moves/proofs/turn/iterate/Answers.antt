@@ -1,12 +1,12 @@
 use Rattle.std.proofs.Common.{◌+◌, ℕ, List, ◌∷◌, Some, false, sym, ap, ◌∙◌, subst, pos}
 use Rattle.std.specs.Prelude.{Option}
+use Rattle.wf_lemmas.proofs.Results.{with_ok}
 use Rattle.wf_frames.specs.Frames.{control, inner, own}
 use Rattle.wf_frames.specs.Held.{standing}
 use Rattle.wf_frames.specs.Owned.{IsLinked, control_of, held_by, held_of, local_of, own_of}
 use Rattle.wf_frames.specs.Turns.{Enters, names_of, with_own}
 use Rattle.wf_frames.specs.declared.frames.Frame.TheVariants as frame
 use Rattle.wf_model.specs.Local.{goes}
-use Rattle.wf_frames.proofs.Performed.{with_ok}
 use Rattle.wf_moves.proofs.Raised.{raised, raised_left}
 use Rattle.wf_moves.proofs.Turning.{turn_entered, turn_fits, turn_owned, turn_refused}
 use Rattle.wf_moves.specs.Moved.{IsMove}

@@ -1,9 +1,10 @@
 use Rattle.std.proofs.Common.{rules, ◌∙◌, ◌+◌, ap, sym, Ok}
+use Rattle.wf_lemmas.proofs.Results.{still_open}
 use Rattle.wf_history.specs.Stands.{ahead, is_closed}
 use Rattle.wf_deeds.specs.At.{applied_by}
 use Rattle.wf_deeds.specs.History.{goes_to}
 use Rattle.wf_replay.proofs.FirstRecords.{applied_in_all, at_first_record, at_later_record, records_lead}
-use Rattle.wf_replay.proofs.StillOpen.{still_open, tells_still}
+use Rattle.wf_replay.proofs.StillOpen.{tells_still}
 use Rattle.wf_replay.proofs.opening.last_machine.Goals as goal
 use Rattle.wf_replay.specs.Standing.{standing}
 use Rattle.wf_replay.specs.TheLanguage.{the_language}

@@ -1,9 +1,10 @@
 use Rattle.std.proofs.Common.{◌∙◌, ap, sym, subst, Some, None}
 use Rattle.std.specs.Prelude.{option_map}
+use Rattle.wf_lemmas.proofs.Options.{none_unless}
 use Rattle.wf_check.specs.Seen.{program_of}
 use Rattle.wf_events.specs.View.{record_view, start_view}
 use Rattle.wf_deeds.specs.History.{first_standing}
-use Rattle.wf_replay.proofs.FirstRecords.{none_of, start_leads, start_refused}
+use Rattle.wf_replay.proofs.FirstRecords.{start_leads, start_refused}
 use Rattle.wf_replay.proofs.Language.{accepts}
 use Rattle.wf_replay.proofs.opening.machine_of.Goals as goal
 use Rattle.wf_replay.specs.Openings.{Accepts}
@@ -11,7 +12,7 @@ use Rattle.wf_replay.specs.TheLanguage.{the_language}
 
 pub returns-in_default-2-clause-none : goal.returns-in_default-2-clause-none
 returns-in_default-2-clause-none c = λ _.
-    let none = none_of c.in_ok-program.field-0 c.in_default-2.not-Some in
+    let none = none_unless c.in_ok-program.field-0 c.in_default-2.not-Some in
     let refused = subst (λ o. Accepts c.as_slice.result.now (option_map program_of o)) none c.in_ok-program.ensures in
     ap (λ r. first_standing the_language (Some (record_view r))) c.in-Start.is
     ∙ start_refused the_language (start_view c.in-Start.start) (ap (λ l. the_language.source l) (sym c.as_slice.ensures) ∙ accepts c.each_source_is_one.ensures c.as_slice.result.now None refused)

@@ -1,8 +1,9 @@
 use Rattle.std.proofs.Common.{◌∙◌, ap, arith, length}
 use Rattle.std.proofs.lemmas.List.{length-map}
+use Rattle.wf_lemmas.proofs.Results.{passed_on}
 use Rattle.wf_events.specs.View.{event_view, events_view}
 use Rattle.wf_machine.specs.declared.ApplyFault.TheVariants as fault
-use Rattle.wf_replay.proofs.Events.{ends, never, never_past, passed_on, past_in, still_whole}
+use Rattle.wf_replay.proofs.Events.{ends, never, never_past, past_in, still_whole}
 use Rattle.wf_replay.proofs.replaying.apply_turn.Goals as goal
 
 pub returns-in_err-apply-clause-not_enabled : goal.returns-in_err-apply-clause-not_enabled

@@ -1,5 +1,6 @@
 use Rattle.std.proofs.Common.{refl}
-use Rattle.wf_replay.proofs.Replays.{starts, none_fell}
+use Rattle.wf_host.proofs.Printings.{NoneFell-refl}
+use Rattle.wf_replay.proofs.Replays.{starts}
 use Rattle.wf_replay.proofs.replaying.replay.Goals as goal
 
 pub loop-machine-init : goal.loop-machine-init
@@ -9,6 +10,6 @@ loop-machine-init g c = record {
   new = refl;
   whole = c.requires.whole;
   tells = refl;
-  counts = none_fell (g.H.Host.faults c.args.host.now);
+  counts = NoneFell-refl (g.H.Host.faults c.args.host.now);
   idle = λ _. (refl, refl);
 }

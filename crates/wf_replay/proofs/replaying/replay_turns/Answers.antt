@@ -1,8 +1,9 @@
 use Rattle.std.proofs.Common.{◌≡◌, ◌-◌, [], true, false, rules, refl, arith}
 use Rattle.std.specs.Prelude.{IsTrue}
+use Rattle.wf_host.proofs.Printings.{NoneFell-refl}
 use Rattle.wf_history.specs.Stands.{ahead}
 use Rattle.wf_replay.proofs.Fronts.{as_at_first, none_gone, none_left, one_further}
-use Rattle.wf_replay.proofs.Replays.{starts, none_fell}
+use Rattle.wf_replay.proofs.Replays.{starts}
 use Rattle.wf_replay.proofs.replaying.replay_turns.Goals as goal
 use Rattle.wf_replay.specs.Standing.{Passes, standing}
 
@@ -15,7 +16,7 @@ loop-left-init g c = record {
     new = refl;
     whole = c.requires.whole;
     tells = refl;
-    counts = none_fell (g.H.Host.faults c.args.host.now);
+    counts = NoneFell-refl (g.H.Host.faults c.args.host.now);
     idle = λ _. (refl, refl);
   };
   gone = none_gone (g.H.Host.world c.args.host.now) c.args.history.now c.args.machine c.args.turns;

@@ -1,10 +1,11 @@
 use Rattle.std.proofs.Common.{◌≡◌, ◌∙◌, ◌+◌, ap, sym, Ok, take, drop}
+use Rattle.wf_lemmas.proofs.Results.{still_open}
 use Rattle.wf_history.specs.Stands.{ahead, is_closed}
 use Rattle.wf_deeds.specs.At.{applied_by}
 use Rattle.wf_deeds.specs.History.{goes_to}
 use Rattle.wf_machine.specs.Seen.{state_of}
 use Rattle.wf_replay.proofs.FirstRecords.{applied_in_all, at_first_record, at_later_record}
-use Rattle.wf_replay.proofs.StillOpen.{some_first, still_open, tells_still}
+use Rattle.wf_replay.proofs.StillOpen.{some_first, tells_still}
 use Rattle.wf_replay.specs.Standing.{standing}
 use Rattle.wf_replay.specs.TheLanguage.{the_language}
 use Rattle.wf_replay.specs.declared.fault.ReplayFault.TheVariants as fault

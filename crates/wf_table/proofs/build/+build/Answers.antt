@@ -1,4 +1,4 @@
-use Rattle.std.proofs.Common.{◌≡◌, ℕ, suc, ◌+◌, arith, [], ◌∷◌, ◌++◌, Option, None, Some, length, map, refl, sym, ap, ◌∙◌}
+use Rattle.std.proofs.Common.{◌≡◌, ℕ, suc, ◌+◌, arith, [], ◌∷◌, ◌++◌, Option, None, Some, length, map, refl, sym, ap, ◌∙◌, add-one}
 use Rattle.wf_ast.proofs.Views.{arms_level, branches_level, try_level}
 use Rattle.wf_ast.specs.Tree as tree
 use Rattle.wf_ast.specs.View.{arm_view, body_view, branch_view, call_view, entry_view, except_option_view, loop_view, over_view, policy_option_view, steps_in, template_view, texts_view, try_view, work_view}
@@ -17,9 +17,6 @@ use Rattle.wf_table.specs.Made.{Adds, arm_numbers, body_for, branch_numbers, ent
 use Rattle.wf_model.specs.Shapes.{shape_by}
 use Rattle.wf_model.specs.Spots.{BodyAt, BranchAt, arms_spots, body_size, body_spots, branches_spots, except_spots, spot, step_spots, steps_spots, try_spots}
 use Rattle.wf_value.specs.Pairs.{Text}
-
-one_on : (n : ℕ) → n + 1 ≡ suc n
-one_on n = omega arith
 
 -- ## Lists of steps
 pub block-loop-step-init : goal.block-loop-step-init
@@ -150,7 +147,7 @@ arms-loop-item-preserved t c = λ os st.
     let first = c.in_ok-arm.ensures.adds os st in
     let count = longer b m _ first in
     let second = of_these m d _ (step_spots (tree.step [] x a.next) (suc (length b)) os)
-    (λ i. step_spots (tree.step (c.in_ok-name.ensures i) x (c.in_ok-next.ensures i)) ((count ∙ one_on (length b)) i) os) (c.in_ok-body.ensures.adds os st) in
+    (λ i. step_spots (tree.step (c.in_ok-name.ensures i) x (c.in_ok-next.ensures i)) ((count ∙ add-one (length b)) i) os) (c.in_ok-body.ensures.adds os st) in
     goes (arm_parts os) numbers_of_arms (arm_own os) (arms_lay os) _ b d c.args.arms.now c.loop-item.item-index a c.loop-item.numbers.items _ c.in_ok-arm.field-0
     c.loop-item-test.true c.item-item.is c.in_ok-arm.ensures.number c.in_ok-add.ensures (adding.then b m d _ _ first second) (c.loop-item.invariant os st)
 

@@ -4,13 +4,14 @@ use Rattle.wf_tree.specs.Plain.{plain_tree}
 use Rattle.wf_yaml_line.specs.declared.fault.Fault.{Fault}
 use Rattle.wf_yaml_line.specs.Views.{so_far, keys_of, key_view, Gives}
 use Rattle.std.specs.Option.{option_map}
+use Rattle.wf_lemmas.proofs.Bools.{cond_false}
 use Rattle.wf_yaml.specs.Rows as lines
 use Rattle.wf_yaml.specs.Cuts.{cut, heads, entries_of}
 use Rattle.wf_yaml.specs.Blocks as blocks
 use Rattle.wf_yaml.specs.Views.{see, see_all, see_head}
 use Rattle.wf_yaml_line.specs.Scalars.{is_delay_key}
 use Rattle.wf_yaml_line.specs.Marks.{ends_line}
-use Rattle.wf_yaml.proofs.Steps.{no, block_none, block_some, first_line, holds_first, item_goes_on, list_next, map_next}
+use Rattle.wf_yaml.proofs.Steps.{block_none, block_some, first_line, holds_first, item_goes_on, list_next, map_next}
 use Rattle.wf_yaml.proofs.blocks.+node.Goals as goal
 
 pub block-returns-in-empty : goal.block-returns-in-empty
@@ -75,5 +76,5 @@ pair_value-returns t c =
     let delay = c.is_delay_key-delay.ensures ∙ ap is_delay_key c.as_str.ensures in
     subst (λ (read : Result Tree Fault). Gives plain_tree c.scalar.result read)
     ((λ i. blocks.scalar (c.args.indent + 1) (c.args.depth + 1) (delay i) c.args.number (c.skip_blanks-text.ensures.rest i) (see_all c.args.body.now))
-    ∙ sym (no (ends_line c.args.key.now.rest.now) _ _ (sym c.ends_line.ensures ∙ c.if-ends_line.false)))
+    ∙ sym (cond_false (ends_line c.args.key.now.rest.now) _ _ (sym c.ends_line.ensures ∙ c.if-ends_line.false)))
     c.scalar.ensures

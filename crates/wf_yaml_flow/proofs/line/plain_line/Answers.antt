@@ -1,11 +1,11 @@
 use Rattle.std.proofs.Common.{◌≡◌, is_some, subst, sym, ap, ◌∙◌, false}
+use Rattle.wf_lemmas.proofs.Options.{some_mapped}
 use Rattle.wf_tree.specs.Plain.{plain_tree}
 use Rattle.wf_yaml_line.specs.Marks.{trimmed, before_comment, around_colon}
 use Rattle.wf_yaml_line.specs.Fault.{both, kept, refuse_if}
 use Rattle.wf_yaml_line.specs.Scalars as scalars
 use Rattle.wf_yaml_line.specs.declared.fault.Kind.TheVariants as kinds
 use Rattle.wf_yaml_line.specs.Views.{Gives}
-use Rattle.wf_yaml_line.proofs.Sets.{some_mapped}
 use Rattle.wf_yaml_flow.proofs.line.plain_line.Goals as goal
 
 pub returns : goal.returns

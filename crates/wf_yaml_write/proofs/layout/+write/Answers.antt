@@ -1,5 +1,6 @@
 use Rattle.std.proofs.Common.{rules, w64, string_bytes, ◌≡◌, ◌++◌, take, drop, length, ◌-◌, ap, ◌∙◌, sym, arith, codes, replicate, ◌+◌}
 use Rattle.std.proofs.lemmas.Result.{on_ok_weaker}
+use Rattle.wf_lemmas.proofs.Lists.{item_at}
 use mir.Val.{SFits}
 use Rattle.wf_tree.specs.Trees.{list, map, items_of, pairs_of}
 use Rattle.wf_tree.specs.Plain.{plain_tree, plain_items, plain_pairs}
@@ -8,7 +9,7 @@ use Rattle.wf_yaml_write.specs.Laid.{laid}
 use Rattle.wf_yaml_write.specs.Layout.{layout, written_text}
 use Rattle.wf_yaml_write.proofs.Lines.{laid_item, laid_beside, laid_below}
 use Rattle.wf_yaml_write.proofs.Memory.{number_in_memory, map_in_memory, items_next, pairs_next}
-use Rattle.wf_yaml_write.proofs.Parts.{list_deep, map_deep, item_deep, pair_deep, first_rest, next_rest, items_deep, pairs_deep, items_start, items_step, pairs_start, pairs_step}
+use Rattle.wf_yaml_write.proofs.Parts.{list_deep, map_deep, item_deep, pair_deep, first_rest, items_deep, pairs_deep, items_start, items_step, pairs_start, pairs_step}
 use Rattle.wf_yaml_write.proofs.layout.+write.Goals as goal
 
 pub push_tree-push_items-requires : goal.push_tree-push_items-requires
@@ -50,7 +51,7 @@ push_more_items-push_item-requires t c = let h = item_deep c.args.items.now c.lo
 
 pub push_more_items-loop-item-preserved : goal.push_more_items-loop-item-preserved
 push_more_items-loop-item-preserved t c =
-    let e = next_rest c.args.items.now c.loop-item.item-index c.item-item.result c.loop-item-test.true c.item-item.is in (
+    let e = item_at c.args.items.now c.loop-item.item-index c.item-item.result c.loop-item-test.true c.item-item.is in (
       items_step c.args.indent c.loop-item.item-index _ _ _ _ c.args.items.now c.item-item.result e c.loop-item.invariant.0 c.in_ok-push_spaces.ensures c.in_ok-push_item.ensures.text,
       items_next c.loop-item.item-index c.args.items.now c.item-item.result _ e c.loop-item.invariant.1 c.in_ok-push_item.ensures.memory,
     )
@@ -96,7 +97,7 @@ push_more_pairs-push_pair-requires t c = let h = pair_deep c.args.pairs.now c.lo
 
 pub push_more_pairs-loop-pair-preserved : goal.push_more_pairs-loop-pair-preserved
 push_more_pairs-loop-pair-preserved t c =
-    let e = next_rest c.args.pairs.now c.loop-pair.pair-index c.pair-item.result c.loop-pair-test.true c.pair-item.is in (
+    let e = item_at c.args.pairs.now c.loop-pair.pair-index c.pair-item.result c.loop-pair-test.true c.pair-item.is in (
       pairs_step c.args.indent c.loop-pair.pair-index _ _ _ _ c.args.pairs.now c.pair-item.result e c.loop-pair.invariant.0 c.in_ok-push_spaces.ensures c.in_ok-push_pair.ensures.text,
       pairs_next c.loop-pair.pair-index c.args.pairs.now c.pair-item.result _ e c.loop-pair.invariant.1 c.in_ok-push_pair.ensures.memory,
     )

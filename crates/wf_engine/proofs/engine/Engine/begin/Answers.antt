@@ -1,9 +1,10 @@
 use Rattle.std.proofs.Common.{rules, ◌≡◌, ◌∙◌, Err, ap, inr, refl, sym, subst, [], ◌∷◌, Some}
 use Rattle.std.specs.Prelude.{IsTrue}
+use Rattle.wf_host.proofs.Printings.{NoneFell-refl}
 use Rattle.wf_check.specs.Seen.{program_of}
 use Rattle.wf_connections.specs.Calls.{is_dropped, is_started, told}
 use Rattle.wf_engine.proofs.Beginning.{begins_quietly, not_refused, quiet_at_once, then_begins}
-use Rattle.wf_engine.proofs.Failing.{begin_failed, is_err, none_fell_yet}
+use Rattle.wf_engine.proofs.Failing.{begin_failed, is_err}
 use Rattle.wf_engine.proofs.FreshEngine.{stands_as_fresh}
 use Rattle.wf_engine.proofs.NewSessions.{stands_begun}
 use Rattle.wf_engine.proofs.engine.Engine.begin.Goals as goal
@@ -30,7 +31,7 @@ returns-in_err-machine g c =
     let quiet = λ (told : IsTrue w.tells). quiet_at_once w (λ i d left. g.met.H.Host.only_now c.args.host.now i d told left) in
     begin_failed g.H.Host.world g.H.Host.faults (start_view c.args.start.now) c.args.host.now c.args.host.now fault.OutOfMemory c.from_residual.result (is_err c.from_residual.result fault.OutOfMemory c.from_residual.ensures)
     (inr (inr (inr refl))) (λ is. absurd (cc is)) (λ told is. absurd (cc is)) (λ told is. absurd (cc is)) (λ told is. absurd (cc is)) (λ told. begins_quietly w w (record_bytes (Started (start_view c.args.start.now))) (quiet told)) (λ told refused. quiet told)
-    (λ told refused. refl) (λ told. refl) refl (none_fell_yet (g.H.Host.faults c.args.host.now))
+    (λ told refused. refl) (λ told. refl) refl (NoneFell-refl (g.H.Host.faults c.args.host.now))
 
 -- it was only opened
 pub returns-in_err-history : goal.returns-in_err-history

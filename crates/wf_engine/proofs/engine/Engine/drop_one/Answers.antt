@@ -1,7 +1,8 @@
 use Rattle.std.proofs.Common.{◌≡◌, false, true, [], ◌∷◌, refl, sym, ◌∙◌}
+use Rattle.wf_host.proofs.Printings.{NoneFell-refl}
 use Rattle.wf_deeds.specs.Clauses.{those}
 use Rattle.wf_engine.proofs.Connected.{behind, drops_goes, drops_one, drops_same, forgets_goes, forgets_one, forgets_same, lent_some}
-use Rattle.wf_engine.proofs.CallsSent.{drops_no_open, drops_none, holds_later, none_fell, part_none, sends_drop, sends_none, told_then}
+use Rattle.wf_engine.proofs.CallsSent.{drops_no_open, drops_none, holds_later, part_none, sends_drop, sends_none, told_then}
 use Rattle.wf_engine.proofs.Sent.{kept_before, kept_with, kept_without}
 use Rattle.wf_engine.proofs.SentLists.{not_this}
 use Rattle.wf_engine.proofs.engine.Engine.drop_one.Goals as goal
@@ -57,7 +58,7 @@ returns-then-not-is_to_drop-clause-sent g c =
       moments = λ O told. kept_before c.laws_of_steps.ensures.moment the_language O m e.history w (λ i d left. g.met.H.Host.only_now c.args.host.now i d told left) (c.requires.kept told).0 (e.ready c.requires.not_closed).begun;
       seen = λ told. refl;
       tells = refl;
-      counts = none_fell (g.H.Host.faults c.args.host.now);
+      counts = NoneFell-refl (g.H.Host.faults c.args.host.now);
     }
 
 -- there was no memory for its drop

@@ -1,7 +1,9 @@
 use Rattle.std.proofs.Common.{[], inl, inr, ⊎_elim, refl, sym, ◌∙◌, subst}
+use Rattle.wf_host.proofs.Printings.{NoneFell-refl}
+use Rattle.wf_lemmas.proofs.Results.{passed_on}
 use Rattle.wf_deeds.specs.Memory.{IsSettled}
 use Rattle.wf_engine.proofs.Parts.{far_at_first, far_kept, far_moments, far_on, far_went}
-use Rattle.wf_engine.proofs.Settling.{falls_none, first_of, is_busy, is_settled_now, none_fell, not_settled, passed_on, rose_later, told_on, turn_takes}
+use Rattle.wf_engine.proofs.Settling.{first_of, is_busy, is_settled_now, none_fell, not_settled, rose_later, told_on, turn_takes}
 use Rattle.wf_engine.proofs.engine.Engine.settle.Goals as goal
 use Rattle.wf_engine.specs.Engine.{memory}
 use Rattle.wf_replay.specs.TheLanguage.{the_language}
@@ -16,7 +18,7 @@ loop-self-init g c = record {
   so_far = λ O told. far_at_first the_language O c.args.self.now.history (g.H.Host.world c.args.host.now) (memory c.args.self.now) (λ i d left. g.met.H.Host.only_now c.args.host.now i d told left) (c.requires.kept told).0
       (c.args.self.now.ready c.requires.«open»).begun;
   tells = refl;
-  counts = falls_none (g.H.Host.faults c.args.host.now);
+  counts = NoneFell-refl (g.H.Host.faults c.args.host.now);
   rest = inl (refl, refl);
 }
 

@@ -1,4 +1,5 @@
 use Rattle.std.proofs.Common.{sym, subst}
+use Rattle.wf_lemmas.proofs.Results.{with_ok}
 use Rattle.wf_frames.specs.Frames.{inner}
 use Rattle.wf_frames.specs.Owned.{control_of, local_of}
 use Rattle.wf_moves.proofs.Waiting.{awake_local, logged_local, logged_then}
@@ -6,7 +7,6 @@ use Rattle.wf_moves.specs.Moved.{IsMove, IsWent}
 use Rattle.wf_moves.specs.Stepped.{stepped, stepped_at}
 use Rattle.wf_moves.specs.Tasks.{HasLogged, IsDone, IsLeftSo, IsRequest, MovesSo}
 use Rattle.wf_moves.specs.Waits.{task_local, wait_view}
-use Rattle.wf_frames.proofs.Performed.{with_ok}
 use Rattle.wf_moves.proofs.task.Task.advance.Goals as goal
 
 pub follow-requires : goal.follow-requires

@@ -1,4 +1,5 @@
 use Rattle.std.proofs.Common.{Some, sym, subst}
+use Rattle.wf_lemmas.proofs.Results.{with_ok}
 use Rattle.wf_frames.specs.Frames.{result_of}
 use Rattle.wf_frames.specs.Owned.{control_of, local_of}
 use Rattle.wf_model.specs.Leave.{gives}
@@ -6,7 +7,6 @@ use Rattle.wf_moves.proofs.Waiting.{awake_local, call_there}
 use Rattle.wf_moves.specs.Moved.{IsMove}
 use Rattle.wf_moves.specs.Tasks.{MovesSo}
 use Rattle.wf_moves.specs.Waits.{task_local}
-use Rattle.wf_frames.proofs.Performed.{with_ok}
 use Rattle.wf_value.specs.Plain.{plain}
 use Rattle.wf_moves.proofs.task.Task.gives.Goals as goal
 

@@ -1,12 +1,12 @@
 use Rattle.std.proofs.Common.{Some, refl, sym, ap, subst}
 use Rattle.std.specs.Prelude.{Option, Result}
+use Rattle.wf_lemmas.proofs.Results.{with_ok}
 use Rattle.wf_frames.specs.Frames.{inner, result_of}
 use Rattle.wf_frames.specs.Owned.{control_of, held_by, local_of}
 use Rattle.wf_model.specs.Leave.{handed, raises}
 use Rattle.wf_moves.proofs.Raised.{raised_so}
 use Rattle.wf_moves.specs.Tasks.{MovesSo}
 use Rattle.wf_moves.specs.Waits.{GoesFrom, answer_view, result_in, task_local}
-use Rattle.wf_frames.proofs.Performed.{with_ok}
 use Rattle.wf_value.specs.Data.{Data}
 use Rattle.wf_value.specs.Pairs.{Text}
 use Rattle.wf_value.specs.Plain.{plain}

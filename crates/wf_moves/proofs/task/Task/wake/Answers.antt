@@ -1,11 +1,11 @@
 use Rattle.std.proofs.Common.{refl, sym, subst}
+use Rattle.wf_lemmas.proofs.Results.{with_ok}
 use Rattle.wf_frames.specs.Frames.{inner}
 use Rattle.wf_frames.specs.Owned.{control_of, local_of}
 use Rattle.wf_model.specs.Move.{due_by, retries}
 use Rattle.wf_moves.specs.Tasks.{MovesSo}
 use Rattle.wf_moves.specs.Waits.{GoesFrom, task_local, wait_view}
 use Rattle.wf_moves.specs.declared.wait.Wait.{Wait}
-use Rattle.wf_frames.proofs.Performed.{with_ok}
 use Rattle.wf_moves.proofs.task.Task.wake.Goals as goal
 
 pub gives-requires : goal.gives-requires
