@@ -1,5 +1,5 @@
 -- What it is that nothing is said of a program.
-use Rattle.std.proofs.Common.{◌≡◌, ℕ, suc, Bool, true, false, ◌&&◌, List, [], ◌∷◌, Option, Some, None, IsTrue, is_none, option_map, refl, sym, subst}
+use Rattle.std.proofs.Common.{◌≡◌, ℕ, suc, ◌&&◌, List, [], ◌∷◌, Option, Some, None, IsTrue, is_none, option_map, refl, sym, subst}
 use Rattle.std.specs.List.{list_all}
 use Rattle.std.proofs.lemmas.Bool.{and_parts}
 use Rattle.wf_ast.specs.Accept.{Accept, Fault, after_part, fault, first_among, first_fault, small_backoff}

@@ -1,5 +1,5 @@
 -- The routes of a line as a start keeps them, one after another.
-use Rattle.std.proofs.Common.{◌≡◌, ◌+◌, ◌-◌, ◌*◌, ◌<◌, ◌≤◌, ℕ, zero, suc, List, [], ◌∷◌, ◌++◌, length, take, None, Some, IsUtf8, refl, sym, ◌∙◌, ap, subst, arith}
+use Rattle.std.proofs.Common.{◌≡◌, ◌+◌, ◌-◌, ◌*◌, ◌<◌, ◌≤◌, ℕ, suc, List, [], ◌∷◌, ◌++◌, length, take, None, Some, IsUtf8, refl, sym, ◌∙◌, ap, subst, arith}
 use Rattle.std.specs.Prelude.{map, slice_get}
 use Rattle.std.specs.List.{AllByRecursion, flat_map}
 use Rattle.std.proofs.lemmas.Grind.{flat_map-append}
@@ -14,8 +14,6 @@ use Rattle.wf_events.specs.View.{route_view}
 use Rattle.wf_host.specs.declared.data.Address.{Address}
 use Rattle.wf_record_parts.specs.Spelling.{Each, four, listed, string, two}
 use Rattle.wf_value.specs.Events as plain
-
--- ## Lists
 
 -- ## Lengths
 pub string_is : (s : List ℕ) → length (string s) ≡ 4 + length s

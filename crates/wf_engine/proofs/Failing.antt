@@ -2,8 +2,8 @@
 --     is_err, NoneFell-refl              an error that is handed on; no count has fallen
 --     session_failed                     of `session`
 --     begin_failed, open_failed          of `begin` and `open`
-use Rattle.std.proofs.Common.{arith, ap, inl, inr, subst, sym, ◌∙◌}
-use Rattle.std.specs.Prelude.{◌≡◌, ◌≢◌, ◌⊎◌, ◌≤◌, ◌<◌, ◌++◌, ℕ, true, false, [], ◌∷◌, length, take, Result, Ok, Err, IsErr, IsErrAnd, IsErrOf}
+use Rattle.std.proofs.Common.{ap, inl, inr, subst, sym, ◌∙◌}
+use Rattle.std.specs.Prelude.{◌≡◌, ◌≢◌, ◌⊎◌, ◌≤◌, ◌++◌, ℕ, true, false, [], ◌∷◌, length, take, Result, Ok, Err, IsErr, IsErrAnd, IsErrOf}
 use Rattle.wf_host.proofs.Printings.{NoneFell-refl}
 use Rattle.wf_lemmas.proofs.Bools.{clash}
 use Rattle.wf_deeds.specs.Clauses.{KeptThroughout}

@@ -1,5 +1,5 @@
 -- What an engine stands for that has sent and heard nothing yet.
-use Rattle.std.specs.Prelude.{◌≡◌, ℕ, Bool, true, false, List, Option, None, Some}
+use Rattle.std.specs.Prelude.{◌≡◌, ℕ, Bool, false, List, Option, None, Some}
 use Rattle.std.proofs.Common.{sym, ◌∙◌}
 use Rattle.wf_lemmas.proofs.Bools.{clash}
 use Rattle.wf_ast.specs.Tree.{Program}

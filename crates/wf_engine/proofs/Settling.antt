@@ -1,5 +1,5 @@
 -- Turn after turn until nothing can move.
-use Rattle.std.specs.Prelude.{◌≡◌, ◌≢◌, ◌⊎◌, ◌↔◌, ◌<◌, ◌≤◌, ◌&&◌, ◌||◌, not, ℕ, suc, Bool, true, false, IsTrue, if◌then◌else◌, is_some, [], Result, Ok, Err, IsErr, IsErrAnd, IsErrOf, Option, Some, None}
+use Rattle.std.specs.Prelude.{◌≡◌, ◌≢◌, ◌⊎◌, ◌↔◌, ◌<◌, ◌≤◌, ◌&&◌, ◌||◌, not, ℕ, suc, Bool, true, false, IsTrue, if◌then◌else◌, is_some, [], Option, Some, None}
 use Rattle.std.proofs.Common.{inl, inr, refl, sym, ◌∙◌, ap, subst, arith}
 use Rattle.wf_deeds.specs.Memory.{IsSettled, Memory}
 use Rattle.wf_engine.proofs.Parts.{Far}

@@ -26,8 +26,6 @@ use Rattle.wf_model.specs.Step.{next}
 use Rattle.wf_model.specs.WaitLaws.{Sound}
 use Rattle.wf_value.specs.Events.{Event, Move, MoveAt, Begin, Issue, Answer, Due, Arrive, Cancel}
 
--- ## Lists
-
 -- ## Readings
 -- both say the same
 same_reading : (e : Event) → reading_of e ≡ choice.reading_of e

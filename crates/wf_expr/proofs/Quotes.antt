@@ -1,7 +1,7 @@
 -- What quoted texts say, a character at a time.
 use Rattle.std.proofs.Common.{◌≡◌, ◌<◌, ◌≤◌, ℕ, suc, Bool, true, false, List, [], ◌∷◌, ◌++◌, length, get_or, if◌then◌else◌, ◌==◌, ◌||◌, ◌⊎◌, ⊎_elim, refl, sym, ap, ◌∙◌, arith, append_assoc, append-nil}
 use Rattle.std.proofs.lemmas.Bool.{cases_lt, eq-eqb, ne_eqb, eqb-true, and_parts, true≢false}
-use Rattle.std.proofs.lemmas.Str.{inside_one, encode_ascii, char_from_byte, length-encode, len_utf8_bounds}
+use Rattle.std.proofs.lemmas.Str.{encode_ascii, char_from_byte, length-encode, len_utf8_bounds}
 use Rattle.std.specs.Char.{encode_utf8}
 use Rattle.wf_lemmas.proofs.Texts.{high_bytes}
 use Rattle.wf_expr.specs.Symbols.{escaped, said, text_said}

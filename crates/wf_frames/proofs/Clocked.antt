@@ -1,6 +1,6 @@
 -- Which event a frame's move wants.
-use Rattle.std.proofs.Common.{◌≡◌, ℕ, ◌≤◌, Bool, true, false, List, [], ◌∷◌, length, drop, Some, None, refl, ap, ◌∙◌, arith}
-use Rattle.std.specs.Prelude.{zero, suc, ◌||◌, is_some, option_map, slice_get, Option}
+use Rattle.std.proofs.Common.{◌≡◌, ℕ, Bool, true, false, List, ◌∷◌, drop, Some, None, refl, ap, ◌∙◌, arith}
+use Rattle.std.specs.Prelude.{◌||◌, is_some, option_map, slice_get, Option}
 use Rattle.std.proofs.lemmas.Option.{get_or_from_slice_get, slice_get_within}
 use Rattle.wf_lemmas.proofs.Lists.{none_past, drop_end}
 use Rattle.wf_ast.specs.Flows.{flow}

@@ -1,5 +1,5 @@
 -- Compiled expressions by their code.
-use Rattle.std.proofs.Common.{◌≡◌, ℕ, ◌+◌, ◌<◌, ◌≤◌, zero, suc, true, List, [], ◌∷◌, ◌++◌, Ok, Err, Some, refl, sym, ap, subst, ◌∙◌, length, get_or, drop, slice_get, add-one, drop-cons, map}
+use Rattle.std.proofs.Common.{◌≡◌, ℕ, ◌+◌, ◌<◌, ◌≤◌, List, [], ◌∷◌, ◌++◌, Ok, Err, Some, refl, sym, ap, subst, ◌∙◌, length, get_or, drop, slice_get, map}
 use Rattle.std.proofs.lemmas.List.{append-nil, drop_all}
 use Rattle.wf_lemmas.proofs.Lists.{item_at}
 use Rattle.wf_ast.specs.Apply.{View}

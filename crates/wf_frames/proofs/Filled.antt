@@ -1,5 +1,5 @@
 -- Lists and maps that are filled member by member.
-use Rattle.std.proofs.Common.{◌≡◌, ℕ, ◌+◌, ◌<◌, ◌≤◌, List, [], ◌∷◌, ◌++◌, Bool, true, Result, Ok, Err, refl, sym, ap, ◌∙◌, subst, length, get_or, drop, suc, max, zero, arith}
+use Rattle.std.proofs.Common.{◌≡◌, ℕ, ◌+◌, ◌<◌, ◌≤◌, List, [], ◌∷◌, ◌++◌, Result, Ok, Err, refl, sym, ap, ◌∙◌, subst, length, get_or, drop, suc, zero, arith}
 use Rattle.std.proofs.Common as seq
 use Rattle.std.proofs.lemmas.List.{drop_all}
 use Rattle.wf_ast.specs.Apply.{View}

@@ -1,7 +1,7 @@
 -- Layers by number, behind a change of the store.
 use Rattle.std.proofs.Common.{◌≡◌, ℕ, Bool, true, false, List, [], ◌∷◌, Option, Some, None, is_some, refl, sym, ap, subst, ◌∙◌, arith}
 use Rattle.std.specs.Prelude.{nat_eq, nat_lt, if◌then◌else◌, map as each}
-use Rattle.std.proofs.lemmas.Bool.{and_parts, eqb-true, eqb-false, eq-eqb, ne_eqb, ltb-true}
+use Rattle.std.proofs.lemmas.Bool.{and_parts, eqb-true, eq-eqb, ne_eqb, ltb-true}
 use Rattle.wf_lemmas.proofs.Numbers.{unequal_turned}
 use Rattle.wf_frames.specs.Owned.{AreAlone, IsInside, KeysStand, Linked, OnlyInside, OwnStand, first_key, next_own, outer_for}
 use Rattle.wf_scope.proofs.Kept.{find_closed}

@@ -1,15 +1,15 @@
 -- Answers are within the limits on heads and bodies.
-use Rattle.std.proofs.Common.{◌≡◌, ℕ, ◌+◌, ◌<◌, ◌≤◌, Bool, true, false, List, [], ◌∷◌, ◌++◌, length, map, reverse, sym, ap, ◌∙◌, subst, arith, inl, inr, length-append, length-take}
+use Rattle.std.proofs.Common.{◌≡◌, ℕ, ◌+◌, ◌≤◌, true, false, List, [], ◌∷◌, ◌++◌, length, map, reverse, sym, subst, arith, inl, inr, length-append, length-take}
 use Rattle.std.specs.List.{flat_map}
 use Rattle.std.proofs.lemmas.Bool.{cases_lt, le-leb, lt-ltb, le-ltb, lt-leb}
 use Rattle.std.proofs.lemmas.List.{length-map, length-reverse}
 use Rattle.std.proofs.lemmas.List.Sums.{sum_by-cons}
-use Rattle.std.specs.Prelude.{Some, if◌then◌else◌}
+use Rattle.std.specs.Prelude.{if◌then◌else◌}
 use Rattle.wf_lemmas.proofs.Lists.{end_length}
 use Rattle.httparse.specs.Grammar.{ResponseHead, print_response, print_section, print_field, print_end, print_blank, print_version, print_reason, Field, field_value, is_ows, skip_ows, trim_ows}
-use Rattle.wf_value.specs.Events.{Reply, Response, Broken, TooLong}
-use Rattle.wf_value.specs.HttpBody.{Close, Open, Ended, Broke, BodyState, Complete, Waiting, Malformed, Oversize, Framing, NoBody, OfLength, InChunks, ToTheEnd, BadFraming, unless_closed, at_close, length_state, end_state, name_and_value, headers_of, head_limit}
-use Rattle.wf_http_in.specs.AnswerOf.{AnswerOf, AnswersAreSmall, HasBody, framing, fields_size}
+use Rattle.wf_value.specs.Events.{Response, Broken, TooLong}
+use Rattle.wf_value.specs.HttpBody.{Close, Open, Ended, Broke, BodyState, Complete, Framing, NoBody, OfLength, InChunks, ToTheEnd, BadFraming, unless_closed, at_close, length_state, end_state, name_and_value, headers_of}
+use Rattle.wf_http_in.specs.AnswerOf.{AnswersAreSmall, framing, fields_size}
 use Rattle.wf_http_in.specs.Bodies.{answer_limit, IsBody}
 use Rattle.wf_http_in.proofs.Codes.{three_digits}
 

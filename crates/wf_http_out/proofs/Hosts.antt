@@ -1,7 +1,7 @@
 -- A host stands first in an authority without a user; and what the tests of an authority mean.
 use Rattle.std.proofs.Common.{◌≡◌, ◌≢◌, ℕ, zero, suc, ◌+◌, ◌-◌, ◌<◌, ◌≤◌, ◌==◌, ◌||◌, Bool, true, false, not, cond, [], ◌∷◌, ◌++◌, length, take, drop, refl, sym, ap, subst, ◌∙◌, arith}
 use Rattle.std.specs.Prelude.{if◌then◌else◌, slice_index}
-use Rattle.std.specs.Char.{digit_value, encode_utf8, is_ascii_digit}
+use Rattle.std.specs.Char.{encode_utf8, is_ascii_digit}
 use Rattle.std.specs.List.{list_all, list_any, suffix_len}
 use Rattle.std.specs.Str.Parse.{AllDigits, IsNumeral, digits_value}
 use Rattle.std.proofs.lemmas.Bool.{and_from, and_parts, le-leb, leb-true, lt-ltb, ltb-true, ne_eqb, eqb-true, false_from_ne_true}

@@ -25,7 +25,7 @@ use Rattle.wf_machine.specs.declared.ending.Ending.TheVariants as ending
 use Rattle.wf_machine.specs.declared.machine.Machine.{Machine}
 use Rattle.wf_model.specs.Choose.{choose, wanted}
 use Rattle.wf_model.specs.Config as model
-use Rattle.wf_model.specs.Config.{Active, Awake, Calling, Config, Item, Layer, Outcome, To}
+use Rattle.wf_model.specs.Config.{Active, Calling, Config, Item, Layer, Outcome, To}
 use Rattle.wf_model.specs.Kinds.{NextKind}
 use Rattle.wf_model.specs.Law.{NeverWrong}
 use Rattle.wf_model.specs.Ready.{call, call_due, is_by, least_due, least_in, quiet}

@@ -1,12 +1,10 @@
 -- Lists of live tasks: their numbers rise, and the one that is put in or taken out is told ne_eqb from the others.
-use Rattle.std.specs.Prelude.{◌≡◌, ◌⊎◌, ℕ, suc, ◌<◌, ◌≤◌, Bool, true, false, List, [], ◌∷◌, if◌then◌else◌, nat_eq, nat_lt, Some, None}
-use Rattle.std.proofs.Common.{inl, inr, refl, sym, ◌∙◌, ap, subst, arith}
+use Rattle.std.specs.Prelude.{◌≡◌, ℕ, suc, ◌<◌, ◌≤◌, true, false, List, [], ◌∷◌, if◌then◌else◌, nat_eq, nat_lt, Some, None}
+use Rattle.std.proofs.Common.{refl, sym, ◌∙◌, ap, subst, arith}
 use Rattle.std.proofs.lemmas.Bool.{eq-eqb, eqb-true, eqb-false, ltb-true, ltb-false, ne_eqb}
 use Rattle.wf_model.proofs.Walk.{bool_case}
 use Rattle.wf_model.specs.Config.{Task, task_in, put_in, drop_in}
 use Rattle.wf_model.specs.RunLaws.{RisesFrom}
-
--- ## Numbers
 
 -- ## Rising numbers
 pub lower : (low from made : ℕ) (ts : List (ℕ × Task)) → low ≤ from → RisesFrom from made ts → RisesFrom low made ts

@@ -1,5 +1,5 @@
 -- What the events of a turn lead to, one by one.
-use Rattle.std.specs.Prelude.{◌≡◌, ◌↔◌, ◌<◌, ◌≤◌, ◌+◌, ℕ, Bool, true, false, Result, Ok, Err, IsErr, IsErrAnd, IsErrOf, List, [], ◌∷◌, drop, get_or, length, map}
+use Rattle.std.specs.Prelude.{◌≡◌, ◌↔◌, ◌<◌, ◌≤◌, ◌+◌, ℕ, Bool, true, false, Result, Ok, Err, IsErrOf, List, [], ◌∷◌, drop, get_or, length, map}
 use Rattle.std.proofs.Common.{refl, sym, ◌∙◌, ap}
 use Rattle.std.proofs.lemmas.List.{drop_all, drop_more}
 use Rattle.wf_ast.specs.Tree.{Program}

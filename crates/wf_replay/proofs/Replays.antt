@@ -1,6 +1,6 @@
 -- A loop that replays a history.
 use Rattle.std.specs.Prelude.{◌≡◌, ◌+◌, ℕ, true, false, List}
-use Rattle.std.proofs.Common.{refl, arith}
+use Rattle.std.proofs.Common.{refl}
 use Rattle.wf_history.specs.Stands.{Stands, ahead, is_closed, is_new}
 use Rattle.wf_history.specs.declared.history.History.{History}
 use Rattle.wf_host.specs.Moments.{started}

@@ -1,6 +1,6 @@
 -- Whether a history is closed, by what its calls answer.
-use Rattle.std.specs.Prelude.{◌≡◌, ◌⊎◌, ◌↔◌, Bool, true, false, IsTrue, Result, Ok, Err, IsErrOf, List, ℕ, [], ◌∷◌}
-use Rattle.std.proofs.Common.{refl, sym, ◌∙◌, ⊎_elim, subst}
+use Rattle.std.specs.Prelude.{◌≡◌, ◌↔◌, Bool, true, false, IsTrue, Result, IsErrOf, List, ℕ, [], ◌∷◌}
+use Rattle.std.proofs.Common.{sym, ◌∙◌, subst}
 use Rattle.wf_host.specs.World.{World}
 
 -- what was open wasn't closed before

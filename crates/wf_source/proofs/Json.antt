@@ -1,5 +1,5 @@
 -- What some JSON is as a source: its tree, or that it nests too deep.
-use Rattle.std.proofs.Common.{◌≡◌, ◌<◌, ◌≤◌, ℕ, List, true, false, nat_le, if◌then◌else◌, Option, Some, None, Ok, Err, refl, ap, ◌∙◌, arith}
+use Rattle.std.proofs.Common.{◌≡◌, ℕ, List, if◌then◌else◌, Some, None, Ok, Err, ap, ◌∙◌}
 use Rattle.std.proofs.lemmas.Bool.{le-leb, lt-leb}
 use Rattle.wf_lemmas.proofs.Options.{none_unless}
 use Rattle.serde_json.specs.Read.{read}

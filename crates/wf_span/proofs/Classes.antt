@@ -1,7 +1,7 @@
 -- The characters that tokens begin with.
-use Rattle.std.proofs.Common.{◌≡◌, ℕ, ◌<◌, List, [], ◌∷◌, Bool, true, false, ◌&&◌, ◌||◌, ◌==◌, refl, sym, ap, ◌∙◌, arith, codes}
+use Rattle.std.proofs.Common.{◌≡◌, ℕ, ◌<◌, List, [], ◌∷◌, Bool, true, false, ◌||◌, ◌==◌, refl, sym, ap, ◌∙◌, arith, codes}
 use Rattle.std.specs.List.{list_any}
-use Rattle.std.proofs.lemmas.Bool.{eqb-true, false≢true}
+use Rattle.std.proofs.lemmas.Bool.{eqb-true}
 use Rattle.wf_lemmas.proofs.Bools.{clash, or_left, or_right}
 use Rattle.wf_span.specs.Tokens.{is_blank, is_digit, is_letter, is_name_byte, is_quote, is_mark_byte, is_mark_pair}
 

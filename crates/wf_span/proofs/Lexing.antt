@@ -1,6 +1,6 @@
 -- The lexer gives the tokens of a source, or its first fault.
 use Rattle.std.proofs.Common.{◌≡◌, ℕ, zero, suc, ◌+◌, ◌<◌, ◌≤◌, List, [], ◌∷◌, length, take, drop, true, refl, sym, ap, subst, ◌∙◌, arith, length-append}
-use Rattle.std.specs.Prelude.{Result, Ok, Err}
+use Rattle.std.specs.Prelude.{Ok, Err}
 use Rattle.std.proofs.lemmas.List.{length-take, length-drop}
 use Rattle.wf_lemmas.proofs.Bools.{clash}
 use Rattle.wf_span.specs.Tokens.{PlacedToken, TokensFrom, FaultFrom, FaultAt, no_token, bad_escape, open_text, Leads, IsLongest, is_blank, is_token}

@@ -1,6 +1,5 @@
 -- Parts in a row: their first fault, and none.
 use Rattle.std.proofs.Common.{◌≡◌, ℕ, zero, suc, ◌+◌, ◌<◌, List, [], ◌∷◌, ◌++◌, reverse, take, drop, length, get_or, Option, Some, None, refl, ap, sym, ◌∙◌, subst, arith}
-use Rattle.std.proofs.lemmas.List.{reverse-append}
 use Rattle.wf_lemmas.proofs.Lists.{reverse_push}
 use Rattle.wf_syntax_rules.specs.Faults.{AreSound, FirstAt, IsOwn, IsSound}
 use Rattle.wf_syntax_rules.specs.Rules.{Role, Sub, each, every, own, parts, at, there}

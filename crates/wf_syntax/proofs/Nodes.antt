@@ -1,6 +1,6 @@
 -- Nodes and their parts: what has no fault, and where the first one stands.
 use Rattle.std.proofs.Common.{◌≡◌, ◌+◌, ◌<◌, ℕ, zero, suc, length, take, slice_index_or, arith, not-suc-le-zero, add-one, ◌≤◌, Bool, true, false, if◌then◌else◌, List, [], ◌∷◌, ◌++◌, reverse, append_assoc, take_all, Some, None, refl, sym, ap, ◌∙◌, subst, subst₂}
-use Rattle.std.proofs.lemmas.List.{reverse-append, get_or-map, length-map}
+use Rattle.std.proofs.lemmas.List.{get_or-map, length-map}
 use Rattle.wf_lemmas.proofs.Lists.{reverse_push}
 use Rattle.wf_expr.specs.declared.fault.ExprFault.{ExprFault}
 use Rattle.wf_syntax_rules.proofs.Own.{own_is}

@@ -1,5 +1,5 @@
 -- What holds of a tree without faults: of its node, and of its parts.
-use Rattle.std.proofs.Common.{◌≡◌, ◌≤◌, ℕ, suc, List, [], ◌∷◌, ◌++◌, Option, Some, None, true, false, is_some, option_map, refl, sym, ◌∙◌, subst, append_assoc}
+use Rattle.std.proofs.Common.{◌≡◌, ◌≤◌, ℕ, suc, List, [], ◌∷◌, ◌++◌, Option, Some, None, true, is_some, option_map, refl, sym, ◌∙◌, subst, append_assoc}
 use Rattle.std.proofs.lemmas.Option.{same_Some}
 use Rattle.wf_lemmas.proofs.Options.{some_not_none}
 use Rattle.wf_syntax_rules.proofs.Deep.{row_after, row, field_deep}

@@ -1,6 +1,6 @@
 -- What stands for a character in double quotes.
-use Rattle.std.proofs.Common.{◌≡◌, ℕ, suc, ◌<◌, ◌≤◌, List, [], ◌∷◌, ◌++◌, length, get_or, append_assoc, append-nil, arith, ◌⊎◌, ⊎_elim, refl, ap, sym, ◌∙◌}
-use Rattle.std.proofs.lemmas.Str.{inside_one, encode_ascii}
+use Rattle.std.proofs.Common.{◌≡◌, ℕ, suc, ◌<◌, ◌≤◌, List, [], ◌∷◌, ◌++◌, length, get_or, append_assoc, arith, ◌⊎◌, ⊎_elim, refl, ap, sym, ◌∙◌}
+use Rattle.std.proofs.lemmas.Str.{encode_ascii}
 use Rattle.std.proofs.lemmas.Bool.Decides.{nat_tests}
 use Rattle.std.proofs.lemmas.Bool.{cases_lt}
 use Rattle.std.specs.Char.{encode_utf8}

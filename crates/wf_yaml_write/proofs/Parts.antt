@@ -1,5 +1,5 @@
 -- The steps of the loops over items and pairs.
-use Rattle.std.proofs.Common.{◌≡◌, ℕ, zero, suc, ◌+◌, ◌≤◌, ◌<◌, List, [], ◌∷◌, ◌++◌, replicate, take, drop, length, get_or, drop-cons, add-one, ◌-◌, false, not, ◌==◌, append-nil, refl, ap, sym, ◌∙◌, arith}
+use Rattle.std.proofs.Common.{◌≡◌, ℕ, zero, suc, ◌+◌, ◌≤◌, ◌<◌, List, [], ◌∷◌, ◌++◌, replicate, take, drop, length, get_or, ◌-◌, false, not, ◌==◌, append-nil, refl, ap, sym, ◌∙◌, arith}
 use Rattle.std.proofs.lemmas.List.{take_rest}
 use borrow.Author.Tests.{ne_eqb}
 use Rattle.wf_tree.specs.Trees.{list, map, depth, items_of, items_depth, pairs_of, pairs_depth}

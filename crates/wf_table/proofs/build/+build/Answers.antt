@@ -1,4 +1,4 @@
-use Rattle.std.proofs.Common.{◌≡◌, ℕ, suc, ◌+◌, arith, [], ◌∷◌, ◌++◌, Option, None, Some, length, map, refl, sym, ap, ◌∙◌, add-one}
+use Rattle.std.proofs.Common.{suc, ◌+◌, [], ◌∷◌, ◌++◌, Option, None, Some, length, map, refl, sym, ap, ◌∙◌, add-one}
 use Rattle.wf_ast.proofs.Views.{arms_level, branches_level, try_level}
 use Rattle.wf_ast.specs.Tree as tree
 use Rattle.wf_ast.specs.View.{arm_view, body_view, branch_view, call_view, entry_view, except_option_view, loop_view, over_view, policy_option_view, steps_in, template_view, texts_view, try_view, work_view}
