@@ -3,9 +3,10 @@
 --     merges                   what it comes to
 --     not_nowhere              that it comes to something
 --     limit_here, below_limit  the limit
-use Rattle.std.proofs.Common.{◌≡◌, ◌<◌, ◌≤◌, ℕ, suc, ◌+◌, ◌-◌, Bool, true, false, List, [], None, refl, sym, ◌∙◌, ap, subst, arith, add-one}
+use Rattle.std.proofs.Common.{◌≡◌, ◌<◌, ◌≤◌, ℕ, suc, ◌+◌, ◌-◌, true, false, List, [], None, sym, ◌∙◌, ap, subst, arith, add-one}
 use Rattle.std.specs.Prelude.{if◌then◌else◌, nat_lt}
 use Rattle.std.proofs.lemmas.Bool.{lt-ltb, ltb-true}
+use Rattle.wf_lemmas.proofs.Bools.{false_unless}
 use Rattle.wf_alone.specs.Laws.{MainMerges}
 use Rattle.wf_alone.specs.Machine as alone
 use Rattle.wf_alone.specs.Machine.{Rest, config_by, main_at, main_local, logged, main_scene, sent}
@@ -66,10 +67,6 @@ not_nowhere m c real is = subst IsSomewhere is (somewhere m c real)
 -- a number that isn't less
 not_less : (a b : ℕ) → b ≤ a → nat_lt a b ≡ false
 not_less a b le = false_unless (nat_lt a b) (λ is. let less : a < b = ltb-true a b is in omega (arith, less, le))
-  where
-    false_unless : (b : Bool) → (b ≡ true → ⊥) → b ≡ false
-    false_unless true never = absurd (never refl)
-    false_unless false never = refl
 
 -- below the limit
 below : (m : ℕ) → m + 1 < 100000 → nat_lt (suc m) move_limit ≡ true

@@ -5,6 +5,7 @@ use Rattle.std.proofs.Common.{◌≡◌, ◌<◌, ℕ, zero, suc, Bool, true, fa
 use Rattle.std.proofs.Math.Dec.{eqb-zero-suc}
 use Rattle.std.proofs.lemmas.Bool.{lt-leb}
 use Rattle.std.specs.Prelude.{nat_le, if◌then◌else◌}
+use Rattle.wf_lemmas.proofs.Bools.{and_false}
 use Rattle.wf_alone.proofs.Real.{begins_none}
 use Rattle.wf_alone.specs.Laws.{OffNever, OtherAnswersNever}
 use Rattle.wf_alone.specs.Machine.{Rest, main_at, main_task, read_by}
@@ -33,10 +34,6 @@ ruled_out : (b : Bool) (a : After) → b ≡ false → when b a ≡ NotNow
 ruled_out b a off = ap (λ c. when c a) off
 
 -- no second, no both
-and_false : (a b : Bool) → b ≡ false → a && b ≡ false
-and_false true b is = is
-and_false false b is = refl
-
 -- a reading below the last one
 early : (x : Rest) (r : ℕ) (a : After) → r < x.last → when (nat_le x.last r) a ≡ NotNow
 early x r a lt = ruled_out (nat_le x.last r) a (lt-leb x.last r lt)

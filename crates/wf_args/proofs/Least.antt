@@ -4,6 +4,7 @@ use Rattle.std.specs.Prelude.{nat_lt, ◌&&◌, codes}
 use Rattle.std.specs.List.{list_any, list_all}
 use Rattle.std.specs.Option.{option_map_or}
 use Rattle.std.proofs.lemmas.Bool.{ltb-true, ltb-false, lt-ltb, and_from, and_parts}
+use Rattle.wf_lemmas.proofs.Bools.{by_test}
 use Rattle.wf_args.specs.declared.command.Command.{Command}
 use Rattle.wf_args.specs.declared.command.Command.TheVariants.{Check, Format, Run, Resume, Show, At, Log, Help, Version}
 use Rattle.wf_args.specs.declared.option.OptionName.{OptionName}
@@ -59,10 +60,6 @@ takes_required Log = refl
 takes_required Help = refl
 takes_required Version = refl
 
-by_test : (P : Type 0) (b : Bool) → (b ≡ true → P) → (b ≡ false → P) → P
-by_test P true if_true if_false = if_true refl
-by_test P false if_true if_false = if_false refl
-
 -- it may stand where it doesn't stand yet
 may_be_added : (c : Command) (options : List (OptionName × List ℕ)) (n : OptionName) → takes_one c n ≡ true → nat_lt 0 (count n options) ≡ false → may_stand c options n ≡ true
 unfolding takes_one
@@ -85,7 +82,7 @@ complete [] c n options takes done =
     ([], by_end (λ r. Reads r) c n options (λ missing. absurd (grind (arith, missing, done options (λ m. omega arith) refl))) (λ all. reads (record { command = c; options = options })))
 complete (m ∷ names) c n options takes done =
     let parts = and_parts (takes_one c m) (list_all (takes_one c) names) takes in
-    by_test (BeginsAt c n options []) (nat_lt 0 (count m options))
+    by_test {P = BeginsAt c n options []} (nat_lt 0 (count m options))
     (λ stands. complete names c n options parts.1 (λ more grows all.
     let below = ltb-true 0 (count m options) stands in
     done more grows (and_from (nat_lt 0 (count m more)) (list_all (λ k. nat_lt 0 (count k more)) names) (lt-ltb 0 (count m more) (omega (arith, below, grows m))) all)))

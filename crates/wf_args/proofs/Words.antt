@@ -14,6 +14,7 @@ use Rattle.std.proofs.lemmas.Fmt.{decimal-digits_value, digits_decimal, digits_v
 use Rattle.std.proofs.lemmas.List.Sums.{passes_at_first, split_at_first, take_while-cons}
 use Rattle.std.proofs.lemmas.Slice.Eq.{bytes_eq-Decides}
 use Rattle.std.proofs.lemmas.Str.Parse.{IsNumeralModel, digits_value-take-le, numerals_by_value, parse_plain, tells_all_ascii_digits}
+use Rattle.wf_lemmas.proofs.Bools.{or_true}
 use Rattle.wf_args.specs.Laws.{EnvsAreSpelled, IsEnv, IsRoute, NumbersAreSpelled, RoutesAreSpelled, TurnsAreSpelled, env_word, has_no, route_word}
 use Rattle.wf_args.specs.Lines.{PlainRoute, env_in, host_in, is_colon, is_equals, key_in, longest_word, name_in, number_to, port_in, route_in, turn_in, value_in}
 
@@ -292,11 +293,7 @@ any_there c (b ∷ word) is = there_on (b == c) refl (λ later. any_there c word
 -- and one is where it stands between two parts
 any_between : (c : ℕ) (front rest : List ℕ) → list_any (λ b. b == c) (front ++ c ∷ rest) ≡ true
 any_between c [] rest = ap (λ (t : Bool). t || list_any (λ b. b == c) rest) (eq-eqb c c refl)
-any_between c (b ∷ front) rest = or_on (b == c) (any_between c front rest)
-  where
-    or_on : (t : Bool) {u : Bool} → u ≡ true → (t || u) ≡ true
-    or_on true is = refl
-    or_on false is = is
+any_between c (b ∷ front) rest = or_true (b == c) _ (any_between c front rest)
 
 pub there_any : (c : ℕ) (word : List ℕ) → position_or_len (λ b. b == c) word < length word → list_any (λ b. b == c) word ≡ true
 there_any c word there = ap (list_any (λ b. b == c)) (cut_there c word there) ∙ any_between c (before_first (λ b. b == c) word) (after_first (λ b. b == c) word)

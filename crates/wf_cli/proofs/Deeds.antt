@@ -1,7 +1,8 @@
 -- Lists of deeds, one behind another.
-use Rattle.std.proofs.Common.{◌≡◌, ◌+◌, ◌||◌, ℕ, suc, Bool, true, false, nat_eq, List, [], ◌∷◌, ◌++◌, refl, sym, ◌∙◌, ap, subst, append_assoc, arith}
+use Rattle.std.proofs.Common.{◌≡◌, ◌+◌, ℕ, suc, true, false, nat_eq, List, [], ◌∷◌, ◌++◌, refl, sym, ◌∙◌, ap, subst, append_assoc, arith}
 use Rattle.std.specs.List.{AllByRecursion}
 use Rattle.std.proofs.lemmas.List.Elements.{All-head, All-tail}
+use Rattle.wf_lemmas.proofs.Bools.{or_more}
 use Rattle.wf_lemmas.proofs.Lists.{all_at}
 use Rattle.wf_cli.specs.Top.{IsPrint}
 use Rattle.wf_deeds.specs.Deeds.{polls, nows, poll_readings, printed, before_poll, was_replied, IsSmall}
@@ -130,10 +131,6 @@ before_prints (e ∷ D) P [] behind d prints other is = (D, ap (λ f. f ∷ D) (
 before_prints (e ∷ D) P (b ∷ before) behind d prints other is =
     let more = before_prints D P before behind d prints other (ap rest_of is) in
     (more.0, ap (λ f. f ∷ D) (ap (λ l. first_of e l) is) ∙ ap (λ l. b ∷ l) more.1, more.2)
-
-or_more : (a b c : Bool) → (b ≡ true → c ≡ true) → (a || b) ≡ true → (a || c) ≡ true
-or_more true b c more is = refl
-or_more false b c more is = more is
 
 -- a reply that was made before the next poll
 pub replied_behind : (n : ℕ) (D P : List Deed) → was_replied n (before_poll D) ≡ true → was_replied n (before_poll (D ++ P)) ≡ true

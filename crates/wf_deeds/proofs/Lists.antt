@@ -1,8 +1,8 @@
 -- Lists of deeds in two parts.
-use Rattle.std.specs.Prelude.{◌≡◌, ◌≤◌, ◌+◌, ◌||◌, ℕ, zero, suc, Bool, true, false, nat_eq, List, [], ◌∷◌, ◌++◌, length, take, Some, None}
+use Rattle.std.specs.Prelude.{◌≡◌, ◌≤◌, ◌+◌, ◌||◌, ℕ, zero, suc, true, false, nat_eq, List, [], ◌∷◌, ◌++◌, length, take, Some, None}
 use Rattle.std.proofs.Common.{refl, sym, ◌∙◌, ap, subst, arith, append_assoc}
 use Rattle.std.proofs.lemmas.List.{append-nil, take-append-le}
-use Rattle.wf_lemmas.proofs.Bools.{or_assoc}
+use Rattle.wf_lemmas.proofs.Bools.{or_assoc, or_more}
 use Rattle.wf_deeds.specs.Deeds.{polls, nows, poll_readings, greatest, reading_by, starts_or_polls, was_started, was_dropped, was_replied, before_poll, Split, poll_from}
 use Rattle.wf_host.specs.declared.data.Deed.{Deed}
 use Rattle.wf_host.specs.declared.data.Deed.TheVariants.{Start, Poll, Now, Reply, Drop, Print}
@@ -208,10 +208,6 @@ poll_behind acc (Drop k ∷ front) until h behind = behind_one acc front (Drop k
 poll_behind acc (Print b ∷ front) until h behind = behind_one acc front (Print b) until h behind tt (poll_behind (acc ++ Print b ∷ []) front until h behind)
 
 -- ## Replies
-or_more : (a b c : Bool) → (b ≡ true → c ≡ true) → a || b ≡ true → a || c ≡ true
-or_more true b c on is = refl
-or_more false b c on is = on is
-
 -- a visit that had its reply has it with more deeds
 pub was_replied_more : (n : ℕ) (ds es : List Deed) → was_replied n (before_poll ds) ≡ true → was_replied n (before_poll (ds ++ es)) ≡ true
 was_replied_more n [] es is = absurd (let f : false ≡ true = is in cc f)

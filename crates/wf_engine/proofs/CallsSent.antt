@@ -4,6 +4,7 @@ use Rattle.std.proofs.Common.{inl, inr, refl, sym, ◌∙◌, ap, subst, arith}
 use Rattle.std.proofs.lemmas.Bool.{cases_lt}
 use Rattle.std.proofs.lemmas.List.{append-nil}
 use Rattle.std.proofs.lemmas.Option.{slice_get_past}
+use Rattle.wf_lemmas.proofs.Bools.{or_none}
 use Rattle.wf_host.proofs.Printings.{NoneFell-refl}
 use Rattle.wf_deeds.specs.Clauses.{IsSending, KeptThroughout, SendsOpen, StandsIsKept, drop, is_timed_out, none, start, those, to_drop, to_start}
 use Rattle.wf_deeds.specs.Memory.{AllIsSent, IsSettled, Memory, StandsFor}
@@ -113,10 +114,6 @@ module _ (first mid : World) (f g : Faults) (e d : Engine) (js ks : List ℕ) (s
   }
 
 -- ## Tests
-pub or_none : (a : Bool) → a ≡ a || false
-or_none true = refl
-or_none false = refl
-
 pub past_answered : (c : Config) (k : ℕ) → length c.calls < k → call c k ≡ Answered
 past_answered c zero past = refl
 past_answered c (suc k) past = ap (λ (o : Option Call). elim o [ None ↦ Answered | Some x ↦ x ]) (slice_get_past c.calls k (omega arith))
@@ -146,10 +143,10 @@ module _ (m : Memory) (k : ℕ) where
 
 -- so nothing is done
 pub drops_none : (m : Memory) (k : ℕ) → is_to_drop m k ≡ false → DropsOne m m k
-drops_none m k off = record { started = λ j. refl; here = or_none (m.dropped k) ∙ ap (λ b. m.dropped k || b) (sym off); others = λ j other. refl }
+drops_none m k off = record { started = λ j. refl; here = sym (or_none (m.dropped k)) ∙ ap (λ b. m.dropped k || b) (sym off); others = λ j other. refl }
 
 pub starts_none : (m : Memory) (k : ℕ) → is_to_start m k ≡ false → StartsOne m m k
-starts_none m k off = record { dropped = λ j. refl; here = or_none (m.started k) ∙ ap (λ b. m.started k || b) (sym off); others = λ j other. refl }
+starts_none m k off = record { dropped = λ j. refl; here = sym (or_none (m.started k)) ∙ ap (λ b. m.started k || b) (sym off); others = λ j other. refl }
 
 -- past the last call there is nothing to do
 pub no_drop_past : (m : Memory) (k : ℕ) → length m.config.calls < k → is_to_drop m k ≡ false
@@ -169,7 +166,7 @@ pub drops_first : (w : World) (f : Faults) (e : Engine) → Sent w w f f e e [] 
 drops_first w f e part = record {
   part = part;
   started = λ k. refl;
-  below = λ k le. let e0 : k ≡ 0 = omega (arith, le) in subst (λ n. (memory e).dropped n ≡ (memory e).dropped n || is_to_drop (memory e) n) (sym e0) (or_none ((memory e).dropped 0));
+  below = λ k le. let e0 : k ≡ 0 = omega (arith, le) in subst (λ n. (memory e).dropped n ≡ (memory e).dropped n || is_to_drop (memory e) n) (sym e0) (sym (or_none ((memory e).dropped 0)));
   above = λ k lt. refl;
 }
 
@@ -200,7 +197,7 @@ module _ (first mid : World) (f g : Faults) (e d : Engine) (i : ℕ) (so : Dropp
   pub drops_all : i ≡ length (memory e).config.calls → DropsAll (memory e) (memory d)
   drops_all all = record {
     started = so.started;
-    dropped = λ k. elim (cases_lt i k) [ inl lt ↦ so.above k lt ∙ or_none ((memory e).dropped k) ∙ ap (λ b. (memory e).dropped k || b) (sym (no_drop_past (memory e) k (omega (arith, all, lt)))) | inr ge ↦ so.below k ge ];
+    dropped = λ k. elim (cases_lt i k) [ inl lt ↦ so.above k lt ∙ sym (or_none ((memory e).dropped k)) ∙ ap (λ b. (memory e).dropped k || b) (sym (no_drop_past (memory e) k (omega (arith, all, lt)))) | inr ge ↦ so.below k ge ];
   }
 
   pub drops_sent : i ≡ length (memory e).config.calls → Sent first mid f g e d (to_drop (memory e)) []
@@ -217,7 +214,7 @@ pub starts_first : (w : World) (f : Faults) (e : Engine) → Sent w w f f e e []
 starts_first w f e part = record {
   part = part;
   dropped = λ k. refl;
-  below = λ k le. let e0 : k ≡ 0 = omega (arith, le) in subst (λ n. (memory e).started n ≡ (memory e).started n || is_to_start (memory e) n) (sym e0) (or_none ((memory e).started 0));
+  below = λ k le. let e0 : k ≡ 0 = omega (arith, le) in subst (λ n. (memory e).started n ≡ (memory e).started n || is_to_start (memory e) n) (sym e0) (sym (or_none ((memory e).started 0)));
   above = λ k lt. refl;
 }
 
@@ -247,7 +244,7 @@ module _ (first mid : World) (f g : Faults) (e d : Engine) (i : ℕ) (so : Start
   pub starts_all : i ≡ length (memory e).config.calls → StartsAll (memory e) (memory d)
   starts_all all = record {
     dropped = so.dropped;
-    started = λ k. elim (cases_lt i k) [ inl lt ↦ so.above k lt ∙ or_none ((memory e).started k) ∙ ap (λ b. (memory e).started k || b) (sym (no_start_past (memory e) k (omega (arith, all, lt)))) | inr ge ↦ so.below k ge ];
+    started = λ k. elim (cases_lt i k) [ inl lt ↦ so.above k lt ∙ sym (or_none ((memory e).started k)) ∙ ap (λ b. (memory e).started k || b) (sym (no_start_past (memory e) k (omega (arith, all, lt)))) | inr ge ↦ so.below k ge ];
   }
 
   pub starts_sent : i ≡ length (memory e).config.calls → Sent first mid f g e d [] (to_start (memory e))
@@ -268,7 +265,7 @@ module _ (m n o : Memory) (same : SameButSent m n) (next : SameButSent n o) (dro
         let behind : call n.config k ≡ TimedOut = ap (λ (c : Config). call c k) (sym next.config) ∙ timed in
         let first : call m.config k ≡ TimedOut = ap (λ (c : Config). call c k) (sym same.config) ∙ behind in
         let no : is_to_start n k ≡ false = starts_no_shut n k (ap request_in behind) in
-        let old : m.started k ≡ true = sym (drops.started k) ∙ or_none (n.started k) ∙ ap (λ b. n.started k || b) (sym no) ∙ sym (starts.started k) ∙ was in
+        let old : m.started k ≡ true = sym (drops.started k) ∙ sym (or_none (n.started k)) ∙ ap (λ b. n.started k || b) (sym no) ∙ sym (starts.started k) ∙ was in
         starts.dropped k ∙ drops.dropped k ∙ ap (λ (x : Call). m.dropped k || (is_timed_out x && m.started k && not (m.dropped k))) first
         ∙ ap (λ b. m.dropped k || (true && b && not (m.dropped k))) old ∙ either_is (m.dropped k);
   }

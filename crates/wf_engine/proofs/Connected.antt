@@ -3,13 +3,14 @@ use Rattle.std.specs.Prelude.{◌≡◌, ◌≢◌, ◌≤◌, ◌&&◌, ◌||�
 use Rattle.std.proofs.Common.{Bor, inl, inr, refl, sym, ◌∙◌, ap, subst}
 use Rattle.std.proofs.lemmas.Bool.{cases_lt, eq-eqb, eqb-true}
 use Rattle.std.specs.Option.{option_copied}
+use Rattle.wf_lemmas.proofs.Bools.{or_none}
 use Rattle.wf_connections.specs.Calls.{Drops, Forgets, Starts, is_dropped, is_started, listens, told}
 use Rattle.wf_connections.specs.declared.connections.Connections.{Connections}
 use Rattle.wf_deeds.specs.Clauses.{is_timed_out}
 use Rattle.wf_deeds.specs.Memory.{IsSettled, Memory}
 use Rattle.wf_deeds.specs.Outside.{Outside}
 use Rattle.wf_deeds.specs.Steps.{DropGoesOn, StartGoesOn, with_calls}
-use Rattle.wf_engine.proofs.CallsSent.{or_none, past_answered}
+use Rattle.wf_engine.proofs.CallsSent.{past_answered}
 use Rattle.wf_engine.proofs.Sent.{Goes, drop_goes, same_goes, start_goes}
 use Rattle.wf_engine.specs.Ready.{AreOf, IsReady}
 use Rattle.wf_engine.specs.Sending.{DropsOne, SameButSent, StartsOne, is_to_drop, is_to_start}
@@ -115,7 +116,7 @@ module _ (m : Memory) (a b : Connections) (k : ℕ) where
     pub forgets_one : is_to_drop before k ≡ false → DropsOne before behind k
     forgets_one off = record {
       started = f.started;
-      here = f.dropped k ∙ or_none (is_dropped a k) ∙ ap (λ v. is_dropped a k || v) (sym off);
+      here = f.dropped k ∙ sym (or_none (is_dropped a k)) ∙ ap (λ v. is_dropped a k || v) (sym off);
       others = λ j other. f.dropped j;
     }
 

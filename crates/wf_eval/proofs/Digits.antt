@@ -1,12 +1,12 @@
 -- The whole numbers that texts of digits write.
-use Rattle.std.proofs.Common.{◌≡◌, ◌≢◌, ℕ, Bool, true, false, ◌&&◌, cond, List, [], ◌∷◌, length, drop, ℤ, pos, negsuc, neg_ℤ, Ok, Err, refl, sym, ap, ◌∙◌, subst, slice_index, nat_lt, nat_eq, w64, FitsSigned, arith}
+use Rattle.std.proofs.Common.{◌≡◌, ◌≢◌, ℕ, Bool, true, false, cond, List, [], ◌∷◌, length, drop, ℤ, pos, negsuc, neg_ℤ, Ok, Err, refl, sym, ap, ◌∙◌, subst, slice_index, nat_lt, nat_eq, w64, FitsSigned, arith}
 use Rattle.std.proofs.lemmas.Bool.Decides.{nat_tests}
 use Rattle.std.specs.Char.{is_ascii_digit}
 use Rattle.std.specs.List.{list_all}
 use Rattle.std.specs.Str.Parse.{AllDigits, IsNumeral, digits_value, starts_with_minus, without_leading_sign, without_leading_plus, signed_digits_value}
 use Rattle.std.proofs.lemmas.Bool.{and_from}
 use Rattle.wf_lemmas.proofs.Texts.{digit_small, digit_told}
-use Rattle.wf_lemmas.proofs.Bools.{and_left, and_right}
+use Rattle.wf_lemmas.proofs.Bools.{and_left, and_right, and_none}
 use Rattle.wf_ast.specs.Apply.{is_digits, has_minus, digits_in, read_whole, as_int}
 use Rattle.wf_value.specs.Data.{Data, integer, text}
 use Rattle.wf_value.specs.Errors.{Answer}
@@ -34,13 +34,9 @@ is_numeral : (ds : List ℕ) → is_digits ds ≡ true → IsNumeral 10 ds
 is_numeral ds h = (let e : nat_lt 0 (length ds) ≡ true = and_left _ _ h in grind (arith, nat_tests, e), low_all ds (and_right _ _ h))
 
 -- ## Signs
-and_true : (a : Bool) → (a && true) ≡ a
-and_true true = refl
-and_true false = refl
-
 minus : (s : List ℕ) → has_minus s ≡ starts_with_minus s
 minus [] = refl
-minus (b ∷ bs) = and_true (nat_eq b 45)
+minus (b ∷ bs) = and_none (nat_eq b 45)
 
 no_plus : (s : List ℕ) → slice_index s 0 ≢ 43 → without_leading_plus s ≡ s
 no_plus s h = let e : nat_eq (slice_index s 0) 43 ≡ false = grind (arith, nat_tests, h) in ap (λ (b : Bool). drop (cond b 1 0) s) e

@@ -1,6 +1,7 @@
 -- A map read pair by pair.
-use Rattle.std.proofs.Common.{◌≡◌, ℕ, zero, suc, ◌≤◌, List, [], ◌∷◌, ◌++◌, length, drop, Some, None, refl, sym, ap, ◌∙◌, slice_get, append_assoc, append-nil, subst, pos, Ok, Result, arith}
+use Rattle.std.proofs.Common.{◌≡◌, ℕ, suc, ◌≤◌, List, [], ◌∷◌, ◌++◌, length, drop, Some, None, refl, sym, ap, ◌∙◌, slice_get, append_assoc, append-nil, subst, pos, Ok, Result, arith}
 use Rattle.std.proofs.lemmas.Option.{slice_get_within}
+use Rattle.wf_lemmas.proofs.Lists.{read_at, read_past}
 use Rattle.wf_ast.specs.Apply.{key_texts, count}
 use Rattle.wf_value.specs.Data.{Data, integer, text, list, items_of, pairs_of}
 use Rattle.wf_value.specs.Errors.{Answer}
@@ -11,29 +12,12 @@ use Rattle.wf_value.specs.declared.value.Value.{Value}
 use Rattle.wf_value.specs.declared.value.Value.TheVariants as value
 use Rattle.wf_eval.specs.Answers.{Gives}
 
-module _ {X : Type 0} where
-  pub past : (xs : List X) (i : ℕ) → None ≡ slice_get xs i → length xs ≤ i
-  past [] i h = omega arith
-  past (x ∷ xs) zero h = cc
-  past (x ∷ xs) (suc i) h = omega (arith, past xs i h)
-
-  cut : (xs : List X) (i : ℕ) (x : X) → slice_get xs i ≡ Some x → drop i xs ≡ x ∷ drop (suc i) xs
-  cut [] i x h = cc
-  cut (y ∷ ys) zero x h = let e : y ≡ x = cc in ap (λ z. z ∷ ys) e
-  cut (y ∷ ys) (suc i) x h = cut ys i x h
-
-  all_dropped : (xs : List X) (i : ℕ) → length xs ≤ i → drop i xs ≡ []
-  all_dropped [] zero h = refl
-  all_dropped [] (suc i) h = refl
-  all_dropped (x ∷ xs) zero h = absurd (omega (arith, h))
-  all_dropped (x ∷ xs) (suc i) h = all_dropped xs i (omega (arith, h))
-
 -- the keys of a list of pairs
 abbrev pub left_keys : List (List ℕ × Data) → List Data
 left_keys ps = key_texts (keys (pairs_of ps))
 
 key_more : (ps : List (List ℕ × Data)) (i : ℕ) (k : List ℕ) (d : Data) (l : List Data) → Some (k, d) ≡ slice_get ps i → l ++ left_keys (drop i ps) ≡ left_keys ps → (l ++ text k ∷ []) ++ left_keys (drop (suc i) ps) ≡ left_keys ps
-key_more ps i k d l at h = append_assoc l (text k ∷ []) (left_keys (drop (suc i) ps)) ∙ ap (λ qs. l ++ left_keys qs) (sym (cut ps i (k, d) (sym at))) ∙ h
+key_more ps i k d l at h = append_assoc l (text k ∷ []) (left_keys (drop (suc i) ps)) ∙ ap (λ qs. l ++ left_keys qs) (sym (read_at ps i (k, d) at)) ∙ h
 
 pub key_step : (ps : List (List ℕ × Data)) (i j : ℕ) (k : List ℕ) (d x : Data) (l more : List Data) → Some (k, d) ≡ slice_get ps i → more ≡ l ++ x ∷ [] → x ≡ text k → j ≡ suc i → l ++ left_keys (drop i ps) ≡ left_keys ps → more ++ left_keys (drop j ps) ≡ left_keys ps
 key_step ps i j k d x l more at m e n h =
@@ -43,7 +27,7 @@ pub further : {X : Type 0} (xs : List X) (i j : ℕ) (x : X) → Some x ≡ slic
 further xs i j x at n = omega (arith, slice_get_within xs i x (sym at), n)
 
 pub keys_done : (ps : List (List ℕ × Data)) (i : ℕ) (l : List Data) → None ≡ slice_get ps i → l ++ left_keys (drop i ps) ≡ left_keys ps → l ≡ left_keys ps
-keys_done ps i l at h = sym (append-nil l) ∙ ap (λ qs. l ++ left_keys qs) (sym (all_dropped ps i (past ps i at))) ∙ h
+keys_done ps i l at h = sym (append-nil l) ∙ ap (λ qs. l ++ left_keys qs) (sym (read_past ps i at)) ∙ h
 
 pub keys_long : (ps : List (List ℕ × Data)) → length (keys (pairs_of ps)) ≡ length ps
 keys_long [] = refl

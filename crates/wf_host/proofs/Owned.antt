@@ -3,6 +3,7 @@ use Rattle.std.proofs.Common.{◌≡◌, ℕ, Bool, true, false, cond, if◌then
 use Rattle.std.specs.Prelude.{⊤, Vec, ◌==◌}
 use Rattle.std.specs.Global.{Global}
 use Rattle.std.proofs.lemmas.Bool.{eq-eqb}
+use Rattle.wf_lemmas.proofs.Options.{same_some}
 use Rattle.wf_host.specs.declared.data.Deed.{Deed}
 use Rattle.wf_host.specs.declared.data.Deed.TheVariants.{Start, Poll, Now, Reply, Drop, Print}
 use Rattle.wf_host.specs.declared.data.What.{What}
@@ -65,12 +66,9 @@ first_alone : (limit k : ℕ) (left : List What) → OfCall k left → visit_of 
 first_alone limit k [] is = refl
 first_alone limit k (w ∷ rest) is = no_visit k (front limit w) (own_front limit k w is.0)
 
-same_call : (m k : ℕ) (o : Option ℕ) → o ≡ Some m → o ≡ Some k → m ≡ k
-same_call m k o is too = cc
-
 first_started : (were : ℕ → Bool) (limit n k : ℕ) (left : List What) → were n ≡ true → OfCall n left → call_of (first_of limit left) ≡ Some k → were k ≡ true
 first_started were limit n k [] started is heard = absurd (cc heard)
-first_started were limit n k (w ∷ rest) started is heard = subst (λ m. were m ≡ true) (same_call n k (call_of (front limit w)) (own_front limit n w is.0) heard) started
+first_started were limit n k (w ∷ rest) started is heard = subst (λ m. were m ≡ true) (same_some (call_of (front limit w)) n k (own_front limit n w is.0) heard) started
 
 module _ (limit polls : ℕ) (were : ℕ → Bool) where
   all_told : (ls : List Line) → AllOwned were ls → AllOwned were (told limit polls ls)

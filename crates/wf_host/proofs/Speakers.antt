@@ -1,10 +1,11 @@
 -- The line that tells something first.
-use Rattle.std.proofs.Common.{◌≡◌, ◌<◌, ◌≤◌, ◌+◌, ℕ, suc, Bool, true, false, cond, if◌then◌else◌, List, [], ◌∷◌, length, get_or, slice_set, Some, None, T, not, refl, sym, ◌∙◌, ap, subst, arith, nltb→le}
+use Rattle.std.proofs.Common.{◌≡◌, ◌<◌, ◌≤◌, ◌+◌, ℕ, suc, Bool, true, false, cond, if◌then◌else◌, List, [], ◌∷◌, length, get_or, slice_set, Some, None, refl, sym, ◌∙◌, ap, subst, arith, nltb→le}
 use Rattle.std.specs.List.{position, position_or_len}
 use Rattle.std.proofs.lemmas.List.Recursion.{is_position_or_len}
 use Rattle.std.proofs.lemmas.List.Sums.{position_or_len_is}
 use Rattle.std.proofs.lemmas.List.Quantifiers.{position-Some}
 use Rattle.std.proofs.lemmas.List.{length-take}
+use Rattle.wf_lemmas.proofs.Bools.{T_not}
 use Rattle.wf_host.specs.declared.data.What.{What}
 use Rattle.wf_host.specs.declared.data.What.TheVariants.{Nothing, Bytes, End, Broken, Visit, VisitEnd}
 use Rattle.wf_host.specs.World.{piece_len}
@@ -58,12 +59,8 @@ module _ (limit polls : ℕ) where
   none true n e = absurd (cc e)
   none false n e = refl
 
-  not_true : (b : Bool) → b ≡ false → T (not b)
-  not_true true e = absurd (cc e)
-  not_true false e = tt
-
   quiet : (ls : List Line) → position (speaks polls) ls ≡ None → length ls ≤ first polls ls
-  quiet ls is = omega (arith, is_first polls ls, nltb→le (position_or_len (speaks polls) ls) (length ls) (not_true _ (none _ _ is)))
+  quiet ls is = omega (arith, is_first polls ls, nltb→le (position_or_len (speaks polls) ls) (length ls) (T_not _ (none _ _ is)))
 
   found : (ls : List Line) (i : ℕ) (d : Line) → position (speaks polls) ls ≡ Some i → (first polls ls ≡ i) × (i < length ls)
   found ls i d is =

@@ -1,6 +1,7 @@
 -- The values of a map as texts, pair by pair.
-use Rattle.std.proofs.Common.{◌≡◌, ℕ, zero, suc, ◌<◌, ◌-◌, List, [], ◌∷◌, ◌++◌, length, drop, Some, None, Ok, Err, refl, sym, ap, ◌∙◌, slice_get, append_assoc, append-nil, length-append, arith}
+use Rattle.std.proofs.Common.{◌≡◌, suc, ◌<◌, ◌-◌, List, [], ◌∷◌, ◌++◌, length, drop, Some, None, Ok, Err, refl, sym, ap, ◌∙◌, slice_get, append_assoc, append-nil, length-append, arith}
 use Rattle.std.proofs.lemmas.Option.{slice_get_within}
+use Rattle.wf_lemmas.proofs.Lists.{read_at, read_past}
 use Rattle.wf_http_ask.specs.Answers.{Answers}
 use Rattle.wf_value.specs.HttpRequest.{texts_by}
 use Rattle.wf_value.specs.Data.{Data, pairs_of}
@@ -8,18 +9,6 @@ use Rattle.wf_value.specs.Errors.{Answer, ◌>>=◌}
 use Rattle.wf_value.specs.Pairs.{Text}
 use Rattle.wf_value.specs.declared.errors.Raise.{Raise}
 use Rattle.wf_value.specs.declared.errors.Raise.TheVariants.{Error, OutOfMemory}
-
-module _ {X : Type 0} where
-  cut : (xs : List X) (i : ℕ) (x : X) → Some x ≡ slice_get xs i → drop i xs ≡ x ∷ drop (suc i) xs
-  cut [] i x h = cc
-  cut (y ∷ ys) zero x h = let e : y ≡ x = cc in ap (λ z. z ∷ ys) e
-  cut (y ∷ ys) (suc i) x h = cut ys i x h
-
-  cut_none : (xs : List X) (i : ℕ) → None ≡ slice_get xs i → drop i xs ≡ []
-  cut_none [] zero h = refl
-  cut_none [] (suc i) h = refl
-  cut_none (x ∷ xs) zero h = cc
-  cut_none (x ∷ xs) (suc i) h = cut_none xs i h
 
 abbrev behind : List (Text × Text) → Answer (List (Text × Text)) → Answer (List (Text × Text))
 behind ts r = r >>= λ more. Ok (ts ++ more)
@@ -35,7 +24,7 @@ module _ (f : Data → Answer Text) (ps : List (Text × Data)) where
   SoFar ts = texts_by f (pairs_of ps) ≡ behind ts (texts_by f (pairs_of (drop (length ts) ps)))
 
   next : (ts : List (Text × Text)) (k : Text) (d : Data) → Some (k, d) ≡ slice_get ps (length ts) → SoFar ts → texts_by f (pairs_of ps) ≡ behind ts (f d >>= λ t. texts_by f (pairs_of (drop (suc (length ts)) ps)) >>= λ more. Ok ((k, t) ∷ more))
-  next ts k d at h = h ∙ ap (λ qs. behind ts (texts_by f (pairs_of qs))) (cut ps (length ts) (k, d) at)
+  next ts k d at h = h ∙ ap (λ qs. behind ts (texts_by f (pairs_of qs))) (read_at ps (length ts) (k, d) at)
 
   longer : (ts more : List (Text × Text)) (k t : Text) → more ≡ ts ++ (k, t) ∷ [] → length more ≡ suc (length ts)
   longer ts more k t h = ap length h ∙ length-append ts ((k, t) ∷ []) ∙ omega arith
@@ -59,4 +48,4 @@ module _ (f : Data → Answer Text) (ps : List (Text × Data)) where
   texts_fail ts k d OutOfMemory at bad h = tt
 
   pub texts_end : (ts : List (Text × Text)) → None ≡ slice_get ps (length ts) → SoFar ts → texts_by f (pairs_of ps) ≡ Ok ts
-  texts_end ts at h = h ∙ ap (λ qs. behind ts (texts_by f (pairs_of qs))) (cut_none ps (length ts) at) ∙ ap Ok (append-nil ts)
+  texts_end ts at h = h ∙ ap (λ qs. behind ts (texts_by f (pairs_of qs))) (read_past ps (length ts) at) ∙ ap Ok (append-nil ts)

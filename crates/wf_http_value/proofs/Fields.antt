@@ -2,8 +2,8 @@
 use Rattle.std.proofs.Common.{◌≡◌, ℕ, Bool, true, false, ◌&&◌, List, Option, refl, sym, ap, ◌∙◌}
 use Rattle.std.specs.Prelude.{if◌then◌else◌}
 use Rattle.std.specs.Str.{IsUtf8, is_utf8}
-use Rattle.std.proofs.lemmas.Bool.{false_from_ne_true}
-use Rattle.std.proofs.lemmas.Str.{IsUtf8-from_is_utf8, is_utf8-from_IsUtf8}
+use Rattle.std.proofs.lemmas.Str.{is_utf8-from_IsUtf8}
+use Rattle.wf_lemmas.proofs.Texts.{not_utf8}
 use Rattle.wf_value.specs.HttpText.{joined_value, proper_name, with_field, with_value_at}
 use Rattle.wf_value.specs.Data.{Data, Pairs, pairs_of}
 use Rattle.wf_value.specs.Maps.{value_at, with_value}
@@ -13,18 +13,15 @@ use Rattle.wf_http_value.proofs.Bodies.{pairs_listed}
 abbrev chosen : Bool → Bool → Pairs → Pairs → Pairs
 chosen x y ps qs = if x && y then qs else ps
 
-no_text : (s : List ℕ) → ¬ (IsUtf8 s) → is_utf8 s ≡ false
-no_text s none = false_from_ne_true (is_utf8 s) (λ e. none (IsUtf8-from_is_utf8 s e))
-
 not_both : (x y : Bool) (ps qs : Pairs) → y ≡ false → chosen x y ps qs ≡ ps
 not_both true y ps qs e = ap (λ z. chosen true z ps qs) e
 not_both false y ps qs e = refl
 
 pub without_name : (ps : Pairs) (f : List ℕ × List ℕ) → ¬ (IsUtf8 f.0) → ps ≡ with_field ps f
-without_name ps f none = sym (ap (λ x. chosen x (is_utf8 f.1) ps (with_value_at (proper_name true f.0) f.1 ps)) (no_text f.0 none))
+without_name ps f none = sym (ap (λ x. chosen x (is_utf8 f.1) ps (with_value_at (proper_name true f.0) f.1 ps)) (not_utf8 f.0 none))
 
 pub without_value : (ps : Pairs) (f : List ℕ × List ℕ) → ¬ (IsUtf8 f.1) → ps ≡ with_field ps f
-without_value ps f none = sym (not_both (is_utf8 f.0) (is_utf8 f.1) ps (with_value_at (proper_name true f.0) f.1 ps) (no_text f.1 none))
+without_value ps f none = sym (not_both (is_utf8 f.0) (is_utf8 f.1) ps (with_value_at (proper_name true f.0) f.1 ps) (not_utf8 f.1 none))
 
 pub with_both : (ps : Pairs) (f : List ℕ × List ℕ) (n v : List ℕ) → IsUtf8 f.0 → n ≡ f.0 → IsUtf8 f.1 → v ≡ f.1
     → with_value_at (proper_name true n) v ps ≡ with_field ps f

@@ -7,6 +7,10 @@ use Rattle.std.specs.Prelude.{T}
 pub clash : (a : Bool) → a ≡ false → a ≡ true → ⊥
 clash a h k = false≢true (sym h ∙ k)
 
+pub by_test : {P : Type 0} (a : Bool) → (a ≡ true → P) → (a ≡ false → P) → P
+by_test true f g = f refl
+by_test false f g = g refl
+
 pub false_unless : (a : Bool) → (a ≡ true → ⊥) → a ≡ false
 false_unless true h = absurd (h refl)
 false_unless false h = refl
@@ -29,6 +33,14 @@ pub and_none : (a : Bool) → a && true ≡ a
 and_none true = refl
 and_none false = refl
 
+pub and_false : (a b : Bool) → b ≡ false → (a && b) ≡ false
+and_false true b h = h
+and_false false b h = refl
+
+pub T_not : (a : Bool) → a ≡ false → T (not a)
+T_not true h = absurd (true≢false h)
+T_not false h = tt
+
 pub T_left : (a b : Bool) → T (a && b) → T a
 T_left true b h = tt
 T_left false b h = absurd h
@@ -41,6 +53,10 @@ T_right false b h = absurd h
 pub or_true : (a b : Bool) → b ≡ true → (a || b) ≡ true
 or_true true b h = refl
 or_true false b h = h
+
+pub or_more : (a b c : Bool) → (b ≡ true → c ≡ true) → (a || b) ≡ true → (a || c) ≡ true
+or_more true b c f h = refl
+or_more false b c f h = f h
 
 pub or_left : (a b : Bool) → (a || b) ≡ false → a ≡ false
 or_left true b h = h

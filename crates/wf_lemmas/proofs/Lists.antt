@@ -20,6 +20,18 @@ not_nil (x ∷ xs) ys y h = cc h
 pub item_at : {A : Type 0} (xs : List A) (i : ℕ) (x : A) → i < length xs → x ≡ get_or xs i x → drop i xs ≡ x ∷ drop (i + 1) xs
 item_at xs i x lt is = drop-cons xs i x lt ∙ ap (λ y. y ∷ drop (suc i) xs) (sym is) ∙ ap (λ j. x ∷ drop j xs) (sym (add-one i))
 
+-- the same by what is read there
+pub read_at : {A : Type 0} (xs : List A) (i : ℕ) (x : A) → Some x ≡ slice_get xs i → drop i xs ≡ x ∷ drop (suc i) xs
+read_at [] i x h = cc h
+read_at (y ∷ xs) zero x h = let e : y ≡ x = cc h in ap (λ z. z ∷ xs) e
+read_at (y ∷ xs) (suc i) x h = read_at xs i x h
+
+pub read_past : {A : Type 0} (xs : List A) (i : ℕ) → None ≡ slice_get xs i → drop i xs ≡ []
+read_past [] zero h = refl
+read_past [] (suc i) h = refl
+read_past (x ∷ xs) zero h = cc h
+read_past (x ∷ xs) (suc i) h = read_past xs i h
+
 -- no item stands at the end or behind it
 pub none_past : {A : Type 0} (xs : List A) (i : ℕ) → slice_get xs i ≡ None → length xs ≤ i
 none_past [] i h = omega arith

@@ -1,11 +1,15 @@
 -- Answers and errors.
 use Rattle.std.proofs.Common.{◌≡◌, ◌⊎◌, ⊎_elim, Bool, true, false, refl, sym, ap, ◌∙◌}
-use Rattle.std.specs.Prelude.{◌↔◌, Result, Ok, Err, IfOk, IsErr, IsErrAnd, IsErrOf}
+use Rattle.std.specs.Prelude.{◌↔◌, Result, Ok, Err, IfOk, OnOk, IsErr, IsErrAnd, IsErrOf}
 
 -- what follows from an answer's promise
 pub with_ok : {A E : Type 0} (P Q : A → Type 0) (r : Result A E) → ((a : A) → P a → Q a) → IfOk r P → IfOk r Q
 with_ok P Q (Ok a) f p = f a p
 with_ok P Q (Err e) f p = p
+
+pub on_ok : {A E : Type 0} {P Q : Type 0} (r : Result A E) → (P → Q) → OnOk r P → OnOk r Q
+on_ok (Ok a) f p = f p
+on_ok (Err e) f p = tt
 
 -- an error that is handed on
 pub passed_on : {T A E : Type 0} (r : Result T E) (cause e : E) → IsErr r × IsErrAnd r (λ x. x ≡ cause) → r ≡ Err e → IsErrOf {T = A} (Err cause) e

@@ -7,11 +7,12 @@ use Rattle.std.specs.List.{AllByRecursion}
 use Rattle.std.specs.List.Sorted.{IsStrictlySortedBy}
 use Rattle.std.specs.Map.{keys_of}
 use Rattle.std.specs.Ordering.{ordering_reverse}
+use Rattle.wf_lemmas.proofs.Lists.{read_at, read_past}
 use Rattle.wf_value.specs.LibData.{merged}
 use Rattle.wf_value.specs.Data.{Data, pairs_of}
 use Rattle.wf_value.specs.Maps.{IsInOrder, key_cmp, with_value}
 use Rattle.wf_value.specs.Pairs.{Text, put}
-use Rattle.wf_lib_data.proofs.Places.{cut, cut_none, pairs_listed}
+use Rattle.wf_lib_data.proofs.Places.{pairs_listed}
 
 abbrev pub Rows : Type 0
 Rows = List (Text × Data)
@@ -135,22 +136,22 @@ module _ (out : Rows) (k : Text) (d : Data) where
 -- ## A turn of the loop
 -- what is left behind the last pair
 none_above : (k : Text) (ps : Rows) (i : ℕ) → None ≡ slice_get ps i → AreAbove k (drop i ps)
-none_above k ps i h = subst (λ (l : Rows). AreAbove k l) (sym (cut_none ps i h)) tt
+none_above k ps i h = subst (λ (l : Rows). AreAbove k l) (sym (read_past ps i h)) tt
 
 -- what is left from a pair on whose key is above
 some_above : (out : Rows) (k l : Text) (e : Data) (ps : Rows) (i : ℕ) → Some (l, e) ≡ slice_get ps i → IsInOrder (out ++ drop i ps) → key_cmp k l ≡ Less → AreAbove k (drop i ps)
 some_above out k l e ps i h s less =
-    let at = cut ps i (l, e) h in
+    let at = read_at ps i (l, e) h in
     subst (λ (r : Rows). AreAbove k r) (sym at) (above_head out k (l, e) (drop (suc i) ps) (subst (λ (r : Rows). IsInOrder (out ++ r)) at s) less)
 
 module _ (first second out more : Rows) (i j n : ℕ) (m : Merges out (drop i first) (drop j second) first second) where
   left_on : (k : Text) (d : Data) → Some (k, d) ≡ slice_get first i → more ≡ with_value k d out → n ≡ suc i → AreAbove k (drop j second) → Merges more (drop n first) (drop j second) first second
   left_on k d h put next above =
-      rw (put, next) (takes_left out k d (drop (suc i) first) (drop j second) first second (subst (λ (l : Rows). Merges out l (drop j second) first second) (cut first i (k, d) h) m) above)
+      rw (put, next) (takes_left out k d (drop (suc i) first) (drop j second) first second (subst (λ (l : Rows). Merges out l (drop j second) first second) (read_at first i (k, d) h) m) above)
 
   right_on : (k : Text) (d : Data) → Some (k, d) ≡ slice_get second j → more ≡ with_value k d out → n ≡ suc j → AreAbove k (drop i first) → Merges more (drop i first) (drop n second) first second
   right_on k d h put next above =
-      rw (put, next) (takes_right out k d (drop i first) (drop (suc j) second) first second (subst (λ (l : Rows). Merges out (drop i first) l first second) (cut second j (k, d) h) m) above)
+      rw (put, next) (takes_right out k d (drop i first) (drop (suc j) second) first second (subst (λ (l : Rows). Merges out (drop i first) l first second) (read_at second j (k, d) h) m) above)
 
   pub left_alone : (k : Text) (d : Data) → Some (k, d) ≡ slice_get first i → None ≡ slice_get second j → more ≡ with_value k d out → n ≡ suc i → Merges more (drop n first) (drop j second) first second
   left_alone k d h none put next = left_on k d h put next (none_above k second j none)
@@ -167,12 +168,12 @@ module _ (first second out more : Rows) (i j n : ℕ) (m : Merges out (drop i fi
   pub same_keys : (o : ℕ) (k l : Text) (d e : Data) → Some (k, d) ≡ slice_get first i → Some (l, e) ≡ slice_get second j → Equal ≡ key_cmp k l → more ≡ with_value k e out → n ≡ suc i → o ≡ suc j → Merges more (drop n first) (drop o second) first second
   same_keys o k l d e h g equal put next next' =
       let same : l ≡ k = sym (one_key k l (sym equal)) in
-      let right : drop j second ≡ (k, e) ∷ drop (suc j) second = cut second j (l, e) g ∙ ap (λ x. (x, e) ∷ drop (suc j) second) same in
-      let left : Merges out ((k, d) ∷ drop (suc i) first) (drop j second) first second = subst (λ (r : Rows). Merges out r (drop j second) first second) (cut first i (k, d) h) m in
+      let right : drop j second ≡ (k, e) ∷ drop (suc j) second = read_at second j (l, e) g ∙ ap (λ x. (x, e) ∷ drop (suc j) second) same in
+      let left : Merges out ((k, d) ∷ drop (suc i) first) (drop j second) first second = subst (λ (r : Rows). Merges out r (drop j second) first second) (read_at first i (k, d) h) m in
       rw (put, next, next') (takes_both out k e (drop (suc i) first) (drop (suc j) second) first second d (subst (λ (r : Rows). Merges out ((k, d) ∷ drop (suc i) first) r first second) right left))
 
   pub both_end : None ≡ slice_get first i → None ≡ slice_get second j → pairs_of out ≡ merged (pairs_of first) (pairs_of second)
   both_end h g =
-      ap pairs_of (sym (append-nil out) ∙ ap (λ l. out ++ l) (sym (cut_none first i h)))
-      ∙ ap (λ l. merged (pairs_of (out ++ drop i first)) (pairs_of l)) (sym (cut_none second j g))
+      ap pairs_of (sym (append-nil out) ∙ ap (λ l. out ++ l) (sym (read_past first i h)))
+      ∙ ap (λ l. merged (pairs_of (out ++ drop i first)) (pairs_of l)) (sym (read_past second j g))
       ∙ m.value

@@ -1,5 +1,5 @@
 -- Lists and maps inside values, and their places.
-use Rattle.std.proofs.Common.{◌≡◌, ℕ, zero, suc, ◌+◌, ◌<◌, List, [], ◌∷◌, ◌++◌, length, drop, take, get_or, Some, None, refl, sym, ap, ◌∙◌, slice_get, add-one, arith}
+use Rattle.std.proofs.Common.{◌≡◌, ℕ, zero, suc, ◌+◌, ◌<◌, List, [], ◌∷◌, ◌++◌, length, take, get_or, refl, sym, ap, ◌∙◌, add-one, arith}
 use Rattle.wf_value.specs.Data.{Data, pairs_of, items_of}
 use Rattle.wf_value.specs.Pairs.{items, pair_list}
 use Rattle.wf_value.specs.Plain.{plain, plain_items}
@@ -12,18 +12,6 @@ pairs_listed (p ∷ ps) = ap (λ l. p ∷ l) (pairs_listed ps)
 pub items_listed : (ds : List Data) → items (items_of ds) ≡ ds
 items_listed [] = refl
 items_listed (d ∷ ds) = ap (λ l. d ∷ l) (items_listed ds)
-
-module _ {X : Type 0} where
-  pub cut : (xs : List X) (i : ℕ) (x : X) → Some x ≡ slice_get xs i → drop i xs ≡ x ∷ drop (suc i) xs
-  cut [] i x h = cc
-  cut (y ∷ ys) zero x h = let e : y ≡ x = cc in ap (λ z. z ∷ ys) e
-  cut (y ∷ ys) (suc i) x h = cut ys i x h
-
-  pub cut_none : (xs : List X) (i : ℕ) → None ≡ slice_get xs i → drop i xs ≡ []
-  cut_none [] zero h = refl
-  cut_none [] (suc i) h = refl
-  cut_none (x ∷ xs) zero h = cc
-  cut_none (x ∷ xs) (suc i) h = cut_none xs i h
 
 -- the trees up to an index, and one more
 taken : (vs : List Value) (i : ℕ) (x : Value) → i < length vs → x ≡ get_or vs i x → take (suc i) (plain_items vs) ≡ take i (plain_items vs) ++ plain x ∷ []

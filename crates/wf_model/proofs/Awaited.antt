@@ -2,6 +2,7 @@
 use Rattle.std.specs.Prelude.{◌≡◌, ◌≢◌, ◌⊎◌, ℕ, zero, suc, ◌+◌, ◌<◌, ◌≤◌, ◌&&◌, ◌||◌, not, min, length, Bool, true, false, List, [], ◌∷◌, ◌++◌, if◌then◌else◌, nat_eq, nat_lt, nat_le, slice_get, slice_set, Some, None, Ok, Err, Option, option_map, unwrap_or}
 use Rattle.std.proofs.Common.{inl, inr, ⊎_elim, refl, sym, ◌∙◌, ap, subst, arith}
 use Rattle.std.proofs.lemmas.Bool.{eq-eqb, cases_eq, ne_eqb}
+use Rattle.wf_lemmas.proofs.Bools.{and_left}
 use Rattle.wf_lemmas.proofs.Options.{by_cases}
 use Rattle.wf_ast.specs.Tree.{Steps, LoopBody, ParallelBody, parallel, OfBranches, OfLoop, branch, no_branches, Program}
 use Rattle.wf_model.proofs.After.{Leads, led_to}
@@ -330,12 +331,8 @@ is_awake_free (Delay d) is = absurd (let f : false ≡ true = is in cc f)
 is_awake_free (Calling k r) is = absurd (let f : false ≡ true = is in cc f)
 is_awake_free (Await n d r) is = absurd (let f : false ≡ true = is in cc f)
 
-pub left_true : (a b : Bool) → a && b ≡ true → a ≡ true
-left_true true b is = refl
-left_true false b is = is
-
 pub wants_free : (p : Program) (kind : NextKind) (t : Task) → wants p kind t ≡ true → NotCalling t.wait
-wants_free p kind t is = is_awake_free t.wait (left_true (is_awake t.wait) (not (stands_waiting t.control)) (left_true (is_ready t) (same_kind kind (next_kind p t.control)) is))
+wants_free p kind t is = is_awake_free t.wait (and_left (is_awake t.wait) (not (stands_waiting t.control)) (and_left (is_ready t) (same_kind kind (next_kind p t.control)) is))
 
 -- a live task of which a test holds
 pub for_task_good : (c : Config) (b : ℕ) (test : Task → Bool) (f : Task → After) → ((t : Task) → task c b ≡ Some t → test t ≡ true → Leads Good (f t)) → Leads Good (for_task c b test f)
@@ -540,7 +537,7 @@ visited_good p n v None c g =
 
 -- a branch that begins
 pub may_free : (t : Task) → may_begin t ≡ true → NotCalling t.wait
-may_free t is = is_awake_free t.wait (left_true (is_awake t.wait) (begins t.control) is)
+may_free t is = is_awake_free t.wait (and_left (is_awake t.wait) (begins t.control) is)
 
 module _ (a : ℕ) (t : Task) where
   begun_good : (body : ParallelBody) (left : WorkLeft) (n : ℕ) (running : List ℕ) (es : List (ℕ × Data)) (k : List Item) (c : Config) → Good c → task c a ≡ Some t → Good (begun a t body left n running es k c)

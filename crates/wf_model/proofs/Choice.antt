@@ -2,6 +2,7 @@
 use Rattle.std.specs.Prelude.{◌≡◌, ℕ, ◌%◌, max, Bool, true, false, not, ◌&&◌, ◌||◌, ◌≢◌, ◌⊎◌, List, [], ◌∷◌, if◌then◌else◌, nat_le, Some, None, Option, option_map}
 use Rattle.std.proofs.Math.Dec.{leb-zero}
 use Rattle.std.proofs.Common.{inl, inr}
+use Rattle.wf_lemmas.proofs.Bools.{and_false}
 use Rattle.wf_lemmas.proofs.Options.{some_not_none}
 use mathlib.Core.Path.{refl, sym, subst, ◌∙◌}
 use Rattle.wf_ast.specs.Tree.{Program}
@@ -30,10 +31,6 @@ of_no_parts a b d n h i j k = cc (h, i, j, k)
 passed : {A : Type 0} (b : Bool) (x y : A) → b ≡ false → (if b then x else y) ≡ y
 passed true x y h = absurd (false_is_not_true (sym h))
 passed false x y h = refl
-
-and_false : (a b : Bool) → b ≡ false → (a && b) ≡ false
-and_false true b h = h
-and_false false b h = refl
 
 and_both : (a b : Bool) → a ≡ true → (a && b) ≡ false → b ≡ false
 and_both true b h k = k

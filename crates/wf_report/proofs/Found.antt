@@ -5,22 +5,18 @@ use Rattle.std.specs.Str.Iter.{HasSubslice}
 use Rattle.std.proofs.Common.{refl, ap}
 use Rattle.std.proofs.lemmas.Bool.Decides.{Decides-eqb}
 use Rattle.std.proofs.lemmas.Slice.Eq.{starts_is}
-use Rattle.wf_lemmas.proofs.Bools.{same_answer}
+use Rattle.wf_lemmas.proofs.Bools.{same_answer, or_true}
 use Rattle.wf_report.specs.Texts.{holds}
 
 behind : (c : ℕ) (cs n : List ℕ) → HasSubslice cs n → HasSubslice (c ∷ cs) n
 behind c cs n (a, b, is) = (c ∷ a, b, ap (λ l. c ∷ l) is)
-
-one_of : (x y : Bool) → y ≡ true → x || y ≡ true
-one_of true y is = refl
-one_of false y is = is
 
 -- where the bytes are those of the text with others before and behind it, it is found
 found_by : (n s a b : List ℕ) → s ≡ a ++ (n ++ b) → holds n s ≡ true
 found_by n [] [] b is = (starts_is Decides-eqb [] n (starts_with nat_eq [] n) refl).1 b is
 found_by n [] (x ∷ a) b is = absurd cc
 found_by n (c ∷ cs) [] b is = ap (λ t. t || holds n cs) ((starts_is Decides-eqb (c ∷ cs) n (starts_with nat_eq (c ∷ cs) n) refl).1 b is)
-found_by n (c ∷ cs) (x ∷ a) b is = let rest : cs ≡ a ++ (n ++ b) = cc is in one_of (starts_with nat_eq (c ∷ cs) n) (holds n cs) (found_by n cs a b rest)
+found_by n (c ∷ cs) (x ∷ a) b is = let rest : cs ≡ a ++ (n ++ b) = cc is in or_true (starts_with nat_eq (c ∷ cs) n) (holds n cs) (found_by n cs a b rest)
 
 -- and where it is found, it stands there
 finds : (n s : List ℕ) → holds n s ≡ true → HasSubslice s n

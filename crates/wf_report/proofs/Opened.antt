@@ -1,5 +1,5 @@
 -- What was read of a file that was opened.
-use Rattle.std.proofs.Common.{◌≡◌, ◌≢◌, ◌∙◌, ℕ, List, [], take, Result, Ok, Err, IfOk, IfErr, OnOk, String, Global, ap, sym, subst}
+use Rattle.std.proofs.Common.{◌≡◌, ◌≢◌, ◌∙◌, ℕ, List, [], take, Result, Ok, Err, IfOk, IfErr, String, Global, ap, sym, subst}
 use Rattle.std.specs.Prelude.{string_bytes}
 use Rattle.wf_history.specs.declared.history.History.{History}
 use Rattle.wf_host.specs.Moments.{joined}
@@ -24,10 +24,6 @@ stays_on w mid new so_far more seen deeds = joined w mid new (Stays w) (Stays mi
 
 -- ## Results
 -- what holds of a result that is Ok
-pub on_ok_map : {A B : Type 0} {P Q : Type 0} (r : Result A B) → (P → Q) → OnOk r P → OnOk r Q
-on_ok_map (Ok a) f h = f h
-on_ok_map (Err e) f h = tt
-
 -- records that are none of a history are those of the file
 pub no_history_for : {X : Type 0} (L : Language) (file : List ℕ) (J : List (List ℕ)) (r : Result X EngineFault) → J ≡ records file → MayHaveRecords file
     → IfErr r (λ e. (n : ℕ) → e ≡ fault.NotAHistory n → (history L J ≡ Err n) × (J ≢ []))

@@ -1,7 +1,8 @@
 -- Bytes that are UTF-8, and bytes that aren't.
-use Rattle.std.proofs.Common.{◌≡◌, ℕ, List, Bool, true, false, if◌then◌else◌, Result, Err, IsUtf8, refl, sym, ap, ◌∙◌}
-use Rattle.std.proofs.lemmas.Str.{IsUtf8-from_is_utf8, is_utf8-from_IsUtf8}
+use Rattle.std.proofs.Common.{◌≡◌, ℕ, List, Bool, if◌then◌else◌, Result, Err, IsUtf8, sym, ap, ◌∙◌}
+use Rattle.std.proofs.lemmas.Str.{is_utf8-from_IsUtf8}
 use Rattle.std.specs.Str.{is_utf8}
+use Rattle.wf_lemmas.proofs.Texts.{not_utf8}
 use Rattle.wf_source.specs.Sources.{content_tree, text_tree, refused}
 use Rattle.wf_status.specs.declared.Refusal.{Refusal}
 use Rattle.wf_status.specs.declared.RefusalKind.TheVariants as kind
@@ -13,13 +14,6 @@ if_text s b = if b then text_tree s else Err (refused kind.BadUtf8)
 -- of UTF-8 it is the tree of the text
 pub of_text : (s text : List ℕ) → text ≡ s → IsUtf8 s → content_tree s ≡ text_tree text
 of_text s text same is = ap (if_text s) (is_utf8-from_IsUtf8 s is) ∙ ap text_tree (sym same)
-
-not_utf8 : (s : List ℕ) → ¬ IsUtf8 s → is_utf8 s ≡ false
-not_utf8 s never = by (is_utf8 s) (λ is. never (IsUtf8-from_is_utf8 s is))
-  where
-    by : (b : Bool) → (b ≡ true → ⊥) → b ≡ false
-    by true other = absurd (other refl)
-    by false other = refl
 
 pub bad : (s : List ℕ) → ¬ IsUtf8 s → content_tree s ≡ Err (refused kind.BadUtf8)
 bad s never = ap (if_text s) (not_utf8 s never)

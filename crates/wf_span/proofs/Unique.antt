@@ -3,7 +3,7 @@ use Rattle.std.proofs.Common.{◌≡◌, ℕ, suc, ◌+◌, ◌<◌, ◌≤◌, 
 use Rattle.std.specs.List.{list_all}
 use Rattle.std.proofs.Math.Seq.{take-append_seam, drop-append_seam}
 use Rattle.std.proofs.lemmas.Bool.{eqb-true, false≢true, and_from, not-true}
-use Rattle.wf_lemmas.proofs.Bools.{and_left, and_right, clash}
+use Rattle.wf_lemmas.proofs.Bools.{and_left, and_right, clash, false_unless}
 use Rattle.wf_span.specs.Tokens.{PlacedToken, Leads, IsLongest, TokensFrom, FaultFrom, FaultAt, no_token, bad_escape, open_text, IsNoToken, IsOpen, IsBadEscape, is_blank, is_digit, is_letter, is_name_byte, is_quote, is_escaped, is_mark_pair, is_closed, any, is_token}
 use Rattle.wf_span.specs.Laws.{TokensAreOne}
 use Rattle.wf_span.specs.Scans.{count_while}
@@ -254,11 +254,7 @@ blank_no_token Text c r w h = clash (is_quote c) (blank_no_quote c w) (and_left 
 blank_no_token Mark c r w h = no_mark_start c (not_in is_blank c marks w refl) (λ d. blank_no_pair c d w) c r refl h
 
 no_blank_if : (c : ℕ) → (is_blank c ≡ true → ⊥) → is_blank c ≡ false
-no_blank_if c h = go (is_blank c) h
-  where
-    go : (t : Bool) → (t ≡ true → ⊥) → t ≡ false
-    go true k = absurd (k refl)
-    go false k = refl
+no_blank_if c h = false_unless (is_blank c) h
 
 plain_token : (k : TokenKind) (text behind : List ℕ) → is_token k text ≡ true → count_while is_blank (text ++ behind) ≡ 0
 plain_token k [] behind h = absurd (clash (is_token k []) (empty_token k) h)

@@ -9,11 +9,6 @@ use Rattle.wf_symbols.specs.declared.names.Names.{Names}
 use Rattle.wf_value.specs.HttpRequest.{is_among}
 use Rattle.wf_value.specs.Pairs.{Text}
 
-or_turn : (p q o : Bool) → (q || (p || o)) ≡ ((p || q) || o)
-or_turn true true o = refl
-or_turn true false o = refl
-or_turn false q o = refl
-
 or_within : (p o : Bool) → (p || o) ≡ ((p || false) || o)
 or_within true o = refl
 or_within false o = refl
@@ -24,7 +19,7 @@ adds_none a = record { has = λ x. refl }
 pub adds_then : (a b c : Names) (xs ys : List Text) → Adds a b xs → Adds b c ys → Adds a c (xs ++ ys)
 adds_then a b c xs ys h k = record {
   has = λ x.
-      k.has x ∙ ap (λ o. is_among x ys || o) (h.has x) ∙ or_turn (is_among x xs) (is_among x ys) (is_among x (names_of a)) ∙ ap (λ o. o || is_among x (names_of a)) (sym (list_any-append (bytes_eq x) xs ys));
+      k.has x ∙ ap (λ o. is_among x ys || o) (h.has x) ∙ sym (or_regrouped (is_among x xs) (is_among x ys) (is_among x (names_of a))) ∙ ap (λ o. o || is_among x (names_of a)) (sym (list_any-append (bytes_eq x) xs ys));
 }
 
 pub adds_one : (a b : Names) (n m : Text) → m ≡ n → ((x : Text) → is_among x (names_of b) ≡ (bytes_eq x m || is_among x (names_of a))) → Adds a b (n ∷ [])

@@ -1,7 +1,7 @@
 -- The text of a block scalar, row by row.
 use Rattle.std.proofs.Common.{◌≡◌, ℕ, zero, suc, ◌-◌, ◌<◌, List, [], ◌∷◌, ◌++◌, Bool, true, false, cond, not, ◌&&◌, ◌||◌, refl, sym, ap, ◌∙◌, arith, append_assoc}
 use Rattle.std.proofs.lemmas.List.{append-nil}
-use Rattle.wf_lemmas.proofs.Bools.{cond_false, cond_true}
+use Rattle.wf_lemmas.proofs.Bools.{cond_false, cond_true, by_test}
 use Rattle.wf_yaml_line.specs.Marks.{is_empty, space, newline}
 use Rattle.wf_yaml.specs.Rows.{Row}
 use Rattle.wf_yaml.specs.BlockScalars.{scalar_line, scalar_lines, gap, folded_text, literal_text, joined, without_last, are_empty, copies}
@@ -46,10 +46,6 @@ woven_is f m begun n (r ∷ rs) =
     woven_step f m n begun (begun || not (is_empty r.text)) (is_empty (scalar_line m begun r)) (scalar_line m begun r) rs (begun_is begun (r.indent - m) r.text) (woven_is f m begun (suc n) rs) (woven_is f m true (cond f 0 1) rs)
 
 -- ---- empty lines
-
-by_test : {P : Type 0} (t : Bool) → (t ≡ true → P) → (t ≡ false → P) → P
-by_test true f g = f refl
-by_test false f g = g refl
 
 none_last : (ls : List (List ℕ)) → are_empty ls ≡ true → without_last ls ≡ []
 none_last [] e = refl

@@ -1,14 +1,10 @@
 -- Steps of the loops that read quoted scalars.
-use Rattle.std.proofs.Common.{◌≡◌, ℕ, suc, ◌+◌, ◌-◌, ◌<◌, ◌≤◌, List, [], ◌∷◌, ◌++◌, length, get_or, drop, Bool, true, false, cond, ◌&&◌, ◌==◌, Some, None, refl, sym, ap, ◌∙◌, arith, add-one, append_assoc, drop-cons, eq-eqb}
-use Rattle.std.proofs.lemmas.List.{get_or_read}
+use Rattle.std.proofs.Common.{◌≡◌, ℕ, suc, ◌+◌, ◌-◌, ◌<◌, ◌≤◌, List, [], ◌∷◌, ◌++◌, length, get_or, drop, Bool, true, false, cond, ◌&&◌, ◌==◌, Some, None, refl, sym, ap, ◌∙◌, arith, append_assoc, eq-eqb}
 use Rattle.std.proofs.lemmas.Bool.{ne_eqb}
+use Rattle.wf_lemmas.proofs.Lists.{item_at}
 use Rattle.wf_yaml_line.specs.Marks.{single_quote, double_quote, backslash}
 use Rattle.wf_yaml_line.specs.Quoted.{Quoted, with_char, with_escape, single, double, closed, escape, escape_tail, escape_width}
 use Rattle.wf_yaml_line.specs.Views.{onto}
-
--- what a loop that reads x at i has left
-cut : (s : List ℕ) (i x : ℕ) → i < length s → x ≡ get_or s i x → drop i s ≡ x ∷ drop (i + 1) s
-cut s i x h r = drop-cons s i 0 h ∙ (λ j. sym (get_or_read s i x h r 0) j ∷ drop (sym (add-one i) j) s)
 
 pushed : (front : List ℕ) (good : Bool) (x : ℕ) (q : Quoted) → onto (front ++ x ∷ []) good q ≡ onto front good (with_char x q)
 pushed front good x q = ap (λ (t : List ℕ). record { chars = t; rest = q.rest; good = good && q.good }) (append_assoc front (x ∷ []) q.chars)
@@ -28,14 +24,14 @@ module _ (s front : List ℕ) (i x : ℕ) (whole : Quoted) (h : i < length s) (r
       (λ j. onto (n j) true (single (g j) rest))
       ∙ pushed front true single_quote (single false rest)
       ∙ sym (ap (λ b. onto front true (cond b (with_char single_quote (single false rest)) (closed (x ∷ rest)))) (eq-eqb x single_quote e))
-      ∙ sym (λ j. onto front true (single (f j) (cut s i x h r j)))
+      ∙ sym (λ j. onto front true (single (f j) (item_at s i x h r j)))
       ∙ old
 
   pub single_ends : (was now : Bool) (new : List ℕ) → was ≡ false → now ≡ true → x ≡ single_quote → new ≡ front → onto front true (single was (drop i s)) ≡ whole → onto new true (single now rest) ≡ whole
   single_ends was now new f g e n old =
       (λ j. onto (n j) true (single (g j) rest))
       ∙ sym (ap (λ b. onto front true (cond b (single true rest) (with_char x (single false rest)))) (eq-eqb x single_quote e))
-      ∙ sym (λ j. onto front true (single (f j) (cut s i x h r j)))
+      ∙ sym (λ j. onto front true (single (f j) (item_at s i x h r j)))
       ∙ old
 
   pub single_kept : (was now : Bool) (new : List ℕ) → was ≡ false → now ≡ false → (x ≡ single_quote → ⊥) → new ≡ front ++ x ∷ [] → onto front true (single was (drop i s)) ≡ whole → onto new true (single now rest) ≡ whole
@@ -43,7 +39,7 @@ module _ (s front : List ℕ) (i x : ℕ) (whole : Quoted) (h : i < length s) (r
       (λ j. onto (n j) true (single (g j) rest))
       ∙ pushed front true x (single false rest)
       ∙ sym (ap (λ b. onto front true (cond b (single true rest) (with_char x (single false rest)))) (ne_eqb x single_quote e))
-      ∙ sym (λ j. onto front true (single (f j) (cut s i x h r j)))
+      ∙ sym (λ j. onto front true (single (f j) (item_at s i x h r j)))
       ∙ old
 
   -- ---- double quotes
@@ -57,7 +53,7 @@ module _ (s front : List ℕ) (i x : ℕ) (whole : Quoted) (h : i < length s) (r
     After = onto new now_good (double now m rest) ≡ whole
 
     start : (flag : Bool) → was ≡ flag → onto front good (double was n (drop i s)) ≡ onto front good (double flag n (x ∷ rest))
-    start flag f = λ j. onto front good (double (f j) n (cut s i x h r j))
+    start flag f = λ j. onto front good (double (f j) n (item_at s i x h r j))
 
     pub escape_read : (d : ℕ) (t : List ℕ) → was ≡ true → now ≡ false → m ≡ escape_width x → Some d ≡ escape x t → t ≡ rest → new ≡ front ++ d ∷ [] → Before → After
     escape_read d t f g w e et k old =
@@ -106,5 +102,5 @@ module _ (s front : List ℕ) (i x : ℕ) (whole : Quoted) (h : i < length s) (r
       (λ j. onto (k j) (a j) (double (g j) (w j) rest))
       ∙ no_good good front (double false 0 rest)
       ∙ sym (ap (λ o. onto front good (with_escape o (double false (escape_tail x o) rest))) is)
-      ∙ sym (λ j. onto front good (double (f j) n (cut s i x h r j)))
+      ∙ sym (λ j. onto front good (double (f j) n (item_at s i x h r j)))
       ∙ old

@@ -1,11 +1,8 @@
-use Rattle.std.proofs.Common.{Result, Ok, Err, OnOk, OnErr, arith}
+use Rattle.std.proofs.Common.{Result, Ok, Err, OnErr, arith}
+use Rattle.wf_lemmas.proofs.Results.{on_ok}
 use Rattle.wf_callbacks.specs.Plain.{plain_visitor}
 use Rattle.wf_callbacks.proofs.Places.{stands, joined_place, same_place}
 use Rattle.wf_callbacks.proofs.endpoints.Endpoints.arrive.Goals as goal
-
-on_ok : {T E : Type 0} (r : Result T E) {P Q : Type 0} → (P → Q) → OnOk r P → OnOk r Q
-on_ok (Ok t) f h = f h
-on_ok (Err e) f h = tt
 
 on_err : {T E : Type 0} (r : Result T E) {P Q : Type 0} → (P → Q) → OnErr r P → OnErr r Q
 on_err (Ok t) f h = tt
