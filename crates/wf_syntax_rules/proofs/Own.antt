@@ -6,7 +6,7 @@ use Rattle.wf_syntax_words.specs.Numbers.{thousandths_to, whole_within}
 use Rattle.wf_value.specs.HttpRequest.{is_among}
 use Rattle.wf_expr.specs.Texts.{has_expressions}
 use Rattle.wf_syntax_rules.specs.Rules.{Role, demand, own, unless}
-use Rattle.wf_syntax_words.specs.Fields.{has}
+use Rattle.wf_syntax_words.specs.Fields.{has, body_fields, has_all, has_only, is_empty}
 use Rattle.wf_syntax_rules.specs.Rules as r
 use Rattle.wf_syntax_rules.specs.declared.fault.SyntaxKind.{SyntaxKind}
 use Rattle.wf_syntax_rules.specs.declared.fault.SyntaxKind.TheVariants.{NotAStep, UnknownField, MissingField, WrongKind, Expression}
@@ -29,10 +29,10 @@ two_none : (a b : Bool) → NoExpression (unless a UnknownField (demand b Missin
 two_none a b = unless_none a UnknownField (demand b MissingField) tt (demand_none b MissingField tt)
 
 map_none : (musts mays : List Text) (fs : Pairs) → NoExpression (r.map_fault musts mays fs)
-map_none musts mays fs = two_none (r.has_only (musts ++ mays) fs) (r.has_all musts fs)
+map_none musts mays fs = two_none (has_only (musts ++ mays) fs) (has_all musts fs)
 
 choice_none : (a b : Text) (musts mays : List Text) (fs : Pairs) → NoExpression (r.choice_fault a b musts mays fs)
-choice_none a b musts mays fs = two_none (r.has_only (a ∷ b ∷ (musts ++ mays)) fs && not (has a fs && has b fs)) ((has a fs || has b fs) && r.has_all musts fs)
+choice_none a b musts mays fs = two_none (has_only (a ∷ b ∷ (musts ++ mays)) fs && not (has a fs && has b fs)) ((has a fs || has b fs) && has_all musts fs)
 
 either_none : (b : Bool) (x y : Option SyntaxKind) → NoExpression x → NoExpression y → NoExpression (if b then x else y)
 either_none true x y h k = h
@@ -45,7 +45,7 @@ try_none fs =
 
 flow_none : (name : Text) (fs : Pairs) → NoExpression (own (r.Flow name) (map fs))
 flow_none name fs =
-    unless_none (r.has_only (codes "params" ∷ codes "steps" ∷ []) fs) UnknownField (unless (has (codes "steps") fs) MissingField (demand (is_name name) WrongKind)) tt
+    unless_none (has_only (codes "params" ∷ codes "steps" ∷ []) fs) UnknownField (unless (has (codes "steps") fs) MissingField (demand (is_name name) WrongKind)) tt
     (unless_none (has (codes "steps") fs) MissingField (demand (is_name name) WrongKind) tt (demand_none (is_name name) WrongKind tt))
 
 own_none : (role : Role) (t : Tree) → NoExpression (own role t)
@@ -57,9 +57,9 @@ own_none r.Parameter (map (pair x t no_pairs)) = demand_none (is_name x) WrongKi
 own_none r.Literal (text s) = demand_none (not (has_expressions s)) WrongKind tt
 own_none r.Steps (list ts) = tt
 own_none r.Step (map (pair x t no_pairs)) = demand_none (is_step_name x) NotAStep tt
-own_none r.Body (map fs) = two_none (r.has_only (r.body_fields fs) fs) (not (r.is_empty fs))
+own_none r.Body (map fs) = two_none (has_only (body_fields fs) fs) (not (is_empty fs))
 own_none r.Arms (list ts) = tt
-own_none r.Arm (map fs) = two_none (r.has_only (codes "condition" ∷ r.body_fields fs) fs) (has (codes "condition") fs)
+own_none r.Arm (map fs) = two_none (has_only (codes "condition" ∷ body_fields fs) fs) (has (codes "condition") fs)
 own_none r.Entries (list ts) = tt
 own_none r.Entry (map (pair x t no_pairs)) = tt
 own_none r.Target t = tt

@@ -3,6 +3,7 @@ use Rattle.std.proofs.Common.{◌≡◌, ◌++◌, ℕ, suc, Bool, true, false, 
 use Rattle.std.proofs.lemmas.Bool.{and_from, le-leb, leb-true}
 use Rattle.std.proofs.lemmas.List.Folds.{list_all-append}
 use Rattle.std.specs.List.{list_all}
+use Rattle.wf_syntax_words.specs.Fields.{field}
 use Rattle.wf_lemmas.proofs.Options.{some_not_none}
 use Rattle.wf_ast.specs.Accept.{is_small_backoff, small_backoff}
 use Rattle.wf_ast.specs.Nodes as n
@@ -57,9 +58,9 @@ else_by P Is k role (Some x) a default d f s h = f x s.0 h
 backoff_small : (b : Backoff) (x : Tree) → IsSound r.Backoff x → IsBackoff b x → AreSmallNumbers b
 backoff_small b (map fs) s h =
     let a = row_all fs ((codes "initial_delay", r.Seconds) ∷ (codes "max_delay", r.Seconds) ∷ (codes "multiplier", r.Factor) ∷ []) (sound_parts r.Backoff (map fs) s) in
-    let initial : IsSmall b.initial = else_by IsSmall IsThousandths (codes "initial_delay") r.Seconds (r.field (codes "initial_delay") fs) b.initial default_backoff.initial refl (seconds_small b.initial) a.0 h.0 in
-    let most : IsSmall b.max = else_by IsSmall IsThousandths (codes "max_delay") r.Seconds (r.field (codes "max_delay") fs) b.max default_backoff.max refl (seconds_small b.max) a.1.0 h.1 in
-    let multiplier : IsSmall b.multiplier = else_by IsSmall IsThousandths (codes "multiplier") r.Factor (r.field (codes "multiplier") fs) b.multiplier default_backoff.multiplier refl (factor_small b.multiplier) a.1.1.0 h.2 in
+    let initial : IsSmall b.initial = else_by IsSmall IsThousandths (codes "initial_delay") r.Seconds (field (codes "initial_delay") fs) b.initial default_backoff.initial refl (seconds_small b.initial) a.0 h.0 in
+    let most : IsSmall b.max = else_by IsSmall IsThousandths (codes "max_delay") r.Seconds (field (codes "max_delay") fs) b.max default_backoff.max refl (seconds_small b.max) a.1.0 h.1 in
+    let multiplier : IsSmall b.multiplier = else_by IsSmall IsThousandths (codes "multiplier") r.Factor (field (codes "multiplier") fs) b.multiplier default_backoff.multiplier refl (factor_small b.multiplier) a.1.1.0 h.2 in
     and_from _ _ initial (and_from _ _ most (and_from _ _ multiplier refl))
 backoff_small b x s h = absurd h
 
@@ -67,11 +68,11 @@ policy_small : (p : t.Policy) (x : Tree) → IsSound r.Retry x → IsPolicy p x 
 policy_small p (text s) sound h = subst (λ (q : t.Policy). AreSmallNumbers q.backoff) (sym h) refl
 policy_small p (map fs) sound h =
     let a = row_all fs ((codes "backoff", r.Backoff) ∷ (codes "max_retries", r.Attempts) ∷ (codes "predicate", r.Predicate) ∷ []) (sound_parts r.Retry (map fs) sound) in
-    else_by AreSmallNumbers IsBackoff (codes "backoff") r.Backoff (r.field (codes "backoff") fs) p.backoff default_backoff refl (backoff_small p.backoff) a.0 h.2
+    else_by AreSmallNumbers IsBackoff (codes "backoff") r.Backoff (field (codes "backoff") fs) p.backoff default_backoff refl (backoff_small p.backoff) a.0 h.2
 policy_small p x sound h = absurd h
 
 -- the tree at a key has no fault
-found : (k : Text) (role : Role) (fs : Pairs) → AreSound (at k role fs) → (x : Tree) → r.field k fs ≡ Some x → IsSound role x
+found : (k : Text) (role : Role) (fs : Pairs) → AreSound (at k role fs) → (x : Tree) → field k fs ≡ Some x → IsSound role x
 found k role fs s x e = given k role fs (IsSound role) s (λ y d h. h) x e
 
 retry_small : (o : Option t.Policy) (fs : Pairs) → AreSound (at (codes "retry") r.Retry fs) → Maybe o (codes "retry") fs IsPolicy → IsTrue (is_small_backoff o)

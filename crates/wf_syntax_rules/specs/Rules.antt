@@ -3,8 +3,8 @@
 --     parts     what stands in a node, in the order of the tree
 -- The texts of expressions are judged apart (Faults).
 use Rattle.std.specs.Prelude.{ℕ, suc, ◌+◌, Bool, not, ◌&&◌, ◌||◌, List, [], ◌∷◌, ◌++◌, Option, Some, None, is_some, codes, bytes_eq, if◌then◌else◌}
-use Rattle.std.specs.Prelude as seq
 use Rattle.wf_value.specs.HttpRequest.{is_among}
+use Rattle.wf_syntax_words.specs.Fields.{body_fields, field, has, has_all, has_only, is_empty}
 use Rattle.wf_syntax_words.specs.Names.{is_name, is_step_name, unmarked}
 use Rattle.wf_syntax_words.specs.Numbers.{thousandths_to, whole_within}
 use Rattle.wf_syntax_rules.specs.declared.fault.SyntaxKind.{SyntaxKind}
