@@ -1,5 +1,5 @@
 -- Calls that fail: of an error most of what is promised is plain.
---     is_err, NoneFell-refl              an error that is handed on; no count has fallen
+--     is_err                             an error that is handed on
 --     session_failed                     of `session`
 --     begin_failed, open_failed          of `begin` and `open`
 use Rattle.std.proofs.Common.{ap, inl, inr, subst, sym, ◌∙◌}

@@ -149,7 +149,7 @@ module _ (inner : Reading) (n d : ℕ) (agrees : Agrees inner (d + 1)) where
 
   -- ---- maps
 
-  -- the entry is this pair, and cond_false pair before has its key
+  -- the entry is this pair, and no pair before has its key
   abbrev IsNew : List (List ℕ) → Entry → Named → Type 0
   IsNew keys e p = One n d e p × (is_one_of keys p.0 ≡ false) × (with_key (key_of e.0.text) keys ≡ p.0 ∷ keys)
 
