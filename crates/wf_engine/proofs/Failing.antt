@@ -4,7 +4,6 @@
 --     begin_failed, open_failed          of `begin` and `open`
 use Rattle.std.proofs.Common.{ap, inl, inr, subst, sym, ◌∙◌}
 use Rattle.std.specs.Prelude.{◌≡◌, ◌≢◌, ◌⊎◌, ◌≤◌, ◌++◌, ℕ, true, false, [], ◌∷◌, length, take, Result, Ok, Err, IsErr, IsErrAnd, IsErrOf}
-use Rattle.wf_host.proofs.Printings.{NoneFell-refl}
 use Rattle.wf_lemmas.proofs.Bools.{clash}
 use Rattle.wf_deeds.specs.Clauses.{KeptThroughout}
 use Rattle.wf_deeds.specs.History.{Standing, history}
@@ -16,7 +15,7 @@ use Rattle.wf_events.specs.Records.{Started}
 use Rattle.wf_events.specs.Spelling.{record_bytes}
 use Rattle.wf_history.specs.Stands.{HasNoneOrThis}
 use Rattle.wf_host.specs.Calls.{AtAnyMoment, DiskFailed, DoesNoDeed, NoCountFalls, OneOf, OneOfOr, ReadsAsBefore, TellsAsBefore}
-use Rattle.wf_host.specs.World.{World, Faults, LeavesOnly, NoneFell, Only, Rose, Told}
+use Rattle.wf_host.specs.World.{World, Faults, LeavesOnly, Only, Rose, Told}
 use Rattle.wf_host.specs.declared.data.Deed.TheVariants.{Now}
 use Rattle.wf_journal.specs.Records.{magic, records}
 use Rattle.wf_model.specs.Config.{Active}
