@@ -120,10 +120,11 @@ fn is_call(i: &Instr) -> bool
     }
 }
 
-fn is_now(f: Func) -> bool
-    ensures { result ≡ is_now f }
+/// Whether a function reads the clock.
+pub(crate) fn is_now(function: Func) -> bool
+    ensures { result ≡ is_now function }
 {
-    match f {
+    match function {
         Func::SysNow => true,
         _ => false,
     }

@@ -10,9 +10,9 @@ ghost use Rattle.wf_model.specs.Spots.{Spot, arms_by, entries_by, part_at, part_
 ghost use Rattle.wf_model.specs.Table.{AreBelow, ArmsStandIn};
 ghost use Rattle.wf_value.specs.Pairs.{Text};
 
-use crate::clock::{is_clock_among, is_clock_in, is_clock_named};
+use crate::clock::{is_clock_among, is_clock_in, is_clock_named, is_now};
 use std::alloc::Global;
-use wf_ast::{Func, Postfix};
+use wf_ast::Postfix;
 use wf_frames::{Kind, Target, Wants, first_of};
 use wf_model::{EntryNode, Node, NodeKind, OverShape};
 use wf_value::OutOfMemory;
@@ -95,16 +95,6 @@ fn first_kind(nodes: &[Node], numbers: &[u32]) -> Kind
     match numbers {
         [] => Kind::Plain,
         [first, ..] => by_clock(is_entry_at(nodes, *first as usize)),
-    }
-}
-
-/// Whether a function reads the clock.
-fn is_now(function: Func) -> bool
-    ensures { result ≡ is_now function }
-{
-    match function {
-        Func::SysNow => true,
-        _ => false,
     }
 }
 
