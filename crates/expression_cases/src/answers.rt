@@ -1,9 +1,9 @@
 // What is printed of values, faults and errors.
 use std::alloc::Global;
-use wf_cases::CaseFault;
+use wf_cases::{CaseFault, json_of};
 use wf_expr::ExprFault;
 use wf_span::LexFault;
-use wf_value::{Raise, Text, Value, to_json};
+use wf_value::{Raise, Text, Value};
 
 /// Values of a greater size are told by it.
 const MOST_SHOWN: u64 = 100_000;
@@ -14,13 +14,7 @@ pub(crate) fn value_text(alloc: Global, value: &Value) -> Result<String, CaseFau
     if size > MOST_SHOWN {
         return Ok(format!(in alloc; "size {size}")?);
     }
-    if value.depth() > 100 {
-        return Err(CaseFault::NoCase);
-    }
-    match String::from_utf8(to_json(alloc, value)?) {
-        Ok(text) => Ok(text),
-        Err(_) => Err(CaseFault::NoCase),
-    }
+    json_of(alloc, value)
 }
 
 /// A text as JSON.

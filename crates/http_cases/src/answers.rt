@@ -156,7 +156,7 @@ fn response(alloc: Global, head: &Head, body: &[u8]) -> Result<String, CaseFault
 }
 
 /// Bytes in hex; over 64 of them are told by their number and their SHA-256 (FIPS 180-4).
-fn shown(alloc: Global, bytes: &[u8]) -> Result<String, CaseFault> {
+pub(crate) fn shown(alloc: Global, bytes: &[u8]) -> Result<String, CaseFault> {
     if bytes.len() <= 64 {
         return hex_of(alloc, bytes);
     }

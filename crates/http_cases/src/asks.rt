@@ -1,10 +1,9 @@
 // What the arguments of calls ask for.
 use crate::arguments::{Stop, value_of};
 use crate::requests::{is_shallow, told};
-use crate::results::shown;
 use std::alloc::Global;
 use wf_callbacks::Method;
-use wf_cases::{Case, CaseFault, hex_of};
+use wf_cases::{Case, CaseFault, hex_of, json_of};
 use wf_host::Routes;
 use wf_http_ask::{Request, asked_of, request_of};
 use wf_http_out::Asked;
@@ -26,7 +25,7 @@ pub(crate) fn asks_to_send(alloc: Global, case: &Case<'_>) -> Result<String, Cas
 
 fn asked_text(alloc: Global, case: &Case<'_>) -> Result<String, Stop> {
     let asked = asked_in(alloc, case)?;
-    Ok(shown(alloc, &listed(alloc, &asked)?)?)
+    Ok(json_of(alloc, &listed(alloc, &asked)?)?)
 }
 
 fn sent_text(alloc: Global, case: &Case<'_>) -> Result<String, Stop> {

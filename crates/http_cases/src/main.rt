@@ -1,12 +1,14 @@
-//! Cases of HTTP: each line is a table's name, a blank and a case, and a line of answer is printed
-//! for it.
+//! Cases of HTTP and of retries: each line is a table's name, a blank and a case, and a line of answer is printed for it.
 #![tactic(auto)]
 
 mod answers;
 mod arguments;
 mod asks;
+mod calls;
+mod queues;
 mod requests;
 mod results;
+mod retries;
 mod urls;
 mod visits;
 
@@ -30,6 +32,13 @@ fn answer(alloc: Global, line: &str) -> Result<String, CaseFault> {
         "asked" => asks::asks(alloc, &case),
         "asked_and_sent" => asks::asks_to_send(alloc, &case),
         "replies" => visits::replies(alloc, &case),
+        "delays" | "delays_at_edges" => retries::delays(alloc, &case),
+        "predicates" | "predicates_at_edges" => {
+            retries::says(alloc, case.text(0)?, case.item(1)?)
+        }
+        "calls" | "calls_made" => calls::answers(alloc, case.items()),
+        "methods" => queues::method(alloc, case.text(0)?),
+        "queues" | "queues_made" => queues::answers(alloc, case.items()),
         _ => Err(CaseFault::NoCase),
     }
 }

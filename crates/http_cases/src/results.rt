@@ -2,9 +2,9 @@
 use crate::answers::reading_of;
 use std::alloc::Global;
 use wf_callbacks::{Fields, Method, Visitor};
-use wf_cases::{Case, CaseFault, bytes_of};
+use wf_cases::{Case, CaseFault, bytes_of, json_of};
 use wf_http_value::{ReplyFault, reply_value, response_value, visit_value};
-use wf_value::{Bytes, Value, to_json};
+use wf_value::{Bytes, Value};
 
 /// A code, fields and a body: the value that they give, or the error that they raise, as JSON.
 pub(crate) fn results(alloc: Global, case: &Case<'_>) -> Result<String, CaseFault> {
@@ -65,19 +65,8 @@ fn part_of(alloc: Global, field: &Value, i: usize) -> Result<Bytes, CaseFault> {
 
 fn given(alloc: Global, answer: &Result<Value, ReplyFault>) -> Result<String, CaseFault> {
     match answer {
-        Ok(value) => shown(alloc, value),
-        Err(ReplyFault::Raised(error)) => shown(alloc, error),
+        Ok(value) => json_of(alloc, value),
+        Err(ReplyFault::Raised(error)) => json_of(alloc, error),
         Err(ReplyFault::OutOfMemory) => Err(CaseFault::OutOfMemory),
-    }
-}
-
-/// The value as JSON.
-pub(crate) fn shown(alloc: Global, value: &Value) -> Result<String, CaseFault> {
-    if value.depth() > 100 {
-        return Err(CaseFault::NoCase);
-    }
-    match String::from_utf8(to_json(alloc, value)?) {
-        Ok(text) => Ok(text),
-        Err(_) => Err(CaseFault::NoCase),
     }
 }

@@ -1,5 +1,5 @@
 // Requests that come to callbacks, of all bytes heard of them.
-use sha2::{Digest, Sha256};
+use crate::answers::shown;
 use std::alloc::Global;
 use wf_cases::{Case, CaseFault, bytes_of, hex_of};
 use wf_http_serve::{Asker, ReplyCode, Visit, VisitState, reply_bytes};
@@ -142,13 +142,4 @@ fn asked(alloc: Global, asker: &Asker<'_>) -> Result<String, CaseFault> {
         text.push_str(shown(alloc, asker.body())?.as_str())?;
     }
     Ok(text)
-}
-
-/// Bytes in hex; over 64 of them are told by their number and their SHA-256 (FIPS 180-4).
-fn shown(alloc: Global, bytes: &[u8]) -> Result<String, CaseFault> {
-    if bytes.len() <= 64 {
-        return hex_of(alloc, bytes);
-    }
-    let digest = hex_of(alloc, &Sha256::digest(bytes))?;
-    Ok(format!(in alloc; "{}:{}", bytes.len(), digest.as_str())?)
 }

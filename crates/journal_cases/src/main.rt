@@ -1,10 +1,11 @@
-//! Cases of hosts, sources, journals and histories: a line of standard input is a table's name and a case, and the line that is printed
-//! for it is what came.
+//! Cases of hosts, sources, journals, histories and records: a line of standard input is a table's name and a case, and the line that is
+//! printed for it is what came.
 #![tactic(auto)]
 
 mod histories;
 mod hosts;
 mod journals;
+mod records;
 
 use anyhow::Result;
 use std::fs::{File, Files};
@@ -29,6 +30,12 @@ where
         "file_journals" => journals::in_a_file(rt, case),
         "histories" => histories::calls(alloc, case),
         "fault_texts" => journals::fault_texts(alloc),
+        "records" => records::kind(alloc, case),
+        "spellings" => records::spelling(alloc, case),
+        "fronts" => records::fronts(alloc, case),
+        "arguments" => records::argument(alloc, case),
+        "routes" => records::routes(alloc, case),
+        "record_fault_texts" => records::fault_texts(alloc),
         _ => Err(CaseFault::NoCase),
     }
 }

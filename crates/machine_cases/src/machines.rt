@@ -7,12 +7,12 @@ use crate::records::{start_of, write_event};
 use std::alloc::Global;
 use std::marker::Brand;
 use std::sync::ledger::{Blank, Ledger};
-use wf_cases::{Case, CaseFault, text_of};
+use wf_cases::{Case, CaseFault, json_of, quoted, text_of};
 use wf_events::Start;
 use wf_host_cases::{items_of, number_of};
 use wf_machine::{ApplyFault, Machine, Outcome, Steps};
 use wf_source::read_source;
-use wf_value::{Text, Value, to_json};
+use wf_value::{Text, Value};
 
 /// The text of a source: a text, or a list of its pieces.
 fn source_of(alloc: Global, value: &Value) -> Result<String, CaseFault> {
@@ -33,14 +33,8 @@ pub fn write_outcome(
         Outcome::Returned(value) => ("returned", value),
         Outcome::Raised(error) => ("raised", error),
     };
-    if value.depth() > 100 {
-        return Err(CaseFault::NoCase);
-    }
-    let json = to_json(alloc, value)?;
-    match str::from_utf8(&json) {
-        Ok(text) => Ok(write!(out, "{word} {text}")?),
-        Err(_) => Err(CaseFault::NoCase),
-    }
+    let json = json_of(alloc, value)?;
+    Ok(write!(out, "{word} {json}")?)
 }
 
 /// Writes all that a machine shows, at a reading of the clock.
@@ -89,10 +83,7 @@ fn write_request(
     let Ok(text) = str::from_utf8(request.bytes.as_slice()) else {
         return Err(CaseFault::NoCase);
     };
-    let json = to_json(alloc, &Value::Text(Text::new(alloc, text)?))?;
-    let Ok(json) = str::from_utf8(&json) else {
-        return Err(CaseFault::NoCase);
-    };
+    let json = quoted(alloc, text)?;
     let address = &request.address;
     Ok(write!(out, "{}:{} {json}", address.name.as_str(), address.port)?)
 }

@@ -2,9 +2,8 @@
 use crate::deeds::all_told;
 use crate::records::Counts;
 use std::alloc::Global;
-use wf_cases::{CaseFault, hex_of};
+use wf_cases::{CaseFault, hex_of, quoted};
 use wf_host::{Deed, MemHost};
-use wf_value::{Text, Value, to_json};
 
 /// What a command came to.
 #[derive(Drop)]
@@ -108,16 +107,7 @@ fn counted(deeds: &[Deed]) -> (u64, u64) {
 /// Bytes as a JSON text, or in hex where they are no UTF-8.
 pub fn printed(alloc: Global, bytes: &[u8]) -> Result<String, CaseFault> {
     match str::from_utf8(bytes) {
-        Ok(text) => json_of(alloc, text),
+        Ok(text) => quoted(alloc, text),
         Err(_) => hex_of(alloc, bytes),
-    }
-}
-
-/// A text as JSON.
-pub fn json_of(alloc: Global, text: &str) -> Result<String, CaseFault> {
-    let json = to_json(alloc, &Value::Text(Text::new(alloc, text)?))?;
-    match String::from_utf8(json) {
-        Ok(json) => Ok(json),
-        Err(_) => Err(CaseFault::NoCase),
     }
 }

@@ -5,10 +5,9 @@
 // as JSON texts; the waits and the turn as their numbers, where these aren't those without the options. Or it is `BadLine` with the number of the word. The answer to `options` is what the look-ups find, of the journal,
 // the source and the address for callbacks: a JSON text, or `none`.
 use crate::command::words_of;
-use crate::ended::json_of;
 use std::alloc::Global;
 use wf_args::{Line, LineFault, OptionName, journal_of, listen_of, read_line, source_of};
-use wf_cases::CaseFault;
+use wf_cases::{CaseFault, quoted};
 use wf_value::Value;
 
 /// The most routes of a line, or pairs of its environment, and one more.
@@ -44,8 +43,8 @@ fn told(alloc: Global, line: Line<'_>) -> Result<String, CaseFault> {
 fn push_routes(alloc: Global, told: &mut String, line: Line<'_>) -> Result<(), CaseFault> {
     for index in 0..MOST_PARTS {
         if let Some(route) = line.route(index) {
-            let host = json_of(alloc, route.host)?;
-            let name = json_of(alloc, route.name)?;
+            let host = quoted(alloc, route.host)?;
+            let name = quoted(alloc, route.name)?;
             let port = route.port;
             write!(told, " --route {} {} {port}", host.as_str(), name.as_str())?;
         }
@@ -56,8 +55,8 @@ fn push_routes(alloc: Global, told: &mut String, line: Line<'_>) -> Result<(), C
 fn push_env(alloc: Global, told: &mut String, line: Line<'_>) -> Result<(), CaseFault> {
     for index in 0..MOST_PARTS {
         if let Some(pair) = line.env(index) {
-            let key = json_of(alloc, pair.key)?;
-            let value = json_of(alloc, pair.value)?;
+            let key = quoted(alloc, pair.key)?;
+            let value = quoted(alloc, pair.value)?;
             write!(told, " --env {} {}", key.as_str(), value.as_str())?;
         }
     }
@@ -84,7 +83,7 @@ fn push_option(
     word: Option<&str>,
 ) -> Result<(), CaseFault> {
     if let Some(word) = word {
-        let json = json_of(alloc, word)?;
+        let json = quoted(alloc, word)?;
         write!(told, " {} {}", name.word(), json.as_str())?;
     }
     Ok(())
@@ -110,7 +109,7 @@ fn push_found(alloc: Global, line: &mut String, word: Option<&str>) -> Result<()
 
 fn found(alloc: Global, word: Option<&str>) -> Result<String, CaseFault> {
     match word {
-        Some(word) => json_of(alloc, word),
+        Some(word) => quoted(alloc, word),
         None => Ok(String::from_str(alloc, "none")?),
     }
 }

@@ -1,7 +1,6 @@
 // The errors that the language raises.
-use crate::json::written;
 use std::alloc::Global;
-use wf_cases::CaseFault;
+use wf_cases::{CaseFault, json_of};
 use wf_value::{Tag, Text, Value, error_map};
 
 const TAGS: [Tag; 13] = [
@@ -34,12 +33,12 @@ fn tag_of(name: &str) -> Result<Tag, CaseFault> {
 pub(crate) fn map_of(alloc: Global, name: &str) -> Result<String, CaseFault> {
     match tag_of(name)? {
         Tag::HttpError | Tag::UnhandledBranchError => Err(CaseFault::NoCase),
-        tag => written(alloc, &error_map(alloc, tag)?),
+        tag => json_of(alloc, &error_map(alloc, tag)?),
     }
 }
 
 /// The message of an error, as a JSON text.
 pub(crate) fn message(alloc: Global, name: &str) -> Result<String, CaseFault> {
     let message = Text::new(alloc, tag_of(name)?.message())?;
-    written(alloc, &Value::Text(message))
+    json_of(alloc, &Value::Text(message))
 }

@@ -1,29 +1,13 @@
 // Values as JSON, and what they measure.
 use std::alloc::Global;
-use wf_cases::{CaseFault, bytes_of, text_of};
+use wf_cases::{CaseFault, bytes_of, json_of, text_of, utf8};
 use wf_json_laws::{compact, read_again, said_values_come_back};
-use wf_value::{Bytes, JsonFault, Text, Value, from_json, to_json};
-
-/// The text that some bytes are.
-pub(crate) fn text(bytes: Vec<u8>) -> Result<String, CaseFault> {
-    match String::from_utf8(bytes) {
-        Ok(text) => Ok(text),
-        Err(_) => Err(CaseFault::NoCase),
-    }
-}
-
-/// A value as JSON, which nests at most 100 deep.
-pub(crate) fn written(alloc: Global, value: &Value) -> Result<String, CaseFault> {
-    if value.depth() > 100 {
-        return Err(CaseFault::NoCase);
-    }
-    text(to_json(alloc, value)?)
-}
+use wf_value::{Bytes, JsonFault, Text, Value, from_json};
 
 /// A value as JSON, or `none`.
 pub(crate) fn written_if(alloc: Global, value: Option<&Value>) -> Result<String, CaseFault> {
     match value {
-        Some(value) => written(alloc, value),
+        Some(value) => json_of(alloc, value),
         None => Ok(String::from_str(alloc, "none")?),
     }
 }
@@ -43,7 +27,7 @@ pub(crate) fn read_bytes(alloc: Global, items: &[Value]) -> Result<String, CaseF
 
 fn written_or_fault(alloc: Global, read: Result<Value, JsonFault>) -> Result<String, CaseFault> {
     match read {
-        Ok(value) => written(alloc, &value),
+        Ok(value) => json_of(alloc, &value),
         Err(fault) => Ok(format!(in alloc; "{fault:?}")?),
     }
 }
@@ -52,7 +36,7 @@ fn written_or_fault(alloc: Global, read: Result<Value, JsonFault>) -> Result<Str
 pub(crate) fn compacted(alloc: Global, items: &[Value]) -> Result<String, CaseFault> {
     let source = text_of(alloc, items)?;
     match compact(alloc, source.as_bytes()) {
-        Ok(bytes) => text(bytes),
+        Ok(bytes) => utf8(bytes),
         Err(fault) => Ok(format!(in alloc; "{fault:?}")?),
     }
 }
@@ -64,7 +48,7 @@ pub(crate) fn again(alloc: Global, items: &[Value]) -> Result<String, CaseFault>
     let source = text_of(alloc, items)?;
     let first = from_json(alloc, source.as_bytes())?;
     let second = read_again(alloc, &first)?;
-    let shown = written(alloc, &second)?;
+    let shown = json_of(alloc, &second)?;
     Ok(format!(in alloc; "{} {shown}", first.same(&second))?)
 }
 
@@ -79,7 +63,7 @@ pub(crate) fn measures(alloc: Global, items: &[Value]) -> Result<String, CaseFau
 pub(crate) fn bytes(alloc: Global, item: &Value) -> Result<String, CaseFault> {
     let bytes = Bytes::new(alloc, bytes_of(alloc, item)?.as_slice())?;
     let copy = Value::Bytes(bytes.copy()?);
-    let shown = written(alloc, &copy)?;
+    let shown = json_of(alloc, &copy)?;
     let size = copy.size();
     Ok(format!(in alloc; "{shown} {size} {}", copy.same(&Value::Bytes(bytes)))?)
 }
@@ -88,7 +72,7 @@ pub(crate) fn bytes(alloc: Global, item: &Value) -> Result<String, CaseFault> {
 pub(crate) fn texts(alloc: Global, item: &str) -> Result<String, CaseFault> {
     let text = Text::new(alloc, item)?;
     let copy = Value::Text(text.copy()?);
-    let shown = written(alloc, &copy)?;
+    let shown = json_of(alloc, &copy)?;
     let size = copy.size();
     Ok(format!(in alloc; "{shown} {size} {}", copy.same(&Value::Text(text)))?)
 }

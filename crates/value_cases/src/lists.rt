@@ -1,7 +1,6 @@
 // Lists.
-use crate::json::written;
 use std::alloc::Global;
-use wf_cases::CaseFault;
+use wf_cases::{CaseFault, json_of};
 use wf_value::{List, Value};
 
 /// A list that is built of the items: how many it has, and what it is written as.
@@ -11,7 +10,7 @@ pub(crate) fn built(alloc: Global, items: &[Value]) -> Result<String, CaseFault>
         list.push(item.copy(alloc)?)?;
     }
     let count = list.items().len();
-    let shown = written(alloc, &Value::List(list))?;
+    let shown = json_of(alloc, &Value::List(list))?;
     Ok(format!(in alloc; "{count} {shown}")?)
 }
 
@@ -28,8 +27,8 @@ pub(crate) fn copied(alloc: Global, value: &Value, item: &Value) -> Result<Strin
 
 /// Of each of two values what it is written as and its size, the depth of the second, and whether they are the same.
 pub(crate) fn two(alloc: Global, first: &Value, second: &Value) -> Result<String, CaseFault> {
-    let one = written(alloc, first)?;
-    let other = written(alloc, second)?;
+    let one = json_of(alloc, first)?;
+    let other = json_of(alloc, second)?;
     let (size, other_size) = (first.size(), second.size());
     let depth = second.depth();
     let same = first.same(second);

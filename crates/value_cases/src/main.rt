@@ -1,19 +1,28 @@
-//! Cases of values and of values as JSON: each line is a table's name, a blank and a case, and a line of answer is printed for it.
+//! Cases of values, of the library's functions and of assignments: each line is a table's name, a blank and a case, and a line of answer is
+//! printed for it.
 #![tactic(auto)]
 
+mod answers;
+mod arguments;
+mod assigns;
+mod data;
 mod errors;
+mod helpers;
 mod json;
+mod library;
 mod lists;
+mod long;
 mod maps;
 mod numbers;
 mod places;
+mod text;
+mod time;
 
 use std::alloc::Global;
-use wf_cases::{CaseFault, case_of};
+use wf_cases::{Case, CaseFault, case_of};
 
-/// What is printed of a line.
-fn answer(alloc: Global, line: &str) -> Result<String, CaseFault> {
-    let case = case_of(alloc, line)?;
+/// What is printed of a case.
+fn answer(alloc: Global, case: &Case<'_>) -> Result<String, CaseFault> {
     let items = case.items();
     match case.table {
         "json" | "json_examples" => json::read(alloc, items),
@@ -32,15 +41,21 @@ fn answer(alloc: Global, line: &str) -> Result<String, CaseFault> {
         "paths" => places::path(alloc, items),
         "errors" => errors::map_of(alloc, case.text(0)?),
         "messages" => errors::message(alloc, case.text(0)?),
-        "whole_numbers" => numbers::whole(alloc, &case),
-        "backoffs" => numbers::backoff(alloc, &case),
-        _ => Err(CaseFault::NoCase),
+        "whole_numbers" => numbers::whole(alloc, case),
+        "backoffs" => numbers::backoff(alloc, case),
+        "places" | "layers" | "limits" => assigns::answer(alloc, case),
+        _ => library::answered(alloc, case),
     }
+}
+
+/// What is printed of a line.
+fn line_answer(alloc: Global, line: &str) -> Result<String, CaseFault> {
+    answer(alloc, &case_of(alloc, line)?)
 }
 
 fn main(rt: HostRuntime) -> anyhow::Result<()> {
     for line in rt.lines(rt.alloc()) {
-        let text = answer(rt.alloc(), line?.as_str())?;
+        let text = line_answer(rt.alloc(), line?.as_str())?;
         println!(rt; "{text}")?;
     }
     Ok(())

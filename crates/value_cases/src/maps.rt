@@ -1,8 +1,8 @@
 // Maps, and lists of pairs.
-use crate::json::{written, written_if};
+use crate::json::written_if;
 use crate::lists::two;
 use std::alloc::Global;
-use wf_cases::CaseFault;
+use wf_cases::{CaseFault, json_of};
 use wf_value::{Map, Pairs, Text, Value};
 
 /// What each of some calls of one map answers, from the empty map on.
@@ -53,8 +53,8 @@ fn entry(alloc: Global, map: &Map, number: i64) -> Result<String, CaseFault> {
     };
     match map.entry(number) {
         Some((key, value)) => {
-            let key = written(alloc, &Value::Text(Text::new(alloc, key)?))?;
-            let value = written(alloc, value)?;
+            let key = json_of(alloc, &Value::Text(Text::new(alloc, key)?))?;
+            let value = json_of(alloc, value)?;
             Ok(format!(in alloc; "{key}:{value}")?)
         }
         None => Ok(String::from_str(alloc, "none")?),

@@ -6,7 +6,9 @@
 mod fault;
 mod line;
 mod pieces;
+mod texts;
 
 pub use fault::CaseFault;
 pub use line::{Case, case_of};
 pub use pieces::{bytes_of, hex_of, text_of};
+pub use texts::{json_of, quoted, utf8};

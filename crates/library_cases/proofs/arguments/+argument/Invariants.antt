@@ -1,4 +1,0 @@
-use Rattle.library_cases.proofs.arguments.+argument.Given as goal
-
-abbrev pub decreases-argument : goal.decreases-argument
-decreases-argument l = l.depth

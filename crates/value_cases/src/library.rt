@@ -1,0 +1,48 @@
+// Functions of the library. A case is the name of a function and its arguments. The answer is the type of the value, a blank and the value,
+// or the tag of the error.
+use crate::answers::shown;
+use crate::arguments::arguments;
+use crate::long::{long_arguments, long_values, measured};
+use crate::{data, helpers, text, time};
+use std::alloc::Global;
+use wf_cases::{Case, CaseFault};
+use wf_value::{Raise, Value};
+
+/// What a function gives for some arguments.
+fn called(alloc: Global, name: &str, args: &[Value]) -> Result<Result<Value, Raise>, CaseFault> {
+    match name.split_once('.') {
+        None => helpers::called(alloc, name, args),
+        Some(("text", _)) => text::called(alloc, name, args),
+        Some(("time", _)) => time::called(alloc, name, args),
+        Some(_) => data::called(alloc, name, args),
+    }
+}
+
+/// What is printed of a case.
+pub(crate) fn answered(alloc: Global, case: &Case<'_>) -> Result<String, CaseFault> {
+    let [_, told @ ..] = case.items() else {
+        return Err(CaseFault::NoCase);
+    };
+    let name = case.text(0)?;
+    match case.table {
+        "library_helpers"
+        | "library_text"
+        | "library_data"
+        | "library_time"
+        | "text_functions"
+        | "data_functions"
+        | "time_functions" => {
+            let args = arguments(alloc, told)?;
+            shown(alloc, called(alloc, name, args.items())?)
+        }
+        "long_texts" => {
+            let args = long_arguments(alloc, told)?;
+            measured(alloc, called(alloc, name, args.items())?)
+        }
+        "long_values" => {
+            let args = long_values(alloc, told)?;
+            measured(alloc, called(alloc, name, args.items())?)
+        }
+        _ => Err(CaseFault::NoCase),
+    }
+}
