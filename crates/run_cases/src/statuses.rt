@@ -3,10 +3,9 @@
 // A case of the table `statuses` is the name of a status and what it has: the number of `BadLine` and of `NotAHistory`; of `Refused` a kind,
 // and then nothing for the source, a number for a line, or a path as a list, where a number behind it is an offset. The answer is the number of
 // the status and, where it has one, its text as a JSON text.
-use crate::ended::json_of;
 use crate::plan::number_of;
 use std::alloc::Global;
-use wf_cases::{Case, CaseFault};
+use wf_cases::{Case, CaseFault, quoted};
 use wf_status::{Place, Refusal, RefusalKind, Status};
 use wf_value::{Path, PathPart, Text, Value};
 
@@ -26,7 +25,7 @@ fn code_and_text(alloc: Global, case: &Case<'_>) -> Result<(u8, Option<Text>), C
 }
 
 fn told(alloc: Global, code: u8, text: &str) -> Result<String, CaseFault> {
-    let json = json_of(alloc, text)?;
+    let json = quoted(alloc, text)?;
     Ok(format!(in alloc; "{code} {}", json.as_str())?)
 }
 
