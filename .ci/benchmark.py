@@ -4,11 +4,13 @@
     python3 .ci/benchmark.py [PROGRAM]
 
 A loop over a list of 10,000 items, which makes some 90,000 counted events, is run with a journal on a real file. Against it stands a bare loop
-that makes the same writes and syncs of the same bytes. The quotient of the two is to be at most 4. Most of the bare loop's time is that of its
-syncs, so the quotient rests on the disk: it is also told as it is on a disk whose sync takes a millisecond. Nothing of the run is done during a
-sync, so longer syncs add the same to both times. Then the instructions of one event of a loop are counted, by valgrind, in programs that
-differ in one thing: the size of a variable that the loop only reads, or how many steps the program has besides. Each of these quotients is to
-be below 1.5. The exit status is 1 where one isn't.
+(bare_loop.rs) that makes the same writes and syncs of the same bytes, a round for each record: the quotient of the two times is to be at most 4.
+Most of the bare loop's time is that of its syncs, so the quotient rests on the disk: it is also told as it is on a disk whose sync takes a
+millisecond. Nothing of the run is done during a sync, so longer syncs add the same to both times. Told too is the quotient against a bare loop
+that goes round as often as the program's own does, once an event, and writes the bytes of each event by themselves, with the same syncs. Then the
+instructions of one event of a loop are counted, by valgrind, in programs that differ in one thing: the size of a variable that the loop only
+reads, or how many steps the program has besides. Each of these quotients is to be below 1.5. The exit status is 1 where one isn't. It wants
+rustc and valgrind.
 
 Each time is the least of several, so that other work on the machine counts for little.
 """
@@ -22,6 +24,7 @@ import tempfile
 import time
 
 PROGRAM = os.path.abspath(sys.argv[1] if len(sys.argv) > 1 else "crates/workflow/out/workflow")
+BARE_LOOP = os.path.join(os.path.dirname(os.path.abspath(__file__)), "bare_loop.rs")
 MOST_AGAINST_BARE = 4
 SYNC = 0.001
 MOST_GROWTH = 1.5
@@ -84,35 +87,13 @@ def run(folder, source, printed, journal):
     return passed, used.ru_utime + used.ru_stime
 
 
-def bare(folder, payloads):
-    """Makes the writes and syncs by which a journal of these payloads comes about. Returns the time that passed, and that of each sync."""
-    syncs = []
-
-    def sync(file):
-        begun = time.perf_counter()
-        os.fsync(file)
-        syncs.append(time.perf_counter() - begun)
-
-    begun = time.perf_counter()
-    file = os.open(f"{folder}/bare", os.O_RDWR | os.O_CREAT | os.O_EXCL)
-    os.pwrite(file, b"WFJ1", 0)
-    sync(file)
-    inside = os.open(folder, os.O_RDONLY)
-    sync(inside)
-    os.close(inside)
-    os.pwrite(file, b"\0", 4)
-    sync(file)
-    gate = 4
-    for payload in payloads:
-        os.pwrite(file, len(payload).to_bytes(4, "big"), gate + 1)
-        os.pwrite(file, payload, gate + 5)
-        os.pwrite(file, b"\0", gate + 5 + len(payload))
-        sync(file)
-        os.pwrite(file, b"\1", gate)
-        sync(file)
-        gate += 5 + len(payload)
-    os.close(file)
-    return time.perf_counter() - begun, syncs
+def bare(folder, loop, journal, each):
+    """The time of a bare loop that goes round once a record or once an event, in seconds, how often it goes round, and its syncs with their time."""
+    words = [loop, "journal", "bare", each]
+    rounds, passed, syncs, syncing = map(int, subprocess.run(words, cwd=folder, check=True, capture_output=True).stdout.split())
+    assert read(f"{folder}/bare") == journal
+    os.remove(f"{folder}/bare")
+    return passed / 1e6, rounds, syncs, syncing / 1e6
 
 
 def read(path):
@@ -122,25 +103,28 @@ def read(path):
 
 def against_bare(folder):
     """Whether a large loop with its journal takes at most so many times what the same writes and syncs take."""
+    loop = f"{folder}/bare_loop"
+    subprocess.run(["rustc", "--edition", "2021", "-O", "-o", loop, BARE_LOOP], check=True)
     source, printed, wanted = large_loop()
-    ours, theirs = [], []
+    ours, records, each_event = [], [], []
     for _ in range(TRIES):
         ours.append(run(folder, source, printed, "journal"))
         journal = read(f"{folder}/journal")
-        theirs.append(bare(folder, records(journal)))
-        assert read(f"{folder}/bare") == journal and events(journal) == wanted, (events(journal), wanted)
+        assert events(journal) == wanted, (events(journal), wanted)
+        records.append(bare(folder, loop, journal, "records"))
+        each_event.append(bare(folder, loop, journal, "events"))
         os.remove(f"{folder}/journal")
-        os.remove(f"{folder}/bare")
     passed, used = min(it[0] for it in ours), min(it[1] for it in ours)
-    alone, syncs = min(theirs)
+    (alone, turns, syncs, syncing), (long, rounds, _, _) = min(records), min(each_event)
     # both wait for as many syncs, one after another, and do nothing meanwhile
-    more = len(syncs) * SYNC - sum(syncs)
-    quotient = passed / alone
-    print(f"{wanted} events over a list of 10000 items, a journal of {len(journal)} bytes in {len(records(journal))} records, {len(syncs)} syncs:")
-    print(f"    the program {1000 * passed:.0f} ms, {1000 * used:.0f} ms of them the processor's; the same writes and syncs {1000 * alone:.1f} ms")
-    print(f"    quotient {quotient:.2f} on this disk, whose sync takes {1e6 * sum(syncs) / len(syncs):.0f} microseconds")
-    print(f"    quotient {(passed + more) / (alone + more):.2f} on a disk whose sync takes {1e6 * SYNC:.0f} microseconds")
-    return quotient <= MOST_AGAINST_BARE
+    more = syncs * SYNC - syncing
+    by_event, slower = passed / long, (passed + more) / (alone + more)
+    print(f"{wanted} events over a list of 10000 items, a journal of {len(journal)} bytes, {syncs} syncs:")
+    print(f"    the program {1000 * passed:.0f} ms, {1000 * used:.0f} ms of them the processor's")
+    print(f"    a bare loop of {turns} rounds, one for each record, {1000 * alone:.1f} ms: quotient {passed / alone:.2f} on this disk, whose sync takes", end=" ")
+    print(f"{1e6 * syncing / syncs:.0f} microseconds, and {slower:.2f} on one whose sync takes {1e6 * SYNC:.0f}")
+    print(f"    a bare loop of {rounds} rounds, one for each event, {1000 * long:.0f} ms: quotient {by_event:.2f}")
+    return passed / alone <= MOST_AGAINST_BARE
 
 
 def loop_over(times, step):
