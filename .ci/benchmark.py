@@ -106,16 +106,16 @@ def against_bare(folder):
     loop = f"{folder}/bare_loop"
     subprocess.run(["rustc", "--edition", "2021", "-O", "-o", loop, BARE_LOOP], check=True)
     source, printed, wanted = large_loop()
-    ours, records, each_event = [], [], []
+    ours, each_record, each_event = [], [], []
     for _ in range(TRIES):
         ours.append(run(folder, source, printed, "journal"))
         journal = read(f"{folder}/journal")
         assert events(journal) == wanted, (events(journal), wanted)
-        records.append(bare(folder, loop, journal, "records"))
+        each_record.append(bare(folder, loop, journal, "records"))
         each_event.append(bare(folder, loop, journal, "events"))
         os.remove(f"{folder}/journal")
     passed, used = min(it[0] for it in ours), min(it[1] for it in ours)
-    (alone, turns, syncs, syncing), (long, rounds, _, _) = min(records), min(each_event)
+    (alone, turns, syncs, syncing), (long, rounds, _, _) = min(each_record), min(each_event)
     # both wait for as many syncs, one after another, and do nothing meanwhile
     more = syncs * SYNC - syncing
     by_event, slower = passed / long, (passed + more) / (alone + more)
