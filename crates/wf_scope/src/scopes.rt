@@ -194,6 +194,7 @@ impl Scopes {
     }
 
     /// Where a live layer stands: mostly at its number.
+    #[inline(always)]
     fn place(&self, number: u64) -> usize
         requires { IsLive number (layers_of self.now) }
         ensures within { result < length (layers_of self.now) }
@@ -203,6 +204,16 @@ impl Scopes {
         if guess < self.layers.len() && self.layers[guess].number == number {
             return guess;
         }
+        self.search(number)
+    }
+
+    /// The same, wherever it stands.
+    #[inline(never)]
+    fn search(&self, number: u64) -> usize
+        requires { IsLive number (layers_of self.now) }
+        ensures within { result < length (layers_of self.now) }
+        ensures found { slice_get (layers_of self.now) result ≡ find number (layers_of self.now) }
+    {
         match self
             .layers
             .binary_search_by_key(&number, |layer| layer.number)
@@ -228,6 +239,7 @@ impl Scopes {
     }
 
     /// The variable of this name in a layer, and its value.
+    #[inline]
     fn spot(&self, number: u64, name: &str) -> (Spot, Option<&Value>)
         requires { IsLive number (layers_of self.now) }
         ensures number { result.0.number ≡ number }
