@@ -152,14 +152,9 @@ fn choose_rest<L: Ledger>(
     laws_of_readings();
     is_sound(machine);
     while events.items().len() < MOST_EVENTS {
-        let Some(event) = machine.choose(reading) else {
+        let Some(event) = machine.apply_next(reading, steps)? else {
             return Ok(events);
         };
-        match machine.apply(&event, steps) {
-            Ok(()) => {}
-            Err(ApplyFault::OutOfMemory) => return Err(OutOfMemory),
-            Err(ApplyFault::NotEnabled) => unreachable!(),
-        }
         events.push(spelled(event))?;
     }
     Ok(events)

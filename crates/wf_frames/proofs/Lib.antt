@@ -15,8 +15,10 @@ pub mod Advancing
 pub mod Asking
 pub mod Choices
 pub mod Clocked
+pub mod Entered
 pub mod Evaluated
 pub mod Fitting
+pub mod Given
 pub mod Lists
 pub mod Parts
 pub mod Performed

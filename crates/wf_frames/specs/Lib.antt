@@ -13,3 +13,4 @@ pub mod Built
 pub mod Kinds
 pub mod Steps
 pub mod Tasks
+pub mod Assigned

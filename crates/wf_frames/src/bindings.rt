@@ -1,9 +1,13 @@
 // Names and the values that they are bound to.
-ghost use Rattle.std.specs.Prelude.{◌≡◌, [], ◌∷◌, IfNone, IfSome, OnOk};
+ghost use Rattle.std.specs.Prelude.{◌≡◌, [], ◌∷◌, IfNone, IfOk, IfSome, OnOk, map, option_map};
+ghost use Rattle.wf_ast.specs.View.{param_view};
+ghost use Rattle.wf_model.specs.Calls as calls;
+ghost use Rattle.wf_value.specs.Data.{pairs_of};
 ghost use Rattle.wf_value.specs.Plain.{plain};
 
 use std::alloc::Global;
-use wf_value::{OutOfMemory, Text, Value};
+use wf_ast::Param;
+use wf_value::{Map, OutOfMemory, Text, Value};
 
 /// Names and the values that they are bound to, in their order.
 #[derive(Drop)]
@@ -24,6 +28,29 @@ impl Bindings {
         }
     }
 
+    /// The parameters of a call with their values, those of the arguments and else their defaults; none where one has no value.
+    pub fn given(
+        alloc: Global,
+        params: &[Param],
+        args: &Map,
+    ) -> Result<Option<Bindings>, OutOfMemory>
+        ensures { IfOk result (λ o. option_map bindings_of o
+            ≡ calls.given (map param_view params.now) (pairs_of args.now)) }
+    {
+        let mut bindings = Bindings::new(alloc);
+        let mut at = params.len();
+        while at > 0 {
+            at -= 1;
+            let param = &params[at];
+            let found = value_for(alloc, param, args)?;
+            let Some(value) = found else {
+                return Ok(None);
+            };
+            bindings.put_first(param.name.copy()?, value)?;
+        }
+        Ok(Some(bindings))
+    }
+
     /// Puts one before all others.
     #[tactic(auto, using(crate::proofs::Reversed::bindings_put))]
     pub fn put_first(&mut self, name: Text, value: Value) -> Result<(), OutOfMemory>
@@ -41,5 +68,19 @@ impl Bindings {
         ensures none { IfNone result (bindings_of self.old ≡ []) }
     {
         self.items.pop()
+    }
+}
+
+/// What an argument gives a parameter, and else its default.
+fn value_for(alloc: Global, param: &Param, args: &Map) -> Result<Option<Value>, OutOfMemory>
+    ensures { IfOk result (λ o. option_map plain o
+        ≡ calls.value_for (param_view param.now) (pairs_of args.now)) }
+{
+    if let Some(value) = args.get(param.name.as_str()) {
+        return Ok(Some(value.copy(alloc)?));
+    }
+    match &param.default {
+        Some(value) => Ok(Some(value.copy(alloc)?)),
+        None => Ok(None),
     }
 }

@@ -13,7 +13,7 @@ use wf_eval::{Look, eval};
 use wf_value::{Raise, Value};
 
 /// The value of the compiled expression at a place, or its first error. A place that isn't there gives null.
-pub fn value_at<K: Look>(
+pub(crate) fn value_at<K: Look>(
     alloc: Global,
     codes: &[Postfix],
     place: u32,
@@ -37,7 +37,7 @@ fn value<K: Look>(alloc: Global, code: &Postfix, look: &K, now: u64) -> Result<V
 }
 
 /// The values of compiled expressions, in their order, or the first error.
-pub fn values<K: Look>(
+pub(crate) fn values<K: Look>(
     alloc: Global,
     codes: &[Postfix],
     look: &K,

@@ -20,7 +20,7 @@ use wf_value::{List, Map, Raise, Text, Value};
 /// The value of the template that a shape stands for with the compiled expressions of its node, or its first error: members of lists in
 /// their order, members of maps in the order of the keys.
 #[cycle(fill)]
-pub fn fill_shape<K: Look>(
+pub(crate) fn fill_shape<K: Look>(
     alloc: Global,
     shape: &Shape,
     codes: &[Postfix],
@@ -129,7 +129,7 @@ fn keep_list(made: Result<List, Raise>) -> Result<Value, Raise>
 }
 
 /// The values of the named templates of a call, by their names, or the first error.
-pub fn fill_args<K: Look>(
+pub(crate) fn fill_args<K: Look>(
     alloc: Global,
     named: &NamedShapes,
     codes: &[Postfix],

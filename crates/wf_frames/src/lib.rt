@@ -2,6 +2,7 @@
 #![tactic(auto)]
 
 mod advance;
+mod assigned;
 mod bindings;
 mod calling;
 mod codes;
@@ -21,12 +22,11 @@ mod target;
 mod writing;
 
 pub use advance::step_of;
+pub use assigned::{Assigned, evaluate};
 pub use bindings::Bindings;
 pub use calling::call_function;
-pub use codes::{value_at, values};
 pub use entering::{enter, enter_call};
 pub use facts::Facts;
-pub use filling::{fill_args, fill_shape};
 pub use frames::{Frame, Frames, Left};
 pub use kinds::{Kind, Wants, frame_kind};
 pub use laws::{assigns_as_tasks_do, looks_as_tasks_do};

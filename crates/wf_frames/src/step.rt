@@ -26,7 +26,8 @@ ghost use Rattle.wf_value.specs.Errors.{error_map};
 ghost use Rattle.wf_value.specs.Pairs.{Text};
 ghost use Rattle.wf_value.specs.Plain.{plain};
 
-use crate::{Frame, Frames, Left, fill_args, fill_shape};
+use crate::filling::{fill_args, fill_shape};
+use crate::{Frame, Frames, Left};
 use std::alloc::Global;
 use wf_ast::Postfix;
 use wf_eval::Look;

@@ -10,6 +10,7 @@ pub mod First
 pub mod Going
 pub mod Logs
 pub mod Moves
+pub mod Nexts
 pub mod Places
 pub mod Plainly
 pub mod Replies

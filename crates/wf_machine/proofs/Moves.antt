@@ -43,8 +43,8 @@ CameThen x (behind.Ended e) l = (m : Local) × (x ≡ Ends (end_view e) m) × (m
 abbrev pub Came : Moved → Move → Local → Type 0
 Came x did.Went l = x ≡ Goes l
 Came x (did.Ended e) l = (m : Local) × (x ≡ Ends (end_view e) m) × (m.outer ≡ l.outer) × (depth (end_data (end_view e)) ≤ 100)
-Came x (did.Sent s) l = x ≡ Does (Sends (request_view s.request) s.due) (Goes l)
-Came x (did.Logged s w) l = (n : Moved) × (x ≡ Does (Logs s.severity (plain s.value)) n) × (depth (plain s.value) ≤ 100) × CameThen n w l
+Came x (did.Sent s) l = x ≡ Does (Sends (request_view s.value.request) s.value.due) (Goes l)
+Came x (did.Logged s w) l = (n : Moved) × (x ≡ Does (Logs s.value.severity (plain s.value.value)) n) × (depth (plain s.value.value) ≤ 100) × CameThen n w l
 
 then_came : (n : Moved) (w : Behind) (l : Local) → IsBehind n w l → ((k : Kind) → n ≡ Breaks k → ⊥) → CameThen n w l
 then_came (Goes m) behind.Goes l so never = ap Goes so
@@ -65,9 +65,9 @@ effect_came (Sends q d) n (did.Logged s w) l so never = absurd so
 effect_came (Creates x) n (did.Logged s w) l so never = absurd so
 effect_came (Takes x) n (did.Logged s w) l so never = absurd so
 effect_came (Logs x v) n (did.Logged s w) l so never =
-    (n, ap (λ (y : Severity). Does (Logs y v) n) so.0 ∙ ap (λ (d : Data). Does (Logs s.severity d) n) so.1, so.2, then_came n w l so.3 never)
+    (n, ap (λ (y : Severity). Does (Logs y v) n) so.0 ∙ ap (λ (d : Data). Does (Logs s.value.severity d) n) so.1, so.2, then_came n w l so.3 never)
 effect_came (Sends q d) n (did.Sent s) l so never =
-    ap (λ (r : Request). Does (Sends r d) n) so.0 ∙ ap (λ (e : ℕ). Does (Sends (request_view s.request) e) n) so.1 ∙ ap (λ x. Does (Sends (request_view s.request) s.due) x) so.2
+    ap (λ (r : Request). Does (Sends r d) n) so.0 ∙ ap (λ (e : ℕ). Does (Sends (request_view s.value.request) e) n) so.1 ∙ ap (λ x. Does (Sends (request_view s.value.request) s.value.due) x) so.2
 effect_came (Creates x) n (did.Sent s) l so never = absurd so
 effect_came (Takes x) n (did.Sent s) l so never = absurd so
 effect_came (Logs x v) n (did.Sent s) l so never = absurd so
@@ -111,12 +111,12 @@ comes_to p x k ls w law it did.Went u s c = ap (λ a. merged 0 None a (main_at x
 comes_to p x k ls w law it (did.Ended e) u s c =
     ap (λ a. merged 0 None a (main_at x k ls w)) c.1 ∙ law.ends (end_view e) c.0 c.2 ∙ ap (λ o. To (config_by x [] o)) (same_outcome e)
 comes_to p x k ls w law it (did.Sent r) u s c =
-    ap (λ a. merged 0 None a (main_at x k ls w)) c ∙ law.sends (request_view r.request) r.due (task_local (around p) u s) refl
+    ap (λ a. merged 0 None a (main_at x k ls w)) c ∙ law.sends (request_view r.value.request) r.value.due (task_local (around p) u s) refl
 comes_to p x k ls w law it (did.Logged r behind.Goes) u s (n, is, deep, goes) =
-    ap (λ a. merged 0 None a (main_at x k ls w)) (is ∙ ap (Does (Logs r.severity (plain r.value))) goes) ∙ law.logs r.severity (plain r.value) (task_local (around p) u s) refl
+    ap (λ a. merged 0 None a (main_at x k ls w)) (is ∙ ap (Does (Logs r.value.severity (plain r.value.value))) goes) ∙ law.logs r.value.severity (plain r.value.value) (task_local (around p) u s) refl
 comes_to p x k ls w law it (did.Logged r (behind.Ended e)) u s (n, is, deep, (m, ends, outer, small)) =
-    ap (λ a. merged 0 None a (main_at x k ls w)) (is ∙ ap (Does (Logs r.severity (plain r.value))) ends) ∙ law.logs_last r.severity (plain r.value) (end_view e) m outer
-    ∙ ap (λ o. To (config_by (logged r.severity (plain r.value) x) [] o)) (same_outcome e)
+    ap (λ a. merged 0 None a (main_at x k ls w)) (is ∙ ap (Does (Logs r.value.severity (plain r.value.value))) ends) ∙ law.logs_last r.value.severity (plain r.value.value) (end_view e) m outer
+    ∙ ap (λ o. To (config_by (logged r.value.severity (plain r.value.value) x) [] o)) (same_outcome e)
 
 -- how deep nests what was logged
 pub logged_behind : (it : Moved) (m : Move) (l : Local) → Came it m l → logged_depth m ≤ 100

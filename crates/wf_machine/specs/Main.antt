@@ -171,14 +171,14 @@ outcome_behind (move.Sent x) = Active
 outcome_behind (move.Logged x w) = outcome_then w
 
 abbrev pub calls_behind : Move → List Call → List Call
-calls_behind (move.Sent x) calls = calls ++ Open 0 (request_view x.request) x.due ∷ []
+calls_behind (move.Sent x) calls = calls ++ Open 0 (request_view x.value.request) x.value.due ∷ []
 calls_behind m calls = calls
 
 abbrev pub log_behind : ℕ → Move → List LogEntry → List LogEntry
-log_behind reading (move.Logged x w) log = log ++ logged_at reading x ∷ []
+log_behind reading (move.Logged x w) log = log ++ logged_at reading x.value ∷ []
 log_behind reading m log = log
 
 -- how deep nests what it has logged
 abbrev pub logged_depth : Move → ℕ
-logged_depth (move.Logged x w) = depth (plain x.value)
+logged_depth (move.Logged x w) = depth (plain x.value.value)
 logged_depth m = 0

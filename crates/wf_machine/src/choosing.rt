@@ -14,7 +14,7 @@ use wf_frames::Kind;
 use wf_never_wrong::never_wrong;
 
 /// The event of a step of `main` of this kind, at a reading where it takes one.
-fn step_event(kind: Kind, reading: u64) -> Event
+pub(crate) fn step_event(kind: Kind, reading: u64) -> Event
     ensures { event_view result ≡ wanted (kind_view kind) 0 reading }
 {
     match kind {

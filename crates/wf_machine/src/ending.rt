@@ -72,11 +72,12 @@ pub(crate) fn ending_of(
         Move::Went => Ok(Ending::Running),
         Move::Ended(end) => Ok(ending_by(end)),
         Move::Sent(sent) => {
+            let sent = Box::into_inner(sent);
             calls.send(0, sent.request, sent.due)?;
             Ok(Ending::Running)
         }
         Move::Logged(logged, behind) => {
-            log.add(logged, reading)?;
+            log.add(Box::into_inner(logged), reading)?;
             match behind {
                 Behind::Goes => Ok(Ending::Running),
                 Behind::Ended(end) => Ok(ending_by(end)),

@@ -1,15 +1,19 @@
 // Events that are applied.
-ghost use Rattle.std.specs.Prelude.{◌≡◌, false};
+ghost use Rattle.std.specs.Prelude.{◌≡◌, ◌+◌, false, IfNone, IfOk, IfSome, IsErrOf, OnOk, Ok, option_map};
 ghost use Rattle.wf_events.specs.View.{event_view};
 ghost use Rattle.wf_machine.specs.Applied.{Applied};
 ghost use Rattle.wf_machine.specs.Promises.{AppliesAnEvent};
 ghost use Rattle.wf_machine.specs.Seen.{state_of};
+ghost use Rattle.wf_model.specs.Choose.{choose};
 
+use crate::choosing::step_event;
 use crate::machine::Machine;
 use crate::steps::Steps;
 use std::sync::ledger::Ledger;
+use wf_alone::laws_of_waiting;
 use wf_events::Event;
 use wf_frames::Kind;
+use wf_never_wrong::never_wrong;
 use wf_value::OutOfMemory;
 
 /// An event that wasn't applied.
@@ -30,6 +34,22 @@ impl From<OutOfMemory> for ApplyFault {
 
     fn from(_refused: OutOfMemory) -> ApplyFault {
         ApplyFault::OutOfMemory
+    }
+}
+
+/// Counts an event that was carried out as one step.
+fn count<L: Ledger>(did: Result<(), ApplyFault>, steps: &mut Steps<L>) -> Result<(), OutOfMemory>
+    requires { ¬ IsErrOf did ApplyFault.NotEnabled }
+    ensures done { OnOk result (did ≡ Ok tt) }
+    ensures steps { OnOk result (steps.new ≡ steps.old + 1) }
+{
+    match did {
+        Ok(()) => {
+            steps.tick();
+            Ok(())
+        }
+        Err(ApplyFault::OutOfMemory) => Err(OutOfMemory),
+        Err(ApplyFault::NotEnabled) => unreachable!(),
     }
 }
 
@@ -58,6 +78,40 @@ impl Machine {
                 Ok(())
             }
             Err(fault) => Err(fault),
+        }
+    }
+
+    /// Applies the event that comes next at a reading of the clock, in milliseconds since 1970, as `choose` gives it, and gives it: that is
+    /// one step. Where none comes nothing changes. Without memory the machine is only to be let go.
+    pub fn apply_next<L: Ledger>(
+        &mut self,
+        reading: u64,
+        steps: &mut Steps<L>,
+    ) -> Result<Option<Event>, OutOfMemory>
+        requires { (state_of self.old).broken ≡ false }
+        ensures choice { IfOk result (λ e. option_map event_view e
+            ≡ choose (state_of self.old).program (state_of self.old).config reading) }
+        ensures applied { IfOk result (λ e. IfSome e (λ e. AppliesAnEvent (state_of self.old)
+            (state_of self.new) (event_view e) steps.old steps.new (Ok tt))) }
+        ensures idle { IfOk result (λ e. IfNone e
+            ((state_of self.new ≡ state_of self.old) × (steps.new ≡ steps.old))) }
+    {
+        // laws that the proof uses
+        never_wrong();
+        laws_of_waiting();
+        let last = reading.max(self.tally.last);
+        match self.wanted_kind() {
+            Some(kind) => {
+                count(self.take_step(kind, last), steps)?;
+                Ok(Some(step_event(kind, last)))
+            }
+            None => match self.due_wait(reading) {
+                Some(_) => {
+                    count(self.apply_due(0, last), steps)?;
+                    Ok(Some(Event::Due(0, last)))
+                }
+                None => Ok(None),
+            },
         }
     }
 

@@ -70,8 +70,7 @@ impl Machine {
         }
     }
 
-    /// Takes a step of a task, where it is `main` and wants an event of this kind. It counts: the one with the number 100,000 isn't
-    /// carried out, and ends the execution.
+    /// Takes a step of a task, where it is `main` and wants an event of this kind.
     pub(crate) fn apply_step(
         &mut self,
         kind: Kind,
@@ -86,6 +85,20 @@ impl Machine {
         if task != 0 || !self.wants(kind) || readings.last < self.tally.last {
             return Err(ApplyFault::NotEnabled);
         }
+        self.take_step(kind, reading)
+    }
+
+    /// Takes `main`'s next step, which wants an event of this kind. It counts: the one with the number 100,000 isn't carried out, and ends
+    /// the execution.
+    pub(crate) fn take_step(&mut self, kind: Kind, reading: u64) -> Result<(), ApplyFault>
+        requires whole { self.old.broken ≡ false }
+        requires wanted { StepsBy self.old (kind_view kind) }
+        requires rises { self.old.tally.last
+            ≤ last_by (kind_view kind) reading self.old.tally.last }
+        ensures { Applied (state_of self.old) (state_of self.new)
+            (wanted (kind_view kind) 0 reading) result }
+    {
+        let readings = readings_of(kind, reading, self.tally.last);
         let tally = Tally {
             last: readings.last,
             moves: self.tally.moves + 1,

@@ -1,7 +1,6 @@
 -- Assignments.
-use Rattle.std.proofs.Common.{◌≡◌, inl, inr, ℕ, Bool, true, false, List, [], map, Some, None, Ok, Err, refl, sym, ap, subst, ◌∙◌}
-use Rattle.std.specs.Prelude.{◌⊎◌, ◌&&◌, if◌then◌else◌, nat_le, Vec}
-use Rattle.std.specs.declared.alloc.Global.{Global}
+use Rattle.std.proofs.Common.{◌≡◌, inl, inr, ℕ, Bool, true, false, List, [], Some, None, Ok, Err, refl, sym, ap, subst, ◌∙◌}
+use Rattle.std.specs.Prelude.{◌⊎◌, ◌&&◌, if◌then◌else◌, nat_le}
 use Rattle.wf_ast.specs.Apply.{View}
 use Rattle.wf_ast.specs.Eval.{eval_all, fill}
 use Rattle.wf_ast.specs.Tree.{Entry}
@@ -15,19 +14,16 @@ use Rattle.wf_model.specs.Leave.{on, on_assigned, raises}
 use Rattle.wf_model.specs.Local.{Local, Moved, Scene, goes, total}
 use Rattle.wf_model.specs.Move.{assigns}
 use Rattle.wf_frames.proofs.Evaluated.{gave, failed}
-use Rattle.wf_moves.specs.Assigned.{entry_values, values_of}
+use Rattle.wf_frames.specs.Assigned.{entry_values, values_of}
 use Rattle.wf_moves.specs.Moved.{IsMove}
-use Rattle.wf_moves.specs.declared.assign.Assigned as declared
+use Rattle.wf_frames.specs.declared.assigned.Assigned as declared
 use Rattle.wf_moves.specs.declared.finish.Went.{Went}
 use Rattle.wf_value.specs.Data.{Data, depth}
 use Rattle.wf_value.specs.Errors.{Answer, ◌>>=◌, error_map}
 use Rattle.wf_value.specs.Pairs.{Text}
-use Rattle.wf_value.specs.Plain.{plain}
-use Rattle.wf_value.specs.declared.Raise.{Raise}
-use Rattle.wf_value.specs.declared.Raise.TheVariants.{Error, OutOfMemory}
+use Rattle.wf_value.specs.declared.Raise.TheVariants.{Error}
 use Rattle.wf_value.specs.declared.Tag.{Tag}
 use Rattle.wf_value.specs.declared.Tag.TheVariants.{ResourceLimitError}
-use Rattle.wf_value.specs.declared.Value.{Value}
 
 -- ## Whatever the control
 abbrev with_control : List Item → Assigned → Assigned
@@ -97,20 +93,3 @@ module _ (s : Scene) (e : Entry) (k : List Item) (l : Local) (v : View) (same : 
   pub entry_failed : (t : Tag) (w : Went) (m : Local) → Answers values_of (Err (Error t)) (entry_values e v) → IsMove s (raises s k l (error_map t)) w m → IsMove s (assigns s e k l) w m
   entry_failed t w m g h =
       subst (λ y. IsMove s y w m) (sym (assigns_by ∙ ap (λ r. on {A = Data × List Data} s k l r (λ p. on_assigned s k l (assign s e.target.name p.1 p.0 l))) (failed values_of t (entry_values e v) g))) h
-
--- ## The value, and then the places
-pub both_given : (a : declared.Assigned) (d : Answer Data) (ds : Answer (List Data)) → Answers plain (Ok a.value) d → Answers (λ vs. map plain vs.items) (Ok a.places) ds → Answers values_of (Ok a) (d >>= λ x. ds >>= λ ys. Ok (x, ys))
-both_given a (Err t) ds p q = absurd p
-both_given a (Ok x) (Err t) p q = absurd q
-both_given a (Ok x) (Ok ys) p q = ap (λ (y : Data). (y, map plain a.places.items)) p ∙ ap (λ (zs : List Data). (x, zs)) q
-
-pub value_failed : (r : Raise) (d : Answer Data) (f : Data → Answer (Data × List Data)) → Answers plain (Err r) d → Answers values_of (Err r) (d >>= f)
-value_failed OutOfMemory d f p = tt
-value_failed (Error t) (Ok x) f p = absurd p
-value_failed (Error t) (Err u) f p = p
-
-pub places_failed : (r : Raise) (v : Value) (d : Answer Data) (ds : Answer (List Data)) → Answers plain (Ok v) d → Answers (λ (vs : Vec Value Global). map plain vs.items) (Err r) ds → Answers values_of (Err r) (d >>= λ x. ds >>= λ ys. Ok (x, ys))
-places_failed OutOfMemory v d ds p q = tt
-places_failed (Error t) v (Err u) ds p q = absurd p
-places_failed (Error t) v (Ok x) (Ok ys) p q = absurd q
-places_failed (Error t) v (Ok x) (Err u) p q = q

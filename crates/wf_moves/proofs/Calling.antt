@@ -1,12 +1,11 @@
 -- Calls of workflows.
 use Rattle.std.proofs.Common.{◌≡◌, ◌≤◌, ◌<◌, ℕ, Bool, true, false, List, [], ◌∷◌, length, Some, None, refl, sym, ap, subst, ◌∙◌, arith}
-use Rattle.std.specs.Prelude.{Option, if◌then◌else◌, is_some, nat_le, option_map, slice_get, suc, zero}
+use Rattle.std.specs.Prelude.{Option, if◌then◌else◌, is_some, nat_le, slice_get}
 use Rattle.std.proofs.lemmas.Option.{slice_get_within}
 use Rattle.std.proofs.lemmas.Bool.{leb-true, leb-false}
 use Rattle.wf_lemmas.proofs.Lists.{none_past}
 use Rattle.wf_ast.specs.Flows.{flow}
-use Rattle.wf_ast.specs.Tree.{Flow, Param}
-use Rattle.wf_ast.specs.View.{default_view, param_view}
+use Rattle.wf_ast.specs.Tree.{Flow}
 use Rattle.wf_ast.specs.declared.program.Param as declared
 use Rattle.wf_frames.specs.Fits.{Fits, IsCall, outside_at, view_at, view_outside}
 use Rattle.wf_frames.specs.Held.{Held, standing}
@@ -19,16 +18,11 @@ use Rattle.wf_model.specs.Table.{Resolves, flow_of, outside, part_by}
 use Rattle.wf_model.specs.declared.node.CallNode.{CallNode}
 use Rattle.wf_model.specs.declared.node.Node.{Node}
 use Rattle.wf_model.specs.declared.node.NodeKind.TheVariants as variant
-use Rattle.wf_value.specs.HttpUrl.{first_of_two}
 use Rattle.wf_frames.proofs.Parts.{part_is, seen_list, view_is}
-use Rattle.wf_scope.proofs.Writing.{pairs_listed}
-use Rattle.wf_value.specs.Maps.{value_at}
-use Rattle.wf_value.specs.Plain.{plain}
-use Rattle.wf_value.specs.declared.Value.{Value}
 use Rattle.wf_frames.specs.Frames.{calls_of, control, own, owned, result_of}
 use Rattle.wf_frames.specs.declared.frames.Frame.{Frame}
 use Rattle.wf_frames.specs.declared.frames.Frame.TheVariants as frame
-use Rattle.wf_model.specs.Calls.{all_params, bindings, calls_named, calls_with, given, value_for}
+use Rattle.wf_model.specs.Calls.{all_params, bindings, calls_named, calls_with, given}
 use Rattle.wf_model.specs.Config.{Back, Do, Item, call_limit}
 use Rattle.wf_model.specs.Layers.{enter, opened}
 use Rattle.wf_model.specs.Leave.{on, raises}
@@ -39,7 +33,7 @@ use Rattle.wf_moves.specs.declared.finish.Went.{Went}
 use Rattle.wf_model.specs.Spots.{FlowAt, Part, Spot, owners_at, part_at, part_list, spot_part}
 use Rattle.wf_frames.specs.Built.{IsTarget, IsWorkflow, flow_part}
 use Rattle.wf_frames.specs.declared.target.Target.{Target}
-use Rattle.wf_value.specs.Data.{Data, Pairs, pairs_of}
+use Rattle.wf_value.specs.Data.{Data, Pairs}
 use Rattle.wf_value.specs.Errors.{error_map}
 use Rattle.wf_value.specs.declared.Tag.TheVariants.{RecursionError, ResourceLimitError}
 use Rattle.wf_value.specs.Pairs.{Text}
@@ -58,23 +52,6 @@ calls_are ns (frame.Back c m ∷ fs) = omega (arith, calls_are ns fs)
 calls_are ns (frame.Judge tried r delay error m ∷ fs) = omega (arith, calls_are ns fs)
 
 -- ## Parameters
--- the first of some, with those behind it
-pub given_first : (x : Param) (xs : List Param) (args : Pairs) (v : Data) (rest : List (Text × Data)) → value_for x args ≡ Some v → given xs args ≡ Some rest → given (x ∷ xs) args ≡ Some ((x.name, v) ∷ rest)
-given_first x xs args v rest e h =
-    ap {B = Option (List (Text × Data))} (λ o. elim o [ None ↦ None | Some w ↦ option_map (λ ys. (x.name, w) ∷ ys) (given xs args) ]) e ∙ ap (option_map (λ ys. (x.name, v) ∷ ys)) h
-
--- one without a value
-pub given_none : (xs : List Param) (n : ℕ) (x : Param) (args : Pairs) → slice_get xs n ≡ Some x → value_for x args ≡ None → given xs args ≡ None
-given_none [] n x args at e = absurd (cc at)
-given_none (y ∷ xs) zero x args at e =
-    let same : y ≡ x = cc at in
-    ap {B = Option (List (Text × Data))} (λ o. elim o [ None ↦ None | Some w ↦ option_map (λ ys. (y.name, w) ∷ ys) (given xs args) ]) (ap (λ z. value_for z args) same ∙ e)
-given_none (y ∷ xs) (suc n) x args at e = by (value_for y args) (given_none xs n x args at e)
-  where
-    by : (o : Option Data) → given xs args ≡ None → ◌≡◌ {A = Option (List (Text × Data))} (elim o [ None ↦ None | Some w ↦ option_map (λ ys. (y.name, w) ∷ ys) (given xs args) ]) None
-    by None later = refl
-    by (Some w) later = ap (option_map (λ ys. (y.name, w) ∷ ys)) later
-
 module _ (s : Scene) (r : Option Text) (x : Text) (args : Pairs) (f : Flow) (k : List Item) (l : Local) (w : Went) (m : Local) (named : flow s.program.flows x ≡ Some f) where
   by_flow : (o : Option (List (Text × Data))) → bindings f.params args ≡ o → IsMove s (calls_with s f r o k l) w m → IsMove s (calls_named s r (flow s.program.flows x) x args k l) w m
   by_flow o e h =
@@ -95,20 +72,6 @@ module _ (s : Scene) (r : Option Text) (x : Text) (args : Pairs) (f : Flow) (k :
       by : (b : Bool) → all_params args f.params ≡ b → IsMove s (calls_named s r (flow s.program.flows x) x args k l) w m
       by true t = by_flow None (ap (λ (c : Bool). if c then given f.params args else None) t ∙ e) tt
       by false t = by_flow None (ap (λ (c : Bool). if c then given f.params args else None) t) tt
-
--- ## One parameter
-module _ (p : declared.Param) (args : List (Text × Data)) (x : Text) (same : x ≡ p.name) where
-  asked : (o : Option Data) → value_at x args ≡ o → value_for (param_view p) (pairs_of args) ≡ first_of_two o (default_view p.default)
-  asked o h = ap (λ (q : Option Data). first_of_two q (default_view p.default)) (ap (value_at p.name) (pairs_listed args) ∙ ap (λ (t : Text). value_at t args) (sym same) ∙ h)
-
-  pub value_given : (v : Data) → value_at x args ≡ Some v → Some v ≡ value_for (param_view p) (pairs_of args)
-  value_given v h = sym (asked (Some v) h)
-
-  pub value_default : (v : Value) → value_at x args ≡ None → p.default ≡ Some v → Some (plain v) ≡ value_for (param_view p) (pairs_of args)
-  value_default v h d = sym (asked None h ∙ ap default_view d)
-
-  pub value_lacks : value_at x args ≡ None → p.default ≡ None → None ≡ value_for (param_view p) (pairs_of args)
-  value_lacks h d = sym (asked None h ∙ ap default_view d)
 
 -- ## The node of a workflow
 flow_kind : (ns : List Spot) (nodes : List Node) (n : ℕ) (x : Text) (next : Option Text) (w : Flow) (k : Kind) → part_by ns x next k ≡ FlowAt w → (view : View) → view_at nodes n ≡ Some view → view.kind ≡ k → IsFlow nodes n

@@ -1,4 +1,3 @@
-pub mod Assigned
 pub mod Going
 pub mod Moved
 pub mod Naps

@@ -127,8 +127,8 @@ HasLogged m x b l = ⊥
 abbrev pub MovesSo : Moved → Move → Local → Type 0
 MovesSo m move.Went l = IsWent m l
 MovesSo m (move.Ended e) l = IsEnd m e l
-MovesSo m (move.Sent x) l = IsRequest m x l
-MovesSo m (move.Logged x b) l = HasLogged m x b l
+MovesSo m (move.Sent x) l = IsRequest m x.value l
+MovesSo m (move.Logged x b) l = HasLogged m x.value b l
 
 abbrev pub is_sent : Move → Bool
 is_sent (move.Sent x) = true
@@ -155,8 +155,8 @@ move_by (behind.Ended e) = move.Ended e
 -- the model's move, request or log, of a task that goes on so or waits
 abbrev pub IsDone : Around → Scene → Moved → Done → Local → Type 0
 IsDone a s m (done.Went w) l = IsMove s m w l
-IsDone a s m (done.Sent x w) l = IsRequest m x (record l { wait = wait_view a w })
-IsDone a s m (done.Logged x w) l = IsLogged s m x w l
+IsDone a s m (done.Sent x w) l = IsRequest m x.value (record l { wait = wait_view a w })
+IsDone a s m (done.Logged x w) l = IsLogged s m x.value w l
 IsDone a s m (done.Waits w) l = IsWent m (record l { wait = wait_view a w })
 
 -- it is this one, whatever the scene that has these facts, and agrees on the limit, the rest and the workflows

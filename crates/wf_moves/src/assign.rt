@@ -1,51 +1,23 @@
 // Assignments.
 ghost use Rattle.std.specs.Prelude.{◌<◌, IfOk, OnOk, length};
-ghost use Rattle.wf_eval.specs.Answers.{Answers};
-ghost use Rattle.wf_eval.specs.Sight.{seen};
 ghost use Rattle.wf_frames.specs.Frames.{inner};
 ghost use Rattle.wf_frames.specs.Owned.{Around, control_of, held_by};
 ghost use Rattle.wf_frames.specs.Stands.{Stands};
 ghost use Rattle.wf_model.specs.Layers as layers;
 ghost use Rattle.wf_model.specs.Leave as leave;
 ghost use Rattle.wf_model.specs.Move as move;
-ghost use Rattle.wf_moves.specs.Assigned.{entry_values, values_of};
+ghost use Rattle.wf_frames.specs.Assigned.{values_of};
 ghost use Rattle.wf_frames.specs.Built.{Tells};
 ghost use Rattle.wf_moves.specs.Moved.{IsLeft, MovesBy, SeesBy};
-ghost use Rattle.wf_model.specs.NodeKinds.{entry_by};
 ghost use Rattle.wf_model.specs.Spots.{part_at, part_entry};
 
 use crate::finish::{Went, goes};
 use crate::raising::{fails, raises_tag};
 use std::alloc::Global;
-use wf_ast::Postfix;
-use wf_eval::Look;
-use wf_frames::{Facts, Frames, assign as put, fill_shape, first_of, seen, values};
-use wf_model::{EntryNode, Node, NodeKind};
+use wf_frames::{Assigned, Facts, Frames, assign as put, evaluate, seen};
+use wf_model::{Node, NodeKind};
 use wf_scope::Scopes;
-use wf_value::{OutOfMemory, Raise, Text, Value};
-
-/// The value of an assignment, and those of the places of its target.
-#[derive(Drop)]
-pub(crate) struct Assigned {
-    pub(crate) value: Value,
-    pub(crate) places: Vec<Value>,
-}
-
-/// The value of an entry first, then those of the places.
-fn evaluate<K: Look>(
-    alloc: Global,
-    entry: &EntryNode,
-    codes: &[Postfix],
-    look: &K,
-    now: u64,
-) -> Result<Assigned, Raise>
-    ensures { Answers values_of result (entry_values (entry_by codes.now entry.now)
-        (seen (K.sight look.now) now)) }
-{
-    let value = fill_shape(alloc, &entry.value, codes, look, now)?;
-    let places = values(alloc, first_of(codes, entry.places), look, now)?;
-    Ok(Assigned { value, places })
-}
+use wf_value::{OutOfMemory, Text};
 
 /// The task goes on behind an assignment, or its error goes outward.
 pub(crate) fn store(

@@ -17,11 +17,11 @@ ghost use Rattle.wf_frames.specs.Built.{Tells};
 ghost use Rattle.wf_value.specs.Data.{depth};
 ghost use Rattle.wf_value.specs.Plain.{plain};
 
-use crate::assign::{Assigned, store};
+use crate::assign::store;
 use crate::finish::{End, Went, goes};
 use crate::raising::raises_tag;
 use std::alloc::Global;
-use wf_frames::{Frame, Frames, leave};
+use wf_frames::{Assigned, Frame, Frames, leave};
 use wf_model::{Node, NodeKind};
 use wf_scope::Scopes;
 use wf_value::{OutOfMemory, Tag, Text, Value};

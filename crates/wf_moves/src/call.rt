@@ -1,6 +1,5 @@
 // Calls of workflows and functions.
-ghost use Rattle.std.specs.Prelude.{◌≡◌, ◌≤◌, IfOk, List, OnOk, Some, map, option_map};
-ghost use Rattle.wf_ast.specs.View.{param_view};
+ghost use Rattle.std.specs.Prelude.{◌≤◌, IfOk, OnOk, Some};
 ghost use Rattle.wf_frames.specs.Fits.{IsCall};
 ghost use Rattle.wf_frames.specs.Bound.{bindings_of};
 ghost use Rattle.wf_frames.specs.Frames.{body_result, inner};
@@ -15,7 +14,6 @@ ghost use Rattle.wf_frames.specs.Built.{AreTargets, IsFunction, IsWorkflow, Tell
 ghost use Rattle.wf_moves.specs.Stepped.{leads_with};
 ghost use Rattle.wf_frames.specs.Steps.{calls_by};
 ghost use Rattle.wf_value.specs.Data.{pairs_depth, pairs_of};
-ghost use Rattle.wf_value.specs.Plain.{plain};
 
 use crate::back::give;
 use crate::finish::{Done, Went, goes};
@@ -25,47 +23,14 @@ use crate::sending::{Sending, sends};
 use crate::sleeping::sleeps;
 use crate::start::params;
 use std::alloc::Global;
-use wf_ast::{Function, Param};
+use wf_ast::Function;
 use wf_frames::{Bindings, Facts, Frame, Frames, Target, call_function, enter_call, seen};
 use wf_model::Node;
 use wf_scope::Scopes;
-use wf_value::{Map, OutOfMemory, Tag, Value};
+use wf_value::{Map, OutOfMemory, Tag};
 
 /// How many calls of workflows may stand in each other.
 pub(crate) const CALL_LIMIT: usize = 20;
-
-/// What an argument gives a parameter, and else its default.
-fn value_for(alloc: Global, param: &Param, args: &Map) -> Result<Option<Value>, OutOfMemory>
-    ensures { IfOk result (λ o. option_map plain o
-        ≡ calls.value_for (param_view param.now) (pairs_of args.now)) }
-{
-    if let Some(value) = args.get(param.name.as_str()) {
-        return Ok(Some(value.copy(alloc)?));
-    }
-    match &param.default {
-        Some(value) => Ok(Some(value.copy(alloc)?)),
-        None => Ok(None),
-    }
-}
-
-/// The parameters with their values; none where one has no value.
-fn bindings(alloc: Global, params: &[Param], args: &Map) -> Result<Option<Bindings>, OutOfMemory>
-    ensures { IfOk result (λ o. option_map bindings_of o
-        ≡ calls.given (map param_view params.now) (pairs_of args.now)) }
-{
-    let mut bindings = Bindings::new(alloc);
-    let mut at = params.len();
-    while at > 0 {
-        at -= 1;
-        let param = &params[at];
-        let found = value_for(alloc, param, args)?;
-        let Some(value) = found else {
-            return Ok(None);
-        };
-        bindings.put_first(param.name.copy()?, value)?;
-    }
-    Ok(Some(bindings))
-}
 
 /// The call of a step begins the workflow of this number, with its parameters in a layer of their own.
 fn begin(
@@ -124,7 +89,7 @@ fn call_flow(
     ensures stands { OnOk result (Stands around nodes.now frames.new scopes.new) }
     ensures left { IfOk result (λ w. IsLeft nodes.now w (inner frames.new)) }
 {
-    match bindings(alloc, params(nodes, flow), args)? {
+    match Bindings::given(alloc, params(nodes, flow), args)? {
         Some(bindings) => begin(alloc, nodes, n, flow, bindings, frames, scopes),
         None => Ok(goes(frames, nodes, scopes)),
     }

@@ -39,12 +39,12 @@ pub(crate) enum Went {
 }
 
 /// What a move gives; the request that the task has made, with its wait; what it has logged, with what the move gives then; or a wait
-/// alone.
+/// alone. Requests and what is logged are rare, so they stand in boxes: what every move gives stays small.
 #[derive(Drop)]
 pub(crate) enum Done {
     Went(Went),
-    Sent(Sent, Wait),
-    Logged(Logged, Went),
+    Sent(Box<Sent>, Wait),
+    Logged(Box<Logged>, Went),
     Waits(Wait),
 }
 

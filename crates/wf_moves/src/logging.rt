@@ -14,6 +14,7 @@ use crate::finish::{Done, End};
 use crate::raising::fails;
 use crate::sending::Sending;
 use std::alloc::Global;
+use wf_ast::boxed;
 use wf_frames::Frames;
 use wf_model::Node;
 use wf_scope::Scopes;
@@ -51,6 +52,7 @@ pub(crate) fn logs(
 {
     match entry_of(alloc, args, sending.logged) {
         Ok(entry) => {
+            let entry = boxed(alloc, entry)?;
             let went = give(alloc, nodes, Some(n), Value::Null, frames, scopes)?;
             Ok(Done::Logged(entry, went))
         }

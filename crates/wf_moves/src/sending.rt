@@ -15,6 +15,7 @@ use crate::finish::Done;
 use crate::raising::fails;
 use crate::wait::Wait;
 use std::alloc::Global;
+use wf_ast::boxed;
 use wf_callbacks::Method;
 use wf_frames::{Facts, Frames};
 use wf_host::Routes;
@@ -99,7 +100,7 @@ pub(crate) fn sends(
     };
     match sent_of(alloc, method, args, facts, &sending.routes, number) {
         Ok(sent) => Ok(Done::Sent(
-            sent,
+            boxed(alloc, sent)?,
             Wait::Calling {
                 call: number,
                 node: n,

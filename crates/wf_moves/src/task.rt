@@ -38,9 +38,9 @@ pub enum Move {
     /// It has ended, and its layers with it but for the first.
     Ended(End),
     /// It has made a request, and waits for the answer.
-    Sent(Sent),
+    Sent(Box<Sent>),
     /// It has logged a value, and goes on, or waits for its next try, or has ended.
-    Logged(Logged, Behind),
+    Logged(Box<Logged>, Behind),
 }
 
 /// The move of a task that stands so behind it.

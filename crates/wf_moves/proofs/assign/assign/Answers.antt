@@ -12,7 +12,7 @@ use Rattle.wf_value.specs.Errors.{error_map}
 use Rattle.wf_frames.specs.Sights.{sight_of}
 use Rattle.wf_model.specs.Move.{assigns}
 use Rattle.wf_frames.proofs.Performed.{with_both}
-use Rattle.wf_moves.specs.Assigned.{entry_values, values_of}
+use Rattle.wf_frames.specs.Assigned.{entry_values, values_of}
 use Rattle.wf_moves.specs.Moved.{IsMove}
 use Rattle.wf_model.specs.NodeKinds.{entry_by}
 use Rattle.wf_moves.proofs.assign.assign.Goals as goal

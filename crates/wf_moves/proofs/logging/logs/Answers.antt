@@ -1,4 +1,4 @@
-use Rattle.std.proofs.Common.{Err, ap, subst, sym}
+use Rattle.std.proofs.Common.{Ok, Err, ap, subst, sym}
 use Rattle.wf_eval.specs.Answers.{Answers}
 use Rattle.wf_frames.specs.Frames.{inner}
 use Rattle.wf_frames.specs.Owned.{control_of, held_by, local_of}
@@ -25,7 +25,8 @@ returns-in_ok-went-in-Ok-clause-moved g c s d reaches agrees =
     let f = c.requires.1.1.0 in
     let body = ap part_body (as_part g.around.spots c.args.nodes.now c.args.n f.1.node (kind.Call f.0) c.requires.0.resolves f.1.at f.1.is) in
     entry_logged g.around s d (control_of g.around c.args.frames.now) (held_by g.around c.args.frames.now c.args.scopes.now) c.args.n (call_by f.1.node.codes.items.items f.0) (pairs_of c.args.args.now) c.args.sending.now
-    body c.requires.1.1.1 (subst (λ fs. IsLog fs f.0.name) (sym agrees.2) f.2) reaches c.in-Ok.entry c.in_ok-went-in-Ok.went (local_of g.around c.give.new.frames c.give.new.scopes) c.in-Ok.ensures (c.in_ok-went-in-Ok.ensures.moved s d agrees)
+    body c.requires.1.1.1 (subst (λ fs. IsLog fs f.0.name) (sym agrees.2) f.2) reaches c.in_ok-entry-in-Ok.entry.value c.in_ok-went-in-Ok.went (local_of g.around c.give.new.frames c.give.new.scopes)
+    (subst (λ x. Answers logged_view (Ok x) (log_entry (pairs_of c.args.args.now) >>= within_log c.args.sending.now.logged)) (sym c.in_ok-entry-in-Ok.ensures) c.in-Ok.ensures) (c.in_ok-went-in-Ok.ensures.moved s d agrees)
 
 pub returns-in_ok-fails-in-Err-clause-moved : goal.returns-in_ok-fails-in-Err-clause-moved
 returns-in_ok-fails-in-Err-clause-moved g c s d reaches agrees =

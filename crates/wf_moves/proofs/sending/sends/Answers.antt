@@ -1,4 +1,4 @@
-use Rattle.std.proofs.Common.{◌≡◌, Err, arith, ap, subst}
+use Rattle.std.proofs.Common.{◌≡◌, Ok, Err, arith, ap, sym, subst}
 use Rattle.std.specs.Prelude.{suc}
 use Rattle.wf_eval.specs.Answers.{Answers}
 use Rattle.wf_frames.specs.Frames.{inner}
@@ -14,13 +14,14 @@ use Rattle.wf_frames.proofs.Parts.{as_part}
 use Rattle.wf_value.specs.Data.{pairs_of}
 use Rattle.wf_moves.proofs.sending.sends.Goals as goal
 
-pub returns-in-Ok-clause-moved : goal.returns-in-Ok-clause-moved
-returns-in-Ok-clause-moved g c s d sees reaches agrees =
+pub returns-in_ok-boxed-in-Ok-clause-moved : goal.returns-in_ok-boxed-in-Ok-clause-moved
+returns-in_ok-boxed-in-Ok-clause-moved g c s d sees reaches agrees =
     let f = c.requires.1.1.0 in
     let body = ap part_body (as_part g.around.spots c.args.nodes.now c.args.n f.1.node (kind.Call f.0) c.requires.0.resolves f.1.at f.1.is) in
     let count : c.in-Some.number ≡ suc c.args.sending.now.calls = omega (arith, c.in-Some.ensures) in
     request_sent g.around s d (control_of g.around c.args.frames.now) (held_by g.around c.args.frames.now c.args.scopes.now) c.args.n (call_by f.1.node.codes.items.items f.0) c.args.method (pairs_of c.args.args.now) c.args.facts.now c.args.sending.now c.in-Some.number
-    body f.2.named sees reaches count c.in-Ok.sent c.in-Ok.ensures
+    body f.2.named sees reaches count c.in_ok-boxed-in-Ok.field-0.value
+    (subst (λ x. Answers sent_view (Ok x) (request_by c.args.method (pairs_of c.args.args.now) c.args.facts.now c.args.sending.now.routes c.in-Some.number)) (sym c.in_ok-boxed-in-Ok.ensures) c.in-Ok.ensures)
 
 pub returns-in_ok-fails-in-Err-clause-moved : goal.returns-in_ok-fails-in-Err-clause-moved
 returns-in_ok-fails-in-Err-clause-moved g c s d sees reaches agrees =

@@ -48,7 +48,7 @@ returns-in-Sent-clause-moved g c s sees reaches agrees =
     let w = c.args.self.now.wait in
     let old = c.args.self.now.frames in
     let new = c.advance.new.frames in
-    subst (λ l. IsRequest (stepped s l) c.in-Sent.sent (record (local_of g.around new c.advance.new.scopes) { wait = wait_view g.around c.in-Sent.wait })) (sym (awake_local g.around w old c.args.scopes.now c.requires.1.1.1.1))
+    subst (λ l. IsRequest (stepped s l) c.in-Sent.sent.value (record (local_of g.around new c.advance.new.scopes) { wait = wait_view g.around c.in-Sent.wait })) (sym (awake_local g.around w old c.args.scopes.now c.requires.1.1.1.1))
     (subst (λ x. IsDone g.around s (stepped_at s (control_of g.around old) (local_of g.around old c.args.scopes.now)) x (local_of g.around new c.advance.new.scopes)) c.in-Sent.is (c.in_ok-done.ensures.moved s (control_of g.around old) sees reaches agrees))
 
 pub returns-in-Sent-clause-left : goal.returns-in-Sent-clause-left
@@ -72,8 +72,8 @@ returns-in_ok-behind-in-Logged-clause-moved g c s sees reaches agrees =
     let n = stepped s (local_of g.around old c.args.scopes.now) in
     let last = task_local g.around c.stand.new.self c.stand.new.scopes in
     let b = c.in_ok-behind-in-Logged.behind in
-    subst (λ l. HasLogged (stepped s l) c.in-Logged.entry b last) (sym (awake_local g.around w old c.args.scopes.now awake))
-    (logged_then s n c.in-Logged.entry c.in-Logged.went b (record (local_of g.around mid c.advance.new.scopes) { wait = wait_view g.around w }) last
-    (logged_local g.around s w mid c.advance.new.scopes n c.in-Logged.entry c.in-Logged.went awake
+    subst (λ l. HasLogged (stepped s l) c.in-Logged.entry.value b last) (sym (awake_local g.around w old c.args.scopes.now awake))
+    (logged_then s n c.in-Logged.entry.value c.in-Logged.went b (record (local_of g.around mid c.advance.new.scopes) { wait = wait_view g.around w }) last
+    (logged_local g.around s w mid c.advance.new.scopes n c.in-Logged.entry.value c.in-Logged.went awake
     (subst (λ x. IsDone g.around s (stepped_at s (control_of g.around old) (local_of g.around old c.args.scopes.now)) x (local_of g.around mid c.advance.new.scopes)) c.in-Logged.is (c.in_ok-done.ensures.moved s (control_of g.around old) sees reaches agrees)))
     (λ m h. c.in_ok-behind-in-Logged.ensures.moved s m sees agrees h))

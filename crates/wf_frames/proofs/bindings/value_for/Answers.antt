@@ -1,8 +1,8 @@
 use Rattle.std.proofs.Common.{Some, sym, ap, ◌∙◌}
-use Rattle.wf_moves.proofs.Calling.{value_default, value_given, value_lacks}
+use Rattle.wf_frames.proofs.Given.{value_default, value_given, value_lacks}
 use Rattle.wf_value.specs.Plain.{plain}
 use Rattle.wf_value.specs.declared.Value.{Value}
-use Rattle.wf_moves.proofs.call.value_for.Goals as goal
+use Rattle.wf_frames.proofs.bindings.value_for.Goals as goal
 
 pub returns-in-Some : goal.returns-in-Some
 returns-in-Some c =

@@ -3,7 +3,7 @@ use Rattle.wf_ast.specs.View.{param_view}
 use Rattle.wf_frames.specs.Bound.{bindings_of}
 use Rattle.wf_model.specs.Calls.{given}
 use Rattle.wf_value.specs.Data.{pairs_of}
-use Rattle.wf_moves.proofs.call.bindings.Given as goal
+use Rattle.wf_frames.proofs.bindings.Bindings.given.Given as goal
 
 -- those behind this place are there
 abbrev pub invariant-loop-at : goal.invariant-loop-at

@@ -2,10 +2,10 @@ use Rattle.std.proofs.Common.{◌-◌, length, map, refl, sym, ap, ◌∙◌, ar
 use Rattle.std.specs.Prelude.{option_map}
 use Rattle.std.proofs.lemmas.Option.{slice_get-map, slice_get_read}
 use Rattle.wf_ast.specs.View.{param_view}
-use Rattle.wf_moves.proofs.Calling.{given_none}
+use Rattle.wf_frames.proofs.Given.{given_none}
 use Rattle.wf_value.specs.Data.{pairs_of}
 use Rattle.wf_value.specs.Plain.{plain}
-use Rattle.wf_moves.proofs.call.bindings.Goals as goal
+use Rattle.wf_frames.proofs.bindings.Bindings.given.Goals as goal
 
 pub returns-in_default : goal.returns-in_default
 returns-in_default c =

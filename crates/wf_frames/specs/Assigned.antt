@@ -3,7 +3,7 @@ use Rattle.std.specs.Prelude.{List, Ok, map}
 use Rattle.wf_ast.specs.Apply.{View}
 use Rattle.wf_ast.specs.Eval.{eval_all, fill}
 use Rattle.wf_ast.specs.Tree.{Entry}
-use Rattle.wf_moves.specs.declared.assign.Assigned.{Assigned}
+use Rattle.wf_frames.specs.declared.assigned.Assigned.{Assigned}
 use Rattle.wf_value.specs.Data.{Data}
 use Rattle.wf_value.specs.Errors.{Answer, ◌>>=◌}
 use Rattle.wf_value.specs.Plain.{plain}

@@ -3,10 +3,10 @@ use Rattle.wf_ast.specs.Eval.{eval_all, fill}
 use Rattle.wf_ast.specs.Tree.{exprs}
 use Rattle.wf_eval.specs.Answers.{Answers}
 use Rattle.wf_eval.specs.Sight.{seen}
-use Rattle.wf_moves.proofs.Assigning.{both_given}
+use Rattle.wf_frames.proofs.Entered.{both_given}
 use Rattle.wf_model.specs.Shapes.{Compiled, decoded, shape_by}
 use Rattle.wf_value.specs.Plain.{plain}
-use Rattle.wf_moves.proofs.assign.evaluate.Goals as goal
+use Rattle.wf_frames.proofs.assigned.evaluate.Goals as goal
 
 pub returns : goal.returns
 returns g c =
