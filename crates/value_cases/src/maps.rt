@@ -2,7 +2,7 @@
 use crate::json::written_if;
 use crate::lists::two;
 use std::alloc::Global;
-use wf_cases::{CaseFault, json_of};
+use wf_cases::{CaseFault, json_of, quoted};
 use wf_value::{Map, Pairs, Text, Value};
 
 /// What each of some calls of one map answers, from the empty map on.
@@ -53,7 +53,7 @@ fn entry(alloc: Global, map: &Map, number: i64) -> Result<String, CaseFault> {
     };
     match map.entry(number) {
         Some((key, value)) => {
-            let key = json_of(alloc, &Value::Text(Text::new(alloc, key)?))?;
+            let key = quoted(alloc, key)?;
             let value = json_of(alloc, value)?;
             Ok(format!(in alloc; "{key}:{value}")?)
         }
@@ -83,20 +83,30 @@ pub(crate) fn copied(alloc: Global, items: &[Value]) -> Result<String, CaseFault
 
 /// A list of pairs of texts: how many there are, and each as `KEY=VALUE`.
 pub(crate) fn pairs(alloc: Global, items: &[Value]) -> Result<String, CaseFault> {
-    let mut pairs = Pairs::new(alloc);
-    for item in items {
-        let Value::List(pair) = item else {
-            return Err(CaseFault::NoCase);
-        };
-        let [Value::Text(key), Value::Text(value)] = pair.items() else {
-            return Err(CaseFault::NoCase);
-        };
-        pairs.push(key.copy()?, value.copy()?)?;
-    }
+    let pairs = pairs_of(alloc, items)?;
     let mut shown = format!(in alloc; "{}", pairs.items().len())?;
     for pair in pairs.items() {
         let text = format!(in alloc; " {}={}", pair.0.as_str(), pair.1.as_str())?;
         shown.push_str(text.as_str())?;
     }
     Ok(shown)
+}
+
+fn pairs_of(alloc: Global, items: &[Value]) -> Result<Pairs, CaseFault> {
+    let mut pairs = Pairs::new(alloc);
+    for item in items {
+        let (key, value) = pair_of(item)?;
+        pairs.push(key.copy()?, value.copy()?)?;
+    }
+    Ok(pairs)
+}
+
+fn pair_of(item: &Value) -> Result<(&Text, &Text), CaseFault> {
+    let Value::List(pair) = item else {
+        return Err(CaseFault::NoCase);
+    };
+    match pair.items() {
+        [Value::Text(key), Value::Text(value)] => Ok((key, value)),
+        _ => Err(CaseFault::NoCase),
+    }
 }

@@ -1,7 +1,7 @@
 // Whole numbers, and the delays of a retry.
 use std::alloc::Global;
 use wf_cases::{Case, CaseFault};
-use wf_value::{Backoff, add, div, mul, neg, rem, sub, trunc_div};
+use wf_value::{Backoff, NumFault, add, div, mul, neg, rem, sub, trunc_div};
 
 /// What an operation gives for two numbers, `neg` for one; or why there is none.
 pub(crate) fn whole(alloc: Global, case: &Case<'_>) -> Result<String, CaseFault> {
@@ -10,20 +10,23 @@ pub(crate) fn whole(alloc: Global, case: &Case<'_>) -> Result<String, CaseFault>
     let found = if word == "neg" {
         neg(a)
     } else {
-        let b = case.number(2)?;
-        match word {
-            "add" => add(a, b),
-            "sub" => sub(a, b),
-            "mul" => mul(a, b),
-            "div" => div(a, b),
-            "trunc_div" => trunc_div(a, b),
-            "rem" => rem(a, b),
-            _ => return Err(CaseFault::NoCase),
-        }
+        of_two(word, a, case.number(2)?)?
     };
     match found {
         Ok(number) => Ok(format!(in alloc; "{number}")?),
         Err(fault) => Ok(format!(in alloc; "{fault:?}")?),
+    }
+}
+
+fn of_two(word: &str, a: i64, b: i64) -> Result<Result<i64, NumFault>, CaseFault> {
+    match word {
+        "add" => Ok(add(a, b)),
+        "sub" => Ok(sub(a, b)),
+        "mul" => Ok(mul(a, b)),
+        "div" => Ok(div(a, b)),
+        "trunc_div" => Ok(trunc_div(a, b)),
+        "rem" => Ok(rem(a, b)),
+        _ => Err(CaseFault::NoCase),
     }
 }
 

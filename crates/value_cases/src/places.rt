@@ -16,13 +16,17 @@ pub(crate) fn path(alloc: Global, items: &[Value]) -> Result<String, CaseFault> 
 fn part(item: &Value) -> Result<PathPart, CaseFault> {
     match item {
         Value::Text(key) => Ok(PathPart::Key(key.copy()?)),
-        Value::List(index) => match index.items() {
-            [Value::Text(digits)] => match digits.as_str().parse::<u64>() {
-                Ok(index) => Ok(PathPart::Index(index)),
-                Err(_) => Err(CaseFault::NoCase),
-            },
-            _ => Err(CaseFault::NoCase),
-        },
+        Value::List(index) => Ok(PathPart::Index(index_of(index.items())?)),
         _ => Err(CaseFault::NoCase),
+    }
+}
+
+fn index_of(items: &[Value]) -> Result<u64, CaseFault> {
+    let [Value::Text(digits)] = items else {
+        return Err(CaseFault::NoCase);
+    };
+    match digits.as_str().parse::<u64>() {
+        Ok(index) => Ok(index),
+        Err(_) => Err(CaseFault::NoCase),
     }
 }
