@@ -33,16 +33,17 @@ pub(crate) fn outcome(alloc: Global, made: Result<Value, Raise>) -> Result<Strin
 
 /// The fault of an expression.
 pub(crate) fn fault_text(alloc: Global, fault: ExprFault) -> Result<String, CaseFault> {
-    Ok(match fault {
-        ExprFault::TooLong => String::from_str(alloc, "TooLong")?,
-        ExprFault::Lex(LexFault::BadCharacter(at)) => format!(in alloc; "BadCharacter at {at}")?,
-        ExprFault::Lex(LexFault::OpenText(at)) => format!(in alloc; "OpenText at {at}")?,
-        ExprFault::Syntax(at) => format!(in alloc; "Syntax at {at}")?,
-        ExprFault::Decimal(at) => format!(in alloc; "Decimal at {at}")?,
-        ExprFault::UnknownFunction(at) => format!(in alloc; "UnknownFunction at {at}")?,
-        ExprFault::Arity(at) => format!(in alloc; "Arity at {at}")?,
+    let (kind, at) = match fault {
+        ExprFault::TooLong => return Ok(String::from_str(alloc, "TooLong")?),
+        ExprFault::Lex(LexFault::BadCharacter(at)) => ("BadCharacter", at),
+        ExprFault::Lex(LexFault::OpenText(at)) => ("OpenText", at),
+        ExprFault::Syntax(at) => ("Syntax", at),
+        ExprFault::Decimal(at) => ("Decimal", at),
+        ExprFault::UnknownFunction(at) => ("UnknownFunction", at),
+        ExprFault::Arity(at) => ("Arity", at),
         ExprFault::Lex(LexFault::OutOfMemory) | ExprFault::OutOfMemory => {
             return Err(CaseFault::OutOfMemory);
         }
-    })
+    };
+    Ok(format!(in alloc; "{kind} at {at}")?)
 }

@@ -28,18 +28,22 @@ mod trees;
 mod values;
 
 use std::alloc::Global;
-use wf_cases::{CaseFault, case_of, text_of};
+use wf_cases::{Case, CaseFault, case_of, text_of};
 use wf_value::Value;
 
 /// What is printed of a line.
-fn answer(alloc: Global, line: &str) -> Result<String, CaseFault> {
-    let case = case_of(alloc, line)?;
+fn line_answer(alloc: Global, line: &str) -> Result<String, CaseFault> {
+    answer(alloc, &case_of(alloc, line)?)
+}
+
+/// What is printed of a case.
+fn answer(alloc: Global, case: &Case<'_>) -> Result<String, CaseFault> {
     match case.table {
-        "values" | "facts" => values::of_expression(alloc, &case),
-        "templates" => values::of_value(alloc, &case),
-        "texts" => values::of_text(alloc, &case),
-        "evaluations" => values::of_tree(alloc, &case),
-        "fillings" => values::of_template(alloc, &case),
+        "values" | "facts" => values::of_expression(alloc, case),
+        "templates" => values::of_value(alloc, case),
+        "texts" => values::of_text(alloc, case),
+        "evaluations" => values::of_tree(alloc, case),
+        "fillings" => values::of_template(alloc, case),
         table => of_source(alloc, table, case.items()),
     }
 }
@@ -52,7 +56,7 @@ fn of_source(alloc: Global, table: &str, pieces: &[Value]) -> Result<String, Cas
 
 fn main(rt: HostRuntime) -> anyhow::Result<()> {
     for line in rt.lines(rt.alloc()) {
-        let text = answer(rt.alloc(), line?.as_str())?;
+        let text = line_answer(rt.alloc(), line?.as_str())?;
         println!(rt; "{text}")?;
     }
     Ok(())

@@ -53,14 +53,16 @@ pub(crate) fn names_of(alloc: Global, case: &Case<'_>) -> Result<Names, CaseFaul
     let mut map = copied(alloc, case.item(1)?)?;
     if case.table == "facts" {
         let pairs = pairs_of(alloc, case.item(3)?)?;
-        let id = Text::new(alloc, case.text(4)?)?;
-        return Ok(Names { map, pairs, id });
+        return with(alloc, map, pairs, case.text(4)?);
     }
     if case.items().len() > 3 {
         add_made(alloc, &mut map, case.item(3)?)?;
     }
-    let pairs = Pairs::new(alloc);
-    let id = Text::new(alloc, "")?;
+    with(alloc, map, Pairs::new(alloc), "")
+}
+
+fn with(alloc: Global, map: Map, pairs: Pairs, id: &str) -> Result<Names, CaseFault> {
+    let id = Text::new(alloc, id)?;
     Ok(Names { map, pairs, id })
 }
 

@@ -2,7 +2,7 @@
 use crate::answers::{quoted, value_text};
 use crate::signs::{name, sign};
 use std::alloc::Global;
-use wf_ast::{Expr, Part, Target, Template};
+use wf_ast::{Expr, Func, Part, Target, Template};
 use wf_cases::CaseFault;
 use wf_value::Value;
 
@@ -42,6 +42,7 @@ fn push_quoted(alloc: Global, out: &mut String, text: &str) -> Result<(), CaseFa
 }
 
 /// Writes an expression.
+#[cycle(show)]
 fn show(alloc: Global, out: &mut String, e: &Expr) -> Result<(), CaseFault> {
     if let Expr::Lit(value) = e {
         return push_value(alloc, out, value);
@@ -63,15 +64,19 @@ fn show(alloc: Global, out: &mut String, e: &Expr) -> Result<(), CaseFault> {
             out.push_str(",")?;
             push_quoted(alloc, out, key.as_str())?;
         }
-        Expr::Call(func, args) => {
-            push_quoted(alloc, out, name(*func))?;
-            for arg in args.items() {
-                out.push_str(",")?;
-                show(alloc, out, arg)?;
-            }
-        }
+        Expr::Call(func, args) => show_call(alloc, out, *func, args.items())?,
     }
-    out.push_str("]")?;
+    Ok(out.push_str("]")?)
+}
+
+/// Writes a function and its arguments.
+#[cycle(show)]
+fn show_call(alloc: Global, out: &mut String, func: Func, args: &[Expr]) -> Result<(), CaseFault> {
+    push_quoted(alloc, out, name(func))?;
+    for arg in args {
+        out.push_str(",")?;
+        show(alloc, out, arg)?;
+    }
     Ok(())
 }
 

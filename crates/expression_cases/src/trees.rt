@@ -33,6 +33,7 @@ pub(crate) fn text(alloc: Global, value: &Value) -> Result<Text, CaseFault> {
 pub(crate) const DEEPEST: u32 = 100;
 
 /// The expression of a tree.
+#[cycle(expression)]
 pub(crate) fn expression(alloc: Global, tree: &Value, depth: u32) -> Result<Expr, CaseFault> {
     if depth == 0 {
         return Err(CaseFault::NoCase);
@@ -43,21 +44,55 @@ pub(crate) fn expression(alloc: Global, tree: &Value, depth: u32) -> Result<Expr
     let [Value::Text(head), rest @ ..] = parts.items() else {
         return Err(CaseFault::NoCase);
     };
-    match (head.as_str(), rest) {
-        ("value", [value]) => Ok(Expr::Lit(value.copy(alloc)?)),
-        ("name", [name]) => Ok(Expr::Name(text(alloc, name)?)),
-        ("key", [a, key]) => on_key(alloc, expression(alloc, a, depth - 1)?, key),
-        ("call", [func, args @ ..]) => {
-            let mut all = Exprs::new(alloc)?;
-            for arg in args {
-                all.push(expression(alloc, arg, depth - 1)?)?;
-            }
-            on_all(func, all)
-        }
-        (head, [a]) => on_one(alloc, head, expression(alloc, a, depth - 1)?),
-        (head, [a, b]) => {
-            let a = expression(alloc, a, depth - 1)?;
-            on_two(alloc, head, a, expression(alloc, b, depth - 1)?)
+    match head.as_str() {
+        "value" | "name" => leaf(alloc, head.as_str(), rest),
+        "key" => keyed(alloc, rest, depth - 1),
+        "call" => called(alloc, rest, depth - 1),
+        head => operated(alloc, head, rest, depth - 1),
+    }
+}
+
+/// A literal or a name.
+fn leaf(alloc: Global, head: &str, rest: &[Value]) -> Result<Expr, CaseFault> {
+    let [value] = rest else {
+        return Err(CaseFault::NoCase);
+    };
+    if head == "name" {
+        return Ok(Expr::Name(text(alloc, value)?));
+    }
+    Ok(Expr::Lit(value.copy(alloc)?))
+}
+
+/// The expression of a value and a key.
+#[cycle(expression)]
+fn keyed(alloc: Global, rest: &[Value], depth: u32) -> Result<Expr, CaseFault> {
+    let [a, key] = rest else {
+        return Err(CaseFault::NoCase);
+    };
+    on_key(alloc, expression(alloc, a, depth)?, key)
+}
+
+/// The expression of a function and its arguments.
+#[cycle(expression)]
+fn called(alloc: Global, rest: &[Value], depth: u32) -> Result<Expr, CaseFault> {
+    let [func, args @ ..] = rest else {
+        return Err(CaseFault::NoCase);
+    };
+    let mut all = Exprs::new(alloc)?;
+    for arg in args {
+        all.push(expression(alloc, arg, depth)?)?;
+    }
+    on_all(func, all)
+}
+
+/// The expression of an operator on one or two values.
+#[cycle(expression)]
+fn operated(alloc: Global, head: &str, rest: &[Value], depth: u32) -> Result<Expr, CaseFault> {
+    match rest {
+        [a] => on_one(alloc, head, expression(alloc, a, depth)?),
+        [a, b] => {
+            let a = expression(alloc, a, depth)?;
+            on_two(alloc, head, a, expression(alloc, b, depth)?)
         }
         _ => Err(CaseFault::NoCase),
     }
@@ -106,6 +141,7 @@ fn on_two(alloc: Global, head: &str, a: Expr, b: Expr) -> Result<Expr, CaseFault
 }
 
 /// The template of a tree.
+#[cycle(template)]
 pub(crate) fn template(alloc: Global, tree: &Value, depth: u32) -> Result<Template, CaseFault> {
     if depth == 0 {
         return Err(CaseFault::NoCase);
@@ -113,30 +149,49 @@ pub(crate) fn template(alloc: Global, tree: &Value, depth: u32) -> Result<Templa
     let [Value::Text(head), rest @ ..] = items(tree)? else {
         return Err(CaseFault::NoCase);
     };
-    match (head.as_str(), rest) {
-        ("literal", [value]) => Ok(Template::Lit(value.copy(alloc)?)),
-        ("expression", [e]) => Ok(Template::Expr(boxed(alloc, expression(alloc, e, DEEPEST)?)?)),
-        ("join", parts) => joined(alloc, parts),
-        ("list", trees) => {
-            let mut all = Templates::new(alloc)?;
-            for tree in trees {
-                all.push(template(alloc, tree, depth - 1)?)?;
-            }
-            Ok(Template::List(all))
-        }
-        ("map", pairs) => {
-            let mut all = NamedTemplates::new(alloc)?;
-            for pair in pairs {
-                let [key, tree] = items(pair)? else {
-                    return Err(CaseFault::NoCase);
-                };
-                let template = template(alloc, tree, depth - 1)?;
-                push_named(alloc, &mut all, key, template)?;
-            }
-            Ok(Template::Map(all))
-        }
+    match head.as_str() {
+        "literal" | "expression" => single(alloc, head.as_str(), rest),
+        "join" => joined(alloc, rest),
+        "list" => list_of(alloc, rest, depth - 1),
+        "map" => map_of(alloc, rest, depth - 1),
         _ => Err(CaseFault::NoCase),
     }
+}
+
+/// The template of a literal or an expression.
+fn single(alloc: Global, head: &str, rest: &[Value]) -> Result<Template, CaseFault> {
+    let [tree] = rest else {
+        return Err(CaseFault::NoCase);
+    };
+    if head == "literal" {
+        return Ok(Template::Lit(tree.copy(alloc)?));
+    }
+    let e = expression(alloc, tree, DEEPEST)?;
+    Ok(Template::Expr(boxed(alloc, e)?))
+}
+
+/// The template of a list of trees.
+#[cycle(template)]
+fn list_of(alloc: Global, trees: &[Value], depth: u32) -> Result<Template, CaseFault> {
+    let mut all = Templates::new(alloc)?;
+    for tree in trees {
+        all.push(template(alloc, tree, depth)?)?;
+    }
+    Ok(Template::List(all))
+}
+
+/// The template of keys with their trees.
+#[cycle(template)]
+fn map_of(alloc: Global, pairs: &[Value], depth: u32) -> Result<Template, CaseFault> {
+    let mut all = NamedTemplates::new(alloc)?;
+    for pair in pairs {
+        let [key, tree] = items(pair)? else {
+            return Err(CaseFault::NoCase);
+        };
+        let template = template(alloc, tree, depth)?;
+        push_named(alloc, &mut all, key, template)?;
+    }
+    Ok(Template::Map(all))
 }
 
 /// Adds a template with the name that a value is.

@@ -7,7 +7,7 @@ use wf_ast::{Expr, NamedTemplate, NamedTemplates, Postfix, Template, Templates, 
 use wf_cases::{Case, CaseFault};
 use wf_eval::{eval, fill};
 use wf_expr::{parse, parse_template};
-use wf_value::{Text, Value};
+use wf_value::{Map, Text, Value};
 
 /// The clock's reading, where a case has one.
 fn reading(case: &Case<'_>) -> Result<u64, CaseFault> {
@@ -93,30 +93,37 @@ fn push_named(
 }
 
 /// A value of a source, whose texts are read.
+#[cycle(source_value)]
 fn source_value(alloc: Global, value: &Value, depth: u32) -> Result<Template, CaseFault> {
     if depth == 0 {
         return Err(CaseFault::NoCase);
     }
     match value {
         Value::Text(text) => parsed(alloc, text.as_str()),
-        Value::List(list) => {
-            let mut all = Templates::new(alloc)?;
-            for item in list.items() {
-                all.push(source_value(alloc, item, depth - 1)?)?;
-            }
-            Ok(Template::List(all))
-        }
-        Value::Map(map) => {
-            let mut all = NamedTemplates::new(alloc)?;
-            for i in 0..usize::MAX {
-                let Some((key, item)) = map.entry(i) else {
-                    break;
-                };
-                let template = source_value(alloc, item, depth - 1)?;
-                push_named(alloc, &mut all, key, template)?;
-            }
-            Ok(Template::Map(all))
-        }
+        Value::List(list) => source_list(alloc, list.items(), depth - 1),
+        Value::Map(map) => source_map(alloc, map, depth - 1),
         _ => Ok(Template::Lit(value.copy(alloc)?)),
     }
+}
+
+#[cycle(source_value)]
+fn source_list(alloc: Global, items: &[Value], depth: u32) -> Result<Template, CaseFault> {
+    let mut all = Templates::new(alloc)?;
+    for item in items {
+        all.push(source_value(alloc, item, depth)?)?;
+    }
+    Ok(Template::List(all))
+}
+
+#[cycle(source_value)]
+fn source_map(alloc: Global, map: &Map, depth: u32) -> Result<Template, CaseFault> {
+    let mut all = NamedTemplates::new(alloc)?;
+    for i in 0..usize::MAX {
+        let Some((key, item)) = map.entry(i) else {
+            break;
+        };
+        let template = source_value(alloc, item, depth)?;
+        push_named(alloc, &mut all, key, template)?;
+    }
+    Ok(Template::Map(all))
 }

@@ -46,18 +46,32 @@ pub fn make<H: Host>(
             _ => Err(CaseFault::NoCase),
         };
     }
-    match items_of(call)? {
-        [Value::Text(word), number, name, port, bytes] if word.as_str() == "start" => {
+    let [Value::Text(word), number, rest @ ..] = items_of(call)? else {
+        return Err(CaseFault::NoCase);
+    };
+    let number = number_of(number)?;
+    match rest {
+        [] => ask(host, word.as_str(), number, alloc, out),
+        [name, port, bytes] if word.as_str() == "start" => {
             let to = address_of(name, port)?;
             let bytes = bytes_of(alloc, bytes)?;
-            write_made(out, host.start(number_of(number)?, &to, &bytes).is_ok())
+            write_made(out, host.start(number, &to, &bytes).is_ok())
         }
-        [Value::Text(word), until] if word.as_str() == "poll" => {
-            write_polled(out, alloc, host.poll(number_of(until)?))
-        }
-        [Value::Text(word), number] if word.as_str() == "drop" => {
-            write_made(out, host.drop_call(number_of(number)?).is_ok())
-        }
+        _ => Err(CaseFault::NoCase),
+    }
+}
+
+/// A poll until a moment, or the drop of a call.
+fn ask<H: Host>(
+    host: &mut H,
+    word: &str,
+    number: u64,
+    alloc: Global,
+    out: &mut String,
+) -> Result<(), CaseFault> {
+    match word {
+        "poll" => write_polled(out, alloc, host.poll(number)),
+        "drop" => write_made(out, host.drop_call(number).is_ok()),
         _ => Err(CaseFault::NoCase),
     }
 }
@@ -96,24 +110,30 @@ pub fn write_what(out: &mut String, alloc: Global, what: &What) -> Result<(), Ca
     match what {
         What::Nothing => Ok(out.push_str("nothing")?),
         What::Bytes(call, bytes) => {
-            write!(out, "bytes {call} ")?;
+            write_number(out, "bytes", *call)?;
+            out.push(' ')?;
             write_bytes(out, alloc, bytes.as_slice())
         }
-        What::End(call) => Ok(write!(out, "end {call}")?),
-        What::Broken(call) => Ok(write!(out, "broken {call}")?),
+        What::End(call) => write_number(out, "end", *call),
+        What::Broken(call) => write_number(out, "broken", *call),
         What::Visit(_, _) | What::VisitEnd(_) => Ok(out.push_str("visit")?),
     }
+}
+
+fn write_number(out: &mut String, word: &str, number: u64) -> Result<(), CaseFault> {
+    Ok(write!(out, "{word} {number}")?)
 }
 
 fn write_deed(out: &mut String, alloc: Global, deed: &Deed) -> Result<(), CaseFault> {
     match deed {
         Deed::Start(call, to, bytes) => write_start(out, alloc, *call, to, bytes.as_slice()),
         Deed::Poll(until, heard) => {
-            write!(out, "poll {until} ")?;
+            write_number(out, "poll", *until)?;
+            out.push(' ')?;
             write_heard(out, alloc, heard)
         }
-        Deed::Now(reading) => Ok(write!(out, "now {reading}")?),
-        Deed::Drop(call) => Ok(write!(out, "drop {call}")?),
+        Deed::Now(reading) => write_number(out, "now", *reading),
+        Deed::Drop(call) => write_number(out, "drop", *call),
         Deed::Reply(_, _) | Deed::Print(_) => Ok(out.push_str("other")?),
     }
 }

@@ -54,38 +54,59 @@ fn take<H: Host>(
             _ => Err(CaseFault::NoCase),
         };
     }
-    match items_of(step)? {
-        [Value::Text(word), number] => {
-            let number = number_of(number)?;
-            match word.as_str() {
-                "close" => {
-                    service.close(number)?;
-                    Ok(out.push('+')?)
-                }
-                word => one(host, word, number, alloc, out),
-            }
+    let [Value::Text(word), number, rest @ ..] = items_of(step)? else {
+        return Err(CaseFault::NoCase);
+    };
+    let (word, number) = (word.as_str(), number_of(number)?);
+    match rest {
+        [] if word == "close" => close(service, number, out),
+        [] => one(host, word, number, alloc, out),
+        [what] if word == "hear" => hear(host, service, number, number_of(what)?, alloc, out),
+        [what] => said(
+            host,
+            service,
+            word,
+            number,
+            &bytes_of(alloc, what)?,
+            alloc,
+            out,
+        ),
+        [Value::Text(name), bytes] => {
+            let port = port_of(service, word)?;
+            start(host, number, name, port, &bytes_of(alloc, bytes)?, out)
         }
-        [Value::Text(word), number, what] => {
-            let number = number_of(number)?;
-            let bytes = match word.as_str() {
-                "hear" => return hear(host, service, number, number_of(what)?, alloc, out),
-                _ => bytes_of(alloc, what)?,
-            };
-            match word.as_str() {
-                "say" => say(service, number, &bytes, out),
-                "tell" => tell(host, service, number, &bytes, alloc, out),
-                _ => Err(CaseFault::NoCase),
-            }
-        }
-        [Value::Text(word), number, Value::Text(name), bytes] => {
-            let port = match word.as_str() {
-                "start" => service.port,
-                "refused" => CLOSED,
-                _ => return Err(CaseFault::NoCase),
-            };
-            let bytes = bytes_of(alloc, bytes)?;
-            start(host, number_of(number)?, name, port, &bytes, out)
-        }
+        _ => Err(CaseFault::NoCase),
+    }
+}
+
+/// The port of the service, or that on which nobody listens.
+fn port_of(service: &Service, word: &str) -> Result<u16, CaseFault> {
+    match word {
+        "start" => Ok(service.port),
+        "refused" => Ok(CLOSED),
+        _ => Err(CaseFault::NoCase),
+    }
+}
+
+/// The service closes a connection.
+fn close(service: &mut Service, number: u64, out: &mut String) -> Result<(), CaseFault> {
+    service.close(number)?;
+    Ok(out.push('+')?)
+}
+
+/// The service says bytes, few or many.
+fn said<H: Host>(
+    host: &mut H,
+    service: &mut Service,
+    word: &str,
+    number: u64,
+    bytes: &[u8],
+    alloc: Global,
+    out: &mut String,
+) -> Result<(), CaseFault> {
+    match word {
+        "say" => say(service, number, bytes, out),
+        "tell" => tell(host, service, number, bytes, alloc, out),
         _ => Err(CaseFault::NoCase),
     }
 }

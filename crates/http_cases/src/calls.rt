@@ -29,16 +29,19 @@ fn answer(alloc: Global, calls: &mut Calls, asked: &Value) -> Result<String, Cas
     let [Value::Text(word), rest @ ..] = asked.items() else {
         return Err(CaseFault::NoCase);
     };
-    match (word.as_str(), rest) {
-        (
-            "send",
-            [
-                Value::Int(task),
-                address,
-                Value::Text(bytes),
-                Value::Int(due),
-            ],
-        ) => {
+    let word = word.as_str();
+    match rest {
+        [Value::Int(number)] => told(alloc, calls, word, natural(*number)?),
+        [Value::Int(number), Value::Text(how)] if word == "close" => {
+            calls.close(natural(*number)?, closed(how.as_str())?);
+            shown(alloc, Some(calls.count()))
+        }
+        [
+            Value::Int(task),
+            address,
+            Value::Text(bytes),
+            Value::Int(due),
+        ] if word == "send" => {
             let request = Request {
                 address: address_of(address)?,
                 bytes: Bytes::new(alloc, bytes.as_str().as_bytes())?,
@@ -46,16 +49,17 @@ fn answer(alloc: Global, calls: &mut Calls, asked: &Value) -> Result<String, Cas
             calls.send(task_of(*task)?, request, natural(*due)?)?;
             shown(alloc, Some(calls.count()))
         }
-        ("close", [Value::Int(number), Value::Text(how)]) => {
-            calls.close(natural(*number)?, closed(how.as_str())?);
-            shown(alloc, Some(calls.count()))
-        }
-        ("task", [Value::Int(number)]) => {
-            shown(alloc, calls.task(natural(*number)?).map(u64::from))
-        }
-        ("due", [Value::Int(number)]) => shown(alloc, calls.due(natural(*number)?)),
-        ("next_open", [Value::Int(after)]) => shown(alloc, calls.next_open(natural(*after)?)),
-        ("request", [Value::Int(number)]) => sent(alloc, calls.request(natural(*number)?)),
+        _ => Err(CaseFault::NoCase),
+    }
+}
+
+/// What is told of the call of a number.
+fn told(alloc: Global, calls: &Calls, word: &str, number: u64) -> Result<String, CaseFault> {
+    match word {
+        "task" => shown(alloc, calls.task(number).map(u64::from)),
+        "due" => shown(alloc, calls.due(number)),
+        "next_open" => shown(alloc, calls.next_open(number)),
+        "request" => sent(alloc, calls.request(number)),
         _ => Err(CaseFault::NoCase),
     }
 }

@@ -36,29 +36,51 @@ fn called(alloc: Global, endpoints: &mut Endpoints, call: &Value) -> Result<Stri
     let [Value::Text(word), rest @ ..] = call.items() else {
         return Err(CaseFault::NoCase);
     };
-    match (word.as_str(), rest) {
-        ("create", [Value::Text(method)]) => {
+    let word = word.as_str();
+    match rest {
+        [Value::Text(method)] if word == "create" => {
             let number = endpoints.create(named(method.as_str())?)?;
             Ok(format!(in alloc; "{number}")?)
         }
-        ("arrive", [Value::Int(n), visitor, Value::Int(left)]) => {
+        [Value::Int(n)] => emptied(alloc, endpoints, word, natural(*n)?),
+        [Value::Int(n), what, Value::Int(count)] => {
+            filled(alloc, endpoints, word, natural(*n)?, what, *count)
+        }
+        _ => Err(CaseFault::NoCase),
+    }
+}
+
+/// One request is taken, or all.
+fn emptied(
+    alloc: Global,
+    endpoints: &mut Endpoints,
+    word: &str,
+    n: u64,
+) -> Result<String, CaseFault> {
+    match word {
+        "take" => taken(alloc, endpoints.take(n)),
+        "drain" => drain(alloc, endpoints, n),
+        _ => Err(CaseFault::NoCase),
+    }
+}
+
+/// One request arrives, or many.
+fn filled(
+    alloc: Global,
+    endpoints: &mut Endpoints,
+    word: &str,
+    n: u64,
+    what: &Value,
+    count: i64,
+) -> Result<String, CaseFault> {
+    match (word, what) {
+        ("arrive", visitor) => {
             let visitor = visitor_of(alloc, visitor)?;
-            joined(
-                alloc,
-                endpoints.arrive(natural(*n)?, visitor, natural(*left)?),
-            )
+            joined(alloc, endpoints.arrive(n, visitor, natural(count)?))
         }
-        ("take", [Value::Int(n)]) => taken(alloc, endpoints.take(natural(*n)?)),
-        ("fill", [Value::Int(n), Value::Text(method), Value::Int(count)]) => {
-            fill(
-                alloc,
-                endpoints,
-                natural(*n)?,
-                named(method.as_str())?,
-                *count,
-            )
+        ("fill", Value::Text(method)) => {
+            fill(alloc, endpoints, n, named(method.as_str())?, count)
         }
-        ("drain", [Value::Int(n)]) => drain(alloc, endpoints, natural(*n)?),
         _ => Err(CaseFault::NoCase),
     }
 }

@@ -36,24 +36,41 @@ impl Drop for Call {
 /// The call that a value tells: `"size"`, `["read", at, room]`, `["write", at, bytes]`, `"sync"`, `"now"` or `["print", bytes]`.
 fn call_of(alloc: Global, value: &Value) -> Result<Call, CaseFault> {
     if let Value::Text(name) = value {
-        return match name.as_str() {
-            "size" => Ok(Call::Size),
-            "sync" => Ok(Call::Sync),
-            "now" => Ok(Call::Now),
-            _ => Err(CaseFault::NoCase),
-        };
+        return call_named(name.as_str());
     }
-    match items_of(value)? {
-        [Value::Text(name), at, room] if name.as_str() == "read" => {
-            let room = number_of(room)?.min(1_000) as usize;
-            Ok(Call::Read(number_of(at)?, room))
-        }
-        [Value::Text(name), at, bytes] if name.as_str() == "write" => {
-            Ok(Call::Write(number_of(at)?, bytes_of(alloc, bytes)?))
-        }
-        [Value::Text(name), bytes] if name.as_str() == "print" => {
-            Ok(Call::Print(bytes_of(alloc, bytes)?))
-        }
+    let [Value::Text(name), rest @ ..] = items_of(value)? else {
+        return Err(CaseFault::NoCase);
+    };
+    match rest {
+        [bytes] => print_of(alloc, name.as_str(), bytes),
+        [at, what] => call_at(alloc, name.as_str(), number_of(at)?, what),
+        _ => Err(CaseFault::NoCase),
+    }
+}
+
+/// A call that is a word alone.
+fn call_named(name: &str) -> Result<Call, CaseFault> {
+    match name {
+        "size" => Ok(Call::Size),
+        "sync" => Ok(Call::Sync),
+        "now" => Ok(Call::Now),
+        _ => Err(CaseFault::NoCase),
+    }
+}
+
+/// A print.
+fn print_of(alloc: Global, name: &str, bytes: &Value) -> Result<Call, CaseFault> {
+    if name != "print" {
+        return Err(CaseFault::NoCase);
+    }
+    Ok(Call::Print(bytes_of(alloc, bytes)?))
+}
+
+/// A read or a write at a place.
+fn call_at(alloc: Global, name: &str, at: u64, what: &Value) -> Result<Call, CaseFault> {
+    match name {
+        "read" => Ok(Call::Read(at, number_of(what)?.min(1_000) as usize)),
+        "write" => Ok(Call::Write(at, bytes_of(alloc, what)?)),
         _ => Err(CaseFault::NoCase),
     }
 }

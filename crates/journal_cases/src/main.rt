@@ -8,6 +8,7 @@ mod journals;
 mod records;
 
 use anyhow::Result;
+use std::alloc::Global;
 use std::fs::{File, Files};
 use std::io::Print;
 use std::net::Net;
@@ -28,6 +29,13 @@ where
         "file_sources" => hosts::file_reads(rt, case),
         "journals" => journals::calls(alloc, case),
         "file_journals" => journals::in_a_file(rt, case),
+        _ => record_answer(alloc, case),
+    }
+}
+
+/// The same, where it is of histories and records, which need no real file.
+fn record_answer(alloc: Global, case: &Case<'_>) -> Result<String, CaseFault> {
+    match case.table {
         "histories" => histories::calls(alloc, case),
         "fault_texts" => journals::fault_texts(alloc),
         "records" => records::kind(alloc, case),

@@ -37,23 +37,24 @@ fn fields_of(alloc: Global, value: &Value) -> Result<Fields, CaseFault> {
 
 /// What is kept of an answer: `"broken"`, `"too long"`, or a list of its code, its fields and its body.
 fn reply_of(alloc: Global, value: &Value) -> Result<Reply, CaseFault> {
-    match value {
-        Value::Text(text) if text.as_str() == "broken" => Ok(Reply::Broken),
-        Value::Text(text) if text.as_str() == "too long" => Ok(Reply::TooLong),
-        response => {
-            let [code, fields, body] = items_of(response)? else {
-                return Err(CaseFault::NoCase);
-            };
-            let Ok(code) = u16::try_from(number_of(code)?) else {
-                return Err(CaseFault::NoCase);
-            };
-            Ok(Reply::Response(Response {
-                code,
-                headers: fields_of(alloc, fields)?,
-                body: content_of(alloc, body)?,
-            }))
-        }
+    if let Value::Text(word) = value {
+        return match word.as_str() {
+            "broken" => Ok(Reply::Broken),
+            "too long" => Ok(Reply::TooLong),
+            _ => Err(CaseFault::NoCase),
+        };
     }
+    let [code, fields, body] = items_of(value)? else {
+        return Err(CaseFault::NoCase);
+    };
+    let Ok(code) = u16::try_from(number_of(code)?) else {
+        return Err(CaseFault::NoCase);
+    };
+    Ok(Reply::Response(Response {
+        code,
+        headers: fields_of(alloc, fields)?,
+        body: content_of(alloc, body)?,
+    }))
 }
 
 /// A request by POST without fields and without a body.
@@ -84,16 +85,25 @@ fn timed_event(
 /// The event that a list tells: `["move", task]`, `["begin", task]`, `["move", task, reading]`, `["issue", task, reading]`,
 /// `["due", task, reading]`, `["arrive", endpoint, reading]`, or `["answer", call, reading, reply]`.
 pub fn event_of(alloc: Global, items: &[Value]) -> Result<Event, CaseFault> {
-    match items {
-        [Value::Text(name), task] if name.as_str() == "move" => Ok(Event::Move(task_of(task)?)),
-        [Value::Text(name), task] if name.as_str() == "begin" => Ok(Event::Begin(task_of(task)?)),
-        [Value::Text(name), number, reading] => {
-            timed_event(alloc, name.as_str(), number, number_of(reading)?)
+    let [Value::Text(name), number, rest @ ..] = items else {
+        return Err(CaseFault::NoCase);
+    };
+    match rest {
+        [] => plain_event(name.as_str(), task_of(number)?),
+        [reading] => timed_event(alloc, name.as_str(), number, number_of(reading)?),
+        [reading, reply] if name.as_str() == "answer" => {
+            let (call, reading) = (number_of(number)?, number_of(reading)?);
+            Ok(Event::Answer(call, reading, reply_of(alloc, reply)?))
         }
-        [Value::Text(name), call, reading, reply] if name.as_str() == "answer" => {
-            let reply = reply_of(alloc, reply)?;
-            Ok(Event::Answer(number_of(call)?, number_of(reading)?, reply))
-        }
+        _ => Err(CaseFault::NoCase),
+    }
+}
+
+/// An event without a reading.
+fn plain_event(name: &str, task: u32) -> Result<Event, CaseFault> {
+    match name {
+        "move" => Ok(Event::Move(task)),
+        "begin" => Ok(Event::Begin(task)),
         _ => Err(CaseFault::NoCase),
     }
 }

@@ -52,7 +52,7 @@ fn replay_twice<L: Ledger>(
     let mut steps = Steps::<L>::new(blank);
     let mut history = match History::open(host) {
         Ok(history) => history,
-        Err(fault) => return Ok(write!(out, "{}", ReplayFault::from(fault))?),
+        Err(fault) => return write_fault(out, fault),
     };
     match first_start(alloc, &mut history, host)? {
         Ok(start) => replay_both(
@@ -64,8 +64,12 @@ fn replay_twice<L: Ledger>(
             out,
             &mut steps,
         ),
-        Err(fault) => Ok(write!(out, "{}", ReplayFault::from(fault))?),
+        Err(fault) => write_fault(out, fault),
     }
+}
+
+fn write_fault(out: &mut String, fault: HistoryFault) -> Result<(), CaseFault> {
+    Ok(write!(out, "{}", ReplayFault::from(fault))?)
 }
 
 /// The start that a history's next record is, or the fault.

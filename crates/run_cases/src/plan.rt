@@ -51,11 +51,18 @@ impl Outside {
         match key {
             "image" => self.plan.image = bytes_of(alloc, value)?,
             "clock" => self.plan.clock = numbers_of(alloc, value)?,
-            "stop" => self.plan.stop = Some(number_of(value)?),
             "services" => self.plan.services = services_of(alloc, value)?,
-            "print_room" => self.plan.print_room = Some(number_of(value)?),
-            "failing_read" => push(&mut self.failing_reads, number_of(value)?)?,
-            "failing_call" => push(&mut self.plan.fail, number_of(value)?)?,
+            key => return self.set_number(key, number_of(value)?),
+        }
+        Ok(())
+    }
+
+    fn set_number(&mut self, key: &str, number: u64) -> Result<(), CaseFault> {
+        match key {
+            "stop" => self.plan.stop = Some(number),
+            "print_room" => self.plan.print_room = Some(number),
+            "failing_read" => return push(&mut self.failing_reads, number),
+            "failing_call" => return push(&mut self.plan.fail, number),
             _ => return Err(CaseFault::NoCase),
         }
         Ok(())

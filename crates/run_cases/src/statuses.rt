@@ -30,27 +30,42 @@ fn told(alloc: Global, code: u8, text: &str) -> Result<String, CaseFault> {
 }
 
 fn status_of(alloc: Global, case: &Case<'_>) -> Result<Status, CaseFault> {
-    Ok(match case.text(0)? {
-        "Done" => Status::Done,
-        "Raised" => Status::Raised,
-        "BadLine" => Status::BadLine(small(case, 1)?),
-        "Refused" => Status::Refused(Refusal {
-            kind: kind_of(case.text(1)?)?,
-            place: place_of(alloc, case)?,
-        }),
-        "BadArgument" => Status::BadArgument,
-        "AlreadyStarted" => Status::AlreadyStarted,
-        "NotStarted" => Status::NotStarted,
-        "ReadFault" => Status::ReadFault,
-        "PrintFault" => Status::PrintFault,
-        "DiskFault" => Status::DiskFault,
-        "PollFault" => Status::PollFault,
-        "NotAJournal" => Status::NotAJournal,
-        "NotAHistory" => Status::NotAHistory(small(case, 1)?),
-        "Suspended" => Status::Suspended,
-        "OutOfMemory" => Status::OutOfMemory,
-        _ => return Err(CaseFault::NoCase),
-    })
+    match case.text(0)? {
+        "BadLine" => Ok(Status::BadLine(small(case, 1)?)),
+        "NotAHistory" => Ok(Status::NotAHistory(small(case, 1)?)),
+        "Refused" => {
+            let kind = kind_of(case.text(1)?)?;
+            let place = place_of(alloc, case)?;
+            Ok(Status::Refused(Refusal { kind, place }))
+        }
+        name => end_named(name),
+    }
+}
+
+/// A status that has nothing: of a command that came to an end, or that stopped before.
+fn end_named(name: &str) -> Result<Status, CaseFault> {
+    match name {
+        "Done" => Ok(Status::Done),
+        "Raised" => Ok(Status::Raised),
+        "Suspended" => Ok(Status::Suspended),
+        "BadArgument" => Ok(Status::BadArgument),
+        "AlreadyStarted" => Ok(Status::AlreadyStarted),
+        "NotStarted" => Ok(Status::NotStarted),
+        name => fault_named(name),
+    }
+}
+
+/// A status that has nothing: that of a fault.
+fn fault_named(name: &str) -> Result<Status, CaseFault> {
+    match name {
+        "ReadFault" => Ok(Status::ReadFault),
+        "PrintFault" => Ok(Status::PrintFault),
+        "DiskFault" => Ok(Status::DiskFault),
+        "PollFault" => Ok(Status::PollFault),
+        "NotAJournal" => Ok(Status::NotAJournal),
+        "OutOfMemory" => Ok(Status::OutOfMemory),
+        _ => Err(CaseFault::NoCase),
+    }
 }
 
 fn kind_of(name: &str) -> Result<RefusalKind, CaseFault> {

@@ -21,6 +21,7 @@ mod trees;
 mod yaml;
 
 use std::alloc::Global;
+use wf_ast::Program;
 use wf_cases::{Case, CaseFault, case_of, text_of};
 
 /// What is printed of a case: of a source's program or its table, or else of trees.
@@ -43,23 +44,34 @@ fn answer(alloc: Global, case: &Case<'_>) -> Result<String, CaseFault> {
 /// What is printed of a source in JSON and its program.
 fn program_answer(alloc: Global, case: &Case<'_>) -> Result<String, CaseFault> {
     let source = text_of(alloc, case.items())?;
-    let source = source.as_str();
-    match case.table {
+    source_answer(alloc, case.table, source.as_str())
+}
+
+/// What a table wants of a source.
+fn source_answer(alloc: Global, table: &str, source: &str) -> Result<String, CaseFault> {
+    match table {
         "syntax" | "first_faults" => {
             first_faults::first_fault(alloc, &trees::tree_of(alloc, source)?)
         }
         "decimals_in_sources" => {
             first_faults::first_fault(alloc, &trees::tree_with_decimals(alloc, source)?)
         }
-        "flows" => programs::flows(alloc, &trees::program_of(alloc, source)?),
-        "forms" => programs::forms(alloc, &trees::program_of(alloc, source)?),
-        "policies" => programs::policies(alloc, &trees::program_of(alloc, source)?),
-        "step_counts" => programs::step_count(alloc, &trees::program_of(alloc, source)?),
-        _ => checks::said(alloc, source),
+        "check" => checks::said(alloc, source),
+        _ => form_answer(alloc, table, &trees::program_of(alloc, source)?),
     }
 }
 
-/// What is printed of trees, lines, YAML and layouts.
+/// What a table wants of a program.
+fn form_answer(alloc: Global, table: &str, program: &Program) -> Result<String, CaseFault> {
+    match table {
+        "flows" => programs::flows(alloc, program),
+        "forms" => programs::forms(alloc, program),
+        "policies" => programs::policies(alloc, program),
+        _ => programs::step_count(alloc, program),
+    }
+}
+
+/// What is printed of trees, sources, YAML and layouts.
 fn tree_answer(alloc: Global, case: &Case<'_>) -> Result<String, CaseFault> {
     let items = case.items();
     match case.table {
@@ -71,12 +83,27 @@ fn tree_answer(alloc: Global, case: &Case<'_>) -> Result<String, CaseFault> {
         "gathered" => gathered::gathered(alloc, case.item(0)?, case.item(1)?),
         "programs" => sources::program(alloc, items),
         "round_trips" => yaml::round_trip(alloc, items),
+        _ => part_answer(alloc, case),
+    }
+}
+
+/// What is printed of what is written, of long sources, and of lines.
+fn part_answer(alloc: Global, case: &Case<'_>) -> Result<String, CaseFault> {
+    let items = case.items();
+    match case.table {
         "written_texts" => yaml::written_text(alloc, case.text(0)?),
         "written_delays" => yaml::written_delays(alloc, case),
         "long_sources" => long::long(alloc, items),
         "counted_keys" => long::counted(alloc, case),
         "lines" => lines::line(alloc, case),
         "last_lines" => lines::last(alloc, items),
+        _ => scalar_answer(alloc, case),
+    }
+}
+
+/// What is printed of scalars and keys.
+fn scalar_answer(alloc: Global, case: &Case<'_>) -> Result<String, CaseFault> {
+    match case.table {
         "plain_scalars" => scalars::plain(alloc, case.text(0)?),
         "scalars_of_lines" => scalars::one_line(alloc, case.item(0)?, case.text(1)?),
         "keys" => keys::key(alloc, case.text(0)?),

@@ -16,35 +16,49 @@ pub(crate) fn arguments(alloc: Global, items: &[Value]) -> Result<List, CaseFaul
 }
 
 /// The value that an item stands for.
+#[cycle(argument)]
 fn argument(alloc: Global, item: &Value, depth: u32) -> Result<Value, CaseFault> {
     if depth == 0 {
         return Err(CaseFault::NoCase);
     }
     match item {
-        Value::List(list) => {
-            let mut values = List::new(alloc)?;
-            for inner in list.items() {
-                values.push(argument(alloc, inner, depth - 1)?)?;
-            }
-            Ok(Value::List(values))
-        }
-        Value::Map(map) => {
-            if let Some(hex) = hex_in(map) {
-                let bytes = bytes_of(alloc, hex)?;
-                return Ok(Value::Bytes(Bytes::new(alloc, bytes.as_slice())?));
-            }
-            let mut values = Map::new(alloc)?;
-            for i in 0..usize::MAX {
-                let Some((key, inner)) = map.entry(i) else {
-                    break;
-                };
-                let value = argument(alloc, inner, depth - 1)?;
-                values.insert(Text::new(alloc, key)?, value)?;
-            }
-            Ok(Value::Map(values))
-        }
+        Value::List(list) => list_of(alloc, list.items(), depth - 1),
+        Value::Map(map) => match hex_in(map) {
+            Some(hex) => Ok(Value::Bytes(bytes_in(alloc, hex)?)),
+            None => map_of(alloc, map, depth - 1),
+        },
         _ => Ok(item.copy(alloc)?),
     }
+}
+
+/// The list of what its items stand for.
+#[cycle(argument)]
+fn list_of(alloc: Global, items: &[Value], depth: u32) -> Result<Value, CaseFault> {
+    let mut values = List::new(alloc)?;
+    for item in items {
+        values.push(argument(alloc, item, depth)?)?;
+    }
+    Ok(Value::List(values))
+}
+
+/// The map of what its values stand for.
+#[cycle(argument)]
+fn map_of(alloc: Global, map: &Map, depth: u32) -> Result<Value, CaseFault> {
+    let mut values = Map::new(alloc)?;
+    for i in 0..usize::MAX {
+        let Some((key, item)) = map.entry(i) else {
+            break;
+        };
+        let value = argument(alloc, item, depth)?;
+        values.insert(Text::new(alloc, key)?, value)?;
+    }
+    Ok(Value::Map(values))
+}
+
+/// The bytes of a text in hex.
+fn bytes_in(alloc: Global, hex: &Value) -> Result<Bytes, CaseFault> {
+    let bytes = bytes_of(alloc, hex)?;
+    Ok(Bytes::new(alloc, bytes.as_slice())?)
 }
 
 /// The text under `hex` in a map of this one key.

@@ -19,17 +19,45 @@ pub(crate) fn answer(alloc: Global, case: &Case<'_>) -> Result<String, CaseFault
     bind_all(alloc, &mut scopes, outer, case.item(1)?)?;
     let inner = scopes.inner(outer)?;
     bind_all(alloc, &mut scopes, inner, case.item(2)?)?;
-    let name = case.text(3)?;
-    let path = path_of(alloc, case.item(4)?)?;
-    let target = Text::new(alloc, name)?;
-    let outcome = scopes.assign(inner, &target, path.as_slice(), case.item(5)?.copy(alloc)?);
-    let told = told(alloc, outcome)?;
-    let inside = shown(alloc, scopes.look(inner, name))?;
-    let outside = shown(alloc, scopes.look(outer, name))?;
+    let told = assigned(alloc, &mut scopes, inner, case)?;
+    let seen = seen(alloc, &scopes, inner, outer, case.text(3)?)?;
     let with = scopes.total();
     scopes.close(inner);
     let without = scopes.total();
-    Ok(format!(in alloc; "{told} {inside} {outside} {with} {without}")?)
+    Ok(format!(in alloc; "{told} {seen} {with} {without}")?)
+}
+
+/// What the assignment of a case answers.
+fn assigned(
+    alloc: Global,
+    scopes: &mut Scopes,
+    c: Chain,
+    case: &Case<'_>,
+) -> Result<String, CaseFault>
+    requires { IsLive c.number (layers_of scopes.old) }
+    ensures stay { StayLive (layers_of scopes.old) (layers_of scopes.new) }
+    ensures apart { StayInnermost (layers_of scopes.old) (layers_of scopes.new) }
+{
+    let path = path_of(alloc, case.item(4)?)?;
+    let target = Text::new(alloc, case.text(3)?)?;
+    let outcome = scopes.assign(c, &target, path.as_slice(), case.item(5)?.copy(alloc)?);
+    told(alloc, outcome)
+}
+
+/// What a name is in the inner layer and in the outer one.
+fn seen(
+    alloc: Global,
+    scopes: &Scopes,
+    inner: Chain,
+    outer: Chain,
+    name: &str,
+) -> Result<String, CaseFault>
+    requires inner { IsLive inner.number (layers_of scopes.now) }
+    requires outer { IsLive outer.number (layers_of scopes.now) }
+{
+    let inside = shown(alloc, scopes.look(inner, name))?;
+    let outside = shown(alloc, scopes.look(outer, name))?;
+    Ok(format!(in alloc; "{inside} {outside}")?)
 }
 
 /// Binds the pairs of a map, which must be within the limits.

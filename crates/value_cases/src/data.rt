@@ -13,18 +13,38 @@ pub(crate) fn called(
     name: &str,
     args: &[Value],
 ) -> Result<Result<Value, Raise>, CaseFault> {
-    Ok(match (name, args) {
-        ("list.concat", [list, value]) => list_concat(alloc, list, value),
-        ("list.prepend", [list, value]) => list_prepend(alloc, list, value),
-        ("map.get", [map, keys]) => map_get(alloc, map, keys),
-        ("map.delete", [map, key]) => map_delete(alloc, map, key),
-        ("map.merge", [first, second]) => map_merge(alloc, first, second),
-        ("json.decode", [json]) => json_decode(alloc, json),
-        ("base64.encode", [bytes]) => base64_encode(alloc, bytes),
-        ("base64.decode", [text]) => base64_decode(alloc, text),
-        (_, [value]) => return encoded(alloc, name, value),
-        _ => return Err(CaseFault::NoCase),
-    })
+    match args {
+        [value] => of_one(alloc, name, value),
+        [first, second] => of_two(alloc, name, first, second),
+        _ => Err(CaseFault::NoCase),
+    }
+}
+
+/// What one of a single argument gives.
+fn of_one(alloc: Global, name: &str, value: &Value) -> Result<Result<Value, Raise>, CaseFault> {
+    match name {
+        "json.decode" => Ok(json_decode(alloc, value)),
+        "base64.encode" => Ok(base64_encode(alloc, value)),
+        "base64.decode" => Ok(base64_decode(alloc, value)),
+        _ => encoded(alloc, name, value),
+    }
+}
+
+/// What one of two arguments gives.
+fn of_two(
+    alloc: Global,
+    name: &str,
+    first: &Value,
+    second: &Value,
+) -> Result<Result<Value, Raise>, CaseFault> {
+    match name {
+        "list.concat" => Ok(list_concat(alloc, first, second)),
+        "list.prepend" => Ok(list_prepend(alloc, first, second)),
+        "map.get" => Ok(map_get(alloc, first, second)),
+        "map.delete" => Ok(map_delete(alloc, first, second)),
+        "map.merge" => Ok(map_merge(alloc, first, second)),
+        _ => Err(CaseFault::NoCase),
+    }
 }
 
 /// The JSON of a value, for which it may not nest too deep.

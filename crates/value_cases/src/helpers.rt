@@ -36,18 +36,28 @@ pub(crate) fn called(
     name: &str,
     args: &[Value],
 ) -> Result<Result<Value, Raise>, CaseFault> {
-    let call = match args {
-        [_] => format!(in alloc; "{name}(a)")?,
-        [_, _] => format!(in alloc; "{name}(a, b)")?,
-        [_, _, _] => format!(in alloc; "{name}(a, b, c)")?,
+    let given = match args {
+        [_] => "a",
+        [_, _] => "a, b",
+        [_, _, _] => "a, b, c",
         _ => return Err(CaseFault::NoCase),
     };
-    let Ok(expression) = parse(alloc, call.as_str()) else {
+    let call = format!(in alloc; "{name}({given})")?;
+    let names = named(alloc, args)?;
+    evaluated(alloc, call.as_str(), &names)
+}
+
+/// What an expression gives.
+fn evaluated(
+    alloc: Global,
+    source: &str,
+    names: &Names,
+) -> Result<Result<Value, Raise>, CaseFault> {
+    let Ok(expression) = parse(alloc, source) else {
         return Err(CaseFault::NoCase);
     };
     let code = compile(alloc, &expression)?;
-    let names = named(alloc, args)?;
-    Ok(eval(alloc, &code, &names, 0))
+    Ok(eval(alloc, &code, names, 0))
 }
 
 fn named(alloc: Global, args: &[Value]) -> Result<Names, CaseFault> {

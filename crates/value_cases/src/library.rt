@@ -6,7 +6,7 @@ use crate::long::{long_arguments, long_values, measured};
 use crate::{data, helpers, text, time};
 use std::alloc::Global;
 use wf_cases::{Case, CaseFault};
-use wf_value::{Raise, Value};
+use wf_value::{List, Raise, Value};
 
 /// What a function gives for some arguments.
 fn called(alloc: Global, name: &str, args: &[Value]) -> Result<Result<Value, Raise>, CaseFault> {
@@ -31,18 +31,20 @@ pub(crate) fn answered(alloc: Global, case: &Case<'_>) -> Result<String, CaseFau
         | "library_time"
         | "text_functions"
         | "data_functions"
-        | "time_functions" => {
-            let args = arguments(alloc, told)?;
-            shown(alloc, called(alloc, name, args.items())?)
-        }
-        "long_texts" => {
-            let args = long_arguments(alloc, told)?;
-            measured(alloc, called(alloc, name, args.items())?)
-        }
-        "long_values" => {
-            let args = long_values(alloc, told)?;
-            measured(alloc, called(alloc, name, args.items())?)
-        }
+        | "time_functions" => short(alloc, name, told),
+        "long_texts" => long(alloc, name, &long_arguments(alloc, told)?),
+        "long_values" => long(alloc, name, &long_values(alloc, told)?),
         _ => Err(CaseFault::NoCase),
     }
+}
+
+/// What a function gives, told whole.
+fn short(alloc: Global, name: &str, told: &[Value]) -> Result<String, CaseFault> {
+    let args = arguments(alloc, told)?;
+    shown(alloc, called(alloc, name, args.items())?)
+}
+
+/// What a function gives, told by its size.
+fn long(alloc: Global, name: &str, args: &List) -> Result<String, CaseFault> {
+    measured(alloc, called(alloc, name, args.items())?)
 }

@@ -25,6 +25,32 @@ use wf_cases::{Case, CaseFault, case_of};
 fn answer(alloc: Global, case: &Case<'_>) -> Result<String, CaseFault> {
     let items = case.items();
     match case.table {
+        "lists" => lists::built(alloc, items),
+        "copies_of_lists" => lists::copied(alloc, case.item(0)?, case.item(1)?),
+        "maps" => maps::changed(alloc, items),
+        "copies_of_maps" => maps::copied(alloc, items),
+        "pairs" => maps::pairs(alloc, items),
+        "places" | "layers" | "limits" => assigns::answer(alloc, case),
+        _ => plain_answer(alloc, case),
+    }
+}
+
+/// The same, where it is of JSON, or of what a program meets beside values.
+fn plain_answer(alloc: Global, case: &Case<'_>) -> Result<String, CaseFault> {
+    match case.table {
+        "paths" => places::path(alloc, case.items()),
+        "errors" => errors::map_of(alloc, case.text(0)?),
+        "messages" => errors::message(alloc, case.text(0)?),
+        "whole_numbers" => numbers::whole(alloc, case),
+        "backoffs" => numbers::backoff(alloc, case),
+        _ => json_answer(alloc, case),
+    }
+}
+
+/// The same, where it is of JSON, or of a function of the library.
+fn json_answer(alloc: Global, case: &Case<'_>) -> Result<String, CaseFault> {
+    let items = case.items();
+    match case.table {
         "json" | "json_examples" => json::read(alloc, items),
         "json_bytes" => json::read_bytes(alloc, items),
         "compact" => json::compacted(alloc, items),
@@ -33,17 +59,6 @@ fn answer(alloc: Global, case: &Case<'_>) -> Result<String, CaseFault> {
         "bytes" => json::bytes(alloc, case.item(0)?),
         "texts" => json::texts(alloc, case.text(0)?),
         "same" => json::same(case.item(0)?, case.item(1)?, alloc),
-        "lists" => lists::built(alloc, items),
-        "copies_of_lists" => lists::copied(alloc, case.item(0)?, case.item(1)?),
-        "maps" => maps::changed(alloc, items),
-        "copies_of_maps" => maps::copied(alloc, items),
-        "pairs" => maps::pairs(alloc, items),
-        "paths" => places::path(alloc, items),
-        "errors" => errors::map_of(alloc, case.text(0)?),
-        "messages" => errors::message(alloc, case.text(0)?),
-        "whole_numbers" => numbers::whole(alloc, case),
-        "backoffs" => numbers::backoff(alloc, case),
-        "places" | "layers" | "limits" => assigns::answer(alloc, case),
         _ => library::answered(alloc, case),
     }
 }

@@ -27,12 +27,8 @@ fn called(alloc: Global, map: &mut Map, call: &Value) -> Result<String, CaseFaul
         return Err(CaseFault::NoCase);
     };
     match (word.as_str(), rest) {
-        ("insert", [Value::Text(key), value]) => {
-            let old = map.insert(key.copy()?, value.copy(alloc)?)?;
-            written_if(alloc, old.as_ref())
-        }
-        ("put", [Value::Text(key), value]) => {
-            let old = map.put(key, value.copy(alloc)?)?;
+        (word, [Value::Text(key), value]) => {
+            let old = given(map, word, key, value.copy(alloc)?)?;
             written_if(alloc, old.as_ref())
         }
         ("remove", [Value::Text(key)]) => {
@@ -42,6 +38,15 @@ fn called(alloc: Global, map: &mut Map, call: &Value) -> Result<String, CaseFaul
         ("get", [Value::Text(key)]) => written_if(alloc, map.get(key.as_str())),
         ("entry", [Value::Int(number)]) => entry(alloc, map, *number),
         ("size", []) => Ok(format!(in alloc; "{}", map.size())?),
+        _ => Err(CaseFault::NoCase),
+    }
+}
+
+/// A map is given a value at a key, and gives the old one.
+fn given(map: &mut Map, word: &str, key: &Text, value: Value) -> Result<Option<Value>, CaseFault> {
+    match word {
+        "insert" => Ok(map.insert(key.copy()?, value)?),
+        "put" => Ok(map.put(key, value)?),
         _ => Err(CaseFault::NoCase),
     }
 }

@@ -13,17 +13,25 @@ pub(crate) fn called(
     name: &str,
     args: &[Value],
 ) -> Result<Result<Value, Raise>, CaseFault> {
-    Ok(match (name, args) {
-        ("text.split", [s, separator]) => text_split(alloc, s, separator),
-        ("text.replace_all", [s, part, other]) => text_replace_all(alloc, s, part, other),
-        ("text.substring", [s, start, end]) => text_substring(alloc, s, start, end),
-        ("text.find_all", [s, part]) => text_find_all(alloc, s, part),
-        ("text.to_upper", [s]) => text_to_upper(alloc, s),
-        ("text.to_lower", [s]) => text_to_lower(alloc, s),
-        ("text.url_encode", [s]) => text_url_encode(alloc, s),
-        ("text.url_decode", [s]) => text_url_decode(alloc, s),
-        ("text.encode", [s]) => text_encode(alloc, s),
-        ("text.decode", [b]) => text_decode(alloc, b),
-        _ => return Err(CaseFault::NoCase),
-    })
+    match (name, args) {
+        (_, [s]) => of_one(alloc, name, s),
+        ("text.split", [s, separator]) => Ok(text_split(alloc, s, separator)),
+        ("text.find_all", [s, part]) => Ok(text_find_all(alloc, s, part)),
+        ("text.replace_all", [s, part, other]) => Ok(text_replace_all(alloc, s, part, other)),
+        ("text.substring", [s, start, end]) => Ok(text_substring(alloc, s, start, end)),
+        _ => Err(CaseFault::NoCase),
+    }
+}
+
+/// What one of a single argument gives.
+fn of_one(alloc: Global, name: &str, value: &Value) -> Result<Result<Value, Raise>, CaseFault> {
+    match name {
+        "text.to_upper" => Ok(text_to_upper(alloc, value)),
+        "text.to_lower" => Ok(text_to_lower(alloc, value)),
+        "text.url_encode" => Ok(text_url_encode(alloc, value)),
+        "text.url_decode" => Ok(text_url_decode(alloc, value)),
+        "text.encode" => Ok(text_encode(alloc, value)),
+        "text.decode" => Ok(text_decode(alloc, value)),
+        _ => Err(CaseFault::NoCase),
+    }
 }
