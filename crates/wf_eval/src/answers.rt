@@ -15,6 +15,7 @@ const MAX_SIZE: u64 = 4_194_304;
 const MAX_DEPTH: u32 = 100;
 
 /// The value, if it keeps within the limits.
+#[inline(always)]
 pub fn keep(v: Value) -> Result<Value, Raise>
     ensures { Gives result (kept (plain v)) }
 {
@@ -26,6 +27,7 @@ pub fn keep(v: Value) -> Result<Value, Raise>
 }
 
 /// Whether the value keeps within the limits.
+#[inline(always)]
 pub(crate) fn is_kept(v: &Value) -> bool
     ensures { IsTrue result → kept (plain v.now) ≡ Ok (plain v.now) }
 {
@@ -53,6 +55,7 @@ pub fn whole(v: &Value) -> Result<i64, Raise>
 }
 
 /// The number, or its fault's tag.
+#[inline(always)]
 pub fn number(n: Result<i64, NumFault>) -> Result<Value, Raise>
     ensures { Gives result (as_answer n) }
 {

@@ -26,6 +26,7 @@ use wf_ast::{Func, Instr, Op, Postfix, code_means};
 use wf_value::{Raise, Tag, Value, neg};
 
 /// The value of the expression whose code this is, or its first error.
+#[inline(always)]
 pub fn eval<K: Look>(alloc: Global, e: &Postfix, look: &K, now: u64) -> Result<Value, Raise>
     ensures { (x : t.Expr) → instrs e.now ≡ code x
         → Gives result (meaning.eval x (seen (K.sight look.now) now)) }
@@ -48,6 +49,7 @@ pub fn eval<K: Look>(alloc: Global, e: &Postfix, look: &K, now: u64) -> Result<V
 }
 
 /// One instruction, and how many are passed behind it.
+#[inline(always)]
 fn step<K: Look>(
     alloc: Global,
     i: &Instr,
@@ -97,6 +99,7 @@ fn invert(stack: &mut Vec<Value>) -> Result<usize, Raise>
     put(stack, Value::Bool(!truth(&v)?))
 }
 
+#[inline(always)]
 fn combine(alloc: Global, stack: &mut Vec<Value>, op: Op) -> Result<usize, Raise>
     ensures { (s : View) → Steps s (m.combine op) (tops stack.old.items) result
         (tops stack.new.items) }
@@ -154,6 +157,7 @@ fn check(stack: &mut Vec<Value>) -> Result<usize, Raise>
 }
 
 /// Puts a value on the stack if it keeps within the limits, and passes nothing.
+#[inline(always)]
 fn settle(stack: &mut Vec<Value>, value: Result<Value, Raise>) -> Result<usize, Raise>
     ensures { (d : Answer Data) → Gives value d
         → Leads (settled d (tops stack.old.items)) result (tops stack.new.items) }
@@ -162,6 +166,7 @@ fn settle(stack: &mut Vec<Value>, value: Result<Value, Raise>) -> Result<usize, 
 }
 
 /// Puts a value on the stack, and passes nothing.
+#[inline(always)]
 fn put(stack: &mut Vec<Value>, v: Value) -> Result<usize, Raise>
     ensures { Pushes result (tops stack.new.items) (plain v ∷ tops stack.old.items) }
 {

@@ -58,6 +58,7 @@ pub fn at_key(alloc: Global, v: &Value, k: &str) -> Result<Value, Raise>
 }
 
 /// The value of a map's key, or a list's item from 0.
+#[inline(always)]
 pub fn at_index(alloc: Global, v: &Value, w: &Value) -> Result<Value, Raise>
     ensures { Gives result (at_index (plain v.now) (plain w.now)) }
 {

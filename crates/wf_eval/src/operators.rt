@@ -15,6 +15,7 @@ use wf_ast::Op;
 use wf_value::{Raise, Tag, Value, add, div, mul, rem, sub, trunc_div};
 
 /// The operator's value.
+#[inline(always)]
 pub fn operate(alloc: Global, op: Op, v: &Value, w: &Value) -> Result<Value, Raise>
     ensures { Gives result (operate op (plain v.now) (plain w.now)) }
 {

@@ -19,6 +19,7 @@ use wf_ast::Instr;
 use wf_value::{Raise, Value};
 
 /// What short code leaves on an empty stack. None where it isn't short, or where an operand can't be had.
+#[inline(always)]
 pub(crate) fn short<K: Look>(
     alloc: Global,
     items: &[Instr],
@@ -48,6 +49,7 @@ fn one<K: Look>(alloc: Global, i: &Instr, look: &K) -> Option<Result<Value, Rais
 }
 
 /// The value that an instruction puts on the stack, if it does nothing else and keeps within the limits.
+#[inline(always)]
 fn operand<'a, K: Look>(i: &'a Instr, look: &'a K) -> Option<&'a Value>
     ensures { IfSome result (λ v. IsOperand (K.sight look.now) (instr i.now) (plain v.now)) }
 {
@@ -60,6 +62,7 @@ fn operand<'a, K: Look>(i: &'a Instr, look: &'a K) -> Option<&'a Value>
 }
 
 /// What an instruction leaves of the two values that are there alone, the first one below.
+#[inline(always)]
 fn two(alloc: Global, i: &Instr, v: &Value, w: &Value) -> Option<Result<Value, Raise>>
     ensures { IfSome result (λ r. (s : View)
         → Leaves r (act s (instr i.now) alone (plain w.now ∷ plain v.now ∷ []))) }

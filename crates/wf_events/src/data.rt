@@ -45,6 +45,7 @@ impl Events {
     }
 
     /// Adds an event at the end. Without memory for it the events stay as they are.
+    #[inline(always)]
     pub fn push(&mut self, event: Event) -> Result<(), OutOfMemory>
         ensures ok { OnOk result (events_view self.new
             ≡ events_view self.old ++ event_view event ∷ []) }

@@ -62,6 +62,7 @@ fn write_start(writer: &mut Writer, start: &Start) -> Result<(), OutOfMemory>
 }
 
 /// An event's code and its task.
+#[inline(always)]
 fn write_task(writer: &mut Writer, code: u8, task: u32) -> Result<(), OutOfMemory>
     ensures { OnOk result (writer.new ≡ writer.old ++ code ∷ four task) }
 {

@@ -19,6 +19,7 @@ use wf_model::Node;
 use wf_value::OutOfMemory;
 
 /// The next step of a list. Its frame was taken.
+#[inline(always)]
 fn do_step<K: Look>(
     alloc: Global,
     nodes: &[Node],
@@ -49,6 +50,7 @@ fn do_step<K: Look>(
 }
 
 /// The body of an arm, or one under a `try`. Its frame was taken.
+#[inline(always)]
 fn lone_step<K: Look>(
     alloc: Global,
     nodes: &[Node],
@@ -78,6 +80,7 @@ fn lone_step<K: Look>(
 }
 
 /// The next entry of an assign. Its frame was taken.
+#[inline(always)]
 fn entry_step(nodes: &[Node], n: u32, at: usize, frames: &mut Frames) -> Result<Step, OutOfMemory>
     ghost ns: { List Spot }
     requires tells { Tells ns nodes.now }
@@ -97,6 +100,7 @@ fn entry_step(nodes: &[Node], n: u32, at: usize, frames: &mut Frames) -> Result<
 }
 
 /// The innermost frame's step, but for a loop's. The frame was taken.
+#[inline(always)]
 pub fn step_of<K: Look>(
     alloc: Global,
     nodes: &[Node],

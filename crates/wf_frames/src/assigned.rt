@@ -21,6 +21,8 @@ pub struct Assigned {
 }
 
 /// The value of an entry first, and then those of the places of its target, with the compiled expressions of its node; or the first error.
+/// They see the reading of the clock `now`, in milliseconds since 1970.
+#[inline(always)]
 pub fn evaluate<K: Look>(
     alloc: Global,
     entry: &EntryNode,

@@ -29,6 +29,7 @@ pub(crate) fn value_at<K: Look>(
 }
 
 /// The value of a compiled expression.
+#[inline(always)]
 fn value<K: Look>(alloc: Global, code: &Postfix, look: &K, now: u64) -> Result<Value, Raise>
     ensures { Gives result (meaning.eval (decoded code.now) (seen (K.sight look.now) now)) }
 {

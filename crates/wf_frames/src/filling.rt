@@ -2,7 +2,6 @@
 ghost use Rattle.std.specs.Prelude.{map, Ok};
 ghost use Rattle.wf_value.specs.Data.{Items, Pairs, items_of, pairs_of, no_pairs};
 ghost use Rattle.wf_value.specs.Errors.{Answer};
-ghost use Rattle.wf_value.specs.Pairs.{put};
 ghost use Rattle.wf_value.specs.Plain.{plain};
 ghost use Rattle.wf_ast.specs.Eval as meaning;
 ghost use Rattle.wf_ast.specs.Tree.{templates, fields};
@@ -20,6 +19,7 @@ use wf_value::{List, Map, Raise, Text, Value};
 /// The value of the template that a shape stands for with the compiled expressions of its node, or its first error: members of lists in
 /// their order, members of maps in the order of the keys.
 #[cycle(fill)]
+#[inline(always)]
 pub(crate) fn fill_shape<K: Look>(
     alloc: Global,
     shape: &Shape,

@@ -44,6 +44,7 @@ impl Frame {
     ghost use Rattle.wf_frames.specs.Frames.{is_back, mark_of};
 
     /// The number of the layer that ends with it.
+    #[inline(always)]
     pub(crate) fn mark(&self) -> Option<u64>
         ensures { result ≡ mark_of self.now }
     {
@@ -88,6 +89,7 @@ impl Frames {
     }
 
     /// Puts a frame inside all others. Without memory all stays, and the frame is dropped.
+    #[inline(always)]
     pub fn push(&mut self, frame: Frame) -> Result<(), OutOfMemory>
         ensures pushed { inner self.new
             ≡ (if is_ok result then frame ∷ inner self.old else inner self.old) }
@@ -98,6 +100,7 @@ impl Frames {
     }
 
     /// Takes the innermost frame.
+    #[inline(always)]
     pub fn pop(&mut self) -> Option<Frame>
         ensures popped { inner self.old ≡ popped result (inner self.new) }
         ensures none { IfNone result (inner self.new ≡ []) }
@@ -108,6 +111,7 @@ impl Frames {
 
     /// The innermost frame.
     #[tactic(auto, using(crate::proofs::Reversed::reverse_top))]
+    #[inline(always)]
     pub fn top(&self) -> Option<&Frame>
         ensures { topped (inner self.now) ≡ option_map (λ f. f.now) result }
     {
@@ -123,6 +127,7 @@ impl Frames {
     }
 
     /// The innermost of the task's own layers.
+    #[inline(always)]
     pub fn layer(&self) -> Chain
         ensures { result.number ≡ innermost self.now.first (inner self.now) }
     {

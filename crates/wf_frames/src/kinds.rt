@@ -64,6 +64,7 @@ fn number_at(numbers: &[u32], at: usize) -> Option<u32>
 }
 
 /// Of the innermost frame. `wants` has what each node wants.
+#[inline(always)]
 pub fn frame_kind(nodes: &[Node], wants: &[Wants], frame: &Frame) -> Kind
     ghost ns: { List Spot }
     requires tells { Tells ns nodes.now }

@@ -8,6 +8,7 @@ use crate::frames::Frames;
 use wf_scope::{Chain, Scopes};
 
 /// The innermost frame is left, with its layer if it has one; whether there was one.
+#[inline(always)]
 pub fn leave(frames: &mut Frames, scopes: &mut Scopes) -> bool
     ghost around: { Around }
     requires { IsLinked around (own_of frames.old) scopes.old }

@@ -13,6 +13,7 @@ use crate::sighted::Seen;
 use wf_scope::Scopes;
 
 /// What a task sees: the names of its innermost layer and of those outside, and the environment.
+#[inline(always)]
 pub fn seen<'a>(frames: &Frames, scopes: &'a Scopes, facts: &'a Facts) -> Seen<'a>
     ghost around: { Around }
     requires { IsLinked around (own_of frames.now) scopes.now }

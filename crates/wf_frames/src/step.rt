@@ -1,5 +1,5 @@
 // What a step does to a task's frames.
-ghost use Rattle.std.specs.Prelude.{◌≡◌, ◌<◌, ◌≤◌, ◌∷◌, ℕ, List, Option, length, IfOk, IfSome, None, OnOk, false, true};
+ghost use Rattle.std.specs.Prelude.{◌≡◌, ◌<◌, ◌≤◌, ◌∷◌, List, Option, length, IfOk, IfSome, None, OnOk, false, true};
 ghost use Rattle.wf_ast.specs.Eval.{truth};
 ghost use Rattle.wf_ast.specs.Tree.{Body, Steps, loop};
 ghost use Rattle.wf_eval.specs.Answers.{Answers, GivesBool};
@@ -365,6 +365,7 @@ fn enter_try(
 }
 
 /// The body of a node that is no call is carried out.
+#[inline(always)]
 fn perform_plain<K: Look>(
     alloc: Global,
     nodes: &[Node],
@@ -412,6 +413,7 @@ fn perform_plain<K: Look>(
 }
 
 /// The body of a node is carried out.
+#[inline(always)]
 fn perform<K: Look>(
     alloc: Global,
     nodes: &[Node],
@@ -444,6 +446,7 @@ fn perform<K: Look>(
 }
 
 /// The step of a node is carried out.
+#[inline(always)]
 pub(crate) fn carry_out<K: Look>(
     alloc: Global,
     nodes: &[Node],

@@ -14,6 +14,7 @@ use wf_value::{OutOfMemory, Raise, Tag, Text, Value};
 
 /// A value is assigned to a name, or to the places below it, each of which is a key of a map or an index of a list: where the task sees
 /// the name, and else in its innermost layer. It gives the tag of the error where the assignment is refused, and then all stays.
+#[inline(always)]
 pub fn assign(
     alloc: Global,
     frames: &Frames,
@@ -36,6 +37,7 @@ pub fn assign(
 }
 
 /// The same with keys for places.
+#[inline(always)]
 fn put(
     frames: &Frames,
     scopes: &mut Scopes,

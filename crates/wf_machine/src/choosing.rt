@@ -1,5 +1,5 @@
 // The event that comes next.
-ghost use Rattle.std.specs.Prelude.{◌≡◌, IfSome, max, option_map};
+ghost use Rattle.std.specs.Prelude.{◌≡◌, IfSome, option_map};
 ghost use Rattle.wf_events.specs.View.{event_view};
 ghost use Rattle.wf_machine.specs.Seen.{state_of};
 ghost use Rattle.wf_model.specs.Choose.{choose, wanted};

@@ -57,6 +57,7 @@ fn ending_by(end: End) -> Ending
 
 /// How an execution stands behind what `main` has done at a reading. A request that was made is one more call, and a value that was logged
 /// one more entry.
+#[inline(always)]
 pub(crate) fn ending_of(
     did: Move,
     reading: u64,

@@ -83,6 +83,7 @@ impl Machine {
 
     /// Applies the event that comes next at a reading of the clock, in milliseconds since 1970, as `choose` gives it, and gives it: that is
     /// one step. Where none comes nothing changes. Without memory the machine is only to be let go.
+    #[inline(always)]
     pub fn apply_next<L: Ledger>(
         &mut self,
         reading: u64,

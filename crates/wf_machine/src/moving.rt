@@ -42,6 +42,7 @@ fn readings_of(kind: Kind, reading: u64, last: u64) -> Readings
 
 impl Machine {
     /// The kind of event that `main`'s next step wants; none where the execution or `main` has ended, and none where it waits.
+    #[inline(always)]
     pub(crate) fn wanted_kind(&self) -> Option<Kind>
         ensures some { IfSome result (λ q. StepsBy self.now (kind_view q)) }
         ensures none { IsNone result → StepsNot self.now }
@@ -90,6 +91,7 @@ impl Machine {
 
     /// Takes `main`'s next step, which wants an event of this kind. It counts: the one with the number 100,000 isn't carried out, and ends
     /// the execution.
+    #[inline(always)]
     pub(crate) fn take_step(&mut self, kind: Kind, reading: u64) -> Result<(), ApplyFault>
         requires whole { self.old.broken ≡ false }
         requires wanted { StepsBy self.old (kind_view kind) }
@@ -112,6 +114,7 @@ impl Machine {
     }
 
     /// `main` goes on for this cause, and the rest stands so behind it. Without memory the machine is broken.
+    #[inline(always)]
     pub(crate) fn carry_on(
         &mut self,
         cause: Cause,

@@ -54,6 +54,7 @@ pub(crate) fn first_task(
 }
 
 /// Which event `main`'s next move wants.
+#[inline(always)]
 pub(crate) fn kind_of(program: &Checked, wants: &[Wants], task: &Task) -> Kind
     ghost plain: { Program }
     requires tells { Tells (spots plain.flows) (nodes_of program.now) }
@@ -85,6 +86,7 @@ pub(crate) struct Heard {
 }
 
 /// `main` goes on for this cause. Without memory the task, the layers and the calls are only to be let go.
+#[inline(always)]
 pub(crate) fn go_on(
     program: &Checked,
     targets: &[Target],

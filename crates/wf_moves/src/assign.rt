@@ -20,6 +20,7 @@ use wf_scope::Scopes;
 use wf_value::{OutOfMemory, Text};
 
 /// The task goes on behind an assignment, or its error goes outward.
+#[inline(always)]
 pub(crate) fn store(
     alloc: Global,
     nodes: &[Node],
@@ -46,6 +47,7 @@ pub(crate) fn store(
 }
 
 /// The assignment of an entry.
+#[inline(always)]
 pub(crate) fn assign(
     alloc: Global,
     nodes: &[Node],

@@ -49,6 +49,7 @@ pub(crate) enum Done {
 }
 
 /// Whether a frame has ended.
+#[inline(always)]
 fn is_ended(frame: &Frame, nodes: &[Node]) -> bool
     ghost ns: { List Spot }
     requires tells { Tells ns nodes.now }
@@ -67,6 +68,7 @@ fn is_ended(frame: &Frame, nodes: &[Node]) -> bool
 }
 
 /// What has ended is left.
+#[inline(always)]
 pub(crate) fn settle(frames: &mut Frames, nodes: &[Node], scopes: &mut Scopes)
     ghost around: { Around }
     requires tells { Tells around.spots nodes.now }
@@ -86,6 +88,7 @@ pub(crate) fn settle(frames: &mut Frames, nodes: &[Node], scopes: &mut Scopes)
 }
 
 /// The task goes on behind what has ended, or has ended itself.
+#[inline(always)]
 pub(crate) fn goes(frames: &mut Frames, nodes: &[Node], scopes: &mut Scopes) -> Went
     ghost around: { Around }
     requires tells { Tells around.spots nodes.now }

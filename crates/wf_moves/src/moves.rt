@@ -24,6 +24,7 @@ use wf_scope::Scopes;
 use wf_value::{OutOfMemory, Value};
 
 /// What is left of a step that doesn't call, beside its frames.
+#[inline(always)]
 fn finish(
     alloc: Global,
     nodes: &[Node],
@@ -54,6 +55,7 @@ fn finish(
 }
 
 /// What is left of a step, beside its frames.
+#[inline(always)]
 fn finish_step(
     alloc: Global,
     nodes: &[Node],
@@ -94,6 +96,7 @@ fn is_at_back(frames: &Frames) -> bool
 }
 
 /// The move of a task that stands neither at the end of a workflow that was called nor before a loop's turn. Its frame was taken.
+#[inline(always)]
 fn step_on(
     alloc: Global,
     nodes: &[Node],
@@ -122,6 +125,7 @@ fn step_on(
 }
 
 /// The move of a task, or its request. The end of a workflow that was called is a return of null.
+#[inline(always)]
 pub(crate) fn advance(
     alloc: Global,
     nodes: &[Node],

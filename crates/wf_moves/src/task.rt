@@ -115,6 +115,7 @@ impl Task {
     }
 
     /// Which event the next move wants. `wants` has what each node wants.
+    #[inline(always)]
     pub fn next_kind(&self, nodes: &[Node], wants: &[Wants]) -> Kind
         ghost around: { Around }
         requires tells { Tells around.spots nodes.now }
@@ -160,6 +161,7 @@ impl Task {
 
     /// The next move, or the request that is next. `targets` has what a call names at the call's own number, and the workflow of a
     /// predicate at that of its `try`. Without memory the task and the layers are left in any state, and are only to be let go.
+    #[inline(always)]
     pub fn advance(
         &mut self,
         nodes: &[Node],
@@ -313,6 +315,7 @@ impl Task {
     }
 
     /// Where a move leads: its error goes outward, and so does what a predicate has said.
+    #[inline(always)]
     fn follow(
         &mut self,
         nodes: &[Node],

@@ -17,6 +17,7 @@ pub(crate) struct Layer {
 
 impl Layer {
     /// Where the variable of this name stands, and its value; where it isn't there, its place is where it belongs.
+    #[inline(always)]
     pub(crate) fn find(&self, name: &str) -> (Result<usize, usize>, Option<&Value>)
         ensures place { result.0 ≡ place_of name.now self.now.vars }
         ensures value { option_map (λ v. plain v.now) result.1
@@ -34,6 +35,7 @@ impl Layer {
     }
 
     /// Makes or changes the variable of this name, at its place. Without memory the layer stays, and the value is dropped.
+    #[inline(always)]
     pub(crate) fn put(
         &mut self,
         place: Result<usize, usize>,

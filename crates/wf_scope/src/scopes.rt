@@ -86,6 +86,7 @@ impl Scopes {
 
     /// The value of a variable: in the innermost of the layers that are seen which has the name; none where none has. The layer must be
     /// live.
+    #[inline(always)]
     pub fn look(&self, c: Chain, name: &str) -> Option<&Value>
         requires { IsLive c.number (layers_of self.now) }
         ensures { option_map (λ v. plain v.now) result
@@ -143,6 +144,7 @@ impl Scopes {
     ///
     /// The first of these causes that holds is told: `TooLarge` where the total would be above the limit, `TooDeep` where the value nests
     /// deeper than 100. Besides, memory may be wanting.
+    #[inline(always)]
     pub fn bind(&mut self, c: Chain, name: &Text, v: Value) -> Result<(), AssignFault>
         requires { IsLive c.number (layers_of self.old) }
         ensures outcome { Answers result (layers_of self.new)
@@ -163,6 +165,7 @@ impl Scopes {
     /// The places are entered one after another. A missing last key of a map is added. Another missing key, and any place below a variable
     /// that isn't there, is a `MissingKey`, an index outside its list a `BadIndex`, any other place a `NotAContainer`. Then the limits are
     /// tested as in `bind`, with the variable as it would be. Besides, memory may be wanting.
+    #[inline(always)]
     pub fn assign(
         &mut self,
         c: Chain,
@@ -239,7 +242,7 @@ impl Scopes {
     }
 
     /// The variable of this name in a layer, and its value.
-    #[inline]
+    #[inline(always)]
     fn spot(&self, number: u64, name: &str) -> (Spot, Option<&Value>)
         requires { IsLive number (layers_of self.now) }
         ensures number { result.0.number ≡ number }
@@ -288,6 +291,7 @@ impl Scopes {
     }
 
     /// The total once the variable has the value.
+    #[inline(always)]
     fn total_with(&self, spot: Spot, name: &Text, value: &Value) -> u64
         requires live { IsLive spot.number (layers_of self.now) }
         requires spot { IsSpot spot name.now (layers_of self.now) }
@@ -300,6 +304,7 @@ impl Scopes {
     }
 
     /// Makes or changes a variable.
+    #[inline(always)]
     fn bind_at(&mut self, spot: Spot, name: &Text, v: Value) -> Result<(), AssignFault>
         requires live { IsLive spot.number (layers_of self.old) }
         requires spot { IsSpot spot name.now (layers_of self.old) }
@@ -369,6 +374,7 @@ impl Scopes {
 }
 
 /// What a variable counts: 2, the bytes of its name and the size of its value.
+#[inline(always)]
 fn size_of_variable(name: &str, value: &Value) -> u64
     ensures { result ≡ min (2 + length name.now + size (plain value.now)) 18446744073709551615 }
 {
@@ -379,6 +385,7 @@ fn size_of_variable(name: &str, value: &Value) -> u64
 }
 
 /// Makes or changes a variable of the layer at a place, at its own place there. Without memory all stays.
+#[inline(always)]
 fn put(
     layers: &mut Vec<Layer>,
     place: usize,

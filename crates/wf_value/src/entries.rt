@@ -17,6 +17,7 @@ use std::mem;
 use std::rc::Rc;
 
 /// The value at the key.
+#[inline(always)]
 pub(crate) fn find<'a>(pairs: &'a [(Text, Value)], key: &str) -> Option<&'a Value>
     requires { IsInOrder pairs.now }
     ensures { option_copied result ≡ value_at key.now pairs.now }
@@ -207,6 +208,7 @@ fn take_measured(entries: &mut Entries, key: &str) -> Option<Value>
 }
 
 /// Where the key stands, or where it belongs.
+#[inline(always)]
 pub(crate) fn seek(pairs: &[(Text, Value)], key: &str) -> Result<usize, usize>
     requires { IsInOrder pairs.now }
     ensures place { result ≡ seek (key_cmp key.now) pairs.now }

@@ -32,6 +32,7 @@ fn copy_items(alloc: Global, items: &[Value]) -> Result<Vec<Value>, OutOfMemory>
 }
 
 /// Makes this the only owner of the pairs, which stay the same.
+#[inline(always)]
 pub(crate) fn own_entries(entries: &mut Rc<Entries>) -> Result<(), OutOfMemory>
     ensures pairs { entries.new.value.pairs.items ≡ entries.old.value.pairs.items }
     ensures measure { entries.new.value.measure ≡ entries.old.value.measure }

@@ -9,6 +9,7 @@ impl Value {
     /// What the value counts for against a limit: 1 for null and a truth value, 8 for a number, 2
     /// and the bytes for a text and for bytes, 2 and its members for a list or a map, where each key
     /// counts as a text. A sum past 18,446,744,073,709,551,615 stops there.
+    #[inline(always)]
     pub fn size(&self) -> u64
         ensures { result ≡ min (size (plain self.now)) 18446744073709551615 }
     {

@@ -36,6 +36,7 @@ pub enum Value {
 // Written, and not derived: it is one call wherever a value is let go.
 impl Drop for Value {
     #[cycle(value)]
+    #[inline(always)]
     fn drop(self) {
         match self {
             Value::Null | Value::Bool(_) | Value::Int(_) => {}
@@ -210,6 +211,7 @@ impl Map {
     }
 
     /// The value at a key.
+    #[inline(always)]
     pub fn get(&self, key: &str) -> Option<&Value>
         ensures value { option_map (λ v. plain v.now) result ≡ value_at key.now self.now }
         ensures order { IsInOrder self.now }
@@ -251,6 +253,7 @@ impl Map {
     }
 
     /// Where a key stands, or where it belongs.
+    #[inline(always)]
     pub fn place(&self, key: &str) -> Result<usize, usize>
         ensures place { result ≡ place_of key.now self.now }
         ensures order { IsInOrder self.now }
