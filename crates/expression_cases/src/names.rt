@@ -6,9 +6,9 @@ ghost use Rattle.std.specs.Prelude.{◌≡◌, option_map};
 ghost use Rattle.wf_ast.specs.Apply.{env_in};
 
 use std::alloc::Global;
-use wf_cases::{Case, CaseFault, bytes_of, text_of};
+use wf_cases::{Case, CaseFault, blob_of, text_of};
 use wf_eval::Look;
-use wf_value::{Bytes, List, Map, Pairs, Text, Value};
+use wf_value::{List, Map, Pairs, Text, Value};
 
 /// Names with their values, the pairs of the environment, and the id.
 #[derive(Drop)]
@@ -145,8 +145,7 @@ fn made_value(alloc: Global, kind: &str, first: &Value) -> Result<Value, CaseFau
 }
 
 fn made_bytes(alloc: Global, hex: &Value) -> Result<Value, CaseFault> {
-    let bytes = bytes_of(alloc, hex)?;
-    Ok(Value::Bytes(Bytes::new(alloc, bytes.as_slice())?))
+    Ok(Value::Bytes(blob_of(alloc, hex)?))
 }
 
 fn made_text(alloc: Global, pieces: &[Value]) -> Result<Value, CaseFault> {

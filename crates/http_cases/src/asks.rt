@@ -1,9 +1,9 @@
 // What the arguments of calls ask for.
-use crate::arguments::{Stop, value_of};
+use crate::arguments::Stop;
 use crate::requests::{is_shallow, told};
 use std::alloc::Global;
 use wf_callbacks::Method;
-use wf_cases::{Case, CaseFault, hex_of, json_of};
+use wf_cases::{Case, CaseFault, hex_of, json_of, value_of};
 use wf_host::Routes;
 use wf_http_ask::{Request, asked_of, request_of};
 use wf_http_out::Asked;
@@ -63,11 +63,7 @@ fn listed(alloc: Global, asked: &Asked) -> Result<Value, CaseFault> {
     let Ok(timeout) = i64::try_from(asked.timeout) else {
         return Err(CaseFault::NoCase);
     };
-    let mut list = List::new(alloc)?;
-    list.push(Value::Text(Text::new(alloc, asked.method.name())?))?;
-    list.push(Value::Text(asked.url.copy()?))?;
-    list.push(pair_lists(alloc, &asked.fields)?)?;
-    list.push(pair_lists(alloc, &asked.query)?)?;
+    let mut list = address_of(alloc, asked)?;
     list.push(match &asked.body {
         Some(body) => body.copy(alloc)?,
         None => Value::Null,
@@ -76,15 +72,29 @@ fn listed(alloc: Global, asked: &Asked) -> Result<Value, CaseFault> {
     Ok(Value::List(list))
 }
 
+/// The method, the URL, the fields and the query.
+fn address_of(alloc: Global, asked: &Asked) -> Result<List, CaseFault> {
+    let mut list = List::new(alloc)?;
+    list.push(Value::Text(Text::new(alloc, asked.method.name())?))?;
+    list.push(Value::Text(asked.url.copy()?))?;
+    list.push(pair_lists(alloc, &asked.fields)?)?;
+    list.push(pair_lists(alloc, &asked.query)?)?;
+    Ok(list)
+}
+
 fn pair_lists(alloc: Global, pairs: &Pairs) -> Result<Value, CaseFault> {
     let mut lists = List::new(alloc)?;
-    for pair in pairs.items() {
-        let mut list = List::new(alloc)?;
-        list.push(Value::Text(pair.0.copy()?))?;
-        list.push(Value::Text(pair.1.copy()?))?;
-        lists.push(Value::List(list))?;
+    for (name, value) in pairs.items() {
+        lists.push(pair_list(alloc, name, value)?)?;
     }
     Ok(Value::List(lists))
+}
+
+fn pair_list(alloc: Global, name: &Text, value: &Text) -> Result<Value, CaseFault> {
+    let mut list = List::new(alloc)?;
+    list.push(Value::Text(name.copy()?))?;
+    list.push(Value::Text(value.copy()?))?;
+    Ok(Value::List(list))
 }
 
 fn sent(alloc: Global, request: &Request) -> Result<String, CaseFault> {

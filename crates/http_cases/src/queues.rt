@@ -159,23 +159,35 @@ fn visitor_of(alloc: Global, value: &Value) -> Result<Visitor, CaseFault> {
     let [Value::Text(method), Value::List(fields), Value::List(body)] = parts.items() else {
         return Err(CaseFault::NoCase);
     };
-    let mut headers = Fields::new(alloc)?;
-    for field in fields.items() {
-        let Value::List(pair) = field else {
-            return Err(CaseFault::NoCase);
-        };
-        let [Value::Text(name), Value::Text(value)] = pair.items() else {
-            return Err(CaseFault::NoCase);
-        };
-        let name = Bytes::new(alloc, name.as_str().as_bytes())?;
-        headers.push(name, Bytes::new(alloc, value.as_str().as_bytes())?)?;
-    }
+    let method = named(method.as_str())?;
     let body = text_of(alloc, body.items())?;
     Ok(Visitor {
-        method: named(method.as_str())?,
-        headers,
+        method,
+        headers: fields_of(alloc, fields.items())?,
         body: Bytes::new(alloc, body.as_bytes())?,
     })
+}
+
+/// The fields of a request, each a pair.
+fn fields_of(alloc: Global, pairs: &[Value]) -> Result<Fields, CaseFault> {
+    let mut fields = Fields::new(alloc)?;
+    for pair in pairs {
+        let (name, value) = field_of(pair)?;
+        let name = Bytes::new(alloc, name.as_bytes())?;
+        fields.push(name, Bytes::new(alloc, value.as_bytes())?)?;
+    }
+    Ok(fields)
+}
+
+/// The name and the value of a field.
+fn field_of(pair: &Value) -> Result<(&str, &str), CaseFault> {
+    let Value::List(pair) = pair else {
+        return Err(CaseFault::NoCase);
+    };
+    match pair.items() {
+        [Value::Text(name), Value::Text(value)] => Ok((name.as_str(), value.as_str())),
+        _ => Err(CaseFault::NoCase),
+    }
 }
 
 fn named(name: &str) -> Result<Method, CaseFault> {

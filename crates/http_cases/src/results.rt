@@ -2,7 +2,7 @@
 use crate::answers::reading_of;
 use std::alloc::Global;
 use wf_callbacks::{Fields, Method, Visitor};
-use wf_cases::{Case, CaseFault, bytes_of, json_of};
+use wf_cases::{Case, CaseFault, blob_of, bytes_of, json_of};
 use wf_http_value::{ReplyFault, reply_value, response_value, visit_value};
 use wf_value::{Bytes, Value};
 
@@ -33,11 +33,10 @@ pub(crate) fn results_of_visits(alloc: Global, case: &Case<'_>) -> Result<String
     let Some(method) = Method::named(case.text(0)?) else {
         return Err(CaseFault::NoCase);
     };
-    let body = bytes_of(alloc, case.item(2)?)?;
     let visitor = Visitor {
         method,
         headers: fields_of(alloc, case.item(1)?)?,
-        body: Bytes::new(alloc, body.as_slice())?,
+        body: blob_of(alloc, case.item(2)?)?,
     };
     given(alloc, &visit_value(alloc, &visitor))
 }
@@ -58,7 +57,7 @@ fn part_of(alloc: Global, field: &Value, i: usize) -> Result<Bytes, CaseFault> {
         return Err(CaseFault::NoCase);
     };
     match parts.items().get(i) {
-        Some(part) => Ok(Bytes::new(alloc, bytes_of(alloc, part)?.as_slice())?),
+        Some(part) => blob_of(alloc, part),
         None => Err(CaseFault::NoCase),
     }
 }

@@ -6,14 +6,11 @@ use wf_value::{Backoff, DefaultKind, Value};
 
 /// The first delays of a backoff, as many as are asked for.
 pub(crate) fn delays(alloc: Global, case: &Case<'_>) -> Result<String, CaseFault> {
-    let backoff = Backoff {
-        initial: natural(case.number(0)?)?,
-        max: natural(case.number(1)?)?,
-        multiplier: natural(case.number(2)?)?,
-    };
+    let backoff = backoff_of(case)?;
+    let count = natural(case.number(3)?)?;
     let mut shown = String::new(alloc);
     let mut last = None;
-    for _ in 0..natural(case.number(3)?)? {
+    for _ in 0..count {
         let delay = next_delay(&backoff, last);
         if last.is_some() {
             shown.push(' ')?;
@@ -22,6 +19,15 @@ pub(crate) fn delays(alloc: Global, case: &Case<'_>) -> Result<String, CaseFault
         last = Some(delay);
     }
     Ok(shown)
+}
+
+/// The backoff that the first three items of a case are.
+fn backoff_of(case: &Case<'_>) -> Result<Backoff, CaseFault> {
+    Ok(Backoff {
+        initial: natural(case.number(0)?)?,
+        max: natural(case.number(1)?)?,
+        multiplier: natural(case.number(2)?)?,
+    })
 }
 
 /// Whether a predicate retries an error.

@@ -1,8 +1,8 @@
 // Values as JSON, and what they measure.
 use std::alloc::Global;
-use wf_cases::{CaseFault, bytes_of, json_of, text_of, utf8};
+use wf_cases::{CaseFault, blob_of, bytes_of, json_of, text_of, utf8};
 use wf_json_laws::{compact, read_again, said_values_come_back};
-use wf_value::{Bytes, JsonFault, Text, Value, from_json};
+use wf_value::{JsonFault, Text, Value, from_json};
 
 /// A value as JSON, or `none`.
 pub(crate) fn written_if(alloc: Global, value: Option<&Value>) -> Result<String, CaseFault> {
@@ -61,7 +61,7 @@ pub(crate) fn measures(alloc: Global, items: &[Value]) -> Result<String, CaseFau
 
 /// Bytes as a value: what a copy is written as, its size, and whether it is the same.
 pub(crate) fn bytes(alloc: Global, item: &Value) -> Result<String, CaseFault> {
-    let bytes = Bytes::new(alloc, bytes_of(alloc, item)?.as_slice())?;
+    let bytes = blob_of(alloc, item)?;
     let copy = Value::Bytes(bytes.copy()?);
     let shown = json_of(alloc, &copy)?;
     let size = copy.size();

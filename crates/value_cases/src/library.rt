@@ -1,11 +1,10 @@
 // Functions of the library. A case is the name of a function and its arguments. The answer is the type of the value, a blank and the value,
 // or the tag of the error.
 use crate::answers::shown;
-use crate::arguments::arguments;
 use crate::long::{long_arguments, long_values, measured};
 use crate::{data, helpers, text, time};
 use std::alloc::Global;
-use wf_cases::{Case, CaseFault};
+use wf_cases::{Case, CaseFault, values_of};
 use wf_value::{List, Raise, Value};
 
 /// What a function gives for some arguments.
@@ -40,7 +39,7 @@ pub(crate) fn answered(alloc: Global, case: &Case<'_>) -> Result<String, CaseFau
 
 /// What a function gives, told whole.
 fn short(alloc: Global, name: &str, told: &[Value]) -> Result<String, CaseFault> {
-    let args = arguments(alloc, told)?;
+    let args = values_of(alloc, told)?;
     shown(alloc, called(alloc, name, args.items())?)
 }
 

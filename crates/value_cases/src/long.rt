@@ -1,8 +1,8 @@
 // Long arguments, of which only the size of the answer is printed.
 use crate::answers::{kind, tag};
 use std::alloc::Global;
-use wf_cases::{CaseFault, bytes_of, text_of};
-use wf_value::{Bytes, List, Raise, Text, Value, from_json};
+use wf_cases::{CaseFault, blob_of, text_of};
+use wf_value::{List, Raise, Text, Value, from_json};
 
 /// Arguments that are told piece by piece: a list is a text, a map of the one key `hex` with a list is bytes, and all others are themselves.
 pub(crate) fn long_arguments(alloc: Global, items: &[Value]) -> Result<List, CaseFault> {
@@ -20,10 +20,7 @@ fn long_argument(alloc: Global, item: &Value) -> Result<Value, CaseFault> {
             Ok(Value::Text(Text::new(alloc, text.as_str())?))
         }
         Value::Map(map) => match map.get("hex") {
-            Some(pieces) => {
-                let bytes = bytes_of(alloc, pieces)?;
-                Ok(Value::Bytes(Bytes::new(alloc, bytes.as_slice())?))
-            }
+            Some(pieces) => Ok(Value::Bytes(blob_of(alloc, pieces)?)),
             None => Err(CaseFault::NoCase),
         },
         _ => Ok(item.copy(alloc)?),

@@ -3,7 +3,6 @@
 #![tactic(auto)]
 
 mod answers;
-mod arguments;
 mod assigns;
 mod data;
 mod errors;

@@ -1,4 +1,0 @@
-use Rattle.http_cases.proofs.arguments.+body_of.Given as goal
-
-abbrev pub decreases-body_of : goal.decreases-body_of
-decreases-body_of l = l.depth
