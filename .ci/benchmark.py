@@ -71,11 +71,8 @@ def events(journal):
     return sum(int.from_bytes(payload[17:21], "big") for payload in records(journal) if payload[0] == 2)
 
 
-def run(folder, source, printed, journal):
-    """Runs a source with a journal, and returns the time that passed and the processor time, in seconds."""
-    with open(f"{folder}/source", "wb") as file:
-        file.write(source)
-    words = [PROGRAM, "run", "--source", "source", "--id", "b", "--journal", journal]
+def timed(folder, words):
+    """What a command prints, and the time that passed and the processor time from its start to its end, in seconds."""
     begun = time.perf_counter()
     started = subprocess.Popen(words, cwd=folder, stdin=subprocess.DEVNULL, stdout=subprocess.PIPE)
     said = started.stdout.read()
@@ -83,17 +80,27 @@ def run(folder, source, printed, journal):
     passed = time.perf_counter() - begun
     started.returncode = os.waitstatus_to_exitcode(status)
     started.stdout.close()
-    assert (started.returncode, said) == (0, printed), (started.returncode, said[:200])
-    return passed, used.ru_utime + used.ru_stime
+    assert started.returncode == 0, (started.returncode, said[:200])
+    return said, passed, used.ru_utime + used.ru_stime
+
+
+def run(folder, source, printed, journal):
+    """Runs a source with a journal, and returns the time that passed and the processor time, in seconds."""
+    with open(f"{folder}/source", "wb") as file:
+        file.write(source)
+    said, passed, used = timed(folder, [PROGRAM, "run", "--source", "source", "--id", "b", "--journal", journal])
+    assert said == printed, said[:200]
+    return passed, used
 
 
 def bare(folder, loop, journal, each):
-    """The time of a bare loop that goes round once a record or once an event, in seconds, how often it goes round, and its syncs with their time."""
-    words = [loop, "journal", "bare", each]
-    rounds, passed, syncs, syncing = map(int, subprocess.run(words, cwd=folder, check=True, capture_output=True).stdout.split())
+    """The time of a bare loop that goes round once a record or once an event: that of its command, that of its rounds alone, in seconds; how often
+    it goes round; and its syncs with their time."""
+    said, passed, _ = timed(folder, [loop, "journal", "bare", each])
+    rounds, alone, syncs, syncing = map(int, said.split())
     assert read(f"{folder}/bare") == journal
     os.remove(f"{folder}/bare")
-    return passed / 1e6, rounds, syncs, syncing / 1e6
+    return passed, alone / 1e6, rounds, syncs, syncing / 1e6
 
 
 def read(path):
@@ -115,16 +122,17 @@ def against_bare(folder):
         each_event.append(bare(folder, loop, journal, "events"))
         os.remove(f"{folder}/journal")
     passed, used = min(it[0] for it in ours), min(it[1] for it in ours)
-    (alone, turns, syncs, syncing), (long, rounds, _, _) = min(each_record), min(each_event)
+    (command, alone, turns, syncs, syncing), (long, _, rounds, _, _) = min(each_record), min(each_event)
     # both wait for as many syncs, one after another, and do nothing meanwhile
     more = syncs * SYNC - syncing
-    by_event, slower = passed / long, (passed + more) / (alone + more)
+    slower = (passed + more) / (command + more)
     print(f"{wanted} events over a list of 10000 items, a journal of {len(journal)} bytes, {syncs} syncs:")
-    print(f"    the program {1000 * passed:.0f} ms, {1000 * used:.0f} ms of them the processor's")
-    print(f"    a bare loop of {turns} rounds, one for each record, {1000 * alone:.1f} ms: quotient {passed / alone:.2f} on this disk, whose sync takes", end=" ")
+    print(f"    the program {1000 * passed:.1f} ms, {1000 * used:.1f} ms of them the processor's")
+    print(f"    a bare loop of {turns} rounds, one for each record, {1000 * command:.1f} ms: quotient {passed / command:.2f} on this disk, whose sync takes", end=" ")
     print(f"{1e6 * syncing / syncs:.0f} microseconds, and {slower:.2f} on one whose sync takes {1e6 * SYNC:.0f}")
-    print(f"    a bare loop of {rounds} rounds, one for each event, {1000 * long:.0f} ms: quotient {by_event:.2f}")
-    return passed / alone <= MOST_AGAINST_BARE
+    print(f"    its rounds alone, without the start of its command, {1000 * alone:.1f} ms: quotient {passed / alone:.2f}")
+    print(f"    a bare loop of {rounds} rounds, one for each event, {1000 * long:.1f} ms: quotient {passed / long:.2f}")
+    return passed / command <= MOST_AGAINST_BARE
 
 
 def loop_over(times, step):
