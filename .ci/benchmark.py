@@ -123,7 +123,8 @@ def against_bare(folder):
         each_event.append(bare(folder, loop, journal, "events"))
         os.remove(f"{folder}/journal")
     passed, used = min(it[0] for it in ours), min(it[1] for it in ours)
-    (command, alone, turns, syncs, syncing), (long, _, rounds, _, _) = min(each_record), min(each_event)
+    command, long = min(it[0] for it in each_record), min(it[0] for it in each_event)
+    (_, alone, turns, syncs, syncing), rounds = min(each_record, key=lambda it: it[1]), each_event[0][2]
     # both wait for as many syncs, one after another, and do nothing meanwhile
     more = syncs * SYNC - syncing
     slower = (passed + more) / (alone + more)
