@@ -34,6 +34,12 @@ pub fn evaluate<K: Look>(
         (seen (K.sight look.now) now)) }
 {
     let value = fill_shape(alloc, &entry.value, codes, look, now)?;
+    if entry.places == 0 {
+        return Ok(Assigned {
+            value,
+            places: Vec::new(alloc),
+        });
+    }
     let places = values(alloc, first_of(codes, entry.places), look, now)?;
     Ok(Assigned { value, places })
 }

@@ -30,6 +30,9 @@ pub fn assign(
         (plain value) (held_by around frames.now scopes.new)) }
     ensures linked { IfOk result (λ o. IsLinked around (own_of frames.now) scopes.new) }
 {
+    if places.is_empty() {
+        return put(frames, scopes, name, &[], value);
+    }
     match keys_of(alloc, places)? {
         Some(keys) => put(frames, scopes, name, keys.as_slice(), value),
         None => Ok(Some(fault_of(scopes.look(frames.layer(), name.as_str()), places))),
