@@ -101,14 +101,8 @@ fn emit(alloc: Global, items: &mut Vec<Instr>, e: &Expr) -> Result<(), OutOfMemo
     match e {
         Expr::Lit(v) => put(items, Instr::Push(v.copy(alloc)?)),
         Expr::Name(x) => put(items, Instr::Load(Text::new(alloc, x.as_str())?)),
-        Expr::Neg(a) => {
-            emit(alloc, items, a)?;
-            put(items, Instr::Negate)
-        }
-        Expr::Not(a) => {
-            emit(alloc, items, a)?;
-            put(items, Instr::Invert)
-        }
+        Expr::Neg(a) => emit_then(alloc, items, a, Instr::Negate),
+        Expr::Not(a) => emit_then(alloc, items, a, Instr::Invert),
         Expr::And(a, b) => {
             emit(alloc, items, a)?;
             let right = emit_side(alloc, b)?;
@@ -127,8 +121,8 @@ fn emit(alloc: Global, items: &mut Vec<Instr>, e: &Expr) -> Result<(), OutOfMemo
             put(items, Instr::Combine(*op))
         }
         Expr::Key(a, k) => {
-            emit(alloc, items, a)?;
-            put(items, Instr::Member(Text::new(alloc, k.as_str())?))
+            let member = Instr::Member(Text::new(alloc, k.as_str())?);
+            emit_then(alloc, items, a, member)
         }
         Expr::Index(a, b) => {
             emit(alloc, items, a)?;
@@ -141,6 +135,21 @@ fn emit(alloc: Global, items: &mut Vec<Instr>, e: &Expr) -> Result<(), OutOfMemo
             put(items, Instr::Call(*f, args.len()))
         }
     }
+}
+
+/// The code of an expression, and an instruction behind it.
+#[cycle(emit)]
+fn emit_then(
+    alloc: Global,
+    items: &mut Vec<Instr>,
+    e: &Expr,
+    last: Instr,
+) -> Result<(), OutOfMemory>
+    ensures { OnOk result (instrs items.new.items
+        ≡ instrs items.old.items ++ code (expr_view e.now) ++ instrs (last ∷ [])) }
+{
+    emit(alloc, items, e)?;
+    put(items, last)
 }
 
 /// The right side of an `and` or an `or`.

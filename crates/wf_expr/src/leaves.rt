@@ -21,49 +21,15 @@ pub(crate) fn leaf(alloc: Global, symbols: &[Symbol]) -> Result<Option<Expr>, St
     ensures { MatchResult result (λ e. option_map expr_view e
         ≡ option_map atom_expr (atom_of (head (syms_of symbols.now)))) (λ f. f ≡ stop.OutOfMemory) }
 {
-    match symbols {
-        [
-            Symbol {
-                kind: Kind::Number(n),
-                ..
-            },
-            ..
-        ] => Ok(Some(Expr::Lit(Value::Int(*n)))),
-        [
-            Symbol {
-                kind: Kind::Decimal,
-                ..
-            },
-            ..
-        ] => Ok(Some(Expr::Lit(Value::Null))),
-        [
-            Symbol {
-                kind: Kind::Quoted(text),
-                ..
-            },
-            ..
-        ] => { Ok(Some(Expr::Lit(Value::Text(copied(text)?)))) }
-        [
-            Symbol {
-                kind: Kind::Null,
-                ..
-            },
-            ..
-        ] => Ok(Some(Expr::Lit(Value::Null))),
-        [
-            Symbol {
-                kind: Kind::Bool(value),
-                ..
-            },
-            ..
-        ] => Ok(Some(Expr::Lit(Value::Bool(*value)))),
-        [
-            Symbol {
-                kind: Kind::Name(name),
-                ..
-            },
-            ..
-        ] => Ok(Some(Expr::Name(copied(name)?))),
+    let Some(symbol) = symbols.first() else {
+        return Ok(None);
+    };
+    match &symbol.kind {
+        Kind::Number(n) => Ok(Some(Expr::Lit(Value::Int(*n)))),
+        Kind::Decimal | Kind::Null => Ok(Some(Expr::Lit(Value::Null))),
+        Kind::Quoted(text) => Ok(Some(Expr::Lit(Value::Text(copied(text)?)))),
+        Kind::Bool(value) => Ok(Some(Expr::Lit(Value::Bool(*value)))),
+        Kind::Name(name) => Ok(Some(Expr::Name(copied(name)?))),
         _ => Ok(None),
     }
 }
