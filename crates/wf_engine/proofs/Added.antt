@@ -1,5 +1,5 @@
 -- A session's records with one turn more.
-use Rattle.std.specs.Prelude.{◌≡◌, ◌≢◌, ◌≤◌, ◌<◌, ◌^◌, ◌+◌, ◌*◌, ℕ, zero, suc, Bool, true, false, map, nat_eq, List, [], ◌∷◌, ◌++◌, length, Option, Some, None, Ok}
+use Rattle.std.specs.Prelude.{◌≡◌, ◌≢◌, ◌≤◌, ◌<◌, ◌^◌, ◌+◌, ◌*◌, ℕ, zero, suc, Bool, true, false, map, nat_eq, List, [], ◌∷◌, ◌++◌, length, Option, Some, None}
 use Rattle.std.specs.List.{AllByRecursion, flat_map}
 use Rattle.std.proofs.Common.{refl, sym, ◌∙◌, ap, subst, arith, length-append}
 use Rattle.std.proofs.lemmas.Bool.{eqb-true}
@@ -7,7 +7,7 @@ use Rattle.std.proofs.lemmas.List.{append-nil, length-map, nil_from_length}
 use Rattle.wf_ast.specs.Tree.{Program}
 use Rattle.wf_deeds.specs.Clauses.{IsOfSession, KeptAt, StandsIsKept, turn_records}
 use Rattle.wf_deeds.specs.Kept.{Command}
-use Rattle.wf_deeds.specs.Memory.{LeadsTo, Memory, StandsFor}
+use Rattle.wf_deeds.specs.Memory.{Memory, StandsFor}
 use Rattle.wf_deeds.specs.Outside.{Outside}
 use Rattle.wf_deeds.specs.Steps.{TurnGoesOn, TurnIsChosen, turn_of_memory, turned}
 use Rattle.wf_deeds.specs.Turns.{turn_of}
@@ -107,11 +107,6 @@ turn_is_own again m es spelled u means =
     let two : Some (Turned (turn_of_memory m es)) ≡ Some (Turned u) = sym (again (Turned (turn_of_memory m es)) spelled tt) ∙ means in
     let same : turn_of_memory m es ≡ u = cc two in
     ap (λ (t : Turn). t.session) (sym same)
-
--- records that a session stands on aren't none
-pub some_records : (L : Language) (J : List (List ℕ)) (m : Memory) → LeadsTo L J m → J ≢ []
-unfolding history_of
-some_records L J m lead none = let no : history_of L [] ≡ Ok lead.standing = ap (λ l. history_of L l) (sym none) ∙ lead.history in cc no
 
 -- ## Records of a turn
 pub records_of : (m : Memory) (es : List Event) → es ≢ [] → turn_records m.session m.waits es ≡ payload_of m es ∷ []

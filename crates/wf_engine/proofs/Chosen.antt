@@ -12,11 +12,6 @@ use Rattle.wf_model.specs.Step.{next}
 use Rattle.wf_value.specs.Events.{Event}
 
 -- ## Runs
--- from nowhere nothing leads on
-stuck : (p : Program) (a : After) (e : Event) → (a ≡ NotNow) → run_on p a (e ∷ []) ≡ NotNow
-stuck p (To c) e is = absurd cc
-stuck p (Wrong k) e is = refl
-stuck p NotNow e is = refl
 
 -- an event more
 pub run_more : (p : Program) (a : After) (es : List Event) (e : Event) → run_on p a (es ++ e ∷ []) ≡ run_on p (run_on p a es) (e ∷ [])

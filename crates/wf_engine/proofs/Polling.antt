@@ -1,8 +1,7 @@
 -- What is sent, and then one poll.
-use Rattle.std.specs.Prelude.{◌≡◌, ◌≢◌, ℕ, false, List, [], ◌∷◌, ◌++◌, None}
+use Rattle.std.specs.Prelude.{◌≡◌, ◌≢◌, ℕ, false, List, [], ◌∷◌, ◌++◌}
 use Rattle.std.proofs.Common.{refl, sym, subst}
 use Rattle.wf_deeds.specs.Clauses.{IsSending, KeptThroughout, Waits, Went, to_drop, to_start}
-use Rattle.wf_deeds.specs.Deeds.{visit_of}
 use Rattle.wf_deeds.specs.Memory.{Memory}
 use Rattle.wf_deeds.specs.Outside.{Outside}
 use Rattle.wf_engine.proofs.CallsSent.{holds_later}
@@ -12,24 +11,12 @@ use Rattle.wf_engine.specs.declared.engine.Engine.{Engine}
 use Rattle.wf_history.specs.Stands as history
 use Rattle.wf_history.specs.declared.history.History.{History}
 use Rattle.wf_host.specs.Moments.{CountsNow}
-use Rattle.wf_host.specs.World as host
 use Rattle.wf_host.specs.World.{World, Elapses, Same}
 use Rattle.wf_host.specs.declared.data.Deed.{Deed}
 use Rattle.wf_host.specs.declared.data.Deed.TheVariants.{Poll}
 use Rattle.wf_host.specs.declared.data.Heard.{Heard}
-use Rattle.wf_host.specs.declared.data.What.{What}
-use Rattle.wf_host.specs.declared.data.What.TheVariants as what
 use Rattle.wf_journal.specs.Records.{records}
 use Rattle.wf_replay.specs.TheLanguage.{the_language}
-
--- a host tells of no visit
-pub no_visit : (w : What) → host.visit_of w ≡ None → visit_of w ≡ None
-no_visit what.Nothing none = refl
-no_visit (what.Bytes k b) none = refl
-no_visit (what.End k) none = refl
-no_visit (what.Broken k) none = refl
-no_visit (what.Visit n b) none = none
-no_visit (what.VisitEnd n) none = none
 
 -- behind a part
 pub part_far : (O : Outside) (e d : Engine) (first mid : World) (done : List Deed) → OnlyNow first → CountsNow mid → mid.may_leave mid.seen → is_closed e ≡ false → Holds e first → is_closed d ≡ false → Holds d mid → KeptThroughout the_language O (memory e) first mid

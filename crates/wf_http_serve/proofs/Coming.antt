@@ -1,5 +1,5 @@
 -- From what was read to what is known of a visit.
-use Rattle.std.proofs.Common.{◌≡◌, ℕ, ◌+◌, ◌-◌, ◌<◌, ◌≤◌, List, [], ◌++◌, length, take, drop, Result, Ok, Err, Bool, true, false, refl, sym, ap, ◌∙◌, subst, arith, ◌⊎◌, inl, inr, append-nil, length-append, length-drop, length-take}
+use Rattle.std.proofs.Common.{◌≡◌, ℕ, ◌+◌, ◌-◌, ◌<◌, ◌≤◌, List, [], ◌++◌, length, take, drop, Result, Ok, Err, Bool, true, false, refl, sym, ap, ◌∙◌, subst, arith, ◌⊎◌, inl, inr, append-nil, length-append, length-drop}
 use Rattle.std.proofs.lemmas.Bool.{cases_lt, false≢true, le-ltb, lt-leb}
 use Rattle.std.proofs.lemmas.List.{drop-append-le}
 use Rattle.std.specs.Prelude.{◌≢◌, IfOk}
@@ -121,8 +121,6 @@ body_read s next r f heard unread left content piece grown new was read now e is
     (comes e r f read (heard ++ piece) (body.0 ++ piece) left grown (behind_grows heard r f body.0 piece behind) told)
 
 -- ## What is kept
-pub head_little : (s : Stage) (unread content : List ℕ) (c : Chunks) → s ≡ stage.Head → KeepsLittle s unread c content
-head_little s unread content c is = subst (λ (t : Stage). KeepsLittle t unread c content) (sym is) tt
 
 -- of a body that comes
 pub body_little : (s : Stage) (r : Request) (f : Framing) (unread content new : List ℕ) (was c : Chunks) → s ≡ stage.Body r f → ((f ≢ framing.InChunks) → c ≡ was)
@@ -197,16 +195,6 @@ head_past unread more joined len r f is none whole = elim (cases_lt (length unre
   | inr le ↦ absurd (none whole.head _ (whole.has.reads.0, front_of unread more (print_request whole.head) (drop len joined) (sym is ∙ whole.has.reads.1) le))
 ]
 
--- how much of a piece a head takes
-pub takes_within : (begun piece heard : List ℕ) (len : ℕ) (h : Heading) (r : Request) (f : Framing) → IsHeadFound begun piece heard h → h ≡ heading.Whole r f len
-    → len - length begun ≤ length piece
-takes_within begun piece heard len h r f found is =
-    let whole = subst (IsHeading heard) is found.heading_is in
-    let here = whole.within in
-    let size = ap length found.heard_is ∙ length-append begun (take found.front piece) in
-    let front = length-take found.front piece in
-    omega arith
-
 abbrev IsAtHead : (unread : List ℕ) → Chunks → (content heard : List ℕ) → Type 0
 IsAtHead unread c content heard = (unread ≡ heard) × (content ≡ []) × IsFresh c × IsHeadless heard
 
@@ -236,17 +224,6 @@ head_bad next h heard unread piece joined left content new was now (same_heard, 
     subst (λ (t : Stage). IsStage t left now new (heard ++ piece)) (sym goes)
     (subst (λ (b : List ℕ). Stays b visits.Bad) joined_is
     (again joined (drop found.front piece) visits.Bad (bad_heads joined (subst (IsHeading joined) is_bad found.heading_is))))
-
-pub head_open : (next : Stage) (h : Heading) (heard unread piece joined left content new : List ℕ) (was now : Chunks) → IsAtHead unread was content heard → h ≡ heading.NotYet
-    → IsHeadFound unread piece joined h → next ≡ stage.Head → left ≡ joined → now ≡ was → new ≡ content → IsStage next left now new (heard ++ piece)
-head_open next h heard unread piece joined left content new was now (same_heard, none, fresh, less) is_open found goes leaves same added =
-    let joined_is : joined ≡ heard ++ piece = found.heard_is ∙ ap (λ (s : List ℕ). unread ++ s) (found.all is_open) ∙ ap (λ (s : List ℕ). s ++ piece) same_heard in
-    subst (λ (t : Stage). IsStage t left now new (heard ++ piece)) (sym goes) (
-      leaves ∙ joined_is,
-      added ∙ none,
-      subst IsFresh (sym same) fresh,
-      subst IsHeadless joined_is (subst (IsHeading joined) is_open found.heading_is),
-    )
 
 -- nothing was heard
 pub fresh : (unread content : List ℕ) (c : Chunks) → unread ≡ [] → content ≡ [] → IsFresh c → IsStage stage.Head unread c content []

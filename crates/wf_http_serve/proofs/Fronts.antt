@@ -1,7 +1,6 @@
 -- What the first bytes say of all of them.
-use Rattle.std.proofs.Common.{◌≡◌, ℕ, ◌-◌, ◌<◌, ◌≤◌, List, false, [], ◌++◌, length, take, drop, sym, ap, ◌∙◌, subst, arith, inl, inr, ◌⊎◌, append-nil, length-append, take-append-drop, length-take}
+use Rattle.std.proofs.Common.{◌≡◌, ℕ, ◌-◌, ◌<◌, ◌≤◌, List, [], ◌++◌, length, take, drop, sym, ap, ◌∙◌, subst, arith, inl, inr, ◌⊎◌, append-nil, length-append, take-append-drop, length-take}
 use Rattle.std.proofs.lemmas.List.{drop-append-le}
-use Rattle.std.proofs.lemmas.Bool.{false≢true}
 use Rattle.httparse.specs.Grammar.{RequestHead, print_request, ReadsRequest, HasNoRequest, NeverHasRequest, MayBecomeRequest}
 use Rattle.httparse.specs.Spans.{RequestOverflows, IsRequestOf}
 use Rattle.httparse.specs.declared.spans.HeaderSpan.{HeaderSpan}
@@ -14,7 +13,7 @@ use Rattle.wf_http_serve.specs.declared.head.Look.{Look}
 use Rattle.wf_http_serve.specs.declared.head.Look.TheVariants as look
 use Rattle.wf_http_serve.specs.declared.request.Request.{Request}
 use Rattle.wf_http_serve.specs.Found.{IsLook, IsWholeHead, IsWholeLook}
-use Rattle.wf_http_serve.specs.Visits.{IsLongHead, IsCrowdedHead, IsBadHead, IsHeadless, has_first_line}
+use Rattle.wf_http_serve.specs.Visits.{IsLongHead, IsCrowdedHead, IsBadHead, IsHeadless}
 use Rattle.wf_http_serve.proofs.Targets.{not_never}
 
 pub whole_head : (n len : ℕ) (heard : List ℕ) (h : RequestHead) → len ≤ length (take n heard)
@@ -77,6 +76,3 @@ whole_short_head s len r f short x =
 
 pub headless_yet : (s : List ℕ) → length s ≤ head_limit → HasNoRequest s → MayBecomeRequest s → IsHeadless s
 headless_yet s short none may = record { none = none; possible = not_never s may; short = short }
-
-pub headless_line : (s : List ℕ) → length s ≤ head_limit → NeverHasRequest s → has_first_line s ≡ false → IsHeadless s
-headless_line s short never line = record { none = never_is_none s never; possible = λ has. absurd (false≢true (sym line ∙ has)); short = short }

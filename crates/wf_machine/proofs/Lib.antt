@@ -13,6 +13,5 @@ pub mod Moves
 pub mod Nexts
 pub mod Places
 pub mod Plainly
-pub mod Replies
 pub mod Stepping
 pub mod Waiting

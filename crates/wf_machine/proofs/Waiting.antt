@@ -1,8 +1,8 @@
 -- What a task waits for.
 --     can_go, going_by       of a task that is awake
 --     awake_view ..          its wait, by the call that it waits for
---     moment_is ..           when that wait ends, where it is for no call
-use Rattle.std.proofs.Common.{◌≡◌, ℕ, true, false, List, [], ◌∷◌, None, Some, refl, ap}
+--     has_moment ..          that it ends at a moment, where it is for no call
+use Rattle.std.proofs.Common.{◌≡◌, ℕ, true, List, [], ◌∷◌, None, Some, refl, ap}
 use Rattle.std.specs.Prelude.{is_some}
 use Rattle.wf_alone.specs.Machine.{Rest, passed}
 use Rattle.wf_alone.specs.Plain.{CanWake, is_before_try}
@@ -12,7 +12,6 @@ use Rattle.wf_frames.specs.Owned.{Around}
 use Rattle.wf_frames.specs.declared.frames.Frame.{Frame}
 use Rattle.wf_frames.specs.declared.frames.Frame.TheVariants as frame
 use Rattle.wf_model.specs.Config.{Awake, Calling}
-use Rattle.wf_model.specs.Ready.{is_awake}
 use Rattle.wf_moves.specs.Going.{Going}
 use Rattle.wf_moves.specs.Waits.{CanGoOn, GoesFrom, call_in, is_at_try, is_awake_in, moment_in, result_in, wait_view}
 use Rattle.wf_moves.specs.declared.task.Task.{Task}
@@ -48,12 +47,6 @@ awake_view a (wait.Sleep due node) is = absurd (cc is)
 awake_view a (wait.Delay due) is = absurd (cc is)
 awake_view a (wait.Calling call node) is = absurd (cc is)
 
-pub not_awake : (a : Around) (w : Wait) → is_awake_in w ≡ false → is_awake (wait_view a w) ≡ false
-not_awake a wait.Awake is = absurd (cc is)
-not_awake a (wait.Sleep due node) is = refl
-not_awake a (wait.Delay due) is = refl
-not_awake a (wait.Calling call node) is = refl
-
 -- ## Waiting for a call
 -- the wait for a call
 pub calling_view : (a : Around) (w : Wait) (n : ℕ) → call_in w ≡ Some n → wait_view a w ≡ Calling n (result_in a w)
@@ -70,12 +63,6 @@ call_of_view a (wait.Delay due) = refl
 call_of_view a (wait.Calling call node) = refl
 
 -- ## Waiting for a moment
--- it is the moment at which the wait ends
-pub moment_is : (a : Around) (x : Rest) (w : Wait) → call_in w ≡ None → moment_in w ≡ due_for x (wait_view a w)
-moment_is a x wait.Awake is = refl
-moment_is a x (wait.Sleep due node) is = refl
-moment_is a x (wait.Delay due) is = refl
-moment_is a x (wait.Calling call node) is = absurd (cc is)
 
 -- there is one where something is due
 pub has_moment : (a : Around) (x : Rest) (w : Wait) (d : ℕ) → call_in w ≡ None → due_for x (wait_view a w) ≡ Some d → is_some (moment_in w) ≡ true

@@ -9,10 +9,6 @@ use Rattle.wf_deeds.specs.History.{Standing, goes_on, goes_to, told}
 use Rattle.wf_machine.specs.declared.machine.Machine.{Machine}
 use Rattle.wf_replay.specs.Standing.{Passes, stands_at}
 
--- a record that was read
-pub passes : (s t : Standing) (b : List ℕ) (rest ahead : List (List ℕ)) (r : Record) → ahead ≡ b ∷ rest → meaning b ≡ Some r → goes_on s (Some r) ≡ Some t → goes_to s ahead ≡ goes_to t rest
-passes s t b rest ahead r next meant goes = ap (λ l. goes_to s l) next ∙ on s t b rest (ap (λ m. goes_on s m) meant ∙ goes)
-
 -- the same as a fact of this record, where the history stands behind it
 pub passes_one : (number after : ℕ) (last now : Option (ℕ × ℕ)) (m n : Machine) (b : List ℕ) (rest ahead : List (List ℕ)) (r : Record) → ahead ≡ b ∷ rest → meaning b ≡ Some r
     → goes_on (stands_at number last m) (Some r) ≡ Some (stands_at (suc number) (last_after last r) n) → after ≡ suc number → now ≡ last_after last r → Passes (stands_at number last m) (stands_at after now n) ahead rest
