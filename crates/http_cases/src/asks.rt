@@ -63,7 +63,7 @@ fn listed(alloc: Global, asked: &Asked) -> Result<Value, CaseFault> {
     let Ok(timeout) = i64::try_from(asked.timeout) else {
         return Err(CaseFault::NoCase);
     };
-    let mut list = address_of(alloc, asked)?;
+    let mut list = parts_of(alloc, asked)?;
     list.push(match &asked.body {
         Some(body) => body.copy(alloc)?,
         None => Value::Null,
@@ -73,7 +73,7 @@ fn listed(alloc: Global, asked: &Asked) -> Result<Value, CaseFault> {
 }
 
 /// The method, the URL, the fields and the query.
-fn address_of(alloc: Global, asked: &Asked) -> Result<List, CaseFault> {
+fn parts_of(alloc: Global, asked: &Asked) -> Result<List, CaseFault> {
     let mut list = List::new(alloc)?;
     list.push(Value::Text(Text::new(alloc, asked.method.name())?))?;
     list.push(Value::Text(asked.url.copy()?))?;
