@@ -6,7 +6,7 @@ use wf_value::{Bytes, List, Map, Text, Value};
 /// Lists and maps in each other, at most, and one more for what stands in the innermost.
 const DEEPEST: u32 = 101;
 
-/// The value that an item stands for: a map of the one key `hex` with a text is bytes, at any depth. An item of more
+/// The value that an item stands for: a map of the one key `hex` with a text is bytes, at any depth. What stands in more
 /// than 100 lists and maps in each other is no case.
 pub fn value_of(alloc: Global, item: &Value) -> Result<Value, CaseFault> {
     told(alloc, item, DEEPEST)
