@@ -2,5 +2,4 @@
 pub mod Machine
 pub mod Waiting
 pub mod Plain
-pub mod Counts
 pub mod Laws

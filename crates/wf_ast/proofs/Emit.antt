@@ -17,16 +17,6 @@ joined (x ∷ xs) ys = ap (λ l. instr x ∷ l) (joined xs ys)
 pub last : (old mid new : List Instr) (i : Instr) (a : List m.Instr) → instrs mid ≡ instrs old ++ a → new ≡ mid ++ i ∷ [] → instrs new ≡ instrs old ++ (a ++ instr i ∷ [])
 last old mid new i a h n = ap instrs n ∙ joined mid (i ∷ []) ∙ ap (λ l. l ++ instr i ∷ []) h ∙ append_assoc (instrs old) a (instr i ∷ [])
 
-pub last_of_two : (old mid mid2 new : List Instr) (i : Instr) (a b : List m.Instr) → instrs mid ≡ instrs old ++ a → instrs mid2 ≡ instrs mid ++ b → new ≡ mid2 ++ i ∷ [] → instrs new ≡ instrs old ++ (a ++ (b ++ instr i ∷ []))
-last_of_two old mid mid2 new i a b h k n =
-    last old mid2 new i (a ++ b) (k ∙ ap (λ l. l ++ b) h ∙ append_assoc (instrs old) a b) n ∙ ap (λ l. instrs old ++ l) (append_assoc a b (instr i ∷ []))
-
-pub with_side : (old mid mid2 new right : List Instr) (i : Instr) (a r : List m.Instr) → instrs mid ≡ instrs old ++ a → mid2 ≡ mid ++ i ∷ [] → instrs right ≡ r → new ≡ mid2 ++ right → instrs new ≡ instrs old ++ (a ++ (instr i ∷ r))
-with_side old mid mid2 new right i a r h k p n =
-    ap instrs n ∙ joined mid2 right ∙ ap (λ l. instrs mid2 ++ l) p
-    ∙ ap (λ l. l ++ r) (last old mid mid2 i a h k)
-    ∙ append_assoc (instrs old) (a ++ instr i ∷ []) r ∙ ap (λ l. instrs old ++ l) (append_assoc a (instr i ∷ []) r)
-
 pub many_are : (es : List Expr) → m.many (exprs (map expr_view es)) ≡ length es
 many_are [] = refl
 many_are (e ∷ es) = ap suc (many_are es)

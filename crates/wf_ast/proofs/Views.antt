@@ -2,8 +2,8 @@
 use Rattle.std.proofs.Common.{◌≡◌, ◌∙◌, refl, sym, ap, map, Option, Some, None}
 use Rattle.wf_ast.specs.Tree as t
 use Rattle.wf_ast.specs.View.{expr_view, expr_row, exprs_view, template_view, template_row, templates_view, fields_in, field_row, field_view, fields_view}
-use Rattle.wf_ast.specs.View.{texts_view, over_view, policy_option_view, except_option_view}
-use Rattle.wf_ast.specs.View.{body_view, work_view, loop_view, try_view, held_view, except_view, steps_in, arms_in, branches_in, step_row, arm_row, branch_row, step_view, steps_view, arm_view, arms_view, branch_view, branches_view}
+use Rattle.wf_ast.specs.View.{over_view, policy_option_view, except_option_view}
+use Rattle.wf_ast.specs.View.{body_view, loop_view, try_view, held_view, except_view, steps_in, arms_in, branches_in, step_row, arm_row, branch_row, step_view, steps_view, arm_view, arms_view, branch_view, branches_view}
 use Rattle.wf_ast.specs.declared.expr.Func.{Func}
 use Rattle.wf_ast.specs.declared.expr.Expr.{Row_of-Expr, end_of-Expr, more_of-Expr, items-the_row-Expr, items_hidden-the_row-Expr-0}
 use Rattle.wf_ast.specs.declared.expr.Expr.TheBlock.{hidden-the_row-Expr-0}
@@ -22,11 +22,10 @@ use Rattle.wf_ast.specs.declared.body.Arms.{Arms, Row_of-Arm, end_of-Arm, more_o
 use Rattle.wf_ast.specs.declared.body.Branches.{Branches, Row_of-Branch, end_of-Branch, more_of-Branch, items-the_row-Branch, items_hidden-the_row-Branch-1}
 use Rattle.wf_ast.specs.declared.body.Branch.{Branch, Branch'}
 use Rattle.wf_ast.specs.declared.body.LoopBody.{LoopBody}
-use Rattle.wf_ast.specs.declared.body.ParallelBody.{ParallelBody}
 use Rattle.wf_ast.specs.declared.body.TryBody.{TryBody}
 use Rattle.wf_ast.specs.declared.body.Except.{Except}
 use Rattle.wf_ast.specs.declared.body.Body.TheBlock.{back-TryBody-except, hidden-the_row-Step-2, hidden-the_row-Arm-0, hidden-the_row-Branch-1}
-use Rattle.wf_ast.specs.declared.body.Body.TheViews.{Parallel, roll-StepList, out-StepList, roll-out-StepList, roll-Arms, out-Arms, roll-out-Arms, roll-Branches, out-Branches, roll-out-Branches}
+use Rattle.wf_ast.specs.declared.body.Body.TheViews.{roll-StepList, out-StepList, roll-out-StepList, roll-Arms, out-Arms, roll-out-Arms, roll-Branches, out-Branches, roll-out-Branches}
 use Rattle.wf_ast.specs.declared.body.Body.TheViews.{roll-Branch, out-Branch, roll-out-Branch, roll-LoopBody, out-LoopBody, roll-out-LoopBody, roll-Except, out-Except, roll-out-Except, roll-TryBody, out-TryBody, roll-out-TryBody}
 
 -- ## Expressions
@@ -125,6 +124,3 @@ try_made r = ap (t.try (body_view r.body.value) (policy_option_view r.policy)) (
 
 pub try_level : (x : TryBody) → try_view x ≡ t.try (body_view (out-TryBody x).body.value) (policy_option_view (out-TryBody x).policy) (except_option_view (out-TryBody x).except)
 try_level x = ap try_view (sym (roll-out-TryBody x)) ∙ try_made (out-TryBody x)
-
-pub view_parallel : (p : ParallelBody) → body_view (Parallel p) ≡ t.Body.Parallel (t.parallel (texts_view p.shared) p.limit (work_view p.work))
-view_parallel p = refl

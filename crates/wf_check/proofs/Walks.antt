@@ -128,11 +128,6 @@ pub fails : (fs : List Flow) (path : Path) (initial now mid new : Progress) (s :
     → Walks fs path initial new (Err s) earlier all
 fails fs path initial now mid new s earlier all xs ys h w = h.on (Err s) new (stops fs path now mid new s h.names xs ys w)
 
--- what follows is all that is left
-pub last : (fs : List Flow) (path : Path) (initial now new : Progress) (r : Result (Unit {0}) Stop) (earlier : List Text) (all rest : List Node) (h : Rest fs path initial now earlier all rest) → Walks fs path now new r h.names rest
-    → Walks fs path initial new r earlier all
-last fs path initial now new r earlier all rest h w = h.on r new w
-
 pub ends : (fs : List Flow) (path : Path) (initial now : Progress) (earlier : List Text) (all : List Node) (h : Rest fs path initial now earlier all []) → Walks fs path initial now (Ok tt) earlier all
 ends fs path initial now earlier all h =
     let same : now.number ≡ now.number + 0 = omega arith in

@@ -1,18 +1,12 @@
 -- The arguments of a workflow, and which workflow a retry asks.
-use Rattle.std.proofs.Common.{◌≡◌, Bool, true, false, ◌&&◌, ◌||◌, List, [], ◌∷◌, ◌++◌, Option, Some, None, bytes_eq, refl, sym, ap, ◌∙◌}
+use Rattle.std.proofs.Common.{◌≡◌, Bool, true, false, ◌&&◌, ◌||◌, List, [], ◌∷◌, ◌++◌, Option, Some, None, bytes_eq, refl, sym, ◌∙◌}
 use Rattle.std.proofs.lemmas.List.Folds.{list_any-append}
 use Rattle.std.specs.List.{list_all}
-use Rattle.wf_ast.proofs.Views.{try_level}
-use Rattle.wf_ast.specs.Accept.{flow_signature, predicate_of, required}
+use Rattle.wf_ast.specs.Accept.{flow_signature, required}
 use Rattle.wf_ast.specs.Func.{all_among, takes}
 use Rattle.wf_ast.specs.Blocks.{first}
 use Rattle.wf_ast.specs.Nodes.{Path, param_names}
-use Rattle.wf_ast.specs.Tree as tree
 use Rattle.wf_ast.specs.Tree.{Param}
-use Rattle.wf_ast.specs.View.{body_view, except_option_view, policy_option_view, try_view}
-use Rattle.wf_ast.specs.declared.body.Body.TheViews.{out-TryBody}
-use Rattle.wf_ast.specs.declared.body.TryBody.{TryBody}
-use Rattle.wf_ast.specs.declared.policy.Policy.{Policy}
 use Rattle.wf_symbols.specs.Around.{SameNames}
 use Rattle.wf_value.specs.HttpRequest.{is_among}
 use Rattle.wf_value.specs.Data.{Data}
@@ -44,20 +38,6 @@ pub flow_fits : (ps : List Param) (names known given : List Text) → SameNames 
 flow_fits ps names known given k g =
     let all : SameNames known (required ps ++ param_names ps) = λ x. k x ∙ sym (list_any-append (bytes_eq x) (required ps) (param_names ps) ∙ covered x ps) in
     λ i. among_alike names known (required ps ++ param_names ps) all i && among_alike (required ps) given names g i
-
--- ## Retries
--- the workflow that a policy asks
-abbrev pub asked_by : Option Policy → Option Text
-asked_by o = predicate_of (tree.Body.Try (tree.try tree.Body.Nothing (policy_option_view o) tree.no_except))
-
-by_policy : (b : tree.Body) (o : Option Policy) (x : tree.Except) → predicate_of (tree.Body.Try (tree.try b (policy_option_view o) x)) ≡ asked_by o
-by_policy b None x = refl
-by_policy b (Some p) x = refl
-
-pub asked : (x : TryBody) → asked_by (out-TryBody x).policy ≡ predicate_of (tree.Body.Try (try_view x))
-asked x =
-    sym (by_policy (body_view (out-TryBody x).body.value) (out-TryBody x).policy (except_option_view (out-TryBody x).except))
-    ∙ ap (λ y. predicate_of (tree.Body.Try y)) (sym (try_level x))
 
 -- ## One of two places
 pub alone_first : (o : Option Path) → first (o ∷ None ∷ []) ≡ o

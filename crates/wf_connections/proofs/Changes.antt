@@ -88,9 +88,6 @@ other_read s t other = unheard_read s t (not_heard s other)
 pub heard_read : (s : State) (b : Box Reading Global) (r : Reading) (t : Told) → s ≡ state.Heard b → r ≡ b.value → IsReadAs s t → HasRead r t
 heard_read s b r t is same was = subst (λ x. HasRead x t) (sym same) (subst (λ x. IsReadAs x t) is was)
 
-pub none_read : (ls : List Line) → ls ≡ [] → AreRead ls
-none_read ls is k l has = absurd (let f : None ≡ Some l = sym (ap (λ (x : List Line). slice_get x k) is) ∙ has in cc f)
-
 got_pushed : (ls : List Line) (l x : Line) (k : ℕ) → slice_get (ls ++ l ∷ []) k ≡ Some x → (x ≡ l) ⊎ (slice_get ls k ≡ Some x)
 got_pushed [] l x zero is = inl (let same : x ≡ l = cc is in same)
 got_pushed [] l x (suc k) is = inr is
@@ -120,8 +117,6 @@ read_set ls i l now are k x is = elim (got_set ls i k l x is) [
 ]
 
 -- ## To each call the same
-pub same_lines : (ls : List Line) → AreSame ls ls
-same_lines ls = record { used = λ k. refl; dropped = λ k. refl; listening = λ k. refl; told = λ k. refl }
 
 pub same_pushed : (ls ms : List Line) (l : Line) → is_used l.state ≡ false → is_dropped l.state ≡ false → is_heard l.state ≡ false → l.heard.items ≡ [] → AreSame ls ms → AreSame ls (ms ++ l ∷ [])
 same_pushed ls ms l used dropped silent nothing same = record {

@@ -1,5 +1,5 @@
 -- What each step changes.
-use Rattle.std.proofs.Common.{◌≡◌, ℕ, ◌<◌, ◌≤◌, true, false, ◌||◌, List, [], ◌∷◌, ◌++◌, length, Some, None, get_or, slice_get, slice_set, refl, sym, ap, ◌∙◌, subst, arith, inl, inr}
+use Rattle.std.proofs.Common.{◌≡◌, ℕ, ◌<◌, ◌≤◌, true, false, ◌||◌, List, [], ◌∷◌, ◌++◌, length, Some, get_or, slice_get, slice_set, refl, sym, ap, ◌∙◌, subst, arith, inl, inr}
 use Rattle.std.specs.Prelude.{nat_eq, OnOk, Result, Ok, Err, Box}
 use Rattle.std.specs.Global.{Global}
 use Rattle.std.proofs.lemmas.Bool.{cases_lt}
@@ -11,7 +11,7 @@ use Rattle.wf_connections.specs.declared.line.State.TheVariants as state
 use Rattle.wf_connections.specs.Calls.{is_started, is_dropped, listens, told, IsFresh, Starts, Drops, Forgets, StandsAsBefore, Hears}
 use Rattle.wf_connections.specs.Lines.{used_at, dropped_at, heard_at, told_at, told_by, adds, HasRead, IsReadAs, AreRead, is_used, is_heard, is_dropped as was_dropped, AreSame}
 use Rattle.wf_connections.proofs.Changes.{at_past, at_read, at_set, at_other, at_equal, at_yes, at_no, at_none, unused_at}
-use Rattle.wf_connections.proofs.Tells.{told_more, tells_none, tells_other}
+use Rattle.wf_connections.proofs.Tells.{told_more, tells_other}
 use Rattle.wf_deeds.specs.Deeds.{nothing_told, tells, call_of}
 use Rattle.wf_host.specs.declared.data.What.{What}
 use Rattle.wf_http_in.specs.declared.reading.Reading.{Reading}
@@ -151,9 +151,6 @@ stands_put old new i o l is put used dropped heard =
       dropped = λ k. ap (λ xs. dropped_at xs k) put ∙ dropped_kept ls i k o l is dropped;
       listening = λ k. ap (λ xs. heard_at xs k) put ∙ heard_kept ls i k o l is heard;
     }
-
-pub hears_none : (c : Connections) (w : What) → call_of w ≡ None → Hears c c w
-hears_none c w none k was = sym (tells_none w k (told c k) none)
 
 pub hears_past : (c : Connections) (w : What) (call : ℕ) → call_of w ≡ Some call → length c.lines.items ≤ call → Hears c c w
 unfolding is_started

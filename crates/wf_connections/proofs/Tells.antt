@@ -1,5 +1,5 @@
 -- What is told of one call more.
-use Rattle.std.proofs.Common.{◌≡◌, ◌≢◌, ℕ, Bool, List, [], ◌∷◌, ◌++◌, Some, None, refl, sym, ap, ◌∙◌, subst, inl, inr}
+use Rattle.std.proofs.Common.{◌≡◌, ◌≢◌, ℕ, Bool, List, [], ◌∷◌, ◌++◌, Some, refl, sym, ap, ◌∙◌, subst, inl, inr}
 use Rattle.std.specs.Prelude.{nat_eq, if◌then◌else◌, is_ok, Result, Ok, Err}
 use Rattle.std.proofs.lemmas.Bool.Decides.{eqb_tells}
 use Rattle.std.proofs.lemmas.List.Sums.{fold-append}
@@ -14,15 +14,6 @@ use Rattle.wf_value.specs.HttpBody.{Close, Ended, Broke}
 
 pub told_more : (k : ℕ) (heard : Heard) (w : What) → told_by k (heard ++ (w, tt) ∷ []) ≡ tells k w (told_by k heard)
 told_more k heard w = fold-append (λ (t : Told) (h : What × Unit {0}). tells k h.0 t) nothing_told heard ((w, tt) ∷ [])
-
--- told of no call, or of another one
-pub tells_none : (w : What) (k : ℕ) (t : Told) → call_of w ≡ None → tells k w t ≡ t
-tells_none (what.Bytes j b) k t is = absurd (let f : Some j ≡ None = is in cc f)
-tells_none (what.End j) k t is = absurd (let f : Some j ≡ None = is in cc f)
-tells_none (what.Broken j) k t is = absurd (let f : Some j ≡ None = is in cc f)
-tells_none what.Nothing k t is = refl
-tells_none (what.Visit n b) k t is = refl
-tells_none (what.VisitEnd n) k t is = refl
 
 unless_same : {A : Type 0} (j k : ℕ) (x y : A) → j ≢ k → (if nat_eq j k then x else y) ≡ y
 unless_same j k x y other = elim (eqb_tells j k) [

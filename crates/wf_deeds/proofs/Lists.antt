@@ -91,26 +91,6 @@ was_replied-append n (Drop k ∷ ds) es = was_replied-append n ds es
 was_replied-append n (Start j to b ∷ ds) es = was_replied-append n ds es
 was_replied-append n (Print b ∷ ds) es = was_replied-append n ds es
 
--- up to the next poll: where one comes, more deeds change nothing
-pub before_poll_stays : (ds es : List Deed) → 1 ≤ polls ds → before_poll (ds ++ es) ≡ before_poll ds
-before_poll_stays [] es some = absurd (let no : 1 ≤ 0 = some in omega (arith, no))
-before_poll_stays (Poll until h ∷ ds) es some = refl
-before_poll_stays (Start k to b ∷ ds) es some = ap (λ l. Start k to b ∷ l) (before_poll_stays ds es some)
-before_poll_stays (Now t ∷ ds) es some = ap (λ l. Now t ∷ l) (before_poll_stays ds es some)
-before_poll_stays (Reply n b ∷ ds) es some = ap (λ l. Reply n b ∷ l) (before_poll_stays ds es some)
-before_poll_stays (Drop k ∷ ds) es some = ap (λ l. Drop k ∷ l) (before_poll_stays ds es some)
-before_poll_stays (Print b ∷ ds) es some = ap (λ l. Print b ∷ l) (before_poll_stays ds es some)
-
--- and a poll at the end changes nothing
-pub before_poll_ends : (ds : List Deed) (until : ℕ) (h : Heard) → before_poll (ds ++ Poll until h ∷ []) ≡ before_poll ds
-before_poll_ends [] until h = refl
-before_poll_ends (Poll u g ∷ ds) until h = refl
-before_poll_ends (Start k to b ∷ ds) until h = ap (λ l. Start k to b ∷ l) (before_poll_ends ds until h)
-before_poll_ends (Now t ∷ ds) until h = ap (λ l. Now t ∷ l) (before_poll_ends ds until h)
-before_poll_ends (Reply n b ∷ ds) until h = ap (λ l. Reply n b ∷ l) (before_poll_ends ds until h)
-before_poll_ends (Drop k ∷ ds) until h = ap (λ l. Drop k ∷ l) (before_poll_ends ds until h)
-before_poll_ends (Print b ∷ ds) until h = ap (λ l. Print b ∷ l) (before_poll_ends ds until h)
-
 -- ## Poll w
 abbrev pub split_at : List Deed → ℕ → Heard → List Deed → Split
 split_at before until h behind = record { before = before; deed = Poll until h; what = h.what; behind = behind }

@@ -54,23 +54,6 @@ first_alone (Some x) = refl
 pub alone : (r : Result (Unit {0}) Stop) (f : Path → Option Said) → Tells r f → Tells r (λ path. first (f path ∷ []))
 alone r f h = tells_as r f (λ path. first (f path ∷ [])) (λ path. sym (first_alone (f path))) h
 
--- two places of one rule
-first_of_rule : (k : CheckKind) (o p : Option Path) → first (as_said k o ∷ as_said k p ∷ []) ≡ as_said k (first (o ∷ p ∷ []))
-first_of_rule k None None = refl
-first_of_rule k None (Some q) = refl
-first_of_rule k (Some x) p = refl
-
-pub of_rule : (k : CheckKind) (r : Result (Unit {0}) Stop) (o p : Path → Option Path) → Tells r (λ path. first (as_said k (o path) ∷ as_said k (p path) ∷ [])) → Tells r (λ path. as_said k (first (o path ∷ p path ∷ [])))
-of_rule k r o p h = tells_as r _ _ (λ path. first_of_rule k (o path) (p path)) h
-
-two_of_rule : (k : CheckKind) (o p : Option Path) → first (as_said k o ∷ as_said k p ∷ []) ≡ as_said k (first_of_two o p)
-two_of_rule k None None = refl
-two_of_rule k None (Some q) = refl
-two_of_rule k (Some x) p = refl
-
-pub of_two : (k : CheckKind) (r : Result (Unit {0}) Stop) (o p : Path → Option Path) → Tells r (λ path. first (as_said k (o path) ∷ as_said k (p path) ∷ [])) → Tells r (λ path. as_said k (first_of_two (o path) (p path)))
-of_two k r o p h = tells_as r _ _ (λ path. two_of_rule k (o path) (p path)) h
-
 -- ## Two parts of one rule
 pub no_fault : (k : CheckKind) (o : Option Path) → as_said k o ≡ None → o ≡ None
 no_fault k None h = refl

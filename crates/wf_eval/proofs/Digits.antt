@@ -67,9 +67,6 @@ out_of_range (negsuc k) h = grind (arith, nat_tests, h)
 abbrev answer : Bool → ℤ → Answer Data
 answer b n = elim b [ false ↦ Err ValueError | true ↦ as_answer (in_64_bits n) ]
 
-int_is : (s : List ℕ) → as_int (text s) ≡ answer (is_digits (digits_in s)) (read_whole s)
-int_is s = refl
-
 pub reads : (s : List ℕ) (n : ℤ) → slice_index s 0 ≢ 43 → IsNumeral 10 (without_leading_sign s) × FitsSigned w64 (signed_digits_value 10 s) → n ≡ signed_digits_value 10 s → Gives (Ok (value.Int n)) (as_int (text s))
 reads s n plus h e =
     let digits : is_digits (digits_in s) ≡ true = numeral_is (digits_in s) (subst (λ (t : List ℕ). IsNumeral 10 t) (no_sign s plus) h.0) in

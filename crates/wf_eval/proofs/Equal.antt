@@ -1,5 +1,5 @@
 -- The test of equality on plain values tells whether they are equal.
-use Rattle.std.proofs.Common.{◌≡◌, ◌≢◌, ℕ, Bool, true, false, List, ℤ, pos, negsuc, refl, sym, ap, ◌∙◌, bytes_eq}
+use Rattle.std.proofs.Common.{◌≡◌, ℕ, Bool, true, false, List, ℤ, pos, negsuc, refl, sym, ap, ◌∙◌, bytes_eq}
 use Rattle.std.specs.Bool.{Decides}
 use Rattle.std.proofs.lemmas.Bool.{eq-eqb, eqb-true, and_from}
 use Rattle.std.proofs.lemmas.Slice.Eq.{bytes_eq-Decides}
@@ -78,9 +78,6 @@ mutual
   pairs_are ps qs h = absurd (let p : ⊥ = cc in p)
 
 -- ## The test on values
-neither : (r : Bool) → r ≢ true → r ≡ false
-neither true h = absurd (h refl)
-neither false h = refl
 
 pub same_decided : (r : Bool) (v w : Value) → Decides r (v ≡ w) → r ≡ same (plain v) (plain w)
 same_decided r v w h =

@@ -1,41 +1,19 @@
 -- What the calls of the library give, as answers; and more arguments than any function takes.
-use Rattle.std.proofs.Common.{◌≡◌, ◌≤◌, List, [], ◌∷◌, length, Ok, Err, Result, refl, sym, subst, arith}
+use Rattle.std.proofs.Common.{◌≡◌, ◌≤◌, List, [], ◌∷◌, length, Err, refl, sym, subst, arith}
 use Rattle.wf_ast.specs.Apply.{View, apply}
 use Rattle.wf_ast.specs.declared.expr.Func.{Func}
 use Rattle.wf_ast.specs.declared.expr.Func.TheVariants as func
-use Rattle.wf_lib_data.specs.Gives as datas
-use Rattle.wf_lib_text.specs.Gives as texts
-use Rattle.wf_lib_time.specs.Gives as times
 use Rattle.wf_value.specs.Data.{Data}
 use Rattle.wf_value.specs.Errors.{Answer}
 use Rattle.wf_value.specs.Plain.{plain, plain_items}
-use Rattle.wf_value.specs.declared.errors.Raise.{Raise}
-use Rattle.wf_value.specs.declared.errors.Raise.TheVariants.{Error, OutOfMemory}
+use Rattle.wf_value.specs.declared.errors.Raise.TheVariants.{Error}
 use Rattle.wf_value.specs.declared.errors.Tag.{Tag}
 use Rattle.wf_value.specs.declared.errors.Tag.TheVariants.{TypeError}
 use Rattle.wf_value.specs.declared.value.Value.{Value}
 use Rattle.wf_eval.specs.Answers.{Gives}
 
-as_value : (v : Value) (a : Answer Data) → a ≡ Ok (plain v) → Gives (Ok v) a
-as_value v a h = subst (λ (x : Answer Data). Gives (Ok v) x) (sym h) refl
-
 as_error : (t : Tag) (a : Answer Data) → a ≡ Err t → Gives (Err (Error t)) a
 as_error t a h = subst (λ (x : Answer Data). Gives (Err (Error t)) x) (sym h) refl
-
-pub of_text : (r : Result Value Raise) (a : Answer Data) → texts.Gives r a → Gives r a
-of_text (Ok v) a h = as_value v a h
-of_text (Err (Error t)) a h = as_error t a h
-of_text (Err OutOfMemory) a h = tt
-
-pub of_data : (r : Result Value Raise) (a : Answer Data) → datas.Gives r a → Gives r a
-of_data (Ok v) a h = as_value v a h
-of_data (Err (Error t)) a h = as_error t a h
-of_data (Err OutOfMemory) a h = tt
-
-pub of_time : (r : Result Value Raise) (a : Answer Data) → times.Gives r a → Gives r a
-of_time (Ok v) a h = as_value v a h
-of_time (Err (Error t)) a h = as_error t a h
-of_time (Err OutOfMemory) a h = tt
 
 -- ## Four arguments and more
 none_takes : (s : View) (f : Func) (t u v w : Data) (ds : List Data) → apply s f (t ∷ u ∷ v ∷ w ∷ ds) ≡ Err TypeError

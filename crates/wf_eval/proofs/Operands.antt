@@ -1,15 +1,13 @@
 -- What short code leaves on an empty stack.
-use Rattle.std.proofs.Common.{◌≡◌, ◌<◌, ◌≤◌, ℕ, List, [], ◌∷◌, length, get_or, Option, Some, None, IfSome, Result, Ok, Err, sym, ap, subst, ◌∙◌, arith}
+use Rattle.std.proofs.Common.{◌≡◌, ◌<◌, ◌≤◌, ℕ, List, [], ◌∷◌, length, get_or, Option, Some, None, IfSome, Result, Ok, sym, ap, subst, ◌∙◌, arith}
 use Rattle.wf_ast.specs.Apply.{View}
 use Rattle.wf_ast.specs.Instrs.{instr, instrs}
 use Rattle.wf_ast.specs.Machine.{Next, Stack, act, exec}
 use Rattle.wf_ast.specs.declared.code.Instr.{Instr}
 use Rattle.wf_value.specs.Data.{Data}
-use Rattle.wf_value.specs.Errors.{Answer, ◌>>=◌}
+use Rattle.wf_value.specs.Errors.{Answer}
 use Rattle.wf_value.specs.declared.errors.Raise.{Raise}
-use Rattle.wf_value.specs.declared.errors.Raise.TheVariants.{Error, OutOfMemory}
 use Rattle.wf_value.specs.declared.value.Value.{Value}
-use Rattle.wf_eval.specs.Answers.{Gives}
 use Rattle.wf_eval.specs.Sight.{Sight, seen}
 use Rattle.wf_eval.specs.Steps.{IsOperand, Leaves, alone}
 
@@ -42,11 +40,3 @@ three_leaves (Some q) is a b c s v w e p o h =
     λ now. subst (λ (js : List Instr). Leaves q (exec (seen s now) (instrs js) 0 [])) (sym e)
     (subst (λ (d : Answer Stack). Leaves q d) (sym (p now (exec (seen s now) (instr b ∷ instr c ∷ [])) [] ∙ o now (exec (seen s now) (instr c ∷ [])) (v ∷ [])))
     (subst (λ (k : Next). Leaves q (act (seen s now) (instr c) k (w ∷ v ∷ []))) (sym (ends (seen s now))) (h (seen s now))))
-
--- what is left is the value of the expression
-pub short_gives : (r : Result Value Raise) (d : Answer Data) (a : Answer Stack) → Leaves r a → a ≡ (d >>= λ v. Ok (v ∷ [])) → Gives r d
-short_gives (Ok v) (Ok w) a l e = cc
-short_gives (Ok v) (Err t) a l e = cc
-short_gives (Err OutOfMemory) d a l e = tt
-short_gives (Err (Error t)) (Ok w) a l e = cc
-short_gives (Err (Error t)) (Err u) a l e = cc

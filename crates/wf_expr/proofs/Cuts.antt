@@ -59,23 +59,6 @@ hole_cut s source closed back n h e f g =
     let b : back ≡ drop (suc n) s = g ∙ ap (drop 1) f ∙ drop-drop 1 n s ∙ ap (λ i. drop i s) one in
     (k.0 ∙ (λ i. hole (sym e i) ∷ pieces (sym b i)), omega (arith, k.1, ap length b, length-drop (suc n) s))
 
--- ## The length of an expression, a byte at a time
-pub length_first : (o : Option ℕ) → option_map (λ n. 0 + n) o ≡ o
-length_first None = refl
-length_first (Some n) = let e : 0 + n ≡ n = omega arith in ap Some e
-
-more_by : (k : ℕ) (o : Option ℕ) → option_map (λ n. k + n) (option_map suc o) ≡ option_map (λ n. (k + 1) + n) o
-more_by k None = refl
-more_by k (Some n) = let e : k + suc n ≡ (k + 1) + n = omega arith in ap Some e
-
-pub length_more : (k : ℕ) (q : Quoting) (b : ℕ) (s : Text) → closes q b ≡ false → option_map (λ n. k + n) (length_in q (b ∷ s)) ≡ option_map (λ n. (k + 1) + n) (length_in (behind q b) s)
-length_more k q b s h = ap (λ x. option_map (λ n. k + n) (if x then Some 0 else option_map suc (length_in (behind q b) s))) h ∙ more_by k (length_in (behind q b) s)
-
-pub length_here : (k : ℕ) (q : Quoting) (b : ℕ) (s : Text) → closes q b ≡ true → option_map (λ n. k + n) (length_in q (b ∷ s)) ≡ Some k
-length_here k q b s h =
-    let e : k + 0 ≡ k = omega arith in
-    ap (λ x. option_map (λ n. k + n) (if x then Some 0 else option_map suc (length_in (behind q b) s))) h ∙ ap Some e
-
 -- ## Where expressions begin
 abbrev pub marks : Text
 marks = 36 ∷ 123 ∷ []
@@ -174,12 +157,3 @@ found s true h =
     let e = cut_at s (take h.0 s) (drop h.1 s) h.0 h.1 h.2 refl refl n in
     sym (ap (λ ps. not (list_all is_said ps)) e ∙ ap not (front_any (take h.0 s) (in_hole Bare (drop h.1 s)) (opened Bare (drop h.1 s))))
 found s false h = sym (ap (λ ps. not (list_all is_said ps)) (no_opening s h) ∙ ap not (said_alone s))
-
--- a text without expressions
-pub nothing_opens : (s : Text) (b : Bool) → b ≡ has_expressions s → not b ≡ true → has_expressions s ≡ false
-nothing_opens s true h k = absurd (false≢true k)
-nothing_opens s false h k = sym h
-
-pub something_opens : (s : Text) (b : Bool) → b ≡ has_expressions s → not b ≡ false → has_expressions s ≡ true
-something_opens s true h k = sym h
-something_opens s false h k = absurd (false≢true (sym k))

@@ -1,13 +1,10 @@
 -- The symbols of tokens, one after the other.
-use Rattle.std.proofs.Common.{◌≡◌, ◌<◌, ◌≤◌, ◌+◌, ℕ, zero, suc, Bool, true, false, List, [], ◌∷◌, ◌++◌, length, drop, map, slice_get, Option, Some, None, if◌then◌else◌, ⊎_elim, sym, ap, ◌∙◌, subst, arith, append_assoc}
+use Rattle.std.proofs.Common.{◌≡◌, ◌<◌, ◌≤◌, ◌+◌, ℕ, zero, suc, Bool, true, false, List, [], ◌∷◌, length, drop, slice_get, Option, Some, None, if◌then◌else◌, ⊎_elim, sym, ap, ◌∙◌, subst, arith}
 use Rattle.std.proofs.Math.Seq.{drop-cons, drop-nil}
-use Rattle.std.proofs.lemmas.List.{map-append}
 use Rattle.std.proofs.lemmas.Option.{slice_get_within, get_or_from_slice_get, slice_get_cases}
 use Rattle.std.specs.List.{AllByRecursion}
-use Rattle.wf_expr.specs.Kinds.{placed_of}
-use Rattle.wf_expr.specs.Symbols.{Placed, decimal, placed, placed_symbols, is_glued}
+use Rattle.wf_expr.specs.Symbols.{decimal, placed, placed_symbols, is_glued}
 use Rattle.wf_expr.specs.Taking.{IsToken, glued_at}
-use Rattle.wf_expr.specs.declared.kind.Symbol.{Symbol}
 use Rattle.wf_span.specs.Tokens.{PlacedToken}
 
 -- ## What stands at an index
@@ -24,9 +21,6 @@ drop_past (t ∷ ts) (suc i) h = drop_past ts i (omega (arith, h))
 
 get_none : (ts : List PlacedToken) (i : ℕ) → None ≡ slice_get ts i → drop i ts ≡ []
 get_none ts i h = ⊎_elim (λ x. let e : None ≡ Some x.0 = h ∙ x.2 in let p : ⊥ = cc in absurd p) (λ x. drop_past ts i x.0) (slice_get_cases ts i).1
-
-next : (ts : List PlacedToken) (i j : ℕ) (o : Option PlacedToken) → i + 1 ≡ j → o ≡ slice_get ts j → (p : PlacedToken) → o ≡ Some p → drop (i + 1) ts ≡ p ∷ drop (j + 1) ts
-next ts i j o e h p k = ap (λ n. drop n ts) e ∙ get_drop ts j p (sym k ∙ h)
 
 -- ## The next symbol
 pub none_next : (ts : List PlacedToken) (i : ℕ) → None ≡ slice_get ts i → placed_symbols (drop i ts) ≡ []
@@ -63,15 +57,6 @@ plain_next ts i a (Some p) (Some b) e f g h =
     let y : (i + 2) + 1 ≡ i + 3 = omega arith in
     let n = get_drop ts (i + 1) p f ∙ ap (λ m. p ∷ drop m ts) x ∙ ap (λ l. p ∷ l) (get_drop ts (i + 2) b g ∙ ap (λ m. b ∷ drop m ts) y) in
     ap placed_symbols (three_at ts i a p b e f g) ∙ by_glue a p b (drop (i + 3) ts) false h ∙ ap (λ l. placed a ∷ placed_symbols l) (sym n)
-
--- one more symbol
-pub more_symbols : (out new : List Symbol) (x : Symbol) (ts us : List PlacedToken) (all : List Placed) → map placed_of out ++ placed_symbols ts ≡ all → placed_symbols ts ≡ placed_of x ∷ placed_symbols us → new ≡ out ++ x ∷ [] → map placed_of new ++ placed_symbols us ≡ all
-more_symbols out new x ts us all h k e =
-    ap (λ l. map placed_of l ++ placed_symbols us) e
-    ∙ ap (λ l. l ++ placed_symbols us) (map-append placed_of out (x ∷ []))
-    ∙ append_assoc (map placed_of out) (placed_of x ∷ []) (placed_symbols us)
-    ∙ ap (λ l. map placed_of out ++ l) (sym k)
-    ∙ h
 
 -- all tokens are tokens, so the one at an index is
 pub token_at : (ts : List PlacedToken) (i : ℕ) (t : PlacedToken) → AllByRecursion IsToken ts → Some t ≡ slice_get ts i → IsToken t

@@ -1,12 +1,12 @@
 -- Digits that are read as a whole number of 64 bits.
 use Rattle.std.proofs.Common.{◌≡◌, ◌<◌, ◌^◌, ℕ, ℤ, pos, neg_ℤ, true, cond, List, [], ◌∷◌, drop, if◌then◌else◌, nat_le, ⊎_elim, sym, ap, ◌∙◌, subst, arith, w64}
-use Rattle.std.proofs.lemmas.Bool.{cases_lt, ne_eqb, and_parts, true≢false, leb-true, lt-ltb, le-ltb}
+use Rattle.std.proofs.lemmas.Bool.{cases_lt, ne_eqb, and_parts, true≢false, leb-true, le-ltb}
 use Rattle.std.proofs.lemmas.Str.{digit_value_digit}
 use Rattle.std.specs.Char.{digit_value}
 use Rattle.std.specs.Int.{IsInRange}
 use Rattle.std.specs.List.{list_all}
 use Rattle.std.specs.Str.Parse.{AllDigits, IsNumeral, digits_value, without_leading_sign, without_leading_plus, signed_digits_value}
-use Rattle.wf_expr.specs.Symbols.{Sym, digits}
+use Rattle.wf_expr.specs.Symbols.{digits}
 use Rattle.wf_expr.specs.Symbols as s
 use Rattle.wf_span.specs.Tokens.{is_token, is_digit}
 use Rattle.wf_span.specs.declared.token.TokenKind.TheVariants as token
@@ -33,18 +33,6 @@ no_minus b r h =
     let k = in_range b h in
     ap (λ x. cond x (neg_ℤ (pos (digits_value 10 (without_leading_sign (b ∷ r))))) (pos (digits_value 10 (without_leading_sign (b ∷ r))))) (ne_eqb b 45 (λ e. omega (arith, k.0)))
     ∙ ap (λ l. pos (digits_value 10 l)) (no_sign b r h)
-
-small : (n : ℕ) → SFits w64 (pos n) → n < 2 ^ 63
-small n h = h.sfits
-
-pub number_read : (text : List ℕ) (z : ℤ) → is_token token.Number text ≡ true → SFits w64 (signed_digits_value 10 text) → z ≡ signed_digits_value 10 text → s.number z ≡ digits text
-number_read [] z h f e = absurd (true≢false (sym h))
-number_read (b ∷ r) z h f e =
-    let d = (and_parts (is_digit b) (list_all is_digit r) h).0 in
-    let m = no_minus b r d in
-    let n = digits_value 10 (b ∷ r) in
-    let fits : SFits w64 (pos n) = subst (λ (x : ℤ). SFits w64 x) m f in
-    ap s.number (e ∙ m) ∙ sym (ap (λ x. if x then s.number (pos n) else s.decimal) (lt-ltb n (2 ^ 63) (small n fits)))
 
 pub number_refused : (text : List ℕ) → is_token token.Number text ≡ true → (IsNumeral 10 (without_leading_sign text) × SFits w64 (signed_digits_value 10 text) → ⊥) → s.decimal ≡ digits text
 number_refused [] h never = absurd (true≢false (sym h))

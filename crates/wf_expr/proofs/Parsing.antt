@@ -6,10 +6,10 @@ use Rattle.wf_ast.specs.Func.{func_named}
 use Rattle.wf_ast.specs.Tree.{Expr}
 use Rattle.wf_ast.specs.declared.expr.Op.{Op}
 use Rattle.wf_ast.specs.declared.expr.Op.TheVariants as op
-use Rattle.wf_expr.proofs.Kept.{or_is, and_is, not_is, point_is, comma_is, left_paren_is, right_paren_is, left_bracket_is, right_bracket_is, minus_is, relation_is, sign_is, product_is, name_is}
-use Rattle.wf_expr.proofs.Reading.{run-resume, resume-head, after_and-whole, left-whole, after_sum-whole, after_term-whole, after_access-whole, if_false, begin_left, begin_arg}
+use Rattle.wf_expr.proofs.Kept.{or_is, and_is, not_is, point_is, comma_is, left_paren_is, right_paren_is, left_bracket_is, minus_is, relation_is, sign_is, product_is}
+use Rattle.wf_expr.proofs.Reading.{run-resume, resume-head, left-whole, if_false, begin_left, begin_arg}
 use Rattle.wf_expr.specs.Grammar.{Ors, or_one, or_more, Ands, and_one, and_more, not_one, negated, alone, compared, Sums, sum_one, sum_more, Terms, term_one, term_more, plain, minus, Access, first, at_name, at_index, Atom, call, group, Args, no_args, args, Given, given_one, given_more, joined, call_of, or_expr, and_expr, not_expr, sum_expr, term_expr, unary_expr, atom_expr, args_exprs}
-use Rattle.wf_expr.specs.Machine.{InOr, in_group, in_index, in_args, InAnd, first_and, next_and, InNot, first_not, next_not, after_not, InSum, left, right, InTerm, first_term, next_term, InUnary, first_unary, next_unary, after_minus, State, want_not, want_unary, have_access, want_name, want_args, Next, nowhere, goes, want_and, want_or, want_term, want_sum, head, is_or, is_and, is_not, is_point, is_comma, is_left_paren, is_right_paren, is_left_bracket, is_right_bracket, is_minus, relation_of, sign_of, product_of, name_of, atom_of, by_atom, begin_unary, begin_name, with_arg, after_or, whole_and, after_and, whole_not, whole_sum, after_sum, whole_term, after_term, whole_unary, chain_of, by_chain, after_access, after_given, step, stuck, go_on, run, resume}
+use Rattle.wf_expr.specs.Machine.{InOr, in_index, in_args, InAnd, first_and, next_and, InNot, first_not, next_not, after_not, InSum, left, right, InTerm, first_term, next_term, InUnary, first_unary, next_unary, after_minus, State, want_not, want_unary, have_access, want_name, want_args, Next, nowhere, goes, want_and, want_or, want_term, want_sum, head, is_or, is_and, is_not, is_point, is_comma, is_left_paren, is_right_paren, is_left_bracket, is_minus, relation_of, sign_of, product_of, name_of, atom_of, begin_unary, with_arg, after_or, after_and, whole_not, whole_sum, after_sum, after_term, whole_unary, chain_of, by_chain, after_access, after_given, step, stuck, go_on, run, resume}
 use Rattle.wf_expr.specs.Parts.{Fails, OrSoFar, OrRead, AndSoFar, AndRead, NotRead, want_cmp, CmpRead, SumSoFar, SumRead, TermSoFar, TermRead, UnaryRead, chain_name, longer_by, AccessSoFar, AccessRead, AtomRead, want_group, GroupRead, want_index, IndexRead, want_key, KeyRead, Called, want_call, GivenSoFar, ArgsRead}
 use Rattle.wf_expr.specs.Symbols.{Sym}
 use Rattle.wf_expr.specs.Symbols as s
@@ -45,9 +45,6 @@ both_ways {T} {E} (Err e) P Q R S f g h = g e h
 pub or_first : (ts rest : List Sym) (e : Expr) → AndRead ts e rest → OrSoFar ts e rest
 or_first ts rest e h = (or_one h.0, h.1, h.2, λ c. h.3 (first_and c))
 
-pub or_first_fails : (ts : List Sym) (f : Stop) → Fails want_and ts f → Fails want_or ts f
-or_first_fails ts f h = fails_within want_and want_or first_and ts ts f (λ c. refl) h
-
 or_taken : (c : InOr) (d : Ors) (ts : List Sym) → is_or (head ts) ≡ true → resume ts (after_or c d) ≡ run (drop 1 ts) (want_and (next_and d c))
 or_taken c d ts h = taken ts s.or (after_or c d) (want_and (next_and d c)) (or_is (head ts) h) refl
 
@@ -56,15 +53,9 @@ or_next ts mid rest e g h k a =
     let n = one_less mid s.or (or_is (head mid) k) in
     (or_more h.0 a.0, ap (λ x. Expr.Or x (and_expr a.0)) h.1 ∙ ap (Expr.Or e) a.1, omega (arith, h.2, a.2, n), λ c. h.3 c ∙ or_taken c h.0 mid k ∙ a.3 (next_and h.0 c))
 
-pub or_next_fails : (ts mid : List Sym) (e : Expr) (f : Stop) → OrSoFar ts e mid → is_or (head mid) ≡ true → Fails want_and (drop 1 mid) f → Fails want_or ts f
-or_next_fails ts mid e f h k a = fails_within want_and want_or (next_and h.0) ts (drop 1 mid) f (λ c. h.3 c ∙ or_taken c h.0 mid k) a
-
 -- ## and
 pub and_first : (ts rest : List Sym) (e : Expr) → NotRead ts e rest → AndSoFar ts e rest
 and_first ts rest e h = (and_one h.0, h.1, h.2, λ c. h.3 (first_not c))
-
-pub and_first_fails : (ts : List Sym) (f : Stop) → Fails want_not ts f → Fails want_and ts f
-and_first_fails ts f h = fails_within want_not want_and first_not ts ts f (λ c. refl) h
 
 and_taken : (c : InAnd) (d : Ands) (ts : List Sym) → is_and (head ts) ≡ true → resume ts (after_and c d) ≡ run (drop 1 ts) (want_not (next_not d c))
 and_taken c d ts h = taken ts s.and (after_and c d) (want_not (next_not d c)) (and_is (head ts) h) refl
@@ -74,21 +65,12 @@ and_next ts mid rest e g h k a =
     let n = one_less mid s.and (and_is (head mid) k) in
     (and_more h.0 a.0, ap (λ x. Expr.And x (not_expr a.0)) h.1 ∙ ap (Expr.And e) a.1, omega (arith, h.2, a.2, n), λ c. h.3 c ∙ and_taken c h.0 mid k ∙ a.3 (next_not h.0 c))
 
-pub and_next_fails : (ts mid : List Sym) (e : Expr) (f : Stop) → AndSoFar ts e mid → is_and (head mid) ≡ true → Fails want_not (drop 1 mid) f → Fails want_and ts f
-and_next_fails ts mid e f h k a = fails_within want_not want_and (next_not h.0) ts (drop 1 mid) f (λ c. h.3 c ∙ and_taken c h.0 mid k) a
-
-pub and_last : (ts rest : List Sym) (e : Expr) → AndSoFar ts e rest → is_and (head rest) ≡ false → AndRead ts e rest
-and_last ts rest e h k = (h.0, h.1, h.2, λ c. h.3 c ∙ resume-head rest (after_and c h.0) (whole_and c h.0) (after_and-whole c h.0 (head rest) k))
-
 -- ## not
 not_taken : (ts : List Sym) (c : InNot) → is_not (head ts) ≡ true → run ts (want_not c) ≡ run (drop 1 ts) (want_not (after_not c))
 not_taken ts c h = run-resume ts (want_not c) ∙ taken ts s.not (step (want_not c)) (want_not (after_not c)) (not_is (head ts) h) refl
 
 pub not_more : (ts rest : List Sym) (e : Expr) → is_not (head ts) ≡ true → NotRead (drop 1 ts) e rest → NotRead ts (Expr.Not e) rest
 not_more ts rest e h a = let n = one_less ts s.not (not_is (head ts) h) in (negated a.0, ap Expr.Not a.1, omega (arith, a.2, n), λ c. not_taken ts c h ∙ a.3 (after_not c))
-
-pub not_more_fails : (ts : List Sym) (f : Stop) → is_not (head ts) ≡ true → Fails want_not (drop 1 ts) f → Fails want_not ts f
-not_more_fails ts f h a = fails_within want_not want_not after_not ts (drop 1 ts) f (λ c. not_taken ts c h) a
 
 pub not_single : (ts rest : List Sym) (e : Expr) → is_not (head ts) ≡ false → CmpRead ts e rest → NotRead ts e rest
 not_single ts rest e h a = (not_one a.0, a.1, a.2, λ c. begin_left ts c h ∙ a.3 c)
@@ -100,9 +82,6 @@ not_single_fails ts f h a = fails_within want_cmp want_not (λ c. c) ts ts f (λ
 pub cmp_alone : (ts rest : List Sym) (e : Expr) → relation_of (head rest) ≡ None → SumRead ts e rest → CmpRead ts e rest
 cmp_alone ts rest e k a = (alone a.0, a.1, a.2, λ c. a.3 (left c) ∙ resume-head rest (whole_sum (left c) a.0) (whole_not c (not_one (alone a.0))) (left-whole c a.0 (head rest) k))
 
-pub cmp_left_fails : (ts : List Sym) (f : Stop) → Fails want_sum ts f → Fails want_cmp ts f
-cmp_left_fails ts f a = fails_within want_sum want_cmp left ts ts f (λ c. refl) a
-
 relation_taken : (ts : List Sym) (o : Op) (c : InNot) (a : Sums) → relation_of (head ts) ≡ Some o → resume ts (whole_sum (left c) a) ≡ run (drop 1 ts) (want_sum (right a o c))
 relation_taken ts o c a h = taken ts (s.relation o) (whole_sum (left c) a) (want_sum (right a o c)) (relation_is (head ts) o h) refl
 
@@ -111,15 +90,9 @@ cmp_pair ts mid rest e g o k a b =
     let n = one_less mid (s.relation o) (relation_is (head mid) o k) in
     (compared a.0 o b.0, ap (λ x. Expr.Bin o x (sum_expr b.0)) a.1 ∙ ap (Expr.Bin o e) b.1, omega (arith, a.2, b.2, n), λ c. a.3 (left c) ∙ relation_taken mid o c a.0 k ∙ b.3 (right a.0 o c))
 
-pub cmp_pair_fails : (ts mid : List Sym) (e : Expr) (o : Op) (f : Stop) → relation_of (head mid) ≡ Some o → SumRead ts e mid → Fails want_sum (drop 1 mid) f → Fails want_cmp ts f
-cmp_pair_fails ts mid e o f k a b = fails_within want_sum want_cmp (right a.0 o) ts (drop 1 mid) f (λ c. a.3 (left c) ∙ relation_taken mid o c a.0 k) b
-
 -- ## sum
 pub sum_first : (ts rest : List Sym) (e : Expr) → TermRead ts e rest → SumSoFar ts e rest
 sum_first ts rest e h = (sum_one h.0, h.1, h.2, λ c. h.3 (first_term c))
-
-pub sum_first_fails : (ts : List Sym) (f : Stop) → Fails want_term ts f → Fails want_sum ts f
-sum_first_fails ts f h = fails_within want_term want_sum first_term ts ts f (λ c. refl) h
 
 sign_taken : (c : InSum) (d : Sums) (o : Op) (ts : List Sym) → sign_of (head ts) ≡ Some o → resume ts (after_sum c d) ≡ run (drop 1 ts) (want_term (next_term d o c))
 sign_taken c d o ts h = taken ts (s.sign o) (after_sum c d) (want_term (next_term d o c)) (sign_is (head ts) o h) refl
@@ -129,18 +102,9 @@ sum_next ts mid rest e g o h k a =
     let n = one_less mid (s.sign o) (sign_is (head mid) o k) in
     (sum_more h.0 o a.0, ap (λ x. Expr.Bin o x (term_expr a.0)) h.1 ∙ ap (Expr.Bin o e) a.1, omega (arith, h.2, a.2, n), λ c. h.3 c ∙ sign_taken c h.0 o mid k ∙ a.3 (next_term h.0 o c))
 
-pub sum_next_fails : (ts mid : List Sym) (e : Expr) (o : Op) (f : Stop) → SumSoFar ts e mid → sign_of (head mid) ≡ Some o → Fails want_term (drop 1 mid) f → Fails want_sum ts f
-sum_next_fails ts mid e o f h k a = fails_within want_term want_sum (next_term h.0 o) ts (drop 1 mid) f (λ c. h.3 c ∙ sign_taken c h.0 o mid k) a
-
-pub sum_last : (ts rest : List Sym) (e : Expr) → SumSoFar ts e rest → sign_of (head rest) ≡ None → SumRead ts e rest
-sum_last ts rest e h k = (h.0, h.1, h.2, λ c. h.3 c ∙ resume-head rest (after_sum c h.0) (whole_sum c h.0) (after_sum-whole c h.0 (head rest) k))
-
 -- ## term
 pub term_first : (ts rest : List Sym) (e : Expr) → UnaryRead ts e rest → TermSoFar ts e rest
 term_first ts rest e h = (term_one h.0, h.1, h.2, λ c. h.3 (first_unary c))
-
-pub term_first_fails : (ts : List Sym) (f : Stop) → Fails want_unary ts f → Fails want_term ts f
-term_first_fails ts f h = fails_within want_unary want_term first_unary ts ts f (λ c. refl) h
 
 product_taken : (c : InTerm) (d : Terms) (o : Op) (ts : List Sym) → product_of (head ts) ≡ Some o → resume ts (after_term c d) ≡ run (drop 1 ts) (want_unary (next_unary d o c))
 product_taken c d o ts h = taken ts (s.product o) (after_term c d) (want_unary (next_unary d o c)) (product_is (head ts) o h) refl
@@ -150,12 +114,6 @@ term_next ts mid rest e g o h k a =
     let n = one_less mid (s.product o) (product_is (head mid) o k) in
     (term_more h.0 o a.0, ap (λ x. Expr.Bin o x (unary_expr a.0)) h.1 ∙ ap (Expr.Bin o e) a.1, omega (arith, h.2, a.2, n), λ c. h.3 c ∙ product_taken c h.0 o mid k ∙ a.3 (next_unary h.0 o c))
 
-pub term_next_fails : (ts mid : List Sym) (e : Expr) (o : Op) (f : Stop) → TermSoFar ts e mid → product_of (head mid) ≡ Some o → Fails want_unary (drop 1 mid) f → Fails want_term ts f
-term_next_fails ts mid e o f h k a = fails_within want_unary want_term (next_unary h.0 o) ts (drop 1 mid) f (λ c. h.3 c ∙ product_taken c h.0 o mid k) a
-
-pub term_last : (ts rest : List Sym) (e : Expr) → TermSoFar ts e rest → product_of (head rest) ≡ None → TermRead ts e rest
-term_last ts rest e h k = (h.0, h.1, h.2, λ c. h.3 c ∙ resume-head rest (after_term c h.0) (whole_term c h.0) (after_term-whole c h.0 (head rest) k))
-
 -- ## unary
 minus_taken : (ts : List Sym) (c : InUnary) → is_minus (head ts) ≡ true → run ts (want_unary c) ≡ run (drop 1 ts) (want_unary (after_minus c))
 minus_taken ts c h = run-resume ts (want_unary c) ∙ taken ts (s.sign op.Sub) (step (want_unary c)) (want_unary (after_minus c)) (minus_is (head ts) h) refl
@@ -163,29 +121,12 @@ minus_taken ts c h = run-resume ts (want_unary c) ∙ taken ts (s.sign op.Sub) (
 pub minus_more : (ts rest : List Sym) (e : Expr) → is_minus (head ts) ≡ true → UnaryRead (drop 1 ts) e rest → UnaryRead ts (Expr.Neg e) rest
 minus_more ts rest e h a = let n = one_less ts (s.sign op.Sub) (minus_is (head ts) h) in (minus a.0, ap Expr.Neg a.1, omega (arith, a.2, n), λ c. minus_taken ts c h ∙ a.3 (after_minus c))
 
-pub minus_fails : (ts : List Sym) (f : Stop) → is_minus (head ts) ≡ true → Fails want_unary (drop 1 ts) f → Fails want_unary ts f
-minus_fails ts f h a = fails_within want_unary want_unary after_minus ts (drop 1 ts) f (λ c. minus_taken ts c h) a
-
 pub unary_plain : (ts rest : List Sym) (e : Expr) → AccessRead ts e rest → UnaryRead ts e rest
 unary_plain ts rest e a = (plain a.0, a.1, a.2, a.3)
 
 -- ## access
 pub access_first : (ts rest : List Sym) (e : Expr) (x : Option Text) → AtomRead ts e rest → x ≡ name_of (head ts) → AccessSoFar ts e x rest
 access_first ts rest e x a h = (first a.0, a.1, a.2 ∙ sym h, a.3, a.4)
-
-pub access_last : (ts rest : List Sym) (e : Expr) (x : Option Text) → AccessSoFar ts e x rest → is_point (head rest) ≡ false → is_left_bracket (head rest) ≡ false → is_left_paren (head rest) ≡ false → AccessRead ts e rest
-access_last ts rest e x h i j k = (h.0, h.1, h.3, λ c. h.4 c ∙ resume-head rest (after_access c h.0) (whole_unary c (plain h.0)) (after_access-whole c h.0 (head rest) (i, j, k)))
-
--- a `(` behind what is no name
-no_chain : (o : Option (Text × List Text)) → option_map (λ f. joined f.0 f.1) o ≡ None → o ≡ None
-no_chain None h = refl
-no_chain (Some f) h = cc
-
-no_call : (c : InUnary) (a : Access) (t : Option Sym) → chain_of a ≡ None → is_left_paren t ≡ true → after_access c a t ≡ whole_unary c (plain a) t
-no_call c a t h k = ap (after_access c a) (left_paren_is t k) ∙ ap (λ o. by_chain o c (whole_unary c (plain a) (Some s.left_paren))) h ∙ ap (whole_unary c (plain a)) (sym (left_paren_is t k))
-
-pub access_no_call : (ts rest : List Sym) (e : Expr) → AccessSoFar ts e None rest → is_left_paren (head rest) ≡ true → AccessRead ts e rest
-access_no_call ts rest e h k = (h.0, h.1, h.3, λ c. h.4 c ∙ resume-head rest (after_access c h.0) (whole_unary c (plain h.0)) (no_call c h.0 (head rest) (no_chain (chain_of h.0) h.2) k))
 
 point_taken : (c : InUnary) (a : Access) (ts : List Sym) → is_point (head ts) ≡ true → resume ts (after_access c a) ≡ run (drop 1 ts) (want_name a c)
 point_taken c a ts h = taken ts s.point (after_access c a) (want_name a c) (point_is (head ts) h) refl
@@ -240,50 +181,6 @@ access_call_fails ts mid e x f h k a =
     let w = call_named (chain_of h.0) x h.2 in
     fails_within want_call want_unary (λ c. (w.0.0, w.0.1, c)) ts (drop 1 mid) f (λ c. h.4 c ∙ paren_taken c h.0 w.0 mid w.1 k) a
 
--- ## behind a point
-pub key_read : (ts : List Sym) (x : Text) → name_of (head ts) ≡ Some x → KeyRead ts x (drop 1 ts)
-key_read ts x h =
-    let n = one_less ts (s.name x) (name_is (head ts) x h) in
-    (omega (arith, n), λ k. run-resume ts (want_key k) ∙ taken ts (s.name x) (step (want_key k)) (have_access (at_name k.0 x) k.1) (name_is (head ts) x h) refl)
-
-pub key_fails : (ts : List Sym) → name_of (head ts) ≡ None → Fails want_key ts (stop.Syntax (length ts))
-key_fails ts h = (ts, refl, λ k. run-resume ts (want_key k) ∙ stuck_at ts (step (want_key k)) (ap (λ o. begin_name o k.0 k.1) h))
-
--- ## brackets
-bracket_closed : (ts : List Sym) (d : Ors) (k : Access × InUnary) → is_right_bracket (head ts) ≡ true → resume ts (after_or (in_index k.0 k.1) d) ≡ run (drop 1 ts) (have_access (at_index k.0 d) k.1)
-bracket_closed ts d k h = taken ts s.right_bracket (after_or (in_index k.0 k.1) d) (have_access (at_index k.0 d) k.1) (right_bracket_is (head ts) h) refl
-
-pub index_read : (ts mid : List Sym) (e : Expr) → OrRead ts e mid → is_right_bracket (head mid) ≡ true → IndexRead ts e (drop 1 mid)
-index_read ts mid e a h =
-    let n = one_less mid s.right_bracket (right_bracket_is (head mid) h) in
-    (a.0.0, a.0.1, omega (arith, a.0.2, n), λ k. a.0.3 (in_index k.0 k.1) ∙ bracket_closed mid a.0.0 k h)
-
-pub index_fails : (ts : List Sym) (f : Stop) → Fails want_or ts f → Fails want_index ts f
-index_fails ts f a = fails_within want_or want_index (λ k. in_index k.0 k.1) ts ts f (λ k. refl) a
-
-index_open : (d : Ors) (k : Access × InUnary) (t : Option Sym) → is_or t ≡ false → is_right_bracket t ≡ false → after_or (in_index k.0 k.1) d t ≡ nowhere
-index_open d k t h g = if_false (is_or t) _ _ h ∙ if_false (is_right_bracket t) _ _ g
-
-pub index_open_fails : (ts mid : List Sym) (e : Expr) → OrRead ts e mid → is_right_bracket (head mid) ≡ false → Fails want_index ts (stop.Syntax (length mid))
-index_open_fails ts mid e a h = (mid, refl, λ k. a.0.3 (in_index k.0 k.1) ∙ stuck_at mid (after_or (in_index k.0 k.1) a.0.0) (index_open a.0.0 k (head mid) a.1 h))
-
-paren_closed : (ts : List Sym) (d : Ors) (c : InUnary) → is_right_paren (head ts) ≡ true → resume ts (after_or (in_group c) d) ≡ run (drop 1 ts) (have_access (first (group d)) c)
-paren_closed ts d c h = taken ts s.right_paren (after_or (in_group c) d) (have_access (first (group d)) c) (right_paren_is (head ts) h) refl
-
-pub group_read : (ts mid : List Sym) (e : Expr) → OrRead ts e mid → is_right_paren (head mid) ≡ true → GroupRead ts e (drop 1 mid)
-group_read ts mid e a h =
-    let n = one_less mid s.right_paren (right_paren_is (head mid) h) in
-    (a.0.0, a.0.1, omega (arith, a.0.2, n), λ c. a.0.3 (in_group c) ∙ paren_closed mid a.0.0 c h)
-
-pub group_fails : (ts : List Sym) (f : Stop) → Fails want_or ts f → Fails want_group ts f
-group_fails ts f a = fails_within want_or want_group in_group ts ts f (λ k. refl) a
-
-group_open : (d : Ors) (c : InUnary) (t : Option Sym) → is_or t ≡ false → is_right_paren t ≡ false → after_or (in_group c) d t ≡ nowhere
-group_open d c t h g = if_false (is_or t) _ _ h ∙ if_false (is_right_paren t) _ _ g
-
-pub group_open_fails : (ts mid : List Sym) (e : Expr) → OrRead ts e mid → is_right_paren (head mid) ≡ false → Fails want_group ts (stop.Syntax (length mid))
-group_open_fails ts mid e a h = (mid, refl, λ c. a.0.3 (in_group c) ∙ stuck_at mid (after_or (in_group c) a.0.0) (group_open a.0.0 c (head mid) a.1 h))
-
 -- ## atom
 group_taken : (ts : List Sym) (c : InUnary) → is_left_paren (head ts) ≡ true → run ts (want_unary c) ≡ run (drop 1 ts) (want_group c)
 group_taken ts c h = run-resume ts (want_unary c) ∙ taken ts s.left_paren (step (want_unary c)) (want_group c) (left_paren_is (head ts) h) refl
@@ -321,13 +218,6 @@ atom_read ts None e h k = let p : ⊥ = cc in absurd p
 atom_read [] (Some a) e h k = let p : ⊥ = cc in absurd p
 atom_read (t ∷ ts) (Some a) e h k = (a, sym (same_Some e (atom_expr a) k), atom_named (Some t) a h, omega arith, λ c. atom_leads (t ∷ ts) a c h ∙ run-resume ts (have_access (first a) c))
 
-no_atom : (ts : List Sym) (o : Option Atom) (c : InUnary) → is_minus (head ts) ≡ false → is_left_paren (head ts) ≡ false → atom_of (head ts) ≡ o → None ≡ option_map atom_expr o → begin_unary (head ts) c ≡ nowhere
-no_atom ts None c h k g q = if_false (is_minus (head ts)) _ _ h ∙ if_false (is_left_paren (head ts)) _ _ k ∙ ap (λ o. by_atom o c) g
-no_atom ts (Some a) c h k g q = let p : ⊥ = cc in absurd p
-
-pub no_atom_fails : (ts : List Sym) → is_minus (head ts) ≡ false → is_left_paren (head ts) ≡ false → None ≡ option_map atom_expr (atom_of (head ts)) → Fails want_unary ts (stop.Syntax (length ts))
-no_atom_fails ts h k q = (ts, refl, λ c. run-resume ts (want_unary c) ∙ stuck_at ts (step (want_unary c)) (no_atom ts (atom_of (head ts)) c h k refl q))
-
 -- ## arguments
 none_taken : (ts : List Sym) (k : Called) → is_right_paren (head ts) ≡ true → run ts (want_call k) ≡ run (drop 1 ts) (have_access (first (call k.0 k.1 no_args)) k.2)
 none_taken ts k h = run-resume ts (want_call k) ∙ taken ts s.right_paren (step (want_call k)) (have_access (first (call k.0 k.1 no_args)) k.2) (right_paren_is (head ts) h) refl
@@ -357,9 +247,6 @@ given_next ts mid rest es e g h a =
       λ k. g.3 k ∙ comma_taken mid g.0 k h ∙ a.0.3 (in_args k.0 k.1 (args g.0) k.2) ∙ given_closes k (args g.0) a.0.0 rest a.1,
     )
 
-pub given_next_fails : (ts mid : List Sym) (es : List Expr) (f : Stop) → GivenSoFar ts es mid → is_comma (head mid) ≡ true → Fails want_or (drop 1 mid) f → Fails want_call ts f
-given_next_fails ts mid es f g h a = fails_within want_or want_call (λ k. in_args k.0 k.1 (args g.0) k.2) ts (drop 1 mid) f (λ k. g.3 k ∙ comma_taken mid g.0 k h) a
-
 args_taken : (ts : List Sym) (g : Given) (k : Called) → is_right_paren (head ts) ≡ true → resume ts (after_given k.0 k.1 g k.2) ≡ run (drop 1 ts) (have_access (first (call k.0 k.1 (args g))) k.2)
 args_taken ts g k h = taken ts s.right_paren (after_given k.0 k.1 g k.2) (have_access (first (call k.0 k.1 (args g))) k.2) (right_paren_is (head ts) h) refl
 
@@ -367,6 +254,3 @@ pub args_closed : (ts mid : List Sym) (es : List Expr) → GivenSoFar ts es mid 
 args_closed ts mid es g h =
     let n = one_less mid s.right_paren (right_paren_is (head mid) h) in
     (args g.0, g.1, omega (arith, g.2, n), λ k. g.3 k ∙ args_taken mid g.0 k h)
-
-pub args_open_fails : (ts mid : List Sym) (es : List Expr) → GivenSoFar ts es mid → is_comma (head mid) ≡ false → is_right_paren (head mid) ≡ false → Fails want_call ts (stop.Syntax (length mid))
-args_open_fails ts mid es g h i = (mid, refl, λ k. g.3 k ∙ stuck_at mid (after_given k.0 k.1 g.0 k.2) (if_false (is_comma (head mid)) _ _ h ∙ if_false (is_right_paren (head mid)) _ _ i))

@@ -1,5 +1,5 @@
 -- What quoted texts say, a character at a time.
-use Rattle.std.proofs.Common.{◌≡◌, ◌<◌, ◌≤◌, ℕ, suc, Bool, true, false, List, [], ◌∷◌, ◌++◌, length, get_or, if◌then◌else◌, ◌==◌, ◌||◌, ◌⊎◌, ⊎_elim, refl, sym, ap, ◌∙◌, arith, append_assoc, append-nil}
+use Rattle.std.proofs.Common.{◌≡◌, ◌<◌, ◌≤◌, ℕ, suc, Bool, true, false, List, [], ◌∷◌, ◌++◌, length, get_or, if◌then◌else◌, ◌==◌, ◌||◌, ⊎_elim, refl, sym, ap, ◌∙◌, arith, append_assoc, append-nil}
 use Rattle.std.proofs.lemmas.Bool.{cases_lt, eq-eqb, ne_eqb, eqb-true, and_parts, true≢false}
 use Rattle.std.proofs.lemmas.Str.{encode_ascii, char_from_byte, length-encode, len_utf8_bounds}
 use Rattle.std.specs.Char.{encode_utf8}
@@ -43,11 +43,6 @@ own_said q c rest s h k = ⊎_elim (λ m. low_own q c rest m h k) (λ m. high_sa
 
 same_number : (c n : ℕ) → (c == n) ≡ true → c ≡ n
 same_number c n h = eqb-true c n h
-
-pub slash_said : (q c : ℕ) (rest : List ℕ) → (c == 92) ≡ true → said q false (encode_utf8 c ++ rest) ≡ said q true rest
-slash_said q c rest h =
-    let e : c ≡ 92 = same_number c 92 h in
-    ap (λ x. said q false (encode_utf8 x ++ rest)) e ∙ ap (λ l. said q false (l ++ rest)) (encode_ascii 92 (omega arith))
 
 pub quote_said : (q c : ℕ) (rest : List ℕ) → q < 128 → (c == 92) ≡ false → (c == q) ≡ true → said q false (encode_utf8 c ++ rest) ≡ []
 quote_said q c rest s h k =

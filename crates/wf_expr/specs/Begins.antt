@@ -20,10 +20,3 @@ pub record CutOf (Is : List Sym → Type 0) (all before rest : List Placed) : Ty
   pub whole : all ≡ before ++ rest
   pub begins : BeginsOne Is (syms before)
   pub goes_no_further : GoesNoFurther Is before rest
-
--- ## Of expressions
-abbrev pub Begins : List Sym → Type 0
-Begins = BeginsOne IsExpression
-
-abbrev pub Cut : List Placed → List Placed → List Placed → Type 0
-Cut = CutOf IsExpression

@@ -1,7 +1,7 @@
 -- The arms of a switch, one after another.
-use Rattle.std.proofs.Common.{◌≡◌, ℕ, ◌+◌, ◌<◌, ◌≤◌, Bool, ◌&&◌, true, false, List, [], ◌∷◌, length, drop, get_or, Ok, Err, Some, None, refl, sym, ap, subst, ◌∙◌, arith, add-one}
+use Rattle.std.proofs.Common.{◌≡◌, ℕ, ◌+◌, ◌<◌, Bool, ◌&&◌, true, false, List, ◌∷◌, length, drop, get_or, Ok, Err, Some, None, refl, sym, ap, subst, ◌∙◌, add-one}
 use mathlib.Core.Logic.{inl, inr}
-use Rattle.std.specs.Prelude.{◌⊎◌, zero, suc, is_none, slice_get, Result, Option}
+use Rattle.std.specs.Prelude.{◌⊎◌, suc, is_none, slice_get, Result, Option}
 use Rattle.std.proofs.Math.Seq.{drop-cons}
 use Rattle.std.proofs.lemmas.Bool.{and_parts}
 use Rattle.wf_ast.specs.Apply.{View}
@@ -98,12 +98,6 @@ module _ (ns : List Spot) (v : View) (xs : List ℕ) (i n : ℕ) (lt : i < lengt
   at_error (Error t) h =
       let found = failed (λ (b : Bool). b) t (fill (part_condition (part_at ns n)) v >>= truth) h in
       subst (λ q. Answers (arm_in ns) (Err (Error t)) q) (sym (opens ∙ ap (λ q. q >>= λ b. elim b [ true ↦ Ok (Some (part_body (part_at ns (suc n)), part_next (part_at ns (suc n)))) | false ↦ chosen v (arms_by ns (drop (suc i) xs)) ]) found)) refl
-
-pub at_none : (ns : List Spot) (v : View) (xs : List ℕ) (i : ℕ) → length xs ≤ i → chosen v (arms_by ns (drop i xs)) ≡ Ok None
-at_none ns v [] zero h = refl
-at_none ns v [] (suc i) h = refl
-at_none ns v (x ∷ xs) zero h = absurd (omega (arith, h))
-at_none ns v (x ∷ xs) (suc i) h = at_none ns v xs i (omega (arith, h))
 
 -- ## Nodes
 pub idle_body : (ns : List Spot) (cs : Compiled) (x : Text) (next : Option Text) (k : NodeKind) → is_idle_kind k ≡ true → part_body (part_by ns x next (kind_by cs k)) ≡ Body.Nothing

@@ -1,5 +1,5 @@
 -- Compiled expressions by their code.
-use Rattle.std.proofs.Common.{◌≡◌, ℕ, ◌+◌, ◌<◌, ◌≤◌, List, [], ◌∷◌, ◌++◌, Ok, Err, Some, refl, sym, ap, subst, ◌∙◌, length, get_or, drop, slice_get, map}
+use Rattle.std.proofs.Common.{◌≡◌, ℕ, ◌+◌, ◌<◌, ◌≤◌, List, [], ◌∷◌, ◌++◌, Ok, Err, refl, sym, ap, subst, ◌∙◌, length, get_or, drop, map}
 use Rattle.std.proofs.lemmas.List.{append-nil, drop_all}
 use Rattle.wf_lemmas.proofs.Lists.{item_at}
 use Rattle.wf_ast.specs.Apply.{View}
@@ -11,7 +11,7 @@ use Rattle.wf_ast.specs.Machine.{code}
 use Rattle.wf_ast.specs.declared.code.Instr.{Instr}
 use Rattle.wf_model.proofs.Decoding.{decoded_code}
 use Rattle.wf_model.specs.Decoded.{decode}
-use Rattle.wf_model.specs.Shapes.{Compiled, decoded, expr_of, hole_by}
+use Rattle.wf_model.specs.Shapes.{Compiled, decoded}
 use Rattle.wf_value.specs.Data.{Data}
 use Rattle.wf_value.specs.Errors.{Answer, ◌>>=◌}
 use Rattle.wf_value.specs.Plain.{plain}
@@ -33,9 +33,6 @@ raised f t (Err u) h = ap Err (sym h)
 -- code is that of the expression that it is decoded to
 pub coded : (is : List Instr) (e : Expr) → instrs is ≡ code e → instrs is ≡ code (decoded is)
 coded is e h = h ∙ ap code (sym (decoded_code e) ∙ ap decode (sym h))
-
-pub hole_is : (cs : Compiled) (n : ℕ) (is : List Instr) → slice_get cs n ≡ Some is → decoded is ≡ hole_by cs n
-hole_is cs n is h = sym (ap expr_of h)
 
 -- ## Some expressions
 

@@ -12,11 +12,6 @@ use Rattle.wf_model.specs.Config.{OfList}
 use Rattle.wf_value.specs.declared.Value.TheVariants as value
 use Rattle.wf_eval.specs.Answers.{Answers, Gives}
 use Rattle.wf_model.specs.Spots.{Spot, owners_at}
-use Rattle.wf_frames.specs.Steps.{Fails, come}
-use Rattle.wf_frames.specs.declared.step.Step.{Step}
-use Rattle.wf_model.specs.Config.{Item}
-use Rattle.wf_model.specs.Leave.{raises, on}
-use Rattle.wf_model.specs.Local.{Local, Scene, Moved}
 use Rattle.wf_model.specs.Move.{over, list_left}
 use Rattle.wf_value.specs.Data.{Data, list, items_of}
 use Rattle.wf_value.specs.Pairs.{items}
@@ -34,11 +29,6 @@ gave f v (Err t) e = absurd e
 pub failed : {A B : Type 0} (f : A → B) (t : Tag) (d : Answer B) → Answers f (Err (Error t)) d → d ≡ Err t
 failed f t (Ok d) e = absurd e
 failed f t (Err u) e = ap Err (sym e)
-
--- an error that a step raises
-pub raised_error : {A : Type 0} (ns : List Spot) (s : Scene) (k : List Item) (l : Local) (r : Answer A) (f : A → Moved) (t : Tag) (st : Step) → r ≡ Err t → Fails (Error t) st → on s k l r f ≡ come ns st s k l
-raised_error ns s k l r f t st e h =
-    ap (λ q. on s k l q f) e ∙ ap (raises s k l) (sym h.2) ∙ ap (λ x. come ns x s k l) (sym h.1)
 
 -- ## Loops
 pub items_same : (vs : List Data) → items (items_of vs) ≡ vs

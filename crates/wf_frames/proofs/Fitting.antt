@@ -8,9 +8,7 @@ use Rattle.wf_frames.specs.declared.frames.Frame.{Frame}
 use Rattle.wf_frames.specs.declared.frames.Frame.TheVariants as frame
 use Rattle.wf_frames.specs.declared.frames.Left.{Left}
 use Rattle.wf_frames.proofs.Parts.{below_get, entries_of, list_of, view_is}
-use Rattle.wf_frames.specs.Steps.{IsDone, IsJump, IsReady}
-use Rattle.wf_frames.specs.declared.step.Step.{Step}
-use Rattle.wf_frames.specs.declared.step.Step.TheVariants as step
+use Rattle.wf_frames.specs.Steps.{IsJump}
 use Rattle.wf_model.specs.NodeKinds as view
 use Rattle.wf_model.specs.NodeKinds.{Kind, block_view, kind_by, node_view}
 use Rattle.wf_model.specs.Spots.{Spot, owners_at}
@@ -81,12 +79,3 @@ entry_below ns nodes n i b x r at is h = below_get (length nodes) b i (by (node_
     by (view.Return t) q p = absurd (cc q)
     by (view.Arm t) q p = absurd (cc q)
     by (view.Entry e) q p = absurd (cc q)
-
--- what is neither a jump nor an assignment nor a call is ready
-pub done_ready : (ns : List Spot) (nodes : List Node) (fs : List Frame) (st : Step) → IsDone st → IsReady ns nodes fs st
-done_ready ns nodes fs step.Goes h = tt
-done_ready ns nodes fs (step.Raises v) h = h
-done_ready ns nodes fs (step.Returns v) h = h
-done_ready ns nodes fs (step.Jumps n) h = absurd h
-done_ready ns nodes fs (step.Assigns n) h = absurd h
-done_ready ns nodes fs (step.Calls n m) h = absurd h

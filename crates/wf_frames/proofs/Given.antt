@@ -13,11 +13,6 @@ use Rattle.wf_value.specs.Pairs.{Text}
 use Rattle.wf_value.specs.Plain.{plain}
 use Rattle.wf_value.specs.declared.Value.{Value}
 
--- the first of some, with those behind it
-pub given_first : (x : Param) (xs : List Param) (args : Pairs) (v : Data) (rest : List (Text × Data)) → value_for x args ≡ Some v → given xs args ≡ Some rest → given (x ∷ xs) args ≡ Some ((x.name, v) ∷ rest)
-given_first x xs args v rest e h =
-    ap {B = Option (List (Text × Data))} (λ o. elim o [ None ↦ None | Some w ↦ option_map (λ ys. (x.name, w) ∷ ys) (given xs args) ]) e ∙ ap (option_map (λ ys. (x.name, v) ∷ ys)) h
-
 -- one without a value
 pub given_none : (xs : List Param) (n : ℕ) (x : Param) (args : Pairs) → slice_get xs n ≡ Some x → value_for x args ≡ None → given xs args ≡ None
 given_none [] n x args at e = absurd (cc at)

@@ -1,8 +1,7 @@
 -- Nodes by their numbers, and the parts that they are.
 use Rattle.std.proofs.Common.{◌≡◌, ℕ, ◌<◌, Bool, true, false, List, [], ◌∷◌, length, get_or, Some, None, refl, sym, ap, subst, ◌∙◌, arith}
 use Rattle.std.specs.List.{list_all}
-use Rattle.std.specs.Prelude.{not, zero, suc, is_some, option_map, slice_get, Option, Vec}
-use Rattle.std.specs.declared.alloc.Global.{Global}
+use Rattle.std.specs.Prelude.{not, zero, suc, is_some, option_map, slice_get, Option}
 use Rattle.std.proofs.lemmas.Bool.{and_parts}
 use Rattle.std.proofs.lemmas.Option.{slice_get_read, slice_get_within}
 use Rattle.wf_ast.specs.Tree.{Body, try}
@@ -11,8 +10,7 @@ use Rattle.wf_frames.specs.Fits.{IsCall, IsLoop, IsTry, entries_at, has_next, ki
 use Rattle.wf_frames.specs.Frames.{body_entries}
 use Rattle.wf_frames.specs.Built.{is_node_built, is_table_built, kind_built}
 use Rattle.wf_model.specs.NodeKinds as view
-use Rattle.wf_model.specs.NodeKinds.{Handler, Kind, Listed, Repeated, Side, View, block_view, handler_view, kind_by, node_view}
-use Rattle.wf_model.specs.Shapes.{Compiled}
+use Rattle.wf_model.specs.NodeKinds.{Kind, Listed, handler_view, kind_by, node_view}
 use Rattle.wf_model.specs.Spots.{Spot, entries_by, owners_at, part_at, part_body, part_list, steps_by}
 use Rattle.wf_model.specs.Table.{AreBelow, ListStands, PartsStand, Resolves, StandIn, except_of, kind_list, outside, part_by, view_list}
 use Rattle.wf_model.specs.declared.node.CallNode.{CallNode}
@@ -55,12 +53,6 @@ list_of nodes n x e = ap view_list (view_is nodes n x e)
 
 pub entries_of : (nodes : List Node) (n : ℕ) (x : Node) → slice_get nodes n ≡ Some x → entries_at nodes n ≡ kind_entries (node_view x).kind
 entries_of nodes n x e = ap view_entries (view_is nodes n x e)
-
-pub within_list : (nodes : List Node) (n : ℕ) (b : Listed) → list_at nodes n ≡ Some b → n < length nodes
-within_list nodes n b h = let s = seen_list nodes n b h in slice_get_within nodes n s.node s.at
-
-pub within_entries : (nodes : List Node) (n : ℕ) (b : List ℕ) → entries_at nodes n ≡ Some b → n < length nodes
-within_entries nodes n b h = let s = seen_entries nodes n b h in slice_get_within nodes n s.node s.at
 
 pub list_within : (nodes : List Node) (n : ℕ) → is_some (list_at nodes n) ≡ true → n < length nodes
 list_within nodes n h = by (slice_get nodes n) refl
@@ -116,23 +108,6 @@ tried_stands ns nodes n t r h = subst (λ (k : NodeKind). PartsStand ns (length 
 pub tried_body : (ns : List Spot) (nodes : List Node) (n : ℕ) (t : TryNode) → Resolves ns nodes → IsTry nodes n t
     → part_body (part_at ns n) ≡ Body.Try (try (part_body (part_at ns t.body)) (policy_option_view t.policy) (except_of ns (handler_view t.except)))
 tried_body ns nodes n t r h = ap part_body (as_part ns nodes n h.node (kind.Try t) r h.at h.is)
-
--- no other node has entries
-pub only_entries : (cs : Compiled) (k : NodeKind) → is_some (kind_entries (kind_by cs k)) ≡ true → ((v : Vec ℕ Global) → k ≡ kind.Assign v → ⊥) → ⊥
-only_entries cs (kind.Assign v) h other = other v refl
-only_entries cs (kind.Flow f) h other = cc h
-only_entries cs kind.Nothing h other = cc h
-only_entries cs (kind.Call f) h other = cc h
-only_entries cs (kind.Switch v) h other = cc h
-only_entries cs (kind.For l) h other = cc h
-only_entries cs (kind.Parallel p) h other = cc h
-only_entries cs (kind.Block d) h other = cc h
-only_entries cs (kind.Try t) h other = cc h
-only_entries cs (kind.Raise t) h other = cc h
-only_entries cs (kind.Return t) h other = cc h
-only_entries cs (kind.Arm t) h other = cc h
-only_entries cs (kind.Entry e) h other = cc h
-only_entries cs (kind.Branch d) h other = cc h
 
 -- ## Lists of steps
 list_in : (ns : List Spot) (x : Text) (next : Option Text) (k : Kind) (b : Listed) → kind_list k ≡ Some b → part_list (part_by ns x next k) ≡ steps_by ns b.steps

@@ -15,47 +15,27 @@ use Rattle.wf_model.specs.declared.node.LoopNode.{LoopNode}
 use Rattle.std.specs.Prelude.{Vec}
 use Rattle.std.specs.declared.alloc.Global.{Global}
 use Rattle.wf_ast.specs.Apply.{View}
-use Rattle.wf_ast.specs.Eval.{fill_fields}
-use Rattle.wf_ast.specs.Flows.{flow}
-use Rattle.wf_ast.specs.Tree.{Body, CallBody, Except, Policy, Template, Over, Steps, Arms, loop, try}
+use Rattle.wf_ast.specs.Tree.{Body, CallBody, Except, Policy, Template, Steps, Arms, try}
 use Rattle.wf_eval.specs.Answers.{Answers}
-use Rattle.wf_frames.proofs.Evaluated.{gave, failed, raised_error}
-use Rattle.wf_frames.specs.Frames.{body_entries, body_loop, body_try, control, item, items, left_view}
+use Rattle.wf_frames.proofs.Evaluated.{gave}
+use Rattle.wf_frames.specs.Frames.{body_entries, body_try, control, item, items}
 use Rattle.wf_model.specs.Spots.{Spot, BodyAt, part_at, part_body, part_next, part_list, part_entry, entries_by, from}
 use Rattle.wf_frames.specs.Fits.{has_next, view_at}
 use Rattle.wf_model.specs.declared.node.Node.{Node}
 use Rattle.wf_frames.proofs.Parts.{view_is}
 use Rattle.wf_frames.specs.Built.{Tells}
-use Rattle.wf_frames.specs.Steps.{CallsWith, Fails, Performs, calls_by, CarriesOut, ReturnsValue, RaisesValue, arm_in}
+use Rattle.wf_frames.specs.Steps.{CallsWith, Performs, CarriesOut, ReturnsValue, RaisesValue, arm_in}
 use Rattle.wf_frames.specs.declared.frames.Frame.{Frame}
 use Rattle.wf_frames.specs.declared.frames.Frame.TheVariants as frame
-use Rattle.wf_frames.specs.declared.frames.Left as declared
 use Rattle.wf_frames.specs.declared.step.Step.{Step}
 use Rattle.wf_frames.specs.declared.step.Step.TheVariants as step
-use Rattle.wf_model.specs.Calls.{calls_named}
-use Rattle.wf_model.specs.Config.{Item, Do, Entries, Then, Loop, Try}
+use Rattle.wf_model.specs.Config.{Item, Do, Entries, Then, Try}
 use Rattle.wf_model.specs.Layers.{view}
 use Rattle.wf_model.specs.Leave.{on, jumps}
-use Rattle.wf_model.specs.Local.{Local, Scene, Moved, goes}
-use Rattle.wf_model.specs.Move.{assigns, entered, performs, steps_on, chosen, in_arm, arm_items, lone, over}
-use Rattle.wf_value.specs.Data.{Pairs, pairs_of}
-use Rattle.wf_value.specs.Errors.{Answer}
+use Rattle.wf_model.specs.Local.{Local, Scene, goes}
+use Rattle.wf_model.specs.Move.{assigns, entered, performs, steps_on, chosen, in_arm, arm_items, lone}
 use Rattle.wf_value.specs.Pairs.{Text}
-use Rattle.wf_value.specs.declared.value.Map.{Map}
 use Rattle.wf_value.specs.declared.Raise.{Raise}
-use Rattle.wf_value.specs.declared.Raise.TheVariants.{Error, OutOfMemory}
-
--- a call, by what came of its arguments
-abbrev calls_from : Scene → CallBody → Answer Pairs → List Item → Local → Moved
-calls_from s f r k l = on s k l r λ args. calls_named s f.result (flow s.program.flows f.name) f.name args k l
-
--- ## An error in an evaluation
-pub performs_error : {A B : Type 0} (ns : List Spot) (f : A → B) (v : View) (body : Body) (d : View → Answer B) (g : Local → B → Moved) (old : List Frame) (r : Raise) (st : Step)
-    → ((s : Scene) (l : Local) → performs s body (control ns old) l ≡ on s (control ns old) l (d (view s l)) (g l))
-    → Answers f (Err r) (d v) → Fails r st → Performs ns body v old old st
-performs_error ns f v body d g old OutOfMemory st is a h s l same = absurd h
-performs_error ns f v body d g old (Error t) st is a h s l same =
-    is s l ∙ ap (λ w. on s (control ns old) l (d w) (g l)) same ∙ raised_error ns s (control ns old) l (d v) (g l) t st (failed f t (d v) a) h
 
 -- ## Switches
 module _ (ns : List Spot) (v : View) (arms : Arms) (old : List Frame) where
@@ -88,16 +68,6 @@ module _ (ns : List Spot) (v : View) (arms : Arms) (old : List Frame) where
       → Performs ns (Body.Switch arms) v old new step.Goes
   body_chosen n new a h e s l same =
       chose (Some n) a s l same ∙ ap (λ k. goes k l) (put (part_body (part_at ns n)) (part_next (part_at ns n)) h (control ns old)) ∙ ap (λ fs. goes (control ns fs) l) (sym e)
-
--- ## Loops
-pub loop_begun : (ns : List Spot) (v : View) (old new : List Frame) (n : ℕ) (left : declared.Left) (x : Text) (i : Option Text) (o : Over) (ss : Steps) → part_body (part_at ns n) ≡ Body.For (loop x i o ss)
-    → Answers left_view (Ok left) (over v o) → new ≡ frame.Loop n left 0 ∷ old → Performs ns (part_body (part_at ns n)) v old new step.Goes
-loop_begun ns v old new n left x i o ss is a e s l same =
-    ap (λ b. performs s b (control ns old) l) is
-    ∙ ap (λ w. on s (control ns old) l (over w o) (λ q. goes (Loop (loop x i o ss) q 0 ∷ control ns old) l)) same
-    ∙ ap (λ r. on s (control ns old) l r (λ q. goes (Loop (loop x i o ss) q 0 ∷ control ns old) l)) (gave left_view left (over v o) a)
-    ∙ ap (λ b. goes (Loop (body_loop b) (left_view left) 0 ∷ control ns old) l) (sym is)
-    ∙ ap (λ fs. goes (control ns fs) l) (sym e)
 
 -- ## Blocks and assigns
 pub block_put : (ns : List Spot) (v : View) (old new : List Frame) (n : ℕ) (x : Text) (ss : Steps) (next : Option Text) → part_at ns n ≡ BodyAt x (Body.Block ss) next → new ≡ frame.Do n 0 ∷ old
@@ -166,18 +136,6 @@ performs_raise ns n t v old st e h s l same = ap (λ b. performs s b (control ns
 
 pub performs_call : (ns : List Spot) (n : ℕ) (f : CallBody) (v : View) (old : List Frame) (st : Step) → part_body (part_at ns n) ≡ Body.Call f → CallsWith n f v st → Performs ns (part_body (part_at ns n)) v old old st
 performs_call ns n f v old st e h s l same = ap (λ b. performs s b (control ns old) l) e ∙ h ns s (control ns old) l e same
-
--- a call with its arguments
-pub called_with : (n : ℕ) (f : CallBody) (v : View) (m : Map) → Answers pairs_of (Ok m) (fill_fields f.args v) → CallsWith n f v (step.Calls n m)
-called_with n f v m a ns s k l is same =
-    ap (λ w. calls_from s f (fill_fields f.args w) k l) same ∙ ap (λ r. calls_from s f r k l) (gave pairs_of m (fill_fields f.args v) a) ∙ ap (λ b. calls_by s b (pairs_of m) k l) (sym is)
-
--- an argument that has an error
-pub call_fails : (n : ℕ) (f : CallBody) (v : View) (r : Raise) (st : Step) → Answers pairs_of (Err r) (fill_fields f.args v) → Fails r st → CallsWith n f v st
-call_fails n f v OutOfMemory st a h = absurd h
-call_fails n f v (Error t) st a h = λ ns s k l is same.
-    ap (λ w. calls_from s f (fill_fields f.args w) k l) same
-    ∙ raised_error ns s k l (fill_fields f.args v) (λ args. calls_named s f.result (flow s.program.flows f.name) f.name args k l) t st (failed pairs_of t (fill_fields f.args v) a) h
 
 -- the body of a `try` stands inside it
 pub tried_performs : (ns : List Spot) (n body : ℕ) (p : Option Policy) (x : Except) (f : Frame) (v : View) (old mid new : List Frame) → part_body (part_at ns n) ≡ Body.Try (try (part_body (part_at ns body)) p x)

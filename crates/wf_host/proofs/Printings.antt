@@ -1,12 +1,12 @@
 -- Laws of what was printed, and a loop that prints.
 use Rattle.std.proofs.Common.{◌≡◌, ◌==◌, ℕ, IsTrue, true, false, length, List, [], ◌∷◌, ◌++◌, take, drop, ⊎_elim, refl, sym, ◌∙◌, ap, subst, append_assoc, arith}
-use Rattle.std.proofs.lemmas.List.{append-nil, append_cancel_left, take-append-drop}
-use Rattle.std.proofs.lemmas.List.Elements.{All-nil, All-push, All-append, Contains-append_right}
+use Rattle.std.proofs.lemmas.List.{append-nil, take-append-drop}
+use Rattle.std.proofs.lemmas.List.Elements.{All-nil, All-push, Contains-append_right}
 use Rattle.wf_host.specs.declared.data.Deed.{Deed}
 use Rattle.wf_host.specs.declared.data.Deed.TheVariants.{Start, Poll, Now, Reply, Drop, Print}
 use Rattle.wf_host.specs.World.{World, Faults, Told, Same, Elapses, LeavesOnly, NoneFell}
 use Rattle.wf_host.specs.Moments.{CountsNow, started, goes_on, goes_on_same, same_deeds}
-use Rattle.wf_host.specs.Printing.{printed, IsPrint, AllPrints, PrintsFront, PrintsWhole, LeavesSome, TookNothing, PrintedSoFar}
+use Rattle.wf_host.specs.Printing.{printed, IsPrint, AllPrints, PrintsFront, LeavesSome, TookNothing, PrintedSoFar}
 
 -- ## What was printed
 
@@ -19,30 +19,6 @@ printed-append (Poll u h ∷ ds) E = printed-append ds E
 printed-append (Now t ∷ ds) E = printed-append ds E
 printed-append (Reply n b ∷ ds) E = printed-append ds E
 printed-append (Drop k ∷ ds) E = printed-append ds E
-
--- and is all prints where both are
-pub AllPrints-append : (D E : List Deed) → AllPrints D → AllPrints E → AllPrints (D ++ E)
-AllPrints-append D E d e = All-append IsPrint D E d e
-
--- the deeds since a moment are no others
-pub same_since : (before now D E : List Deed) → now ≡ before ++ D → now ≡ before ++ E → D ≡ E
-same_since before now D E d e = append_cancel_left before D E (sym d ∙ e)
-
--- a list is not itself with more behind it
-no_longer : (l rest : List ℕ) (b : ℕ) → l ≡ l ++ b ∷ rest → ⊥
-no_longer l rest b is = let no : [] ≡ b ∷ rest = append_cancel_left l [] (b ∷ rest) (append-nil l ∙ is) in cc no
-
--- a text isn't both printed whole and left in part
-pub not_whole_and_some : (old new : World) (text : List ℕ) → PrintsWhole old new text → LeavesSome old new text → ⊥
-not_whole_and_some old new text (D, d, (prints, whole)) (E, e, (prints2, (b, rest, some))) =
-    no_longer (printed D) rest b (whole ∙ subst (λ F. text ≡ printed F ++ b ∷ rest) (sym (same_since old.deeds new.deeds D E d e)) some)
-
--- what is printed whole, or in part, is a front
-pub PrintsFront-from_whole : (old new : World) (text : List ℕ) → PrintsWhole old new text → PrintsFront old new text
-PrintsFront-from_whole old new text (D, is, (prints, whole)) = (D, is, (prints, ([], sym whole ∙ sym (append-nil (printed D)))))
-
-pub PrintsFront-from_some : (old new : World) (text : List ℕ) → LeavesSome old new text → PrintsFront old new text
-PrintsFront-from_some old new text (D, is, (prints, (b, rest, some))) = (D, is, (prints, (b ∷ rest, some)))
 
 -- ## The loop
 

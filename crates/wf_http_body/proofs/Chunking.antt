@@ -1,5 +1,5 @@
 -- Chunks, one by one.
-use Rattle.std.proofs.Common.{◌≡◌, ◌≢◌, ℕ, ◌==◌, true, ◌+◌, ◌-◌, ◌<◌, ◌≤◌, List, [], ◌∷◌, ◌++◌, length, get_or, drop, refl, sym, ap, ◌∙◌, subst, arith, append_assoc, append-nil, length-append}
+use Rattle.std.proofs.Common.{◌≡◌, ◌≢◌, ℕ, ◌==◌, true, ◌+◌, ◌-◌, ◌<◌, ◌≤◌, List, [], ◌∷◌, ◌++◌, length, get_or, drop, refl, sym, ap, ◌∙◌, arith, append_assoc, append-nil, length-append}
 use Rattle.std.specs.List.{flat_map}
 use Rattle.std.proofs.lemmas.Bool.{false≢true, ne_eqb}
 use Rattle.std.proofs.lemmas.List.Concat.{flat_map-append}
@@ -7,7 +7,7 @@ use Rattle.std.proofs.lemmas.List.Elements.{All-append, All-cons, All-nil}
 use Rattle.httparse.specs.Grammar.{ChunkLine, IsChunkLine, crlf, print_chunk_line, print_end, print_extension, HasNoChunkLine}
 use Rattle.httparse.specs.Spans.{IsChunkLineAt}
 use Rattle.httparse.proofs.ChunkLemmas.{chunk_line_unique}
-use Rattle.wf_value.specs.HttpBody.{Chunk, IsChunk, print_chunk, content_of, HasChunks, ReadsLine, EndsWrong, line_limit}
+use Rattle.wf_value.specs.HttpBody.{Chunk, IsChunk, print_chunk, content_of, HasChunks, line_limit}
 use Rattle.wf_http_body.specs.Chunks.{IsLongLine, BeginsEnd}
 
 pub content_more : (cs : List Chunk) (c : Chunk) → content_of (cs ++ c ∷ []) ≡ content_of cs ++ c.content
@@ -45,9 +45,6 @@ long_line b start size l x long = record {
 pub long_without : (b : List ℕ) → HasNoChunkLine b → line_limit < length b → IsLongLine b
 long_without b none long = record { heard = long; lines = λ l rest x. absurd (none l rest x) }
 
-pub reads_line : (b : List ℕ) (start size : ℕ) (l : ChunkLine) → IsChunkLineAt b start size l → start ≤ line_limit → ReadsLine b l (drop start b)
-reads_line b start size l x short = (x.reads, let is = x.len_is in omega arith)
-
 -- it takes bytes
 pub line_some : (l : ChunkLine) → IsChunkLine l → 0 < length (print_chunk_line l)
 unfolding print_chunk_line
@@ -66,12 +63,6 @@ line_takes b start size l x =
     (omega arith, le)
 
 -- ## Ends
-pub wrong_first : (a : ℕ) (s : List ℕ) → a ≢ 13 → EndsWrong (a ∷ s)
-wrong_first a [] ne = (omega arith, λ e. ne (cc e))
-wrong_first a (b ∷ s) ne = (omega arith, λ e. ne (cc e))
-
-pub wrong_second : (b : ℕ) (s : List ℕ) → b ≢ 10 → EndsWrong (13 ∷ b ∷ s)
-wrong_second b s ne = (omega arith, λ e. ne (cc e))
 
 -- at the end of what was heard
 pub begins_at_end : (b : List ℕ) → true ≡ (length b == 0) → BeginsEnd b
@@ -82,20 +73,6 @@ pub begins_before : (b : List ℕ) → length b ≡ 1 → get_or b 0 0 ≡ 13 �
 begins_before [] is cr = absurd (omega arith)
 begins_before (a ∷ []) is cr = (10 ∷ [], omega arith, ap (λ (n : ℕ). n ∷ 10 ∷ []) cr)
 begins_before (a ∷ b ∷ s) is cr = absurd (omega arith)
-
-pub wrong_at : (b : List ℕ) → 0 < length b → get_or b 0 0 ≢ 13 → EndsWrong b
-wrong_at [] lt ne = absurd (omega arith)
-wrong_at (a ∷ s) lt ne = wrong_first a s ne
-
-pub wrong_behind : (b : List ℕ) → 1 < length b → get_or b 0 0 ≡ 13 → get_or b 1 0 ≢ 10 → EndsWrong b
-wrong_behind [] lt cr ne = absurd (omega arith)
-wrong_behind (a ∷ []) lt cr ne = absurd (omega arith)
-wrong_behind (a ∷ b ∷ s) lt cr ne = subst (λ (n : ℕ). EndsWrong (n ∷ b ∷ s)) (sym cr) (wrong_second b s ne)
-
-pub whole_end : (b : List ℕ) → 1 < length b → get_or b 0 0 ≡ 13 → get_or b 1 0 ≡ 10 → b ≡ 13 ∷ 10 ∷ drop 2 b
-whole_end [] lt cr lf = absurd (omega arith)
-whole_end (a ∷ []) lt cr lf = absurd (omega arith)
-whole_end (a ∷ b ∷ s) lt cr lf = cc (cr, lf)
 
 -- ## Content
 pub regroup : (a c rest : List ℕ) → a ++ (c ++ 13 ∷ 10 ∷ rest) ≡ (a ++ c ++ 13 ∷ 10 ∷ []) ++ rest

@@ -1,5 +1,5 @@
 -- Numbers of decimal digits.
-use Rattle.std.proofs.Common.{◌≡◌, ◌≢◌, ℕ, zero, suc, ◌+◌, ◌-◌, ◌*◌, ◌<◌, ◌≤◌, ◌==◌, min, Bool, true, false, List, [], ◌∷◌, ◌++◌, length, take, drop, get_or, take_all, refl, sym, ap, ◌∙◌, arith}
+use Rattle.std.proofs.Common.{◌≡◌, ℕ, zero, suc, ◌+◌, ◌-◌, ◌*◌, ◌<◌, ◌≤◌, ◌==◌, min, Bool, true, false, List, [], ◌∷◌, ◌++◌, length, take, drop, get_or, take_all, refl, sym, ap, ◌∙◌, arith}
 use Rattle.std.specs.Char.{digit_value, is_ascii_digit}
 use Rattle.std.specs.List.{list_all}
 use Rattle.std.specs.Str.Parse.{digits_value, digits_value_after}
@@ -17,14 +17,6 @@ value_push ds d = digits_value_after_push 10 0 ds d
 -- the last digits are the same
 pub same_last : (a b d : ℕ) → (a * 10 + d == b * 10 + d) ≡ (a == b)
 same_last a b d = grind (arith, nat_tests)
-
--- they differ
-pub other_last : (a b d e : ℕ) → d < 10 → e < 10 → d ≢ e → (a * 10 + d == b * 10 + e) ≡ false
-other_last a b d e x y ne = ne_eqb (a * 10 + d) (b * 10 + e) (omega arith)
-
--- one of the numbers is 0
-pub zero_first : (a b : ℕ) → a ≡ 0 → (b == a) ≡ (b == 0)
-zero_first a b e = ap (λ (n : ℕ). b == n) e
 
 pub after_some : (n : ℕ) (ds : List ℕ) → 0 < n → 0 < digits_value_after 10 n ds
 after_some n [] some = some

@@ -11,7 +11,7 @@ use Rattle.wf_http_body.specs.declared.body.Chunks.{Chunks}
 use Rattle.wf_http_body.specs.declared.chunk.Place.{Place}
 use Rattle.wf_http_body.specs.declared.chunk.Place.TheVariants as place
 use Rattle.wf_http_body.specs.Chunks.{BeginsEnd, IsOpenChunked, IsOpenChunk}
-use Rattle.wf_http_body.specs.Parts.{IsInChunk, IsPart, IsOpenAt, IsOpenContent, IsOpenPart, IsFresh, IsOpenBody, IsSame}
+use Rattle.wf_http_body.specs.Parts.{IsInChunk, IsPart, IsOpenAt, IsOpenContent, IsOpenPart, IsFresh, IsOpenBody}
 use Rattle.wf_http_body.proofs.Chunking.{line_some}
 
 -- ## Nothing was heard
@@ -45,14 +45,6 @@ pub fresh_body : (limit : ℕ) (c : Chunks) (content : List ℕ) → IsFresh c �
 fresh_body limit c content fresh none =
     subst (λ (s : List ℕ). IsOpenPart limit c.place [] c.unread.items s) (sym none)
     (subst (λ (s : List ℕ). IsOpenPart limit c.place [] s []) (sym fresh.unread_is) (subst (λ (p : Place). IsOpenPart limit p [] [] []) (sym fresh.place_is) (fresh_part limit)))
-
--- ## The same
-pub same_fresh : (was c : Chunks) → IsSame was c → IsFresh was → IsFresh c
-same_fresh was c same fresh = record { place_is = same.place_is ∙ fresh.place_is; unread_is = same.unread_is ∙ fresh.unread_is }
-
-pub same_body : (limit : ℕ) (was c : Chunks) (all content : List ℕ) → IsSame was c → IsOpenBody limit was all content → IsOpenBody limit c all content
-same_body limit was c all content same at =
-    subst (λ (s : List ℕ). IsOpenPart limit c.place all s content) (sym same.unread_is) (subst (λ (p : Place). IsOpenPart limit p all was.unread.items content) (sym same.place_is) at)
 
 -- ## Not yet whole
 left_open : (part unread : List ℕ) (left size : ℕ) → length part + left ≡ size → IsOpenContent left unread

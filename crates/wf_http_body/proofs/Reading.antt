@@ -1,5 +1,5 @@
 -- Pieces of a body in chunks.
-use Rattle.std.proofs.Common.{◌≡◌, ℕ, ◌+◌, ◌-◌, ◌≤◌, List, [], ◌++◌, length, take, drop, refl, sym, ap, ◌∙◌, subst, arith, ◌⊎◌, inl, inr, append_assoc, append-nil, length-append, length-drop, length-take, take-append-drop}
+use Rattle.std.proofs.Common.{◌≡◌, ℕ, ◌+◌, ◌-◌, ◌≤◌, List, [], ◌++◌, length, take, drop, refl, sym, ap, ◌∙◌, subst, arith, ◌⊎◌, inl, inr, append_assoc, length-append, length-drop, length-take, take-append-drop}
 use Rattle.std.proofs.lemmas.List.{drop-append-le, drop-drop, drop-take, take-append-le, take-take, take_all, take_min}
 use Rattle.httparse.specs.Grammar.{ReadsChunkLine}
 use Rattle.httparse.proofs.ChunkLemmas.{ReadsChunkLine-append}
@@ -57,13 +57,6 @@ pub is_settled : (e : End) → ((e ≡ end.Whole) ⊎ ((e ≡ end.Bad) ⊎ (e �
 is_settled e (inl is) more = absurd (cc (is, more))
 is_settled e (inr (inl is)) more = absurd (cc (is, more))
 is_settled e (inr (inr is)) more = absurd (cc (is, more))
-
-pub kept_nothing : (limit : ℕ) (p next : Place) (all unread left content : List ℕ) (e : End) → ((e ≡ end.Whole) ⊎ ((e ≡ end.Bad) ⊎ (e ≡ end.TooLarge)))
-    → IsRead limit p all unread content e → IsRead limit next all left content e
-kept_nothing limit p next all unread left content end.More done read = absurd (is_settled end.More done refl)
-kept_nothing limit p next all unread left content end.Whole done read = read
-kept_nothing limit p next all unread left content end.Bad done read = read
-kept_nothing limit p next all unread left content end.TooLarge done read = read
 
 -- ## Fronts of a piece
 pub take_further : (n m : ℕ) (piece : List ℕ) → take (n + m) piece ≡ take n piece ++ take m (drop n piece)
@@ -136,11 +129,6 @@ pub settled_before : (limit : ℕ) (p : Place) (all unread content piece : List 
 settled_before limit p all unread content piece heard e done read =
     let all_is : (all ++ take heard piece) ++ drop heard piece ≡ all ++ piece = append_assoc all (take heard piece) (drop heard piece) ∙ ap (λ (s : List ℕ). all ++ s) (take-append-drop heard piece) in
     subst (λ (s : List ℕ). IsRead limit p s unread content e) all_is (settled_more e p p limit (all ++ take heard piece) (drop heard piece) unread unread content (is_settled e done) read)
-
--- nothing of the piece was heard yet
-pub nothing_heard : (limit : ℕ) (p : Place) (all unread content piece : List ℕ) → IsOpenPart limit p all unread content
-    → IsOpenPart limit p (all ++ take 0 piece) (drop 0 unread) content
-nothing_heard limit p all unread content piece at = subst (λ (s : List ℕ). IsOpenPart limit p s unread content) (sym (append-nil all)) at
 
 -- ## Growth
 pub grown_more : (old content x new : List ℕ) → take (length old) content ≡ old → new ≡ content ++ x → take (length old) new ≡ old

@@ -1,9 +1,9 @@
 -- What a body comes to, by its framing.
-use Rattle.std.proofs.Common.{◌≡◌, ℕ, ◌-◌, ◌<◌, ◌≤◌, List, [], ◌++◌, length, Result, Ok, Err, refl, sym, ap, ◌∙◌, subst, arith, length-append}
+use Rattle.std.proofs.Common.{◌≡◌, ℕ, ◌-◌, ◌<◌, ◌≤◌, List, ◌++◌, length, Result, Ok, Err, refl, sym, subst}
 use Rattle.std.specs.Prelude.{IfOk}
-use Rattle.std.proofs.lemmas.Bool.{le-ltb, lt-ltb, lt-leb}
+use Rattle.std.proofs.lemmas.Bool.{le-ltb, lt-leb}
 use Rattle.wf_value.specs.HttpBody as plain
-use Rattle.wf_value.specs.HttpBody.{Close, Complete, Malformed, Oversize, Framing, length_state, end_state, at_close, unless_closed}
+use Rattle.wf_value.specs.HttpBody.{Close, Complete, Malformed, Oversize, Framing, length_state, unless_closed}
 use Rattle.wf_http_body.specs.declared.body.Chunks.{Chunks}
 use Rattle.wf_http_body.specs.declared.body.End.{End}
 use Rattle.wf_http_body.specs.declared.body.End.TheVariants as end
@@ -13,20 +13,11 @@ use Rattle.wf_http_in.specs.declared.framing.Framing.{Framing as Code}
 use Rattle.wf_http_in.specs.declared.framing.Framing.TheVariants as framing
 use Rattle.wf_http_in.specs.Bodies.{answer_limit, IsBody}
 use Rattle.wf_http_in.specs.Found.{IsFramed}
-use Rattle.wf_http_in.specs.Stages.{IsPartOf, IsRead, StaysBody}
+use Rattle.wf_http_in.specs.Stages.{IsPartOf, IsRead}
 
 -- ## States
 pub length_open : (limit n : ℕ) (close : Close) (b : List ℕ) → n ≤ limit → length b < n → length_state limit close b n ≡ unless_closed close
 length_open limit n close b fits short = rw (le-ltb limit n fits, lt-leb n (length b) short) refl
-
-over_length : (limit n : ℕ) (close : Close) (b : List ℕ) → limit < n → length_state limit close b n ≡ Oversize
-over_length limit n close b over = rw (lt-ltb limit n over) refl
-
-pub until_end : (limit : ℕ) (close : Close) (b : List ℕ) → length b ≤ limit → end_state limit close b ≡ at_close close b
-until_end limit close b fits = rw (le-ltb limit (length b) fits) refl
-
-over_end : (limit : ℕ) (close : Close) (b : List ℕ) → limit < length b → end_state limit close b ≡ Oversize
-over_end limit close b over = rw (lt-ltb limit (length b) over) refl
 
 -- ## A body of a length
 length_read : (n : ℕ) (f : Framing) (c : Chunks) (all content : List ℕ) (e : End) → f ≡ plain.OfLength n → IsLengthRead answer_limit n all content e
@@ -44,39 +35,6 @@ sized code n was c piece old new (Ok e) is read = λ f all framed part.
     let begun = subst (λ (g : Code). IsPartOf g was all old) is part in
     subst (λ (g : Code). IsRead g f c (all ++ piece) new e) (sym is) (length_read n f c (all ++ piece) new e told.0 (read answer_limit all told.1 begun))
 sized code n was c piece old new (Err x) is read = tt
-
--- ## A body to the end
-pub to_the_end_over : (f : Framing) (all piece content : List ℕ) → IsFramed framing.ToTheEnd f → (all ≡ content) × (length content ≤ answer_limit)
-    → answer_limit - length content < length piece → StaysBody f (all ++ piece) Oversize
-to_the_end_over f all piece content framed part over more close =
-    let size : answer_limit < length ((all ++ piece) ++ more) = omega (arith, part.1, over, length-append (all ++ piece) more, length-append all piece, ap length part.0) in
-    subst (λ (g : Framing). IsBody answer_limit g close ((all ++ piece) ++ more) Oversize) (sym framed) (sym (over_end answer_limit close ((all ++ piece) ++ more) size))
-
-pub to_the_end_open : (all piece content new : List ℕ) → (all ≡ content) × (length content ≤ answer_limit) → length piece ≤ answer_limit - length content
-    → new ≡ content ++ piece → (all ++ piece ≡ new) × (length new ≤ answer_limit)
-to_the_end_open all piece content new part fits grown = (
-  ap (λ (s : List ℕ). s ++ piece) part.0 ∙ sym grown,
-  omega (arith, part.1, fits, ap length grown, length-append content piece),
-)
-
--- at any way of keeping a body in chunks
-pub to_the_end : {E : Type 0} (code : Code) (was c : Chunks) (piece old new : List ℕ) (result : Result End E) → code ≡ framing.ToTheEnd
-    → IfOk result (λ e. (f : Framing) (d : Chunks) (all : List ℕ) → IsFramed framing.ToTheEnd f → IsPartOf framing.ToTheEnd d all old → IsRead framing.ToTheEnd f d (all ++ piece) new e)
-    → IfOk result (λ e. (f : Framing) (all : List ℕ) → IsFramed code f → IsPartOf code was all old → IsRead code f c (all ++ piece) new e)
-to_the_end code was c piece old new (Ok e) is read = λ f all framed part.
-    subst (λ (g : Code). IsRead g f c (all ++ piece) new e) (sym is)
-    (read f c all (subst (λ (g : Code). IsFramed g f) is framed) (subst (λ (g : Code). IsPartOf g was all old) is part))
-to_the_end code was c piece old new (Err x) is read = tt
-
--- ## Bodies that are told by their heads
-pub is_empty : (f : Framing) (all content : List ℕ) → IsFramed framing.Empty f → content ≡ [] → StaysBody f all (Complete content)
-is_empty f all content framed none more close = subst (λ (g : Framing). IsBody answer_limit g close (all ++ more) (Complete content)) (sym framed) (ap Complete none)
-
-pub is_too_long : (f : Framing) (all : List ℕ) → IsFramed framing.TooLong f → StaysBody f all Oversize
-is_too_long f all (n, is, over) more close = subst (λ (g : Framing). IsBody answer_limit g close (all ++ more) Oversize) (sym is) (sym (over_length answer_limit n close (all ++ more) over))
-
-pub is_bad : (f : Framing) (all : List ℕ) → IsFramed framing.Bad f → StaysBody f all Malformed
-is_bad f all framed more close = subst (λ (g : Framing). IsBody answer_limit g close (all ++ more) Malformed) (sym framed) refl
 
 -- ## Bodies in chunks
 in_chunks : (f : Framing) (c : Chunks) (all content : List ℕ) (e : End) → f ≡ plain.InChunks → ReadsBody answer_limit c all content e → IsRead framing.InChunks f c all content e

@@ -1,15 +1,15 @@
 -- From what was read to the answer.
-use Rattle.std.proofs.Common.{◌≡◌, ℕ, ◌+◌, ◌-◌, ◌<◌, ◌≤◌, ◌⊎◌, List, [], ◌∷◌, ◌++◌, length, take, drop, true, false, refl, sym, ap, ◌∙◌, subst, arith, inl, inr, append_assoc, append-nil, length-append, length-drop, length-take}
+use Rattle.std.proofs.Common.{◌≡◌, ℕ, ◌+◌, ◌-◌, ◌<◌, ◌≤◌, ◌⊎◌, List, [], ◌∷◌, ◌++◌, length, take, drop, true, refl, sym, ap, ◌∙◌, subst, arith, inl, inr, append_assoc, append-nil, length-append, length-drop}
 use Rattle.std.proofs.lemmas.Bool.{cases_lt, false≢true}
 use Rattle.std.proofs.lemmas.List.{drop-append-le, drop-drop, take_all}
 use Rattle.std.proofs.lemmas.List.Elements.{All-head, All-nil}
 use Rattle.std.specs.List.{flat_map}
-use Rattle.std.specs.Prelude.{IsTrue, IsFalse, ◌≢◌, Option, Some, None}
+use Rattle.std.specs.Prelude.{IsTrue, IsFalse, ◌≢◌, Some, None}
 use Rattle.wf_lemmas.proofs.Lists.{drop_past, piece_joined}
 use Rattle.httparse.specs.Grammar.{ResponseHead, IsResponseHead, ReadsResponse, HasNoResponse, print_response}
 use Rattle.wf_value.specs.Events.{Reply, Response, Broken, TooLong}
 use Rattle.wf_value.specs.HttpBody as plain
-use Rattle.wf_value.specs.HttpBody.{Close, Open, Ended, Broke, Complete, Malformed, Oversize, BodyState, unless_closed, at_close, end_state}
+use Rattle.wf_value.specs.HttpBody.{Close, Open, Ended, Broke, Complete, Malformed, Oversize, BodyState, unless_closed}
 use Rattle.wf_http_body.specs.declared.body.Chunks.{Chunks}
 use Rattle.wf_http_body.specs.declared.body.End.{End}
 use Rattle.wf_http_body.specs.declared.body.End.TheVariants as end
@@ -27,11 +27,11 @@ use Rattle.wf_http_in.specs.declared.stage.Stage.TheVariants as stage
 use Rattle.wf_http_in.specs.AnswerOf as answer
 use Rattle.wf_http_in.specs.AnswerOf.{AnswerOf, HasBody}
 use Rattle.wf_http_in.specs.Bodies.{answer_limit, IsBody}
-use Rattle.wf_http_in.specs.Found.{IsHeading, IsFinal, IsInterim, IsFramed, IsHeadFound, IsHeadOf, IsWholeHead, is_settled}
+use Rattle.wf_http_in.specs.Found.{IsHeading, IsFinal, IsInterim, IsFramed, IsHeadFound, IsWholeHead, is_settled}
 use Rattle.wf_http_in.specs.HeadData.{HeadData}
 use Rattle.wf_http_in.specs.Heads.{IsPassed, BehindInterim, SkipsHeads, IsHeadless, IsSmallResponse, is_interim_code}
 use Rattle.wf_http_in.specs.Stages.{IsPartOf, IsOpenPart, IsRead, KeepsLittle, Leaves, StaysBody, Stays, IsBehind, IsStage, settled, unfinished}
-use Rattle.wf_http_in.proofs.BodyStates.{length_open, until_end}
+use Rattle.wf_http_in.proofs.BodyStates.{length_open}
 use Rattle.wf_http_in.proofs.Lasting.{skips_stay, head_stays, again, bad_heads, further, one_more}
 use Rattle.wf_http_in.proofs.Sizes.{head_some, may_begin, nothing_is_no_head}
 
@@ -206,18 +206,6 @@ head_past unread more joined n len r f (g ∷ gs) is none le skips whole =
     let left = length-drop n joined in
     omega arith
 
--- how much of a piece a head takes
-pub takes_within : (begun piece heard : List ℕ) (n len : ℕ) (h : Heading) (r : HeadData) (f : Framing) → IsHeadFound begun piece heard n h → h ≡ heading.Whole r f len
-    → n + len - length begun ≤ length piece
-takes_within begun piece heard n len h r f found is =
-    let whole = subst (IsHeading (drop n heard)) is found.heading_is in
-    let here = whole.within in
-    let left = length-drop n heard in
-    let size = ap length found.heard_is ∙ length-append begun (take found.front piece) in
-    let front = length-take found.front piece in
-    let passed = found.within in
-    omega arith
-
 abbrev IsAtHead : (unread : List ℕ) → Chunks → (content heard : List ℕ) → Type 0
 IsAtHead unread c content heard = BehindInterim heard (λ rest. (rest ≡ unread) × IsHeadless unread) × (content ≡ []) × IsFresh c
 
@@ -335,9 +323,6 @@ passed_more heard used len n r f (hs, skips) whole interim is = (
       (one_more heard (drop used heard) (drop len (drop used heard)) hs whole.head skips whole.reads (subst (λ (c : ℕ). IsTrue (is_interim_code c)) whole.taken.head.code interim) whole.small),
 )
 
-pub nothing_passed : (heard : List ℕ) → IsPassed heard 0
-nothing_passed heard = ([], record { heads = All-nil IsResponseHead; codes = All-nil _; small = All-nil IsSmallResponse; bytes = refl })
-
 -- a head has bytes
 pub head_takes : (rest : List ℕ) (r : HeadData) (f : Framing) (len : ℕ) → IsWholeHead rest r f len → 0 < len
 head_takes rest r f len whole =
@@ -381,12 +366,6 @@ ended_ne e = cc e
 broke_ne : Broke ≢ Open
 broke_ne e = cc e
 
--- a head isn't whole
-no_head : (heard unread : List ℕ) (close : Close) → BehindInterim heard (λ rest. (rest ≡ unread) × IsHeadless unread) → AnswerOf heard close (unfinished close)
-no_head heard unread Open (hs, rest, skips, (is, less)) = (refl, inr (hs, rest, skips, subst IsHeadless (sym is) less))
-no_head heard unread Ended (hs, rest, skips, (is, less)) = inr (inr (ended_ne, (hs, rest, skips, subst IsHeadless (sym is) less)))
-no_head heard unread Broke (hs, rest, skips, (is, less)) = inr (inr (broke_ne, (hs, rest, skips, subst IsHeadless (sym is) less)))
-
 -- a body isn't whole
 no_body : (heard : List ℕ) (h : ResponseHead) (close : Close) → HasBody heard close h (unless_closed close) → AnswerOf heard close (unfinished close)
 no_body heard h Open x = (refl, inl (h, x))
@@ -410,37 +389,9 @@ open_body_at framing.InChunks g c all content close other part framed =
 open_body_at framing.ToTheEnd g c all content close other part framed = absurd (other refl)
 open_body_at framing.Bad g c all content close other part framed = absurd part
 
-pub is_open_head : (s : Stage) (unread : List ℕ) (c : Chunks) (content heard : List ℕ) (close : Close) → s ≡ stage.Head → IsStage s unread c content heard → AnswerOf heard close (unfinished close)
-is_open_head s unread c content heard close is at = no_head heard unread close (subst (λ (t : Stage). IsStage t unread c content heard) is at).0
-
 pub is_open_body : (s : Stage) (r : HeadData) (f : Framing) (unread : List ℕ) (c : Chunks) (content heard : List ℕ) (close : Close) → s ≡ stage.Body r f → (f ≡ framing.ToTheEnd → ⊥)
     → IsStage s unread c content heard → AnswerOf heard close (unfinished close)
 is_open_body s r f unread c content heard close is other at =
     let body = subst (λ (t : Stage). IsStage t unread c content heard) is at in
     let x = body.1 in
     no_body heard x.head close (body.0, x.has, open_body_at f (answer.framing x.head) c body.0 content close other body.2 x.taken.framed)
-
--- a body that goes to the connection's end
-to_the_end : (g : plain.Framing) (all content : List ℕ) (close : Close) → g ≡ plain.ToTheEnd → all ≡ content → length content ≤ answer_limit
-    → IsBody answer_limit g close all (at_close close content)
-to_the_end g all content close framed is short =
-    subst (λ (k : plain.Framing). IsBody answer_limit k close all (at_close close content)) (sym framed)
-    (subst (λ (b : List ℕ). at_close close content ≡ end_state answer_limit close b) (sym is) (sym (until_end answer_limit close content short)))
-
-abbrev pub ends_at : Close → HeadData → List ℕ → Option Reply
-ends_at Open r content = None
-ends_at Ended r content = Some (Response r.code r.fields content)
-ends_at Broke r content = Some Broken
-
-at_end : (heard : List ℕ) (h : ResponseHead) (r : HeadData) (content : List ℕ) (close : Close) → HasBody heard close h (at_close close content) → IsHeadOf h r
-    → AnswerOf heard close (ends_at close r content)
-at_end heard h r content Open x is = (refl, inl (h, x))
-at_end heard h r content Ended x is = (h, x, is.code, is.fields)
-at_end heard h r content Broke x is = inl (h, x)
-
-pub is_to_the_end : (s : Stage) (r : HeadData) (f : Framing) (unread : List ℕ) (c : Chunks) (content heard : List ℕ) (close : Close) → s ≡ stage.Body r f → f ≡ framing.ToTheEnd → IsStage s unread c content heard
-    → AnswerOf heard close (ends_at close r content)
-is_to_the_end s r f unread c content heard close is ends at =
-    let body = subst (λ (t : Stage). IsStage t unread c content heard) (is ∙ ap (stage.Body r) ends) at in
-    let x = body.1 in
-    at_end heard x.head r content close (body.0, x.has, to_the_end (answer.framing x.head) body.0 content close x.taken.framed body.2.0 body.2.1) x.taken.head

@@ -291,9 +291,6 @@ parts_of_url s uri u spells h =
     let other : Target = record { scheme = Some u.scheme; authority = Some u.authority; path_and_query = u.kept; absolute = λ x same. refl; authority_alone = λ none x same. absurd cc } in
     (Spells_unique s uri other spells h.reads, and_from _ _ (and_from _ _ h.web (eq-eqb _ _ h.no_user)) h.host)
 
-pub short_of_url : (s : Text) (u : Url) → IsUrl s u → is_short_text s ≡ true
-short_of_url s u h = and_from _ _ (and_from _ _ (le-leb _ _ h.short.0) (le-leb _ _ h.short.1)) h.bytes
-
 pub read_ok : (s : Text) (uri : Target) (r : Result Parts OutFault) → is_short_text s ≡ true → Spells s uri → IfOk r (λ p. (u : Url) × HasParts uri (Some u.scheme) (Some u.authority) u.kept × (is_sendable u.scheme u.authority ≡ true) × IsPartsOf u p) → IfOk r (λ p. (u : Url) × IsUrl s u × IsPartsOf u p)
 read_ok s uri (Ok p) short spells h = (h.0, is_url_of s uri h.0 short spells h.1 h.2, h.3)
 read_ok s uri (Err e) short spells h = h

@@ -1,6 +1,6 @@
 -- What files from a gate on stand for.
 use Rattle.std.proofs.Common.{◌≡◌, ◌≢◌, inl, inr, ℕ, zero, suc, ◌+◌, ◌<◌, ◌≤◌, ◌^◌, Bool, if◌then◌else◌, true, false, List, [], ◌∷◌, ◌++◌, length, take, drop, refl, sym, ◌∙◌, ap, subst, arith, length-append, length-drop, length-take}
-use Rattle.std.proofs.lemmas.Bool.{cases_eq, cases_Bool, lt-ltb}
+use Rattle.std.proofs.lemmas.Bool.{cases_eq, lt-ltb}
 use Rattle.std.proofs.lemmas.Bool.Decides.{nat_tests}
 use Rattle.std.proofs.lemmas.List.{take_at, drop_at, drop-drop, drop-take, take-take, take_all, take-append-le, drop-append-le, length-take-le}
 use Rattle.std.proofs.lemmas.Nat.{from_be_bytes-to_be_bytes_4}
@@ -40,13 +40,6 @@ not_one gate rest ne = grind (arith, nat_tests)
 
 pub none_behind : (gate : ℕ) (rest : List ℕ) → gate ≢ 1 → records_from (gate ∷ rest) ≡ []
 none_behind gate rest ne = closed gate rest (not_one gate rest ne)
-
--- where nothing is there, the gate isn't open
-pub not_open : (gate : ℕ) (rest : List ℕ) → records_from (gate ∷ rest) ≡ [] → is_open gate rest ≡ false
-not_open gate rest none = elim (cases_Bool (is_open gate rest)) [
-  | inl is ↦ absurd (cc (opened gate rest is, none))
-  | inr isnt ↦ isnt
-]
 
 -- what stands behind a gate that isn't open doesn't make another byte there open
 pub stays_shut : (gate other : ℕ) (rest : List ℕ) → gate ≡ 1 → records_from (gate ∷ rest) ≡ [] → records_from (other ∷ rest) ≡ []

@@ -1,15 +1,13 @@
 -- How a function goes on by a call, told of the journal's records and of the deeds alone. At each step its author shows that the
 -- fact Q holds without what the call does and with it.
-use Rattle.std.specs.Prelude.{◌≡◌, ℕ, false, List, [], ◌∷◌, ◌++◌, take, Result, Ok, Err, MatchResult}
-use Rattle.std.proofs.Common.{inr, ⊎_elim, sym, ◌∙◌, ap, subst, append_assoc}
+use Rattle.std.specs.Prelude.{◌≡◌, ℕ, false, List, [], ◌∷◌, ◌++◌, take}
+use Rattle.std.proofs.Common.{⊎_elim, sym, ◌∙◌, ap, subst, append_assoc}
 use Rattle.std.proofs.lemmas.List.{append-nil}
 use Rattle.wf_host.specs.declared.data.Deed.{Deed}
-use Rattle.wf_host.specs.declared.data.Deed.TheVariants.{Print}
-use Rattle.wf_host.specs.declared.data.Failed.{Failed}
 use Rattle.wf_host.specs.World.{World, Same, Only, Elapses, LeavesOnly}
-use Rattle.wf_host.specs.Moments.{CountsNow, started, goes_on, goes_on_same, joined, weaker}
+use Rattle.wf_host.specs.Moments.{CountsNow, started, goes_on, goes_on_same, joined}
 use Rattle.wf_journal.specs.Records.{magic, records}
-use Rattle.wf_journal.specs.Journal.{IsJournal, IsBeforeOrAfter, RecordsStay, HasNone}
+use Rattle.wf_journal.specs.Journal.{IsBeforeOrAfter}
 use Rattle.wf_journal.specs.Stands.{Stands, is_new}
 use Rattle.wf_journal.specs.Standing.{has_magic}
 use Rattle.wf_journal.specs.declared.journal.Journal.{Journal}
@@ -17,10 +15,6 @@ use Rattle.wf_journal.specs.declared.journal.Journal.{Journal}
 -- a moment since the first one: a file with the magic, and a fact of its records and of the deeds since
 abbrev pub Moment : World → (List (List ℕ) → List Deed → Type 0) → List ℕ → List Deed → Type 0
 Moment first Q c d = (D : List Deed) × (d ≡ first.deeds ++ D) × (take 4 c ≡ magic) × Q (records c) D
-
--- the same of a file that may be new
-abbrev pub EarlyMoment : World → (List (List ℕ) → List Deed → Type 0) → List ℕ → List Deed → Type 0
-EarlyMoment first Q c d = (D : List Deed) × (d ≡ first.deeds ++ D) × IsJournal c × Q (records c) D
 
 -- so far, with these deeds, and with a file that a crash leaves as it is
 pub record Begun (first now : World) (Q : List (List ℕ) → List Deed → Type 0) (D : List Deed) : Type 0 where
@@ -59,12 +53,6 @@ record_goes_on first mid new Q D payload so_far more before after =
     joined first mid new (Moment first Q) (IsBeforeOrAfter mid payload) so_far.moments more
     (λ c d pair. (D, pair.2 ∙ so_far.deeds, pair.0, ⊎_elim (λ is. subst (λ J. Q J D) (sym is) before) (λ is. subst (λ J. Q J D) (sym is) after) pair.1))
 
--- the records stay, and the bytes behind them may change
-pub records_go_on : (first mid new : World) (Q : List (List ℕ) → List Deed → Type 0) (D : List Deed) → Begun first mid Q D → LeavesOnly mid new (RecordsStay mid) → Q (records mid.seen) D → LeavesOnly first new (Moment first Q)
-records_go_on first mid new Q D so_far more holds =
-    joined first mid new (Moment first Q) (RecordsStay mid) so_far.moments more
-    (λ c d pair. (D, pair.2 ∙ so_far.deeds, pair.0, subst (λ J. Q J D) (sym pair.1) holds))
-
 -- one deed more: the fact holds without it and with it
 pub deed_goes_on : (first mid new : World) (Q : List (List ℕ) → List Deed → Type 0) (D : List Deed) (e : Deed) → Begun first mid Q D → Elapses Same (e ∷ []) mid new
     → Q (records mid.seen) D → Q (records mid.seen) (D ++ e ∷ []) → LeavesOnly first new (Moment first Q)
@@ -84,23 +72,3 @@ pub part_goes_on : (first mid new : World) (Q R : List (List ℕ) → List Deed 
 part_goes_on first mid new Q R D so_far more within =
     joined first mid new (Moment first Q) (Moment mid R) so_far.moments more
     (λ c d (E, is, begins, holds). (D ++ E, is ∙ ap (λ l. l ++ E) so_far.deeds ∙ append_assoc first.deeds D E, begins, within (records c) E holds))
-
--- a print, however it ends
-pub print_goes_on : (first mid new : World) (Q : List (List ℕ) → List Deed → Type 0) (D : List Deed) (text : List ℕ) (result : Result ℕ Failed) → Begun first mid Q D → CountsNow mid
-    → MatchResult result (λ n. Elapses Same (Print (take n text) ∷ []) mid new) (λ e. Elapses Same [] mid new)
-    → Q (records mid.seen) D → ((n : ℕ) → Q (records mid.seen) (D ++ Print (take n text) ∷ [])) → LeavesOnly first new (Moment first Q)
-print_goes_on first mid new Q D text (Ok n) so_far counts time before after = deed_goes_on first mid new Q D (Print (take n text)) so_far time before (after n)
-print_goes_on first mid new Q D text (Err e) so_far counts time before after = nothing_goes_on first mid new Q D so_far counts time
-
--- a new file is begun: no record before and none behind it
-pub begin_goes_on : (w new : World) (Q : List (List ℕ) → List Deed → Type 0) → LeavesOnly w new (HasNone w) → Q [] [] → LeavesOnly w new (EarlyMoment w Q)
-begin_goes_on w new Q more holds =
-    weaker w new (HasNone w) (EarlyMoment w Q) more
-    (λ c d pair. ([], pair.2 ∙ sym (append-nil w.deeds), pair.0, subst (λ J. Q J []) (sym pair.1) holds))
-
--- and what follows is told as of a file with the magic
-pub early_goes_on : (first mid new : World) (Q R : List (List ℕ) → List Deed → Type 0) (D : List Deed) → LeavesOnly first mid (EarlyMoment first Q) → mid.deeds ≡ first.deeds ++ D → LeavesOnly mid new (Moment mid R)
-    → ((J : List (List ℕ)) (E : List Deed) → R J E → Q J (D ++ E)) → LeavesOnly first new (EarlyMoment first Q)
-early_goes_on first mid new Q R D so_far deeds more within =
-    joined first mid new (EarlyMoment first Q) (Moment mid R) so_far more
-    (λ c d (E, is, begins, holds). (D ++ E, is ∙ ap (λ l. l ++ E) deeds ∙ append_assoc first.deeds D E, inr begins, within (records c) E holds))

@@ -55,11 +55,6 @@ unfolding IsStrictlySortedBy
 between [] p rest more s t a = (a, t)
 between (e ∷ out) p rest more s t a = (all_with (λ y. key_cmp e.0 y ≡ Less) out p rest more s.0 t.0, between out p rest more s.1 t.1 a)
 
-behind : (out rest : Rows) → IsInOrder (out ++ rest) → IsInOrder rest
-unfolding IsStrictlySortedBy
-behind [] rest s = s
-behind (e ∷ out) rest s = behind out rest s.1
-
 pub above_head : (out : Rows) (k : Text) (p : Text × Data) (rest : Rows) → IsInOrder (out ++ p ∷ rest) → key_cmp k p.0 ≡ Less → AreAbove k (p ∷ rest)
 unfolding IsStrictlySortedBy
 above_head [] k p rest s h = (h, all_further k p.0 (keys_of rest) h s.0)

@@ -1,7 +1,7 @@
 -- The range of the moments, and what a text tells by its parts.
-use Rattle.std.proofs.Common.{◌≡◌, ℕ, ◌<◌, Bool, true, false, length, take, drop, refl, sym, ap, ◌∙◌, arith, ℤ, pos, negsuc, ◌-ℤ◌, Option, None, Some, Ok, Err, length-take, inl, inr}
-use Rattle.std.specs.Prelude.{codes, if◌then◌else◌, option_and_then, option_map, IsTrue, ◌↔◌}
-use Rattle.std.proofs.lemmas.Bool.{cases_lt, iff_false, le-leb, lt-leb}
+use Rattle.std.proofs.Common.{◌≡◌, ℕ, ◌<◌, Bool, true, false, length, take, drop, refl, sym, ap, ◌∙◌, arith, ℤ, pos, negsuc, ◌-ℤ◌, Option, None, Some, Ok, Err, length-take}
+use Rattle.std.specs.Prelude.{codes, option_and_then, option_map}
+use Rattle.std.proofs.lemmas.Bool.{le-leb}
 use Rattle.jiff_core.proofs.SignedLemmas.{signed_arith}
 use Rattle.wf_value.specs.LibTime.{civil_seconds, is_civil, offset_of, parsed_time, second_in_range, time_format, time_parse, time_text, without_fraction}
 use Rattle.wf_value.specs.Data.{Data, integer, text}
@@ -12,26 +12,10 @@ use Rattle.wf_lib_time.specs.Moments.{IsInTime, stamp_text}
 use Rattle.wf_lib_time.proofs.Reals.{no_civil}
 use Rattle.wf_lib_time.proofs.Forms.{too_short}
 
--- ## The range
-past_last : (n : ℕ) → ¬ (IsInTime (pos n)) → 253370764799 < n
-past_last n h = elim (cases_lt 253370764799 n) [ inl more ↦ more | inr le ↦ absurd (h (omega (arith, signed_arith), omega (arith, signed_arith, le))) ]
-
-pub outside : (z : ℤ) (b : Bool) → (IsTrue b ↔ IsInTime z) → b ≡ false → None ≡ option_map (λ n. pos n) (second_in_range z)
-outside (pos n) b is out = sym (ap (λ t. option_map (λ (k : ℕ). pos k) (if t then Some n else None)) (lt-leb n 253370764799 (past_last n (iff_false is out))))
-outside (negsuc n) b is out = refl
-
-pub within : (z : ℤ) → IsInTime z → Some z ≡ option_map (λ n. pos n) (second_in_range z)
-within (pos n) h = sym (ap (λ t. option_map (λ (k : ℕ). pos k) (if t then Some n else None)) (le-leb n 253370764799 (omega (arith, signed_arith, h))))
-within (negsuc n) h = absurd (omega (arith, signed_arith, h))
-
 -- ## Writing
 abbrev format_if : ℕ → Bool → Answer Data
 format_if n true = Ok (text (time_text n))
 format_if n false = Err ValueError
-
-pub format_outside : (z : ℤ) (b : Bool) → (IsTrue b ↔ IsInTime z) → b ≡ false → time_format (integer z) ≡ Err ValueError
-format_outside (pos n) b is out = ap (format_if n) (lt-leb n 253370764799 (past_last n (iff_false is out)))
-format_outside (negsuc n) b is out = refl
 
 pub format_within : (z : ℤ) → IsInTime z → time_format (integer z) ≡ Ok (text (stamp_text z))
 unfolding stamp_text
@@ -52,23 +36,6 @@ pub told_short : (s : Text) → length s < 19 → None ≡ option_map (λ n. pos
 told_short s h =
     let short : length (take 19 s) < length (codes "dddd-dd-ddTdd:dd:dd") = omega (arith, h, length-take 19 s) in
     sym (ap (λ o. option_map (λ (k : ℕ). pos k) o) (parsed_is s (take 19 s) (drop 19 s) false (civil_seconds (take 19 s)) (without_fraction (drop 19 s)) refl refl (no_civil (take 19 s) (too_short (codes "dddd-dd-ddTdd:dd:dd") (take 19 s) short)) refl refl))
-
-pub told_unreal : (s front : Text) → front ≡ take 19 s → is_civil front ≡ false → None ≡ option_map (λ n. pos n) (parsed_time s)
-told_unreal s front f h =
-    sym (ap (λ o. option_map (λ (k : ℕ). pos k) o) (parsed_is s front (drop 19 s) false (civil_seconds front) (without_fraction (drop 19 s)) f refl h refl refl))
-
-pub told_bad_fraction : (s front back : Text) → front ≡ take 19 s → back ≡ drop 19 s → is_civil front ≡ true → without_fraction back ≡ None → None ≡ option_map (λ n. pos n) (parsed_time s)
-told_bad_fraction s front back f b h w =
-    sym (ap (λ o. option_map (λ (k : ℕ). pos k) o) (parsed_is s front back true (civil_seconds front) None f b h refl w))
-
-pub told_bad_zone : (s front back rest : Text) → front ≡ take 19 s → back ≡ drop 19 s → is_civil front ≡ true → without_fraction back ≡ Some rest → None ≡ offset_of rest → None ≡ option_map (λ n. pos n) (parsed_time s)
-told_bad_zone s front back rest f b h w z =
-    sym (ap (λ o. option_map (λ (k : ℕ). pos k) o) (parsed_is s front back true (civil_seconds front) (Some rest) f b h refl w ∙ ap (λ o. option_and_then (λ x. second_in_range (civil_seconds front -ℤ x)) o) (sym z)))
-
-pub told : (s front back rest : Text) (n o : ℤ) (r : Option ℤ) → front ≡ take 19 s → back ≡ drop 19 s → is_civil front ≡ true → n ≡ civil_seconds front → without_fraction back ≡ Some rest → Some o ≡ offset_of rest → r ≡ option_map (λ k. pos k) (second_in_range (n -ℤ o)) → r ≡ option_map (λ k. pos k) (parsed_time s)
-told s front back rest n o r f b h e w z is =
-    is
-    ∙ sym (ap (λ x. option_map (λ (k : ℕ). pos k) x) (parsed_is s front back true n (Some rest) f b h (sym e) w ∙ ap (λ x. option_and_then (λ y. second_in_range (n -ℤ y)) x) (sym z)))
 
 -- ## The answers of `time.parse`
 parsed_some : (o : Option ℕ) (z : ℤ) → Some z ≡ option_map (λ n. pos n) o → (or_error ValueError o >>= λ n. Ok (integer (pos n))) ≡ Ok (integer z)

@@ -1,14 +1,13 @@
 -- What stands behind the seconds.
-use Rattle.std.proofs.Common.{◌≡◌, ◌≢◌, ℕ, suc, ◌+◌, ◌-◌, ◌*◌, ◌<◌, ◌≤◌, Bool, true, false, ◌&&◌, [], ◌∷◌, length, take, drop, refl, sym, ap, subst, ◌∙◌, arith, ℤ, pos, neg_ℤ, ◌-ℤ◌, Option, None, Some, MatchOption}
+use Rattle.std.proofs.Common.{◌≡◌, ◌≢◌, ℕ, suc, ◌+◌, ◌-◌, ◌*◌, ◌<◌, ◌≤◌, Bool, true, false, ◌&&◌, [], ◌∷◌, length, take, drop, refl, sym, ap, subst, ◌∙◌, arith, ℤ, pos, neg_ℤ, ◌-ℤ◌, Option, None, Some}
 use Rattle.std.specs.Prelude.{codes, if◌then◌else◌, nat_le, bytes_eq}
 use Rattle.std.specs.Char.{is_ascii_digit}
 use Rattle.std.specs.List.{prefix_len}
 use Rattle.std.proofs.lemmas.List.{length-drop, take_all}
-use Rattle.std.proofs.lemmas.Bool.{and_parts, and_from, and_left, and_right, eqb-true, ne_eqb, false≢true, le-leb, lt-leb}
+use Rattle.std.proofs.lemmas.Bool.{and_from, and_right, ne_eqb, le-leb, lt-leb}
 use Rattle.jiff_core.proofs.SignedLemmas.{signed_arith}
 use Rattle.wf_value.specs.LibTime.{has_form, is_real_offset, minutes_ahead, offset_of, without_digits, without_fraction}
 use Rattle.wf_value.specs.Pairs.{Text}
-use Rattle.wf_lib_time.specs.Moments.{fits}
 
 -- ## The zone, by the tests of its text
 abbrev zone_by : Bool → Bool → Bool → Bool → Text → Option ℤ
@@ -17,37 +16,10 @@ zone_by z p m r s = if z then Some (pos 0) else (if p && r then Some (pos (minut
 zone_is : (s : Text) (z p m r : Bool) → bytes_eq s (codes "Z") ≡ z → has_form (codes "+dd:dd") s ≡ p → has_form (codes "-dd:dd") s ≡ m → is_real_offset s ≡ r → offset_of s ≡ zone_by z p m r s
 zone_is s z p m r ez ep em er = (λ i. zone_by (ez i) (ep i) (em i) (er i) s)
 
-other_sign : (s : Text) → has_form (codes "+dd:dd") s ≡ true → has_form (codes "-dd:dd") s ≡ false
-other_sign [] h = absurd (false≢true h)
-other_sign (b ∷ s) h =
-    let plus : 43 ≡ b = eqb-true 43 b (and_parts (fits 43 b) (has_form (codes "dd:dd") s) h).0 in
-    and_left (fits 45 b) (has_form (codes "dd:dd") s) (ne_eqb 45 b (λ e. omega (arith, e, plus)))
-
-pub zulu : (s : Text) → bytes_eq s (codes "Z") ≡ true → Some (pos 0) ≡ offset_of s
-zulu s z = sym (ap (λ t. zone_by t (has_form (codes "+dd:dd") s) (has_form (codes "-dd:dd") s) (is_real_offset s) s) z)
-
--- what hours and minutes tell
-abbrev pub TellsOffset : Text → Option ℤ → Type 0
-TellsOffset s r = MatchOption r (is_real_offset s ≡ false) (λ n. (is_real_offset s ≡ true) × (n ≡ pos (minutes_ahead s * 60)))
-
-pub ahead : (s : Text) (r : Option ℤ) → bytes_eq s (codes "Z") ≡ false → has_form (codes "+dd:dd") s ≡ true → TellsOffset s r → r ≡ offset_of s
-ahead s None z p h = sym (zone_is s false true false false z p (other_sign s p) h)
-ahead s (Some n) z p h = ap Some h.1 ∙ sym (zone_is s false true false true z p (other_sign s p) h.0)
-
 pub behind : (s : Text) (n : ℤ) → bytes_eq s (codes "Z") ≡ false → has_form (codes "+dd:dd") s ≡ false → has_form (codes "-dd:dd") s ≡ true → is_real_offset s ≡ true → n ≡ pos (minutes_ahead s * 60) → Some (pos 0 -ℤ n) ≡ offset_of s
 behind s n z p m r e =
     let back : pos 0 -ℤ n ≡ neg_ℤ (pos (minutes_ahead s * 60)) = omega (arith, signed_arith, e) in
     ap Some back ∙ sym (zone_is s false false true true z p m r)
-
-pub not_real : (s : Text) → bytes_eq s (codes "Z") ≡ false → has_form (codes "+dd:dd") s ≡ false → has_form (codes "-dd:dd") s ≡ true → is_real_offset s ≡ false → None ≡ offset_of s
-not_real s z p m r = sym (zone_is s false false true false z p m r)
-
-no_zone_by : (s : Text) (r : Bool) → zone_by false false false r s ≡ None
-no_zone_by s true = refl
-no_zone_by s false = refl
-
-pub no_zone : (s : Text) → bytes_eq s (codes "Z") ≡ false → has_form (codes "+dd:dd") s ≡ false → has_form (codes "-dd:dd") s ≡ false → None ≡ offset_of s
-no_zone s z p m = sym (zone_is s false false false (is_real_offset s) z p m refl ∙ no_zone_by s (is_real_offset s))
 
 -- ## The fraction
 pub no_text : (s : Text) → length s ≡ 0 → without_fraction s ≡ Some s

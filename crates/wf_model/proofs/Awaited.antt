@@ -14,7 +14,7 @@ use Rattle.wf_model.specs.Config.{Left, WorkLeft, BranchesLeft, ValuesLeft, Item
 use Rattle.wf_model.specs.Kinds.{NextKind, Plainly, ByClock, ByCall, next_kind}
 use Rattle.wf_model.specs.Local.{Outer, Local, Scene, End, Gives, Fails, Sends, Creates, Takes, Logs, Moved, Goes, Ends, Does, Breaks, Not, goes}
 use Rattle.wf_model.specs.Move.{loop_steps, move, issue, due, resumed}
-use Rattle.wf_model.specs.Ready.{call, call_due, due_of, dues_in, least_in, is_awake, stands_waiting, is_ready, begins, may_begin, is_due, none_goes_on}
+use Rattle.wf_model.specs.Ready.{call, call_due, due_of, dues_in, least_in, is_awake, stands_waiting, is_ready, may_begin, is_due, none_goes_on}
 use Rattle.wf_model.specs.Run.{main_task, empty, initial, run_on, main_steps, main_local}
 use Rattle.wf_model.specs.RunLaws.{RisesFrom}
 use Rattle.wf_model.specs.Step.{stopped, one_more, counted, read_at, close, replied, replied_to, timed_out, begun, new_task, fresh, starts, starts_turn, starts_work, begins_by, when, wants, same_kind, for_task, bodies_left, waits_for, waiting_in, result_of, taken_by, visited, by_event, step_from, next}
@@ -73,12 +73,6 @@ same_then c d e s u = record { calls = u.calls ∙ s.calls; infos = λ i. u.info
 
 same_self : (c : Config) → RisesFrom 0 c.made c.tasks → Same c c
 same_self c h = record { calls = refl; infos = λ i. refl; outcome = refl; made = refl; rises = h }
-
--- a task with the same wait and parent
-put_info : (c : Config) (b i : ℕ) (t : Task) → (i ≡ b) ⊎ (i ≡ b → ⊥) → info_at (with_task b t c) i ≡ (if nat_eq i b then Some (info t) else info_at c i)
-put_info c b i t (inl same) =
-    ap (λ n. info_at (with_task b t c) n) same ∙ ap (option_map info) (put_same b t c.tasks) ∙ sym (ap (λ v. if v then Some (info t) else info_at c i) (eq-eqb i b same))
-put_info c b i t (inr differ) = ap (option_map info) (put_other b i t c.tasks differ) ∙ sym (ap (λ v. if v then Some (info t) else info_at c i) (ne_eqb i b differ))
 
 put_at : (c : Config) (b : ℕ) (t : Task) → info_at (with_task b t c) b ≡ Some (info t)
 put_at c b t = ap (option_map info) (put_same b t c.tasks)
@@ -246,8 +240,6 @@ except_of b t c g there free = record {
 }
 
 -- ## Calls that are closed
-nth_is : (c : Config) (n : ℕ) → call c (suc n) ≡ elim (slice_get c.calls n) [ None ↦ Answered | Some x ↦ x ]
-nth_is c n = refl
 
 set_at : (xs : List Call) (n : ℕ) (x : Call) (i : ℕ) (q : Request) (d : ℕ) → elim (slice_get (slice_set xs n x) n) [ None ↦ Answered | Some y ↦ y ] ≡ Open i q d → (x ≡ Answered) ⊎ (x ≡ TimedOut) → ⊥
 set_at [] n x i q d is shut = let f : Answered ≡ Open i q d = is in cc f
@@ -534,10 +526,6 @@ visited_good p n v (Some f) c g = tt
 visited_good p n v None c g =
     taken_good p n v (waiting_in n c.tasks) (record c { bodies = c.bodies + length v.body }) (same_good c _ refl refl refl refl g)
     (λ b t is there. waiting_free n b 0 c.made t c.tasks g.rises is there)
-
--- a branch that begins
-pub may_free : (t : Task) → may_begin t ≡ true → NotCalling t.wait
-may_free t is = is_awake_free t.wait (and_left (is_awake t.wait) (begins t.control) is)
 
 module _ (a : ℕ) (t : Task) where
   begun_good : (body : ParallelBody) (left : WorkLeft) (n : ℕ) (running : List ℕ) (es : List (ℕ × Data)) (k : List Item) (c : Config) → Good c → task c a ≡ Some t → Good (begun a t body left n running es k c)

@@ -3,7 +3,7 @@ use Rattle.std.proofs.Common.{◌≡◌, ℕ, ◌≤◌, Bool, true, false, List
 use Rattle.std.proofs.lemmas.Bool.{eqb-true, eq-eqb}
 use Rattle.std.proofs.lemmas.Option.{slice_get-map, slice_get_within}
 use mathlib.Core.Logic.{inl, inr}
-use Rattle.std.specs.Prelude.{suc, slice_get, nat_eq, if◌then◌else◌, bytes_eq, codes, is_ok, is_some, OnOk, Result, Ok, Err}
+use Rattle.std.specs.Prelude.{suc, slice_get, nat_eq, if◌then◌else◌, bytes_eq, codes, is_some}
 use Rattle.wf_ast.specs.Accept.{BreakOutsideLoop}
 use Rattle.wf_frames.specs.Fits.{Fits, FrameFits, list_at, outside_at, reach, views}
 use Rattle.wf_frames.specs.Frames.{control, items, topped}
@@ -167,9 +167,6 @@ module _ (ns : List Spot) (nodes : List Node) (x : Text) (j : Jump) (r : Resolve
   no_top (f ∷ fs) t w = absurd (cc t)
 
 -- ## The index
-pub on_found : {E : Type 0} (r : Result Unit E) (P : List Frame → Type 0) (f : Frame) (old new : List Frame) → new ≡ (if is_ok r then f ∷ old else old) → P (f ∷ old) → OnOk r (P new)
-on_found (Ok u) P f old new e p = subst P (sym e) p
-on_found (Err y) P f old new e p = tt
 
 pub stands_before : (ns : List Spot) (nodes : List Node) (x : Text) (j : Jump) (o place : ℕ) (b : Listed) (xs : List ℕ) (old new : List Frame) (h g : Held) → FoundIn ns nodes x j (Some o) old h new g → list_at nodes o ≡ Some b → xs ≡ b.steps
     → ((i : ℕ) → slice_get xs i ≡ Some j.to → slice_get xs place ≡ Some j.to) → (c : List Item) → to_step x (control ns old) (standing c h) ≡ Stands (control ns (frame.Do o place ∷ new)) (standing c g)

@@ -1,6 +1,5 @@
 -- Frames that are left.
 use Rattle.std.proofs.Common.{◌≡◌, ℕ, ◌<◌, ◌≤◌, Bool, true, false, List, [], ◌∷◌, length, Some, None, refl, sym, ap, subst, ◌∙◌, arith}
-use Rattle.std.specs.Prelude.{Option}
 use Rattle.std.proofs.Math.Dec.{leb}
 use Rattle.std.proofs.lemmas.Bool.{leb-true, leb-false}
 use Rattle.wf_lemmas.proofs.Lists.{drop_end}
@@ -191,7 +190,3 @@ ended_there ns (g ∷ fs) h t = absurd (cc t)
 -- the innermost frame isn't the end of a call
 pub no_back : (f : Frame) (fs gs : List Frame) → fs ≡ f ∷ gs → is_at_back fs ≡ false → is_back f ≡ false
 no_back f fs gs e h = sym (ap is_at_back e) ∙ h
-
-pub at_back : (fs : List Frame) (o : Option Frame) → topped fs ≡ o → is_at_back fs ≡ elim o [ None ↦ false | Some f ↦ is_back f ]
-at_back [] o e = ap (λ (p : Option Frame). elim p [ None ↦ false | Some f ↦ is_back f ]) e
-at_back (f ∷ fs) o e = ap (λ (p : Option Frame). elim p [ None ↦ false | Some f ↦ is_back f ]) e

@@ -37,7 +37,7 @@ use Rattle.wf_value.specs.declared.Value.{Value}
 use Rattle.wf_moves.proofs.Unwinding.{try_is}
 use Rattle.wf_moves.specs.Retries.{IsLed, LeadsBy, TriedAt, ask_at, asked_by, decide_at, retry_at, try_at, verdict_of, verdict_said, Asked, AsksFlow}
 use Rattle.wf_moves.specs.Moved.{IsEnd, IsWent, IsMove}
-use Rattle.wf_moves.specs.Waits.{is_at_try, wait_view}
+use Rattle.wf_moves.specs.Waits.{wait_view}
 use Rattle.wf_moves.specs.declared.judging.Verdict.TheVariants as verdict
 use Rattle.wf_moves.specs.declared.leading.Led.{Led}
 use Rattle.wf_moves.specs.declared.leading.Led.TheVariants as led
@@ -54,7 +54,6 @@ use Rattle.wf_scope.specs.declared.scopes.Scopes.{Scopes}
 use Rattle.wf_value.specs.Policies.{default_says, next_delay}
 use Rattle.wf_frames.proofs.Parts.{tried_stands}
 use Rattle.wf_frames.specs.Built.{AreTargets, IsAsked, IsWorkflow, Tells}
-use Rattle.wf_frames.specs.Steps.{IsOrBreaks}
 use Rattle.wf_frames.specs.declared.target.Target.{Target}
 use Rattle.wf_frames.specs.declared.target.Target.TheVariants as target
 use Rattle.wf_value.specs.Data.{Data, boolean, depth}
@@ -68,14 +67,6 @@ pub breaks_led : (a : Around) (m : Moved) (d : Led) (l : Local) → (kind : Kind
 breaks_led a m led.Goes l b = subst (λ x. IsWent x l) (sym b.1) tt
 breaks_led a m (led.Ended e) l b = subst (λ x. IsEnd x e l) (sym b.1) tt
 breaks_led a m (led.Waits w) l b = subst (λ x. IsWent x (record l { wait = wait_view a w })) (sym b.1) tt
-
-pub led_by : (a : Around) (m n : Moved) (d : Led) (l : Local) → IsOrBreaks m n → IsLed a n d l → IsLed a m d l
-led_by a m n d l (inl e) h = subst (λ x. IsLed a x d l) (sym e) h
-led_by a m n d l (inr b) h = breaks_led a m d l b
-
-pub or_on : (m n o : Moved) → IsOrBreaks m n → IsOrBreaks n o → IsOrBreaks m o
-or_on m n o (inl e) h = subst (λ x. IsOrBreaks x o) (sym e) h
-or_on m n o (inr b) h = inr b
 
 -- ## One more frame
 -- that ends no layer
@@ -138,21 +129,6 @@ module _ (a : Around) (nodes : List Node) (tells : Tells a.spots nodes) (r : Tri
   }
 
 -- ## The body of a `try` again
-pub none_try : (fs : List Frame) → topped fs ≡ None → is_at_try fs ≡ true → ⊥
-none_try [] t h = cc h
-none_try (f ∷ fs) t h = cc t
-
-pub only_try : (f : Frame) (fs : List Frame) → topped fs ≡ Some f → is_at_try fs ≡ true → ((n r : ℕ) (d : Option ℕ) → f ≡ frame.Try n r d → ⊥) → ⊥
-only_try f [] t h other = cc t
-only_try f (frame.Try n r d ∷ fs) t h other = let same : frame.Try n r d ≡ f = cc t in other n r d (sym same)
-only_try f (frame.Do n at ∷ fs) t h other = cc h
-only_try f (frame.Lone n b ∷ fs) t h other = cc h
-only_try f (frame.Entries n at ∷ fs) t h other = cc h
-only_try f (frame.Then n ∷ fs) t h other = cc h
-only_try f (frame.Loop n w i ∷ fs) t h other = cc h
-only_try f (frame.Mark m ∷ fs) t h other = cc h
-only_try f (frame.Back c m ∷ fs) t h other = cc h
-only_try f (frame.Judge n r d e m ∷ fs) t h other = cc h
 
 module _ (a : Around) (nodes : List Node) (tells : Tells a.spots nodes) (n r : ℕ) (d : Option ℕ) (y : TryNode) (h : IsTry nodes n y) (fs : List Frame) (t : topped fs ≡ Some (frame.Try n r d)) where
   again_goes : (l : Local) → retries (control a.spots fs) l ≡ goes (entered (part_body (part_at a.spots y.body)) ∷ control a.spots fs) l

@@ -28,13 +28,6 @@ use Rattle.wf_value.specs.Data.{Data}
 use Rattle.wf_value.specs.Errors.{error_map}
 use Rattle.wf_value.specs.declared.Tag.TheVariants.{ResourceLimitError}
 
--- a number has one `try`
-pub same_try : (nodes : List Node) (n : ℕ) (t u : TryNode) → IsTry nodes n t → IsTry nodes n u → t ≡ u
-same_try nodes n t u h k = (
-    let same : h.node ≡ k.node = cc (sym h.at ∙ k.at) in
-    cc (sym h.is ∙ ap (λ (x : Node). x.kind) same ∙ k.is)
-    )
-
 -- ## One frame
 module _ (ns : List Spot) where
   passes_one : (s : Scene) (f : Frame) (k : List Item) (l : Local) (e : Data) → tried_of f ≡ None → unwind s (items ns f k) l e ≡ unwind s k (left_by f l) e

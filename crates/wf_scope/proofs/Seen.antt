@@ -1,11 +1,10 @@
 -- What is seen from a layer.
-use Rattle.std.proofs.Common.{◌≡◌, ◌<◌, inl, inr, ℕ, suc, Bool, true, false, List, [], ◌∷◌, ◌++◌, cond, Option, Some, None, is_some, refl, sym, ap, subst, ◌∙◌, arith}
-use Rattle.std.specs.Ordering.{is_eq}
+use Rattle.std.proofs.Common.{◌≡◌, ◌<◌, inl, inr, ℕ, suc, true, List, [], ◌∷◌, Option, Some, None, is_some, refl, sym, ap, subst, ◌∙◌, arith}
 use Rattle.std.proofs.lemmas.Bool.{and_parts, eqb-true, false≢true}
 use Rattle.wf_value.specs.Data.{Data}
-use Rattle.wf_value.specs.Maps.{key_cmp, value_at}
+use Rattle.wf_value.specs.Maps.{value_at}
 use Rattle.wf_value.specs.Pairs.{Text}
-use Rattle.wf_scope.specs.Layers.{IsLive, all_stand, chain, chain_in, depth_in, find, holder_in, is_outside, look_in, seen_pairs, stands, vars_at, vars_in}
+use Rattle.wf_scope.specs.Layers.{IsLive, all_stand, chain, chain_in, depth_in, find, holder_in, is_outside, look_in, stands, vars_at, vars_in}
 use Rattle.wf_scope.specs.declared.layer.Layer.{Layer}
 use Rattle.wf_scope.proofs.Numbers.{found_cases}
 
@@ -71,16 +70,3 @@ holder_past ls rest l x c e = ap (holder_in x) c ∙ ap {B = Option ℕ} (λ g. 
 -- the variables of a layer that was found
 pub vars_found : (n : ℕ) (ls : List Layer) (l : Layer) → find n ls ≡ Some l → vars_at n ls ≡ l.vars
 vars_found n ls l f = ap vars_in f
-
--- what is seen, as one list of pairs
-pub look_pairs : (x : Text) (ls : List Layer) → value_at x (seen_pairs ls) ≡ look_in x ls
-look_pairs x [] = refl
-look_pairs x (l ∷ ls) = in_front l.vars ∙ ap {B = Option Data} (λ g. elim (value_at x l.vars) [ None ↦ g | Some v ↦ Some v ]) (look_pairs x ls)
-  where
-    by : (b : Bool) (w : Data) (a g : Option Data) → a ≡ elim g [ None ↦ value_at x (seen_pairs ls) | Some v ↦ Some v ] → cond b (Some w) a ≡ elim (cond b (Some w) g) [ None ↦ value_at x (seen_pairs ls) | Some v ↦ Some v ]
-    by true w a g h = refl
-    by false w a g h = h
-
-    in_front : (ps : List (Text × Data)) → value_at x (ps ++ seen_pairs ls) ≡ elim (value_at x ps) [ None ↦ value_at x (seen_pairs ls) | Some v ↦ Some v ]
-    in_front [] = refl
-    in_front (p ∷ ps) = by (is_eq (key_cmp x p.0)) p.1 (value_at x (ps ++ seen_pairs ls)) (value_at x ps) (in_front ps)

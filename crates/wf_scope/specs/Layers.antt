@@ -1,7 +1,6 @@
 -- Layers of variables by their numbers.
 --     find, vars_at         a layer and its variables, by its number
 --     chain, look_in        the layers that are seen from one, innermost first, and a variable in them
---     seen_pairs            all variables that are seen
 --     holder_in             the number of the layer in which it stands
 --     total_of              what all variables come to
 --     fresh, opened         a new layer
@@ -54,11 +53,6 @@ look_in x (l ∷ ls) = elim (value_at x l.vars) [ None ↦ look_in x ls | Some v
 abbrev pub holder_in : Text → List Layer → Option ℕ
 holder_in x [] = None
 holder_in x (l ∷ ls) = elim (value_at x l.vars) [ None ↦ holder_in x ls | Some v ↦ Some l.number ]
-
--- all variables that are seen, an inner one before an outer one of the same name
-abbrev pub seen_pairs : List Layer → List (Text × Data)
-seen_pairs [] = []
-seen_pairs (l ∷ ls) = l.vars ++ seen_pairs ls
 
 -- ## What variables come to
 -- a variable that may be there

@@ -108,9 +108,6 @@ stand_last : (number at : ℕ) (x : List ℕ) → HasNoFeed x → StandFrom numb
 stand_last number at [] clean = refl
 stand_last number at (b ∷ r) clean = ([], [], refl, stands number at (b ∷ r) (b ∷ r) [] [] (omega arith) (sym (append-nil (b ∷ r))) clean (end refl), refl)
 
-abbrev After : ℕ → ℕ → List ℕ → List Placed → Type 0
-After number at rest ls = StandFrom (suc number) at rest ls
-
 stand_more : (number at : ℕ) (x rest : List ℕ) (ls : List Placed) → Ended x → HasNoFeed x → StandFrom (suc number) (at + (length x + 1)) rest ls → StandFrom number at (x ++ 10 ∷ rest) (placed number at (without_return x) ∷ ls)
 stand_more number at x rest ls (with_return e) clean h =
     let text = without_return x in (

@@ -29,9 +29,6 @@ adds_one a b n m e h = record { has = λ x. h x ∙ ap (λ k. bytes_eq x k || is
 pub record AddsOn (initial : Names) (now : Names) (all : List Text) (rest : List Text) : Type 0 where
   pub on : (c : Names) → Adds now c rest → Adds initial c all
 
-pub on_begins : (initial : Names) (all : List Text) → AddsOn initial initial all all
-on_begins initial all = record { on = λ c h. h }
-
 pub on_next : (initial now new : Names) (all xs ys : List Text) → AddsOn initial now all (xs ++ ys) → Adds now new xs → AddsOn initial new all ys
 on_next initial now new all xs ys k h = record { on = λ c j. k.on c (adds_then now new c xs ys h j) }
 

@@ -8,10 +8,6 @@ use Rattle.wf_value.specs.Pairs.{Text}
 abbrev pub names_of : Names → List Text
 names_of s = map string_bytes s.names.keys
 
--- these names and no others
-abbrev pub Holds : Names → List Text → Type 0
-Holds s xs = (x : Text) → is_among x (names_of s) ≡ is_among x xs
-
 -- these names more and no others
 pub record Adds (old : Names) (new : Names) (xs : List Text) : Type 0 where
   pub has : (x : Text) → is_among x (names_of new) ≡ (is_among x xs || is_among x (names_of old))

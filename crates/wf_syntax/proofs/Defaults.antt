@@ -6,7 +6,7 @@ use Rattle.wf_syntax_rules.specs.Faults.{AreSound}
 use Rattle.wf_syntax_rules.specs.Meaning.{AreLiterals, AreNamedLiterals, IsLiteral}
 use Rattle.wf_syntax_rules.specs.Rules.{Literal, demand, each, every}
 use Rattle.wf_syntax_rules.specs.declared.fault.SyntaxKind.TheVariants.{WrongKind}
-use Rattle.wf_syntax.proofs.Lists.{each_fails, each_next, every_fails, every_next, fails_below, take_next}
+use Rattle.wf_syntax.proofs.Lists.{each_fails, each_next, every_fails, every_next, take_next}
 use Rattle.wf_syntax.proofs.Ordered.{AllBelow, keys_below, put_last}
 use Rattle.wf_syntax.proofs.Valued.{Entry, item_plain, length_plain, plain_pair}
 use Rattle.wf_syntax.specs.Answers.{Fails, FailsAmong, Gives, GivesAll, IsOutside}
@@ -53,14 +53,6 @@ pub map_gives : (u : Tree) (xs : List (List ℕ × trees.Tree)) (ps : List Entry
 map_gives u xs ps ds is seen h =
     subst (λ (w : trees.Tree). GivesLiteral (values.map (values.pairs_of ds)) w) (sym (ap plain_tree is ∙ ap (λ l. map (pairs_of l)) (sym seen)))
     (node_is_sound Literal (map (pairs_of (plain_pairs ps))) refl (λ f k. k) h.0, h.1)
-
-pub list_fails : (u : Tree) (xs : List trees.Tree) (ts : List Tree) (s : Stop) → u ≡ tree.List xs → plain_items ts ≡ xs → FailsAmong (each Literal 0 (items_of (plain_items ts))) s → Fails Literal (plain_tree u) s
-list_fails u xs ts s is seen h =
-    subst (λ (w : trees.Tree). Fails Literal w s) (sym (ap plain_tree is ∙ ap (λ l. list (items_of l)) (sym seen))) (fails_below Literal (list (items_of (plain_items ts))) s refl h)
-
-pub map_fails : (u : Tree) (xs : List (List ℕ × trees.Tree)) (ps : List Entry) (s : Stop) → u ≡ tree.Map xs → plain_pairs ps ≡ xs → FailsAmong (every (λ x. Literal) (pairs_of (plain_pairs ps))) s → Fails Literal (plain_tree u) s
-map_fails u xs ps s is seen h =
-    subst (λ (w : trees.Tree). Fails Literal w s) (sym (ap plain_tree is ∙ ap (λ l. map (pairs_of l)) (sym seen))) (fails_below Literal (map (pairs_of (plain_pairs ps))) s refl h)
 
 -- ---- the loops
 literals_next : (ds : List values.Data) (ts : List trees.Tree) (d : values.Data) (x : trees.Tree) → AreLiterals (values.items_of ds) (items_of ts) → IsLiteral d x → AreLiterals (values.items_of (ds ++ d ∷ [])) (items_of (ts ++ x ∷ []))

@@ -1,10 +1,9 @@
 -- How deep the parts of a node are.
 use Rattle.std.proofs.Common.{◌≡◌, ◌≤◌, ◌<◌, ℕ, max, Bool, true, false, if◌then◌else◌, bytes_eq, length, get_or, List, Option, Some, None, arith, ap}
-use Rattle.wf_syntax_words.specs.Fields.{field, single_of}
-use Rattle.wf_syntax.proofs.Targets.{single_is}
+use Rattle.wf_syntax_words.specs.Fields.{field}
 use Rattle.wf_syntax.proofs.Valued.{item_deep}
 use Rattle.wf_tree.specs.Plain.{plain_items, plain_tree}
-use Rattle.wf_tree.specs.Trees.{Tree, list, map, Pairs, no_pairs, pair, depth, items_of, pairs_depth}
+use Rattle.wf_tree.specs.Trees.{Tree, list, Pairs, no_pairs, pair, depth, items_of, pairs_depth}
 use Rattle.wf_tree.specs.declared.tree.Tree.{Tree as Node}
 use Rattle.wf_value.specs.Pairs.{Text}
 
@@ -21,14 +20,6 @@ pub field_deep : (k : Text) (fs : Pairs) (t : Tree) → Some t ≡ field k fs �
 field_deep k no_pairs t e = let x : ⊥ = cc in absurd x
 field_deep k (pair j u fs) t e = key_deep (bytes_eq k j) u t (field k fs) (pairs_depth fs) e (field_deep k fs t)
 
--- the tree in a map of one
-pub single_deep : (x : Tree) (k : Text) (v : Tree) → Some (k, v) ≡ single_of x → depth v < depth x
-single_deep x k v e = omega (arith, ap depth (single_is x k v e))
-
 -- an item of a list
 pub list_item_deep : (x : Tree) (ts : List Node) (i : ℕ) (t : Node) → x ≡ list (items_of (plain_items ts)) → i < length ts → t ≡ get_or ts i t → depth (plain_tree t) < depth x
 list_item_deep x ts i t is lt e = omega (arith, ap depth is, item_deep ts i t lt e)
-
--- the fields of a map
-pub fields_deep : (x : Tree) (fs : Pairs) → x ≡ map fs → pairs_depth fs < depth x
-fields_deep x fs is = omega (arith, ap depth is)

@@ -103,9 +103,3 @@ pub at_fails : (k : List ℕ) (r : Role) (fs : Pairs) (t : Tree) (s o : Stop) �
 at_fails k r fs t s o e f out =
     subst (λ (m : Option Tree). FailsAmong (there k r m) o) e
     (fails_among [] [] (record { part = Key k; role = r; tree = t }) (there k r (Some t)) (Key k) s o refl tt refl f out)
-
-pub at_sound : (k : List ℕ) (r : Role) (fs : Pairs) (t : Tree) → Some t ≡ field k fs → IsSound r t → AreSound (at k r fs)
-at_sound k r fs t e h = subst (λ (m : Option Tree). AreSound (there k r m)) e (h, tt)
-
-pub at_none : (k : List ℕ) (r : Role) (fs : Pairs) → None ≡ field k fs → AreSound (at k r fs)
-at_none k r fs e = subst (λ (m : Option Tree). AreSound (there k r m)) e tt

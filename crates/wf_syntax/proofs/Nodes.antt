@@ -7,14 +7,14 @@ use Rattle.wf_syntax_rules.proofs.Own.{own_is}
 use Rattle.wf_syntax_rules.proofs.Sound.{node_is_sound}
 use Rattle.wf_syntax_rules.specs.Faults.{AreSound, FirstAt, IsOwn, IsSound, IsTextFault}
 use Rattle.wf_syntax_rules.specs.Meaning.{Each}
-use Rattle.wf_syntax_rules.specs.Rules.{Role, Sub, at, each, every, own, parts, there}
+use Rattle.wf_syntax_rules.specs.Rules.{Role, Sub, at, each, own, parts, there}
 use Rattle.wf_syntax_words.specs.Fields.{field}
 use Rattle.wf_syntax_rules.specs.declared.fault.SyntaxKind.{SyntaxKind}
 use Rattle.wf_syntax.specs.Answers.{Fails, FailsAmong, FirstAmong, IsHere, IsOutside}
 use Rattle.wf_syntax.specs.declared.stop.Stop.{Stop}
 use Rattle.wf_syntax.specs.declared.stop.Stop.TheVariants as stop
 use Rattle.wf_tree.specs.Plain.{plain_items, plain_tree}
-use Rattle.wf_tree.specs.Trees.{Tree, list, map, Pairs, items_of, pairs_of}
+use Rattle.wf_tree.specs.Trees.{Tree, list, map, Pairs, items_of}
 use Rattle.wf_tree.specs.declared.tree.Tree.TheVariants as tree
 use Rattle.wf_tree.specs.declared.tree.Tree as code
 use Rattle.wf_value.specs.Pairs.{Text}
@@ -25,10 +25,6 @@ use Rattle.wf_value.specs.declared.path.PathPart.TheVariants.{Index, Key}
 pub both_sound : (xs ys : List Sub) → AreSound xs → AreSound ys → AreSound (xs ++ ys)
 both_sound [] ys h k = k
 both_sound (x ∷ xs) ys h k = (h.0, both_sound xs ys h.1 k)
-
-one_sound : (before : List Sub) (s : Sub) (after : List Sub) → AreSound (before ++ s ∷ after) → IsSound s.role s.tree
-one_sound [] s after h = h.0
-one_sound (b ∷ before) s after h = one_sound before s after h.1
 
 among_first : (ps : List PathPart) (k : SyntaxKind) (xs ys : List Sub) → FirstAmong ps k xs → FirstAmong ps k (xs ++ ys)
 among_first [] k xs ys h = h
@@ -64,9 +60,6 @@ field_fails k r fs t inner out e h o =
 
 pub field_sound : (k : Text) (r : Role) (fs : Pairs) (t : Tree) → Some t ≡ field k fs → IsSound r t → AreSound (at k r fs)
 field_sound k r fs t e h = subst (λ o. AreSound (there k r o)) e (h, tt)
-
-pub no_field_sound : (k : Text) (r : Role) (fs : Pairs) → None ≡ field k fs → AreSound (at k r fs)
-no_field_sound k r fs e = subst (λ o. AreSound (there k r o)) e tt
 
 -- ## Nodes
 pub here_fails : (r : Role) (t : Tree) (k : SyntaxKind) (out : Stop) → IsOwn r t k → IsHere k out → Fails r t out
@@ -160,36 +153,6 @@ list_sound r s t ts e own_none p none h =
     subst (λ u. IsSound r u) (sym e) (node_is_sound r (list (items_of ts)) own_none none (subst AreSound (sym p) h))
 
 -- ## Maps
--- the value at a key, as a part
-abbrev pub pair_part : (Text → Role) → Text × Tree → Sub
-pair_part r p = record { part = Key p.0; role = r p.0; tree = p.1 }
-
-pair_next : (r : Text → Role) (i : ℕ) (ps : List (Text × Tree)) (p : Text × Tree) → i < length ps → slice_index_or ps i p ≡ p →
-    (after : List Sub) × (every r (pairs_of ps) ≡ every r (pairs_of (take i ps)) ++ pair_part r p ∷ after)
-pair_next r i [] p lt is = absurd (not-suc-le-zero lt)
-pair_next r zero (q ∷ ps) p lt is = (every r (pairs_of ps), ap (λ x. pair_part r x ∷ every r (pairs_of ps)) is)
-pair_next r (suc i) (q ∷ ps) p lt is =
-    let next = pair_next r i ps p (omega (arith, lt)) is in
-    (next.0, ap (λ l. pair_part r q ∷ l) next.1)
-
-pairs_upto : (r : Text → Role) (i : ℕ) (ps : List (Text × Tree)) (p : Text × Tree) → i < length ps → slice_index_or ps i p ≡ p →
-    every r (pairs_of (take (suc i) ps)) ≡ every r (pairs_of (take i ps)) ++ pair_part r p ∷ []
-pairs_upto r i [] p lt is = absurd (not-suc-le-zero lt)
-pairs_upto r zero (q ∷ ps) p lt is = ap (λ x. pair_part r x ∷ []) is
-pairs_upto r (suc i) (q ∷ ps) p lt is = ap (λ l. pair_part r q ∷ l) (pairs_upto r i ps p (omega (arith, lt)) is)
-
--- a value fails, and those before have no fault
-pub pair_fails : (r : Text → Role) (i : ℕ) (ps : List (Text × Tree)) (p : Text × Tree) (inner out : Stop) → i < length ps → slice_index_or ps i p ≡ p →
-    AreSound (every r (pairs_of (take i ps))) → Fails (r p.0) p.1 inner → IsOutside (Key p.0) inner out → FailsAmong (every r (pairs_of ps)) out
-pair_fails r i ps p inner out lt is all h o =
-    let next = pair_next r i ps p lt is in
-    fails_part (every r (pairs_of ps)) (every r (pairs_of (take i ps))) (pair_part r p) next.0 inner out next.1 all h o
-
-pub pairs_sound : (r : Text → Role) (i : ℕ) (ps : List (Text × Tree)) (p : Text × Tree) → i < length ps → slice_index_or ps i p ≡ p →
-    AreSound (every r (pairs_of (take i ps))) → IsSound (r p.0) p.1 → AreSound (every r (pairs_of (take (i + 1) ps)))
-pairs_sound r i ps p lt is all h =
-    subst AreSound (sym (ap (λ n. every r (pairs_of (take n ps))) (add-one i) ∙ pairs_upto r i ps p lt is))
-    (both_sound (every r (pairs_of (take i ps))) (pair_part r p ∷ []) all (h, tt))
 
 -- a node that is a map
 pub map_fails : (r : Role) (t : Tree) (fs : Pairs) (out : Stop) → t ≡ map fs → own r (map fs) ≡ None → FailsAmong (parts r (map fs)) out → Fails r t out

@@ -90,16 +90,6 @@ map_gives u ds ps vs is seen h =
     (subst (λ (l : List (List ℕ × trees.Tree)). Gives Value (map (pairs_of l)) (IsValue (template_view (Map vs)) (map (pairs_of l)))) seen
     (map_sound (pairs_of (plain_pairs ps)) h.0, subst (λ (v : t.Template). IsValue v (map (pairs_of (plain_pairs ps)))) (sym (view_map vs)) h.1))
 
-pub list_fails : (u : Tree) (ds : List trees.Tree) (ts : List Tree) (s : Stop) → u ≡ tree.List ds → plain_items ts ≡ ds → FailsAmong (each Value 0 (items_of (plain_items ts))) s → Fails Value (plain_tree u) s
-list_fails u ds ts s is seen h =
-    subst (λ (w : Tree). Fails Value (plain_tree w) s) (sym is)
-    (subst (λ (l : List trees.Tree). Fails Value (list (items_of l)) s) seen (fails_below Value (list (items_of (plain_items ts))) s refl h))
-
-pub map_fails : (u : Tree) (ds : List (List ℕ × trees.Tree)) (ps : List Entry) (s : Stop) → u ≡ tree.Map ds → plain_pairs ps ≡ ds → FailsAmong (every (λ x. Value) (pairs_of (plain_pairs ps))) s → Fails Value (plain_tree u) s
-map_fails u ds ps s is seen h =
-    subst (λ (w : Tree). Fails Value (plain_tree w) s) (sym is)
-    (subst (λ (l : List (List ℕ × trees.Tree)). Fails Value (map (pairs_of l)) s) seen (fails_below Value (map (pairs_of (plain_pairs ps))) s refl h))
-
 -- ---- the loops
 
 pub values_next : (vs : List t.Template) (ts : List trees.Tree) (v : t.Template) (x : trees.Tree) → AreValues (templates vs) (items_of ts) → IsValue v x → AreValues (templates (vs ++ v ∷ [])) (items_of (ts ++ x ∷ []))

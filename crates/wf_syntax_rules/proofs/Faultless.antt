@@ -29,9 +29,6 @@ choice_there a b musts mays fs h =
 pub not_missing : (k : Text) (fs : Pairs) → has k fs ≡ true → field k fs ≡ None → ⊥
 not_missing k fs h e = true≢false (sym h ∙ ap is_some e)
 
-pub none_missing : (a b : Text) (fs : Pairs) → (has a fs || has b fs) ≡ true → field a fs ≡ None → field b fs ≡ None → ⊥
-none_missing a b fs h e f = true≢false (sym h ∙ ap (λ o. is_some o || has b fs) e ∙ ap is_some f)
-
 pub first_there : (k : Text) (ks : List Text) (fs : Pairs) → has_all (k ∷ ks) fs ≡ true → has k fs ≡ true
 first_there k ks fs h = (and_parts (has k fs) (has_all ks fs) h).0
 

@@ -1,5 +1,5 @@
 -- Where a jump leads, by the names of the steps of each list.
-use Rattle.std.proofs.Common.{◌≡◌, ℕ, zero, suc, ◌+◌, ◌<◌, ◌≤◌, ltb, Bool, true, false, cond, List, [], ◌∷◌, length, map, slice_get, Option, option_map, None, Some, ◌⊎◌, inl, inr, refl, sym, ap, ◌∙◌, subst, bytes_eq, arith}
+use Rattle.std.proofs.Common.{◌≡◌, ℕ, zero, suc, ◌+◌, ◌<◌, ◌≤◌, Bool, true, false, cond, List, [], ◌∷◌, length, map, slice_get, Option, option_map, None, Some, ◌⊎◌, inl, inr, refl, sym, ap, ◌∙◌, subst, bytes_eq, arith}
 use Rattle.std.proofs.lemmas.Bool.Decides.{Decides-ltb}
 use Rattle.std.proofs.lemmas.List.{length-map}
 use Rattle.std.proofs.lemmas.Option.{slice_get-map, slice_get_within}
@@ -216,14 +216,6 @@ starts fs nodes x i node made is =
       leads = λ r h. subst (λ (os : List ℕ). Leads ns (map node_view nodes) x r os) (sym owners) h;
     }
 
--- no list is left
-pub ends : (fs : List Flow) (views : List View) (x : Text) (all : List ℕ) (next : Option ℕ) → next ≡ None → Outward fs views x all next → Leads (spots fs) views x None all
-ends fs views x all next none h = by h.os (sym h.next_is ∙ none) (h.leads None)
-  where
-    by : (os : List ℕ) → innermost os ≡ None → (Leads (spots fs) views x None os → Leads (spots fs) views x None all) → Leads (spots fs) views x None all
-    by [] e f = f tt
-    by (o ∷ os) e f = absurd (cc)
-
 -- what is known of the innermost list
 pub record Inner (fs : List Flow) (views : List View) (x : Text) (all : List ℕ) (o : ℕ) : Type 0 where
   pub os : List ℕ
@@ -330,11 +322,3 @@ has_node fs nodes x all next o made some h past =
 abbrev pub rank : Option ℕ → ℕ
 rank None = 0
 rank (Some o) = suc o
-
-pub falls : (n : ℕ) (o : Option ℕ) → rank (below n o) < suc n
-falls n None = omega arith
-falls n (Some o) = by (ltb o n) refl
-  where
-    by : (b : Bool) → ltb o n ≡ b → rank (cond b (Some o) None) < suc n
-    by true e = let l : o < n = (Decides-ltb o n).0 e in omega arith
-    by false e = omega arith

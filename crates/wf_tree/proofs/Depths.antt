@@ -1,16 +1,11 @@
 -- How deep trees nest: as deep as the JSON that they are of, and deeper than what they hold.
-use Rattle.std.proofs.Common.{◌≡◌, ℕ, zero, suc, ◌+◌, ◌*◌, max, ◌<◌, ◌≤◌, List, [], ◌∷◌, Option, Some, None, option_map, option_and_then, IfSome, slice_get, arith, refl, ap, sym, subst, ◌∙◌, Bool, false, true≢false, Decides}
-use denote.Param.Weighed.{most}
+use Rattle.std.proofs.Common.{◌≡◌, suc, max, ◌<◌, ◌≤◌, ◌∷◌, Option, Some, None, option_map, option_and_then, IfSome, arith, refl, ap, sym, subst, ◌∙◌, Bool, false, true≢false, Decides}
 use Rattle.serde_json.specs.Data as json
 use Rattle.serde_json.specs.Find.{as_i64}
 use Rattle.wf_tree.specs.Trees.{integer, list, map, depth, items_depth, items_of, pairs_depth, pairs_of}
 use Rattle.wf_tree.specs.Trees as trees
 use Rattle.wf_tree.specs.Json.{tree_of, items_tree, members_tree}
-use Rattle.wf_tree.specs.Plain.{plain_tree, plain_items}
-use Rattle.wf_tree.specs.Falls.{deep-Tree-le-depth}
 use Rattle.wf_tree.specs.declared.tree.Tree.{Tree}
-use Rattle.wf_tree.specs.declared.tree.Tree.TheVariants as tree
-use Rattle.wf_tree.specs.declared.tree.TreeList.TheDeep.{deep-Tree, size-Tree}
 
 some_map : {A B : Type 0} (P : A → Type 0) (Q : B → Type 0) (f : A → B) (o : Option A) → ((a : A) → P a → Q (f a)) → IfSome o P → IfSome (option_map f o) Q
 some_map P Q f None step h = tt
@@ -60,22 +55,3 @@ pub shallow : (j : json.Data) (t : trees.Tree) (r : Bool) → tree_of j ≡ Some
 shallow j t r h d is_false =
     let not_deeper : ¬ (100 < json.depth j) = λ deeper. true≢false (sym (d.1 deeper) ∙ is_false) in
     omega (arith, not_deeper, same_depth j t h)
-
-most_size : (ts : List Tree) → most (λ t. size-Tree t) ts ≤ 2 * items_depth (items_of (plain_items ts)) + 1
-most_size [] = omega arith
-most_size (t ∷ ts) = omega (arith, deep-Tree-le-depth t, most_size ts)
-
--- for the measures of recursions: the items of a list
-pub items_fall : (t : Tree) (ds : List trees.Tree) (ts : List Tree) → t ≡ tree.List ds → plain_items ts ≡ ds → most (λ t. size-Tree t) ts < size-Tree t
-items_fall t ds ts is seen = omega (arith, most_size ts, ap (λ l. items_depth (items_of l)) seen, ap (λ w. deep-Tree w) is)
-
-held_below : (ds : List (List ℕ × trees.Tree)) (i : ℕ) (k : List ℕ) (d : trees.Tree) → slice_get ds i ≡ Some (k, d) → depth d ≤ pairs_depth (pairs_of ds)
-held_below [] i k d h = cc
-held_below (p ∷ ps) zero k d h =
-    let same : p ≡ (k, d) = cc in
-    omega (arith, ap (λ (q : List ℕ × trees.Tree). depth q.1) same)
-held_below (p ∷ ps) (suc i) k d h = omega (arith, held_below ps i k d h)
-
--- and the tree of the pair at an index, as `TreeMap::entry` lends it
-pub entry_falls : (t u : Tree) (ds : List (List ℕ × trees.Tree)) (i : ℕ) (k : List ℕ) → t ≡ tree.Map ds → Some (k, plain_tree u) ≡ slice_get ds i → size-Tree u < size-Tree t
-entry_falls t u ds i k is at = omega (arith, deep-Tree-le-depth u, held_below ds i k (plain_tree u) (sym at), ap (λ w. deep-Tree w) is)

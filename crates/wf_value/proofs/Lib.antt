@@ -1,5 +1,4 @@
 pub mod Order
-pub mod Laws
 pub mod Depths
 pub mod Measured
 pub mod Seeks

@@ -20,7 +20,7 @@ use Rattle.wf_yaml.specs.BlockScalars.{block_scalar, block_lines, header_fault, 
 use Rattle.wf_yaml.specs.Blocks.{behind_fault, scalar, Reading, compact, item_content, list_entry, list_entries, pair_value, stray, pair_faults, pair_entry, map_entry, with_key, map_entries, list_of_entries, block_list, map_of_entries, block_map, node_at, line_alone, value_line, key_line, other_line, deep_line, deep, node}
 use Rattle.wf_yaml.specs.Cuts.{entries_of, heads}
 use Rattle.wf_yaml.specs.Reading.{no_delay, document, reading_of, reading}
-use Rattle.wf_yaml.specs.Rows.{Row, rows, counting, has_tab, behind_start, before_mark, no_mark, no_lone_return}
+use Rattle.wf_yaml.specs.Rows.{Row, counting, has_tab, behind_start, before_mark, no_mark, no_lone_return}
 use Rattle.wf_yaml.specs.Starts.{is_item, starts_block, starts_scalar, has_tab_gap}
 
 given_is : {A B : Type 0} (f : A → B) (P : A → Type 0) (R : B → Type 0) (r : Result A Fault) → ((a : A) → P a → R (f a)) → IfOk r P → IfOk (given f r) R
@@ -139,7 +139,3 @@ reading_of_is rs =
 pub depth_given : (r : Result Node YamlFault) (read : Result Tree Fault) → Gives plain_tree r read → IfOk read (λ t. depth t ≤ 100) → IfOk r (λ t. depth (plain_tree t) ≤ 100)
 depth_given (Ok t) read is all = subst (λ q. IfOk q (λ u. depth u ≤ 100)) is all
 depth_given (Err e) read is all = tt
-
-pub reading_is_shallow : (source : List ℕ) → IfOk (reading source) (λ t. depth t ≤ 100)
-unfolding reading
-reading_is_shallow source = reading_of_is (rows source)

@@ -115,10 +115,6 @@ pub resume_stops : (n d : ℕ) (fs : List Frame) (g : Fault) → resume n d fs (
 resume_stops n d [] g = refl
 resume_stops n d (f ∷ fs) g = ap (complete n d f) (resume_stops n (suc d) fs g) ∙ complete_stops n d f g
 
-pub resume_noting : (n d : ℕ) (fs : List Frame) (q : Result (Unit {0}) Fault) (x : Seen Tree) → resume n d fs (noting q x) ≡ noting q (resume n d fs x)
-resume_noting n d [] q x = refl
-resume_noting n d (f ∷ fs) q x = ap (complete n d f) (resume_noting n (suc d) fs q x) ∙ complete_noting n d f q (resume n (suc d) fs x)
-
 pub resume_more : (n d : ℕ) (fs : List Frame) (f : Frame) (x : Seen Tree) → resume n d (fs ++ f ∷ []) x ≡ resume n d fs (complete n (d + length fs) f x)
 resume_more n d [] f x = ap (λ k. complete n k f x) (plus_none d) where
   plus_none : (k : ℕ) → k ≡ k + 0

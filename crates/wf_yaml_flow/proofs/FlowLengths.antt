@@ -1,6 +1,6 @@
 -- What the parts of a flow collection leave behind is no longer than what they were read from.
 use Rattle.std.proofs.Common.{◌≡◌, ℕ, zero, suc, ◌<◌, ◌≤◌, List, [], ◌∷◌, length, drop, Bool, true, false, cond, not, ◌&&◌, ◌||◌, ◌==◌, Option, Some, None, refl, arith, length-drop}
-use Rattle.wf_yaml_line.specs.Marks.{starts, is_empty, behind_first, skip, is_blank, is_quote, is_flow_mark, skip_blanks, trimmed, ends_word, hash, colon, single_quote, double_quote, backslash}
+use Rattle.wf_yaml_line.specs.Marks.{starts, behind_first, skip, is_blank, is_quote, is_flow_mark, skip_blanks, trimmed, ends_word, hash, colon, single_quote, double_quote, backslash}
 use Rattle.wf_yaml_line.specs.Quoted.{Quoted, single, double, quoted, escape, escape_tail, with_escape, with_char}
 use Rattle.wf_yaml_flow.specs.Flow.{flow_blanks, Word, no_word, word, quoted_word, expression_word, plain_word, starts_expression, may_start_flow, flow_word, behind_colon, is_property, behind_property, one_more, expression_length, plain_part}
 
@@ -21,10 +21,6 @@ first_short (b ∷ r) = omega arith
 pub first_shorter : (p : ℕ → Bool) (s : List ℕ) → starts p s ≡ true → suc (length (behind_first s)) ≡ length s
 first_shorter p [] h = absurd (cc)
 first_shorter p (b ∷ r) h = refl
-
-pub filled_shorter : (s : List ℕ) → is_empty s ≡ false → suc (length (behind_first s)) ≡ length s
-filled_shorter [] h = absurd (cc)
-filled_shorter (b ∷ r) h = refl
 
 pub blanks_short : (s : List ℕ) → length (flow_blanks s) ≤ length s
 blanks_short s = chosen (λ (t : List ℕ). length t ≤ length s) (starts is_blank s && starts (λ b. b == hash) (skip_blanks s)) [] (skip_blanks s) (omega arith) (skip_short is_blank s)

@@ -1,5 +1,5 @@
 -- The whole walk over a flow collection.
-use Rattle.std.proofs.Common.{◌≡◌, ℕ, suc, ◌+◌, ◌*◌, List, [], ◌∷◌, ◌++◌, length, Bool, true, ◌==◌, Option, Some, None, option_to_list, Result, Ok, Err, refl, sym, ap, ◌∙◌, arith}
+use Rattle.std.proofs.Common.{◌≡◌, ℕ, suc, ◌+◌, List, [], ◌∷◌, ◌++◌, length, Bool, true, ◌==◌, Option, Some, None, option_to_list, Ok, Err, refl, sym, ap, ◌∙◌, arith}
 use Rattle.std.proofs.Math.Nat.{add-zero}
 use Rattle.wf_yaml_line.specs.declared.fault.Fault.{Fault}
 use Rattle.wf_yaml_line.specs.Fault.{both, kept, noted, first_of_two}
@@ -10,7 +10,7 @@ use Rattle.wf_yaml_line.specs.Views.{so_far}
 use Rattle.wf_yaml_flow.specs.Flow.{Seen, goes, stops, stopped, flow}
 use Rattle.wf_yaml_flow.specs.declared.places.Frame.{Frame}
 use Rattle.wf_yaml_flow.specs.declared.places.Place.{Place}
-use Rattle.wf_yaml_flow.specs.FlowWalk.{inner, noting, complete, resume, here, whole, turned_to, opened}
+use Rattle.wf_yaml_flow.specs.FlowWalk.{inner, noting, complete, resume, here, whole, turned_to}
 use Rattle.wf_yaml_flow.proofs.FlowBounds.{flow_inner}
 use Rattle.wf_yaml_flow.proofs.FlowJoins.{noting_nothing, noting_turn, resume_stops, resume_more}
 
@@ -32,10 +32,6 @@ stops_there n d fs (Some g) r e = resume_stops n d fs (first_of_two g (record { 
 noting_kept : (f : Option Fault) (t : Tree) (s : List ℕ) → noting (noted f) (goes (Ok t) s) ≡ goes (so_far t f) s
 noting_kept None t s = refl
 noting_kept (Some g) t s = refl
-
-pub ends_there : (n d : ℕ) (fs : List Frame) (f : Option Fault) (t : Tree) (s : List ℕ) (r : Result Tree Fault) → fs ≡ [] → r ≡ so_far t f
-    → goes r s ≡ resume n d fs (noting (noted f) (goes (Ok t) s))
-ends_there n d fs f t s r e er = ap (λ q. goes q s) er ∙ sym (noting_kept f t s) ∙ sym (ap (λ gs. resume n d gs (noting (noted f) (goes (Ok t) s))) e)
 
 pub goes_on : (n d : ℕ) (fs gs : List Frame) (g : Frame) (f : Option Fault) (t u : Tree) (s : List ℕ) (x : Seen Tree) → fs ≡ gs ++ g ∷ [] → so_far u f ≡ so_far t f
     → noting (noted f) x ≡ complete n (d + length gs) g (goes (so_far u f) s) → resume n d gs (noting (noted f) x) ≡ resume n d fs (noting (noted f) (goes (Ok t) s))
@@ -65,13 +61,3 @@ reads_on n d fs gs o f g h p x e ef ex =
     ap (λ hs. whole n d hs h p) e
     ∙ under n d fs o h p
     ∙ ap (resume n d fs) (noting_turn n (d + length fs) o f g h p ef ∙ ap (noting (noted f)) ex)
-
-more_length : (fs : List Frame) (o : Option Frame) → 2 * length (fs ++ option_to_list o) ≡ 2 * length fs + opened o
-more_length [] None = refl
-more_length [] (Some f) = refl
-more_length (g ∷ fs) o = two_more (length (fs ++ option_to_list o)) (length fs) (opened o) (more_length fs o) where
-  two_more : (k l m : ℕ) → 2 * k ≡ 2 * l + m → 2 * suc k ≡ 2 * suc l + m
-  two_more k l m e = omega (arith, e)
-
-pub frames_length : (fs gs : List Frame) (o : Option Frame) → gs ≡ fs ++ option_to_list o → 2 * length gs ≡ 2 * length fs + opened o
-frames_length fs gs o e = ap (λ hs. 2 * length hs) e ∙ more_length fs o

@@ -65,8 +65,6 @@ seen_as_is f P R (goes (Err g) rest) h p = tt
 seen_as_is f P R (stops g) h p = tt
 
 -- ## Scalars
-pub flat : (d : ℕ) (t : Tree) → depth t ≡ 0 → IsShallow d t
-flat d t is = omega (arith, is)
 
 plain_is : (d : ℕ) (k : Plain) (delay : Bool) (n : ℕ) (s : List ℕ) → IfOk (plain_tree_by k delay n s) (IsShallow d)
 plain_is d kind.Null delay n s = omega arith

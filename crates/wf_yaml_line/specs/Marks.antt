@@ -25,9 +25,6 @@ colon = 58
 abbrev pub comma : ℕ
 comma = 44
 
-abbrev pub question : ℕ
-question = 63
-
 abbrev pub single_quote : ℕ
 single_quote = 39
 
@@ -118,10 +115,6 @@ behind_first (b ∷ r) = r
 abbrev pub skip : (ℕ → Bool) → List ℕ → List ℕ
 skip p [] = []
 skip p (b ∷ r) = cond (p b) (skip p r) (b ∷ r)
-
-abbrev pub front : (ℕ → Bool) → List ℕ → List ℕ
-front p [] = []
-front p (b ∷ r) = cond (p b) (b ∷ front p r) []
 
 abbrev pub skip_blanks : List ℕ → List ℕ
 skip_blanks s = skip is_blank s
