@@ -83,14 +83,14 @@ module _ (old mid new : State) (reading : ℕ) (t : Taken) (e : Event) (es : Lis
   lighter : TakenWeighsNothing → ∥ Sound old.config ∥₁ → weigh mid.config.tasks ≤ weigh old.config.tasks
   lighter law sound = ∥∥₁_elim sound (λ x y. le_prop x y) (λ s. law old.program old.config mid.config e s (subst IsFromOutside (sym b.is) tt) b.leads)
 
-  begins : e ∷ es ≡ turn_of old.program old.config reading (Some (Answer t.call reading (reply_view t.reply)))
+  begins : e ∷ es ≡ turn_of old.program old.config reading (Some (Answer t.call reading (reply_view t.reply.value)))
   begins =
-      let a : Event = Answer t.call reading (reply_view t.reply) in
+      let a : Event = Answer t.call reading (reply_view t.reply.value) in
       let leads : next old.program old.config a ≡ To mid.config = ap (λ x. next old.program old.config x) (sym b.is) ∙ b.leads in
       ap (λ x. x ∷ es) b.is ∙ ap (λ l. a ∷ l) (c.turn ∙ ap (λ p. chosen 4095 p (To mid.config) reading) b.program ∙ ap (λ x. chosen 4095 old.program x reading) (sym leads))
 
   -- it comes first
-  pub then_chosen : TakenWeighsNothing → old.config.outcome ≡ Active → ∥ Sound old.config ∥₁ → IsTurn old new reading (Some (Answer t.call reading (reply_view t.reply))) (e ∷ es)
+  pub then_chosen : TakenWeighsNothing → old.config.outcome ≡ Active → ∥ Sound old.config ∥₁ → IsTurn old new reading (Some (Answer t.call reading (reply_view t.reply.value))) (e ∷ es)
   then_chosen law active sound =
       let come : mid.config.last ≤ reading = omega (arith, b.last) in
       let none : counts e ≡ 0 = ap counts b.is in
@@ -127,8 +127,8 @@ turn_alone old new reading taken before all le none first behind =
 
 -- behind what was taken
 pub turn_behind : TakenWeighsNothing → (old mid new : State) (reading : ℕ) (t : Taken) (e : Event) (before all : List Event) → IsBrought old mid reading t e → old.config.outcome ≡ Active → ∥ Sound old.config ∥₁ → before ≡ e ∷ [] → Behind mid new reading before all
-    → IsTurn old new reading (Some (Answer t.call reading (reply_view t.reply))) all
+    → IsTurn old new reading (Some (Answer t.call reading (reply_view t.reply.value))) all
 turn_behind law old mid new reading t e before all b active sound first behind =
     let from : Behind mid new reading (e ∷ []) all = subst (λ l. Behind mid new reading l all) first behind in
     let (es, is, chosen) = from in
-    subst (λ l. IsTurn old new reading (Some (Answer t.call reading (reply_view t.reply))) l) (sym is) (then_chosen old mid new reading t e es b chosen law active sound)
+    subst (λ l. IsTurn old new reading (Some (Answer t.call reading (reply_view t.reply.value))) l) (sym is) (then_chosen old mid new reading t e es b chosen law active sound)

@@ -11,7 +11,7 @@ use Rattle.wf_value.specs.Events.{Event, Answer}
 -- at a reading of the clock
 abbrev pub taken_event : ℕ → Option Taken → Option Event
 taken_event r None = None
-taken_event r (Some t) = Some (Answer t.call r (reply_view t.reply))
+taken_event r (Some t) = Some (Answer t.call r (reply_view t.reply.value))
 
 pub record IsTakable (c : Config) (t : Taken) : Type 0 where
   pub active : c.outcome ≡ Active

@@ -71,7 +71,7 @@ pub record IsTurn (old new : State) (reading : ℕ) (taken : Option Event) (es :
 
 -- what was taken is brought by this event, from one state of a machine to another
 pub record IsBrought (old new : State) (reading : ℕ) (t : Taken) (e : Event) : Type 0 where
-  pub is : e ≡ Answer t.call reading (reply_view t.reply)
+  pub is : e ≡ Answer t.call reading (reply_view t.reply.value)
   pub leads : next old.program old.config e ≡ To new.config
   pub moves : new.config.moves ≡ old.config.moves
   pub most : new.config.moves ≤ 100000

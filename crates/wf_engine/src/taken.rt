@@ -9,8 +9,8 @@ use wf_record_parts::Reply;
 #[derive(Drop)]
 pub struct Taken {
     pub(crate) call: u64,
-    pub(crate) reply: Reply,
-    ghost fits: { FitsRecords (reply_view reply) } by { FitsRecords-prop _ },
+    pub(crate) reply: Box<Reply>,
+    ghost fits: { FitsRecords (reply_view reply.value) } by { FitsRecords-prop _ },
 }
 
 impl Taken {
@@ -22,7 +22,7 @@ impl Taken {
 
     /// The event that brings it, at a reading of the clock in milliseconds since 1970.
     pub(crate) fn event(self, reading: u64) -> Event
-        ensures event { event_view result ≡ Answer self.call reading (reply_view self.reply) }
+        ensures event { event_view result ≡ Answer self.call reading (reply_view self.reply.value) }
         ensures old { IsOld (event_view result) }
         ensures short { length (event_bytes (event_view result)) ≤ longest_taken }
     {

@@ -60,7 +60,10 @@ impl Engine {
             return Ok(None);
         }
         match self.connections.answer(self.alloc, call)? {
-            Some(reply) => Ok(Some(Taken { call, reply })),
+            Some(reply) => {
+                let reply = Box::new(self.alloc, reply)?;
+                Ok(Some(Taken { call, reply }))
+            }
             None => Ok(None),
         }
     }

@@ -18,9 +18,9 @@ event_view (event.Move b) = plain.Event.Move b
 event_view (event.MoveAt b t) = plain.Event.MoveAt b t
 event_view (event.Begin b) = plain.Event.Begin b
 event_view (event.Issue b t) = plain.Event.Issue b t
-event_view (event.Answer k t a) = plain.Event.Answer k t (reply_view a)
+event_view (event.Answer k t a) = plain.Event.Answer k t (reply_view a.value)
 event_view (event.Due b t) = plain.Event.Due b t
-event_view (event.Arrive n t r) = plain.Event.Arrive n t (plain_visitor r)
+event_view (event.Arrive n t r) = plain.Event.Arrive n t (plain_visitor r.value)
 
 abbrev pub event_list : Events → List Event
 event_list es = es.items.items

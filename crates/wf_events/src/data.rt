@@ -9,7 +9,8 @@ use wf_record_parts::Reply;
 use wf_value::{Bytes, OutOfMemory, Pairs, Text};
 
 /// An atomic step of an execution: one change of its configuration. Tasks, calls and endpoints have
-/// numbers; `main` is task 0. A reading is the clock's, in milliseconds since 1970.
+/// numbers; `main` is task 0. A reading is the clock's, in milliseconds since 1970. Replies and visitors are rare, so they stand in boxes:
+/// what every event takes stays small.
 #[derive(Drop)]
 pub enum Event {
     /// A move of this task, which reads no clock.
@@ -21,11 +22,11 @@ pub enum Event {
     /// This task issues a call, at this reading.
     Issue(u32, u64),
     /// This call is answered, at this reading and with this reply.
-    Answer(u64, u64, Reply),
+    Answer(u64, u64, Box<Reply>),
     /// The moment for which this task waits has come, at this reading.
     Due(u32, u64),
     /// A request came to this endpoint, at this reading.
-    Arrive(u64, u64, Visitor),
+    Arrive(u64, u64, Box<Visitor>),
 }
 
 /// Events in the order in which they came.

@@ -106,7 +106,10 @@ fn answer(reader: &mut Reader<'_>, alloc: Global) -> Result<Event, ReadFault>
 {
     let call = reader.u64()?;
     let reading = reader.u64()?;
-    Ok(Event::Answer(call, reading, reader.reply(alloc)?))
+    let Ok(reply) = Box::new(alloc, reader.reply(alloc)?) else {
+        return Err(ReadFault::OutOfMemory);
+    };
+    Ok(Event::Answer(call, reading, reply))
 }
 
 /// The arrival of a request, behind its code.
@@ -117,7 +120,10 @@ fn arrival(reader: &mut Reader<'_>, alloc: Global) -> Result<Event, ReadFault>
 {
     let endpoint = reader.u64()?;
     let reading = reader.u64()?;
-    Ok(Event::Arrive(endpoint, reading, reader.visitor(alloc)?))
+    let Ok(visitor) = Box::new(alloc, reader.visitor(alloc)?) else {
+        return Err(ReadFault::OutOfMemory);
+    };
+    Ok(Event::Arrive(endpoint, reading, visitor))
 }
 
 #[tactic(auto, unfolding(crate::specs::Reading::event_at))]

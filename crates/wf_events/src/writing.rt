@@ -66,8 +66,7 @@ fn write_start(writer: &mut Writer, start: &Start) -> Result<(), OutOfMemory>
 fn write_task(writer: &mut Writer, code: u8, task: u32) -> Result<(), OutOfMemory>
     ensures { OnOk result (writer.new ≡ writer.old ++ code ∷ four task) }
 {
-    writer.byte(code)?;
-    writer.u32(task)
+    writer.coded(code, task)
 }
 
 /// An event's code, its task and its reading.

@@ -67,6 +67,16 @@ impl Writer {
         Ok(())
     }
 
+    /// A byte and a number of 32 bits, its highest byte first.
+    #[inline(always)]
+    pub fn coded(&mut self, code: u8, number: u32) -> Result<(), OutOfMemory>
+        ensures { OnOk result (self.new ≡ self.old ++ code ∷ spelling.four number) }
+    {
+        let [a, b, c, d] = number.to_be_bytes();
+        self.bytes.extend_from_slice(&[code, a, b, c, d])?;
+        Ok(())
+    }
+
     /// A number of 64 bits, its highest byte first.
     pub fn u64(&mut self, number: u64) -> Result<(), OutOfMemory>
         ensures { OnOk result (self.new ≡ self.old ++ spelling.eight number) }

@@ -14,7 +14,7 @@ pub unreachable-requires : goal.unreachable-requires
 unreachable-requires g c =
     let s = state_of c.args.machine.now in
     let t = c.args.taken in
-    let (d, leads) = answer_leads s c.answers_lead.ensures c.requires.takable.active t.call c.args.reading (reply_view t.reply) c.requires.takable.opened c.requires.last in
+    let (d, leads) = answer_leads s c.answers_lead.ensures c.requires.takable.active t.call c.args.reading (reply_view t.reply.value) c.requires.takable.opened c.requires.last in
     c.in-Err-NotEnabled.ensures.not_enabled (ap Err c.in-Err-NotEnabled.field-0-is) d (ap (λ e. next s.program s.config e) c.event-event.ensures.event ∙ leads)
 
 pub returns-in-Ok-clause-brought : goal.returns-in-Ok-clause-brought
