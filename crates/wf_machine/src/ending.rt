@@ -1,8 +1,9 @@
 // How an execution has ended.
-ghost use Rattle.std.specs.Prelude.{◌≡◌, ◌≤◌, IfOk, OnOk};
+ghost use Rattle.std.specs.Prelude.{◌≡◌, ◌≤◌, IfOk, IfSome, OnOk, false, unwrap_or};
 ghost use Rattle.wf_machine.specs.Entries.{entries_of};
 ghost use Rattle.wf_machine.specs.Main.{calls_behind, log_behind, logged_depth, outcome_at, outcome_behind};
 ghost use Rattle.wf_machine.specs.State.{is_running, outcome_by};
+ghost use Rattle.wf_machine.specs.declared.ending.Ending.TheVariants.{Running};
 
 use crate::log::Log;
 use wf_calls::Calls;
@@ -47,7 +48,8 @@ impl Ending {
 
 /// How an execution has ended with `main`.
 fn ending_by(end: End) -> Ending
-    ensures { outcome_by result ≡ outcome_at end }
+    ensures outcome { outcome_by result ≡ outcome_at end }
+    ensures ended { is_running result ≡ false }
 {
     match end {
         End::Value(value) => Ending::Returned(value),
@@ -55,33 +57,34 @@ fn ending_by(end: End) -> Ending
     }
 }
 
-/// How an execution stands behind what `main` has done at a reading. A request that was made is one more call, and a value that was logged
-/// one more entry.
+/// How an execution has ended behind what `main` has done at a reading; none where it goes on. A request that was made is one more call, and a
+/// value that was logged one more entry.
 #[inline(always)]
 pub(crate) fn ending_of(
     did: Move,
     reading: u64,
     calls: &mut Calls,
     log: &mut Log,
-) -> Result<Ending, OutOfMemory>
+) -> Result<Option<Ending>, OutOfMemory>
     requires shallow { logged_depth did ≤ 100 }
-    ensures outcome { IfOk result (λ e. outcome_by e ≡ outcome_behind did) }
+    ensures outcome { IfOk result (λ e. outcome_by (unwrap_or e Running) ≡ outcome_behind did) }
+    ensures ended { IfOk result (λ e. IfSome e (λ e. is_running e ≡ false)) }
     ensures calls { OnOk result (calls.new ≡ calls_behind did calls.old) }
     ensures log { OnOk result (entries_of log.new ≡ log_behind reading did (entries_of log.old)) }
 {
     match did {
-        Move::Went => Ok(Ending::Running),
-        Move::Ended(end) => Ok(ending_by(end)),
+        Move::Went => Ok(None),
+        Move::Ended(end) => Ok(Some(ending_by(end))),
         Move::Sent(sent) => {
             let sent = Box::into_inner(sent);
             calls.send(0, sent.request, sent.due)?;
-            Ok(Ending::Running)
+            Ok(None)
         }
         Move::Logged(logged, behind) => {
             log.add(Box::into_inner(logged), reading)?;
             match behind {
-                Behind::Goes => Ok(Ending::Running),
-                Behind::Ended(end) => Ok(ending_by(end)),
+                Behind::Goes => Ok(None),
+                Behind::Ended(end) => Ok(Some(ending_by(end))),
             }
         }
     }

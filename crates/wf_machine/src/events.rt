@@ -102,6 +102,11 @@ impl Machine {
         laws_of_waiting();
         let last = reading.max(self.tally.last);
         match self.wanted_kind() {
+            // what most steps want
+            Some(Kind::Plain) => {
+                count(self.take_step(Kind::Plain, last), steps)?;
+                Ok(Some(Event::Move(0)))
+            }
             Some(kind) => {
                 count(self.take_step(kind, last), steps)?;
                 Ok(Some(step_event(kind, last)))

@@ -148,12 +148,12 @@ impl Machine {
             &mut self.calls,
             cause,
         )?;
-        let ending = ending_of(did, tally.last, &mut self.calls, &mut self.log)?;
+        let ended = ending_of(did, tally.last, &mut self.calls, &mut self.log)?;
         self.broken = false;
         self.tally = tally;
-        self.ending = ending;
-        if self.ending.is_running() {
-            self.task = Some(task);
+        match ended {
+            None => self.task = Some(task),
+            Some(ending) => self.ending = ending,
         }
         Ok(())
     }
