@@ -44,6 +44,14 @@ module _ (n : ℕ) (ls : List Layer) (x : Text) where
       by None e h = cc
       by (Some l) e h = holder_here n ls l x v e h ∙ ap Some (number_found n ls l e)
 
+  -- where none has it, the layer hasn't
+  pub held_nowhere : holder_in x (chain n ls) ≡ None → value_at x (vars_at n ls) ≡ None
+  held_nowhere none = by (value_at x (vars_at n ls)) refl
+    where
+      by : (o : Option Data) → value_at x (vars_at n ls) ≡ o → o ≡ None
+      by None e = refl
+      by (Some v) e = let both : Some n ≡ None = sym (holder_held v e) ∙ none in cc both
+
   -- that of a layer outside it, or none's
   pub holder_outside : (o : ℕ) (l : Layer) → all_stand ls ls ≡ true → find n ls ≡ Some l → l.outer ≡ Some o → value_at x (vars_at n ls) ≡ None → holder_in x (chain n ls) ≡ holder_in x (chain o ls)
   holder_outside o l stand here out at =

@@ -231,13 +231,16 @@ impl Scopes {
         ensures { option_map (λ v. plain v.now) result
             ≡ look_in name.now (chain number (layers_of self.now)) }
     {
-        let layer = &self.layers[self.place(number)];
-        match layer.vars.get(name) {
-            Some(value) => Some(value),
-            None => match layer.outer {
-                Some(outer) => self.look_from(outer, name),
-                None => None,
-            },
+        let mut here = number;
+        loop {
+            let layer = &self.layers[self.place(here)];
+            if let Some(value) = layer.vars.get(name) {
+                return Some(value);
+            }
+            match layer.outer {
+                Some(outer) => here = outer,
+                None => return None,
+            }
         }
     }
 
@@ -277,17 +280,19 @@ impl Scopes {
         ensures value { option_map (λ v. plain v.now) result.1
             ≡ value_at name.now (vars_at result.0.number (layers_of self.now)) }
     {
-        let (spot, value) = self.spot(number, name);
-        match value {
-            Some(value) => (spot, Some(value)),
-            None => match self.layers[spot.layer].outer {
-                Some(outer) => match self.target(outer, name) {
-                    (outside, Some(value)) => (outside, Some(value)),
-                    (_, None) => (spot, None),
-                },
-                None => (spot, None),
-            },
+        let mut here = number;
+        loop {
+            let (spot, value) = self.spot(here, name);
+            if let Some(value) = value {
+                return (spot, Some(value));
+            }
+            match self.layers[spot.layer].outer {
+                Some(outer) => here = outer,
+                None => break,
+            }
         }
+        let (spot, _) = self.spot(number, name);
+        (spot, None)
     }
 
     /// The total once the variable has the value.

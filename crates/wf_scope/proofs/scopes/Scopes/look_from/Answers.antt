@@ -1,0 +1,37 @@
+use Rattle.std.proofs.Common.{◌<◌, sym, ◌∙◌, arith}
+use Rattle.wf_scope.specs.Layers.{chain, depth_in, find}
+use Rattle.wf_scope.proofs.Numbers.{layer_at}
+use Rattle.wf_scope.proofs.Seen.{chain_last, chain_outer, look_here, look_past, outer_live}
+use Rattle.wf_scope.proofs.scopes.Scopes.look_from.Goals as goal
+
+pub loop-value-smaller : goal.loop-value-smaller
+loop-value-smaller c =
+    let ls = c.args.self.now.layers.items in
+    let here = layer_at c.loop-value.here ls c.place.result c.index-layer.result.now c.place.ensures.within c.index-layer.ensures c.place.ensures.found in
+    let less : depth_in (find c.in-Some-outer.outer ls) < depth_in (find c.loop-value.here ls) = (outer_live c.loop-value.here c.in-Some-outer.outer ls c.index-layer.result.now c.args.self.now.standing here c.in-Some-outer.is).1 in
+    omega (arith, less)
+
+pub loop-value-preserved : goal.loop-value-preserved
+loop-value-preserved c =
+    let ls = c.args.self.now.layers.items in
+    let l = c.index-layer.result.now in
+    let o = c.in-Some-outer.outer in
+    let here = layer_at c.loop-value.here ls c.place.result l c.place.ensures.within c.index-layer.ensures c.place.ensures.found in
+    let seen = chain_outer c.loop-value.here o ls l c.args.self.now.standing here c.in-Some-outer.is in
+    record {
+      live = (outer_live c.loop-value.here o ls l c.args.self.now.standing here c.in-Some-outer.is).0;
+      same = c.loop-value.invariant.same ∙ look_past (chain c.loop-value.here ls) (chain o ls) l c.args.name.now seen (sym c.in_default.ensures.value);
+    }
+
+pub returns-in-Some : goal.returns-in-Some
+returns-in-Some c =
+    let ls = c.args.self.now.layers.items in
+    let here = layer_at c.loop-value.here ls c.place.result c.index-layer.result.now c.place.ensures.within c.index-layer.ensures c.place.ensures.found in
+    sym (c.loop-value.invariant.same ∙ look_here c.loop-value.here ls c.index-layer.result.now c.args.name.now _ here (sym c.in-Some.ensures.value))
+
+pub returns-in-None : goal.returns-in-None
+returns-in-None c =
+    let ls = c.args.self.now.layers.items in
+    let here = layer_at c.loop-value.here ls c.place.result c.index-layer.result.now c.place.ensures.within c.index-layer.ensures c.place.ensures.found in
+    let seen = chain_last c.loop-value.here ls c.index-layer.result.now here c.in-None.is in
+    sym (c.loop-value.invariant.same ∙ look_past (chain c.loop-value.here ls) _ c.index-layer.result.now c.args.name.now seen (sym c.in_default.ensures.value))
