@@ -1,4 +1,5 @@
 pub mod Binding
+pub mod Hints
 pub mod Kept
 pub mod Live
 pub mod Numbers

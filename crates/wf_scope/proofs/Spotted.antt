@@ -1,22 +1,30 @@
 -- Where a variable of a layer stands.
-use Rattle.std.proofs.Common.{◌≡◌, ℕ, true, List, [], Ok, Err, Option, Some, None, get_or, refl, sym, ap, ◌∙◌}
+use Rattle.std.proofs.Common.{◌≡◌, HoldsAt, Equal, ℕ, true, List, [], Ok, Err, Option, Some, None, get_or, refl, sym, ap, ◌∙◌}
 use Rattle.std.specs.Prelude.{slice_get}
-use Rattle.std.proofs.lemmas.Option.{get_or_from_slice_get, slice_get-get_or}
+use Rattle.std.proofs.lemmas.Cmp.{nat_list_cmp_total, tied_itself}
+use Rattle.std.proofs.lemmas.Option.{get_or_from_slice_get, slice_get-get_or, slice_get_within}
+use Rattle.wf_value.proofs.Searches.{found}
 use Rattle.wf_value.proofs.Seeks.{found_value, found_within, missing_value}
 use Rattle.wf_value.specs.Data.{Data, null}
-use Rattle.wf_value.specs.Maps.{IsInOrder, place_of, value_at}
+use Rattle.wf_value.specs.Maps.{IsInOrder, key_cmp, place_of, value_at}
 use Rattle.wf_value.specs.Pairs.{Text}
 use Rattle.wf_scope.specs.Layers.{all_stand, chain, find, holder_in, vars_at, vars_in}
 use Rattle.wf_scope.specs.Spots.{IsSpot}
 use Rattle.wf_scope.specs.declared.layer.Layer.{Layer}
 use Rattle.wf_scope.specs.declared.scopes.Spot.{Spot}
-use Rattle.wf_scope.proofs.Numbers.{layer_at, number_found}
+use Rattle.wf_scope.proofs.Numbers.{number_found}
 use Rattle.wf_scope.proofs.Seen.{chain_last, chain_outer, holder_here, holder_past, vars_found}
 
 module _ (x : Text) (vs : List (Text × Data)) (i : ℕ) where
   -- the pair at the place where it was found
   pub value_there : (k : Text) (v : Data) → Ok i ≡ place_of x vs → Some (k, v) ≡ slice_get vs i → Some v ≡ value_at x vs
   value_there k v h at = sym (found_value vs x i (k, v) h ∙ ap (λ p. Some p.1) (get_or_from_slice_get vs i (k, v) (k, v) (sym at)))
+
+  -- the key at a place that was tried
+  pub tried_there : (k : Text) (v : Data) → IsInOrder vs → k ≡ x → Some (k, v) ≡ slice_get vs i → Ok i ≡ place_of x vs
+  tried_there k v order same at =
+      let there : HoldsAt (λ p. key_cmp p.0 x ≡ Equal) vs i = λ d. ap (λ (p : Text × Data). key_cmp p.0 x) (get_or_from_slice_get vs i (k, v) d (sym at)) ∙ ap (λ (t : Text). key_cmp t x) same ∙ tied_itself nat_list_cmp_total x in
+      sym (found x vs i order (slice_get_within vs i (k, v) (sym at)) there)
 
   -- one stands there
   pub stands_there : Ok i ≡ place_of x vs → None ≡ slice_get vs i → None ≡ value_at x vs
@@ -26,10 +34,6 @@ module _ (x : Text) (vs : List (Text × Data)) (i : ℕ) where
   nothing_there order h = sym (missing_value vs x i order h)
 
 -- ## In a store
--- its layer
-pub spot_layer : (s : Spot) (x : Text) (ls : List Layer) (n : ℕ) (l : Layer) → IsSpot s x ls → s.number ≡ n → l ≡ get_or ls s.layer l → find n ls ≡ Some l
-spot_layer s x ls n l is same at = layer_at n ls s.layer l is.within at (is.layer ∙ ap (λ (m : ℕ). find m ls) same)
-
 -- its place among the variables of the layer that stands there
 pub spot_pair : (s : Spot) (x : Text) (ls : List Layer) → IsSpot s x ls → (l : Layer) → slice_get ls s.layer ≡ Some l → s.pair ≡ place_of x l.vars
 spot_pair s x ls is l at = is.pair ∙ ap (place_of x) (vars_found s.number ls l (sym is.layer ∙ at))

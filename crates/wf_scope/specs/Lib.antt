@@ -1,5 +1,6 @@
 pub mod Changes
 pub mod Faults
+pub mod Firsts
 pub mod Layers
 pub mod Places
 pub mod Spots

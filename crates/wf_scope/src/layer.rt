@@ -1,5 +1,5 @@
 // A layer of variables.
-ghost use Rattle.std.specs.Prelude.{◌≡◌, is_ok, if◌then◌else◌, option_map};
+ghost use Rattle.std.specs.Prelude.{◌≡◌, None, is_ok, if◌then◌else◌, option_map};
 ghost use Rattle.wf_scope.specs.Layers.{with_variable};
 ghost use Rattle.wf_value.specs.Maps.{IsInOrder, place_of, value_at};
 ghost use Rattle.wf_value.specs.Plain.{plain};
@@ -16,13 +16,46 @@ pub(crate) struct Layer {
 }
 
 impl Layer {
-    /// Where the variable of this name stands, and its value; where it isn't there, its place is where it belongs.
+    /// The value of a variable. The hint is 0 only where no variable's name is of the same class.
     #[inline(always)]
-    pub(crate) fn find(&self, name: &str) -> (Result<usize, usize>, Option<&Value>)
+    pub(crate) fn look(&self, hint: u8, name: &str) -> Option<&Value>
+        requires order { IsInOrder self.now.vars }
+        requires hint { hint ≡ 0 → value_at name.now self.now.vars ≡ None }
+        ensures { option_map (λ v. plain v.now) result ≡ value_at name.now self.now.vars }
+    {
+        if hint == 0 {
+            return None;
+        }
+        let (_, value) = self.find(hint, name);
+        value
+    }
+
+    /// Where the variable of this name stands, and its value; where it isn't there, its place is where it belongs. The place below the hint
+    /// is tried first.
+    #[inline(always)]
+    pub(crate) fn find(&self, hint: u8, name: &str) -> (Result<usize, usize>, Option<&Value>)
+        requires { IsInOrder self.now.vars }
         ensures place { result.0 ≡ place_of name.now self.now.vars }
         ensures value { option_map (λ v. plain v.now) result.1
             ≡ value_at name.now self.now.vars }
-        ensures order { IsInOrder self.now.vars }
+    {
+        if hint > 0 {
+            let guess = (hint - 1) as usize;
+            if let Some((key, value)) = self.vars.entry(guess) {
+                if key == name {
+                    return (Ok(guess), Some(value));
+                }
+            }
+        }
+        self.search(name)
+    }
+
+    /// The same, wherever it stands.
+    #[inline(always)]
+    fn search(&self, name: &str) -> (Result<usize, usize>, Option<&Value>)
+        ensures place { result.0 ≡ place_of name.now self.now.vars }
+        ensures value { option_map (λ v. plain v.now) result.1
+            ≡ value_at name.now self.now.vars }
     {
         let place = self.vars.place(name);
         match place {

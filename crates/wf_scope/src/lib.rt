@@ -7,6 +7,7 @@
 #![tactic(auto)]
 
 mod fault;
+mod firsts;
 mod key;
 mod layer;
 mod scopes;

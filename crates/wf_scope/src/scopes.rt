@@ -4,10 +4,12 @@ ghost use Rattle.wf_value.specs.Data.{size};
 ghost use Rattle.wf_value.specs.Maps.{place_of, value_at};
 ghost use Rattle.wf_value.specs.Plain.{plain};
 ghost use Rattle.wf_scope.specs.Layers.{IsInnermost, IsLive, StayInnermost, StayLive, all_stand, chain, closed, depth_in, find, fresh, holder_in, look_in, opened, put_at, put_place, rises, stands, total_of, vars_at};
+ghost use Rattle.wf_scope.specs.Firsts.{AllCover, AllCover-prop, HasNone};
 ghost use Rattle.wf_scope.specs.Spots.{IsSpot};
 ghost use Rattle.wf_scope.specs.declared.layer.Layer as declared;
 
 use crate::fault::AssignFault;
+use crate::firsts::{Firsts, class_of};
 use crate::key::Key;
 use crate::layer::Layer;
 use crate::written::written;
@@ -39,11 +41,14 @@ pub struct Scopes {
     alloc: Global,
     limit: u64,
     layers: Vec<Layer>,
+    firsts: Vec<Firsts>,
     total: u64,
     ghost counted: { total ≡ total_of layers.items },
     ghost room: { total ≤ 18446744073709551613 },
     ghost rising: { rises layers.items ≡ true },
     ghost standing: { all_stand layers.items layers.items ≡ true },
+    ghost paired: { length firsts.items ≡ length layers.items },
+    ghost covering: { AllCover firsts.items layers.items } by { AllCover-prop _ _ },
 }
 
 /// Where a variable of a layer stands, or where it belongs.
@@ -73,6 +78,7 @@ impl Scopes {
             alloc,
             limit,
             layers: Vec::new(alloc),
+            firsts: Vec::new(alloc),
             total: 0,
         })
     }
@@ -137,6 +143,7 @@ impl Scopes {
     {
         let place = self.place(c.number);
         let layer = self.layers.remove(place);
+        self.firsts.remove(place);
         self.total -= layer.vars.size() - 2;
     }
 
@@ -226,15 +233,28 @@ impl Scopes {
         }
     }
 
+    /// 0 only where the layer at a place has no variable whose name is of this class; else where to look first.
+    #[inline(always)]
+    fn hint(&self, layer: usize, class: usize) -> u8
+        requires layer { layer < length (layers_of self.now) }
+        requires class { class < 32 }
+        ensures { (l : declared.Layer) → slice_get (layers_of self.now) layer ≡ Some l
+            → result ≡ 0 → HasNone class l.vars }
+    {
+        self.firsts[layer].hints[class]
+    }
+
     fn look_from(&self, number: u64, name: &str) -> Option<&Value>
         requires { IsLive number (layers_of self.now) }
         ensures { option_map (λ v. plain v.now) result
             ≡ look_in name.now (chain number (layers_of self.now)) }
     {
+        let class = class_of(name);
         let mut here = number;
         loop {
-            let layer = &self.layers[self.place(here)];
-            if let Some(value) = layer.vars.get(name) {
+            let place = self.place(here);
+            let layer = &self.layers[place];
+            if let Some(value) = layer.look(self.hint(place, class), name) {
                 return Some(value);
             }
             match layer.outer {
@@ -253,15 +273,28 @@ impl Scopes {
         ensures value { option_map (λ v. plain v.now) result.1
             ≡ value_at name.now (vars_at number (layers_of self.now)) }
     {
-        let place = self.place(number);
-        let (pair, value) = self.layers[place].find(name);
+        let layer = self.place(number);
+        self.spot_at(number, layer, self.hint(layer, class_of(name)), name)
+    }
+
+    /// The same in the layer at a place.
+    #[inline(always)]
+    fn spot_at(&self, number: u64, layer: usize, hint: u8, name: &str) -> (Spot, Option<&Value>)
+        requires within { layer < length (layers_of self.now) }
+        requires found { slice_get (layers_of self.now) layer ≡ find number (layers_of self.now) }
+        ensures number { result.0.number ≡ number }
+        ensures spot { IsSpot result.0 name.now (layers_of self.now) }
+        ensures value { option_map (λ v. plain v.now) result.1
+            ≡ value_at name.now (vars_at number (layers_of self.now)) }
+    {
+        let (pair, value) = self.layers[layer].find(hint, name);
         let counted = match value {
             Some(value) => size_of_variable(name, value),
             None => 0,
         };
         let spot = Spot {
             number,
-            layer: place,
+            layer,
             pair,
             counted,
         };
@@ -280,13 +313,18 @@ impl Scopes {
         ensures value { option_map (λ v. plain v.now) result.1
             ≡ value_at name.now (vars_at result.0.number (layers_of self.now)) }
     {
+        let class = class_of(name);
         let mut here = number;
         loop {
-            let (spot, value) = self.spot(here, name);
-            if let Some(value) = value {
-                return (spot, Some(value));
+            let place = self.place(here);
+            let hint = self.hint(place, class);
+            if hint > 0 {
+                let (spot, value) = self.spot_at(here, place, hint, name);
+                if let Some(value) = value {
+                    return (spot, Some(value));
+                }
             }
-            match self.layers[spot.layer].outer {
+            match self.layers[place].outer {
                 Some(outer) => here = outer,
                 None => break,
             }
@@ -332,6 +370,7 @@ impl Scopes {
         }
         match put(&mut self.layers, spot.layer, spot.pair, name, v) {
             Ok(()) => {
+                self.firsts[spot.layer].put(class_of(name.as_str()), spot.pair);
                 self.total = total;
                 Ok(())
             }
@@ -373,7 +412,11 @@ impl Scopes {
             depth,
             vars,
         };
-        self.layers.push(layer)?;
+        self.firsts.push(Firsts::none())?;
+        let Ok(()) = self.layers.push(layer) else {
+            self.firsts.pop();
+            return Err(OutOfMemory);
+        };
         Ok(Chain { number })
     }
 }

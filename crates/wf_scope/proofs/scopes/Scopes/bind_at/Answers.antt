@@ -1,8 +1,12 @@
-use Rattle.std.proofs.Common.{Ok, sym, ap, ◌∙◌, arith}
+use Rattle.std.proofs.Common.{◌<◌, Ok, length, refl, sym, ap, subst, ◌∙◌, arith}
+use Rattle.std.proofs.lemmas.List.{length-set}
+use Rattle.std.specs.Prelude.{slice_index, slice_set}
 use Rattle.wf_value.specs.Plain.{plain}
+use Rattle.wf_scope.specs.Firsts.{class_of}
 use Rattle.wf_scope.specs.Layers.{total_of}
 use Rattle.wf_scope.proofs.Binding.{fits}
-use Rattle.wf_scope.proofs.Kept.{put_kept}
+use Rattle.wf_scope.proofs.Hints.{cover_place, cover_same}
+use Rattle.wf_scope.proofs.Kept.{put_kept, put_length}
 use Rattle.wf_scope.proofs.Spotted.{spot_pair}
 use Rattle.wf_scope.proofs.Live.{bound_apart, bound_stay}
 use Rattle.wf_scope.proofs.scopes.Scopes.bind_at.Goals as goal
@@ -19,6 +23,12 @@ invariant_of-self c =
       room = omega arith;
       rising = kept.1;
       standing = kept.2;
+      paired = length-set s.firsts.items c.args.spot.layer c.put-in-Ok.new.self ∙ s.paired ∙ sym (ap (λ ys. length ys) c.in-Ok.ensures ∙ put_length c.args.spot.layer c.args.name.now (plain c.args.v) s.layers.items);
+      covering =
+          let within = c.requires.spot.within in
+          cover_same _ (slice_set s.firsts.items c.args.spot.layer c.put-in-Ok.new.self) _ c.put.new.layers.items refl c.in-Ok.ensures
+          (cover_place s.firsts.items s.layers.items c.args.spot.layer c.index_mut.result.now c.put-in-Ok.new.self c.args.name.now (plain c.args.v) s.covering (omega (arith, s.paired, within)) within c.index_mut.ensures.value c.put-in-Ok.ensures.others
+          (subst (λ n. 0 < slice_index c.put-in-Ok.new.self.hints n) (c.class_of.ensures.class ∙ ap class_of c.as_str.ensures) c.put-in-Ok.ensures.there));
     }
 
 pub returns-in-Ok-clause-outcome : goal.returns-in-Ok-clause-outcome

@@ -1,5 +1,6 @@
 use Rattle.std.proofs.Common.{◌≡◌, sym, ap, ◌∙◌, arith}
 use Rattle.wf_scope.specs.Layers.{all_stand, closed, rises, total_of}
+use Rattle.wf_scope.proofs.Hints.{cover_remove, cover_same}
 use Rattle.wf_scope.proofs.Kept.{all_stand_closed, removed, rises_closed}
 use Rattle.wf_scope.proofs.Numbers.{layer_at, number_found}
 use Rattle.wf_scope.proofs.Totals.{ended}
@@ -25,6 +26,9 @@ invariant_of-self c =
       room = omega (arith, s.room, end.1);
       rising = ap rises gone ∙ rises_closed n ls s.rising;
       standing = ap (λ ys. all_stand ys ys) gone ∙ all_stand_closed n ls c.requires.innermost s.standing;
+      paired = omega (arith, s.paired, c.remove.ensures.len, c.remove-layer.ensures.len);
+      covering = cover_same _ c.remove.new.self.items _ c.remove-layer.new.self.items c.remove.ensures.items c.remove-layer.ensures.items
+          (cover_remove s.firsts.items ls c.place-place.result s.covering (omega (arith, s.paired, c.place-place.ensures.within)) c.place-place.ensures.within);
     }
 
 pub returns-clause-closed : goal.returns-clause-closed

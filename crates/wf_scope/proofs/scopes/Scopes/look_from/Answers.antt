@@ -1,13 +1,26 @@
-use Rattle.std.proofs.Common.{◌<◌, sym, ◌∙◌, arith}
+use Rattle.std.proofs.Common.{◌<◌, length, refl, sym, ◌∙◌, arith}
+use Rattle.std.proofs.lemmas.Option.{slice_get_read}
 use Rattle.wf_scope.specs.Layers.{chain, depth_in, find}
+use Rattle.wf_scope.proofs.Hints.{order_at}
 use Rattle.wf_scope.proofs.Numbers.{layer_at}
 use Rattle.wf_scope.proofs.Seen.{chain_last, chain_outer, look_here, look_past, outer_live}
 use Rattle.wf_scope.proofs.scopes.Scopes.look_from.Goals as goal
 
+pub look-requires-clause-order : goal.look-requires-clause-order
+look-requires-clause-order c =
+    let s = c.args.self.now in
+    order_at s.firsts.items s.layers.items c.place-place.result c.index-layer.result.now s.covering s.paired c.place-place.ensures.within c.index-layer.ensures
+
+pub look-requires-clause-hint : goal.look-requires-clause-hint
+look-requires-clause-hint c =
+    let ls = c.args.self.now.layers.items in
+    let l = c.index-layer.result.now in
+    λ none. c.hint.ensures l (slice_get_read ls (length ls) c.place-place.result l refl c.place-place.ensures.within c.index-layer.ensures) none c.args.name.now c.class_of-class.ensures.class
+
 pub loop-value-smaller : goal.loop-value-smaller
 loop-value-smaller c =
     let ls = c.args.self.now.layers.items in
-    let here = layer_at c.loop-value.here ls c.place.result c.index-layer.result.now c.place.ensures.within c.index-layer.ensures c.place.ensures.found in
+    let here = layer_at c.loop-value.here ls c.place-place.result c.index-layer.result.now c.place-place.ensures.within c.index-layer.ensures c.place-place.ensures.found in
     let less : depth_in (find c.in-Some-outer.outer ls) < depth_in (find c.loop-value.here ls) = (outer_live c.loop-value.here c.in-Some-outer.outer ls c.index-layer.result.now c.args.self.now.standing here c.in-Some-outer.is).1 in
     omega (arith, less)
 
@@ -16,22 +29,22 @@ loop-value-preserved c =
     let ls = c.args.self.now.layers.items in
     let l = c.index-layer.result.now in
     let o = c.in-Some-outer.outer in
-    let here = layer_at c.loop-value.here ls c.place.result l c.place.ensures.within c.index-layer.ensures c.place.ensures.found in
+    let here = layer_at c.loop-value.here ls c.place-place.result l c.place-place.ensures.within c.index-layer.ensures c.place-place.ensures.found in
     let seen = chain_outer c.loop-value.here o ls l c.args.self.now.standing here c.in-Some-outer.is in
     record {
       live = (outer_live c.loop-value.here o ls l c.args.self.now.standing here c.in-Some-outer.is).0;
-      same = c.loop-value.invariant.same ∙ look_past (chain c.loop-value.here ls) (chain o ls) l c.args.name.now seen (sym c.in_default.ensures.value);
+      same = c.loop-value.invariant.same ∙ look_past (chain c.loop-value.here ls) (chain o ls) l c.args.name.now seen (sym c.in_default.ensures);
     }
 
 pub returns-in-Some : goal.returns-in-Some
 returns-in-Some c =
     let ls = c.args.self.now.layers.items in
-    let here = layer_at c.loop-value.here ls c.place.result c.index-layer.result.now c.place.ensures.within c.index-layer.ensures c.place.ensures.found in
-    sym (c.loop-value.invariant.same ∙ look_here c.loop-value.here ls c.index-layer.result.now c.args.name.now _ here (sym c.in-Some.ensures.value))
+    let here = layer_at c.loop-value.here ls c.place-place.result c.index-layer.result.now c.place-place.ensures.within c.index-layer.ensures c.place-place.ensures.found in
+    sym (c.loop-value.invariant.same ∙ look_here c.loop-value.here ls c.index-layer.result.now c.args.name.now _ here (sym c.in-Some.ensures))
 
 pub returns-in-None : goal.returns-in-None
 returns-in-None c =
     let ls = c.args.self.now.layers.items in
-    let here = layer_at c.loop-value.here ls c.place.result c.index-layer.result.now c.place.ensures.within c.index-layer.ensures c.place.ensures.found in
+    let here = layer_at c.loop-value.here ls c.place-place.result c.index-layer.result.now c.place-place.ensures.within c.index-layer.ensures c.place-place.ensures.found in
     let seen = chain_last c.loop-value.here ls c.index-layer.result.now here c.in-None.is in
-    sym (c.loop-value.invariant.same ∙ look_past (chain c.loop-value.here ls) _ c.index-layer.result.now c.args.name.now seen (sym c.in_default.ensures.value))
+    sym (c.loop-value.invariant.same ∙ look_past (chain c.loop-value.here ls) _ c.index-layer.result.now c.args.name.now seen (sym c.in_default.ensures))
