@@ -1,5 +1,5 @@
 // The pairs of a map, in the order of their keys.
-ghost use Rattle.std.specs.Prelude.{◌≡◌, Err, IfOk, None, Ok, Some, is_ok, length, if◌then◌else◌};
+ghost use Rattle.std.specs.Prelude.{◌≡◌, Err, IfOk, None, Ok, Some, is_ok, length, slice_get, if◌then◌else◌};
 ghost use Rattle.std.specs.List.Sorted.{IsSearchInRange};
 ghost use Rattle.std.specs.Option.{option_copied};
 ghost use Rattle.std_collections.specs.Layout.BTreeMap.{seek};
@@ -214,11 +214,12 @@ pub(crate) fn seek(pairs: &[(Text, Value)], key: &str) -> Result<usize, usize>
     ensures place { result ≡ seek (key_cmp key.now) pairs.now }
     ensures within { IsSearchInRange result (length pairs.now) }
 {
+    let first = key.as_bytes().first().copied();
     let mut low = 0;
     let mut high = pairs.len();
     while low < high {
         let middle = low + (high - low) / 2;
-        match order(pairs[middle].0.as_str(), key) {
+        match order(pairs[middle].0.as_str(), key, first) {
             Ordering::Less => low = middle + 1,
             Ordering::Greater => high = middle,
             Ordering::Equal => return Ok(middle),
@@ -227,21 +228,26 @@ pub(crate) fn seek(pairs: &[(Text, Value)], key: &str) -> Result<usize, usize>
     Err(low)
 }
 
-/// The order of two keys. Most are settled by their first bytes, which `cmp` doesn't look at first.
-fn order(a: &str, b: &str) -> Ordering
+/// The order of two keys, the second with its first byte. Most are settled by their first bytes, which `cmp` doesn't look at first.
+#[inline(always)]
+fn order(a: &str, b: &str, first: Option<u8>) -> Ordering
+    requires { first ≡ slice_get b.now 0 }
     ensures { result ≡ key_cmp a.now b.now }
 {
-    let (x, y) = (a.as_bytes(), b.as_bytes());
-    if x.is_empty() || y.is_empty() {
+    let x = a.as_bytes();
+    let Some(y) = first else {
+        return a.cmp(b);
+    };
+    if x.is_empty() {
         return a.cmp(b);
     }
-    if x[0] < y[0] {
+    if x[0] < y {
         return Ordering::Less;
     }
-    if x[0] > y[0] {
+    if x[0] > y {
         return Ordering::Greater;
     }
-    if x.len() == 1 && y.len() == 1 {
+    if x.len() == 1 && b.len() == 1 {
         return Ordering::Equal;
     }
     a.cmp(b)
