@@ -1,5 +1,5 @@
 // A layer of variables.
-ghost use Rattle.std.specs.Prelude.{◌≡◌, None, is_ok, if◌then◌else◌, option_map};
+ghost use Rattle.std.specs.Prelude.{◌≡◌, ◌≢◌, MatchBool, None, is_ok, if◌then◌else◌, option_map};
 ghost use Rattle.wf_scope.specs.Layers.{with_variable};
 ghost use Rattle.wf_value.specs.Maps.{IsInOrder, place_of, value_at};
 ghost use Rattle.wf_value.specs.Plain.{plain};
@@ -42,7 +42,7 @@ impl Layer {
         if hint > 0 {
             let guess = (hint - 1) as usize;
             if let Some((key, value)) = self.vars.entry(guess) {
-                if key == name {
+                if is_same(key, name) {
                     return (Ok(guess), Some(value));
                 }
             }
@@ -51,7 +51,7 @@ impl Layer {
     }
 
     /// The same, wherever it stands.
-    #[inline(always)]
+    #[inline(never)]
     fn search(&self, name: &str) -> (Result<usize, usize>, Option<&Value>)
         ensures place { result.0 ≡ place_of name.now self.now.vars }
         ensures value { option_map (λ v. plain v.now) result.1
@@ -82,4 +82,16 @@ impl Layer {
         self.vars.put_at(place, name, value)?;
         Ok(())
     }
+}
+
+/// Whether two names are the same. Those of one byte are compared here, without a call.
+#[inline(always)]
+fn is_same(a: &str, b: &str) -> bool
+    ensures { MatchBool result (a.now ≡ b.now) (a.now ≢ b.now) }
+{
+    let (x, y) = (a.as_bytes(), b.as_bytes());
+    if x.len() == 1 && y.len() == 1 {
+        return x[0] == y[0];
+    }
+    a == b
 }
