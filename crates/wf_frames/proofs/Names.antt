@@ -5,7 +5,8 @@ use Rattle.std.proofs.lemmas.Bool.{and_parts, eq-eqb, ne_eqb}
 use Rattle.wf_frames.proofs.Stores.{OwnStay, KeysStay, Stays, keys_same, keys_stand_same, own_same, own_stand_same}
 use Rattle.wf_frames.proofs.Owning.{innermost_own}
 use Rattle.wf_frames.proofs.Sums.{SumIs, sum_more, total_so}
-use Rattle.wf_frames.specs.Frames.{innermost, own, owned}
+use Rattle.wf_frames.specs.Frames.{own, owned}
+use Rattle.wf_frames.specs.Innermost.{innermost}
 use Rattle.wf_frames.specs.Held.{Held, standing}
 use Rattle.wf_frames.specs.Owned.{AreAlone, Around, IsInside, IsLinked, KeysStand, Linked, OnlyInside, OwnStand, first_key, held_of, next_own, outer_for}
 use Rattle.wf_frames.specs.Turns.{Enters, bound_all, names_of}

@@ -4,7 +4,8 @@ use Rattle.std.specs.Prelude.{drop, reverse}
 use Rattle.wf_lemmas.proofs.Lists.{reverse_push}
 use Rattle.wf_frames.proofs.Stores.{Closes, closes, order_closed}
 use Rattle.wf_frames.proofs.Sums.{SumIs, sum_closed}
-use Rattle.wf_frames.specs.Frames.{innermost, is_back, mark_of, own, owned}
+use Rattle.wf_frames.specs.Frames.{is_back, mark_of, own, owned}
+use Rattle.wf_frames.specs.Innermost.{innermost}
 use Rattle.wf_frames.specs.Held.{Held}
 use Rattle.wf_frames.specs.Owned.{Around, IsLinked, Linked, held_of}
 use Rattle.wf_frames.specs.Turns.{Leaves, dropped}

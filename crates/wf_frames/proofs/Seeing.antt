@@ -6,7 +6,8 @@ use Rattle.wf_ast.specs.Apply.{View}
 use Rattle.wf_eval.specs.Sight.{seen}
 use Rattle.wf_frames.proofs.Owning.{innermost_own}
 use Rattle.wf_frames.proofs.Stores.{inside_live}
-use Rattle.wf_frames.specs.Frames.{innermost, owned}
+use Rattle.wf_frames.specs.Frames.{owned}
+use Rattle.wf_frames.specs.Innermost.{innermost}
 use Rattle.wf_frames.specs.Held.{standing}
 use Rattle.wf_frames.specs.Owned.{Around, IsInside, IsLinked, KeysStand, Linked, OwnStand, first_key, held_of, next_own, outer_for}
 use Rattle.wf_frames.specs.Sights.{Sees, names_in, sight_from}

@@ -5,7 +5,8 @@ use Rattle.wf_frames.proofs.Owning.{innermost_own}
 use Rattle.wf_frames.proofs.Seeing.{sight_is}
 use Rattle.wf_frames.proofs.Stores.{inside_live}
 use Rattle.wf_frames.proofs.Sums.{SumIs, found_among, put_head, put_tail, sum_put, target_among, total_so}
-use Rattle.wf_frames.specs.Frames.{innermost, owned}
+use Rattle.wf_frames.specs.Frames.{owned}
+use Rattle.wf_frames.specs.Innermost.{innermost}
 use Rattle.wf_frames.specs.Held.{standing}
 use Rattle.wf_frames.specs.Owned.{AreAlone, Around, IsInside, IsLinked, KeysStand, Linked, OnlyInside, OwnStand, first_key, held_of, next_own, outer_for}
 use Rattle.wf_frames.specs.Turns.{Writes}

@@ -115,11 +115,3 @@ owned first (frame.Mark number ∷ fs) = own number false ∷ owned first fs
 owned first (frame.Back call number ∷ fs) = own number true ∷ owned first fs
 owned first (frame.Judge n tries delay e number ∷ fs) = own number true ∷ owned first fs
 owned first (f ∷ fs) = owned first fs
-
--- the number of the innermost
-abbrev pub innermost : ℕ → List Frame → ℕ
-innermost first [] = first
-innermost first (frame.Mark number ∷ fs) = number
-innermost first (frame.Back call number ∷ fs) = number
-innermost first (frame.Judge n tries delay e number ∷ fs) = number
-innermost first (f ∷ fs) = innermost first fs

@@ -2,6 +2,7 @@ pub mod Bound
 pub mod Fits
 pub mod Frames
 pub mod Held
+pub mod Innermost
 pub mod Keys
 pub mod Owned
 pub mod Sights

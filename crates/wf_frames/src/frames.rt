@@ -1,6 +1,6 @@
 // A task's frames.
-ghost use Rattle.std.specs.Prelude.{◌≡◌, [], ◌∷◌, IfNone, is_ok, option_map, if◌then◌else◌};
-ghost use Rattle.wf_frames.specs.Frames.{calls_of, inner, innermost, popped, topped};
+ghost use Rattle.std.specs.Prelude.{◌≡◌, [], ◌∷◌, IfNone, is_ok, option_map, reverse, if◌then◌else◌};
+ghost use Rattle.wf_frames.specs.Innermost.{innermost};
 
 use std::alloc::Global;
 use wf_scope::Chain;
@@ -68,15 +68,35 @@ impl Frame {
     }
 }
 
+/// The number of the innermost of a task's own layers, looked for among its frames.
+fn innermost(items: &[Frame], first: u64) -> u64
+    ensures { result ≡ innermost first (reverse items.now) }
+{
+    let mut at = items.len();
+    while at > 0 {
+        at -= 1;
+        let frame = &items[at];
+        if let Some(number) = frame.mark() {
+            return number;
+        }
+    }
+    first
+}
+
 /// A task's frames, and the layer around them all.
 #[derive(Drop)]
 pub struct Frames {
     // the innermost at the end
     items: Vec<Frame>,
     first: u64,
+    // the innermost of the own layers
+    layer: u64,
+    ghost layered: { layer ≡ innermost first (reverse items.items) },
 }
 
 impl Frames {
+    ghost use Rattle.wf_frames.specs.Frames.{calls_of, inner, popped, topped};
+
     /// None, inside this layer. It allocates nothing.
     pub fn new(alloc: Global, first: Chain) -> Frames
         ensures none { inner result ≡ [] }
@@ -85,6 +105,7 @@ impl Frames {
         Frames {
             items: Vec::new(alloc),
             first: first.number,
+            layer: first.number,
         }
     }
 
@@ -95,7 +116,9 @@ impl Frames {
             ≡ (if is_ok result then frame ∷ inner self.old else inner self.old) }
         ensures first { self.new.first ≡ self.old.first }
     {
+        let layer = frame.mark().unwrap_or(self.layer);
         self.items.push(frame)?;
+        self.layer = layer;
         Ok(())
     }
 
@@ -106,7 +129,13 @@ impl Frames {
         ensures none { IfNone result (inner self.new ≡ []) }
         ensures first { self.new.first ≡ self.old.first }
     {
-        self.items.pop()
+        let Some(frame) = self.items.pop() else {
+            return None;
+        };
+        if frame.mark().is_some() {
+            self.layer = innermost(self.items.as_slice(), self.first);
+        }
+        Some(frame)
     }
 
     /// The innermost frame.
@@ -131,15 +160,6 @@ impl Frames {
     pub fn layer(&self) -> Chain
         ensures { result.number ≡ innermost self.now.first (inner self.now) }
     {
-        let items = self.items.as_slice();
-        let mut at = items.len();
-        while at > 0 {
-            at -= 1;
-            let frame = &items[at];
-            if let Some(number) = frame.mark() {
-                return Chain { number };
-            }
-        }
-        Chain { number: self.first }
+        Chain { number: self.layer }
     }
 }

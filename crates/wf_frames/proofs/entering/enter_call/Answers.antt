@@ -1,6 +1,7 @@
 use Rattle.std.proofs.Common.{◌≡◌, ◌∷◌, ℕ, true, Some, refl, sym, subst, ◌∙◌, Ok, Err}
 use Rattle.wf_frames.specs.Bound.{bindings_of}
-use Rattle.wf_frames.specs.Frames.{inner, innermost, own}
+use Rattle.wf_frames.specs.Frames.{inner, own}
+use Rattle.wf_frames.specs.Innermost.{innermost}
 use Rattle.wf_frames.specs.Owned.{IsLinked, held_of, own_of}
 use Rattle.wf_frames.specs.Turns.{Enters, bound_all}
 use Rattle.wf_scope.specs.Changes.{Answers}
