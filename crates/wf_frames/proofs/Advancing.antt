@@ -1,16 +1,16 @@
 -- The move of the innermost frame.
-use Rattle.std.proofs.Common.{◌≡◌, ℕ, ◌+◌, ◌<◌, Bool, true, false, List, [], ◌∷◌, length, get_or, Some, refl, sym, ap, subst, ◌∙◌, arith, add-one}
-use Rattle.std.specs.Prelude.{zero, suc, drop}
+use Rattle.std.proofs.Common.{◌≡◌, ℕ, ◌+◌, ◌<◌, Bool, true, false, List, [], ◌∷◌, length, get_or, Some, None, refl, sym, ap, subst, ◌∙◌, arith, add-one}
+use Rattle.std.specs.Prelude.{zero, suc, drop, IfNone, Option}
 use Rattle.wf_ast.specs.Apply.{View}
 use Rattle.wf_ast.specs.Tree.{more}
 use Rattle.wf_frames.specs.Fits.{Fits, entries_at, list_at, outside_at, reach}
-use Rattle.wf_frames.specs.Frames.{body_entries, control}
+use Rattle.wf_frames.specs.Frames.{body_entries, control, popped, topped}
 use Rattle.wf_frames.specs.declared.frames.Frame.{Frame}
 use Rattle.wf_frames.specs.declared.frames.Frame.TheVariants as frame
 use Rattle.wf_model.specs.Config.{Do, Entries}
 use Rattle.wf_model.specs.Move.{assigns, moves}
 use Rattle.wf_frames.proofs.Parts.{below_get, entries_is, list_is, list_stands, stand_get}
-use Rattle.wf_frames.specs.Steps.{CarriesOut, HasStep, Moves}
+use Rattle.wf_frames.specs.Steps.{CarriesOut, HasStep, HasStepOnTop, Moves}
 use Rattle.wf_frames.specs.declared.step.Step.{Step}
 use Rattle.wf_frames.specs.declared.step.Step.TheVariants as step
 use Rattle.wf_model.specs.NodeKinds.{Listed}
@@ -18,6 +18,17 @@ use Rattle.wf_model.specs.Spots.{Spot, part_at, part_body, part_next, part_step,
 use Rattle.wf_model.specs.Table.{Resolves}
 use Rattle.wf_model.specs.declared.node.Node.{Node}
 
+-- ## The innermost frame and those outside it
+pub topped_first : (fs : List Frame) (f : Frame) → topped fs ≡ Some f → fs ≡ f ∷ drop 1 fs
+topped_first [] f e = absurd (cc e)
+topped_first (g ∷ fs) f e = let same : g ≡ f = cc e in ap (λ h. h ∷ fs) same
+
+-- it is taken
+pub taken_first : (fs new : List Frame) (f : Frame) (o : Option Frame) → topped fs ≡ Some f → fs ≡ popped o new → IfNone o (new ≡ []) → fs ≡ f ∷ new
+taken_first fs new f None t e none = let there : None ≡ Some f = sym (ap topped (e ∙ none)) ∙ t in absurd (cc there)
+taken_first fs new f (Some g) t e none = let same : Some g ≡ Some f = sym (ap topped e) ∙ t in let is : g ≡ f = cc same in e ∙ ap (λ h. h ∷ new) is
+
+-- ## Steps
 -- the steps from one that is there
 pub from_next : (ns : List Spot) (xs : List ℕ) (i : ℕ) → i < length xs → from i (steps_by ns xs) ≡ more (part_step (part_at ns (get_or xs i 0))) (from (suc i) (steps_by ns xs))
 from_next ns [] i h = absurd (omega (arith, h))
@@ -71,7 +82,15 @@ same_entries nodes n b d p q = cc (sym p ∙ q)
 pub entry_fits : (ns : List Spot) (nodes : List Node) (n at : ℕ) (b : List ℕ) (fs new : List Frame) → entries_at nodes n ≡ Some b → at < length b → new ≡ frame.Entries n (at + 1) ∷ fs → Fits ns nodes fs → Fits ns nodes new
 entry_fits ns nodes n at b fs new h lt e fits = subst (Fits ns nodes) (sym e) (((b, h, omega (arith, lt)), tt), fits)
 
--- ## The innermost frame
+-- ## What has a step
+pub no_step : (nodes : List Node) (fs : List Frame) → topped fs ≡ None → HasStepOnTop nodes fs → ⊥
+no_step nodes [] e h = h
+no_step nodes (f ∷ fs) e h = absurd (cc e)
+
+pub step_first : (nodes : List Node) (fs : List Frame) (f : Frame) → topped fs ≡ Some f → HasStepOnTop nodes fs → HasStep nodes f
+step_first nodes [] f e h = absurd h
+step_first nodes (g ∷ fs) f e h = let same : g ≡ f = cc e in subst (HasStep nodes) same h
+
 -- a body that stands alone and has a step isn't carried out yet
 pub lone_first : (nodes : List Node) (f : Frame) (n : ℕ) (done : Bool) → HasStep nodes f → f ≡ frame.Lone n done → f ≡ frame.Lone n false
 lone_first nodes f n true h e = let there : HasStep nodes (frame.Lone n true) = subst (HasStep nodes) e h in absurd there

@@ -4,7 +4,7 @@ use Rattle.std.specs.Prelude.{drop, reverse}
 use Rattle.wf_lemmas.proofs.Lists.{reverse_push}
 use Rattle.wf_frames.proofs.Stores.{Closes, closes, order_closed}
 use Rattle.wf_frames.proofs.Sums.{SumIs, sum_closed}
-use Rattle.wf_frames.specs.Frames.{is_back, mark_of, own, owned}
+use Rattle.wf_frames.specs.Frames.{is_back, mark_of, moved_on, own, owned}
 use Rattle.wf_frames.specs.Innermost.{innermost}
 use Rattle.wf_frames.specs.Held.{Held}
 use Rattle.wf_frames.specs.Owned.{Around, IsLinked, Linked, held_of}
@@ -153,3 +153,28 @@ taken xs m n x s h e = ap (λ (k : ℕ). reverse (take k xs)) s ∙ ap reverse (
 -- a frame without a layer that is put on changes no layer
 pub own_pushed : (p q : ℕ) (f : Frame) (old new : List Frame) → q ≡ p → mark_of f ≡ None → new ≡ f ∷ old → owned q new ≡ owned p old
 own_pushed p q f old new same none is = ap (λ (k : ℕ). owned k new) same ∙ ap (owned p) is ∙ owned_other p f old none
+
+-- a frame that goes on changes none either, nor the innermost
+pub owned_on : (first : ℕ) (fs : List Frame) → owned first (moved_on fs) ≡ owned first fs
+owned_on first [] = refl
+owned_on first (frame.Mark m ∷ fs) = refl
+owned_on first (frame.Back c m ∷ fs) = refl
+owned_on first (frame.Judge tried r delay error m ∷ fs) = refl
+owned_on first (frame.Try l r d ∷ fs) = refl
+owned_on first (frame.Do l at ∷ fs) = refl
+owned_on first (frame.Lone l b ∷ fs) = refl
+owned_on first (frame.Entries l at ∷ fs) = refl
+owned_on first (frame.Then l ∷ fs) = refl
+owned_on first (frame.Loop l w i ∷ fs) = refl
+
+pub innermost_on : (first : ℕ) (fs : List Frame) → innermost first (moved_on fs) ≡ innermost first fs
+innermost_on first [] = refl
+innermost_on first (frame.Mark m ∷ fs) = refl
+innermost_on first (frame.Back c m ∷ fs) = refl
+innermost_on first (frame.Judge tried r delay error m ∷ fs) = refl
+innermost_on first (frame.Try l r d ∷ fs) = refl
+innermost_on first (frame.Do l at ∷ fs) = refl
+innermost_on first (frame.Lone l b ∷ fs) = refl
+innermost_on first (frame.Entries l at ∷ fs) = refl
+innermost_on first (frame.Then l ∷ fs) = refl
+innermost_on first (frame.Loop l w i ∷ fs) = refl

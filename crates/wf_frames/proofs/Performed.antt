@@ -35,7 +35,6 @@ use Rattle.wf_model.specs.Leave.{on, jumps}
 use Rattle.wf_model.specs.Local.{Local, Scene, goes}
 use Rattle.wf_model.specs.Move.{assigns, entered, performs, steps_on, chosen, in_arm, arm_items, lone}
 use Rattle.wf_value.specs.Pairs.{Text}
-use Rattle.wf_value.specs.declared.Raise.{Raise}
 
 -- ## Switches
 module _ (ns : List Spot) (v : View) (arms : Arms) (old : List Frame) where

@@ -2,7 +2,7 @@
 --     items          the items of one frame, before those outside it
 --     control        the items
 --     owned          the task's own layers
-use Rattle.std.specs.Prelude.{ℕ, ◌+◌, Bool, true, false, cond, List, [], ◌∷◌, drop, reverse, Some, None, Option, unwrap_or}
+use Rattle.std.specs.Prelude.{ℕ, ◌+◌, ◌<◌, Bool, true, false, cond, List, [], ◌∷◌, drop, reverse, Some, None, Option, unwrap_or}
 use Rattle.wf_ast.specs.Tree.{Body, Entry, InList, LoopBody, Scalar, Steps, TryBody, loop, no_except, no_steps, try, unnamed}
 use Rattle.wf_model.specs.Config.{Item, Do, Entries, Then, Loop, Try, Judge, Mark, Back, Left, OfList, OfRange}
 use Rattle.wf_frames.specs.declared.frames.Frame.{Frame}
@@ -27,6 +27,29 @@ popped (Some f) fs = f ∷ fs
 abbrev pub topped : List Frame → Option Frame
 topped [] = None
 topped (f ∷ fs) = Some f
+
+-- ## Going on
+-- the frame behind the step or the entry at which it stands, or behind its body
+abbrev pub gone_on : Frame → Frame
+gone_on (frame.Do n at) = frame.Do n (at + 1)
+gone_on (frame.Lone n done) = frame.Lone n true
+gone_on (frame.Entries n at) = frame.Entries n (at + 1)
+gone_on f = f
+
+-- the innermost one goes on
+abbrev pub moved_on : List Frame → List Frame
+moved_on [] = []
+moved_on (f ∷ fs) = gone_on f ∷ fs
+
+-- the place behind is a number that a frame can hold
+abbrev pub HasRoom : Frame → Type 0
+HasRoom (frame.Do n at) = at < 18446744073709551615
+HasRoom (frame.Entries n at) = at < 18446744073709551615
+HasRoom f = Unit {0}
+
+abbrev pub HasRoomOnTop : List Frame → Type 0
+HasRoomOnTop [] = Unit {0}
+HasRoomOnTop (f ∷ fs) = HasRoom f
 
 -- ## Items
 abbrev pub left_view : declared.Left → Left

@@ -3,7 +3,7 @@
 --     Performs ..       a body, a step and a frame, by the frames before and behind and what is left to be done
 --     Issues ..         the same where a request is made
 --     IsReady           what is left can be done
-use Rattle.std.specs.Prelude.{◌≡◌, ◌<◌, ◌≤◌, ◌⊎◌, ℕ, Bool, true, false, ◌&&◌, is_none, List, [], length, Some, None, Ok, Option, Result, unwrap_or}
+use Rattle.std.specs.Prelude.{◌≡◌, ◌<◌, ◌≤◌, ◌⊎◌, ℕ, Bool, true, false, ◌&&◌, is_none, List, [], ◌∷◌, length, Some, None, Ok, Option, Result, unwrap_or}
 use Rattle.wf_ast.specs.Accept as model
 use Rattle.wf_ast.specs.Apply.{View}
 use Rattle.wf_ast.specs.Eval.{fill, truth, whole}
@@ -185,6 +185,11 @@ HasStep nodes (frame.Try n tries delay) = ⊥
 HasStep nodes (frame.Mark number) = ⊥
 HasStep nodes (frame.Back call number) = ⊥
 HasStep nodes (frame.Judge n tries delay e number) = ⊥
+
+-- the innermost one is such a frame
+abbrev pub HasStepOnTop : List Node → List Frame → Type 0
+HasStepOnTop nodes [] = ⊥
+HasStepOnTop nodes (f ∷ fs) = HasStep nodes f
 
 -- a move of the task: these frames become those, and this is left to be done
 abbrev pub Moves : List Spot → List Frame → View → List Frame → Step → Type 0

@@ -41,7 +41,7 @@ pub enum Frame {
 }
 
 impl Frame {
-    ghost use Rattle.wf_frames.specs.Frames.{is_back, mark_of};
+    ghost use Rattle.wf_frames.specs.Frames.{HasRoom, gone_on, is_back, mark_of};
 
     /// The number of the layer that ends with it.
     #[inline(always)]
@@ -53,6 +53,21 @@ impl Frame {
             Frame::Judge(_, _, _, _, number) => Some(*number),
             Frame::Do(_, _) | Frame::Lone(_, _) | Frame::Entries(_, _) | Frame::Then(_) => None,
             Frame::Loop(_, _, _) | Frame::Try(_, _, _) => None,
+        }
+    }
+
+    /// It goes on to what is behind its step or its entry, or behind its body.
+    #[inline(always)]
+    fn go_on(&mut self)
+        requires room { HasRoom self.old }
+        ensures on { self.new ≡ gone_on self.old }
+    {
+        match self {
+            Frame::Do(_, at) => *at += 1,
+            Frame::Lone(_, done) => *done = true,
+            Frame::Entries(_, at) => *at += 1,
+            Frame::Then(_) | Frame::Loop(_, _, _) | Frame::Try(_, _, _) => {}
+            Frame::Mark(_) | Frame::Back(_, _) | Frame::Judge(_, _, _, _, _) => {}
         }
     }
 
@@ -95,7 +110,8 @@ pub struct Frames {
 }
 
 impl Frames {
-    ghost use Rattle.wf_frames.specs.Frames.{calls_of, inner, popped, topped};
+    ghost use Rattle.wf_frames.specs.Frames.{HasRoomOnTop, calls_of, inner, moved_on, popped, topped};
+    ghost use Rattle.wf_frames.specs.Owned.{own_of};
 
     /// None, inside this layer. It allocates nothing.
     pub fn new(alloc: Global, first: Chain) -> Frames
@@ -120,6 +136,18 @@ impl Frames {
         self.items.push(frame)?;
         self.layer = layer;
         Ok(())
+    }
+
+    /// The innermost frame goes on to what is behind its step or its entry, or behind its body.
+    #[inline(always)]
+    pub(crate) fn go_on(&mut self)
+        requires room { HasRoomOnTop (inner self.old) }
+        ensures on { inner self.new ≡ moved_on (inner self.old) }
+        ensures own { own_of self.new ≡ own_of self.old }
+    {
+        if let Some(frame) = self.items.last_mut() {
+            frame.go_on();
+        }
     }
 
     /// Takes the innermost frame.

@@ -6,7 +6,6 @@ use Rattle.std.proofs.lemmas.Bool.{leb-true, leb-false}
 use Rattle.wf_lemmas.proofs.Lists.{none_past}
 use Rattle.wf_ast.specs.Flows.{flow}
 use Rattle.wf_ast.specs.Tree.{Flow}
-use Rattle.wf_ast.specs.declared.program.Param as declared
 use Rattle.wf_frames.specs.Fits.{Fits, IsCall, outside_at, view_at, view_outside}
 use Rattle.wf_frames.specs.Held.{Held, standing}
 use Rattle.wf_frames.specs.Turns.{Enters, with_layer}

@@ -15,10 +15,10 @@ use Rattle.wf_model.specs.Config.{Item, Do, Entries}
 use Rattle.wf_model.specs.Local.{Goes, Local, Scene, ended, settle, settled}
 use Rattle.wf_frames.proofs.Lists.{drop_more, entries_long, from_end, from_more}
 use Rattle.wf_frames.proofs.Parts.{entries_is, list_is}
-use Rattle.wf_moves.specs.Moved.{HasMove, IsEnd, IsGoing, IsMove, IsSettled, Settled, is_at_back}
+use Rattle.wf_moves.specs.Moved.{HasMove, IsEnd, IsGoing, IsMove, IsSettled, Settled, is_at_back, is_at_loop}
 use Rattle.wf_moves.specs.declared.finish.End.TheVariants as end
 use Rattle.wf_moves.specs.declared.finish.Went.TheVariants as went
-use Rattle.wf_frames.specs.Steps.{HasStep, IsBefore, IsBeforeEntry}
+use Rattle.wf_frames.specs.Steps.{HasStepOnTop, IsBefore, IsBeforeEntry}
 use Rattle.wf_model.specs.NodeKinds.{Listed}
 use Rattle.wf_model.specs.Spots.{Spot, part_at, part_list, part_body, steps_by, from}
 use Rattle.wf_model.specs.Table.{Resolves}
@@ -148,16 +148,32 @@ going_plain nodes (frame.Mark m) h q = absurd h
 going_plain nodes (frame.Back k m) h q = absurd (cc q)
 going_plain nodes (frame.Judge tried r delay error m) h q = absurd (cc q)
 
-pub going_step : (nodes : List Node) (f : Frame) → HasMove nodes f → is_back f ≡ false → ((n : ℕ) (w : Left) (i : ℕ) → f ≡ frame.Loop n w i → ⊥) → HasStep nodes f
-going_step nodes (frame.Do n at) h q other = h
-going_step nodes (frame.Lone n b) h q other = h
-going_step nodes (frame.Entries n at) h q other = h
-going_step nodes (frame.Then n) h q other = h
-going_step nodes (frame.Loop n w i) h q other = absurd (other n w i refl)
-going_step nodes (frame.Try n r d) h q other = absurd h
-going_step nodes (frame.Mark m) h q other = absurd h
-going_step nodes (frame.Back k m) h q other = absurd (cc q)
-going_step nodes (frame.Judge tried r delay error m) h q other = absurd (cc q)
+pub going_step : (nodes : List Node) (fs : List Frame) → IsGoing nodes fs → is_at_back fs ≡ false → is_at_loop fs ≡ false → HasStepOnTop nodes fs
+going_step nodes [] h q other = h
+going_step nodes (frame.Do n at ∷ fs) h q other = h
+going_step nodes (frame.Lone n b ∷ fs) h q other = h
+going_step nodes (frame.Entries n at ∷ fs) h q other = h
+going_step nodes (frame.Then n ∷ fs) h q other = h
+going_step nodes (frame.Loop n w i ∷ fs) h q other = absurd (cc other)
+going_step nodes (frame.Try n r d ∷ fs) h q other = absurd h
+going_step nodes (frame.Mark m ∷ fs) h q other = absurd h
+going_step nodes (frame.Back k m ∷ fs) h q other = absurd (cc q)
+going_step nodes (frame.Judge tried r delay error m ∷ fs) h q other = absurd (cc q)
+
+-- before a loop's turn the innermost frame is a loop
+loop_first : (f : Frame) (fs : List Frame) → is_at_loop (f ∷ fs) ≡ true → ((n : ℕ) (w : Left) (i : ℕ) → f ≡ frame.Loop n w i → ⊥) → ⊥
+loop_first (frame.Do n at) fs h other = absurd (cc h)
+loop_first (frame.Lone n b) fs h other = absurd (cc h)
+loop_first (frame.Entries n at) fs h other = absurd (cc h)
+loop_first (frame.Then n) fs h other = absurd (cc h)
+loop_first (frame.Loop n w i) fs h other = other n w i refl
+loop_first (frame.Try n r d) fs h other = absurd (cc h)
+loop_first (frame.Mark m) fs h other = absurd (cc h)
+loop_first (frame.Back k m) fs h other = absurd (cc h)
+loop_first (frame.Judge tried r delay error m) fs h other = absurd (cc h)
+
+pub at_loop : (f : Frame) (fs gs : List Frame) → fs ≡ f ∷ gs → is_at_loop fs ≡ true → ((n : ℕ) (w : Left) (i : ℕ) → f ≡ frame.Loop n w i → ⊥) → ⊥
+at_loop f fs gs e h = loop_first f gs (sym (ap is_at_loop e) ∙ h)
 
 -- the task goes on, or has ended
 pub going_there : (nodes : List Node) (f : Frame) (fs : List Frame) → topped fs ≡ Some f → IsSettled nodes fs → IsGoing nodes fs

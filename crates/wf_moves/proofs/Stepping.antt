@@ -5,8 +5,7 @@ use Rattle.wf_ast.specs.Apply.{View}
 use Rattle.wf_ast.specs.Tree.{Body, CallBody, Flow}
 use Rattle.wf_callbacks.specs.declared.method.Method.{Method}
 use Rattle.wf_frames.specs.Frames.{control}
-use Rattle.wf_frames.specs.Held.{standing}
-use Rattle.wf_frames.specs.Owned.{Around, held_of}
+use Rattle.wf_frames.specs.Owned.{Around}
 use Rattle.wf_frames.specs.declared.frames.Frame.{Frame}
 use Rattle.wf_frames.specs.declared.frames.Frame.TheVariants as frame
 use Rattle.wf_frames.specs.declared.frames.Left.{Left}
@@ -22,8 +21,6 @@ use Rattle.wf_moves.specs.Tasks.{IsDone}
 use Rattle.wf_moves.specs.declared.finish.Done.{Done}
 use Rattle.wf_moves.specs.declared.finish.Done.TheVariants as done
 use Rattle.wf_model.specs.Spots.{Spot, part_at, part_body}
-use Rattle.wf_frames.specs.Tasks.{Own}
-use Rattle.wf_scope.specs.declared.layer.Layer.{Layer}
 use Rattle.wf_frames.proofs.Clocked.{flow_clock, function_clock, http_asks, log_clock, nap_reads}
 use Rattle.wf_frames.specs.Built.{IsFunction, IsHttp, IsLog, IsNap, IsWorkflow}
 use Rattle.wf_frames.specs.Steps.{IsNoCall, IsOrBreaks, Issues, Moves, WantsSame, asks, asks_with, calls_by, come}
@@ -142,9 +139,3 @@ back_stepped ns s (frame.Mark k ∷ fs) l h = absurd (cc h)
 
 pub loop_stepped : (ns : List Spot) (s : Scene) (fs gs : List Frame) (n i : ℕ) (w : Left) (l : Local) → fs ≡ frame.Loop n w i ∷ gs → stepped_at s (control ns fs) l ≡ moves s (control ns fs) l
 loop_stepped ns s fs gs n i w l e = ap (λ q. by_kind (next_kind s.program (control ns q)) (issues s (control ns fs) l) (moves s (control ns fs) l)) e
-
--- ## The same frames and layers
-pub stepped_same : (a : Around) (s : Scene) (os ps : List Own) (ls : List Layer) (d : List Item) (fs gs : List Frame) (w : Done) (l : Local) → os ≡ ps → fs ≡ gs
-    → IsDone a s (stepped_at s (control a.spots gs) (standing d (held_of a.keys ps ls))) w l → IsDone a s (stepped_at s (control a.spots fs) (standing d (held_of a.keys os ls))) w l
-stepped_same a s os ps ls d fs gs w l same e m =
-    subst (λ qs. IsDone a s (stepped_at s (control a.spots fs) (standing d (held_of a.keys qs ls))) w l) (sym same) (subst (λ hs. IsDone a s (stepped_at s (control a.spots hs) (standing d (held_of a.keys ps ls))) w l) (sym e) m)

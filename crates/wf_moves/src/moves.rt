@@ -1,14 +1,13 @@
 // The move of the innermost frame.
-ghost use Rattle.std.specs.Prelude.{◌≡◌, ◌∷◌, IfOk, OnOk};
-ghost use Rattle.wf_frames.specs.Fits.{Fits};
-ghost use Rattle.wf_frames.specs.Frames.{control, inner};
-ghost use Rattle.wf_frames.specs.Owned.{Around, IsLinked, control_of, held_by, own_of};
+ghost use Rattle.std.specs.Prelude.{◌≡◌, IfOk, OnOk};
+ghost use Rattle.wf_frames.specs.Frames.{inner};
+ghost use Rattle.wf_frames.specs.Owned.{Around, control_of, held_by};
 ghost use Rattle.wf_frames.specs.Stands.{Stands};
-ghost use Rattle.wf_moves.specs.Moved.{IsGoing, IsLeft, SeesBy, is_at_back};
+ghost use Rattle.wf_moves.specs.Moved.{IsGoing, IsLeft, SeesBy, is_at_back, is_at_loop};
 ghost use Rattle.wf_moves.specs.Stepped.{leads, stepped_at};
 ghost use Rattle.wf_moves.specs.Tasks.{DoesBy, IsLeftSo};
 ghost use Rattle.wf_frames.specs.Built.{AreTargets, Tells};
-ghost use Rattle.wf_frames.specs.Steps.{HasStep, IsNoCall, IsReady, come};
+ghost use Rattle.wf_frames.specs.Steps.{HasStepOnTop, IsNoCall, IsReady, come};
 
 use crate::assign::assign;
 use crate::back::returns;
@@ -95,13 +94,23 @@ fn is_at_back(frames: &Frames) -> bool
     }
 }
 
-/// The move of a task that stands neither at the end of a workflow that was called nor before a loop's turn. Its frame was taken.
+/// Whether the task stands before a loop's turn.
+#[inline(always)]
+fn is_at_loop(frames: &Frames) -> bool
+    ensures { result ≡ is_at_loop (inner frames.now) }
+{
+    match frames.top() {
+        Some(Frame::Loop(_, _, _)) => true,
+        _ => false,
+    }
+}
+
+/// The move of a task that stands neither at the end of a workflow that was called nor before a loop's turn.
 #[inline(always)]
 fn step_on(
     alloc: Global,
     nodes: &[Node],
     targets: &[Target],
-    frame: Frame,
     frames: &mut Frames,
     scopes: &mut Scopes,
     facts: &Facts,
@@ -110,17 +119,16 @@ fn step_on(
     ghost around: { Around }
     requires tells { Tells around.spots nodes.now }
     requires targets { AreTargets around.flows around.spots nodes.now targets.now }
-    requires step { HasStep nodes.now frame }
-    requires fits { Fits around.spots nodes.now (frame ∷ inner frames.old) }
-    requires linked { IsLinked around (own_of frames.old) scopes.old }
+    requires stands { Stands around nodes.now frames.old scopes.old }
+    requires step { HasStepOnTop nodes.now (inner frames.old) }
     ensures moved { IfOk result (λ d. DoesBy around facts.entry.now sending.now
-        (λ s l. stepped_at s (control around.spots (frame ∷ inner frames.old)) l)
+        (λ s l. stepped_at s (control_of around frames.old) l)
         (held_by around frames.old scopes.old) d frames.new scopes.new) }
     ensures stands { OnOk result (Stands around nodes.now frames.new scopes.new) }
     ensures left { IfOk result (λ d. IsLeftSo nodes.now d (inner frames.new)) }
 {
     let look = seen(frames, scopes, facts);
-    let step = step_of(alloc, nodes, frame, frames, &look, facts.now)?;
+    let step = step_of(alloc, nodes, frames, &look, facts.now)?;
     finish_step(alloc, nodes, targets, step, frames, scopes, facts, sending)
 }
 
@@ -149,6 +157,9 @@ pub(crate) fn advance(
     if is_at_back(frames) {
         return Ok(Done::Went(returns(alloc, nodes, frames, scopes, Value::Null)?));
     }
+    if !is_at_loop(frames) {
+        return step_on(alloc, nodes, targets, frames, scopes, facts, sending);
+    }
     let Some(frame) = frames.pop() else {
         unreachable!()
     };
@@ -157,6 +168,6 @@ pub(crate) fn advance(
             let body = loop_node(nodes, n);
             Ok(Done::Went(turn(alloc, nodes, n, body, left, index, frames, scopes)?))
         }
-        frame => step_on(alloc, nodes, targets, frame, frames, scopes, facts, sending),
+        _ => unreachable!(),
     }
 }

@@ -1,5 +1,4 @@
 use Rattle.std.proofs.Common.{◌∷◌, sym, subst, ap, ◌∙◌}
-use Rattle.wf_lemmas.proofs.Results.{with_ok}
 use Rattle.wf_frames.proofs.Owning.{own_pushed}
 use Rattle.wf_frames.specs.Fits.{Fits}
 use Rattle.wf_frames.specs.Frames.{inner}
@@ -8,8 +7,8 @@ use Rattle.wf_moves.proofs.Returning.{moves_back}
 use Rattle.wf_moves.specs.Moved.{IsMove}
 use Rattle.wf_frames.specs.Owned.{IsLinked, beside, local_of, own_of}
 use Rattle.wf_frames.specs.declared.frames.Frame.TheVariants as frame
-use Rattle.wf_moves.proofs.Leaving.{going_has, going_plain, going_step, no_back}
-use Rattle.wf_moves.proofs.Stepping.{back_stepped, loop_stepped, stepped_same}
+use Rattle.wf_moves.proofs.Leaving.{at_loop, going_has, going_plain, going_step, no_back}
+use Rattle.wf_moves.proofs.Stepping.{back_stepped, loop_stepped}
 use Rattle.wf_moves.proofs.Turning.{loop_there, moved_same}
 use Rattle.wf_scope.specs.Store.{layers_of}
 use Rattle.wf_moves.proofs.moves.advance.Goals as goal
@@ -28,14 +27,16 @@ turn-requires g c =
 
 pub step_on-requires : goal.step_on-requires
 step_on-requires g c =
-    let fits = subst (Fits g.around.spots c.args.nodes.now) c.in-Some.ensures.popped c.requires.1.1.0.fits in
-    let has = going_has c.args.nodes.now c.in-Some.frame (inner c.args.frames.now) (inner c.pop.new.self) c.in-Some.ensures.popped c.requires.1.1.1 in
-    let back = no_back c.in-Some.frame (inner c.args.frames.now) (inner c.pop.new.self) c.in-Some.ensures.popped (sym c.is_at_back.ensures ∙ c.if-is_at_back.false) in
-    let own = own_pushed c.pop.new.self.first c.args.frames.now.first c.in-Some.frame (inner c.pop.new.self) (inner c.args.frames.now) (sym c.in-Some.ensures.first) (going_plain c.args.nodes.now c.in-Some.frame has back) c.in-Some.ensures.popped in
-    (c.requires.0, (c.requires.1.0, (going_step c.args.nodes.now c.in-Some.frame has back c.in_default-frame.not-Loop, (fits, subst (λ os. IsLinked g.around os c.args.scopes.now) own c.requires.1.1.0.linked))))
+    let back = sym c.is_at_back.ensures ∙ c.if-is_at_back.false in
+    let loop = sym c.is_at_loop.ensures ∙ c.if-not-is_at_loop.true in
+    (c.requires.0, (c.requires.1.0, (c.requires.1.1.0, going_step c.args.nodes.now (inner c.args.frames.now) c.requires.1.1.1 back loop)))
 
-pub returns-in_ok-turn-in-Loop-clause-moved : goal.returns-in_ok-turn-in-Loop-clause-moved
-returns-in_ok-turn-in-Loop-clause-moved g c s d sees reaches agrees =
+pub unreachable-requires-in_default-frame : goal.unreachable-requires-in_default-frame
+unreachable-requires-in_default-frame g c =
+    at_loop c.in-Some.frame (inner c.args.frames.now) (inner c.pop.new.self) c.in-Some.ensures.popped (sym c.is_at_loop.ensures ∙ c.if-not-is_at_loop.false) c.in_default-frame.not-Loop
+
+pub returns-clause-moved : goal.returns-clause-moved
+returns-clause-moved g c s d sees reaches agrees =
     let has = going_has c.args.nodes.now c.in-Some.frame (inner c.args.frames.now) (inner c.pop.new.self) c.in-Some.ensures.popped c.requires.1.1.1 in
     let own = own_pushed c.pop.new.self.first c.args.frames.now.first c.in-Some.frame (inner c.pop.new.self) (inner c.args.frames.now) (sym c.in-Some.ensures.first) (going_plain c.args.nodes.now c.in-Some.frame has (no_back c.in-Some.frame (inner c.args.frames.now) (inner c.pop.new.self) c.in-Some.ensures.popped (sym c.is_at_back.ensures ∙ c.if-is_at_back.false))) c.in-Some.ensures.popped in
     let fs = c.in-Some.ensures.popped ∙ ap (λ f. f ∷ inner c.pop.new.self) c.in-Loop.is in
@@ -43,14 +44,6 @@ returns-in_ok-turn-in-Loop-clause-moved g c s d sees reaches agrees =
     subst (λ y. IsMove s y c.in_ok-turn-in-Loop.field-0 m) (sym (loop_stepped g.around.spots s (inner c.args.frames.now) (inner c.pop.new.self) c.in-Loop.n c.in-Loop.index c.in-Loop.left (beside d g.around c.args.frames.now c.args.scopes.now) fs))
     (moved_same g.around s (own_of c.args.frames.now) (own_of c.pop.new.self) (layers_of c.args.scopes.now) own d (inner c.args.frames.now) (frame.Loop c.in-Loop.n c.in-Loop.left c.in-Loop.index ∷ inner c.pop.new.self) c.in_ok-turn-in-Loop.field-0 m fs
     (c.in_ok-turn-in-Loop.ensures.moved s d agrees))
-
-pub returns-in_default-frame-clause-moved : goal.returns-in_default-frame-clause-moved
-returns-in_default-frame-clause-moved g c =
-    let has = going_has c.args.nodes.now c.in-Some.frame (inner c.args.frames.now) (inner c.pop.new.self) c.in-Some.ensures.popped c.requires.1.1.1 in
-    let own = own_pushed c.pop.new.self.first c.args.frames.now.first c.in-Some.frame (inner c.pop.new.self) (inner c.args.frames.now) (sym c.in-Some.ensures.first) (going_plain c.args.nodes.now c.in-Some.frame has (no_back c.in-Some.frame (inner c.args.frames.now) (inner c.pop.new.self) c.in-Some.ensures.popped (sym c.is_at_back.ensures ∙ c.if-is_at_back.false))) c.in-Some.ensures.popped in
-    with_ok _ _ c.step_on.result
-    (λ w h s d sees reaches agrees. stepped_same g.around s (own_of c.args.frames.now) (own_of c.pop.new.self) (layers_of c.args.scopes.now) d (inner c.args.frames.now) (c.in-Some.frame ∷ inner c.pop.new.self) w (local_of g.around c.step_on.new.frames c.step_on.new.scopes) own c.in-Some.ensures.popped (h s d sees reaches agrees))
-    c.step_on.ensures.moved
 
 pub returns-then-is_at_back-clause-moved : goal.returns-then-is_at_back-clause-moved
 returns-then-is_at_back-clause-moved g c s d sees reaches agrees =

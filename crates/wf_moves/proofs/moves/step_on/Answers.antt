@@ -1,4 +1,4 @@
-use Rattle.std.proofs.Common.{◌∷◌, subst}
+use Rattle.std.proofs.Common.{subst}
 use Rattle.wf_lemmas.proofs.Results.{with_ok}
 use Rattle.wf_eval.specs.Sight.{seen}
 use Rattle.wf_frames.specs.Frames.{inner}
@@ -19,6 +19,6 @@ returns-clause-moved g c =
     let mid = c.step_of.new.frames in
     with_ok _ _ c.finish_step.result
     (λ w m s d sees reaches agrees.
-    stepped_on g.around (c.args.frame ∷ inner c.args.frames.now) (inner mid) st s (beside d g.around c.args.frames.now c.args.scopes.now) h.same v w (local_of g.around c.finish_step.new.frames c.finish_step.new.scopes) h.moves h.issues (c.seen-look.ensures s sees)
+    stepped_on g.around (inner c.args.frames.now) (inner mid) st s (beside d g.around c.args.frames.now c.args.scopes.now) h.same v w (local_of g.around c.finish_step.new.frames c.finish_step.new.scopes) h.moves h.issues (c.seen-look.ensures s sees)
     (subst (λ os. IsDone g.around s (leads g.around.spots st s (control_of g.around mid) (standing d (held_of g.around.keys os (layers_of c.args.scopes.now)))) w (local_of g.around c.finish_step.new.frames c.finish_step.new.scopes)) h.own (m s d sees reaches agrees)))
     c.finish_step.ensures.moved

@@ -1,4 +1,4 @@
-use Rattle.std.proofs.Common.{◌+◌, ℕ, List, ◌∷◌, Some, false, sym, ap, ◌∙◌, subst, pos}
+use Rattle.std.proofs.Common.{◌+◌, ℕ, List, ◌∷◌, false, sym, ap, ◌∙◌, subst, pos}
 use Rattle.std.specs.Prelude.{Option}
 use Rattle.wf_lemmas.proofs.Results.{with_ok}
 use Rattle.wf_frames.specs.Frames.{control, inner, own}
