@@ -67,6 +67,7 @@ pub fn number(n: Result<i64, NumFault>) -> Result<Value, Raise>
 }
 
 /// An equal value.
+#[inline(always)]
 pub fn copied(alloc: Global, v: &Value) -> Result<Value, Raise>
     ensures { Gives result (Ok (plain v.now)) }
 {

@@ -76,6 +76,7 @@ fn step<K: Look>(
 }
 
 /// The value of a visible name.
+#[inline(always)]
 fn named<K: Look>(alloc: Global, look: &K, name: &str) -> Result<Value, Raise>
     ensures { Gives result (or_error KeyError ((seen (K.sight look.now) 0).look name.now)) }
 {

@@ -37,6 +37,7 @@ pub fn operate(alloc: Global, op: Op, v: &Value, w: &Value) -> Result<Value, Rai
 }
 
 /// `+`
+#[inline(always)]
 fn added(alloc: Global, v: &Value, w: &Value) -> Result<Value, Raise>
     ensures { Gives result (added (plain v.now) (plain w.now)) }
 {

@@ -40,6 +40,7 @@ pub(crate) fn short<K: Look>(
 }
 
 /// What one operand leaves.
+#[inline(always)]
 fn one<K: Look>(alloc: Global, i: &Instr, look: &K) -> Option<Result<Value, Raise>>
     ensures { IfSome result (λ r. (now : ℕ)
         → Leaves r (act (seen (K.sight look.now) now) (instr i.now) alone [])) }
@@ -75,6 +76,7 @@ fn two(alloc: Global, i: &Instr, v: &Value, w: &Value) -> Option<Result<Value, R
 }
 
 /// The value, if it keeps within the limits.
+#[inline(always)]
 fn within(value: Result<Value, Raise>) -> Result<Value, Raise>
     ensures { (d : Answer Data) → Gives value d
         → Leaves result (settled d [] alone) }

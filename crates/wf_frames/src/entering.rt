@@ -16,6 +16,7 @@ use wf_value::{OutOfMemory, Text, Value};
 
 /// A layer of a loop's names begins inside the task's own, and its number is given; none where the variables would pass their limit. The
 /// names are the value's and, if there is one, that of the index, which is at most the greatest whole number.
+#[inline(always)]
 pub fn enter(
     frames: &Frames,
     scopes: &mut Scopes,
@@ -108,6 +109,7 @@ fn refuse(scopes: &mut Scopes, layer: Chain, fault: AssignFault) -> Result<(), O
 }
 
 /// The names of a loop are bound in a layer.
+#[inline(always)]
 fn bind_names(
     scopes: &mut Scopes,
     layer: Chain,

@@ -26,6 +26,7 @@ impl Look for Seen<'_> {
 
     ghost sight = { λ s. sight_from s.scopes.now s.layer.number s.facts.now };
 
+    #[inline(always)]
     fn look(&self, name: &str) -> Option<&Value> {
         self.scopes.look(self.layer, name)
     }

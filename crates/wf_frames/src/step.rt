@@ -125,6 +125,7 @@ fn truth_of(value: &Value) -> Result<bool, Raise>
 }
 
 /// Whether the condition of an arm holds.
+#[inline(always)]
 fn holds<K: Look>(alloc: Global, nodes: &[Node], n: u32, look: &K, now: u64) -> Result<bool, Raise>
     ghost ns: { List Spot }
     requires tells { Tells ns nodes.now }
@@ -142,6 +143,7 @@ fn holds<K: Look>(alloc: Global, nodes: &[Node], n: u32, look: &K, now: u64) -> 
 }
 
 /// The body of the first arm whose condition holds.
+#[inline(always)]
 fn choose<K: Look>(
     alloc: Global,
     nodes: &[Node],
@@ -237,6 +239,7 @@ fn is_idle(node: &Node) -> bool
 }
 
 /// A switch: the body of the arm that is chosen stands alone, if there is anything to do in it.
+#[inline(always)]
 fn switch<K: Look>(
     alloc: Global,
     nodes: &[Node],

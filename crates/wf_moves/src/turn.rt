@@ -25,6 +25,7 @@ use wf_value::{List, OutOfMemory, Tag, Value};
 const INDEX_LIMIT: u64 = 9_223_372_036_854_775_808;
 
 /// The next value that a loop has left, and what is left behind it.
+#[inline(always)]
 fn next_of(alloc: Global, left: Left) -> Result<Option<(Value, Left)>, OutOfMemory>
     ensures { IfOk result (λ o. option_map (λ p. (plain p.0, left_view p.1)) o
         ≡ next_of (left_view left)) }
@@ -49,6 +50,7 @@ fn behind(first: i64, last: i64) -> Left
 }
 
 /// The item of a list, and those behind it.
+#[inline(always)]
 fn next_item(alloc: Global, list: List, at: usize) -> Result<Option<(Value, Left)>, OutOfMemory>
     ensures { IfOk result (λ o. option_map (λ p. (plain p.0, left_view p.1)) o
         ≡ next_of (left_view (left.Items list at))) }
@@ -62,6 +64,7 @@ fn next_item(alloc: Global, list: List, at: usize) -> Result<Option<(Value, Left
 }
 
 /// The loop's next iteration, with this value, and so much left behind it.
+#[inline(always)]
 fn iterate(
     alloc: Global,
     nodes: &[Node],

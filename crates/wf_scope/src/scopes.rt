@@ -244,6 +244,7 @@ impl Scopes {
         self.firsts[layer].hints[class]
     }
 
+    #[inline(always)]
     fn look_from(&self, number: u64, name: &str) -> Option<&Value>
         requires { IsLive number (layers_of self.now) }
         ensures { option_map (λ v. plain v.now) result
@@ -303,6 +304,7 @@ impl Scopes {
 
     /// The variable of this name in the innermost layer that has it, of those that are seen, and its value; where none has it, its spot in
     /// the layer itself.
+    #[inline(always)]
     fn target(&self, number: u64, name: &str) -> (Spot, Option<&Value>)
         requires { IsLive number (layers_of self.now) }
         ensures holder { option_map (λ v. result.0.number) result.1

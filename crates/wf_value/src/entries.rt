@@ -52,6 +52,7 @@ pub(crate) fn insert_pair(
 }
 
 /// The same at the place where the key stands or belongs. The key is shared only where it isn't there.
+#[inline(always)]
 pub(crate) fn put_pair(
     entries: &mut Rc<Entries>,
     place: Result<usize, usize>,
@@ -125,6 +126,7 @@ fn insert_measured(
     }
 }
 
+#[inline(always)]
 fn put_measured(
     entries: &mut Entries,
     place: Result<usize, usize>,
@@ -153,6 +155,7 @@ fn put_measured(
 }
 
 /// Puts the value at the key, which stands at this place, and gives what was there.
+#[inline(always)]
 fn replace_at(entries: &mut Entries, i: usize, key: &str, value: Value) -> Value
     requires place { Ok i ≡ seek (key_cmp key.now) entries.old.pairs.items }
     requires order { IsInOrder entries.old.pairs.items }

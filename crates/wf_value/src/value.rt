@@ -262,6 +262,7 @@ impl Map {
     }
 
     /// The same as `put`, at the key's place.
+    #[inline(always)]
     pub fn put_at(
         &mut self,
         place: Result<usize, usize>,
