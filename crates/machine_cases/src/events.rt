@@ -77,7 +77,12 @@ fn timed_event(
         "move" => Ok(Event::MoveAt(task_of(number)?, reading)),
         "issue" => Ok(Event::Issue(task_of(number)?, reading)),
         "due" => Ok(Event::Due(task_of(number)?, reading)),
-        "arrive" => Ok(Event::Arrive(number_of(number)?, reading, visitor(alloc)?)),
+        "arrive" => {
+            let Ok(visitor) = Box::new(alloc, visitor(alloc)?) else {
+                return Err(CaseFault::OutOfMemory);
+            };
+            Ok(Event::Arrive(number_of(number)?, reading, visitor))
+        }
         _ => Err(CaseFault::NoCase),
     }
 }
@@ -93,7 +98,10 @@ pub fn event_of(alloc: Global, items: &[Value]) -> Result<Event, CaseFault> {
         [reading] => timed_event(alloc, name.as_str(), number, number_of(reading)?),
         [reading, reply] if name.as_str() == "answer" => {
             let (call, reading) = (number_of(number)?, number_of(reading)?);
-            Ok(Event::Answer(call, reading, reply_of(alloc, reply)?))
+            let Ok(reply) = Box::new(alloc, reply_of(alloc, reply)?) else {
+                return Err(CaseFault::OutOfMemory);
+            };
+            Ok(Event::Answer(call, reading, reply))
         }
         _ => Err(CaseFault::NoCase),
     }
