@@ -1,5 +1,5 @@
 -- What is known of the events of a turn, one after another.
-use Rattle.std.specs.Prelude.{◌≡◌, ◌≢◌, ◌⊎◌, ◌≤◌, ◌<◌, ◌+◌, ◌*◌, ◌-◌, false, max, unwrap_or, ℕ, List, [], ◌∷◌, ◌++◌, length, Some, None}
+use Rattle.std.specs.Prelude.{◌≡◌, ◌≢◌, ◌⊎◌, ◌≤◌, ◌<◌, ◌+◌, ◌*◌, ◌-◌, zero, suc, false, max, replicate, unwrap_or, ℕ, List, [], ◌∷◌, ◌++◌, length, Some, None}
 use Rattle.std.specs.List.{AllByRecursion}
 use Rattle.std.proofs.Common.{inl, inr, ⊎_elim, refl, sym, ◌∙◌, ap, subst, arith, append_assoc, length-append}
 use Rattle.std.proofs.lemmas.List.{append-nil}
@@ -14,6 +14,7 @@ use Rattle.wf_engine.specs.Engine.{spent}
 use Rattle.wf_engine.specs.Turn.{AreChosen, Rests}
 use Rattle.wf_events.specs.Spelling.{IsOld}
 use Rattle.wf_machine.specs.Counts.{counts, counts_of}
+use Rattle.wf_machine.specs.Runs.{AppliesMoves, AreMoves}
 use Rattle.wf_machine.specs.State.{State}
 use Rattle.wf_model.specs.ChoiceLaws as choice
 use Rattle.wf_model.specs.ChoiceLaws.{ChoiceTakesTheReading, NothingIsChosenBehindAnOutcome, NothingIsChosenWhenQuiet}
@@ -198,3 +199,31 @@ module _ (first mid : State) (reading : ℕ) (before es : List Event) (g : Gone 
         are_chosen law counts (4096 - length before) first mid reading g.added few sound g.telling (turn_is_full (4096 - length before) first mid reading g.added g.telling.turning all)
             (λ less. let no : ⊥ = omega (arith, all, less) in absurd no),
       )
+
+-- ## Moves that follow one another
+-- a machine that isn't broken
+abbrev stands : Program → Config → State
+stands p c = record { program = p; config = c; broken = false }
+
+pub stands_so : (s : State) (p : Program) → s.program ≡ p → s.broken ≡ false → stands p s.config ≡ s
+stands_so s p is whole = ap (λ q. stands q s.config) (sym is) ∙ ap (λ b. record s { broken = b }) (sym whole)
+
+pub gone_moves : ChoiceTakesTheReading → ChosenIsFromInside → (first : State) (reading : ℕ) (before : List Event) (p : Program) (n : ℕ) (es : List Event) (b d : Config) → Gone first (stands p b) reading before es → length es + n ≤ 4096 → AreMoves reading p n b d
+    → Gone first (stands p d) reading before (es ++ replicate n (Move 0))
+gone_moves law from first reading before p zero es b d g few are =
+    subst (λ c. Gone first (stands p c) reading before (es ++ [])) are (subst (Gone first (stands p b) reading before) (sym (append-nil es)) g)
+gone_moves law from first reading before p (suc n) es b d g few (c, move, rest) =
+    let one : Gone first (stands p c) reading before (es ++ Move 0 ∷ []) =
+    gone_on first (stands p b) reading before es g law from (stands p c) (Move 0) (es ++ Move 0 ∷ []) (omega (arith, few)) move.comes move.leads refl refl (omega arith) move.counted move.most move.last refl in
+    subst (Gone first (stands p d) reading before) (append_assoc es (Move 0 ∷ []) (replicate n (Move 0)))
+    (gone_moves law from first reading before p n (es ++ Move 0 ∷ []) c d one (omega (arith, few, length-append es (Move 0 ∷ []))) rest)
+
+pub gone_together : ChoiceTakesTheReading → ChosenIsFromInside → (first mid new : State) (reading : ℕ) (before es : List Event) (n s t : ℕ) → Gone first mid reading before es → length es + n ≤ 4096 → AppliesMoves mid new reading n s t
+    → Gone first new reading before (es ++ replicate n (Move 0))
+gone_together law from first mid new reading before es n s t g few did =
+    subst (λ x. Gone first x reading before (es ++ replicate n (Move 0))) (stands_so new mid.program did.program did.whole)
+    (gone_moves law from first reading before mid.program n es mid.config new.config (subst (λ x. Gone first x reading before es) (sym (stands_so mid mid.program refl g.telling.turning.whole)) g) few did.moves)
+
+-- where there was none
+pub gone_nowhere : (first new : State) (reading : ℕ) (before es : List Event) (n : ℕ) → Gone first new reading before (es ++ replicate n (Move 0)) → n ≡ 0 → Gone first new reading before es
+gone_nowhere first new reading before es n g none = subst (Gone first new reading before) (ap (λ k. es ++ replicate k (Move 0)) none ∙ append-nil es) g

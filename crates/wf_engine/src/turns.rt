@@ -152,10 +152,16 @@ fn choose_rest<L: Ledger>(
     laws_of_readings();
     is_sound(machine);
     while events.items().len() < MOST_EVENTS {
-        let Some(event) = machine.apply_next(reading, steps)? else {
-            return Ok(events);
-        };
-        events.push(spelled(event))?;
+        let room = MOST_EVENTS - events.items().len();
+        let moves = machine.apply_moves(room, reading, steps)?;
+        if moves > 0 {
+            events.push_moves(moves)?;
+        } else {
+            let Some(event) = machine.apply_next(reading, steps)? else {
+                return Ok(events);
+            };
+            events.push(spelled(event))?;
+        }
     }
     Ok(events)
 }

@@ -1,6 +1,7 @@
 // Records and what they hold.
-ghost use Rattle.std.specs.Prelude.{◌≡◌, [], ◌∷◌, ◌++◌, IfOk, OnOk, OnErr, map};
+ghost use Rattle.std.specs.Prelude.{◌≡◌, [], ◌∷◌, ◌++◌, IfOk, OnOk, OnErr, map, replicate};
 ghost use Rattle.wf_events.specs.View.{event_view, events_view, event_list};
+ghost use Rattle.wf_value.specs.Events.{Move};
 
 use std::alloc::Global;
 use wf_callbacks::Visitor;
@@ -53,6 +54,19 @@ impl Events {
         ensures err { OnErr result (events_view self.new ≡ events_view self.old) }
     {
         self.items.push(event)?;
+        Ok(())
+    }
+
+    /// Adds so many moves of `main` at the end, which read no clock. Without memory the events are only to be let go.
+    #[inline(always)]
+    pub fn push_moves(&mut self, count: usize) -> Result<(), OutOfMemory>
+        ensures { OnOk result (events_view self.new
+            ≡ events_view self.old ++ replicate count (Move 0)) }
+    {
+        self.items.reserve(count)?;
+        for _ in 0..count {
+            self.items.push(Event::Move(0))?;
+        }
         Ok(())
     }
 

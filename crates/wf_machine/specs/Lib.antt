@@ -10,5 +10,6 @@ pub mod Log
 pub mod Main
 pub mod Outcome
 pub mod Promises
+pub mod Runs
 pub mod Seen
 pub mod State

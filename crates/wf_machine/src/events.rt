@@ -1,10 +1,12 @@
 // Events that are applied.
-ghost use Rattle.std.specs.Prelude.{◌≡◌, ◌+◌, false, IfNone, IfOk, IfSome, IsErrOf, OnOk, Ok, option_map};
+ghost use Rattle.std.specs.Prelude.{◌≡◌, ◌≤◌, ◌+◌, true, false, IfNone, IfOk, IfSome, IsErrOf, OnOk, Ok, Some, option_map};
 ghost use Rattle.wf_events.specs.View.{event_view};
 ghost use Rattle.wf_machine.specs.Applied.{Applied};
 ghost use Rattle.wf_machine.specs.Promises.{AppliesAnEvent};
+ghost use Rattle.wf_machine.specs.Runs.{AppliesMoves};
 ghost use Rattle.wf_machine.specs.Seen.{state_of};
 ghost use Rattle.wf_model.specs.Choose.{choose};
+ghost use Rattle.wf_value.specs.Events.{Move};
 
 use crate::choosing::step_event;
 use crate::machine::Machine;
@@ -102,11 +104,6 @@ impl Machine {
         laws_of_waiting();
         let last = reading.max(self.tally.last);
         match self.wanted_kind() {
-            // what most steps want
-            Some(Kind::Plain) => {
-                count(self.take_step(Kind::Plain, last), steps)?;
-                Ok(Some(Event::Move(0)))
-            }
             Some(kind) => {
                 count(self.take_step(kind, last), steps)?;
                 Ok(Some(step_event(kind, last)))
@@ -119,6 +116,60 @@ impl Machine {
                 None => Ok(None),
             },
         }
+    }
+
+    /// Applies the event that comes next at a reading of the clock, in milliseconds since 1970, where it is a step of `main` that reads no
+    /// clock: that is `Move(0)`, and one step. Else nothing changes, and it gives false. Without memory the machine is only to be let go.
+    #[inline(always)]
+    fn apply_plain<L: Ledger>(
+        &mut self,
+        reading: u64,
+        steps: &mut Steps<L>,
+    ) -> Result<bool, OutOfMemory>
+        requires { (state_of self.old).broken ≡ false }
+        ensures choice { result ≡ Ok true
+            → choose (state_of self.old).program (state_of self.old).config reading
+            ≡ Some (Move 0) }
+        ensures applied { result ≡ Ok true → AppliesAnEvent (state_of self.old)
+            (state_of self.new) (Move 0) steps.old steps.new (Ok tt) }
+        ensures idle { result ≡ Ok false
+            → (state_of self.new ≡ state_of self.old) × (steps.new ≡ steps.old) }
+    {
+        // laws that the proof uses
+        never_wrong();
+        laws_of_waiting();
+        let last = reading.max(self.tally.last);
+        match self.wanted_kind() {
+            Some(Kind::Plain) => {
+                count(self.take_step(Kind::Plain, last), steps)?;
+                Ok(true)
+            }
+            _ => Ok(false),
+        }
+    }
+
+    /// Applies the moves of `main` that read no clock and come next at a reading of the clock, in milliseconds since 1970, one after another,
+    /// at most so many, and gives how many. Each is an event `Move(0)`, and one step. Without memory the machine is only to be let go.
+    #[inline(always)]
+    pub fn apply_moves<L: Ledger>(
+        &mut self,
+        most: usize,
+        reading: u64,
+        steps: &mut Steps<L>,
+    ) -> Result<usize, OutOfMemory>
+        requires { (state_of self.old).broken ≡ false }
+        ensures moves { IfOk result (λ count. AppliesMoves (state_of self.old)
+            (state_of self.new) reading count steps.old steps.new) }
+        ensures most { IfOk result (λ count. count ≤ most) }
+    {
+        let mut count = 0;
+        while count < most {
+            if !self.apply_plain(reading, steps)? {
+                return Ok(count);
+            }
+            count += 1;
+        }
+        Ok(count)
     }
 
     /// Carries the event out, by its kind.
