@@ -1,15 +1,17 @@
 -- What short code leaves on an empty stack.
-use Rattle.std.proofs.Common.{◌≡◌, ◌<◌, ◌≤◌, ℕ, List, [], ◌∷◌, length, get_or, Option, Some, None, IfSome, Result, Ok, sym, ap, subst, ◌∙◌, arith}
+use Rattle.std.proofs.Common.{◌≡◌, ◌<◌, ◌≤◌, ℕ, List, [], ◌∷◌, length, get_or, Option, Some, None, IfSome, Result, Ok, Err, sym, ap, subst, ◌∙◌, arith}
 use Rattle.wf_ast.specs.Apply.{View}
 use Rattle.wf_ast.specs.Instrs.{instr, instrs}
+use Rattle.wf_ast.specs.Machine as m
 use Rattle.wf_ast.specs.Machine.{Next, Stack, act, exec}
 use Rattle.wf_ast.specs.declared.code.Instr.{Instr}
 use Rattle.wf_value.specs.Data.{Data}
 use Rattle.wf_value.specs.Errors.{Answer}
 use Rattle.wf_value.specs.declared.errors.Raise.{Raise}
+use Rattle.wf_value.specs.declared.errors.Raise.TheVariants.{Error, OutOfMemory}
 use Rattle.wf_value.specs.declared.value.Value.{Value}
 use Rattle.wf_eval.specs.Sight.{Sight, seen}
-use Rattle.wf_eval.specs.Steps.{IsOperand, Leaves, alone}
+use Rattle.wf_eval.specs.Steps.{IsOperand, Leaves, Puts, alone}
 
 module _ {X : Type 0} where
   pub one_item : (xs : List X) (a : X) → 1 ≤ length xs → length xs < 2 → a ≡ get_or xs 0 a → xs ≡ a ∷ []
@@ -24,6 +26,12 @@ module _ {X : Type 0} where
   three_items (x ∷ y ∷ z ∷ []) a b c l m e f g = ap (λ u. u ∷ y ∷ z ∷ []) (sym e) ∙ ap (λ u. a ∷ u ∷ z ∷ []) (sym f) ∙ ap (λ u. a ∷ b ∷ u ∷ []) (sym g)
   three_items (x ∷ y ∷ z ∷ w ∷ ws) a b c l m e f g = absurd (omega (arith, m))
 
+  pub five_items : (xs : List X) (a b c d e : X) → 5 ≤ length xs → length xs < 6 → a ≡ get_or xs 0 a → b ≡ get_or xs 1 b → c ≡ get_or xs 2 c → d ≡ get_or xs 3 d → e ≡ get_or xs 4 e → xs ≡ a ∷ b ∷ c ∷ d ∷ e ∷ []
+  five_items [] a b c d e l m p q r t u = absurd (omega (arith, l))
+  five_items (x ∷ []) a b c d e l m p q r t u = absurd (omega (arith, l))
+  five_items (x ∷ y ∷ ys) a b c d e l m p q r t u =
+      ap (λ z. z ∷ y ∷ ys) (sym p) ∙ ap (λ z. a ∷ z ∷ ys) (sym q) ∙ ap (λ zs. a ∷ b ∷ zs) (three_items ys c d e (omega (arith, l)) (omega (arith, m)) r t u)
+
 ends : (s : View) → exec s [] ≡ alone
 ends s = λ j k st. Ok st
 
@@ -33,10 +41,22 @@ one_leaves None is a s e h = tt
 one_leaves (Some q) is a s e h =
     λ now. subst (λ (js : List Instr). Leaves q (exec (seen s now) (instrs js) 0 [])) (sym e) (subst (λ (k : Next). Leaves q (act (seen s now) (instr a) k [])) (sym (ends (seen s now))) (h now))
 
-pub three_leaves : (r : Option (Result Value Raise)) (is : List Instr) (a b c : Instr) (s : Sight) (v w : Data) → is ≡ a ∷ b ∷ c ∷ [] → IsOperand s (instr a) v → IsOperand s (instr b) w → IfSome r (λ q. (t : View) → Leaves q (act t (instr c) alone (w ∷ v ∷ [])))
-    → IfSome r (λ q. (now : ℕ) → Leaves q (exec (seen s now) (instrs is) 0 []))
-three_leaves None is a b c s v w e p o h = tt
-three_leaves (Some q) is a b c s v w e p o h =
+-- what some instructions leave
+abbrev Left : Option (Result Value Raise) → Sight → List m.Instr → Stack → Type 0
+Left r s is st = IfSome r (λ q. (now : ℕ) → Leaves q (exec (seen s now) is 0 st))
+
+-- the last instruction
+pub last_leaves : (r : Option (Result Value Raise)) (s : Sight) (i : m.Instr) (v w : Data)
+    → IfSome r (λ q. (t : View) (next : Next) (st : Stack) → Puts q next st (act t i next (w ∷ v ∷ st))) → Left r s (i ∷ []) (w ∷ v ∷ [])
+last_leaves None s i v w h = tt
+last_leaves (Some (Ok x)) s i v w h = λ now. h (seen s now) (exec (seen s now) []) []
+last_leaves (Some (Err (Error t))) s i v w h = λ now. h (seen s now) (exec (seen s now) []) []
+last_leaves (Some (Err OutOfMemory)) s i v w h = λ now. tt
+
+-- two operands, and what comes behind them
+pub pair_leaves : (r : Option (Result Value Raise)) (is rest : List Instr) (a b : Instr) (s : Sight) (v w : Data) → is ≡ a ∷ b ∷ rest → IsOperand s (instr a) v → IsOperand s (instr b) w
+    → Left r s (instrs rest) (w ∷ v ∷ []) → Left r s (instrs is) []
+pair_leaves None is rest a b s v w e p o h = tt
+pair_leaves (Some q) is rest a b s v w e p o h =
     λ now. subst (λ (js : List Instr). Leaves q (exec (seen s now) (instrs js) 0 [])) (sym e)
-    (subst (λ (d : Answer Stack). Leaves q d) (sym (p now (exec (seen s now) (instr b ∷ instr c ∷ [])) [] ∙ o now (exec (seen s now) (instr c ∷ [])) (v ∷ [])))
-    (subst (λ (k : Next). Leaves q (act (seen s now) (instr c) k (w ∷ v ∷ []))) (sym (ends (seen s now))) (h (seen s now))))
+    (subst (λ (d : Answer Stack). Leaves q d) (sym (p now (exec (seen s now) (instr b ∷ instrs rest)) [] ∙ o now (exec (seen s now) (instrs rest)) (v ∷ []))) (h now))

@@ -39,6 +39,12 @@ Leaves (Ok v) a = a ≡ Ok (plain v ∷ [])
 Leaves (Err (Error t)) a = a ≡ Err t
 Leaves (Err OutOfMemory) a = Unit {0}
 
+-- this value is put on these others and what comes next goes on, or the error comes
+abbrev pub Puts : Result Value Raise → Next → Stack → Answer Stack → Type 0
+Puts (Ok v) next st a = a ≡ next 0 (plain v ∷ st)
+Puts (Err (Error t)) next st a = a ≡ Err t
+Puts (Err OutOfMemory) next st a = Unit {0}
+
 -- an instruction puts this value on the stack, and does nothing else
 abbrev pub IsOperand : Sight → Instr → Data → Type 0
 IsOperand s i d = (now : ℕ) (next : Next) (st : Stack) → act (seen s now) i next st ≡ next 0 (d ∷ st)

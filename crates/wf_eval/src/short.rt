@@ -1,14 +1,14 @@
-//! Code of one operand, or of two and what is done with them, which needs no stack.
+//! Code of one operand, of two or of three, and what is done with them, which needs no stack.
 ghost use Rattle.std.specs.Prelude.{◌≡◌, ◌∷◌, [], ℕ, IfSome};
 ghost use Rattle.wf_value.specs.Data.{Data};
 ghost use Rattle.wf_value.specs.Errors.{Answer};
 ghost use Rattle.wf_value.specs.Plain.{plain};
 ghost use Rattle.wf_ast.specs.Apply.{View};
 ghost use Rattle.wf_ast.specs.Instrs.{instr, instrs};
-ghost use Rattle.wf_ast.specs.Machine.{act, exec};
+ghost use Rattle.wf_ast.specs.Machine.{Next, Stack, act, exec};
 ghost use Rattle.wf_eval.specs.Answers.{Gives};
 ghost use Rattle.wf_eval.specs.Sight.{seen};
-ghost use Rattle.wf_eval.specs.Steps.{IsOperand, Leaves, alone, settled};
+ghost use Rattle.wf_eval.specs.Steps.{IsOperand, Leaves, Puts, alone, settled};
 
 use crate::answers::{copied, is_kept, keep};
 use crate::look::Look;
@@ -34,6 +34,11 @@ pub(crate) fn short<K: Look>(
             let v = operand(a, look)?;
             let w = operand(b, look)?;
             two(alloc, last, v, w)
+        }
+        [a, b, c, d, last] => {
+            let v = operand(a, look)?;
+            let w = operand(b, look)?;
+            three(alloc, c, d, last, v, w, look)
         }
         _ => None,
     }
@@ -62,11 +67,73 @@ fn operand<'a, K: Look>(i: &'a Instr, look: &'a K) -> Option<&'a Value>
     if is_kept(value) { Some(value) } else { None }
 }
 
-/// What an instruction leaves of the two values that are there alone, the first one below.
+/// What three instructions leave of the two values that are there alone, the first one below.
+#[inline(always)]
+fn three<K: Look>(
+    alloc: Global,
+    c: &Instr,
+    d: &Instr,
+    last: &Instr,
+    v: &Value,
+    w: &Value,
+    look: &K,
+) -> Option<Result<Value, Raise>>
+    ensures { IfSome result (λ r. (now : ℕ) → Leaves r (exec (seen (K.sight look.now) now)
+        (instr c.now ∷ instr d.now ∷ instr last.now ∷ []) 0 (plain w.now ∷ plain v.now ∷ []))) }
+{
+    match c {
+        Instr::Push(_) | Instr::Load(_) => right(alloc, c, d, last, v, w, look),
+        _ => left(alloc, c, d, last, v, w, look),
+    }
+}
+
+/// `(v mid w) last c`, where `c` is an operand.
+#[inline(always)]
+fn left<K: Look>(
+    alloc: Global,
+    mid: &Instr,
+    c: &Instr,
+    last: &Instr,
+    v: &Value,
+    w: &Value,
+    look: &K,
+) -> Option<Result<Value, Raise>>
+    ensures { IfSome result (λ r. (now : ℕ) → Leaves r (exec (seen (K.sight look.now) now)
+        (instr mid.now ∷ instr c.now ∷ instr last.now ∷ []) 0 (plain w.now ∷ plain v.now ∷ []))) }
+{
+    let x = operand(c, look)?;
+    match two(alloc, mid, v, w)? {
+        Ok(first) => two(alloc, last, &first, x),
+        Err(e) => Some(Err(e)),
+    }
+}
+
+/// `v last (w mid c)`, where `c` is an operand.
+#[inline(always)]
+fn right<K: Look>(
+    alloc: Global,
+    c: &Instr,
+    mid: &Instr,
+    last: &Instr,
+    v: &Value,
+    w: &Value,
+    look: &K,
+) -> Option<Result<Value, Raise>>
+    ensures { IfSome result (λ r. (now : ℕ) → Leaves r (exec (seen (K.sight look.now) now)
+        (instr c.now ∷ instr mid.now ∷ instr last.now ∷ []) 0 (plain w.now ∷ plain v.now ∷ []))) }
+{
+    let x = operand(c, look)?;
+    match two(alloc, mid, w, x)? {
+        Ok(second) => two(alloc, last, v, &second),
+        Err(e) => Some(Err(e)),
+    }
+}
+
+/// The value that an instruction puts on the stack in place of the two topmost values, the first one below.
 #[inline(always)]
 fn two(alloc: Global, i: &Instr, v: &Value, w: &Value) -> Option<Result<Value, Raise>>
-    ensures { IfSome result (λ r. (s : View)
-        → Leaves r (act s (instr i.now) alone (plain w.now ∷ plain v.now ∷ []))) }
+    ensures { IfSome result (λ r. (s : View) (next : Next) (st : Stack)
+        → Puts r next st (act s (instr i.now) next (plain w.now ∷ plain v.now ∷ st))) }
 {
     match i {
         Instr::Combine(op) => Some(within(operate(alloc, *op, v, w))),
@@ -78,8 +145,8 @@ fn two(alloc: Global, i: &Instr, v: &Value, w: &Value) -> Option<Result<Value, R
 /// The value, if it keeps within the limits.
 #[inline(always)]
 fn within(value: Result<Value, Raise>) -> Result<Value, Raise>
-    ensures { (d : Answer Data) → Gives value d
-        → Leaves result (settled d [] alone) }
+    ensures { (d : Answer Data) → Gives value d → (next : Next) (st : Stack)
+        → Puts result next st (settled d st next) }
 {
     keep(value?)
 }
