@@ -189,17 +189,43 @@ impl Scopes {
         ensures stay { StayLive (layers_of self.old) (layers_of self.new) }
         ensures apart { StayInnermost (layers_of self.old) (layers_of self.new) }
     {
+        match path {
+            [] => {
+                let key = name.as_str();
+                let (spot, _) = self.target(c.number, key);
+                self.bind_at(spot, name, v)
+            }
+            [_, ..] => self.assign_below(c, name, path, v),
+        }
+    }
+
+    /// The same for the places below a name.
+    #[inline(never)]
+    fn assign_below(
+        &mut self,
+        c: Chain,
+        name: &Text,
+        path: &[Key],
+        v: Value,
+    ) -> Result<(), AssignFault>
+        requires live { IsLive c.number (layers_of self.old) }
+        requires below { 0 < length path.now }
+        ensures outcome { Answers result (layers_of self.new)
+            (assigned self.old.limit c.number name.now (map key_data path.now) (plain v)
+            (layers_of self.old)) }
+        ensures kept { OnErr result (layers_of self.new ≡ layers_of self.old) }
+        ensures limit { self.new.limit ≡ self.old.limit }
+        ensures stay { StayLive (layers_of self.old) (layers_of self.new) }
+        ensures apart { StayInnermost (layers_of self.old) (layers_of self.new) }
+    {
         let key = name.as_str();
         let (spot, old) = self.target(c.number, key);
-        match old {
-            Some(old) => match written(self.alloc, path, old, v) {
-                Ok(value) => self.bind_at(spot, name, value),
-                Err(fault) => Err(fault),
-            },
-            None => match path {
-                [] => self.bind_at(spot, name, v),
-                [_, ..] => Err(AssignFault::MissingKey),
-            },
+        let Some(old) = old else {
+            return Err(AssignFault::MissingKey);
+        };
+        match written(self.alloc, path, old, v) {
+            Ok(value) => self.bind_at(spot, name, value),
+            Err(fault) => Err(fault),
         }
     }
 
