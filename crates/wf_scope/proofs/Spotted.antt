@@ -15,6 +15,14 @@ use Rattle.wf_scope.specs.declared.scopes.Spot.{Spot}
 use Rattle.wf_scope.proofs.Numbers.{number_found}
 use Rattle.wf_scope.proofs.Seen.{chain_last, chain_outer, holder_here, holder_past, vars_found}
 
+-- ## Where none stands
+pub empty_place : (x : Text) (vs : List (Text × Data)) → vs ≡ [] → Err 0 ≡ place_of x vs
+empty_place x vs e = sym (ap (place_of x) e)
+
+pub empty_value : (x : Text) (vs : List (Text × Data)) → vs ≡ [] → None ≡ value_at x vs
+empty_value x vs e = sym (ap (value_at x) e)
+
+-- ## Where it stands
 module _ (x : Text) (vs : List (Text × Data)) (i : ℕ) where
   -- the pair at the place where it was found
   pub value_there : (k : Text) (v : Data) → Ok i ≡ place_of x vs → Some (k, v) ≡ slice_get vs i → Some v ≡ value_at x vs

@@ -1,10 +1,11 @@
 -- What variables come to, behind a change.
-use Rattle.std.proofs.Common.{◌≡◌, ◌≤◌, inl, inr, ℕ, ◌+◌, ◌-◌, min, Bool, true, false, List, [], ◌∷◌, ◌++◌, length, Some, None, Ordering, Less, Equal, Greater, refl, sym, ap, ◌∙◌, arith, cond}
-use Rattle.std.specs.Prelude.{if◌then◌else◌}
+use Rattle.std.proofs.Common.{◌≡◌, ◌≢◌, ◌≤◌, MatchBool, inl, inr, ℕ, ◌+◌, ◌-◌, min, Bool, true, false, List, [], ◌∷◌, ◌++◌, length, Some, None, Ordering, Less, Equal, Greater, refl, sym, ap, ◌∙◌, arith, cond}
+use Rattle.std.specs.Prelude.{nat_eq, if◌then◌else◌}
 use Rattle.std.specs.BTreeMap.{is_at}
 use Rattle.std.specs.FinMap.{slice_cmp-IsAntisymmetric, nat_cmp-IsAntisymmetric}
 use Rattle.std.specs.Map.{keys_of}
 use Rattle.std.specs.Ordering.{match_ordering, is_eq}
+use Rattle.std.proofs.lemmas.Bool.{eqb-false, eqb-true}
 use Rattle.std.proofs.lemmas.Cmp.{nat_list_cmp_total}
 use Rattle.std.proofs.lemmas.Map.{lookup-none}
 use Rattle.std.proofs.lemmas.Map.Entries.{none_below_head}
@@ -35,6 +36,18 @@ total_closed n (x ∷ ls) l e = elim (found_cases n x ls l e) [
 ]
 
 -- ## A variable in a layer
+-- a map that counts 2 holds none
+none_counted : (es : List (Text × Data)) → min (2 + pairs_size (pairs_of es)) 18446744073709551615 ≡ 2 → es ≡ []
+none_counted [] h = refl
+none_counted (e ∷ es) h = absurd (omega (arith, h))
+
+pub holds_none : (es : List (Text × Data)) (r : ℕ) → r ≡ min (2 + pairs_size (pairs_of es)) 18446744073709551615 → MatchBool (nat_eq r 2) (es ≡ []) (es ≢ [])
+holds_none es r is = by (nat_eq r 2) refl
+  where
+    by : (b : Bool) → nat_eq r 2 ≡ b → MatchBool b (es ≡ []) (es ≢ [])
+    by true t = none_counted es (sym is ∙ eqb-true r 2 t)
+    by false f = λ none. eqb-false r 2 f (is ∙ ap (λ ps. min (2 + pairs_size (pairs_of ps)) 18446744073709551615) none)
+
 -- the pairs with a variable put, and the old one, are the pairs and the new one
 pub put_size : (k : Text) (v : Data) (es : List (Text × Data)) → IsInOrder es → pairs_size (pairs_of (with_value k v es)) + variable_size k (value_at k es) ≡ pairs_size (pairs_of es) + (2 + length k + size v)
 put_size k v [] s = omega arith

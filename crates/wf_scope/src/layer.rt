@@ -1,5 +1,5 @@
 // A layer of variables.
-ghost use Rattle.std.specs.Prelude.{◌≡◌, ◌≢◌, MatchBool, None, is_ok, if◌then◌else◌, option_map};
+ghost use Rattle.std.specs.Prelude.{◌≡◌, ◌≢◌, [], MatchBool, None, is_ok, if◌then◌else◌, option_map};
 ghost use Rattle.wf_scope.specs.Layers.{with_variable};
 ghost use Rattle.wf_value.specs.Maps.{IsInOrder, place_of, value_at};
 ghost use Rattle.wf_value.specs.Plain.{plain};
@@ -31,7 +31,7 @@ impl Layer {
     }
 
     /// Where the variable of this name stands, and its value; where it isn't there, its place is where it belongs. The place below the hint
-    /// is tried first.
+    /// is tried first, and a layer without variables isn't searched.
     #[inline(always)]
     pub(crate) fn find(&self, hint: u8, name: &str) -> (Result<usize, usize>, Option<&Value>)
         requires { IsInOrder self.now.vars }
@@ -46,8 +46,18 @@ impl Layer {
                     return (Ok(guess), Some(value));
                 }
             }
+        } else if self.is_empty() {
+            return (Err(0), None);
         }
         self.search(name)
+    }
+
+    /// Whether no variable stands here. One counts 2 at least, beside the 2 of the map.
+    #[inline(always)]
+    fn is_empty(&self) -> bool
+        ensures { MatchBool result (self.now.vars ≡ []) (self.now.vars ≢ []) }
+    {
+        self.vars.size() == 2
     }
 
     /// The same, wherever it stands.

@@ -4,7 +4,7 @@ ghost use Rattle.wf_value.specs.Data.{size};
 ghost use Rattle.wf_value.specs.Maps.{place_of, value_at};
 ghost use Rattle.wf_value.specs.Plain.{plain};
 ghost use Rattle.wf_scope.specs.Layers.{IsInnermost, IsLive, StayInnermost, StayLive, all_stand, chain, closed, depth_in, find, fresh, holder_in, look_in, opened, put_at, put_place, rises, stands, total_of, vars_at};
-ghost use Rattle.wf_scope.specs.Firsts.{AllCover, AllCover-prop, HasNone};
+ghost use Rattle.wf_scope.specs.Firsts.{AllCover, AllCover-prop, HasNone, class_of};
 ghost use Rattle.wf_scope.specs.Spots.{IsSpot};
 ghost use Rattle.wf_scope.specs.declared.layer.Layer as declared;
 
@@ -60,6 +60,8 @@ struct Spot {
     layer: usize,
     /// Where the variable stands among those of the layer.
     pair: Result<usize, usize>,
+    /// The class of its name.
+    class: usize,
     /// What it counts, 0 where it isn't there.
     counted: u64,
 }
@@ -189,17 +191,43 @@ impl Scopes {
         ensures stay { StayLive (layers_of self.old) (layers_of self.new) }
         ensures apart { StayInnermost (layers_of self.old) (layers_of self.new) }
     {
+        match path {
+            [] => {
+                let key = name.as_str();
+                let (spot, _) = self.target(c.number, key);
+                self.bind_at(spot, name, v)
+            }
+            [_, ..] => self.assign_below(c, name, path, v),
+        }
+    }
+
+    /// The same for the places below a name.
+    #[inline(never)]
+    fn assign_below(
+        &mut self,
+        c: Chain,
+        name: &Text,
+        path: &[Key],
+        v: Value,
+    ) -> Result<(), AssignFault>
+        requires live { IsLive c.number (layers_of self.old) }
+        requires below { 0 < length path.now }
+        ensures outcome { Answers result (layers_of self.new)
+            (assigned self.old.limit c.number name.now (map key_data path.now) (plain v)
+            (layers_of self.old)) }
+        ensures kept { OnErr result (layers_of self.new ≡ layers_of self.old) }
+        ensures limit { self.new.limit ≡ self.old.limit }
+        ensures stay { StayLive (layers_of self.old) (layers_of self.new) }
+        ensures apart { StayInnermost (layers_of self.old) (layers_of self.new) }
+    {
         let key = name.as_str();
         let (spot, old) = self.target(c.number, key);
-        match old {
-            Some(old) => match written(self.alloc, path, old, v) {
-                Ok(value) => self.bind_at(spot, name, value),
-                Err(fault) => Err(fault),
-            },
-            None => match path {
-                [] => self.bind_at(spot, name, v),
-                [_, ..] => Err(AssignFault::MissingKey),
-            },
+        let Some(old) = old else {
+            return Err(AssignFault::MissingKey);
+        };
+        match written(self.alloc, path, old, v) {
+            Ok(value) => self.bind_at(spot, name, value),
+            Err(fault) => Err(fault),
         }
     }
 
@@ -274,21 +302,22 @@ impl Scopes {
         ensures value { option_map (λ v. plain v.now) result.1
             ≡ value_at name.now (vars_at number (layers_of self.now)) }
     {
-        let layer = self.place(number);
-        self.spot_at(number, layer, self.hint(layer, class_of(name)), name)
+        self.spot_at(number, self.place(number), class_of(name), name)
     }
 
     /// The same in the layer at a place.
     #[inline(always)]
-    fn spot_at(&self, number: u64, layer: usize, hint: u8, name: &str) -> (Spot, Option<&Value>)
+    fn spot_at(&self, number: u64, layer: usize, class: usize, name: &str) -> (Spot, Option<&Value>)
         requires within { layer < length (layers_of self.now) }
         requires found { slice_get (layers_of self.now) layer ≡ find number (layers_of self.now) }
+        requires class { class ≡ class_of name.now }
+        requires below { class < 32 }
         ensures number { result.0.number ≡ number }
         ensures spot { IsSpot result.0 name.now (layers_of self.now) }
         ensures value { option_map (λ v. plain v.now) result.1
             ≡ value_at name.now (vars_at number (layers_of self.now)) }
     {
-        let (pair, value) = self.layers[layer].find(hint, name);
+        let (pair, value) = self.layers[layer].find(self.hint(layer, class), name);
         let counted = match value {
             Some(value) => size_of_variable(name, value),
             None => 0,
@@ -297,6 +326,7 @@ impl Scopes {
             number,
             layer,
             pair,
+            class,
             counted,
         };
         (spot, value)
@@ -319,9 +349,8 @@ impl Scopes {
         let mut here = number;
         loop {
             let place = self.place(here);
-            let hint = self.hint(place, class);
-            if hint > 0 {
-                let (spot, value) = self.spot_at(here, place, hint, name);
+            if self.hint(place, class) > 0 {
+                let (spot, value) = self.spot_at(here, place, class, name);
                 if let Some(value) = value {
                     return (spot, Some(value));
                 }
@@ -372,7 +401,7 @@ impl Scopes {
         }
         match put(&mut self.layers, spot.layer, spot.pair, name, v) {
             Ok(()) => {
-                self.firsts[spot.layer].put(class_of(name.as_str()), spot.pair);
+                self.firsts[spot.layer].put(spot.class, spot.pair);
                 self.total = total;
                 Ok(())
             }

@@ -11,7 +11,6 @@ use std::alloc::Global;
 use wf_value::{List, OutOfMemory, Text, Value};
 
 /// The value with a new one at these places below it. The lists and maps on the way are copied; they share what they hold.
-#[inline(always)]
 pub(crate) fn written(
     alloc: Global,
     path: &[Key],

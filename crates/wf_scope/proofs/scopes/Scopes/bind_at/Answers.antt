@@ -2,7 +2,6 @@ use Rattle.std.proofs.Common.{◌<◌, Ok, length, refl, sym, ap, subst, ◌∙�
 use Rattle.std.proofs.lemmas.List.{length-set}
 use Rattle.std.specs.Prelude.{slice_index, slice_set}
 use Rattle.wf_value.specs.Plain.{plain}
-use Rattle.wf_scope.specs.Firsts.{class_of}
 use Rattle.wf_scope.specs.Layers.{total_of}
 use Rattle.wf_scope.proofs.Binding.{fits}
 use Rattle.wf_scope.proofs.Hints.{cover_place, cover_same}
@@ -28,7 +27,7 @@ invariant_of-self c =
           let within = c.requires.spot.within in
           cover_same _ (slice_set s.firsts.items c.args.spot.layer c.put-in-Ok.new.self) _ c.put.new.layers.items refl c.in-Ok.ensures
           (cover_place s.firsts.items s.layers.items c.args.spot.layer c.index_mut.result.now c.put-in-Ok.new.self c.args.name.now (plain c.args.v) s.covering (omega (arith, s.paired, within)) within c.index_mut.ensures.value c.put-in-Ok.ensures.others
-          (subst (λ n. 0 < slice_index c.put-in-Ok.new.self.hints n) (c.class_of.ensures.class ∙ ap class_of c.as_str.ensures) c.put-in-Ok.ensures.there));
+          (subst (λ n. 0 < slice_index c.put-in-Ok.new.self.hints n) c.requires.spot.class c.put-in-Ok.ensures.there));
     }
 
 pub returns-in-Ok-clause-outcome : goal.returns-in-Ok-clause-outcome

@@ -25,6 +25,8 @@ returns-clause-spot c =
       within = c.requires.within;
       layer = c.requires.found;
       pair = c.find-pair.ensures.place ∙ ap (place_of x) same;
+      class = c.requires.class;
+      below = c.requires.below;
       counted = elim c.match-value.branch [
         | in-Some w ↦ w.counted-is ∙ counted_some c.args.number x (plain w.in-Some.value.now) s.layers.items l w.size_of_variable-counted.result s.total here (sym c.find-pair.ensures.value ∙ ap (option_map (λ v. plain v.now)) w.in-Some.is) s.counted s.room w.size_of_variable-counted.ensures
         | in-None w ↦ w.counted-is ∙ counted_none c.args.number x s.layers.items l here (sym c.find-pair.ensures.value ∙ ap (option_map (λ v. plain v.now)) w.in-None.is)

@@ -25,7 +25,7 @@ loop-spot-preserved c =
     let here = layer_at c.loop-spot.here ls c.place-place.result l c.place-place.ensures.within c.index.ensures c.place-place.ensures.found in
     let none : value_at x (vars_at c.loop-spot.here ls) ≡ None = elim c.if-hint-gt0.branch [
       | then-hint-gt0+in_default w ↦ sym w.spot_at.ensures.value ∙ ap (option_map (λ v. plain v.now)) w.in_default.is
-      | else-hint-gt0 w ↦ ap (value_at x) (vars_found c.loop-spot.here ls l here) ∙ c.hint-hint.ensures l (c.place-place.ensures.found ∙ here) (omega (arith, w.if-hint-gt0.false)) x c.class_of-class.ensures.class
+      | else-hint-gt0 w ↦ ap (value_at x) (vars_found c.loop-spot.here ls l here) ∙ c.hint.ensures l (c.place-place.ensures.found ∙ here) (omega (arith, w.if-hint-gt0.false)) x c.class_of-class.ensures.class
     ] in
     record {
       live = (outer_live c.loop-spot.here o ls l c.args.self.now.standing here c.in-Some-outer.is).0;
@@ -45,7 +45,7 @@ returns-clause-holder c =
     let here = layer_at c.loop-spot.here ls c.place-place.result l c.place-place.ensures.within c.index.ensures c.place-place.ensures.found in
     let none : value_at x (vars_at c.loop-spot.here ls) ≡ None = elim c.if-hint-gt0.branch [
       | then-hint-gt0+in_default w ↦ sym w.spot_at.ensures.value ∙ ap (option_map (λ v. plain v.now)) w.in_default.is
-      | else-hint-gt0 w ↦ ap (value_at x) (vars_found c.loop-spot.here ls l here) ∙ c.hint-hint.ensures l (c.place-place.ensures.found ∙ here) (omega (arith, w.if-hint-gt0.false)) x c.class_of-class.ensures.class
+      | else-hint-gt0 w ↦ ap (value_at x) (vars_found c.loop-spot.here ls l here) ∙ c.hint.ensures l (c.place-place.ensures.found ∙ here) (omega (arith, w.if-hint-gt0.false)) x c.class_of-class.ensures.class
     ] in
     sym (c.loop-spot.invariant.same ∙ holder_nowhere c.loop-spot.here ls x l here c.in-None.is none)
 
@@ -57,7 +57,7 @@ returns-clause-value c =
     let here = layer_at c.loop-spot.here ls c.place-place.result l c.place-place.ensures.within c.index.ensures c.place-place.ensures.found in
     let none : value_at x (vars_at c.loop-spot.here ls) ≡ None = elim c.if-hint-gt0.branch [
       | then-hint-gt0+in_default w ↦ sym w.spot_at.ensures.value ∙ ap (option_map (λ v. plain v.now)) w.in_default.is
-      | else-hint-gt0 w ↦ ap (value_at x) (vars_found c.loop-spot.here ls l here) ∙ c.hint-hint.ensures l (c.place-place.ensures.found ∙ here) (omega (arith, w.if-hint-gt0.false)) x c.class_of-class.ensures.class
+      | else-hint-gt0 w ↦ ap (value_at x) (vars_found c.loop-spot.here ls l here) ∙ c.hint.ensures l (c.place-place.ensures.found ∙ here) (omega (arith, w.if-hint-gt0.false)) x c.class_of-class.ensures.class
     ] in
     let nobody = c.loop-spot.invariant.same ∙ holder_nowhere c.loop-spot.here ls x l here c.in-None.is none in
     sym (ap (λ n. value_at x (vars_at n ls)) c.spot.ensures.number ∙ held_nowhere c.args.number ls x nobody)
