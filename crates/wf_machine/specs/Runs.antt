@@ -1,10 +1,23 @@
 -- Moves that follow one another.
-use Rattle.std.specs.Prelude.{◌≡◌, ◌≤◌, ◌+◌, ℕ, zero, suc, false, Some}
+--     AreMoves, AppliesMoves     so many moves, as events and as steps
+--     IsOut ..                   a machine while its `main` is out of it, for a run of moves
+use Rattle.std.specs.Prelude.{◌≡◌, ◌≤◌, ◌<◌, ◌+◌, ℕ, zero, suc, Bool, true, false, None, Some, length}
+use Rattle.wf_alone.specs.Machine.{IsReached}
 use Rattle.wf_ast.specs.Tree.{Program}
+use Rattle.wf_check.specs.Seen.{nodes_of, program_of}
+use Rattle.wf_machine.specs.Entries.{entries_of}
+use Rattle.wf_machine.specs.Main.{IsStanding, config_of}
+use Rattle.wf_machine.specs.Seen.{control_by, state_of}
 use Rattle.wf_machine.specs.State.{State}
+use Rattle.wf_machine.specs.declared.ending.Ending.TheVariants.{Running}
+use Rattle.wf_machine.specs.declared.machine.Machine.{Machine}
 use Rattle.wf_model.specs.Choose.{choose}
 use Rattle.wf_model.specs.Config.{Config, To}
+use Rattle.wf_model.specs.Kinds.{Plainly, next_kind}
 use Rattle.wf_model.specs.Step.{next}
+use Rattle.wf_model.specs.Taken.{log_total}
+use Rattle.wf_moves.specs.Waits.{is_awake_in}
+use Rattle.wf_moves.specs.declared.task.Task.{Task}
 use Rattle.wf_value.specs.Events.{Move}
 
 -- at a reading a move of `main` that reads no clock comes next, and leads here
@@ -26,3 +39,33 @@ pub record AppliesMoves (before behind : State) (reading count old new : ℕ) : 
   pub program : behind.program ≡ before.program
   pub whole : behind.broken ≡ false
   pub steps : new ≡ old + count
+
+-- ## While `main` is out
+-- what a machine shows with this task in its place
+abbrev pub shown : Machine → Task → Config
+shown m t = config_of (program_of m.program) m.facts m.tally (Some t) m.scopes m.calls m.log m.ending
+
+-- what it shows with the task in its place where `main` goes on, and else as it is
+abbrev pub shown_by : Bool → Machine → Task → Config
+shown_by true m t = shown m t
+shown_by false m t = (state_of m).config
+
+-- this task is out of a machine that runs, where it has been reached; the machine counts as broken so long, and its facts are those of a step
+-- that reads no clock
+pub record IsOut (m : Machine) (t : Task) : Type 0 where
+  pub gone : m.task ≡ None
+  pub broken : m.broken ≡ true
+  pub running : m.ending ≡ Running
+  pub standing : IsStanding (program_of m.program) (nodes_of m.program) (Some t) m.scopes
+  pub reached : ∥ IsReached (program_of m.program) (shown m t) ∥₁
+  pub below : m.tally.moves < 100000
+  pub now : m.facts.of_step.now ≡ 0
+  pub last : m.facts.of_step.last ≡ m.tally.last
+  pub calls : m.facts.sending.calls ≡ length m.calls
+  pub logged : m.facts.sending.logged ≡ log_total (entries_of m.log)
+
+-- its next move reads no clock, and is carried out
+pub record IsPlain (m : Machine) (t : Task) : Type 0 where
+  pub awake : is_awake_in t.wait ≡ true
+  pub wanted : next_kind (program_of m.program) (control_by m t) ≡ Plainly
+  pub few : m.tally.moves + 1 < 100000

@@ -118,38 +118,9 @@ impl Machine {
         }
     }
 
-    /// Applies the event that comes next at a reading of the clock, in milliseconds since 1970, where it is a step of `main` that reads no
-    /// clock: that is `Move(0)`, and one step. Else nothing changes, and it gives false. Without memory the machine is only to be let go.
-    #[inline(always)]
-    fn apply_plain<L: Ledger>(
-        &mut self,
-        reading: u64,
-        steps: &mut Steps<L>,
-    ) -> Result<bool, OutOfMemory>
-        requires { (state_of self.old).broken ≡ false }
-        ensures choice { result ≡ Ok true
-            → choose (state_of self.old).program (state_of self.old).config reading
-            ≡ Some (Move 0) }
-        ensures applied { result ≡ Ok true → AppliesAnEvent (state_of self.old)
-            (state_of self.new) (Move 0) steps.old steps.new (Ok tt) }
-        ensures idle { result ≡ Ok false
-            → (state_of self.new ≡ state_of self.old) × (steps.new ≡ steps.old) }
-    {
-        // laws that the proof uses
-        never_wrong();
-        laws_of_waiting();
-        let last = reading.max(self.tally.last);
-        match self.wanted_kind() {
-            Some(Kind::Plain) => {
-                count(self.take_step(Kind::Plain, last), steps)?;
-                Ok(true)
-            }
-            _ => Ok(false),
-        }
-    }
-
-    /// Applies the moves of `main` that read no clock and come next at a reading of the clock, in milliseconds since 1970, one after another,
-    /// at most so many, and gives how many. Each is an event `Move(0)`, and one step. Without memory the machine is only to be let go.
+    /// Applies moves of `main` that read no clock and come next at a reading of the clock, in milliseconds since 1970, one after another, at
+    /// most so many, and gives how many it has applied; more may come than those. Each is an event `Move(0)`, and one step. Without memory
+    /// the machine is only to be let go.
     #[inline(always)]
     pub fn apply_moves<L: Ledger>(
         &mut self,
@@ -162,13 +133,19 @@ impl Machine {
             (state_of self.new) reading count steps.old steps.new) }
         ensures most { IfOk result (λ count. count ≤ most) }
     {
+        let Some(mut task) = self.take_out() else {
+            return Ok(0);
+        };
         let mut count = 0;
-        while count < most {
-            if !self.apply_plain(reading, steps)? {
+        while count < most && self.is_plain(&task) {
+            let goes = self.move_on(&mut task)?;
+            steps.tick();
+            count += 1;
+            if !goes {
                 return Ok(count);
             }
-            count += 1;
         }
+        self.put_back(task);
         Ok(count)
     }
 

@@ -1,8 +1,11 @@
 // Steps that `main` takes.
-ghost use Rattle.std.specs.Prelude.{◌≡◌, ◌<◌, ◌≤◌, false, IfSome, IsFalse, IsNone, IsTrue};
+ghost use Rattle.std.specs.Prelude.{◌≡◌, ◌<◌, ◌≤◌, ℕ, true, false, IfOk, IfSome, IsFalse, IsNone, IsTrue, Ok, OnOk};
 ghost use Rattle.wf_alone.specs.Machine.{seen_by};
+ghost use Rattle.wf_check.specs.Seen.{program_of};
 ghost use Rattle.wf_machine.specs.Applied.{Applied};
 ghost use Rattle.wf_machine.specs.Causes.{Comes, Stops};
+ghost use Rattle.wf_machine.specs.Runs.{IsMove, IsOut, IsPlain, shown, shown_by};
+ghost use Rattle.wf_machine.specs.State.{State};
 ghost use Rattle.wf_machine.specs.Seen.{StepsBy, StepsNot, WantsNot, last_by, state_of};
 ghost use Rattle.wf_model.specs.Choose.{wanted};
 ghost use Rattle.wf_value.specs.Events.{Event as AnyEvent};
@@ -13,8 +16,9 @@ use crate::events::ApplyFault;
 use crate::machine::{Machine, Tally};
 use crate::task::{Cause, go_on, kind_of};
 use wf_frames::Kind;
+use wf_moves::Task;
 use wf_never_wrong::never_wrong;
-use wf_value::{Tag, error_map};
+use wf_value::{OutOfMemory, Tag, error_map};
 
 /// The counted event with this number isn't carried out: it ends the execution with a `ResourceLimitError`.
 const MOVE_LIMIT: u64 = 100_000;
@@ -156,6 +160,96 @@ impl Machine {
             Some(ending) => self.ending = ending,
         }
         Ok(())
+    }
+
+    /// Where the execution runs, `main` is taken out, for a run of moves that read no clock. Until it is put back the machine counts as
+    /// broken.
+    #[inline(always)]
+    pub(crate) fn take_out(&mut self) -> Option<Task>
+        requires whole { self.old.broken ≡ false }
+        ensures out { IfSome result (λ t. IsOut self.new t) }
+        ensures shown { IfSome result (λ t. shown self.new t ≡ (state_of self.old).config) }
+        ensures none { IsNone result → state_of self.new ≡ state_of self.old }
+        ensures program { program_of self.new.program ≡ program_of self.old.program }
+    {
+        if !self.ending.is_running() {
+            return None;
+        }
+        let Some(task) = self.task.take() else {
+            return None;
+        };
+        self.broken = true;
+        self.facts.of_step.now = 0;
+        self.facts.of_step.last = self.tally.last;
+        self.facts.sending.calls = self.calls.count();
+        self.facts.sending.logged = self.log.size();
+        Some(task)
+    }
+
+    /// Whether the next move of `main`, which is out, reads no clock and is carried out.
+    #[inline(always)]
+    pub(crate) fn is_plain(&self, task: &Task) -> bool
+        requires { IsOut self.now task.now }
+        ensures { IsTrue result → IsPlain self.now task.now }
+    {
+        self.tally.moves + 1 < MOVE_LIMIT
+            && task.is_awake()
+            && kind_of(&self.program, self.wants.as_slice(), task) == Kind::Plain
+    }
+
+    /// `main`, which is out, takes its next move, and stays out. It gives whether `main` goes on; else the execution has ended. Without
+    /// memory the machine is only to be let go.
+    #[inline(always)]
+    pub(crate) fn move_on(&mut self, task: &mut Task) -> Result<bool, OutOfMemory>
+        requires out { IsOut self.old task.old }
+        requires plain { IsPlain self.old task.old }
+        ensures moves { IfOk result (λ goes. (reading : ℕ)
+            → IsMove reading (program_of self.old.program) (shown self.old task.old)
+            (shown_by goes self.new task.new)) }
+        ensures out { result ≡ Ok true → IsOut self.new task.new }
+        ensures whole { result ≡ Ok false → self.new.broken ≡ false }
+        ensures program { OnOk result
+            (program_of self.new.program ≡ program_of self.old.program) }
+    {
+        // laws that the proof uses
+        never_wrong();
+        let did = go_on(
+            &self.program,
+            self.targets.as_slice(),
+            &self.facts,
+            task,
+            &mut self.scopes,
+            &mut self.calls,
+            Cause::Step,
+        )?;
+        let ended = ending_of(did, self.tally.last, &mut self.calls, &mut self.log)?;
+        self.tally.moves += 1;
+        match ended {
+            None => {
+                self.facts.sending.calls = self.calls.count();
+                self.facts.sending.logged = self.log.size();
+                Ok(true)
+            }
+            Some(ending) => {
+                self.broken = false;
+                self.ending = ending;
+                Ok(false)
+            }
+        }
+    }
+
+    /// `main` is put back into its place.
+    #[inline(always)]
+    pub(crate) fn put_back(&mut self, task: Task)
+        requires { IsOut self.old task }
+        ensures { state_of self.new ≡ record {
+          program = program_of self.old.program;
+          config = shown self.old task;
+          broken = false;
+        } }
+    {
+        self.broken = false;
+        self.task = Some(task);
     }
 
     /// The end at a limit: nothing of the event is carried out. Without memory the machine is broken.

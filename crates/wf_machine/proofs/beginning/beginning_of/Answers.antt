@@ -4,8 +4,7 @@ use Rattle.wf_check.specs.Seen.{nodes_of, program_of}
 use Rattle.wf_machine.proofs.Places.{tells_of}
 use Rattle.wf_machine.proofs.beginning.beginning_of.Goals as goal
 use Rattle.wf_machine.specs.Main.{Aims, Begins}
-use Rattle.wf_frames.specs.Built.{AreTargets, Tells, is_table_built}
-use Rattle.wf_frames.specs.Kinds.{AreWants}
+use Rattle.wf_frames.specs.Built.{AreTargets, is_table_built}
 use Rattle.wf_model.specs.Spots.{spots}
 
 pub first_task-requires : goal.first_task-requires
