@@ -5,7 +5,7 @@ ghost use Rattle.wf_check.specs.Seen.{program_of};
 ghost use Rattle.wf_machine.specs.Applied.{Applied};
 ghost use Rattle.wf_machine.specs.Causes.{Comes, Stops};
 ghost use Rattle.wf_machine.specs.Runs.{IsMove, IsOut, IsPlain, shown, shown_by};
-ghost use Rattle.wf_machine.specs.State.{State};
+ghost use Rattle.wf_machine.specs.State.{is_running};
 ghost use Rattle.wf_machine.specs.Seen.{StepsBy, StepsNot, WantsNot, last_by, state_of};
 ghost use Rattle.wf_model.specs.Choose.{wanted};
 ghost use Rattle.wf_value.specs.Events.{Event as AnyEvent};
@@ -170,6 +170,7 @@ impl Machine {
         ensures out { IfSome result (λ t. IsOut self.new t) }
         ensures shown { IfSome result (λ t. shown self.new t ≡ (state_of self.old).config) }
         ensures none { IsNone result → state_of self.new ≡ state_of self.old }
+        ensures ended { IsNone result → is_running self.old.ending ≡ false }
         ensures program { program_of self.new.program ≡ program_of self.old.program }
     {
         if !self.ending.is_running() {
@@ -190,7 +191,8 @@ impl Machine {
     #[inline(always)]
     pub(crate) fn is_plain(&self, task: &Task) -> bool
         requires { IsOut self.now task.now }
-        ensures { IsTrue result → IsPlain self.now task.now }
+        ensures some { IsTrue result → IsPlain self.now task.now }
+        ensures none { IsFalse result → IsPlain self.now task.now → ⊥ }
     {
         self.tally.moves + 1 < MOVE_LIMIT
             && task.is_awake()
