@@ -102,3 +102,8 @@ turn_ends n first now r es t is = ends n first.program first.config now.config r
 
 pub turn_is_full : (n : ℕ) (first now : State) (r : ℕ) (es : List Event) → Turning n first now r es → n ≤ length es → es ≡ chosen n first.program (To first.config) r
 turn_is_full n first now r es t most = full n first.program first.config now.config r es t.so_far most
+
+-- a call that answered Ok leaves the machine whole
+pub whole_after : {A E : Type 0} (b : Bool) (r : Result A E) (a : A) (e : E) → r ≡ Ok a → (b ≡ true → IsErrOf r e) → b ≡ false
+whole_after false r a e is broke = refl
+whole_after true r a e is broke = let err : IsErrOf (Ok a) e = subst (λ x. IsErrOf x e) is (broke refl) in absurd (cc err)

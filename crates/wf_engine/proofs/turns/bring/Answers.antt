@@ -1,7 +1,7 @@
 use Rattle.std.proofs.Common.{ap, ◌∙◌, arith}
 use Rattle.wf_engine.proofs.Bringing.{answer_leads}
+use Rattle.wf_engine.proofs.Chosen.{whole_after}
 use Rattle.wf_engine.proofs.turns.bring.Goals as goal
-use Rattle.wf_machine.proofs.Runs.{whole_after}
 use Rattle.wf_machine.specs.Counts.{counts}
 use Rattle.wf_machine.specs.Seen.{state_of}
 use Rattle.wf_machine.specs.declared.ApplyFault.TheVariants as fault

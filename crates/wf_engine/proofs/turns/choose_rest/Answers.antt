@@ -1,12 +1,12 @@
 use Rattle.std.proofs.Common.{◌≡◌, ◌-◌, Ok, List, refl, sym, ◌∙◌, ap, subst, arith, length, length-append, ◌∷◌, ◌++◌, []}
 use Rattle.std.proofs.lemmas.List.{length-map, length-replicate}
 use Rattle.std.specs.Prelude.{IfNone, IfSome, Option, option_map, replicate}
+use Rattle.wf_engine.proofs.Chosen.{whole_after}
 use Rattle.wf_engine.specs.Turn.{AreChosen}
 use Rattle.wf_engine.proofs.Turning.{Gone, gone_ends, gone_first, gone_full, gone_nowhere, gone_on, gone_together}
 use Rattle.wf_engine.proofs.turns.choose_rest.Goals as goal
 use Rattle.wf_events.specs.View.{event_view, events_view}
 use Rattle.wf_events.specs.declared.data.Event as declared
-use Rattle.wf_machine.proofs.Runs.{whole_after}
 use Rattle.wf_machine.specs.Promises.{AppliesAnEvent}
 use Rattle.wf_machine.specs.Seen.{state_of}
 use Rattle.wf_machine.specs.State.{State}
