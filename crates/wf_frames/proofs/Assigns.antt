@@ -17,12 +17,11 @@ use Rattle.wf_value.specs.declared.Tag.{Tag}
 use Rattle.wf_value.specs.declared.Tag.TheVariants.{IndexError, KeyError, ResourceLimitError, TypeError}
 use Rattle.wf_scope.specs.Changes.{assigned, assigned_at, bound, bound_to, changed}
 use Rattle.wf_scope.specs.Faults.{fault_of, faulted, raised}
-use Rattle.wf_scope.specs.Layers.{IsLive, chain, chain_in, depth_in, find, holder_in, put_at, total_of, variable_size, vars_at, vars_in, with_variable}
+use Rattle.wf_scope.specs.Layers.{IsLive, Layer, chain, chain_in, depth_in, find, holder_in, put_at, total_of, variable_size, vars_at, vars_in, with_variable}
 use Rattle.wf_scope.specs.Places.{member, with_member}
 use Rattle.wf_frames.specs.Tasks as task
 use Rattle.wf_frames.specs.Tasks.{AreApart, AreOthers, AssignsAsTasksDo, Far, Holds, OneLayerHolds, SameAnswer, far_layer, far_layers, layer_of, numbers, numbers_seen, own_layers, with_layers}
 use Rattle.wf_scope.specs.declared.fault.AssignFault.TheVariants as fault
-use Rattle.wf_scope.specs.declared.layer.Layer.{Layer}
 use Rattle.wf_scope.proofs.Numbers.{find_head, find_tail, found_cases, live_found, number_found}
 use Rattle.wf_scope.proofs.Seen.{vars_found}
 use Rattle.wf_scope.proofs.Totals.{put_size, put_total}

@@ -7,9 +7,8 @@ use Rattle.wf_model.specs.Local.{Outer}
 use Rattle.wf_value.specs.Data.{Data, Pairs, pairs_of}
 use Rattle.wf_value.specs.Maps.{value_at}
 use Rattle.wf_value.specs.Pairs.{Text, get}
-use Rattle.wf_scope.specs.Layers.{look_in}
+use Rattle.wf_scope.specs.Layers.{Layer, look_in}
 use Rattle.wf_frames.specs.Tasks.{LooksAsTasksDo, seen, variables}
-use Rattle.wf_scope.specs.declared.layer.Layer.{Layer}
 use Rattle.wf_scope.proofs.Writing.{pairs_listed}
 
 same_value : (x : Text) (l : Layer) (ps : Pairs) → pairs_of l.vars ≡ ps → value_at x l.vars ≡ get x ps

@@ -19,12 +19,11 @@ use Rattle.wf_scope.proofs.Numbers.{find_head, find_tail, found_cases, number_fo
 use Rattle.wf_scope.proofs.Seen.{outside}
 use Rattle.wf_scope.proofs.Writing.{pairs_listed}
 use Rattle.wf_scope.specs.Changes.{Answers, bound}
-use Rattle.wf_scope.specs.Layers.{all_stand, closed, find, fresh, opened, put_at, stands, total_of, vars_at, vars_in, with_variable}
+use Rattle.wf_scope.specs.Layers.{Layer, all_stand, closed, find, fresh, opened, put_at, stands, total_of, vars_at, vars_in, with_variable}
 use Rattle.wf_scope.specs.Store.{layers_of}
 use Rattle.wf_frames.specs.Tasks.{AreOthers, Far, Own, far_layers, numbers, own_layers}
 use Rattle.wf_scope.specs.declared.fault.AssignFault.{AssignFault}
 use Rattle.wf_scope.specs.declared.fault.AssignFault.TheVariants as fault
-use Rattle.wf_scope.specs.declared.layer.Layer.{Layer}
 use Rattle.wf_scope.specs.declared.scopes.Scopes.{Scopes}
 use Rattle.wf_value.proofs.Order.{in_order_empty, in_order_with_value}
 use Rattle.wf_value.specs.Data.{Data, Pairs, depth, integer, no_pairs, pairs_of, pairs_size}

@@ -18,11 +18,10 @@ use Rattle.wf_model.specs.Local.{Local, Scene}
 use Rattle.wf_frames.proofs.Looks.{looks}
 use Rattle.wf_scope.proofs.Numbers.{number_found}
 use Rattle.wf_scope.proofs.Seen.{chain_last, chain_outer, vars_found}
-use Rattle.wf_scope.specs.Layers.{IsLive, all_stand, chain, look_in, vars_at}
+use Rattle.wf_scope.specs.Layers.{IsLive, Layer, all_stand, chain, look_in, vars_at}
 use Rattle.wf_scope.specs.Store.{layers_of}
 use Rattle.wf_frames.specs.Tasks as task
 use Rattle.wf_frames.specs.Tasks.{Far, Own, far_layers, numbers_seen, own_layers, variables}
-use Rattle.wf_scope.specs.declared.layer.Layer.{Layer}
 use Rattle.wf_scope.specs.declared.scopes.Scopes.{Scopes}
 use Rattle.wf_value.specs.Data.{Data, pairs_of}
 use Rattle.wf_value.specs.Maps.{key_cmp, value_at}

@@ -17,10 +17,9 @@ use Rattle.wf_model.specs.declared.node.Node.{Node}
 use Rattle.wf_model.specs.declared.node.NodeKind.{NodeKind}
 use Rattle.wf_model.specs.declared.node.NodeKind.TheVariants as variant
 use Rattle.wf_model.specs.declared.node.TryNode.{TryNode}
-use Rattle.wf_scope.specs.Layers.{find}
+use Rattle.wf_scope.specs.Layers.{Layer, find}
 use Rattle.wf_scope.specs.Store.{layers_of}
 use Rattle.wf_frames.specs.Tasks.{Far, Own}
-use Rattle.wf_scope.specs.declared.layer.Layer.{Layer}
 use Rattle.wf_scope.specs.declared.scopes.Scopes.{Scopes}
 
 -- ## Frames

@@ -6,9 +6,8 @@ use Rattle.wf_lemmas.proofs.Numbers.{unequal_turned}
 use Rattle.wf_frames.specs.Owned.{AreAlone, IsInside, KeysStand, Linked, OnlyInside, OwnStand, first_key, next_own, outer_for}
 use Rattle.wf_scope.proofs.Kept.{find_closed}
 use Rattle.wf_scope.proofs.Numbers.{find_tail}
-use Rattle.wf_scope.specs.Layers.{IsInnermost, IsLive, all_above, closed, find, is_inside, rises, vars_at, vars_in}
+use Rattle.wf_scope.specs.Layers.{IsInnermost, IsLive, Layer, all_above, closed, find, is_inside, rises, vars_at, vars_in}
 use Rattle.wf_frames.specs.Tasks.{AreOthers, Far, Own, far_layer, far_layers, layer_of, numbers, own_layers}
-use Rattle.wf_scope.specs.declared.layer.Layer.{Layer}
 use Rattle.wf_value.proofs.Order.{in_order_empty}
 use Rattle.wf_value.specs.Data.{pairs_of}
 use Rattle.wf_value.specs.Maps.{IsInOrder}

@@ -20,12 +20,11 @@ use Rattle.wf_scope.proofs.Numbers.{find_head, find_tail, found_cases}
 use Rattle.wf_scope.proofs.Seen.{vars_found}
 use Rattle.wf_scope.specs.Changes.{Answers, assigned, bound, bound_to, changed, target}
 use Rattle.wf_scope.specs.Faults.{faulted, raised}
-use Rattle.wf_scope.specs.Layers.{all_stand, find, put_at, total_of, vars_at, vars_in, with_variable}
+use Rattle.wf_scope.specs.Layers.{Layer, all_stand, find, put_at, total_of, vars_at, vars_in, with_variable}
 use Rattle.wf_scope.specs.Store.{layers_of}
 use Rattle.wf_frames.specs.Tasks.{Far, Own, SameAnswer}
 use Rattle.wf_scope.specs.declared.fault.AssignFault.{AssignFault}
 use Rattle.wf_scope.specs.declared.fault.AssignFault.TheVariants as fault
-use Rattle.wf_scope.specs.declared.layer.Layer.{Layer}
 use Rattle.wf_scope.specs.declared.scopes.Scopes.{Scopes}
 use Rattle.wf_value.proofs.Order.{in_order_with_value}
 use Rattle.wf_value.specs.Data.{Data, depth}

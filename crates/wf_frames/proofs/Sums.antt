@@ -9,10 +9,9 @@ use Rattle.wf_scope.proofs.Numbers.{find_head, find_tail, found_cases}
 use Rattle.wf_scope.proofs.Seen.{vars_found}
 use Rattle.wf_scope.proofs.Totals.{put_size, put_total}
 use Rattle.wf_scope.specs.Changes.{target}
-use Rattle.wf_scope.specs.Layers.{chain, find, holder_in, put_at, total_of, variable_size, vars_at, vars_in, with_variable}
+use Rattle.wf_scope.specs.Layers.{Layer, chain, find, holder_in, put_at, total_of, variable_size, vars_at, vars_in, with_variable}
 use Rattle.wf_scope.specs.Store.{layers_of}
 use Rattle.wf_frames.specs.Tasks.{AreApart, AreOthers, Far, Own, far_layers, numbers, numbers_seen, own_layers}
-use Rattle.wf_scope.specs.declared.layer.Layer.{Layer}
 use Rattle.wf_scope.specs.declared.scopes.Scopes.{Scopes}
 use Rattle.wf_value.specs.Data.{Data, pairs_of, pairs_size, size}
 use Rattle.wf_value.specs.Maps.{IsInOrder, value_at, with_value}

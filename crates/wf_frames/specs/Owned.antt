@@ -10,10 +10,9 @@ use Rattle.wf_frames.specs.Held.{Held, standing}
 use Rattle.wf_frames.specs.declared.frames.Frames.{Frames}
 use Rattle.wf_model.specs.Config.{Item}
 use Rattle.wf_model.specs.Local.{Local, layers_total, outers_total}
-use Rattle.wf_scope.specs.Layers.{find, total_of, vars_at}
+use Rattle.wf_scope.specs.Layers.{Layer, find, total_of, vars_at}
 use Rattle.wf_scope.specs.Store.{layers_of}
 use Rattle.wf_frames.specs.Tasks.{AreApart, Far, Own, far_layers, numbers, own_layers}
-use Rattle.wf_scope.specs.declared.layer.Layer.{Layer}
 use Rattle.wf_scope.specs.declared.scopes.Scopes.{Scopes}
 use Rattle.wf_model.specs.Spots.{Spot}
 use Rattle.wf_value.specs.Maps.{IsInOrder}

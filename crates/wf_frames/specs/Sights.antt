@@ -6,9 +6,8 @@ use Rattle.wf_eval.specs.Sight.{Sight}
 use Rattle.wf_frames.specs.declared.facts.Facts.{Facts}
 use Rattle.wf_frames.specs.declared.sighted.Seen.{Seen}
 use Rattle.wf_model.specs.Local.{Scene}
-use Rattle.wf_scope.specs.Layers.{chain}
+use Rattle.wf_scope.specs.Layers.{Layer, chain}
 use Rattle.wf_scope.specs.Store.{layers_of}
-use Rattle.wf_scope.specs.declared.layer.Layer.{Layer}
 use Rattle.wf_scope.specs.declared.scopes.Scopes.{Scopes}
 use Rattle.wf_value.specs.Data.{Data}
 use Rattle.wf_value.specs.Pairs.{Text}

@@ -17,10 +17,9 @@ use Rattle.wf_model.specs.Spots.{Spot}
 use Rattle.wf_model.specs.declared.node.Node.{Node}
 use Rattle.wf_model.specs.declared.node.NodeKind.{NodeKind}
 use Rattle.wf_model.specs.declared.node.NodeKind.TheVariants as variant
-use Rattle.wf_scope.specs.Layers.{find, total_of, vars_at}
+use Rattle.wf_scope.specs.Layers.{Layer, find, total_of, vars_at}
 use Rattle.wf_scope.specs.Store.{layers_of}
 use Rattle.wf_frames.specs.Tasks.{AreApart, AreOthers, Far, Own, far_layers, numbers, own_layers}
-use Rattle.wf_scope.specs.declared.layer.Layer.{Layer}
 use Rattle.wf_scope.specs.declared.scopes.Scopes.{Scopes}
 use Rattle.wf_value.specs.Data.{depth}
 use Rattle.wf_value.specs.Maps.{IsInOrder, key_cmp}

@@ -15,9 +15,8 @@ use Rattle.wf_value.specs.Pairs.{Text}
 use Rattle.wf_value.specs.declared.Raise.TheVariants as raise
 use Rattle.wf_scope.specs.Changes.{assigned}
 use Rattle.wf_scope.specs.Faults.{raised}
-use Rattle.wf_scope.specs.Layers.{IsLive, chain, look_in, total_of, vars_at}
+use Rattle.wf_scope.specs.Layers.{IsLive, Layer, chain, look_in, total_of, vars_at}
 use Rattle.wf_scope.specs.declared.fault.AssignFault.{AssignFault}
-use Rattle.wf_scope.specs.declared.layer.Layer.{Layer}
 
 -- ## Looking
 -- the variables of each layer that a task sees, innermost first: its own up to the innermost that a call opened, and past them, where

@@ -13,8 +13,8 @@ use Rattle.wf_model.specs.Layers.{opened, assign, Done, Refused, Undeclared}
 use Rattle.wf_model.specs.Local.{Local, Scene, leave}
 use Rattle.wf_scope.specs.Changes.{bound}
 use Rattle.wf_frames.specs.Tasks.{Own}
+use Rattle.wf_scope.specs.Layers.{Layer}
 use Rattle.wf_scope.specs.declared.fault.AssignFault.{AssignFault}
-use Rattle.wf_scope.specs.declared.layer.Layer.{Layer}
 use Rattle.wf_value.specs.Data.{Data, integer, Pairs}
 use Rattle.wf_value.specs.Pairs.{Text}
 use Rattle.wf_value.specs.declared.Tag.{Tag}

@@ -23,10 +23,9 @@ use Rattle.wf_model.specs.declared.node.FlowNode.{FlowNode}
 use Rattle.wf_model.specs.declared.node.Node.{Node}
 use Rattle.wf_model.specs.declared.node.NodeKind.{NodeKind}
 use Rattle.wf_model.specs.declared.node.NodeKind.TheVariants as kind
-use Rattle.wf_scope.specs.Layers.{opened, vars_at, vars_in}
+use Rattle.wf_scope.specs.Layers.{Layer, opened, vars_at, vars_in}
 use Rattle.wf_scope.specs.Store.{layers_of}
 use Rattle.wf_frames.specs.Tasks.{Far, Own, far_layers}
-use Rattle.wf_scope.specs.declared.layer.Layer.{Layer}
 use Rattle.wf_scope.specs.declared.scopes.Scopes.{Scopes}
 use Rattle.wf_value.proofs.Order.{in_order_empty, in_order_with_value}
 use Rattle.wf_value.specs.Data.{Data, Pairs, pairs_of, pairs_size}

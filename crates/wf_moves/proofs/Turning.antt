@@ -18,7 +18,6 @@ use Rattle.wf_model.specs.Move.{loop_names, moves, turns}
 use Rattle.wf_frames.proofs.Parts.{as_part, list_of, view_is}
 use Rattle.wf_moves.specs.Moved.{IsMove}
 use Rattle.wf_frames.specs.Tasks.{Own}
-use Rattle.wf_scope.specs.declared.layer.Layer.{Layer}
 use Rattle.wf_moves.specs.declared.finish.Went.{Went}
 use Rattle.wf_model.specs.NodeKinds.{block_view, kind_by, node_view, over_by}
 use Rattle.wf_model.specs.Spots.{Spot, BodyAt, owners_at, part_at, part_body, part_list, steps_by}
@@ -27,6 +26,7 @@ use Rattle.wf_model.specs.declared.node.LoopNode.{LoopNode}
 use Rattle.wf_model.specs.declared.node.Node.{Node}
 use Rattle.wf_model.specs.declared.node.NodeKind.{NodeKind}
 use Rattle.wf_model.specs.declared.node.NodeKind.TheVariants as kind
+use Rattle.wf_scope.specs.Layers.{Layer}
 use Rattle.wf_value.specs.Data.{Data}
 use Rattle.wf_value.specs.Errors.{error_map}
 use Rattle.wf_value.specs.Pairs.{Text}

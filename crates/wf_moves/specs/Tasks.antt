@@ -37,9 +37,8 @@ use Rattle.wf_model.specs.NodeKinds.{Listed, View}
 use Rattle.wf_model.specs.Spots.{FlowAt, Part, part_list}
 use Rattle.wf_model.specs.declared.node.CallNode.{CallNode}
 use Rattle.wf_model.specs.declared.node.Node.{Node}
-use Rattle.wf_scope.specs.Layers.{put_at}
+use Rattle.wf_scope.specs.Layers.{Layer, put_at}
 use Rattle.wf_scope.specs.Store.{layers_of}
-use Rattle.wf_scope.specs.declared.layer.Layer.{Layer}
 use Rattle.wf_scope.specs.declared.scopes.Scopes.{Scopes}
 use Rattle.wf_value.specs.Data.{Data, depth}
 use Rattle.wf_value.specs.Pairs.{Text}

@@ -5,9 +5,8 @@ use Rattle.std.proofs.lemmas.Bool.{le-leb}
 use Rattle.wf_value.specs.Data.{Data, depth}
 use Rattle.wf_value.specs.Pairs.{Text}
 use Rattle.wf_scope.specs.Changes.{bound}
-use Rattle.wf_scope.specs.Layers.{put_at, total_of}
+use Rattle.wf_scope.specs.Layers.{Layer, put_at, total_of}
 use Rattle.wf_scope.specs.declared.fault.AssignFault.TheVariants as fault
-use Rattle.wf_scope.specs.declared.layer.Layer.{Layer}
 
 module _ (limit n : ℕ) (x : Text) (v : Data) (ls : List Layer) where
   pub fits : total_of (put_at n x v ls) ≤ limit → depth v ≤ 100 → bound limit n x v ls ≡ Ok (put_at n x v ls)

@@ -9,9 +9,8 @@ use Rattle.wf_value.specs.Data.{Data}
 use Rattle.wf_value.specs.Maps.{IsInOrder, key_cmp, value_at, with_value}
 use Rattle.wf_value.specs.Pairs.{Text}
 use Rattle.wf_scope.specs.Firsts.{AllCover, Covers, HasNone, class_of}
-use Rattle.wf_scope.specs.Layers.{put_place}
+use Rattle.wf_scope.specs.Layers.{Layer, put_place}
 use Rattle.wf_scope.specs.declared.firsts.Firsts.{Firsts}
-use Rattle.wf_scope.specs.declared.layer.Layer.{Layer}
 
 -- ## Of one layer
 -- a hint that is 0

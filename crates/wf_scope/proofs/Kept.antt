@@ -7,8 +7,7 @@ use Rattle.std.proofs.lemmas.List.{set-get_or}
 use Rattle.std.proofs.lemmas.Option.{get_or_from_slice_get, slice_get_within}
 use Rattle.wf_value.specs.Data.{Data}
 use Rattle.wf_value.specs.Pairs.{Text}
-use Rattle.wf_scope.specs.Layers.{IsInnermost, IsLive, all_above, all_stand, closed, find, fresh, is_inside, is_outside, put_at, put_place, rises, stands, with_variable}
-use Rattle.wf_scope.specs.declared.layer.Layer.{Layer}
+use Rattle.wf_scope.specs.Layers.{IsInnermost, IsLive, Layer, all_above, all_stand, closed, find, fresh, is_inside, is_outside, put_at, put_place, rises, stands, with_variable}
 use Rattle.wf_scope.proofs.Numbers.{above_at, find_head, find_tail, found_cases, live_found, number_found}
 use Rattle.wf_scope.proofs.Seen.{outside}
 

@@ -7,3 +7,4 @@ pub mod Seen
 pub mod Totals
 pub mod Writing
 pub mod Spotted
+pub mod Viewed

@@ -4,8 +4,7 @@ use Rattle.std.specs.Prelude.{nat_eq, if◌then◌else◌}
 use Rattle.std.proofs.lemmas.Bool.{and_parts, eq-eqb, ne_eqb}
 use Rattle.wf_value.specs.Data.{Data}
 use Rattle.wf_value.specs.Pairs.{Text}
-use Rattle.wf_scope.specs.Layers.{IsInnermost, IsLive, StayInnermost, StayLive, all_stand, find, fresh, is_inside, put_at, stands, with_variable}
-use Rattle.wf_scope.specs.declared.layer.Layer.{Layer}
+use Rattle.wf_scope.specs.Layers.{IsInnermost, IsLive, Layer, StayInnermost, StayLive, all_stand, find, fresh, is_inside, put_at, stands, with_variable}
 use Rattle.wf_scope.proofs.Kept.{find_more, put_tells}
 use Rattle.wf_scope.proofs.Numbers.{find_head, found_cases, live_found, number_found}
 use Rattle.wf_scope.proofs.Seen.{outside}

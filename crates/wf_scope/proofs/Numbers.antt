@@ -7,8 +7,7 @@ use Rattle.std.proofs.lemmas.Bool.{and_parts, cases_lt, eq-eqb, eqb-true, false�
 use Rattle.std.proofs.lemmas.Bool.Decides.{nat_tests}
 use Rattle.std.proofs.lemmas.Cmp.{ranked}
 use Rattle.std.proofs.lemmas.Option.{get_or_from_slice_get, slice_get_read, slice_get_within}
-use Rattle.wf_scope.specs.Layers.{IsLive, all_above, find, fresh, rises}
-use Rattle.wf_scope.specs.declared.layer.Layer.{Layer}
+use Rattle.wf_scope.specs.Layers.{IsLive, Layer, all_above, find, fresh, rises}
 
 -- ## What is found
 pub find_head : (n : ℕ) (x : Layer) (ls : List Layer) → nat_eq x.number n ≡ true → find n (x ∷ ls) ≡ Some x

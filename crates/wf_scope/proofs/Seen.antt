@@ -4,8 +4,7 @@ use Rattle.std.proofs.lemmas.Bool.{and_parts, eqb-true, false≢true}
 use Rattle.wf_value.specs.Data.{Data}
 use Rattle.wf_value.specs.Maps.{value_at}
 use Rattle.wf_value.specs.Pairs.{Text}
-use Rattle.wf_scope.specs.Layers.{IsLive, all_stand, chain, chain_in, depth_in, find, holder_in, is_outside, look_in, stands, vars_at, vars_in}
-use Rattle.wf_scope.specs.declared.layer.Layer.{Layer}
+use Rattle.wf_scope.specs.Layers.{IsLive, Layer, all_stand, chain, chain_in, depth_in, find, holder_in, is_outside, look_in, stands, vars_at, vars_in}
 use Rattle.wf_scope.proofs.Numbers.{found_cases}
 
 -- ## The layer outside

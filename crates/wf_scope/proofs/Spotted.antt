@@ -8,9 +8,8 @@ use Rattle.wf_value.proofs.Seeks.{found_value, found_within, missing_value}
 use Rattle.wf_value.specs.Data.{Data, null}
 use Rattle.wf_value.specs.Maps.{IsInOrder, key_cmp, place_of, value_at}
 use Rattle.wf_value.specs.Pairs.{Text}
-use Rattle.wf_scope.specs.Layers.{all_stand, chain, find, holder_in, vars_at, vars_in}
+use Rattle.wf_scope.specs.Layers.{Layer, all_stand, chain, find, holder_in, vars_at, vars_in}
 use Rattle.wf_scope.specs.Spots.{IsSpot}
-use Rattle.wf_scope.specs.declared.layer.Layer.{Layer}
 use Rattle.wf_scope.specs.declared.scopes.Spot.{Spot}
 use Rattle.wf_scope.proofs.Numbers.{number_found}
 use Rattle.wf_scope.proofs.Seen.{chain_last, chain_outer, holder_here, holder_past, vars_found}

@@ -13,8 +13,7 @@ use Rattle.std.proofs.lemmas.Map.Keys.{sorted_tail}
 use Rattle.wf_value.specs.Data.{Data, size, pairs_size, pairs_of}
 use Rattle.wf_value.specs.Maps.{IsInOrder, key_cmp, value_at, with_value}
 use Rattle.wf_value.specs.Pairs.{Text}
-use Rattle.wf_scope.specs.Layers.{IsLive, closed, find, put_at, total_of, variable_size, vars_at, with_variable}
-use Rattle.wf_scope.specs.declared.layer.Layer.{Layer}
+use Rattle.wf_scope.specs.Layers.{IsLive, Layer, closed, find, put_at, total_of, variable_size, vars_at, with_variable}
 use Rattle.wf_scope.proofs.Kept.{closed_head, closed_tail}
 use Rattle.wf_scope.proofs.Numbers.{found_cases, live_found}
 use Rattle.wf_scope.proofs.Seen.{vars_found}

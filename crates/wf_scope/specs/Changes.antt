@@ -8,10 +8,9 @@ use Rattle.wf_value.specs.Errors.{Answer}
 use Rattle.wf_value.specs.Maps.{value_at}
 use Rattle.wf_value.specs.Pairs.{Text}
 use Rattle.wf_scope.specs.Faults.{faulted}
-use Rattle.wf_scope.specs.Layers.{chain, holder_in, put_at, total_of, vars_at}
+use Rattle.wf_scope.specs.Layers.{Layer, chain, holder_in, put_at, total_of, vars_at}
 use Rattle.wf_scope.specs.declared.fault.AssignFault.{AssignFault}
 use Rattle.wf_scope.specs.declared.fault.AssignFault.TheVariants as fault
-use Rattle.wf_scope.specs.declared.layer.Layer.{Layer}
 
 -- a variable of a layer with this value, if the total and the nesting are within their limits
 abbrev pub bound : ℕ → ℕ → Text → Data → List Layer → Result (List Layer) AssignFault

@@ -9,8 +9,8 @@ use Rattle.std.specs.Map.{keys_of}
 use Rattle.wf_value.specs.Data.{Data}
 use Rattle.wf_value.specs.Maps.{IsInOrder, key_cmp, value_at}
 use Rattle.wf_value.specs.Pairs.{Text}
+use Rattle.wf_scope.specs.Layers.{Layer}
 use Rattle.wf_scope.specs.declared.firsts.Firsts.{Firsts}
-use Rattle.wf_scope.specs.declared.layer.Layer.{Layer}
 
 -- the first byte modulo 32; the empty name has class 0
 abbrev pub class_of : Text → ℕ

@@ -1,4 +1,5 @@
 -- Layers of variables by their numbers.
+--     Layer                 a layer, as contracts see it
 --     find, vars_at         a layer and its variables, by its number
 --     chain, look_in        the layers that are seen from one, innermost first, and a variable in them
 --     holder_in             the number of the layer in which it stands
@@ -9,7 +10,13 @@ use Rattle.std.specs.Prelude.{◌≡◌, ℕ, zero, suc, ◌+◌, max, Bool, tru
 use Rattle.wf_value.specs.Data.{Data, size, pairs_size, pairs_of}
 use Rattle.wf_value.specs.Maps.{value_at, with_value}
 use Rattle.wf_value.specs.Pairs.{Text}
-use Rattle.wf_scope.specs.declared.layer.Layer.{Layer}
+
+-- variables by their names, with the number of the layer outside, if there is one, and the count of those around
+pub record Layer : Type 0 where
+  pub number : ℕ
+  pub outer : Option ℕ
+  pub depth : ℕ
+  pub vars : List (Text × Data)
 
 -- ## By number
 abbrev pub find : ℕ → List Layer → Option Layer

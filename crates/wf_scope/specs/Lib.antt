@@ -5,3 +5,4 @@ pub mod Layers
 pub mod Places
 pub mod Spots
 pub mod Store
+pub mod Views

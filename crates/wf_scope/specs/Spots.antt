@@ -3,8 +3,7 @@ use Rattle.std.specs.Prelude.{◌≡◌, ◌<◌, List, length, slice_get}
 use Rattle.wf_value.specs.Maps.{IsInOrder, place_of, value_at}
 use Rattle.wf_value.specs.Pairs.{Text}
 use Rattle.wf_scope.specs.Firsts.{class_of}
-use Rattle.wf_scope.specs.Layers.{find, variable_size, vars_at}
-use Rattle.wf_scope.specs.declared.layer.Layer.{Layer}
+use Rattle.wf_scope.specs.Layers.{Layer, find, variable_size, vars_at}
 use Rattle.wf_scope.specs.declared.scopes.Spot.{Spot}
 
 -- the place of its layer, its own place there, its name's class, and what it counts

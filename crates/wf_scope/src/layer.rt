@@ -1,6 +1,7 @@
 // A layer of variables.
 ghost use Rattle.std.specs.Prelude.{◌≡◌, ◌≢◌, [], MatchBool, None, is_ok, if◌then◌else◌, option_map};
 ghost use Rattle.wf_scope.specs.Layers.{with_variable};
+ghost use Rattle.wf_scope.specs.Views.{layer_view};
 ghost use Rattle.wf_value.specs.Maps.{IsInOrder, place_of, value_at};
 ghost use Rattle.wf_value.specs.Plain.{plain};
 
@@ -86,8 +87,9 @@ impl Layer {
         value: Value,
     ) -> Result<(), OutOfMemory>
         requires { place ≡ place_of name.now self.old.vars }
-        ensures { self.new ≡ (if is_ok result then with_variable name.now (plain value) self.old
-            else self.old) }
+        ensures { layer_view self.new ≡ (if is_ok result
+            then with_variable name.now (plain value) (layer_view self.old)
+            else layer_view self.old) }
     {
         self.vars.put_at(place, name, value)?;
         Ok(())

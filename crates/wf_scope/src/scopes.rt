@@ -6,7 +6,8 @@ ghost use Rattle.wf_value.specs.Plain.{plain};
 ghost use Rattle.wf_scope.specs.Layers.{IsInnermost, IsLive, StayInnermost, StayLive, all_stand, chain, closed, depth_in, find, fresh, holder_in, look_in, opened, put_at, put_place, rises, stands, total_of, vars_at};
 ghost use Rattle.wf_scope.specs.Firsts.{AllCover, AllCover-prop, HasNone, class_of};
 ghost use Rattle.wf_scope.specs.Spots.{IsSpot};
-ghost use Rattle.wf_scope.specs.declared.layer.Layer as declared;
+ghost use Rattle.wf_scope.specs.Views.{views};
+ghost use Rattle.wf_scope.specs.Layers as seen;
 
 use crate::fault::AssignFault;
 use crate::firsts::{Firsts, class_of};
@@ -43,12 +44,12 @@ pub struct Scopes {
     layers: Vec<Layer>,
     firsts: Vec<Firsts>,
     total: u64,
-    ghost counted: { total ≡ total_of layers.items },
+    ghost counted: { total ≡ total_of (views layers.items) },
     ghost room: { total ≤ 18446744073709551613 },
-    ghost rising: { rises layers.items ≡ true },
-    ghost standing: { all_stand layers.items layers.items ≡ true },
-    ghost paired: { length firsts.items ≡ length layers.items },
-    ghost covering: { AllCover firsts.items layers.items } by { AllCover-prop _ _ },
+    ghost rising: { rises (views layers.items) ≡ true },
+    ghost standing: { all_stand (views layers.items) (views layers.items) ≡ true },
+    ghost paired: { length firsts.items ≡ length (views layers.items) },
+    ghost covering: { AllCover firsts.items (views layers.items) } by { AllCover-prop _ _ },
 }
 
 /// Where a variable of a layer stands, or where it belongs.
@@ -266,7 +267,7 @@ impl Scopes {
     fn hint(&self, layer: usize, class: usize) -> u8
         requires layer { layer < length (layers_of self.now) }
         requires class { class < 32 }
-        ensures { (l : declared.Layer) → slice_get (layers_of self.now) layer ≡ Some l
+        ensures { (l : seen.Layer) → slice_get (layers_of self.now) layer ≡ Some l
             → result ≡ 0 → HasNone class l.vars }
     {
         self.firsts[layer].hints[class]
@@ -410,7 +411,7 @@ impl Scopes {
     }
 
     /// A number above those of all live layers.
-    #[tactic(auto, using(crate::proofs::Numbers::fresh_last))]
+    #[tactic(auto, using(crate::proofs::Viewed::view_last))]
     fn fresh(&self) -> Result<u64, OutOfMemory>
         ensures { IfOk result (λ n. n ≡ fresh (layers_of self.now)) }
     {
@@ -472,11 +473,11 @@ fn put(
     name: &Text,
     value: Value,
 ) -> Result<(), OutOfMemory>
-    requires within { place < length layers.old.items }
-    requires pair { (l : declared.Layer) → slice_get layers.old.items place ≡ Some l
+    requires within { place < length (views layers.old.items) }
+    requires pair { (l : seen.Layer) → slice_get (views layers.old.items) place ≡ Some l
         → pair ≡ place_of name.now l.vars }
-    ensures { layers.new.items ≡ (if is_ok result then put_place place name.now (plain value)
-        layers.old.items else layers.old.items) }
+    ensures { views layers.new.items ≡ (if is_ok result then put_place place name.now (plain value)
+        (views layers.old.items) else views layers.old.items) }
 {
     let layer = &mut layers[place];
     layer.put(pair, name, value)

@@ -6,23 +6,26 @@ use Rattle.wf_scope.specs.Layers.{depth_in, find, vars_at}
 use Rattle.wf_scope.proofs.Numbers.{layer_at}
 use Rattle.wf_scope.proofs.Seen.{outer_live, vars_found}
 use Rattle.wf_scope.proofs.Spotted.{held_nowhere, holder_held, holder_nowhere, holder_outside}
+use Rattle.wf_scope.specs.Store.{layers_of}
+use Rattle.wf_scope.specs.Views.{layer_view}
+use Rattle.wf_scope.proofs.Viewed.{view_read}
 use Rattle.wf_scope.proofs.scopes.Scopes.target.Goals as goal
 use Rattle.wf_scope.proofs.scopes.Scopes.target.Goals.{then-hint-gt0+in_default, else-hint-gt0}
 
 pub loop-spot-smaller : goal.loop-spot-smaller
 loop-spot-smaller c =
-    let ls = c.args.self.now.layers.items in
-    let here = layer_at c.loop-spot.here ls c.place-place.result c.index.result.now c.place-place.ensures.within c.index.ensures c.place-place.ensures.found in
-    let less : depth_in (find c.in-Some-outer.outer ls) < depth_in (find c.loop-spot.here ls) = (outer_live c.loop-spot.here c.in-Some-outer.outer ls c.index.result.now c.args.self.now.standing here c.in-Some-outer.is).1 in
+    let ls = layers_of c.args.self.now in
+    let here = layer_at c.loop-spot.here ls c.place-place.result (layer_view c.index.result.now) c.place-place.ensures.within (view_read c.args.self.now.layers.items c.place-place.result c.index.result.now c.index.ensures) c.place-place.ensures.found in
+    let less : depth_in (find c.in-Some-outer.outer ls) < depth_in (find c.loop-spot.here ls) = (outer_live c.loop-spot.here c.in-Some-outer.outer ls (layer_view c.index.result.now) c.args.self.now.standing here c.in-Some-outer.is).1 in
     omega (arith, less)
 
 pub loop-spot-preserved : goal.loop-spot-preserved
 loop-spot-preserved c =
-    let ls = c.args.self.now.layers.items in
-    let l = c.index.result.now in
+    let ls = layers_of c.args.self.now in
+    let l = layer_view c.index.result.now in
     let x = c.args.name.now in
     let o = c.in-Some-outer.outer in
-    let here = layer_at c.loop-spot.here ls c.place-place.result l c.place-place.ensures.within c.index.ensures c.place-place.ensures.found in
+    let here = layer_at c.loop-spot.here ls c.place-place.result l c.place-place.ensures.within (view_read c.args.self.now.layers.items c.place-place.result c.index.result.now c.index.ensures) c.place-place.ensures.found in
     let none : value_at x (vars_at c.loop-spot.here ls) ≡ None = elim c.if-hint-gt0.branch [
       | then-hint-gt0+in_default w ↦ sym w.spot_at.ensures.value ∙ ap (option_map (λ v. plain v.now)) w.in_default.is
       | else-hint-gt0 w ↦ ap (value_at x) (vars_found c.loop-spot.here ls l here) ∙ c.hint.ensures l (c.place-place.ensures.found ∙ here) (omega (arith, w.if-hint-gt0.false)) x c.class_of-class.ensures.class
@@ -35,14 +38,14 @@ loop-spot-preserved c =
 pub returns-in-Some-clause-holder : goal.returns-in-Some-clause-holder
 returns-in-Some-clause-holder c =
     let at = sym c.spot_at.ensures.value ∙ ap (option_map (λ v. plain v.now)) c.in-Some.is in
-    ap Some c.spot_at.ensures.number ∙ sym (c.loop-spot.invariant.same ∙ holder_held c.loop-spot.here c.args.self.now.layers.items c.args.name.now (plain c.in-Some.value.now) at)
+    ap Some c.spot_at.ensures.number ∙ sym (c.loop-spot.invariant.same ∙ holder_held c.loop-spot.here (layers_of c.args.self.now) c.args.name.now (plain c.in-Some.value.now) at)
 
 pub returns-clause-holder : goal.returns-clause-holder
 returns-clause-holder c =
-    let ls = c.args.self.now.layers.items in
-    let l = c.index.result.now in
+    let ls = layers_of c.args.self.now in
+    let l = layer_view c.index.result.now in
     let x = c.args.name.now in
-    let here = layer_at c.loop-spot.here ls c.place-place.result l c.place-place.ensures.within c.index.ensures c.place-place.ensures.found in
+    let here = layer_at c.loop-spot.here ls c.place-place.result l c.place-place.ensures.within (view_read c.args.self.now.layers.items c.place-place.result c.index.result.now c.index.ensures) c.place-place.ensures.found in
     let none : value_at x (vars_at c.loop-spot.here ls) ≡ None = elim c.if-hint-gt0.branch [
       | then-hint-gt0+in_default w ↦ sym w.spot_at.ensures.value ∙ ap (option_map (λ v. plain v.now)) w.in_default.is
       | else-hint-gt0 w ↦ ap (value_at x) (vars_found c.loop-spot.here ls l here) ∙ c.hint.ensures l (c.place-place.ensures.found ∙ here) (omega (arith, w.if-hint-gt0.false)) x c.class_of-class.ensures.class
@@ -51,10 +54,10 @@ returns-clause-holder c =
 
 pub returns-clause-value : goal.returns-clause-value
 returns-clause-value c =
-    let ls = c.args.self.now.layers.items in
-    let l = c.index.result.now in
+    let ls = layers_of c.args.self.now in
+    let l = layer_view c.index.result.now in
     let x = c.args.name.now in
-    let here = layer_at c.loop-spot.here ls c.place-place.result l c.place-place.ensures.within c.index.ensures c.place-place.ensures.found in
+    let here = layer_at c.loop-spot.here ls c.place-place.result l c.place-place.ensures.within (view_read c.args.self.now.layers.items c.place-place.result c.index.result.now c.index.ensures) c.place-place.ensures.found in
     let none : value_at x (vars_at c.loop-spot.here ls) ≡ None = elim c.if-hint-gt0.branch [
       | then-hint-gt0+in_default w ↦ sym w.spot_at.ensures.value ∙ ap (option_map (λ v. plain v.now)) w.in_default.is
       | else-hint-gt0 w ↦ ap (value_at x) (vars_found c.loop-spot.here ls l here) ∙ c.hint.ensures l (c.place-place.ensures.found ∙ here) (omega (arith, w.if-hint-gt0.false)) x c.class_of-class.ensures.class
