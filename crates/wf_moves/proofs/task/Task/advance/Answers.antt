@@ -2,12 +2,19 @@ use Rattle.std.proofs.Common.{sym, subst}
 use Rattle.wf_lemmas.proofs.Results.{with_ok}
 use Rattle.wf_frames.specs.Frames.{inner}
 use Rattle.wf_frames.specs.Owned.{control_of, local_of}
-use Rattle.wf_moves.proofs.Waiting.{awake_local, logged_local, logged_then}
+use Rattle.wf_moves.proofs.Going.{is_going}
+use Rattle.wf_moves.proofs.Waiting.{awake_local, is_awake, logged_local, logged_then}
 use Rattle.wf_moves.specs.Moved.{IsMove, IsWent}
 use Rattle.wf_moves.specs.Stepped.{stepped, stepped_at}
 use Rattle.wf_moves.specs.Tasks.{HasLogged, IsDone, IsLeftSo, IsRequest, MovesSo}
-use Rattle.wf_moves.specs.Waits.{task_local, wait_view}
+use Rattle.wf_moves.specs.Waits.{GoesFrom, task_local, wait_view}
 use Rattle.wf_moves.proofs.task.Task.advance.Goals as goal
+
+pub advance-requires : goal.advance-requires
+advance-requires g c =
+    let t = c.args.self.now in
+    let goes = subst (λ w. GoesFrom c.args.nodes.now w (inner t.frames)) (is_awake t.wait c.requires.1.1.1.1) c.requires.1.1.1.0 in
+    (c.requires.0, (c.requires.1.0, (c.requires.1.1.0, is_going c.args.nodes.now (inner t.frames) goes)))
 
 pub follow-requires : goal.follow-requires
 follow-requires g c = (
