@@ -2,6 +2,7 @@ pub mod Binding
 pub mod Hints
 pub mod Kept
 pub mod Live
+pub mod Named
 pub mod Numbers
 pub mod Seen
 pub mod Totals

@@ -1,49 +1,35 @@
 -- Where a variable of a layer stands.
-use Rattle.std.proofs.Common.{◌≡◌, HoldsAt, Equal, ℕ, true, List, [], Ok, Err, Option, Some, None, get_or, refl, sym, ap, ◌∙◌}
-use Rattle.std.specs.Prelude.{slice_get}
+use Rattle.std.proofs.Common.{subst, ◌≡◌, ◌<◌, ◌≤◌, ◌+◌, arith, length, Equal, ℕ, true, List, [], Ok, Err, Option, Some, None, get_or, refl, sym, ap, ◌∙◌}
 use Rattle.std.proofs.lemmas.Cmp.{nat_list_cmp_total, tied_itself}
-use Rattle.std.proofs.lemmas.Option.{get_or_from_slice_get, slice_get-get_or, slice_get_within}
-use Rattle.wf_value.proofs.Searches.{found}
-use Rattle.wf_value.proofs.Seeks.{found_value, found_within, missing_value}
-use Rattle.wf_value.specs.Data.{Data, null}
+use Rattle.wf_value.proofs.Searches.{found, holds_at}
+use Rattle.wf_value.specs.Data.{Data, size}
 use Rattle.wf_value.specs.Maps.{IsInOrder, key_cmp, place_of, value_at}
 use Rattle.wf_value.specs.Pairs.{Text}
-use Rattle.wf_scope.specs.Layers.{Layer, all_stand, chain, find, holder_in, vars_at, vars_in}
+use Rattle.wf_value.specs.declared.Value.{Value}
+use Rattle.wf_scope.specs.Names.{bound_of}
+use Rattle.wf_scope.specs.Layers.{IsLive, Layer, all_stand, chain, find, holder_in, put_at, total_of, variable_size, vars_at, vars_in}
 use Rattle.wf_scope.specs.Spots.{IsSpot}
+use Rattle.wf_scope.specs.Views.{views}
+use Rattle.wf_scope.specs.declared.layer.Layer as declared
 use Rattle.wf_scope.specs.declared.scopes.Spot.{Spot}
-use Rattle.wf_scope.proofs.Numbers.{number_found}
+use Rattle.wf_scope.proofs.Numbers.{live_found, number_found}
 use Rattle.wf_scope.proofs.Seen.{chain_last, chain_outer, holder_here, holder_past, vars_found}
+use Rattle.wf_scope.proofs.Totals.{counted_within, put_total}
+use Rattle.wf_scope.proofs.Viewed.{order_found}
 
 -- ## Where none stands
-pub empty_place : (x : Text) (vs : List (Text × Data)) → vs ≡ [] → Err 0 ≡ place_of x vs
-empty_place x vs e = sym (ap (place_of x) e)
+pub empty_place : (x : Text) (es : List (Text × Option Value)) → es ≡ [] → Err 0 ≡ place_of x es
+empty_place x es e = sym (ap (place_of x) e)
 
-pub empty_value : (x : Text) (vs : List (Text × Data)) → vs ≡ [] → None ≡ value_at x vs
-empty_value x vs e = sym (ap (value_at x) e)
+pub empty_value : (x : Text) (es : List (Text × Option Value)) → es ≡ [] → None ≡ value_at x (bound_of es)
+empty_value x es e = sym (ap (λ ns. value_at x (bound_of ns)) e)
 
 -- ## Where it stands
-module _ (x : Text) (vs : List (Text × Data)) (i : ℕ) where
-  -- the pair at the place where it was found
-  pub value_there : (k : Text) (v : Data) → Ok i ≡ place_of x vs → Some (k, v) ≡ slice_get vs i → Some v ≡ value_at x vs
-  value_there k v h at = sym (found_value vs x i (k, v) h ∙ ap (λ p. Some p.1) (get_or_from_slice_get vs i (k, v) (k, v) (sym at)))
-
-  -- the key at a place that was tried
-  pub tried_there : (k : Text) (v : Data) → IsInOrder vs → k ≡ x → Some (k, v) ≡ slice_get vs i → Ok i ≡ place_of x vs
-  tried_there k v order same at =
-      let there : HoldsAt (λ p. key_cmp p.0 x ≡ Equal) vs i = λ d. ap (λ (p : Text × Data). key_cmp p.0 x) (get_or_from_slice_get vs i (k, v) d (sym at)) ∙ ap (λ (t : Text). key_cmp t x) same ∙ tied_itself nat_list_cmp_total x in
-      sym (found x vs i order (slice_get_within vs i (k, v) (sym at)) there)
-
-  -- one stands there
-  pub stands_there : Ok i ≡ place_of x vs → None ≡ slice_get vs i → None ≡ value_at x vs
-  stands_there h at = let there : None ≡ Some (get_or vs i (x, null)) = at ∙ slice_get-get_or vs i (x, null) (found_within vs x i h) in cc there
-
-  pub nothing_there : IsInOrder vs → Err i ≡ place_of x vs → None ≡ value_at x vs
-  nothing_there order h = sym (missing_value vs x i order h)
-
--- ## In a store
--- its place among the variables of the layer that stands there
-pub spot_pair : (s : Spot) (x : Text) (ls : List Layer) → IsSpot s x ls → (l : Layer) → slice_get ls s.layer ≡ Some l → s.pair ≡ place_of x l.vars
-spot_pair s x ls is l at = is.pair ∙ ap (place_of x) (vars_found s.number ls l (sym is.layer ∙ at))
+-- the name at a place that was tried
+pub tried_there : (x : Text) (es : List (Text × Option Value)) (i : ℕ) (e : Text × Option Value) → IsInOrder es → i < length es → e ≡ get_or es i e → e.0 ≡ x → Ok i ≡ place_of x es
+tried_there x es i e order within is same =
+    let here : key_cmp (get_or es i e).0 x ≡ Equal = ap (λ (p : Text × Option Value). key_cmp p.0 x) (sym is) ∙ ap (λ (t : Text). key_cmp t x) same ∙ tied_itself nat_list_cmp_total x in
+    sym (found x es i order within (holds_at x (λ p. key_cmp p.0 x ≡ Equal) es i e within here))
 
 -- ## Whose variable it is
 module _ (n : ℕ) (ls : List Layer) (x : Text) where
@@ -71,3 +57,14 @@ module _ (n : ℕ) (ls : List Layer) (x : Text) where
   pub holder_nowhere : (l : Layer) → find n ls ≡ Some l → l.outer ≡ None → value_at x (vars_at n ls) ≡ None → holder_in x (chain n ls) ≡ None
   holder_nowhere l here out at =
       holder_past (chain n ls) [] l x (chain_last n ls l here out) (ap (value_at x) (sym (vars_found n ls l here)) ∙ at)
+
+-- ## What all count once a variable has a value at its spot
+pub spot_total : (s : Spot) (x : Text) (v : Data) (xs : List declared.Layer) → IsSpot s x xs → IsLive s.number (views xs)
+    → (s.counted ≤ total_of (views xs)) × (total_of (put_at s.number x v (views xs)) + s.counted ≡ total_of (views xs) + (2 + length x + size v))
+spot_total s x v xs is live =
+    let ls = views xs in
+    let found = live_found s.number ls live in
+    let vars = vars_found s.number ls found.0 found.1 in
+    let there : variable_size x (value_at x (vars_at s.number ls)) ≡ variable_size x (value_at x found.0.vars) = ap (λ ps. variable_size x (value_at x ps)) vars in
+    let put = put_total s.number x v ls found.0 found.1 (subst (λ ps. IsInOrder ps) vars (order_found xs s.number)) in
+    (counted_within s.number x ls s.counted (total_of ls) live refl is.counted, omega (arith, is.counted, there, put))

@@ -1,11 +1,10 @@
 -- What variables come to, behind a change.
-use Rattle.std.proofs.Common.{◌≡◌, ◌≢◌, ◌≤◌, MatchBool, inl, inr, ℕ, ◌+◌, ◌-◌, min, Bool, true, false, List, [], ◌∷◌, ◌++◌, length, Some, None, Ordering, Less, Equal, Greater, refl, sym, ap, ◌∙◌, arith, cond}
-use Rattle.std.specs.Prelude.{nat_eq, if◌then◌else◌}
+use Rattle.std.proofs.Common.{◌≡◌, ◌≤◌, inl, inr, ℕ, ◌+◌, ◌-◌, min, Bool, true, false, List, [], ◌∷◌, ◌++◌, length, Some, None, Ordering, Less, Equal, Greater, refl, sym, ap, ◌∙◌, arith, cond}
+use Rattle.std.specs.Prelude.{if◌then◌else◌}
 use Rattle.std.specs.BTreeMap.{is_at}
 use Rattle.std.specs.FinMap.{slice_cmp-IsAntisymmetric, nat_cmp-IsAntisymmetric}
 use Rattle.std.specs.Map.{keys_of}
 use Rattle.std.specs.Ordering.{match_ordering, is_eq}
-use Rattle.std.proofs.lemmas.Bool.{eqb-false, eqb-true}
 use Rattle.std.proofs.lemmas.Cmp.{nat_list_cmp_total}
 use Rattle.std.proofs.lemmas.Map.{lookup-none}
 use Rattle.std.proofs.lemmas.Map.Entries.{none_below_head}
@@ -35,18 +34,6 @@ total_closed n (x ∷ ls) l e = elim (found_cases n x ls l e) [
 ]
 
 -- ## A variable in a layer
--- a map that counts 2 holds none
-none_counted : (es : List (Text × Data)) → min (2 + pairs_size (pairs_of es)) 18446744073709551615 ≡ 2 → es ≡ []
-none_counted [] h = refl
-none_counted (e ∷ es) h = absurd (omega (arith, h))
-
-pub holds_none : (es : List (Text × Data)) (r : ℕ) → r ≡ min (2 + pairs_size (pairs_of es)) 18446744073709551615 → MatchBool (nat_eq r 2) (es ≡ []) (es ≢ [])
-holds_none es r is = by (nat_eq r 2) refl
-  where
-    by : (b : Bool) → nat_eq r 2 ≡ b → MatchBool b (es ≡ []) (es ≢ [])
-    by true t = none_counted es (sym is ∙ eqb-true r 2 t)
-    by false f = λ none. eqb-false r 2 f (is ∙ ap (λ ps. min (2 + pairs_size (pairs_of ps)) 18446744073709551615) none)
-
 -- the pairs with a variable put, and the old one, are the pairs and the new one
 pub put_size : (k : Text) (v : Data) (es : List (Text × Data)) → IsInOrder es → pairs_size (pairs_of (with_value k v es)) + variable_size k (value_at k es) ≡ pairs_size (pairs_of es) + (2 + length k + size v)
 put_size k v [] s = omega arith
@@ -58,7 +45,7 @@ put_size k v (e ∷ es) s = by (key_cmp k e.0) refl (put_size k v es (sorted_tai
     by Equal p later = omega (arith, ap (λ (t : Text). length t) (slice_cmp-IsAntisymmetric nat_cmp-IsAntisymmetric k e.0 p))
     by Greater p later = omega (arith, later)
 
-variable_within : (k : Text) (es : List (Text × Data)) → variable_size k (value_at k es) ≤ pairs_size (pairs_of es)
+pub variable_within : (k : Text) (es : List (Text × Data)) → variable_size k (value_at k es) ≤ pairs_size (pairs_of es)
 variable_within k [] = omega arith
 variable_within k (e ∷ es) = by (key_cmp k e.0) refl (variable_within k es)
   where
@@ -101,18 +88,12 @@ counted_within n x ls r total live t is =
 pub counted_none : (n : ℕ) (x : Text) (ls : List Layer) (l : Layer) → find n ls ≡ Some l → value_at x l.vars ≡ None → 0 ≡ variable_size x (value_at x (vars_at n ls))
 counted_none n x ls l f e = sym (ap (λ ps. variable_size x (value_at x ps)) (vars_found n ls l f) ∙ ap (variable_size x) e)
 
--- the total, with a new value for a variable
-pub total_put : (n : ℕ) (x : Text) (v : Data) (ls : List Layer) (l : Layer) (total old new r : ℕ) → find n ls ≡ Some l → IsInOrder (vars_at n ls) → total ≡ total_of ls → old ≡ variable_size x (value_at x (vars_at n ls)) → old ≤ total
-    → new ≡ min (2 + length x + size v) 18446744073709551615 → r ≡ min (total - old + new) 18446744073709551615 → r ≡ min (total_of (put_at n x v ls)) 18446744073709551615
-total_put n x v ls l total old new r f order t o le m is =
-    let vars = vars_found n ls l f in
-    let there : variable_size x (value_at x (vars_at n ls)) ≡ variable_size x (value_at x l.vars) = ap (λ ps. variable_size x (value_at x ps)) vars in
-    let put = put_total n x v ls l f (rw vars at order) in
-    omega (arith, there, put, t, o, le, m, is)
+-- what a layer counts is at most what all count
+pub layer_within : (n : ℕ) (ls : List Layer) (l : Layer) (counted : ℕ) → find n ls ≡ Some l → counted ≡ pairs_size (pairs_of l.vars) → counted ≤ total_of ls
+layer_within n ls l counted f is = omega (arith, total_closed n ls l f, is)
 
 -- a layer that ends
-pub ended : (n : ℕ) (ls : List Layer) (l : Layer) (counted total : ℕ) → find n ls ≡ Some l → total ≡ total_of ls → total ≤ 18446744073709551613 → counted ≡ min (2 + pairs_size (pairs_of l.vars)) 18446744073709551615
-    → (2 ≤ counted) × (counted - 2 ≤ total) × (total - (counted - 2) ≡ total_of (closed n ls))
-ended n ls l counted total f t room is =
+pub ended : (n : ℕ) (ls : List Layer) (l : Layer) (counted total : ℕ) → find n ls ≡ Some l → total ≡ total_of ls → counted ≡ pairs_size (pairs_of l.vars) → (counted ≤ total) × (total - counted ≡ total_of (closed n ls))
+ended n ls l counted total f t is =
     let all = total_closed n ls l f in
-    (omega (arith, is), omega (arith, all, is, t, room), omega (arith, all, is, t, room))
+    (omega (arith, all, is, t), omega (arith, all, is, t))

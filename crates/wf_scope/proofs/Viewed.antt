@@ -1,13 +1,18 @@
 -- Layers as they are seen: what is read, added, taken out and changed.
-use Rattle.std.proofs.Common.{◌≡◌, ◌<◌, ◌+◌, ◌-◌, true, Some, ℕ, zero, suc, List, [], ◌∷◌, ◌++◌, length, get_or, Equal, Less, Greater, Result, Ok, Err, refl, sym, ap, ◌∙◌, arith}
-use Rattle.std.specs.Prelude.{option_map, slice_get, slice_set}
+use Rattle.std.proofs.Common.{◌≡◌, ◌<◌, ◌+◌, ◌-◌, Bool, true, false, Some, ℕ, zero, suc, List, [], ◌∷◌, ◌++◌, length, get_or, Equal, Less, Greater, Result, Ok, Err, refl, sym, ap, ◌∙◌, arith}
+use Rattle.std.specs.Prelude.{if◌then◌else◌, nat_eq, option_map, slice_get, slice_set}
 use Rattle.std.proofs.lemmas.Option.{slice_get-map}
 use Rattle.std.specs.List.{remove}
 use Rattle.std.specs.List.Sorted.{IsBinarySearchResult, IsSearchInRange}
 use Rattle.std.specs.Ordering.{nat_cmp, ordering_index}
-use Rattle.wf_scope.specs.Layers.{Layer, fresh, rises}
+use Rattle.wf_scope.specs.Layers.{Layer, find, fresh, rises, vars_at, vars_in}
 use Rattle.wf_scope.specs.Views.{layer_view, views}
 use Rattle.wf_scope.specs.declared.layer.Layer as declared
+use Rattle.wf_value.proofs.Order.{in_order_empty}
+use Rattle.wf_value.specs.Data.{Data}
+use Rattle.wf_value.specs.Maps.{IsInOrder}
+use Rattle.wf_value.specs.Pairs.{Text}
+use Rattle.wf_scope.proofs.Named.{in_order_bound}
 use Rattle.wf_scope.proofs.Numbers.{fresh_last}
 
 pub view_length : (xs : List declared.Layer) → length (views xs) ≡ length xs
@@ -27,6 +32,10 @@ view_read xs i l is = ap layer_view is ∙ sym (view_get xs i l)
 pub view_push : (xs : List declared.Layer) (l : declared.Layer) → views (xs ++ l ∷ []) ≡ views xs ++ layer_view l ∷ []
 view_push [] l = refl
 view_push (x ∷ xs) l = ap (λ (ys : List Layer). layer_view x ∷ ys) (view_push xs l)
+
+pub view_pushed : (ok : Bool) (xs ys : List declared.Layer) (l : declared.Layer) → ys ≡ (if ok then xs ++ l ∷ [] else xs) → views ys ≡ (if ok then views xs ++ layer_view l ∷ [] else views xs)
+view_pushed true xs ys l e = ap views e ∙ view_push xs l
+view_pushed false xs ys l e = ap views e
 
 pub view_remove : (xs : List declared.Layer) (i : ℕ) → views (remove xs i) ≡ remove (views xs) i
 view_remove [] zero = refl
@@ -64,3 +73,12 @@ pub view_last : (xs : List declared.Layer) (l : declared.Layer) → rises (views
 view_last xs l h e =
     let at : slice_get (views xs) (length xs - 1) ≡ Some (layer_view l) = slice_get-map layer_view xs (length xs - 1) ∙ ap (option_map layer_view) e in
     fresh_last (views xs) (layer_view l) h (ap (λ (k : ℕ). slice_get (views xs) (k - 1)) (view_length xs) ∙ at)
+
+-- ## Order
+pub order_found : (xs : List declared.Layer) (n : ℕ) → IsInOrder (vars_at n (views xs))
+order_found [] n = let none : List (Text × Data) = [] in in_order_empty none refl
+order_found (x ∷ xs) n = by (nat_eq x.number n) (order_found xs n)
+  where
+    by : (b : Bool) → IsInOrder (vars_at n (views xs)) → IsInOrder (vars_in (if b then Some (layer_view x) else find n (views xs)))
+    by true later = in_order_bound x.vars.items x.order
+    by false later = later

@@ -1,29 +1,56 @@
 // A layer of variables.
-ghost use Rattle.std.specs.Prelude.{◌≡◌, ◌≢◌, [], MatchBool, None, is_ok, if◌then◌else◌, option_map};
-ghost use Rattle.wf_scope.specs.Layers.{with_variable};
-ghost use Rattle.wf_scope.specs.Views.{layer_view};
-ghost use Rattle.wf_value.specs.Maps.{IsInOrder, place_of, value_at};
+ghost use Rattle.std.specs.Prelude.{Some, ◌≡◌, ◌≢◌, ◌≤◌, ◌<◌, ◌+◌, ◌-◌, MatchBool, length, is_ok, if◌then◌else◌, option_map};
+ghost use Rattle.std.specs.List.Sorted.{IsStrictlySortedBy-prop};
+ghost use Rattle.std.specs.Map.{keys_of};
+ghost use Rattle.wf_scope.specs.Firsts.{Covers, Covers-prop, HasNone, class_of};
+ghost use Rattle.wf_scope.specs.Layers.{variable_size, with_variable};
+ghost use Rattle.wf_scope.specs.Names.{bound_of};
+ghost use Rattle.wf_value.specs.Data.{pairs_of, pairs_size, size};
+ghost use Rattle.wf_value.specs.Maps.{IsInOrder, key_cmp, place_of, value_at, with_value};
 ghost use Rattle.wf_value.specs.Plain.{plain};
 
-use wf_value::{Map, OutOfMemory, Text, Value};
+use crate::firsts::Firsts;
+use crate::seek::seek;
+use wf_value::{OutOfMemory, Text, Value};
 
 /// Variables by their names. A layer has a number, that of the layer outside it, if there is one, and the count of those around it.
+///
+/// The names stand in order. One without a value isn't bound.
 #[derive(Drop)]
 pub(crate) struct Layer {
     pub(crate) number: u64,
     pub(crate) outer: Option<u64>,
     pub(crate) depth: u64,
-    pub(crate) vars: Map,
+    /// What its variables come to.
+    pub(crate) counted: u64,
+    pub(crate) firsts: Firsts,
+    pub(crate) vars: Vec<(Text, Option<Value>)>,
+    ghost order: { IsInOrder vars.items } by { IsStrictlySortedBy-prop key_cmp (keys_of vars.items) },
+    ghost sum: { counted ≡ pairs_size (pairs_of (bound_of vars.items)) },
+    ghost covering: { Covers firsts.hints vars.items } by { Covers-prop _ _ },
 }
 
 impl Layer {
-    /// The value of a variable. The hint is 0 only where no variable's name is of the same class.
+    ghost use Rattle.wf_scope.specs.Views.{layer_view};
+
+    /// 0 only where no variable's name is of this class; else where to look first.
     #[inline(always)]
-    pub(crate) fn look(&self, hint: u8, name: &str) -> Option<&Value>
-        requires order { IsInOrder self.now.vars }
-        requires hint { hint ≡ 0 → value_at name.now self.now.vars ≡ None }
-        ensures { option_map (λ v. plain v.now) result ≡ value_at name.now self.now.vars }
+    pub(crate) fn hint(&self, class: usize) -> u8
+        requires { class < 32 }
+        ensures { result ≡ 0 → HasNone class (bound_of self.now.vars.items) }
     {
+        self.firsts.hints[class]
+    }
+
+    /// The value of a variable, whose name is of this class.
+    #[inline(always)]
+    pub(crate) fn look(&self, class: usize, name: &str) -> Option<&Value>
+        requires class { class ≡ class_of name.now }
+        requires below { class < 32 }
+        ensures { option_map (λ v. plain v.now) result
+            ≡ value_at name.now (bound_of self.now.vars.items) }
+    {
+        let hint = self.hint(class);
         if hint == 0 {
             return None;
         }
@@ -31,69 +58,85 @@ impl Layer {
         value
     }
 
-    /// Where the variable of this name stands, and its value; where it isn't there, its place is where it belongs. The place below the hint
-    /// is tried first, and a layer without variables isn't searched.
+    /// Where this name stands, and its value; where it isn't there, its place is where it belongs. The place below the hint is tried first,
+    /// and a layer without names isn't searched.
     #[inline(always)]
     pub(crate) fn find(&self, hint: u8, name: &str) -> (Result<usize, usize>, Option<&Value>)
-        requires { IsInOrder self.now.vars }
-        ensures place { result.0 ≡ place_of name.now self.now.vars }
+        ensures place { result.0 ≡ place_of name.now self.now.vars.items }
         ensures value { option_map (λ v. plain v.now) result.1
-            ≡ value_at name.now self.now.vars }
+            ≡ value_at name.now (bound_of self.now.vars.items) }
     {
         if hint > 0 {
             let guess = (hint - 1) as usize;
-            if let Some((key, value)) = self.vars.entry(guess) {
-                if is_same(key, name) {
-                    return (Ok(guess), Some(value));
-                }
+            if guess < self.vars.len() && is_same(self.vars[guess].0.as_str(), name) {
+                return (Ok(guess), self.vars[guess].1.as_ref());
             }
-        } else if self.is_empty() {
+        } else if self.vars.is_empty() {
             return (Err(0), None);
         }
         self.search(name)
     }
 
-    /// Whether no variable stands here. One counts 2 at least, beside the 2 of the map.
-    #[inline(always)]
-    fn is_empty(&self) -> bool
-        ensures { MatchBool result (self.now.vars ≡ []) (self.now.vars ≢ []) }
-    {
-        self.vars.size() == 2
-    }
-
     /// The same, wherever it stands.
     #[inline(never)]
     fn search(&self, name: &str) -> (Result<usize, usize>, Option<&Value>)
-        ensures place { result.0 ≡ place_of name.now self.now.vars }
+        ensures place { result.0 ≡ place_of name.now self.now.vars.items }
         ensures value { option_map (λ v. plain v.now) result.1
-            ≡ value_at name.now self.now.vars }
+            ≡ value_at name.now (bound_of self.now.vars.items) }
     {
-        let place = self.vars.place(name);
-        match place {
-            Ok(i) => match self.vars.entry(i) {
-                Some((_, value)) => (place, Some(value)),
-                None => (place, None),
-            },
-            Err(_) => (place, None),
+        match seek(self.vars.as_slice(), name) {
+            Ok(i) => (Ok(i), self.vars[i].1.as_ref()),
+            Err(i) => (Err(i), None),
         }
     }
 
-    /// Makes or changes the variable of this name, at its place. Without memory the layer stays, and the value is dropped.
+    /// Makes or changes the variable of this name, at its place: it counted so much, and counts so much now. Without memory the layer stays,
+    /// and the value is dropped.
     #[inline(always)]
     pub(crate) fn put(
         &mut self,
         place: Result<usize, usize>,
+        class: usize,
         name: &Text,
         value: Value,
+        old: u64,
+        new: u64,
     ) -> Result<(), OutOfMemory>
-        requires { place ≡ place_of name.now self.old.vars }
+        requires place { place ≡ place_of name.now self.old.vars.items }
+        requires class { class ≡ class_of name.now }
+        requires below { class < 32 }
+        requires old { old ≡ variable_size name.now
+            (value_at name.now (bound_of self.old.vars.items)) }
+        requires new { new ≡ 2 + length name.now + size (plain value) }
+        requires room { self.old.counted - old + new ≤ 18446744073709551615 }
         ensures { layer_view self.new ≡ (if is_ok result
             then with_variable name.now (plain value) (layer_view self.old)
             else layer_view self.old) }
     {
-        self.vars.put_at(place, name, value)?;
+        put_named(&mut self.vars, place, name, value)?;
+        self.firsts.put(class, place);
+        self.counted = self.counted - old + new;
         Ok(())
     }
+}
+
+/// Gives the name at its place a value. Without memory all stays.
+#[inline(always)]
+fn put_named(
+    names: &mut Vec<(Text, Option<Value>)>,
+    place: Result<usize, usize>,
+    name: &Text,
+    value: Value,
+) -> Result<(), OutOfMemory>
+    requires { place ≡ place_of name.now names.old.items }
+    ensures { names.new.items ≡ (if is_ok result
+        then with_value name.now (Some value) names.old.items else names.old.items) }
+{
+    match place {
+        Ok(i) => names[i].1 = Some(value),
+        Err(i) => names.insert(i, (name.copy()?, Some(value)))?,
+    }
+    Ok(())
 }
 
 /// Whether two names are the same. Those of one byte are compared here, without a call.

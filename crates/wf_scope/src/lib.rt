@@ -11,6 +11,7 @@ mod firsts;
 mod key;
 mod layer;
 mod scopes;
+mod seek;
 mod written;
 
 pub use fault::AssignFault;

@@ -1,13 +1,12 @@
 // The layers of an execution.
-ghost use Rattle.std.specs.Prelude.{true, suc, ◌≡◌, ◌≤◌, ◌<◌, ◌+◌, [], length, map, min, IfNone, IfOk, OnErr, OnOk, is_ok, if◌then◌else◌, option_map, Some, None, slice_get};
+ghost use Rattle.std.specs.Prelude.{true, suc, ◌≡◌, ◌≤◌, ◌<◌, ◌+◌, ◌-◌, [], length, map, min, IfNone, IfOk, OnErr, OnOk, is_ok, if◌then◌else◌, option_map, Some, None, slice_get};
 ghost use Rattle.wf_value.specs.Data.{size};
-ghost use Rattle.wf_value.specs.Maps.{place_of, value_at};
+ghost use Rattle.wf_value.specs.Maps.{value_at};
 ghost use Rattle.wf_value.specs.Plain.{plain};
 ghost use Rattle.wf_scope.specs.Layers.{IsInnermost, IsLive, StayInnermost, StayLive, all_stand, chain, closed, depth_in, find, fresh, holder_in, look_in, opened, put_at, put_place, rises, stands, total_of, vars_at};
-ghost use Rattle.wf_scope.specs.Firsts.{AllCover, AllCover-prop, HasNone, class_of};
+ghost use Rattle.wf_scope.specs.Firsts.{class_of};
 ghost use Rattle.wf_scope.specs.Spots.{IsSpot};
 ghost use Rattle.wf_scope.specs.Views.{views};
-ghost use Rattle.wf_scope.specs.Layers as seen;
 
 use crate::fault::AssignFault;
 use crate::firsts::{Firsts, class_of};
@@ -15,7 +14,7 @@ use crate::key::Key;
 use crate::layer::Layer;
 use crate::written::written;
 use std::alloc::Global;
-use wf_value::{Map, OutOfMemory, Text, Value};
+use wf_value::{OutOfMemory, Text, Value};
 
 /// The greatest nesting of a variable, as `Value::depth` counts.
 const NESTING_LIMIT: u32 = 100;
@@ -42,14 +41,11 @@ pub struct Scopes {
     alloc: Global,
     limit: u64,
     layers: Vec<Layer>,
-    firsts: Vec<Firsts>,
     total: u64,
     ghost counted: { total ≡ total_of (views layers.items) },
     ghost room: { total ≤ 18446744073709551613 },
     ghost rising: { rises (views layers.items) ≡ true },
     ghost standing: { all_stand (views layers.items) (views layers.items) ≡ true },
-    ghost paired: { length firsts.items ≡ length (views layers.items) },
-    ghost covering: { AllCover firsts.items (views layers.items) } by { AllCover-prop _ _ },
 }
 
 /// Where a variable of a layer stands, or where it belongs.
@@ -81,7 +77,6 @@ impl Scopes {
             alloc,
             limit,
             layers: Vec::new(alloc),
-            firsts: Vec::new(alloc),
             total: 0,
         })
     }
@@ -146,8 +141,7 @@ impl Scopes {
     {
         let place = self.place(c.number);
         let layer = self.layers.remove(place);
-        self.firsts.remove(place);
-        self.total -= layer.vars.size() - 2;
+        self.total -= layer.counted;
     }
 
     /// Makes or changes a variable of a layer, which must be live. On a fault all stays, and the value is dropped.
@@ -262,17 +256,6 @@ impl Scopes {
         }
     }
 
-    /// 0 only where the layer at a place has no variable whose name is of this class; else where to look first.
-    #[inline(always)]
-    fn hint(&self, layer: usize, class: usize) -> u8
-        requires layer { layer < length (layers_of self.now) }
-        requires class { class < 32 }
-        ensures { (l : seen.Layer) → slice_get (layers_of self.now) layer ≡ Some l
-            → result ≡ 0 → HasNone class l.vars }
-    {
-        self.firsts[layer].hints[class]
-    }
-
     #[inline(always)]
     fn look_from(&self, number: u64, name: &str) -> Option<&Value>
         requires { IsLive number (layers_of self.now) }
@@ -284,7 +267,7 @@ impl Scopes {
         loop {
             let place = self.place(here);
             let layer = &self.layers[place];
-            if let Some(value) = layer.look(self.hint(place, class), name) {
+            if let Some(value) = layer.look(class, name) {
                 return Some(value);
             }
             match layer.outer {
@@ -299,7 +282,7 @@ impl Scopes {
     fn spot(&self, number: u64, name: &str) -> (Spot, Option<&Value>)
         requires { IsLive number (layers_of self.now) }
         ensures number { result.0.number ≡ number }
-        ensures spot { IsSpot result.0 name.now (layers_of self.now) }
+        ensures spot { IsSpot result.0 name.now self.now.layers.items }
         ensures value { option_map (λ v. plain v.now) result.1
             ≡ value_at name.now (vars_at number (layers_of self.now)) }
     {
@@ -314,11 +297,12 @@ impl Scopes {
         requires class { class ≡ class_of name.now }
         requires below { class < 32 }
         ensures number { result.0.number ≡ number }
-        ensures spot { IsSpot result.0 name.now (layers_of self.now) }
+        ensures spot { IsSpot result.0 name.now self.now.layers.items }
         ensures value { option_map (λ v. plain v.now) result.1
             ≡ value_at name.now (vars_at number (layers_of self.now)) }
     {
-        let (pair, value) = self.layers[layer].find(self.hint(layer, class), name);
+        let here = &self.layers[layer];
+        let (pair, value) = here.find(here.hint(class), name);
         let counted = match value {
             Some(value) => size_of_variable(name, value),
             None => 0,
@@ -342,7 +326,7 @@ impl Scopes {
             ≡ holder_in name.now (chain number (layers_of self.now)) }
         ensures absent { IfNone result.1 (result.0.number ≡ number) }
         ensures live { IsLive result.0.number (layers_of self.now) }
-        ensures spot { IsSpot result.0 name.now (layers_of self.now) }
+        ensures spot { IsSpot result.0 name.now self.now.layers.items }
         ensures value { option_map (λ v. plain v.now) result.1
             ≡ value_at name.now (vars_at result.0.number (layers_of self.now)) }
     {
@@ -350,13 +334,14 @@ impl Scopes {
         let mut here = number;
         loop {
             let place = self.place(here);
-            if self.hint(place, class) > 0 {
+            let layer = &self.layers[place];
+            if layer.hint(class) > 0 {
                 let (spot, value) = self.spot_at(here, place, class, name);
                 if let Some(value) = value {
                     return (spot, Some(value));
                 }
             }
-            match self.layers[place].outer {
+            match layer.outer {
                 Some(outer) => here = outer,
                 None => break,
             }
@@ -365,24 +350,11 @@ impl Scopes {
         (spot, None)
     }
 
-    /// The total once the variable has the value.
-    #[inline(always)]
-    fn total_with(&self, spot: Spot, name: &Text, value: &Value) -> u64
-        requires live { IsLive spot.number (layers_of self.now) }
-        requires spot { IsSpot spot name.now (layers_of self.now) }
-        ensures { result ≡ min (total_of
-            (put_at spot.number name.now (plain value.now) (layers_of self.now)))
-            18446744073709551615 }
-    {
-        let rest = self.total - spot.counted;
-        rest.saturating_add(size_of_variable(name.as_str(), value))
-    }
-
     /// Makes or changes a variable.
     #[inline(always)]
     fn bind_at(&mut self, spot: Spot, name: &Text, v: Value) -> Result<(), AssignFault>
         requires live { IsLive spot.number (layers_of self.old) }
-        requires spot { IsSpot spot name.now (layers_of self.old) }
+        requires spot { IsSpot spot name.now self.old.layers.items }
         ensures outcome { Answers result (layers_of self.new)
             (bound self.old.limit spot.number name.now (plain v) (layers_of self.old)) }
         ensures kept { OnErr result (layers_of self.new ≡ layers_of self.old) }
@@ -390,7 +362,9 @@ impl Scopes {
         ensures stay { StayLive (layers_of self.old) (layers_of self.new) }
         ensures apart { StayInnermost (layers_of self.old) (layers_of self.new) }
     {
-        let total = self.total_with(spot, name, &v);
+        let counted = size_of_variable(name.as_str(), &v);
+        let rest = self.total - spot.counted;
+        let total = rest.saturating_add(counted);
         if total > self.limit {
             return Err(AssignFault::TooLarge);
         }
@@ -400,9 +374,8 @@ impl Scopes {
         if v.depth() > NESTING_LIMIT {
             return Err(AssignFault::TooDeep);
         }
-        match put(&mut self.layers, spot.layer, spot.pair, name, v) {
+        match put(&mut self.layers, spot, name, v, counted) {
             Ok(()) => {
-                self.firsts[spot.layer].put(spot.class, spot.pair);
                 self.total = total;
                 Ok(())
             }
@@ -437,18 +410,16 @@ impl Scopes {
         ensures stay { StayLive (layers_of self.old) (layers_of self.new) }
     {
         let number = self.fresh()?;
-        let vars = Map::with_capacity(self.alloc, ROOM)?;
+        let vars = Vec::with_capacity(self.alloc, ROOM)?;
         let layer = Layer {
             number,
             outer,
             depth,
+            counted: 0,
+            firsts: Firsts::none(),
             vars,
         };
-        self.firsts.push(Firsts::none())?;
-        let Ok(()) = self.layers.push(layer) else {
-            self.firsts.pop();
-            return Err(OutOfMemory);
-        };
+        self.layers.push(layer)?;
         Ok(Chain { number })
     }
 }
@@ -464,21 +435,23 @@ fn size_of_variable(name: &str, value: &Value) -> u64
         .saturating_add(name.len() as u64)
 }
 
-/// Makes or changes a variable of the layer at a place, at its own place there. Without memory all stays.
+/// Makes or changes a variable at its spot, where it counts so much. Without memory all stays.
 #[inline(always)]
 fn put(
     layers: &mut Vec<Layer>,
-    place: usize,
-    pair: Result<usize, usize>,
+    spot: Spot,
     name: &Text,
     value: Value,
+    counted: u64,
 ) -> Result<(), OutOfMemory>
-    requires within { place < length (views layers.old.items) }
-    requires pair { (l : seen.Layer) → slice_get (views layers.old.items) place ≡ Some l
-        → pair ≡ place_of name.now l.vars }
-    ensures { views layers.new.items ≡ (if is_ok result then put_place place name.now (plain value)
-        (views layers.old.items) else views layers.old.items) }
+    requires spot { IsSpot spot name.now layers.old.items }
+    requires counted { counted ≡ 2 + length name.now + size (plain value) }
+    requires room { total_of (views layers.old.items) - spot.counted + counted
+        ≤ 18446744073709551615 }
+    ensures { views layers.new.items ≡ (if is_ok result
+        then put_place spot.layer name.now (plain value) (views layers.old.items)
+        else views layers.old.items) }
 {
-    let layer = &mut layers[place];
-    layer.put(pair, name, value)
+    let layer = &mut layers[spot.layer];
+    layer.put(spot.pair, spot.class, name, value, spot.counted, counted)
 }

@@ -1,12 +1,18 @@
-use Rattle.wf_value.specs.Plain.{plain}
-use Rattle.wf_scope.proofs.Spotted.{nothing_there, stands_there, value_there}
+use Rattle.std.proofs.Common.{◌≡◌, Err, Ok, refl, ◌∙◌}
+use Rattle.wf_value.proofs.Seeks.{seek_of}
+use Rattle.wf_value.specs.Maps.{place_of}
+use Rattle.wf_scope.proofs.Named.{found_bound, missing_bound, read_value}
 use Rattle.wf_scope.proofs.layer.Layer.search.Goals as goal
 
-pub returns-in-Some-clause-value : goal.returns-in-Some-clause-value
-returns-in-Some-clause-value c = value_there c.args.name.now c.args.self.now.vars c.in-Ok.i c.in-Some.field-0-0.now (plain c.in-Some.value.now) c.in-Ok.ensures.place c.in-Some.ensures
-
-pub returns-in-None-clause-value : goal.returns-in-None-clause-value
-returns-in-None-clause-value c = stands_there c.args.name.now c.args.self.now.vars c.in-Ok.i c.in-Ok.ensures.place c.in-None.ensures
+pub returns-in-Ok-clause-value : goal.returns-in-Ok-clause-value
+returns-in-Ok-clause-value c =
+    let l = c.args.self.now in
+    let e = c.index.result.now in
+    let place : Ok c.in-Ok.i ≡ place_of c.args.name.now l.vars.items = seek_of c.in-Ok.ensures.place refl c.as_slice.ensures.value in
+    read_value c.as_ref.result e.1 c.as_ref.ensures.value ∙ found_bound c.args.name.now l.vars.items l.order c.in-Ok.i e c.index.ensures place
 
 pub returns-in-Err-clause-value : goal.returns-in-Err-clause-value
-returns-in-Err-clause-value c = nothing_there c.args.name.now c.args.self.now.vars c.in-Err.field-0 c.place-place.ensures.order c.in-Err.ensures.place
+returns-in-Err-clause-value c =
+    let l = c.args.self.now in
+    let place : Err c.in-Err.i ≡ place_of c.args.name.now l.vars.items = seek_of c.in-Err.ensures.place refl c.as_slice.ensures.value in
+    missing_bound c.args.name.now l.vars.items l.order c.in-Err.i place

@@ -1,24 +1,11 @@
-use Rattle.std.proofs.Common.{◌<◌, length, refl, sym, ◌∙◌, arith}
-use Rattle.std.proofs.lemmas.Option.{slice_get_read}
+use Rattle.std.proofs.Common.{◌<◌, sym, ◌∙◌, arith}
 use Rattle.wf_scope.specs.Layers.{chain, depth_in, find}
-use Rattle.wf_scope.proofs.Hints.{order_at}
 use Rattle.wf_scope.proofs.Numbers.{layer_at}
 use Rattle.wf_scope.proofs.Seen.{chain_last, chain_outer, look_here, look_past, outer_live}
 use Rattle.wf_scope.specs.Store.{layers_of}
 use Rattle.wf_scope.specs.Views.{layer_view}
 use Rattle.wf_scope.proofs.Viewed.{view_read}
 use Rattle.wf_scope.proofs.scopes.Scopes.look_from.Goals as goal
-
-pub look-requires-clause-order : goal.look-requires-clause-order
-look-requires-clause-order c =
-    let s = c.args.self.now in
-    order_at s.firsts.items (layers_of s) c.place-place.result (layer_view c.index-layer.result.now) s.covering s.paired c.place-place.ensures.within (view_read s.layers.items c.place-place.result c.index-layer.result.now c.index-layer.ensures)
-
-pub look-requires-clause-hint : goal.look-requires-clause-hint
-look-requires-clause-hint c =
-    let ls = layers_of c.args.self.now in
-    let l = layer_view c.index-layer.result.now in
-    λ none. c.hint.ensures l (slice_get_read ls (length ls) c.place-place.result l refl c.place-place.ensures.within (view_read c.args.self.now.layers.items c.place-place.result c.index-layer.result.now c.index-layer.ensures)) none c.args.name.now c.class_of-class.ensures.class
 
 pub loop-value-smaller : goal.loop-value-smaller
 loop-value-smaller c =

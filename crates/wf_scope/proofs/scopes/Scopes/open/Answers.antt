@@ -1,44 +1,55 @@
-use Rattle.std.proofs.Common.{◌∙◌, ap, arith, refl, true}
-use Rattle.wf_scope.proofs.Hints.{cover_push, cover_same}
+use Rattle.std.proofs.Common.{ap, refl, subst, sym, ◌∙◌}
+use Rattle.std.specs.Prelude.{is_ok}
+use Rattle.wf_value.proofs.Order.{in_order_empty}
+use Rattle.wf_value.specs.Data.{pairs_of, pairs_size}
+use Rattle.wf_scope.specs.Firsts.{Covers}
+use Rattle.wf_scope.specs.Layers.{Layer}
+use Rattle.wf_scope.specs.Names.{bound_of}
+use Rattle.wf_scope.specs.Store.{layers_of}
+use Rattle.wf_scope.specs.Views.{views}
 use Rattle.wf_scope.proofs.Kept.{pushed}
 use Rattle.wf_scope.proofs.Live.{pushed_innermost, pushed_live, pushed_stay}
 use Rattle.wf_scope.proofs.Totals.{pushed_total}
-use Rattle.wf_scope.specs.Store.{layers_of}
-use Rattle.wf_scope.specs.Views.{layer_view, views}
-use Rattle.wf_scope.proofs.Viewed.{view_length, view_push}
+use Rattle.wf_scope.proofs.Viewed.{view_push, view_pushed}
 use Rattle.wf_scope.proofs.scopes.Scopes.open.Goals as goal
-use Rattle.wf_scope.specs.declared.layer.Layer as declared
 
-pub invariant_of-self-in-Ok : goal.invariant_of-self-in-Ok
-invariant_of-self-in-Ok c =
-    let s = c.args.self.now in
-    let l : declared.Layer = record { number = c.in_ok-number.number; outer = c.args.outer; depth = c.args.depth; vars = c.in_ok-vars.vars } in
-    let now = ap views c.in-Ok.ensures.items ∙ view_push c.args.self.now.layers.items l in
-    let keeps = pushed true (layers_of s) (views c.push-2.new.self.items) (layer_view l) now s.standing c.requires s.rising c.in_ok-number.ensures in
+pub invariant_of-layer : goal.invariant_of-layer
+invariant_of-layer c =
+    let none = c.in_ok-vars.ensures.items in
     record {
-      counted = s.counted ∙ pushed_total true (layers_of s) (views c.push-2.new.self.items) (layer_view l) now c.in_ok-vars.ensures;
+      order = in_order_empty c.in_ok-vars.vars.items none;
+      sum = sym (ap (λ es. pairs_size (pairs_of (bound_of es))) none);
+      covering = subst (λ es. Covers c.none.result.hints es) (sym none) tt;
+    }
+
+pub invariant_of-self : goal.invariant_of-self
+invariant_of-self c =
+    let s = c.args.self.now in
+    let l : Layer = record { number = c.in_ok-number.number; outer = c.args.outer; depth = c.args.depth; vars = bound_of c.in_ok-vars.vars.items } in
+    let ok = is_ok c.push.result in
+    let now = view_pushed ok s.layers.items c.push.new.self.items _ c.push.ensures.items in
+    let keeps = pushed ok (layers_of s) (views c.push.new.self.items) l now s.standing c.requires s.rising c.in_ok-number.ensures in
+    record {
+      counted = s.counted ∙ pushed_total ok (layers_of s) (views c.push.new.self.items) l now (ap bound_of c.in_ok-vars.ensures.items);
       room = s.room;
       rising = keeps.0;
       standing = keeps.1;
-      paired = omega (arith, s.paired, c.in_ok-push.ensures.len, c.in-Ok.ensures.len, view_length s.layers.items, view_length c.push-2.new.self.items);
-      covering = cover_same _ c.push.new.self.items _ (views c.push-2.new.self.items) c.in_ok-push.ensures.items now (cover_push s.firsts.items (layers_of s) c.none.result (layer_view l) s.covering s.paired c.in_ok-vars.ensures);
     }
 
 pub returns-clause-live : goal.returns-clause-live
 returns-clause-live c =
-    let l : declared.Layer = record { number = c.in_ok-number.number; outer = c.args.outer; depth = c.args.depth; vars = c.in_ok-vars.vars } in
-    let now = ap views c.in-Ok.ensures.items ∙ view_push c.args.self.now.layers.items l in
-    pushed_live c.in_ok-number.number (layers_of c.args.self.now) (views c.push-2.new.self.items) (layer_view l) now refl
+    let s = c.args.self.now in
+    let l : Layer = record { number = c.in_ok-number.number; outer = c.args.outer; depth = c.args.depth; vars = bound_of c.in_ok-vars.vars.items } in
+    pushed_live c.in_ok-number.number (layers_of s) (views c.push.new.self.items) l (ap views c.in_ok-push.ensures.items ∙ view_push s.layers.items _) refl
 
 pub returns-clause-innermost : goal.returns-clause-innermost
 returns-clause-innermost c =
     let s = c.args.self.now in
-    let l : declared.Layer = record { number = c.in_ok-number.number; outer = c.args.outer; depth = c.args.depth; vars = c.in_ok-vars.vars } in
-    let now = ap views c.in-Ok.ensures.items ∙ view_push c.args.self.now.layers.items l in
-    pushed_innermost c.in_ok-number.number (layers_of s) (views c.push-2.new.self.items) (layer_view l) now c.in_ok-number.ensures s.standing c.requires
+    let l : Layer = record { number = c.in_ok-number.number; outer = c.args.outer; depth = c.args.depth; vars = bound_of c.in_ok-vars.vars.items } in
+    pushed_innermost c.in_ok-number.number (layers_of s) (views c.push.new.self.items) l (ap views c.in_ok-push.ensures.items ∙ view_push s.layers.items _) c.in_ok-number.ensures s.standing c.requires
 
 pub returns-clause-stay : goal.returns-clause-stay
 returns-clause-stay c =
-    let l : declared.Layer = record { number = c.in_ok-number.number; outer = c.args.outer; depth = c.args.depth; vars = c.in_ok-vars.vars } in
-    let now = ap views c.in-Ok.ensures.items ∙ view_push c.args.self.now.layers.items l in
-    pushed_stay (layers_of c.args.self.now) (views c.push-2.new.self.items) (layer_view l) now
+    let s = c.args.self.now in
+    let l : Layer = record { number = c.in_ok-number.number; outer = c.args.outer; depth = c.args.depth; vars = bound_of c.in_ok-vars.vars.items } in
+    pushed_stay (layers_of s) (views c.push.new.self.items) l (ap views c.in_ok-push.ensures.items ∙ view_push s.layers.items _)

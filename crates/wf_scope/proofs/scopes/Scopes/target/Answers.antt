@@ -15,20 +15,20 @@ use Rattle.wf_scope.proofs.scopes.Scopes.target.Goals.{then-hint-gt0+in_default,
 pub loop-spot-smaller : goal.loop-spot-smaller
 loop-spot-smaller c =
     let ls = layers_of c.args.self.now in
-    let here = layer_at c.loop-spot.here ls c.place-place.result (layer_view c.index.result.now) c.place-place.ensures.within (view_read c.args.self.now.layers.items c.place-place.result c.index.result.now c.index.ensures) c.place-place.ensures.found in
-    let less : depth_in (find c.in-Some-outer.outer ls) < depth_in (find c.loop-spot.here ls) = (outer_live c.loop-spot.here c.in-Some-outer.outer ls (layer_view c.index.result.now) c.args.self.now.standing here c.in-Some-outer.is).1 in
+    let here = layer_at c.loop-spot.here ls c.place-place.result (layer_view c.index-layer.result.now) c.place-place.ensures.within (view_read c.args.self.now.layers.items c.place-place.result c.index-layer.result.now c.index-layer.ensures) c.place-place.ensures.found in
+    let less : depth_in (find c.in-Some-outer.outer ls) < depth_in (find c.loop-spot.here ls) = (outer_live c.loop-spot.here c.in-Some-outer.outer ls (layer_view c.index-layer.result.now) c.args.self.now.standing here c.in-Some-outer.is).1 in
     omega (arith, less)
 
 pub loop-spot-preserved : goal.loop-spot-preserved
 loop-spot-preserved c =
     let ls = layers_of c.args.self.now in
-    let l = layer_view c.index.result.now in
+    let l = layer_view c.index-layer.result.now in
     let x = c.args.name.now in
     let o = c.in-Some-outer.outer in
-    let here = layer_at c.loop-spot.here ls c.place-place.result l c.place-place.ensures.within (view_read c.args.self.now.layers.items c.place-place.result c.index.result.now c.index.ensures) c.place-place.ensures.found in
+    let here = layer_at c.loop-spot.here ls c.place-place.result l c.place-place.ensures.within (view_read c.args.self.now.layers.items c.place-place.result c.index-layer.result.now c.index-layer.ensures) c.place-place.ensures.found in
     let none : value_at x (vars_at c.loop-spot.here ls) ≡ None = elim c.if-hint-gt0.branch [
       | then-hint-gt0+in_default w ↦ sym w.spot_at.ensures.value ∙ ap (option_map (λ v. plain v.now)) w.in_default.is
-      | else-hint-gt0 w ↦ ap (value_at x) (vars_found c.loop-spot.here ls l here) ∙ c.hint.ensures l (c.place-place.ensures.found ∙ here) (omega (arith, w.if-hint-gt0.false)) x c.class_of-class.ensures.class
+      | else-hint-gt0 w ↦ ap (value_at x) (vars_found c.loop-spot.here ls l here) ∙ c.hint.ensures (omega (arith, w.if-hint-gt0.false)) x c.class_of-class.ensures.class
     ] in
     record {
       live = (outer_live c.loop-spot.here o ls l c.args.self.now.standing here c.in-Some-outer.is).0;
@@ -43,24 +43,24 @@ returns-in-Some-clause-holder c =
 pub returns-clause-holder : goal.returns-clause-holder
 returns-clause-holder c =
     let ls = layers_of c.args.self.now in
-    let l = layer_view c.index.result.now in
+    let l = layer_view c.index-layer.result.now in
     let x = c.args.name.now in
-    let here = layer_at c.loop-spot.here ls c.place-place.result l c.place-place.ensures.within (view_read c.args.self.now.layers.items c.place-place.result c.index.result.now c.index.ensures) c.place-place.ensures.found in
+    let here = layer_at c.loop-spot.here ls c.place-place.result l c.place-place.ensures.within (view_read c.args.self.now.layers.items c.place-place.result c.index-layer.result.now c.index-layer.ensures) c.place-place.ensures.found in
     let none : value_at x (vars_at c.loop-spot.here ls) ≡ None = elim c.if-hint-gt0.branch [
       | then-hint-gt0+in_default w ↦ sym w.spot_at.ensures.value ∙ ap (option_map (λ v. plain v.now)) w.in_default.is
-      | else-hint-gt0 w ↦ ap (value_at x) (vars_found c.loop-spot.here ls l here) ∙ c.hint.ensures l (c.place-place.ensures.found ∙ here) (omega (arith, w.if-hint-gt0.false)) x c.class_of-class.ensures.class
+      | else-hint-gt0 w ↦ ap (value_at x) (vars_found c.loop-spot.here ls l here) ∙ c.hint.ensures (omega (arith, w.if-hint-gt0.false)) x c.class_of-class.ensures.class
     ] in
     sym (c.loop-spot.invariant.same ∙ holder_nowhere c.loop-spot.here ls x l here c.in-None.is none)
 
 pub returns-clause-value : goal.returns-clause-value
 returns-clause-value c =
     let ls = layers_of c.args.self.now in
-    let l = layer_view c.index.result.now in
+    let l = layer_view c.index-layer.result.now in
     let x = c.args.name.now in
-    let here = layer_at c.loop-spot.here ls c.place-place.result l c.place-place.ensures.within (view_read c.args.self.now.layers.items c.place-place.result c.index.result.now c.index.ensures) c.place-place.ensures.found in
+    let here = layer_at c.loop-spot.here ls c.place-place.result l c.place-place.ensures.within (view_read c.args.self.now.layers.items c.place-place.result c.index-layer.result.now c.index-layer.ensures) c.place-place.ensures.found in
     let none : value_at x (vars_at c.loop-spot.here ls) ≡ None = elim c.if-hint-gt0.branch [
       | then-hint-gt0+in_default w ↦ sym w.spot_at.ensures.value ∙ ap (option_map (λ v. plain v.now)) w.in_default.is
-      | else-hint-gt0 w ↦ ap (value_at x) (vars_found c.loop-spot.here ls l here) ∙ c.hint.ensures l (c.place-place.ensures.found ∙ here) (omega (arith, w.if-hint-gt0.false)) x c.class_of-class.ensures.class
+      | else-hint-gt0 w ↦ ap (value_at x) (vars_found c.loop-spot.here ls l here) ∙ c.hint.ensures (omega (arith, w.if-hint-gt0.false)) x c.class_of-class.ensures.class
     ] in
     let nobody = c.loop-spot.invariant.same ∙ holder_nowhere c.loop-spot.here ls x l here c.in-None.is none in
     sym (ap (λ n. value_at x (vars_at n ls)) c.spot.ensures.number ∙ held_nowhere c.args.number ls x nobody)

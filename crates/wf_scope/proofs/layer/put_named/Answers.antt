@@ -1,0 +1,20 @@
+use Rattle.std.proofs.Common.{Some, ap, rules, sym, ◌∙◌}
+use Rattle.std.specs.List.{insert}
+use Rattle.wf_value.proofs.Seeks.{found_within, found_writes, missing_inserts, missing_within}
+use Rattle.wf_scope.proofs.layer.put_named.Goals as goal
+
+pub index_mut-requires : goal.index_mut-requires
+index_mut-requires c = search (rules, found_within c.args.names.now.items c.args.name.now c.in-Ok.i (sym c.in-Ok.is ∙ c.requires))
+
+pub insert-requires : goal.insert-requires
+insert-requires c = search (rules, missing_within c.args.names.now.items c.args.name.now c.in-Err.i (sym c.in-Err.is ∙ c.requires))
+
+pub returns-in-Ok : goal.returns-in-Ok
+returns-in-Ok c = found_writes c.args.names.now.items c.args.name.now c.in-Ok.i c.index_mut.result.now (Some c.args.value) c.index_mut.ensures.value (sym c.in-Ok.is ∙ c.requires)
+
+pub returns-in_ok-insert-in-Err : goal.returns-in_ok-insert-in-Err
+returns-in_ok-insert-in-Err c =
+    let es = c.args.names.now.items in
+    c.in_ok-insert-in-Err.ensures.items
+    ∙ ap (λ x. insert es c.in-Err.i (x, Some c.args.value)) c.in_ok-copy-in-Err.ensures
+    ∙ missing_inserts es c.args.name.now c.in-Err.i (Some c.args.value) (sym c.in-Err.is ∙ c.requires)
