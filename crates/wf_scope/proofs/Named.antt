@@ -1,5 +1,5 @@
 -- Names that are bound, among all names of a layer.
-use Rattle.std.proofs.Common.{◌≡◌, Bor, ℕ, List, [], ◌∷◌, get_or, Ok, Err, Option, Some, None, Ordering, Less, Equal, Greater, refl, sym, ap, subst, ◌∙◌, cond, option_map, arith}
+use Rattle.std.proofs.Common.{◌≡◌, Bor, ℕ, List, [], ◌∷◌, get_or, Ok, Err, Option, Some, None, Ordering, Less, Equal, Greater, refl, sym, ap, subst, ◌∙◌, cond, option_map, arith, ◌≤◌, ◌++◌, length, map, take, drop, zero, suc}
 use Rattle.std.specs.Prelude.{slice_index}
 use Rattle.std.proofs.lemmas.Cmp.{nat_list_cmp_total}
 use Rattle.std.specs.FinMap.{slice_cmp-IsAntisymmetric, nat_cmp-IsAntisymmetric}
@@ -9,13 +9,13 @@ use Rattle.std.specs.Map.{keys_of}
 use Rattle.std.specs.Option.{option_copied}
 use Rattle.std.specs.Ordering.{match_ordering, is_eq}
 use Rattle.wf_value.proofs.Seeks.{found_value, missing_value}
-use Rattle.wf_value.specs.Data.{Data}
+use Rattle.wf_value.specs.Data.{Data, pairs_of, pairs_size}
 use Rattle.wf_value.specs.Maps.{IsInOrder, key_cmp, place_of, value_at, with_value}
 use Rattle.wf_value.specs.Pairs.{Text}
 use Rattle.wf_value.specs.Plain.{plain}
 use Rattle.wf_value.specs.declared.Value.{Value}
 use Rattle.wf_scope.specs.Firsts.{Covers, HasNone, class_of}
-use Rattle.wf_scope.specs.Names.{bound_of, value_of, with_bound}
+use Rattle.wf_scope.specs.Names.{bound_of, unbound, value_of, with_bound}
 
 same_key : (k m : Text) → key_cmp k m ≡ Equal → k ≡ m
 same_key k m h = slice_cmp-IsAntisymmetric nat_cmp-IsAntisymmetric k m h
@@ -128,3 +128,27 @@ none_has hints (e ∷ es) c cover zero_at x same = by e.1 (none_has hints es c c
 pub read_value : (o : Option (Bor Value)) (e : Option Value) → option_copied o ≡ e → option_map (λ v. plain v.now) o ≡ option_map plain e
 read_value None e h = ap (option_map plain) h
 read_value (Some v) e h = ap (option_map plain) h
+
+-- ## Values taken away
+pub keys_unbound : (es : List (Text × Option Value)) → keys_of (map unbound es) ≡ keys_of es
+keys_unbound [] = refl
+keys_unbound (e ∷ es) = ap (λ (ks : List Text). e.0 ∷ ks) (keys_unbound es)
+
+pub none_bound : (es : List (Text × Option Value)) → bound_of (map unbound es) ≡ []
+none_bound [] = refl
+none_bound (e ∷ es) = none_bound es
+
+pub cover_unbound : (hints : List ℕ) (es : List (Text × Option Value)) → Covers hints es → Covers hints (map unbound es)
+cover_unbound hints [] cover = tt
+cover_unbound hints (e ∷ es) cover = (cover.0, cover_unbound hints es cover.1)
+
+pub all_unbound : (es : List (Text × Option Value)) (i : ℕ) → length es ≤ i → map unbound (take i es) ++ drop i es ≡ map unbound es
+all_unbound [] zero h = refl
+all_unbound [] (suc i) h = refl
+all_unbound (e ∷ es) zero h = absurd (omega (arith, h))
+all_unbound (e ∷ es) (suc i) h = ap (λ (ns : List (Text × Option Value)). unbound e ∷ ns) (all_unbound es i (omega (arith, h)))
+
+-- variables that count nothing are none
+pub none_counted : (ps : List (Text × Data)) → pairs_size (pairs_of ps) ≡ 0 → ps ≡ []
+none_counted [] h = refl
+none_counted (p ∷ ps) h = absurd (omega (arith, h))

@@ -6,7 +6,7 @@ use Rattle.std.specs.List.{remove}
 use Rattle.std.specs.List.Sorted.{IsBinarySearchResult, IsSearchInRange}
 use Rattle.std.specs.Ordering.{nat_cmp, ordering_index}
 use Rattle.wf_scope.specs.Layers.{Layer, find, fresh, rises, vars_at, vars_in}
-use Rattle.wf_scope.specs.Views.{layer_view, views}
+use Rattle.wf_scope.specs.Views.{counted_in, layer_view, views}
 use Rattle.wf_scope.specs.declared.layer.Layer as declared
 use Rattle.wf_value.proofs.Order.{in_order_empty}
 use Rattle.wf_value.specs.Data.{Data}
@@ -82,3 +82,18 @@ order_found (x ∷ xs) n = by (nat_eq x.number n) (order_found xs n)
     by : (b : Bool) → IsInOrder (vars_at n (views xs)) → IsInOrder (vars_in (if b then Some (layer_view x) else find n (views xs)))
     by true later = in_order_bound x.vars.items x.order
     by false later = later
+
+-- ## Layers that have ended
+kept_last : (ys : List declared.Layer) (l : declared.Layer) → counted_in (ys ++ l ∷ []) ≡ l.counted + counted_in ys
+kept_last [] l = refl
+kept_last (y ∷ ys) l = omega (arith, kept_last ys l)
+
+pub kept_push : (ok : Bool) (xs ys : List declared.Layer) (l : declared.Layer) → ys ≡ (if ok then xs ++ l ∷ [] else xs) → counted_in xs ≡ 0 → l.counted ≡ 0 → counted_in ys ≡ 0
+kept_push true xs ys l e h f = ap counted_in e ∙ omega (arith, kept_last xs l, h, f)
+kept_push false xs ys l e h f = ap counted_in e ∙ h
+
+pub kept_pop : (xs ys : List declared.Layer) (l : declared.Layer) → xs ≡ ys ++ l ∷ [] → counted_in xs ≡ 0 → (l.counted ≡ 0) × (counted_in ys ≡ 0)
+kept_pop xs ys l e h =
+    let all = kept_last ys l in
+    let none : counted_in (ys ++ l ∷ []) ≡ 0 = sym (ap counted_in e) ∙ h in
+    (omega (arith, all, none), omega (arith, all, none))

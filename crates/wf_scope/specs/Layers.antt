@@ -122,9 +122,13 @@ abbrev pub StayInnermost : List Layer → List Layer → Type 0
 StayInnermost old new = (n : ℕ) → IsInnermost n old → IsInnermost n new
 
 -- ## Changes
+-- a layer without variables
+abbrev pub new_layer : ℕ → Option ℕ → ℕ → Layer
+new_layer n outer d = record { number = n; outer = outer; depth = d; vars = [] }
+
 -- a new layer, inside another one or inside none
 abbrev pub opened : Option ℕ → ℕ → List Layer → List Layer
-opened outer d ls = ls ++ record { number = fresh ls; outer = outer; depth = d; vars = [] } ∷ []
+opened outer d ls = ls ++ new_layer (fresh ls) outer d ∷ []
 
 -- without a layer
 abbrev pub closed : ℕ → List Layer → List Layer

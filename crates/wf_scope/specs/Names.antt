@@ -1,6 +1,7 @@
 -- The names of a layer, in order. One without a value isn't bound.
 --     bound_of              those that are bound, with their values
 --     value_of              the value of a name that was found
+--     unbound               a name without its value
 use Rattle.std.specs.Prelude.{List, [], ◌∷◌, Option, Some, None, option_map}
 use Rattle.wf_value.specs.Data.{Data}
 use Rattle.wf_value.specs.Pairs.{Text}
@@ -19,3 +20,6 @@ bound_of (e ∷ es) = with_bound e.0 e.1 (bound_of es)
 abbrev pub value_of : Option (Option Value) → Option Data
 value_of None = None
 value_of (Some o) = option_map plain o
+
+abbrev pub unbound : Text × Option Value → Text × Option Value
+unbound e = (e.0, None)

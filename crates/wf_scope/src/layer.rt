@@ -1,17 +1,21 @@
 // A layer of variables.
-ghost use Rattle.std.specs.Prelude.{Some, ◌≡◌, ◌≢◌, ◌≤◌, ◌<◌, ◌+◌, ◌-◌, MatchBool, length, is_ok, if◌then◌else◌, option_map};
+ghost use Rattle.std.specs.Prelude.{[], IfOk, Some, map, ◌≡◌, ◌≢◌, ◌≤◌, ◌<◌, ◌+◌, ◌-◌, MatchBool, length, is_ok, if◌then◌else◌, option_map};
 ghost use Rattle.std.specs.List.Sorted.{IsStrictlySortedBy-prop};
 ghost use Rattle.std.specs.Map.{keys_of};
 ghost use Rattle.wf_scope.specs.Firsts.{Covers, Covers-prop, HasNone, class_of};
-ghost use Rattle.wf_scope.specs.Layers.{variable_size, with_variable};
-ghost use Rattle.wf_scope.specs.Names.{bound_of};
+ghost use Rattle.wf_scope.specs.Layers.{new_layer, variable_size, with_variable};
+ghost use Rattle.wf_scope.specs.Names.{bound_of, unbound};
 ghost use Rattle.wf_value.specs.Data.{pairs_of, pairs_size, size};
 ghost use Rattle.wf_value.specs.Maps.{IsInOrder, key_cmp, place_of, value_at, with_value};
 ghost use Rattle.wf_value.specs.Plain.{plain};
 
 use crate::firsts::Firsts;
 use crate::seek::seek;
+use std::alloc::Global;
 use wf_value::{OutOfMemory, Text, Value};
+
+/// Most layers hold no more variables.
+const ROOM: usize = 8;
 
 /// Variables by their names. A layer has a number, that of the layer outside it, if there is one, and the count of those around it.
 ///
@@ -32,6 +36,42 @@ pub(crate) struct Layer {
 
 impl Layer {
     ghost use Rattle.wf_scope.specs.Views.{layer_view};
+
+    /// A layer without names, with room for some.
+    pub(crate) fn fresh(alloc: Global) -> Result<Layer, OutOfMemory>
+        ensures { IfOk result (λ l. l.counted ≡ 0) }
+    {
+        let vars = Vec::with_capacity(alloc, ROOM)?;
+        Ok(Layer {
+            number: 0,
+            outer: None,
+            depth: 0,
+            counted: 0,
+            firsts: Firsts::none(),
+            vars,
+        })
+    }
+
+    /// A layer that binds nothing, with another number and at another place.
+    #[inline(always)]
+    pub(crate) fn stands(self, number: u64, outer: Option<u64>, depth: u64) -> Layer
+        requires { self.counted ≡ 0 }
+        ensures { layer_view result ≡ new_layer number outer depth }
+    {
+        let mut layer = self;
+        layer.number = number;
+        layer.outer = outer;
+        layer.depth = depth;
+        layer
+    }
+
+    /// Takes all values away. The names stay, and where to look for them.
+    pub(crate) fn clear(&mut self)
+        ensures { self.new.counted ≡ 0 }
+    {
+        clear_names(&mut self.vars);
+        self.counted = 0;
+    }
 
     /// 0 only where no variable's name is of this class; else where to look first.
     #[inline(always)]
@@ -137,6 +177,17 @@ fn put_named(
         Err(i) => names.insert(i, (name.copy()?, Some(value)))?,
     }
     Ok(())
+}
+
+/// Takes the values of all names away.
+fn clear_names(names: &mut Vec<(Text, Option<Value>)>)
+    ensures { names.new.items ≡ map unbound names.old.items }
+{
+    let mut i = 0;
+    while i < names.len() {
+        names[i].1 = None;
+        i += 1;
+    }
 }
 
 /// Whether two names are the same. Those of one byte are compared here, without a call.

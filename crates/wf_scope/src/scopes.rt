@@ -6,10 +6,10 @@ ghost use Rattle.wf_value.specs.Plain.{plain};
 ghost use Rattle.wf_scope.specs.Layers.{IsInnermost, IsLive, StayInnermost, StayLive, all_stand, chain, closed, depth_in, find, fresh, holder_in, look_in, opened, put_at, put_place, rises, stands, total_of, vars_at};
 ghost use Rattle.wf_scope.specs.Firsts.{class_of};
 ghost use Rattle.wf_scope.specs.Spots.{IsSpot};
-ghost use Rattle.wf_scope.specs.Views.{views};
+ghost use Rattle.wf_scope.specs.Views.{counted_in, views};
 
 use crate::fault::AssignFault;
-use crate::firsts::{Firsts, class_of};
+use crate::firsts::class_of;
 use crate::key::Key;
 use crate::layer::Layer;
 use crate::written::written;
@@ -22,8 +22,8 @@ const NESTING_LIMIT: u32 = 100;
 /// No memory holds variables that come to more.
 const MOST: u64 = u64::MAX - 2;
 
-/// Most layers hold no more variables.
-const ROOM: usize = 8;
+/// A layer that ends is kept for the next one if it has no more names.
+const KEPT: usize = 16;
 
 /// A layer, by its number. From it are seen this layer, the one outside it, and so on outward.
 #[derive(Clone, Copy)]
@@ -41,8 +41,11 @@ pub struct Scopes {
     alloc: Global,
     limit: u64,
     layers: Vec<Layer>,
+    /// Layers that have ended. They bind nothing.
+    spares: Vec<Layer>,
     total: u64,
     ghost counted: { total ≡ total_of (views layers.items) },
+    ghost spared: { counted_in spares.items ≡ 0 },
     ghost room: { total ≤ 18446744073709551613 },
     ghost rising: { rises (views layers.items) ≡ true },
     ghost standing: { all_stand (views layers.items) (views layers.items) ≡ true },
@@ -77,6 +80,7 @@ impl Scopes {
             alloc,
             limit,
             layers: Vec::new(alloc),
+            spares: Vec::new(alloc),
             total: 0,
         })
     }
@@ -142,6 +146,7 @@ impl Scopes {
         let place = self.place(c.number);
         let layer = self.layers.remove(place);
         self.total -= layer.counted;
+        keep(&mut self.spares, layer, place == self.layers.len());
     }
 
     /// Makes or changes a variable of a layer, which must be live. On a fault all stays, and the value is dropped.
@@ -410,15 +415,8 @@ impl Scopes {
         ensures stay { StayLive (layers_of self.old) (layers_of self.new) }
     {
         let number = self.fresh()?;
-        let vars = Vec::with_capacity(self.alloc, ROOM)?;
-        let layer = Layer {
-            number,
-            outer,
-            depth,
-            counted: 0,
-            firsts: Firsts::none(),
-            vars,
-        };
+        let spare = take(self.alloc, &mut self.spares)?;
+        let layer = spare.stands(number, outer, depth);
         self.layers.push(layer)?;
         Ok(Chain { number })
     }
@@ -454,4 +452,33 @@ fn put(
 {
     let layer = &mut layers[spot.layer];
     layer.put(spot.pair, spot.class, name, value, spot.counted, counted)
+}
+
+/// Keeps a layer that has ended for the next one, if it stood last, has few names and memory allows.
+#[inline(always)]
+fn keep(spares: &mut Vec<Layer>, layer: Layer, stood_last: bool)
+    requires { counted_in spares.old.items ≡ 0 }
+    ensures { counted_in spares.new.items ≡ 0 }
+{
+    if !stood_last || layer.vars.len() > KEPT {
+        return;
+    }
+    let mut spare = layer;
+    spare.clear();
+    match spares.push(spare) {
+        Ok(()) | Err(_) => {}
+    }
+}
+
+/// A layer that binds nothing: the one that ended last, if one was kept.
+#[inline(always)]
+fn take(alloc: Global, spares: &mut Vec<Layer>) -> Result<Layer, OutOfMemory>
+    requires { counted_in spares.old.items ≡ 0 }
+    ensures free { IfOk result (λ l. l.counted ≡ 0) }
+    ensures rest { counted_in spares.new.items ≡ 0 }
+{
+    match spares.pop() {
+        Some(spare) => Ok(spare),
+        None => Layer::fresh(alloc),
+    }
 }

@@ -1,6 +1,7 @@
 use Rattle.std.proofs.Common.{Some, ap, rules, sym, ◌∙◌}
 use Rattle.std.specs.List.{insert}
 use Rattle.wf_value.proofs.Seeks.{found_within, found_writes, missing_inserts, missing_within}
+use Rattle.wf_value.specs.Pairs.{Text}
 use Rattle.wf_scope.proofs.layer.put_named.Goals as goal
 
 pub index_mut-requires : goal.index_mut-requires
@@ -15,6 +16,8 @@ returns-in-Ok c = found_writes c.args.names.now.items c.args.name.now c.in-Ok.i 
 pub returns-in_ok-insert-in-Err : goal.returns-in_ok-insert-in-Err
 returns-in_ok-insert-in-Err c =
     let es = c.args.names.now.items in
+    let i = c.in-Err.i in
+    let v = c.args.value in
     c.in_ok-insert-in-Err.ensures.items
-    ∙ ap (λ x. insert es c.in-Err.i (x, Some c.args.value)) c.in_ok-copy-in-Err.ensures
-    ∙ missing_inserts es c.args.name.now c.in-Err.i (Some c.args.value) (sym c.in-Err.is ∙ c.requires)
+    ∙ ap (λ (x : Text). insert es i (x, Some v)) c.in_ok-copy-in-Err.ensures
+    ∙ missing_inserts es c.args.name.now i (Some v) (sym c.in-Err.is ∙ c.requires)

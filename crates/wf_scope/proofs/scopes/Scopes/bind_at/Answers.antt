@@ -45,6 +45,7 @@ invariant_of-self c =
     let total = spot_total c.args.spot c.args.name.now (plain c.args.v) s.layers.items c.requires.spot c.requires.live in
     record {
       counted = omega (arith, counted, s.counted, total.0, total.1, c.saturating_add-total.ensures, ap total_of kept.0);
+      spared = s.spared;
       room = omega arith;
       rising = kept.1;
       standing = kept.2;

@@ -25,6 +25,7 @@ invariant_of-self c =
     ap views c.remove-layer.ensures.items ∙ view_remove s.layers.items c.place-place.result ∙ removed n ls c.place-place.result (layer_view c.remove-layer.result) s.rising (c.place-place.ensures.found ∙ here) (number_found n ls (layer_view c.remove-layer.result) here) in
     record {
       counted = end.1 ∙ ap total_of (sym gone);
+      spared = c.keep.ensures;
       room = omega (arith, s.room, end.0);
       rising = ap rises gone ∙ rises_closed n ls s.rising;
       standing = ap (λ ys. all_stand ys ys) gone ∙ all_stand_closed n ls c.requires.innermost s.standing;
