@@ -5,20 +5,19 @@ ghost use Rattle.wf_scope.specs.Firsts.{class_of};
 /// The greatest place that a hint tells.
 const FARTHEST: usize = 254;
 
-/// A hint for each class of names: 0 where the layer has no variable with such a name, and else one more than a place where one stood when
-/// it was last put.
+/// A hint for each class of names: 0 where the layer has no such name, and else one more than a place where one stood when it was last put.
 #[derive(Clone, Copy)]
 pub(crate) struct Firsts {
     pub(crate) hints: [u8; 32],
 }
 
 impl Firsts {
-    /// Those of a layer without variables.
+    /// Those of a layer without names.
     pub(crate) fn none() -> Firsts {
         Firsts { hints: [0; 32] }
     }
 
-    /// A variable of this class stands at this place, or is put there.
+    /// A name of this class stands at this place, or is put there.
     #[inline(always)]
     pub(crate) fn put(&mut self, class: usize, place: Result<usize, usize>)
         requires { class < 32 }

@@ -1,7 +1,9 @@
-use Rattle.std.proofs.Common.{Some, ap, rules, sym, ◌∙◌}
+use Rattle.std.proofs.Common.{List, Option, Some, ◌≡◌, ap, rules, sym, ◌∙◌}
 use Rattle.std.specs.List.{insert}
 use Rattle.wf_value.proofs.Seeks.{found_within, found_writes, missing_inserts, missing_within}
+use Rattle.wf_value.specs.Maps.{with_value}
 use Rattle.wf_value.specs.Pairs.{Text}
+use Rattle.wf_value.specs.declared.Value.{Value}
 use Rattle.wf_scope.proofs.layer.put_named.Goals as goal
 
 pub index_mut-requires : goal.index_mut-requires
@@ -18,6 +20,7 @@ returns-in_ok-insert-in-Err c =
     let es = c.args.names.now.items in
     let i = c.in-Err.i in
     let v = c.args.value in
-    c.in_ok-insert-in-Err.ensures.items
-    ∙ ap (λ (x : Text). insert es i (x, Some v)) c.in_ok-copy-in-Err.ensures
-    ∙ missing_inserts es c.args.name.now i (Some v) (sym c.in-Err.is ∙ c.requires)
+    let k = c.args.name.now in
+    let written : insert es i (c.in_ok-copy-in-Err.field-0, Some v) ≡ insert es i (k, Some v) = ap (λ (x : Text). insert es i (x, Some v)) c.in_ok-copy-in-Err.ensures in
+    let put : insert es i (k, Some v) ≡ with_value k (Some v) es = missing_inserts es k i (Some v) (sym c.in-Err.is ∙ c.requires) in
+    ◌∙◌ {A = List (Text × Option Value)} c.in_ok-insert-in-Err.ensures.items (◌∙◌ {A = List (Text × Option Value)} written put)
