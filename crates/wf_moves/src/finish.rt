@@ -1,5 +1,5 @@
 // How a task goes on: what has ended is left.
-ghost use Rattle.std.specs.Prelude.{◌≡◌, List, false};
+ghost use Rattle.std.specs.Prelude.{◌≡◌, IfOk, List, Some, false};
 ghost use Rattle.wf_frames.specs.Fits.{HasNode};
 ghost use Rattle.wf_frames.specs.Frames.{inner};
 ghost use Rattle.wf_frames.specs.Owned.{Around, beside, control_of, local_of};
@@ -8,17 +8,19 @@ ghost use Rattle.wf_model.specs.Config.{Item};
 ghost use Rattle.wf_model.specs.Local as local;
 ghost use Rattle.wf_model.specs.Local.{Scene};
 ghost use Rattle.wf_frames.specs.Built.{Tells};
-ghost use Rattle.wf_moves.specs.Moved.{HasMove, IsLeft, IsMove, IsSettled, IsThrough, Settled};
+ghost use Rattle.wf_moves.specs.Moved.{HasMove, IsLeft, IsMove, IsSettled, IsThrough, Settled, turned_in};
 ghost use Rattle.wf_model.specs.Spots.{Spot};
 ghost use Rattle.wf_model.specs.declared.node.Node.{Node};
 
 use crate::sending::Sent;
 use crate::wait::Wait;
+use std::alloc::Global;
+use wf_ast::boxed;
 use wf_frames::{Frame, Frames, block, entries, leave};
 use wf_model::Node;
 use wf_scope::Scopes;
 use wf_sys_ask::Logged;
-use wf_value::Value;
+use wf_value::{OutOfMemory, Value};
 
 /// How a task has ended.
 #[derive(Drop)]
@@ -27,15 +29,32 @@ pub enum End {
     Error(Value),
 }
 
-/// What a move gives. An error goes outward only behind it (`lead`), and so does the answer of a predicate.
+/// What few moves give. An error goes outward only behind the move (`lead`), and so does the answer of a predicate.
 #[derive(Drop)]
-pub(crate) enum Went {
-    Goes,
+pub(crate) enum Turned {
     Ended(End),
     /// This error goes outward.
     Raises(Value),
     /// The workflow that was asked about an error returns this. Its call is the innermost frame.
     Says(bool),
+}
+
+/// What a move gives. Nearly all go on, so the rest stands in a box: what is handed on is small.
+#[derive(Drop)]
+pub(crate) enum Went {
+    Goes,
+    /// The task has ended behind its last step.
+    Ends,
+    Turned(Box<Turned>),
+}
+
+/// A move gives one of the few. It stands apart from what every move runs.
+#[cold]
+#[inline(never)]
+pub(crate) fn turns(alloc: Global, by: Turned) -> Result<Went, OutOfMemory>
+    ensures { IfOk result (λ w. turned_in w ≡ Some by) }
+{
+    Ok(Went::Turned(boxed(alloc, by)?))
 }
 
 /// What a move gives; the request that the task has made, with its wait; what it has logged, with what the move gives then; or a wait
@@ -103,7 +122,7 @@ pub(crate) fn goes(frames: &mut Frames, nodes: &[Node], scopes: &mut Scopes) -> 
 {
     settle(frames, nodes, scopes);
     match frames.top() {
-        None => Went::Ended(End::Value(Value::Null)),
+        None => Went::Ends,
         Some(_) => Went::Goes,
     }
 }

@@ -12,7 +12,7 @@ ghost use Rattle.wf_frames.specs.Steps.{HasStepOnTop, IsNoCall, IsReady, come};
 use crate::assign::assign;
 use crate::back::returns;
 use crate::call::call;
-use crate::finish::{Done, Went, goes};
+use crate::finish::{Done, Turned, Went, goes, turns};
 use crate::jump::jump;
 use crate::sending::Sending;
 use crate::turn::turn;
@@ -45,7 +45,7 @@ fn finish(
 {
     match step {
         Step::Goes => Ok(goes(frames, nodes, scopes)),
-        Step::Raises(error) => Ok(Went::Raises(error)),
+        Step::Raises(error) => turns(alloc, Turned::Raises(error)),
         Step::Returns(value) => returns(alloc, nodes, frames, scopes, value),
         Step::Jumps(n) => jump(alloc, frames, nodes, scopes, n),
         Step::Assigns(n) => assign(alloc, nodes, n, frames, scopes, facts),

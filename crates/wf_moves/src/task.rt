@@ -15,7 +15,7 @@ ghost use Rattle.wf_value.specs.Data.{depth};
 ghost use Rattle.wf_value.specs.Plain.{plain};
 
 use crate::back::give;
-use crate::finish::{Done, End, Went, settle};
+use crate::finish::{Done, End, Turned, Went, settle, turns};
 use crate::judging::try_again;
 use crate::leading::{Led, lead};
 use crate::logging::Behind;
@@ -239,7 +239,10 @@ impl Task {
         self.wait = Wait::Awake;
         match with {
             Ok(value) => self.gives(nodes, targets, scopes, facts, node, value),
-            Err(error) => self.follow(nodes, targets, scopes, facts, Went::Raises(error)),
+            Err(error) => {
+                let went = turns(self.alloc, Turned::Raises(error))?;
+                self.follow(nodes, targets, scopes, facts, went)
+            }
         }
     }
 

@@ -4,8 +4,8 @@ use Rattle.wf_frames.specs.Frames.{inner}
 use Rattle.wf_frames.specs.Held.{standing}
 use Rattle.wf_frames.specs.Owned.{beside, control_of, held_by, local_of}
 use Rattle.wf_model.specs.Leave.{raises}
-use Rattle.wf_moves.proofs.Raised.{raised_so}
-use Rattle.wf_moves.specs.declared.finish.Went.TheVariants as went
+use Rattle.wf_moves.proofs.Raised.{raised_so, turned_left, turned_move}
+use Rattle.wf_moves.specs.declared.finish.Turned.TheVariants as turned
 use Rattle.wf_value.specs.Plain.{plain}
 use Rattle.wf_moves.specs.Moved.{IsMove}
 use Rattle.wf_frames.specs.Steps.{IsNoCall, IsReady, come}
@@ -25,14 +25,20 @@ returns-in-Goes-clause-moved g c s d sees agrees =
     subst (λ st. IsMove s (come g.around.spots st s (control_of g.around c.args.frames.now) (beside d g.around c.args.frames.now c.args.scopes.now)) c.goes.result (local_of g.around c.goes.new.frames c.goes.new.scopes)) (sym c.in-Goes.is) (c.goes.ensures.moved s d)
 
 pub returns-in-Raises-clause-moved : goal.returns-in-Raises-clause-moved
-returns-in-Raises-clause-moved g c s d sees agrees =
+returns-in-Raises-clause-moved g c =
     let k = control_of g.around c.args.frames.now in
     let h = held_by g.around c.args.frames.now c.args.scopes.now in
-    subst (λ st. IsMove s (come g.around.spots st s k (beside d g.around c.args.frames.now c.args.scopes.now)) (went.Raises c.in-Raises.error) (local_of g.around c.args.frames.now c.args.scopes.now)) (sym c.in-Raises.is)
-    (raised_so s k d h c.in-Raises.error (raises s k (standing d h) (plain c.in-Raises.error)) refl)
+    with_ok _ _ c.turns.result
+    (λ w is s d sees agrees. subst (λ st. IsMove s (come g.around.spots st s k (beside d g.around c.args.frames.now c.args.scopes.now)) w (local_of g.around c.args.frames.now c.args.scopes.now)) (sym c.in-Raises.is)
+    (turned_move s (raises s k (standing d h) (plain c.in-Raises.error)) (turned.Raises c.in-Raises.error) w (local_of g.around c.args.frames.now c.args.scopes.now) is
+    (raised_so s k d h c.in-Raises.error (raises s k (standing d h) (plain c.in-Raises.error)) refl)))
+    c.turns.ensures
 
 pub returns-in-Raises-clause-left : goal.returns-in-Raises-clause-left
-returns-in-Raises-clause-left g c = subst (λ st. IsReady g.around.spots c.args.nodes.now (inner c.args.frames.now) st) c.in-Raises.is c.requires.1.1.0
+returns-in-Raises-clause-left g c =
+    with_ok _ _ c.turns.result
+    (λ w is. turned_left c.args.nodes.now (inner c.args.frames.now) (turned.Raises c.in-Raises.error) w is (subst (λ st. IsReady g.around.spots c.args.nodes.now (inner c.args.frames.now) st) c.in-Raises.is c.requires.1.1.0))
+    c.turns.ensures
 
 pub returns-in-Returns-clause-moved : goal.returns-in-Returns-clause-moved
 returns-in-Returns-clause-moved g c =
