@@ -15,11 +15,11 @@ use Rattle.wf_model.specs.Kinds.{NextKind, Plainly, ByClock, ByCall, body_kind, 
 use Rattle.wf_model.specs.Layers.{view}
 use Rattle.wf_model.specs.Local.{Local, Moved, Scene}
 use Rattle.wf_model.specs.Move.{issues, moves}
-use Rattle.wf_moves.specs.Moved.{IsMove, is_at_back}
+use Rattle.wf_moves.specs.Moved.{is_at_back}
 use Rattle.wf_moves.specs.Stepped.{by_kind, leads, leads_with, stepped_at}
+use Rattle.wf_moves.proofs.Awaiting.{done_breaks}
 use Rattle.wf_moves.specs.Tasks.{IsDone}
 use Rattle.wf_moves.specs.declared.finish.Done.{Done}
-use Rattle.wf_moves.specs.declared.finish.Done.TheVariants as done
 use Rattle.wf_model.specs.Spots.{Spot, part_at, part_body}
 use Rattle.wf_frames.proofs.Clocked.{flow_clock, function_clock, http_asks, log_clock, nap_reads}
 use Rattle.wf_frames.specs.Built.{IsFunction, IsHttp, IsLog, IsNap, IsWorkflow}
@@ -107,10 +107,7 @@ module _ (a : Around) (old new : List Frame) (st : Step) (s : Scene) (l : Local)
   module _ (v : View) (d : Done) (m : Local) (moves_so : Moves a.spots old v new st) (issues_so : Issues a.spots old v new st) (seen : view s l ≡ v) (h : IsDone a s (leads a.spots st s (control a.spots new) l) d m) where
     broken : (x : Done) (y : Moved) → IsOrBreaks y (asks a.spots st s (control a.spots new) l) → (IsDone a s (asks a.spots st s (control a.spots new) l) x m) → IsDone a s y x m
     broken x y (inl e) g = subst (λ z. IsDone a s z x m) (sym e) g
-    broken (done.Went w) y (inr b) g = subst (λ z. IsMove s z w m) (sym b.1) tt
-    broken (done.Sent x w) y (inr b) g = subst (λ z. IsDone a s z (done.Sent x w) m) (sym b.1) tt
-    broken (done.Waits w) y (inr b) g = subst (λ z. IsDone a s z (done.Waits w) m) (sym b.1) tt
-    broken (done.Logged x w) y (inr b) g = subst (λ z. IsDone a s z (done.Logged x w) m) (sym b.1) tt
+    broken x y (inr b) g = subst (λ z. IsDone a s z x m) (sym b.1) (done_breaks a s b.0 x m)
 
     -- the frames' half of a step, and then the other half
     pub stepped_on : IsDone a s (stepped_at s (control a.spots old) l) d m

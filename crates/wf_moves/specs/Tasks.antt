@@ -21,11 +21,14 @@ use Rattle.wf_model.specs.Run.{argument_in}
 use Rattle.wf_moves.specs.Moved.{IsEnd, IsLeft, IsMove, IsWent}
 use Rattle.wf_moves.specs.Requests.{Reaches}
 use Rattle.wf_moves.specs.Waits.{CanGoOn, GoesFrom, call_in, wait_view}
+use Rattle.wf_moves.specs.declared.finish.Awaits.{Awaits}
+use Rattle.wf_moves.specs.declared.finish.Awaits.TheVariants as awaits
 use Rattle.wf_moves.specs.declared.finish.Done.{Done}
 use Rattle.wf_moves.specs.declared.finish.Done.TheVariants as done
 use Rattle.wf_moves.specs.declared.task.Move.{Move}
 use Rattle.wf_moves.specs.declared.task.Move.TheVariants as move
 use Rattle.wf_moves.specs.declared.finish.Went.{Went}
+use Rattle.wf_moves.specs.declared.finish.Went.TheVariants as went
 use Rattle.wf_moves.specs.declared.logging.Behind.{Behind}
 use Rattle.wf_moves.specs.declared.logging.Behind.TheVariants as behind
 use Rattle.wf_sys_ask.specs.declared.entry.Logged.{Logged}
@@ -152,12 +155,18 @@ move_by behind.Goes = move.Went
 move_by (behind.Ended e) = move.Ended e
 
 -- ## Moves, requests and logs within a call
+-- the model's request, log or sleep, of a task that waits so
+abbrev pub IsAwaited : Around → Scene → Moved → Awaits → Local → Type 0
+IsAwaited a s m (awaits.Sent x w) l = IsRequest m x.value (record l { wait = wait_view a w })
+IsAwaited a s m (awaits.Logged x w) l = IsLogged s m x.value w l
+IsAwaited a s m (awaits.Waits w) l = IsWent m (record l { wait = wait_view a w })
+
 -- the model's move, request or log, of a task that goes on so or waits
 abbrev pub IsDone : Around → Scene → Moved → Done → Local → Type 0
-IsDone a s m (done.Went w) l = IsMove s m w l
-IsDone a s m (done.Sent x w) l = IsRequest m x.value (record l { wait = wait_view a w })
-IsDone a s m (done.Logged x w) l = IsLogged s m x.value w l
-IsDone a s m (done.Waits w) l = IsWent m (record l { wait = wait_view a w })
+IsDone a s m done.Goes l = IsMove s m went.Goes l
+IsDone a s m done.Ends l = IsMove s m went.Ends l
+IsDone a s m (done.Turned x) l = IsMove s m (went.Turned x) l
+IsDone a s m (done.Awaits x) l = IsAwaited a s m x.value l
 
 -- it is this one, whatever the scene that has these facts, and agrees on the limit, the rest and the workflows
 abbrev pub DoesBy : Around → Facts → Sending → (Scene → Local → Moved) → Held → Done → Frames → Scopes → Type 0
@@ -171,8 +180,13 @@ SleepsBy a f m h d fs x = (s : Scene) (c : List Item) → Sees s f → Agrees s 
 abbrev pub LogsBy : Around → Sending → (Scene → Local → Moved) → Held → Done → Frames → Scopes → Type 0
 LogsBy a g m h d fs x = (s : Scene) (c : List Item) → Reaches s g → Agrees s a → IsDone a s (m s (standing c h)) d (local_of a fs x)
 
+abbrev pub IsAwaitedLeft : List Node → Awaits → List Frame → Type 0
+IsAwaitedLeft nodes (awaits.Sent x w) fs = (is_some (call_in w) ≡ true) × GoesFrom nodes w fs
+IsAwaitedLeft nodes (awaits.Logged x w) fs = IsLeft nodes w fs
+IsAwaitedLeft nodes (awaits.Waits w) fs = (call_in w ≡ None) × GoesFrom nodes w fs
+
 abbrev pub IsLeftSo : List Node → Done → List Frame → Type 0
-IsLeftSo nodes (done.Went w) fs = IsLeft nodes w fs
-IsLeftSo nodes (done.Sent x w) fs = (is_some (call_in w) ≡ true) × GoesFrom nodes w fs
-IsLeftSo nodes (done.Logged x w) fs = IsLeft nodes w fs
-IsLeftSo nodes (done.Waits w) fs = (call_in w ≡ None) × GoesFrom nodes w fs
+IsLeftSo nodes done.Goes fs = IsLeft nodes went.Goes fs
+IsLeftSo nodes done.Ends fs = IsLeft nodes went.Ends fs
+IsLeftSo nodes (done.Turned x) fs = IsLeft nodes (went.Turned x) fs
+IsLeftSo nodes (done.Awaits x) fs = IsAwaitedLeft nodes x.value fs

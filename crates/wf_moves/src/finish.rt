@@ -6,9 +6,11 @@ ghost use Rattle.wf_frames.specs.Owned.{Around, beside, control_of, local_of};
 ghost use Rattle.wf_frames.specs.Stands.{Stands};
 ghost use Rattle.wf_model.specs.Config.{Item};
 ghost use Rattle.wf_model.specs.Local as local;
-ghost use Rattle.wf_model.specs.Local.{Scene};
+ghost use Rattle.wf_model.specs.Local.{Local, Moved, Scene};
 ghost use Rattle.wf_frames.specs.Built.{Tells};
 ghost use Rattle.wf_moves.specs.Moved.{HasMove, IsLeft, IsMove, IsSettled, IsThrough, Settled, turned_in};
+ghost use Rattle.wf_moves.specs.Tasks.{IsDone, IsLeftSo};
+ghost use Rattle.wf_frames.specs.declared.frames.Frame.{Frame};
 ghost use Rattle.wf_model.specs.Spots.{Spot};
 ghost use Rattle.wf_model.specs.declared.node.Node.{Node};
 
@@ -57,14 +59,39 @@ pub(crate) fn turns(alloc: Global, by: Turned) -> Result<Went, OutOfMemory>
     Ok(Went::Turned(boxed(alloc, by)?))
 }
 
-/// What a move gives; the request that the task has made, with its wait; what it has logged, with what the move gives then; or a wait
-/// alone. Requests and what is logged are rare, so they stand in boxes: what every move gives stays small.
+/// What a task waits for behind a move, or what the move has logged.
 #[derive(Drop)]
-pub(crate) enum Done {
-    Went(Went),
+pub(crate) enum Awaits {
+    /// The answer to this request.
     Sent(Box<Sent>, Wait),
+    /// This was logged, and the move gives this then.
     Logged(Box<Logged>, Went),
     Waits(Wait),
+}
+
+/// What a move of any kind gives: as `Went`, or what few of them wait for, in a box too.
+#[derive(Drop)]
+pub(crate) enum Done {
+    Goes,
+    /// The task has ended behind its last step.
+    Ends,
+    Turned(Box<Turned>),
+    Awaits(Box<Awaits>),
+}
+
+/// What a move gives that waits for nothing.
+#[inline(always)]
+pub(crate) fn done_of(went: Went) -> Done
+    ensures moved { (a : Around) (s : Scene) (m : Moved) (l : Local) → IsMove s m went l
+        → IsDone a s m result l }
+    ensures left { (nodes : List Node) (fs : List Frame) → IsLeft nodes went fs
+        → IsLeftSo nodes result fs }
+{
+    match went {
+        Went::Goes => Done::Goes,
+        Went::Ends => Done::Ends,
+        Went::Turned(turned) => Done::Turned(turned),
+    }
 }
 
 /// Whether a frame has ended.

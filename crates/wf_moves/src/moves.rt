@@ -12,7 +12,7 @@ ghost use Rattle.wf_frames.specs.Steps.{HasStepOnTop, IsNoCall, IsReady, come};
 use crate::assign::assign;
 use crate::back::returns;
 use crate::call::call;
-use crate::finish::{Done, Turned, Went, goes, turns};
+use crate::finish::{Done, Turned, Went, done_of, goes, turns};
 use crate::jump::jump;
 use crate::sending::Sending;
 use crate::turn::turn;
@@ -80,7 +80,7 @@ fn finish_step(
         Step::Calls(n, args) => call(
             alloc, nodes, targets, n, &args, frames, scopes, facts, sending,
         ),
-        step => Ok(Done::Went(finish(alloc, nodes, step, frames, scopes, facts)?)),
+        step => Ok(done_of(finish(alloc, nodes, step, frames, scopes, facts)?)),
     }
 }
 
@@ -155,7 +155,7 @@ pub(crate) fn advance(
     ensures left { IfOk result (λ d. IsLeftSo nodes.now d (inner frames.new)) }
 {
     if is_at_back(frames) {
-        return Ok(Done::Went(returns(alloc, nodes, frames, scopes, Value::Null)?));
+        return Ok(done_of(returns(alloc, nodes, frames, scopes, Value::Null)?));
     }
     if !is_at_loop(frames) {
         return step_on(alloc, nodes, targets, frames, scopes, facts, sending);
@@ -166,7 +166,7 @@ pub(crate) fn advance(
     match frame {
         Frame::Loop(n, left, index) => {
             let body = loop_node(nodes, n);
-            Ok(Done::Went(turn(alloc, nodes, n, body, left, index, frames, scopes)?))
+            Ok(done_of(turn(alloc, nodes, n, body, left, index, frames, scopes)?))
         }
         _ => unreachable!(),
     }

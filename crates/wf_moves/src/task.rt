@@ -2,7 +2,7 @@
 ghost use Rattle.std.specs.Prelude.{◌≡◌, ◌≤◌, IfErr, IfOk, OnOk, Some, false, is_some, true};
 ghost use Rattle.wf_frames.specs.Fits.{Fits};
 ghost use Rattle.wf_frames.specs.Frames.{inner};
-ghost use Rattle.wf_frames.specs.Owned.{Around, control_of};
+ghost use Rattle.wf_frames.specs.Owned.{Around, control_of, local_of};
 ghost use Rattle.wf_frames.specs.Sights.{Sees};
 ghost use Rattle.wf_frames.specs.Stands.{Stands};
 ghost use Rattle.wf_frames.specs.Turns.{Agrees};
@@ -15,7 +15,7 @@ ghost use Rattle.wf_value.specs.Data.{depth};
 ghost use Rattle.wf_value.specs.Plain.{plain};
 
 use crate::back::give;
-use crate::finish::{Done, End, Turned, Went, settle, turns};
+use crate::finish::{Awaits, Done, End, Turned, Went, settle, turns};
 use crate::judging::try_again;
 use crate::leading::{Led, lead};
 use crate::logging::Behind;
@@ -70,7 +70,7 @@ impl Task {
     ghost use Rattle.wf_model.specs.Move.{due, resumed};
     ghost use Rattle.wf_moves.specs.Requests.{Reaches};
     ghost use Rattle.wf_moves.specs.Stepped.{stepped};
-    ghost use Rattle.wf_moves.specs.Tasks.{IsBehind, IsFirst, IsFlow, MovesSo, Stays, StaysBehind, first, has_ended, is_sent};
+    ghost use Rattle.wf_moves.specs.Tasks.{IsAwaited, IsAwaitedLeft, IsBehind, IsFirst, IsFlow, MovesSo, Stays, StaysBehind, first, has_ended, is_sent};
     ghost use Rattle.wf_moves.specs.Waits.{CanGoOn, answer_view, call_in, is_awake_in, is_call_at, moment_in, result_in, task_local};
 
     /// The first task, awake, which stands before the steps of a workflow: that of the node with this number. Its first layer is made, and holds
@@ -193,16 +193,53 @@ impl Task {
             sending,
         )?;
         match done {
-            Done::Went(went) => self.follow(nodes, targets, scopes, facts, went),
-            Done::Waits(wait) => {
+            // what most moves give leads nowhere else
+            Done::Goes => Ok(Move::Went),
+            Done::Ends => self.follow(nodes, targets, scopes, facts, Went::Ends),
+            Done::Turned(turned) => {
+                self.follow(nodes, targets, scopes, facts, Went::Turned(turned))
+            }
+            Done::Awaits(awaits) => {
+                let awaits = Box::into_inner(awaits);
+                self.told(nodes, targets, scopes, facts, awaits)
+            }
+        }
+    }
+
+    /// It waits behind a move, or has logged a value.
+    #[cold]
+    #[inline(never)]
+    fn told(
+        &mut self,
+        nodes: &[Node],
+        targets: &[Target],
+        scopes: &mut Scopes,
+        facts: &Facts,
+        awaits: Awaits,
+    ) -> Result<Move, OutOfMemory>
+        ghost around: { Around }
+        requires tells { Tells around.spots nodes.now }
+        requires targets { AreTargets around.flows around.spots nodes.now targets.now }
+        requires stands { Stands around nodes.now self.old.frames scopes.old }
+        requires left { IsAwaitedLeft nodes.now awaits (inner self.old.frames) }
+        requires awake { is_awake_in self.old.wait ≡ true }
+        ensures moved { IfOk result (λ d. (s : Scene) (m : Moved) → Sees s facts.entry.now
+            → Agrees s around
+            → IsAwaited around s m awaits (local_of around self.old.frames scopes.old)
+            → MovesSo m d (task_local around self.new scopes.new)) }
+        ensures stands { OnOk result (Stands around nodes.now self.new.frames scopes.new) }
+        ensures left { IfOk result (λ d. Stays nodes.now d self.new) }
+    {
+        match awaits {
+            Awaits::Waits(wait) => {
                 self.wait = wait;
                 Ok(Move::Went)
             }
-            Done::Sent(sent, wait) => {
+            Awaits::Sent(sent, wait) => {
                 self.wait = wait;
                 Ok(Move::Sent(sent))
             }
-            Done::Logged(entry, went) => {
+            Awaits::Logged(entry, went) => {
                 let behind = self.stand(nodes, targets, scopes, facts, went)?;
                 Ok(Move::Logged(entry, behind))
             }
