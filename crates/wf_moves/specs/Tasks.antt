@@ -3,7 +3,7 @@
 --     argued      a layer with the argument in it
 --     Names       a node is a call of such a name
 --     MovesSo     a move, a request or a log of the model, by what a call gives and leaves
-use Rattle.std.specs.Prelude.{◌≡◌, ◌≤◌, ℕ, Bool, true, false, List, [], ◌∷◌, Some, None, is_some}
+use Rattle.std.specs.Prelude.{◌≡◌, ◌≤◌, ℕ, Bool, true, false, List, [], ◌∷◌, Some, None, Option, is_some}
 use Rattle.wf_ast.specs.Tree.{Flow, Param, no_steps}
 use Rattle.wf_frames.specs.Fits.{IsCall, view_at}
 use Rattle.wf_frames.specs.Frames.{inner}
@@ -27,6 +27,8 @@ use Rattle.wf_moves.specs.declared.finish.Done.{Done}
 use Rattle.wf_moves.specs.declared.finish.Done.TheVariants as done
 use Rattle.wf_moves.specs.declared.task.Move.{Move}
 use Rattle.wf_moves.specs.declared.task.Move.TheVariants as move
+use Rattle.wf_moves.specs.declared.task.Told.{Told}
+use Rattle.wf_moves.specs.declared.task.Told.TheVariants as told
 use Rattle.wf_moves.specs.declared.finish.Went.{Went}
 use Rattle.wf_moves.specs.declared.finish.Went.TheVariants as went
 use Rattle.wf_moves.specs.declared.logging.Behind.{Behind}
@@ -127,15 +129,26 @@ HasLogged (Does (Logs severity v) m) x b l = (severity ≡ x.severity) × (v ≡
 HasLogged m x b l = ⊥
 
 -- the model's move, request or log, by what a call gives and leaves
+abbrev pub MovesTo : Moved → Option Told → Local → Type 0
+MovesTo m None l = IsWent m l
+MovesTo m (Some (told.Ended e)) l = IsEnd m e l
+MovesTo m (Some (told.Sent x)) l = IsRequest m x.value l
+MovesTo m (Some (told.Logged x b)) l = HasLogged m x.value b l
+
+-- which of the few a move has done, if it has done one
+abbrev pub told_in : Move → Option Told
+told_in move.Went = None
+told_in (move.Told x) = Some x.value
+
 abbrev pub MovesSo : Moved → Move → Local → Type 0
-MovesSo m move.Went l = IsWent m l
-MovesSo m (move.Ended e) l = IsEnd m e l
-MovesSo m (move.Sent x) l = IsRequest m x.value l
-MovesSo m (move.Logged x b) l = HasLogged m x.value b l
+MovesSo m d l = MovesTo m (told_in d) l
+
+abbrev pub is_told_sent : Option Told → Bool
+is_told_sent (Some (told.Sent x)) = true
+is_told_sent t = false
 
 abbrev pub is_sent : Move → Bool
-is_sent (move.Sent x) = true
-is_sent m = false
+is_sent d = is_told_sent (told_in d)
 
 -- behind a log a task that goes on or waits can go on, and of one that has ended no frame is left
 abbrev pub StaysBehind : List Node → Behind → Task → Type 0
@@ -143,16 +156,19 @@ StaysBehind nodes behind.Goes t = (call_in t.wait ≡ None) × CanGoOn nodes t
 StaysBehind nodes (behind.Ended e) t = inner t.frames ≡ []
 
 -- a task that goes on or waits can go on, and makes no request, and of one that has ended no frame is left
+abbrev pub StaysTold : List Node → Option Told → Task → Type 0
+StaysTold nodes None t = (call_in t.wait ≡ None) × CanGoOn nodes t
+StaysTold nodes (Some (told.Ended e)) t = inner t.frames ≡ []
+StaysTold nodes (Some (told.Sent x)) t = (is_some (call_in t.wait) ≡ true) × CanGoOn nodes t
+StaysTold nodes (Some (told.Logged x b)) t = StaysBehind nodes b t
+
 abbrev pub Stays : List Node → Move → Task → Type 0
-Stays nodes move.Went t = (call_in t.wait ≡ None) × CanGoOn nodes t
-Stays nodes (move.Ended e) t = inner t.frames ≡ []
-Stays nodes (move.Sent x) t = (is_some (call_in t.wait) ≡ true) × CanGoOn nodes t
-Stays nodes (move.Logged x b) t = StaysBehind nodes b t
+Stays nodes d t = StaysTold nodes (told_in d) t
 
 -- the move of a task that stands so behind it
-abbrev pub move_by : Behind → Move
-move_by behind.Goes = move.Went
-move_by (behind.Ended e) = move.Ended e
+abbrev pub told_by : Behind → Option Told
+told_by behind.Goes = None
+told_by (behind.Ended e) = Some (told.Ended e)
 
 -- ## Moves, requests and logs within a call
 -- the model's request, log or sleep, of a task that waits so

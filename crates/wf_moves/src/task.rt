@@ -9,7 +9,7 @@ ghost use Rattle.wf_frames.specs.Turns.{Agrees};
 ghost use Rattle.wf_model.specs.Local.{Moved, Scene};
 ghost use Rattle.wf_frames.specs.Built.{AreTargets, Tells};
 ghost use Rattle.wf_moves.specs.Moved.{IsLeft, IsMove, IsSettled};
-ghost use Rattle.wf_moves.specs.Tasks.{move_by};
+ghost use Rattle.wf_moves.specs.Tasks.{told_by, told_in};
 ghost use Rattle.wf_model.specs.Spots.{part_at};
 ghost use Rattle.wf_value.specs.Data.{depth};
 ghost use Rattle.wf_value.specs.Plain.{plain};
@@ -24,18 +24,17 @@ use crate::sending::{Sending, Sent};
 use crate::start::{first_layer, params};
 use crate::wait::Wait;
 use std::alloc::Global;
+use wf_ast::boxed;
 use wf_frames::{Facts, Frame, Frames, Kind, Target, Wants, frame_kind};
 use wf_model::Node;
 use wf_scope::Scopes;
 use wf_sys_ask::Logged;
 use wf_value::{OutOfMemory, Value};
 
-/// What a move has done.
+/// What few moves have done.
 #[derive(Drop)]
-pub enum Move {
-    /// The task goes on, or waits until a moment.
-    Went,
-    /// It has ended, and its layers with it but for the first.
+pub enum Told {
+    /// The task has ended, and its layers with it but for the first.
     Ended(End),
     /// It has made a request, and waits for the answer.
     Sent(Box<Sent>),
@@ -43,13 +42,30 @@ pub enum Move {
     Logged(Box<Logged>, Behind),
 }
 
+/// What a move has done. Of nearly all there is nothing to tell, so the rest stands in a box: what is handed on is small.
+#[derive(Drop)]
+pub enum Move {
+    /// The task goes on, or waits until a moment.
+    Went,
+    Told(Box<Told>),
+}
+
+/// A move has done one of the few. It stands apart from what every move runs.
+#[cold]
+#[inline(never)]
+fn tell(alloc: Global, by: Told) -> Result<Move, OutOfMemory>
+    ensures { IfOk result (λ d. told_in d ≡ Some by) }
+{
+    Ok(Move::Told(boxed(alloc, by)?))
+}
+
 /// The move of a task that stands so behind it.
-fn move_by(behind: Behind) -> Move
-    ensures { result ≡ move_by behind }
+fn move_by(alloc: Global, behind: Behind) -> Result<Move, OutOfMemory>
+    ensures { IfOk result (λ d. told_in d ≡ told_by behind) }
 {
     match behind {
-        Behind::Goes => Move::Went,
-        Behind::Ended(end) => Move::Ended(end),
+        Behind::Goes => Ok(Move::Went),
+        Behind::Ended(end) => tell(alloc, Told::Ended(end)),
     }
 }
 
@@ -237,11 +253,11 @@ impl Task {
             }
             Awaits::Sent(sent, wait) => {
                 self.wait = wait;
-                Ok(Move::Sent(sent))
+                tell(self.alloc, Told::Sent(sent))
             }
             Awaits::Logged(entry, went) => {
                 let behind = self.stand(nodes, targets, scopes, facts, went)?;
-                Ok(Move::Logged(entry, behind))
+                tell(self.alloc, Told::Logged(entry, behind))
             }
         }
     }
@@ -382,7 +398,7 @@ impl Task {
             Went::Goes => Ok(Move::Went),
             went => {
                 let behind = self.stand(nodes, targets, scopes, facts, went)?;
-                Ok(move_by(behind))
+                move_by(self.alloc, behind)
             }
         }
     }
