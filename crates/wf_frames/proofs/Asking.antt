@@ -31,7 +31,9 @@ use Rattle.wf_value.specs.Events.{Method}
 use Rattle.wf_frames.proofs.Advancing.{from_next}
 use Rattle.wf_frames.proofs.Evaluated.{failed, gave}
 use Rattle.wf_frames.proofs.Parts.{list_is, part_is}
-use Rattle.wf_frames.specs.Steps.{AsksWith, CarriesCall, Fails, IsNoCall, IsOf, IsOrBreaks, Issues, PerformsCall, WantsSame, asks, asks_by, asks_with, issues_body}
+use Rattle.wf_frames.specs.Steps.{AreFit, AsksWith, CallWants, CallsNone, CarriesCall, Fails, IsCallOn, IsDone, IsGiven, IsNoCall, IsOf, IsOrBreaks, IsReady, Issues, LeadsSo, PerformsCall, WantsSame, asks, asks_by, asks_to, asks_with, come, come_to, issues_body}
+use Rattle.wf_frames.specs.declared.step.Leads.{Leads}
+use Rattle.wf_frames.specs.declared.step.Leads.TheVariants as leads
 use Rattle.wf_frames.specs.declared.step.Step.{Step}
 use Rattle.wf_frames.specs.declared.step.Step.TheVariants as step
 use Rattle.wf_value.specs.Data.{Pairs, pairs_of}
@@ -101,6 +103,22 @@ plain_asks_not ns cs x next k p other h = by (part_body (part_by ns x next (kind
     by (Body.Raise t) o e = clock_asks_not _ e
     by (Body.Return t) o e = clock_asks_not _ e
 
+-- ## What has a value at hand
+pub come_so : (ns : List Spot) (s : Scene) (k : List Item) (l : Local) (by : Leads) (st : Step) → LeadsSo by st → come ns st s k l ≡ come_to ns by s k l
+come_so ns s k l by st so = ap (λ y. come ns y s k l) so.is ∙ ap (λ y. come_to ns y s k l) so.holds
+
+pub asks_so : (ns : List Spot) (s : Scene) (k : List Item) (l : Local) (by : Leads) (st : Step) → LeadsSo by st → asks ns st s k l ≡ asks_to ns by s k l
+asks_so ns s k l by st so = ap (λ y. asks ns y s k l) so.is ∙ ap (λ y. asks_to ns y s k l) so.holds
+
+pub done_so : (by : Leads) (st : Step) → LeadsSo by st → IsGiven by → IsDone st
+done_so by st so h = subst IsDone (sym so.is) (subst IsGiven (sym so.holds) h)
+
+pub of_so : (n : ℕ) (by : Leads) (st : Step) → LeadsSo by st → IsCallOn n by → IsOf n st
+of_so n by st so h = subst (IsOf n) (sym so.is) (subst (IsCallOn n) (sym so.holds) h)
+
+pub ready_so : (ns : List Spot) (nodes : List Node) (fs : List Frame) (by : Leads) (st : Step) → LeadsSo by st → AreFit nodes by → IsReady ns nodes fs st
+ready_so ns nodes fs by st so h = subst (IsReady ns nodes fs) (sym so.is) (subst (AreFit nodes) (sym so.holds) h)
+
 -- ## Calls
 module _ (n : ℕ) (f : CallBody) (v : View) where
   -- with what came of the arguments
@@ -118,39 +136,48 @@ module _ (n : ℕ) (f : CallBody) (v : View) where
       by false e =
           inr (BadArgument, ap (λ o. issues_call s f o k l) m.1 ∙ ap (λ (b : Bool). if b then on s k l (fill_fields f.args (view s l)) (requests s f m.0 k l) else Breaks BadArgument) e)
 
-  pub asked_with : (m : Map) → Answers pairs_of (Ok m) (fill_fields f.args v) → AsksWith n f v (step.Calls n m)
-  asked_with m a =
-      asked_by (Ok (pairs_of m)) (step.Calls n m) (gave pairs_of m (fill_fields f.args v) a)
-      (λ ns s k l o body named. sym (ap (λ b. asks_with s b (pairs_of m) k l) body ∙ ap (λ q. asks_by s f q (pairs_of m) k l) named))
+  pub asked_with : (m : Map) (st : Step) → LeadsSo (leads.Calls n m) st → Answers pairs_of (Ok m) (fill_fields f.args v) → AsksWith n f v st
+  asked_with m st so a =
+      asked_by (Ok (pairs_of m)) st (gave pairs_of m (fill_fields f.args v) a)
+      (λ ns s k l o body named. sym (asks_so ns s k l (leads.Calls n m) st so ∙ ap (λ b. asks_with s b (pairs_of m) k l) body ∙ ap (λ q. asks_by s f q (pairs_of m) k l) named))
 
   pub ask_fails : (r : Raise) (st : Step) → Answers pairs_of (Err r) (fill_fields f.args v) → Fails r st → AsksWith n f v st
   ask_fails OutOfMemory st a h = absurd h
   ask_fails (Error t) st a h =
-      asked_by (Err t) st (failed pairs_of t (fill_fields f.args v) a) (λ ns s k l o body named. ap (raises s k l) (sym h.2) ∙ ap (λ x. asks ns x s k l) (sym h.1))
+      asked_by (Err t) st (failed pairs_of t (fill_fields f.args v) a) (λ ns s k l o body named. ap (raises s k l) (sym h.2) ∙ sym (asks_so ns s k l (leads.Raises h.0) st h.1))
+
+on_of : (n : ℕ) (x : Leads) → CallsNone x → IsCallOn n x
+on_of n (leads.Raises v) h = tt
+on_of n (leads.Returns v) h = tt
+on_of n (leads.Calls m args) h = absurd h
 
 pub no_call_of : (n : ℕ) (st : Step) → IsNoCall st → IsOf n st
 no_call_of n step.Goes h = tt
-no_call_of n (step.Raises v) h = tt
-no_call_of n (step.Returns v) h = tt
 no_call_of n (step.Jumps m) h = tt
 no_call_of n (step.Assigns m) h = tt
-no_call_of n (step.Calls m args) h = absurd h
+no_call_of n (step.Leads x) h = on_of n x.value h
+
+none_wants : (ns : List Spot) (old : List Frame) (x : Leads) → CallsNone x → CallWants ns old x
+none_wants ns old (leads.Raises v) h = tt
+none_wants ns old (leads.Returns v) h = tt
+none_wants ns old (leads.Calls m args) h = absurd h
 
 pub no_call_same : (ns : List Spot) (old : List Frame) (st : Step) → IsNoCall st → WantsSame ns old st
 no_call_same ns old step.Goes h = tt
-no_call_same ns old (step.Raises v) h = tt
-no_call_same ns old (step.Returns v) h = tt
 no_call_same ns old (step.Jumps m) h = tt
 no_call_same ns old (step.Assigns m) h = tt
-no_call_same ns old (step.Calls m args) h = absurd h
+no_call_same ns old (step.Leads x) h = none_wants ns old x.value h
+
+on_wants : (ns : List Spot) (old : List Frame) (n : ℕ) (x : Leads) → IsCallOn n x → ((p : Program) → next_kind p (control ns old) ≡ body_kind p (part_body (part_at ns n))) → CallWants ns old x
+on_wants ns old n (leads.Raises v) is h = tt
+on_wants ns old n (leads.Returns v) is h = tt
+on_wants ns old n (leads.Calls m args) is h = λ p. h p ∙ ap (λ (i : ℕ). body_kind p (part_body (part_at ns i))) (sym is)
 
 pub of_same : (ns : List Spot) (old : List Frame) (n : ℕ) (st : Step) → IsOf n st → ((p : Program) → next_kind p (control ns old) ≡ body_kind p (part_body (part_at ns n))) → WantsSame ns old st
 of_same ns old n step.Goes is h = tt
-of_same ns old n (step.Raises v) is h = tt
-of_same ns old n (step.Returns v) is h = tt
 of_same ns old n (step.Jumps m) is h = tt
 of_same ns old n (step.Assigns m) is h = tt
-of_same ns old n (step.Calls m args) is h = λ p. h p ∙ ap (λ (i : ℕ). body_kind p (part_body (part_at ns i))) (sym is)
+of_same ns old n (step.Leads x) is h = on_wants ns old n x.value is h
 
 -- ## Bodies
 pub performs_asked : (ns : List Spot) (n : ℕ) (f : CallBody) (v : View) (old : List Frame) (st : Step) → part_body (part_at ns n) ≡ Body.Call f → AsksWith n f v st → PerformsCall ns (part_body (part_at ns n)) v old old st

@@ -3,7 +3,8 @@
 --     Performs ..       a body, a step and a frame, by the frames before and behind and what is left to be done
 --     Issues ..         the same where a request is made
 --     IsReady           what is left can be done
-use Rattle.std.specs.Prelude.{◌≡◌, ◌<◌, ◌≤◌, ◌⊎◌, ℕ, Bool, true, false, ◌&&◌, is_none, List, [], ◌∷◌, length, Some, None, Ok, Option, Result, unwrap_or}
+use Rattle.std.specs.Global.{Global}
+use Rattle.std.specs.Prelude.{◌≡◌, ◌<◌, ◌≤◌, ◌⊎◌, ℕ, Bool, true, false, ◌&&◌, is_none, List, [], ◌∷◌, length, Some, None, Ok, Option, Result, unwrap_or, Box}
 use Rattle.wf_ast.specs.Accept as model
 use Rattle.wf_ast.specs.Apply.{View}
 use Rattle.wf_ast.specs.Eval.{fill, truth, whole}
@@ -22,6 +23,8 @@ use Rattle.wf_model.specs.Layers.{view}
 use Rattle.wf_model.specs.Leave.{raises, returns, jumps}
 use Rattle.wf_model.specs.Local.{Local, Scene, Moved, Breaks, Not, goes}
 use Rattle.wf_model.specs.Move.{assigns, issues, moves, performs, steps_on, then_item}
+use Rattle.wf_frames.specs.declared.step.Leads.{Leads}
+use Rattle.wf_frames.specs.declared.step.Leads.TheVariants as leads
 use Rattle.wf_frames.specs.declared.step.Step.{Step}
 use Rattle.wf_frames.specs.declared.step.Step.TheVariants as step
 use Rattle.wf_model.specs.NodeKinds.{Listed}
@@ -54,14 +57,18 @@ abbrev pub calls_by : Scene → Body → Pairs → List Item → Local → Moved
 calls_by s (Body.Call f) args k l = calls_named s f.result (flow s.program.flows f.name) f.name args k l
 calls_by s body args k l = goes k l
 
+-- what has a value at hand leads on so, at this control
+abbrev pub come_to : List Spot → Leads → Scene → List Item → Local → Moved
+come_to ns (leads.Raises v) s k l = raises s k l (plain v)
+come_to ns (leads.Returns v) s k l = returns s (plain v) k l
+come_to ns (leads.Calls n m) s k l = calls_by s (part_body (part_at ns n)) (pairs_of m) k l
+
 -- what is left of a step leads on so, at this control
 abbrev pub come : List Spot → Step → Scene → List Item → Local → Moved
 come ns step.Goes s k l = goes k l
-come ns (step.Raises v) s k l = raises s k l (plain v)
-come ns (step.Returns v) s k l = returns s (plain v) k l
 come ns (step.Jumps n) s k l = jumps s (unwrap_or (part_next (part_at ns n)) []) k l
 come ns (step.Assigns n) s k l = assigns s (part_entry (part_at ns n)) k l
-come ns (step.Calls n m) s k l = calls_by s (part_body (part_at ns n)) (pairs_of m) k l
+come ns (step.Leads x) s k l = come_to ns x.value s k l
 
 -- ## Requests
 -- the request of a call of HTTP is made, with its arguments
@@ -75,8 +82,12 @@ asks_with s (Body.Call f) args k l = asks_by s f (http_method (special_named f.n
 asks_with s body args k l = Not
 
 -- what is left of a step that makes a request leads on so, at this control
+abbrev pub asks_to : List Spot → Leads → Scene → List Item → Local → Moved
+asks_to ns (leads.Calls n m) s k l = asks_with s (part_body (part_at ns n)) (pairs_of m) k l
+asks_to ns x s k l = come_to ns x s k l
+
 abbrev pub asks : List Spot → Step → Scene → List Item → Local → Moved
-asks ns (step.Calls n m) s k l = asks_with s (part_body (part_at ns n)) (pairs_of m) k l
+asks ns (step.Leads x) s k l = asks_to ns x.value s k l
 asks ns st s k l = come ns st s k l
 
 -- a body makes a request; k is what stands outside it, its `next` among that
@@ -88,9 +99,15 @@ issues_body s body k l = Not
 abbrev pub IsOrBreaks : Moved → Moved → Type 0
 IsOrBreaks m x = (m ≡ x) ⊎ ((kind : model.Kind) × (m ≡ Breaks kind))
 
+-- what is left of a step is this, in its box
+pub record LeadsSo (by : Leads) (st : Step) : Type 0 where
+  pub held : Box Leads Global
+  pub is : st ≡ step.Leads held
+  pub holds : held.value ≡ by
+
 -- the step raises the error of an evaluation
 abbrev pub Fails : Raise → Step → Type 0
-Fails (Error t) st = (v : Value) × (st ≡ step.Raises v) × (plain v ≡ error_map t)
+Fails (Error t) st = (v : Value) × LeadsSo (leads.Raises v) st × (plain v ≡ error_map t)
 Fails OutOfMemory st = ⊥
 
 -- ## What the parts of a step do, wherever the task stands
@@ -134,13 +151,21 @@ CarriesCall ns body next v old new st =
     → IsOrBreaks (issues_body s body (then_item next (control ns old)) l) (asks ns st s (control ns new) l)
 
 -- a call that is left is that of the node with this number
+abbrev pub IsCallOn : ℕ → Leads → Type 0
+IsCallOn n (leads.Calls m args) = m ≡ n
+IsCallOn n x = Unit {0}
+
 abbrev pub IsOf : ℕ → Step → Type 0
-IsOf n (step.Calls m args) = m ≡ n
+IsOf n (step.Leads x) = IsCallOn n x.value
 IsOf n st = Unit {0}
 
 -- no call is left
+abbrev pub CallsNone : Leads → Type 0
+CallsNone (leads.Calls n m) = ⊥
+CallsNone x = Unit {0}
+
 abbrev pub IsNoCall : Step → Type 0
-IsNoCall (step.Calls n m) = ⊥
+IsNoCall (step.Leads x) = CallsNone x.value
 IsNoCall st = Unit {0}
 
 -- the condition of an arm holds or not, or can't be told
@@ -202,19 +227,26 @@ Issues ns old v new st =
     → IsOrBreaks (issues s (control ns old) l) (asks ns st s (control ns new) l)
 
 -- the body of a call that is left wants the event that the frames want
+abbrev pub CallWants : List Spot → List Frame → Leads → Type 0
+CallWants ns old (leads.Calls n m) = (p : Program) → next_kind p (control ns old) ≡ body_kind p (part_body (part_at ns n))
+CallWants ns old x = Unit {0}
+
 abbrev pub WantsSame : List Spot → List Frame → Step → Type 0
-WantsSame ns old (step.Calls n m) = (p : Program) → next_kind p (control ns old) ≡ body_kind p (part_body (part_at ns n))
+WantsSame ns old (step.Leads x) = CallWants ns old x.value
 WantsSame ns old st = Unit {0}
 
 -- ## What is left of a step
 -- neither a jump nor an assignment nor a call, and a value or an error nests within the limit
+abbrev pub IsGiven : Leads → Type 0
+IsGiven (leads.Raises v) = depth (plain v) ≤ 100
+IsGiven (leads.Returns v) = depth (plain v) ≤ 100
+IsGiven (leads.Calls n m) = ⊥
+
 abbrev pub IsDone : Step → Type 0
 IsDone step.Goes = Unit {0}
-IsDone (step.Raises v) = depth (plain v) ≤ 100
-IsDone (step.Returns v) = depth (plain v) ≤ 100
+IsDone (step.Leads x) = IsGiven x.value
 IsDone (step.Jumps n) = ⊥
 IsDone (step.Assigns n) = ⊥
-IsDone (step.Calls n m) = ⊥
 
 -- the node says what is next, and stands where the frames stand
 pub record IsJump (ns : List Spot) (nodes : List Node) (n : ℕ) (fs : List Frame) : Type 0 where
@@ -222,10 +254,13 @@ pub record IsJump (ns : List Spot) (nodes : List Node) (n : ℕ) (fs : List Fram
   pub next : has_next (view_at nodes n) ≡ true
   pub inside : owners_at ns n ≡ reach fs
 
+abbrev pub AreFit : List Node → Leads → Type 0
+AreFit nodes (leads.Calls n m) = ((f : CallNode) × IsCall nodes n f) × (pairs_depth (pairs_of m) ≤ 100)
+AreFit nodes (leads.Raises v) = depth (plain v) ≤ 100
+AreFit nodes (leads.Returns v) = depth (plain v) ≤ 100
+
 abbrev pub IsReady : List Spot → List Node → List Frame → Step → Type 0
 IsReady ns nodes fs (step.Jumps n) = IsJump ns nodes n fs
 IsReady ns nodes fs (step.Assigns n) = n < length nodes
-IsReady ns nodes fs (step.Calls n m) = ((f : CallNode) × IsCall nodes n f) × (pairs_depth (pairs_of m) ≤ 100)
-IsReady ns nodes fs (step.Raises v) = depth (plain v) ≤ 100
-IsReady ns nodes fs (step.Returns v) = depth (plain v) ≤ 100
+IsReady ns nodes fs (step.Leads x) = AreFit nodes x.value
 IsReady ns nodes fs step.Goes = Unit {0}

@@ -34,6 +34,6 @@ pub use leaving::leave;
 pub use nodes::{are_built, block, entries, first_of, loop_node, try_node};
 pub use sight::seen;
 pub use sighted::Seen;
-pub use step::{Step, body_frame, map_of};
+pub use step::{Leads, Step, body_frame, map_of};
 pub use target::{Nap, Target, http_named, nap_named};
 pub use writing::assign;

@@ -12,7 +12,7 @@ ghost use Rattle.wf_model.specs.Config.{Item};
 ghost use Rattle.wf_model.specs.Move as move;
 ghost use Rattle.wf_model.specs.Move.{entered};
 ghost use Rattle.wf_frames.specs.Built.{Tells};
-ghost use Rattle.wf_frames.specs.Steps.{AsksWith, CallsWith, CarriesCall, CarriesOut, Fails, Holds, IsDone, IsNoCall, IsOf, IsReady, Performs, PerformsCall, RaisesValue, ReturnsValue, Within, arm_in, ends, is_idle, is_idle_kind};
+ghost use Rattle.wf_frames.specs.Steps.{AsksWith, CallsWith, CarriesCall, CarriesOut, Fails, Holds, IsDone, IsNoCall, IsOf, IsReady, LeadsSo, Performs, PerformsCall, RaisesValue, ReturnsValue, Within, arm_in, ends, is_idle, is_idle_kind};
 ghost use Rattle.wf_frames.specs.declared.frames.Frame.{Frame};
 ghost use Rattle.wf_model.specs.NodeKinds.{call_by, over_by};
 ghost use Rattle.wf_model.specs.Shapes.{shape_by};
@@ -29,26 +29,41 @@ ghost use Rattle.wf_value.specs.Plain.{plain};
 use crate::filling::{fill_args, fill_shape};
 use crate::{Frame, Frames, Left};
 use std::alloc::Global;
-use wf_ast::Postfix;
+use wf_ast::{Postfix, boxed};
 use wf_eval::Look;
 use wf_model::{CallNode, Node, NodeKind, OverShape, Shape, TryNode};
 use wf_value::{Map, OutOfMemory, Raise, Tag, Value, error_map};
 
-/// What is still to be done of a step, beside its frames.
+/// What is still to be done of a step that has a value at hand.
 #[derive(Drop)]
-pub enum Step {
-    /// The task goes on.
-    Goes,
+pub enum Leads {
     /// An error is raised.
     Raises(Value),
     /// The workflow returns.
     Returns(Value),
+    /// The call of the node, with the arguments by their names.
+    Calls(u32, Map),
+}
+
+/// What is still to be done of a step, beside its frames. What has a value at hand stands in a box: what every step hands on is small.
+#[derive(Drop)]
+pub enum Step {
+    /// The task goes on.
+    Goes,
     /// The jump of the node's `next`.
     Jumps(u32),
     /// The assignment of the node.
     Assigns(u32),
-    /// The call of the node, with the arguments by their names.
-    Calls(u32, Map),
+    Leads(Box<Leads>),
+}
+
+/// A step that has a value at hand. It stands apart from what every step runs.
+#[cold]
+#[inline(never)]
+fn lead(alloc: Global, by: Leads) -> Result<Step, OutOfMemory>
+    ensures { IfOk result (LeadsSo by) }
+{
+    Ok(Step::Leads(boxed(alloc, by)?))
 }
 
 /// The map of an error. It is asked for no error of a request and of branches, whose maps hold more: no evaluation raises one.
@@ -69,7 +84,7 @@ fn fails(alloc: Global, raise: Raise) -> Result<Step, OutOfMemory>
     ensures done { IfOk result IsDone }
 {
     match raise {
-        Raise::Error(tag) => Ok(Step::Raises(map_of(alloc, tag)?)),
+        Raise::Error(tag) => lead(alloc, Leads::Raises(map_of(alloc, tag)?)),
         Raise::OutOfMemory => Err(OutOfMemory),
     }
 }
@@ -87,7 +102,7 @@ fn returns<K: Look>(
     ensures done { IfOk result IsDone }
 {
     match fill_shape(alloc, shape, codes, look, now) {
-        Ok(value) => Ok(Step::Returns(value)),
+        Ok(value) => lead(alloc, Leads::Returns(value)),
         Err(raise) => fails(alloc, raise),
     }
 }
@@ -109,7 +124,7 @@ fn raises<K: Look>(
         Err(raise) => return fails(alloc, raise),
     };
     match &value {
-        Value::Text(_) | Value::Map(_) => Ok(Step::Raises(value)),
+        Value::Text(_) | Value::Map(_) => lead(alloc, Leads::Raises(value)),
         _ => fails(alloc, Raise::Error(Tag::TypeError)),
     }
 }
@@ -321,7 +336,7 @@ fn calls<K: Look>(
         → IsCall nodes n call.now → IfOk result (IsReady ns nodes fs) }
 {
     match fill_args(alloc, &call.args, codes, look, now) {
-        Ok(args) => Ok(Step::Calls(n, args)),
+        Ok(args) => lead(alloc, Leads::Calls(n, args)),
         Err(raise) => fails(alloc, raise),
     }
 }

@@ -33,8 +33,8 @@ use Rattle.wf_moves.specs.declared.finish.End.{End}
 use Rattle.wf_moves.specs.declared.finish.End.TheVariants as end
 use Rattle.wf_moves.specs.declared.logging.Behind.{Behind}
 use Rattle.wf_moves.specs.declared.logging.Behind.TheVariants as behind
-use Rattle.wf_moves.specs.declared.task.Move.{Move}
-use Rattle.wf_moves.specs.declared.task.Move.TheVariants as move
+use Rattle.wf_moves.specs.declared.task.Told.{Told}
+use Rattle.wf_moves.specs.declared.task.Told.TheVariants as told
 use Rattle.wf_moves.specs.declared.task.Task.{Task}
 use Rattle.wf_value.specs.Data.{Data, depth}
 use Rattle.wf_value.specs.Pairs.{Text}
@@ -164,21 +164,21 @@ abbrev pub outcome_then : Behind → Outcome
 outcome_then behind.Goes = Active
 outcome_then (behind.Ended e) = outcome_at e
 
-abbrev pub outcome_behind : Move → Outcome
-outcome_behind move.Went = Active
-outcome_behind (move.Ended e) = outcome_at e
-outcome_behind (move.Sent x) = Active
-outcome_behind (move.Logged x w) = outcome_then w
+abbrev pub outcome_behind : Option Told → Outcome
+outcome_behind None = Active
+outcome_behind (Some (told.Ended e)) = outcome_at e
+outcome_behind (Some (told.Sent x)) = Active
+outcome_behind (Some (told.Logged x w)) = outcome_then w
 
-abbrev pub calls_behind : Move → List Call → List Call
-calls_behind (move.Sent x) calls = calls ++ Open 0 (request_view x.value.request) x.value.due ∷ []
+abbrev pub calls_behind : Option Told → List Call → List Call
+calls_behind (Some (told.Sent x)) calls = calls ++ Open 0 (request_view x.value.request) x.value.due ∷ []
 calls_behind m calls = calls
 
-abbrev pub log_behind : ℕ → Move → List LogEntry → List LogEntry
-log_behind reading (move.Logged x w) log = log ++ logged_at reading x.value ∷ []
+abbrev pub log_behind : ℕ → Option Told → List LogEntry → List LogEntry
+log_behind reading (Some (told.Logged x w)) log = log ++ logged_at reading x.value ∷ []
 log_behind reading m log = log
 
 -- how deep nests what it has logged
-abbrev pub logged_depth : Move → ℕ
-logged_depth (move.Logged x w) = depth (plain x.value.value)
+abbrev pub logged_depth : Option Told → ℕ
+logged_depth (Some (told.Logged x w)) = depth (plain x.value.value)
 logged_depth m = 0

@@ -1,13 +1,14 @@
 // How an execution has ended.
-ghost use Rattle.std.specs.Prelude.{◌≡◌, ◌≤◌, IfOk, IfSome, OnOk, false, unwrap_or};
+ghost use Rattle.std.specs.Prelude.{◌≡◌, ◌≤◌, IfOk, IfSome, OnOk, Some, false, unwrap_or};
 ghost use Rattle.wf_machine.specs.Entries.{entries_of};
 ghost use Rattle.wf_machine.specs.Main.{calls_behind, log_behind, logged_depth, outcome_at, outcome_behind};
+ghost use Rattle.wf_moves.specs.Tasks.{told_in};
 ghost use Rattle.wf_machine.specs.State.{is_running, outcome_by};
 ghost use Rattle.wf_machine.specs.declared.ending.Ending.TheVariants.{Running};
 
 use crate::log::Log;
 use wf_calls::Calls;
-use wf_moves::{Behind, End, Move};
+use wf_moves::{Behind, End, Move, Told};
 use wf_value::{OutOfMemory, Value};
 
 /// How an execution has ended, if it has.
@@ -57,8 +58,7 @@ fn ending_by(end: End) -> Ending
     }
 }
 
-/// How an execution has ended behind what `main` has done at a reading; none where it goes on. A request that was made is one more call, and a
-/// value that was logged one more entry.
+/// How an execution has ended behind what `main` has done at a reading; none where it goes on.
 #[inline(always)]
 pub(crate) fn ending_of(
     did: Move,
@@ -66,21 +66,46 @@ pub(crate) fn ending_of(
     calls: &mut Calls,
     log: &mut Log,
 ) -> Result<Option<Ending>, OutOfMemory>
-    requires shallow { logged_depth did ≤ 100 }
-    ensures outcome { IfOk result (λ e. outcome_by (unwrap_or e Running) ≡ outcome_behind did) }
+    requires shallow { logged_depth (told_in did) ≤ 100 }
+    ensures outcome { IfOk result (λ e. outcome_by (unwrap_or e Running)
+        ≡ outcome_behind (told_in did)) }
     ensures ended { IfOk result (λ e. IfSome e (λ e. is_running e ≡ false)) }
-    ensures calls { OnOk result (calls.new ≡ calls_behind did calls.old) }
-    ensures log { OnOk result (entries_of log.new ≡ log_behind reading did (entries_of log.old)) }
+    ensures calls { OnOk result (calls.new ≡ calls_behind (told_in did) calls.old) }
+    ensures log { OnOk result (entries_of log.new
+        ≡ log_behind reading (told_in did) (entries_of log.old)) }
 {
     match did {
         Move::Went => Ok(None),
-        Move::Ended(end) => Ok(Some(ending_by(end))),
-        Move::Sent(sent) => {
+        Move::Told(told) => ending_behind(Box::into_inner(told), reading, calls, log),
+    }
+}
+
+/// The same of one of the few moves of which there is something to tell. A request that was made is one more call, and a value that was
+/// logged one more entry.
+#[cold]
+#[inline(never)]
+fn ending_behind(
+    told: Told,
+    reading: u64,
+    calls: &mut Calls,
+    log: &mut Log,
+) -> Result<Option<Ending>, OutOfMemory>
+    requires shallow { logged_depth (Some told) ≤ 100 }
+    ensures outcome { IfOk result (λ e. outcome_by (unwrap_or e Running)
+        ≡ outcome_behind (Some told)) }
+    ensures ended { IfOk result (λ e. IfSome e (λ e. is_running e ≡ false)) }
+    ensures calls { OnOk result (calls.new ≡ calls_behind (Some told) calls.old) }
+    ensures log { OnOk result (entries_of log.new
+        ≡ log_behind reading (Some told) (entries_of log.old)) }
+{
+    match told {
+        Told::Ended(end) => Ok(Some(ending_by(end))),
+        Told::Sent(sent) => {
             let sent = Box::into_inner(sent);
             calls.send(0, sent.request, sent.due)?;
             Ok(None)
         }
-        Move::Logged(logged, behind) => {
+        Told::Logged(logged, behind) => {
             log.add(Box::into_inner(logged), reading)?;
             match behind {
                 Behind::Goes => Ok(None),

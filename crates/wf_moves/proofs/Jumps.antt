@@ -213,10 +213,9 @@ loop_turned f true old new h g t other w =
     }
 
 ends_so : (s : Scene) (h g : Held) (w : Went) (l : Local) → IsThrough w → g.outside ≡ h.outside → IsMove s (goes [] (standing [] g)) w l → IsMove s (goes [] (standing [] h)) w l
-ends_so s h g (went.Ended e) l t o m = (m.0, m.1, sym o ∙ m.2)
+ends_so s h g went.Ends l t o m = (m.0, m.1, sym o ∙ m.2)
 ends_so s h g went.Goes l t o m = absurd m
-ends_so s h g (went.Raises e) l t o m = absurd t
-ends_so s h g (went.Says b) l t o m = absurd t
+ends_so s h g (went.Turned x) l t o m = absurd t
 
 by_root : (s : Scene) (r : Root) (h g : Held) (d : List Item) (w : Went) (l : Local) → IsThrough w → g.outside ≡ h.outside → IsMove s (goes [] (standing [] g)) w l → IsMove s (elim r [ Iteration ↦ goes [] (standing d h) | _ ↦ Breaks BreakOutsideLoop ]) w l
 by_root s Main h g d w l t o m = tt

@@ -195,7 +195,7 @@ pub went_on : (s : Scene) (ns : List Spot) (f : Frame) (fs : List Frame) (h : He
 went_on s ns f [] h t = absurd (cc t)
 went_on s ns f (g ∷ fs) h t = subst (λ m. IsMove s m went.Goes (standing (control ns (g ∷ fs)) h)) (sym (ended_items ns g (control ns fs) (standing (control ns (g ∷ fs)) h))) refl
 
-pub went_out : (s : Scene) (ns : List Spot) (fs : List Frame) (h : Held) → topped fs ≡ None → IsMove s (settled (standing (control ns fs) h)) (went.Ended (end.Value value.Null)) (standing (control ns fs) h)
+pub went_out : (s : Scene) (ns : List Spot) (fs : List Frame) (h : Held) → topped fs ≡ None → IsMove s (settled (standing (control ns fs) h)) went.Ends (standing (control ns fs) h)
 went_out s ns [] h t = (refl, omega arith, refl)
 went_out s ns (g ∷ fs) h t = absurd (cc t)
 

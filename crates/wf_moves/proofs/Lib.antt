@@ -1,5 +1,6 @@
 pub mod Answering
 pub mod Assigning
+pub mod Awaiting
 pub mod Calling
 pub mod Deciding
 pub mod Going

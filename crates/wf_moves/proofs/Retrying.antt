@@ -27,7 +27,7 @@ use Rattle.wf_moves.proofs.Calling.{calls_are, le_false, le_true, Begun, begun}
 use Rattle.wf_moves.proofs.Leaving.{ended_items, stands_on}
 use Rattle.wf_moves.proofs.Starting.{flow_list}
 use Rattle.wf_moves.specs.Tasks.{IsFlow, part_params}
-use Rattle.wf_moves.specs.declared.finish.Went.TheVariants as went
+use Rattle.wf_moves.specs.declared.finish.Turned.TheVariants as turned
 use Rattle.wf_model.specs.Leave.{returns}
 use Rattle.wf_model.specs.NodeKinds as kinds
 use Rattle.wf_ast.specs.declared.program.Param as declared
@@ -36,7 +36,7 @@ use Rattle.wf_value.specs.Plain.{plain}
 use Rattle.wf_value.specs.declared.Value.{Value}
 use Rattle.wf_moves.proofs.Unwinding.{try_is}
 use Rattle.wf_moves.specs.Retries.{IsLed, LeadsBy, TriedAt, ask_at, asked_by, decide_at, retry_at, try_at, verdict_of, verdict_said, Asked, AsksFlow}
-use Rattle.wf_moves.specs.Moved.{IsEnd, IsWent, IsMove}
+use Rattle.wf_moves.specs.Moved.{IsEnd, IsWent, IsTurned}
 use Rattle.wf_moves.specs.Waits.{wait_view}
 use Rattle.wf_moves.specs.declared.judging.Verdict.TheVariants as verdict
 use Rattle.wf_moves.specs.declared.leading.Led.{Led}
@@ -340,14 +340,14 @@ went_there ns f [] h t = absurd (cc t)
 went_there ns f (g ∷ fs) h t = subst (λ m. IsWent m (standing (control ns (g ∷ fs)) h)) (sym (ended_items ns g (control ns fs) (standing (control ns (g ∷ fs)) h))) refl
 
 -- what is told of a move that raises, and of one that answers
-pub still_raised : (s : Scene) (m : Moved) (v : Value) (l : Local) → IsMove s m (went.Raises v) l → ((c : List Item) × (m ≡ unwind s l.control (record l { control = c }) (plain v))) ⊎ ((kind : Kind) × (m ≡ Breaks kind))
+pub still_raised : (s : Scene) (m : Moved) (v : Value) (l : Local) → IsTurned s m (turned.Raises v) l → ((c : List Item) × (m ≡ unwind s l.control (record l { control = c }) (plain v))) ⊎ ((kind : Kind) × (m ≡ Breaks kind))
 still_raised s (Goes x) v l h = inl h
 still_raised s (Ends e x) v l h = inl h
 still_raised s (Does e x) v l h = inl h
 still_raised s (Breaks kind) v l h = inr (kind, refl)
 still_raised s Not v l h = inl h
 
-pub still_said : (s : Scene) (m : Moved) (b : Bool) (l : Local) → IsMove s m (went.Says b) l → ((c : List Item) × (m ≡ returns s (boolean b) l.control (record l { control = c }))) ⊎ ((kind : Kind) × (m ≡ Breaks kind))
+pub still_said : (s : Scene) (m : Moved) (b : Bool) (l : Local) → IsTurned s m (turned.Says b) l → ((c : List Item) × (m ≡ returns s (boolean b) l.control (record l { control = c }))) ⊎ ((kind : Kind) × (m ≡ Breaks kind))
 still_said s (Goes x) b l h = inl h
 still_said s (Ends e x) b l h = inl h
 still_said s (Does e x) b l h = inl h

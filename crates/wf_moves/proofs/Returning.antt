@@ -13,11 +13,11 @@ use Rattle.wf_model.specs.Local.{Branch, Gives, Iteration, Local, Main, Root, Sc
 use Rattle.wf_model.specs.Move.{moves}
 use Rattle.wf_model.specs.Unwind.{to_back}
 use Rattle.wf_moves.proofs.Leaving.{same_outside, stands_on}
-use Rattle.wf_moves.proofs.Raised.{raised, raised_left, said_so}
-use Rattle.wf_moves.specs.Moved.{IsBackTop, IsJudgeTop, IsLeft, IsMove, SaysSo, back_found, call_of, is_at_back, is_judge}
+use Rattle.wf_moves.proofs.Raised.{raised, raised_left, said_so, turned_left, turned_move}
+use Rattle.wf_moves.specs.Moved.{IsBackTop, IsJudgeTop, IsLeft, IsMove, IsTurned, SaysSo, back_found, call_of, is_at_back, is_judge}
 use Rattle.wf_moves.specs.declared.finish.End.TheVariants as end
 use Rattle.wf_moves.specs.declared.finish.Went.{Went}
-use Rattle.wf_moves.specs.declared.finish.Went.TheVariants as went
+use Rattle.wf_moves.specs.declared.finish.Turned.TheVariants as turned
 use Rattle.wf_model.specs.Spots.{Spot}
 use Rattle.wf_model.specs.declared.node.Node.{Node}
 use Rattle.wf_value.specs.Data.{Data, boolean, bytes, depth, integer, list, map, null, text}
@@ -122,7 +122,7 @@ module _ (ns : List Spot) (s : Scene) (v : Data) where
   judged_on f (frame.Judge n r q e m ∷ fs) d h g w t judge says = by v says
     where
       by : (x : Data) → SaysSo x w → IsMove s (returned s x (standing d h) (back_found ns (frame.Judge n r q e m ∷ fs) (standing d g))) w (standing (control ns (frame.Judge n r q e m ∷ fs)) g)
-      by (boolean b) is = subst (λ y. IsMove s (returns s (boolean b) (control ns (frame.Judge n r q e m ∷ fs)) (standing d g)) y (standing (control ns (frame.Judge n r q e m ∷ fs)) g)) (sym is) (said_so s (control ns (frame.Judge n r q e m ∷ fs)) d g b (returns s (boolean b) (control ns (frame.Judge n r q e m ∷ fs)) (standing d g)) refl)
+      by (boolean b) is = turned_move s (returns s (boolean b) (control ns (frame.Judge n r q e m ∷ fs)) (standing d g)) (turned.Says b) w (standing (control ns (frame.Judge n r q e m ∷ fs)) g) is (said_so s (control ns (frame.Judge n r q e m ∷ fs)) d g b (returns s (boolean b) (control ns (frame.Judge n r q e m ∷ fs)) (standing d g)) refl)
       by null is = raised s (control ns (frame.Judge n r q e m ∷ fs)) d g (error_map TypeError) w is
       by (integer i) is = raised s (control ns (frame.Judge n r q e m ∷ fs)) d g (error_map TypeError) w is
       by (text x) is = raised s (control ns (frame.Judge n r q e m ∷ fs)) d g (error_map TypeError) w is
@@ -132,10 +132,10 @@ module _ (ns : List Spot) (s : Scene) (v : Data) where
 
   -- without a call the task ends
   pub ends_with : (x : Value) (mid : List Frame) (d c : List Item) (h g : Held) → plain x ≡ v → topped mid ≡ None → depth v ≤ 100 → g.outside ≡ h.outside
-      → IsMove s (returned s v (standing d h) (back_found ns mid (standing d g))) (went.Ended (end.Value x)) (standing c g)
+      → IsTurned s (returned s v (standing d h) (back_found ns mid (standing d g))) (turned.Ended (end.Value x)) (standing c g)
   ends_with x [] d c h g e t deep out = by s.root
     where
-      by : (r : Root) → IsMove s (returns_in r v (standing d h)) (went.Ended (end.Value x)) (standing c g)
+      by : (r : Root) → IsTurned s (returns_in r v (standing d h)) (turned.Ended (end.Value x)) (standing c g)
       by Main = (ap Gives (sym e), deep, sym out)
       by Branch = tt
       by Iteration = tt
@@ -176,7 +176,7 @@ judge_top f [] t h = absurd (cc t)
 judge_top f (g ∷ fs) t h = let same : g ≡ f = cc t in ap is_judge same ∙ h
 
 pub says_left : (nodes : List Node) (fs : List Frame) (v : Data) (w : Went) → IsJudgeTop fs → SaysSo v w → IsLeft nodes w fs
-says_left nodes fs (boolean b) w top is = subst (λ x. IsLeft nodes x fs) (sym is) top
+says_left nodes fs (boolean b) w top is = turned_left nodes fs (turned.Says b) w is top
 says_left nodes fs null w top is = raised_left nodes fs (error_map TypeError) w is
 says_left nodes fs (integer i) w top is = raised_left nodes fs (error_map TypeError) w is
 says_left nodes fs (text x) w top is = raised_left nodes fs (error_map TypeError) w is

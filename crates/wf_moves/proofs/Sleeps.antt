@@ -15,9 +15,10 @@ use Rattle.wf_model.specs.Leave.{raises}
 use Rattle.wf_model.specs.Local.{Breaks, Local, Moved, Scene}
 use Rattle.wf_moves.specs.Moved.{IsMove}
 use Rattle.wf_moves.specs.Naps.{nap_due}
-use Rattle.wf_moves.specs.Tasks.{IsDone}
+use Rattle.wf_moves.proofs.Awaiting.{done_breaks}
+use Rattle.wf_moves.specs.Tasks.{IsAwaited, IsDone}
 use Rattle.wf_moves.specs.declared.finish.Done.{Done}
-use Rattle.wf_moves.specs.declared.finish.Done.TheVariants as done
+use Rattle.wf_moves.specs.declared.finish.Awaits.TheVariants as awaits
 use Rattle.wf_moves.specs.declared.finish.Went.{Went}
 use Rattle.wf_moves.specs.declared.wait.Wait.TheVariants as wait
 use Rattle.wf_model.specs.Spots.{part_at, part_body}
@@ -34,10 +35,7 @@ use Rattle.wf_value.specs.declared.Tag.{Tag}
 
 -- what no accepted program does
 broken : (a : Around) (s : Scene) (d : Done) (l : Local) (e : Moved) → e ≡ Breaks BadArgument → IsDone a s e d l
-broken a s (done.Went w) l e is = subst (λ m. IsDone a s m (done.Went w) l) (sym is) tt
-broken a s (done.Sent x w) l e is = subst (λ m. IsDone a s m (done.Sent x w) l) (sym is) tt
-broken a s (done.Logged x w) l e is = subst (λ m. IsDone a s m (done.Logged x w) l) (sym is) tt
-broken a s (done.Waits w) l e is = subst (λ m. IsDone a s m (done.Waits w) l) (sym is) tt
+broken a s d l e is = subst (λ m. IsDone a s m d l) (sym is) (done_breaks a s BadArgument d l)
 
 module _ (a : Around) (s : Scene) (b : Nap) (args : Pairs) (n : ℕ) (f : CallBody) (now : ℕ) (k d : List Item) (h : Held) (at : s.now ≡ now) (body : part_body (part_at a.spots n) ≡ Body.Call f) (is : IsNap s.program.flows b f.name) where
   -- by its special
@@ -68,14 +66,14 @@ module _ (a : Around) (s : Scene) (b : Nap) (args : Pairs) (n : ℕ) (f : CallBo
       flows None t = library (func_named f.name) is.unlisted
 
   -- it waits
-  pub sleeps_so : (due : ℕ) → Answers (λ m. m) (Ok due) (nap_due b now args) → IsDone a s (sleeps s f.result (nap_due b now args) k (standing d h)) (done.Waits (wait.Sleep due n)) (standing k h)
+  pub sleeps_so : (due : ℕ) → Answers (λ m. m) (Ok due) (nap_due b now args) → IsAwaited a s (sleeps s f.result (nap_due b now args) k (standing d h)) (awaits.Waits (wait.Sleep due n)) (standing k h)
   sleeps_so due e =
-      subst (λ (r : Answer ℕ). IsDone a s (sleeps s f.result r k (standing d h)) (done.Waits (wait.Sleep due n)) (standing k h)) (sym (gave (λ m. m) due (nap_due b now args) e))
+      subst (λ (r : Answer ℕ). IsAwaited a s (sleeps s f.result r k (standing d h)) (awaits.Waits (wait.Sleep due n)) (standing k h)) (sym (gave (λ m. m) due (nap_due b now args) e))
       (ap (λ y. waits_at due (body_result y)) (sym body))
     where
       waits_at : ℕ → Option Text → Local
       waits_at t r = record (standing k h) { wait = Sleep t r }
 
   -- or raises
-  pub sleep_fails : (t : Tag) (w : Went) (l : Local) → Answers (λ m. m) (Err (Error t)) (nap_due b now args) → IsMove s (raises s k (standing d h) (error_map t)) w l → IsDone a s (sleeps s f.result (nap_due b now args) k (standing d h)) (done.Went w) l
-  sleep_fails t w l e m = subst (λ (r : Answer ℕ). IsDone a s (sleeps s f.result r k (standing d h)) (done.Went w) l) (sym (failed (λ m. m) t (nap_due b now args) e)) m
+  pub sleep_fails : (t : Tag) (w : Went) (l : Local) → Answers (λ m. m) (Err (Error t)) (nap_due b now args) → IsMove s (raises s k (standing d h) (error_map t)) w l → IsMove s (sleeps s f.result (nap_due b now args) k (standing d h)) w l
+  sleep_fails t w l e m = subst (λ (r : Answer ℕ). IsMove s (sleeps s f.result r k (standing d h)) w l) (sym (failed (λ m. m) t (nap_due b now args) e)) m

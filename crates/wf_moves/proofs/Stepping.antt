@@ -15,20 +15,21 @@ use Rattle.wf_model.specs.Kinds.{NextKind, Plainly, ByClock, ByCall, body_kind, 
 use Rattle.wf_model.specs.Layers.{view}
 use Rattle.wf_model.specs.Local.{Local, Moved, Scene}
 use Rattle.wf_model.specs.Move.{issues, moves}
-use Rattle.wf_moves.specs.Moved.{IsMove, is_at_back}
-use Rattle.wf_moves.specs.Stepped.{by_kind, leads, leads_with, stepped_at}
+use Rattle.wf_moves.specs.Moved.{is_at_back}
+use Rattle.wf_moves.specs.Stepped.{by_kind, leads, leads_to, leads_with, stepped_at}
+use Rattle.wf_moves.proofs.Awaiting.{done_breaks}
 use Rattle.wf_moves.specs.Tasks.{IsDone}
 use Rattle.wf_moves.specs.declared.finish.Done.{Done}
-use Rattle.wf_moves.specs.declared.finish.Done.TheVariants as done
 use Rattle.wf_model.specs.Spots.{Spot, part_at, part_body}
 use Rattle.wf_frames.proofs.Clocked.{flow_clock, function_clock, http_asks, log_clock, nap_reads}
 use Rattle.wf_frames.specs.Built.{IsFunction, IsHttp, IsLog, IsNap, IsWorkflow}
-use Rattle.wf_frames.specs.Steps.{IsNoCall, IsOrBreaks, Issues, Moves, WantsSame, asks, asks_with, calls_by, come}
+use Rattle.wf_frames.specs.Steps.{CallWants, IsOrBreaks, Issues, Moves, WantsSame, asks, asks_to, asks_with, calls_by, come, come_to}
+use Rattle.wf_frames.specs.declared.step.Leads.{Leads}
+use Rattle.wf_frames.specs.declared.step.Leads.TheVariants as leading
 use Rattle.wf_frames.specs.declared.step.Step.{Step}
 use Rattle.wf_frames.specs.declared.target.Nap.{Nap}
 use Rattle.wf_frames.specs.declared.step.Step.TheVariants as step
 use Rattle.wf_value.specs.Data.{Pairs, pairs_of}
-use Rattle.wf_value.specs.declared.value.Map.{Map}
 
 -- ## By the event
 plainly : (b : Bool) (request move : Moved) → by_kind (by_clock b) request move ≡ move
@@ -57,23 +58,6 @@ module _ (s : Scene) (fs : List Flow) (f : CallBody) (args : Pairs) (k : List It
       ap (λ q. by_kind q (asks_with s (Body.Call f) args k l) (calls_by s (Body.Call f) args k l)) (http_asks s.program.flows m f.name (fields_now f.args) (subst (λ gs. IsHttp gs m f.name) (sym same) h))
 
 -- ## What is left of a step
--- one that doesn't call
-pub no_call : (st : Step) → ((n : ℕ) (m : Map) → st ≡ step.Calls n m → ⊥) → IsNoCall st
-no_call step.Goes h = tt
-no_call (step.Raises v) h = tt
-no_call (step.Returns v) h = tt
-no_call (step.Jumps n) h = tt
-no_call (step.Assigns n) h = tt
-no_call (step.Calls n m) h = h n m refl
-
-pub leads_apart : (ns : List Spot) (st : Step) (s : Scene) (k : List Item) (l : Local) → IsNoCall st → leads ns st s k l ≡ come ns st s k l
-leads_apart ns step.Goes s k l h = refl
-leads_apart ns (step.Raises v) s k l h = refl
-leads_apart ns (step.Returns v) s k l h = refl
-leads_apart ns (step.Jumps n) s k l h = refl
-leads_apart ns (step.Assigns n) s k l h = refl
-leads_apart ns (step.Calls n m) s k l h = absurd h
-
 module _ (a : Around) (old new : List Frame) (st : Step) (s : Scene) (l : Local) (wants : WantsSame a.spots old st) where
   -- of a move it leads on as it says
   leads_on : (q : NextKind) → (q ≡ ByCall → ⊥) → next_kind s.program (control a.spots old) ≡ q → leads a.spots st s (control a.spots new) l ≡ come a.spots st s (control a.spots new) l
@@ -84,33 +68,36 @@ module _ (a : Around) (old new : List Frame) (st : Step) (s : Scene) (l : Local)
       by_call ByClock h r m = refl
       by_call ByCall h r m = absurd (other (sym h))
 
+      on : (x : Leads) → CallWants a.spots old x → leads_to a.spots x s (control a.spots new) l ≡ come_to a.spots x s (control a.spots new) l
+      on (leading.Raises v) w = refl
+      on (leading.Returns v) w = refl
+      on (leading.Calls n m) w = by_call (body_kind s.program (part_body (part_at a.spots n))) (sym (w s.program) ∙ e) _ _
+
       by : (x : Step) → WantsSame a.spots old x → leads a.spots x s (control a.spots new) l ≡ come a.spots x s (control a.spots new) l
       by step.Goes w = refl
-      by (step.Raises v) w = refl
-      by (step.Returns v) w = refl
       by (step.Jumps n) w = refl
       by (step.Assigns n) w = refl
-      by (step.Calls n m) w = by_call (body_kind s.program (part_body (part_at a.spots n))) (sym (w s.program) ∙ e) _ _
+      by (step.Leads x) w = on x.value w
 
   -- and of a request so
   leads_out : next_kind s.program (control a.spots old) ≡ ByCall → leads a.spots st s (control a.spots new) l ≡ asks a.spots st s (control a.spots new) l
   leads_out e = by st wants
     where
+      on : (x : Leads) → CallWants a.spots old x → leads_to a.spots x s (control a.spots new) l ≡ asks_to a.spots x s (control a.spots new) l
+      on (leading.Raises v) w = refl
+      on (leading.Returns v) w = refl
+      on (leading.Calls n m) w = ap (λ q. by_kind q (asks_with s (part_body (part_at a.spots n)) (pairs_of m) (control a.spots new) l) (calls_by s (part_body (part_at a.spots n)) (pairs_of m) (control a.spots new) l)) (sym (w s.program) ∙ e)
+
       by : (x : Step) → WantsSame a.spots old x → leads a.spots x s (control a.spots new) l ≡ asks a.spots x s (control a.spots new) l
       by step.Goes w = refl
-      by (step.Raises v) w = refl
-      by (step.Returns v) w = refl
       by (step.Jumps n) w = refl
       by (step.Assigns n) w = refl
-      by (step.Calls n m) w = ap (λ q. by_kind q (asks_with s (part_body (part_at a.spots n)) (pairs_of m) (control a.spots new) l) (calls_by s (part_body (part_at a.spots n)) (pairs_of m) (control a.spots new) l)) (sym (w s.program) ∙ e)
+      by (step.Leads x) w = on x.value w
 
   module _ (v : View) (d : Done) (m : Local) (moves_so : Moves a.spots old v new st) (issues_so : Issues a.spots old v new st) (seen : view s l ≡ v) (h : IsDone a s (leads a.spots st s (control a.spots new) l) d m) where
     broken : (x : Done) (y : Moved) → IsOrBreaks y (asks a.spots st s (control a.spots new) l) → (IsDone a s (asks a.spots st s (control a.spots new) l) x m) → IsDone a s y x m
     broken x y (inl e) g = subst (λ z. IsDone a s z x m) (sym e) g
-    broken (done.Went w) y (inr b) g = subst (λ z. IsMove s z w m) (sym b.1) tt
-    broken (done.Sent x w) y (inr b) g = subst (λ z. IsDone a s z (done.Sent x w) m) (sym b.1) tt
-    broken (done.Waits w) y (inr b) g = subst (λ z. IsDone a s z (done.Waits w) m) (sym b.1) tt
-    broken (done.Logged x w) y (inr b) g = subst (λ z. IsDone a s z (done.Logged x w) m) (sym b.1) tt
+    broken x y (inr b) g = subst (λ z. IsDone a s z x m) (sym b.1) (done_breaks a s b.0 x m)
 
     -- the frames' half of a step, and then the other half
     pub stepped_on : IsDone a s (stepped_at s (control a.spots old) l) d m

@@ -8,7 +8,7 @@ use Rattle.wf_frames.specs.declared.frames.Frames.{Frames}
 use Rattle.wf_moves.proofs.Going.{going}
 use Rattle.wf_model.specs.Local.{Breaks, Creates, Does, Ends, Goes, Local, Logs, Moved, Not, Scene, Sends, Takes}
 use Rattle.wf_moves.specs.Moved.{IsGoing, IsMove}
-use Rattle.wf_moves.specs.Tasks.{HasLogged, IsBehind, IsLogged, MovesSo, Stays, StaysBehind, is_sent, move_by}
+use Rattle.wf_moves.specs.Tasks.{HasLogged, IsBehind, IsLogged, MovesTo, StaysBehind, StaysTold, is_told_sent, told_by}
 use Rattle.wf_moves.specs.Waits.{CanGoOn, GoesFrom, call_in, is_awake_in, is_call_at, is_call_kind, is_call_node, wait_view}
 use Rattle.wf_moves.specs.declared.finish.Went.{Went}
 use Rattle.wf_moves.specs.declared.logging.Behind.{Behind}
@@ -82,14 +82,14 @@ logged_then s (Ends x m) e v b l o h f = absurd h
 logged_then s Not e v b l o h f = absurd h
 
 -- ## The move that leads so
-pub behind_moves : (m : Moved) (b : Behind) (l : Local) → IsBehind m b l → MovesSo m (move_by b) l
+pub behind_moves : (m : Moved) (b : Behind) (l : Local) → IsBehind m b l → MovesTo m (told_by b) l
 behind_moves m behind.Goes l h = h
 behind_moves m (behind.Ended e) l h = h
 
-pub behind_stays : (nodes : List Node) (b : Behind) (t : Task) → StaysBehind nodes b t → Stays nodes (move_by b) t
+pub behind_stays : (nodes : List Node) (b : Behind) (t : Task) → StaysBehind nodes b t → StaysTold nodes (told_by b) t
 behind_stays nodes behind.Goes t h = h
 behind_stays nodes (behind.Ended e) t h = h
 
-pub behind_unsent : (b : Behind) → is_sent (move_by b) ≡ false
+pub behind_unsent : (b : Behind) → is_told_sent (told_by b) ≡ false
 behind_unsent behind.Goes = refl
 behind_unsent (behind.Ended e) = refl

@@ -20,6 +20,8 @@ use Rattle.wf_model.specs.Unwind.{Found, NotFound, Stands, AtEnd, to_step, unwin
 use Rattle.wf_frames.specs.Steps.{HasStep}
 use Rattle.wf_moves.specs.declared.finish.End.{End}
 use Rattle.wf_moves.specs.declared.finish.End.TheVariants as end
+use Rattle.wf_moves.specs.declared.finish.Turned.{Turned}
+use Rattle.wf_moves.specs.declared.finish.Turned.TheVariants as turned
 use Rattle.wf_moves.specs.declared.finish.Went.{Went}
 use Rattle.wf_moves.specs.declared.finish.Went.TheVariants as went
 use Rattle.wf_model.specs.NodeKinds.{Listed}
@@ -33,6 +35,7 @@ use Rattle.wf_value.specs.Pairs.{Text}
 use Rattle.wf_value.specs.Plain.{plain}
 use Rattle.wf_value.specs.declared.Tag.TheVariants.{TypeError}
 use Rattle.wf_value.specs.declared.Value.{Value}
+use Rattle.wf_value.specs.declared.Value.TheVariants as value
 
 -- ## Frames that have ended
 -- a frame that has ended is left by settling, and another one isn't
@@ -87,31 +90,42 @@ IsEnd m f l = ⊥
 
 -- the model's move, by what a call gives and leaves. An error is still to go outward, and so is what a predicate returns, whatever control
 -- the task has
+abbrev pub IsTurned : Scene → Moved → Turned → Local → Type 0
+IsTurned s (Breaks kind) t l = Unit {0}
+IsTurned s (Ends e m) (turned.Ended f) l = (e ≡ end_view f) × (depth (end_data e) ≤ 100) × (m.outer ≡ l.outer)
+IsTurned s m (turned.Raises e) l = (c : List Item) × (m ≡ unwind s l.control (record l { control = c }) (plain e))
+IsTurned s m (turned.Says b) l = (c : List Item) × (m ≡ returns s (boolean b) l.control (record l { control = c }))
+IsTurned s m t l = ⊥
+
+-- and where it isn't one of these: the task goes on, or has ended behind its last step
 abbrev pub IsMove : Scene → Moved → Went → Local → Type 0
 IsMove s (Breaks kind) w l = Unit {0}
-IsMove s (Goes m) went.Goes l = m ≡ l
-IsMove s (Ends e m) (went.Ended f) l = (e ≡ end_view f) × (depth (end_data e) ≤ 100) × (m.outer ≡ l.outer)
-IsMove s m (went.Raises e) l = (c : List Item) × (m ≡ unwind s l.control (record l { control = c }) (plain e))
-IsMove s m (went.Says b) l = (c : List Item) × (m ≡ returns s (boolean b) l.control (record l { control = c }))
-IsMove s m w l = ⊥
+IsMove s m went.Goes l = IsWent m l
+IsMove s m went.Ends l = IsEnd m (end.Value value.Null) l
+IsMove s m (went.Turned x) l = IsTurned s m x.value l
+
+-- which of the few a move gives, if it gives one
+abbrev pub turned_in : Went → Option Turned
+turned_in went.Goes = None
+turned_in went.Ends = None
+turned_in (went.Turned x) = Some x.value
 
 -- nothing is still to go outward
 abbrev pub IsThrough : Went → Type 0
 IsThrough went.Goes = Unit {0}
-IsThrough (went.Ended e) = Unit {0}
-IsThrough (went.Raises e) = ⊥
-IsThrough (went.Says b) = ⊥
+IsThrough went.Ends = Unit {0}
+IsThrough (went.Turned x) = ⊥
 
 -- an error is raised, which nests at most 100 deep
 pub record Raises (d : Data) (w : Went) : Type 0 where
   pub error : Value
-  pub is : w ≡ went.Raises error
+  pub is : turned_in w ≡ Some (turned.Raises error)
   pub says : plain error ≡ d
   pub shallow : depth (plain error) ≤ 100
 
 -- what a predicate returns: a truth value is its answer, and any other is a TypeError
 abbrev pub SaysSo : Data → Went → Type 0
-SaysSo (boolean b) w = w ≡ went.Says b
+SaysSo (boolean b) w = turned_in w ≡ Some (turned.Says b)
 SaysSo d w = Raises (error_map TypeError) w
 
 -- whether the innermost frame is the call of a predicate
@@ -125,11 +139,15 @@ IsJudgeTop (f ∷ fs) = is_judge f ≡ true
 
 -- where the task goes on its innermost frame has something to do, and where it has ended none is left; an error nests at most 100 deep, and
 -- an answer is that of the predicate whose call is the innermost frame
+abbrev pub IsTurnedLeft : Turned → List Frame → Type 0
+IsTurnedLeft (turned.Ended e) fs = fs ≡ []
+IsTurnedLeft (turned.Raises e) fs = depth (plain e) ≤ 100
+IsTurnedLeft (turned.Says b) fs = IsJudgeTop fs
+
 abbrev pub IsLeft : List Node → Went → List Frame → Type 0
 IsLeft nodes went.Goes fs = IsGoing nodes fs
-IsLeft nodes (went.Ended e) fs = fs ≡ []
-IsLeft nodes (went.Raises e) fs = depth (plain e) ≤ 100
-IsLeft nodes (went.Says b) fs = IsJudgeTop fs
+IsLeft nodes went.Ends fs = fs ≡ []
+IsLeft nodes (went.Turned x) fs = IsTurnedLeft x.value fs
 
 -- ## Ways outward
 -- where an innermost loop was looked for: there are these frames from it on, or there is none

@@ -7,7 +7,9 @@ use Rattle.wf_model.specs.Kinds.{NextKind, Plainly, ByClock, ByCall, body_kind, 
 use Rattle.wf_model.specs.Local.{Local, Moved, Scene}
 use Rattle.wf_model.specs.Move.{issues, moves}
 use Rattle.wf_model.specs.Spots.{Spot, part_at, part_body}
-use Rattle.wf_frames.specs.Steps.{asks_with, calls_by, come}
+use Rattle.wf_frames.specs.Steps.{asks_with, calls_by, come, come_to}
+use Rattle.wf_frames.specs.declared.step.Leads.{Leads}
+use Rattle.wf_frames.specs.declared.step.Leads.TheVariants as leading
 use Rattle.wf_frames.specs.declared.step.Step.{Step}
 use Rattle.wf_frames.specs.declared.step.Step.TheVariants as step
 use Rattle.wf_value.specs.Data.{Pairs, pairs_of}
@@ -31,6 +33,10 @@ abbrev pub leads_with : Scene → Body → Pairs → List Item → Local → Mov
 leads_with s body args k l = by_kind (body_kind s.program body) (asks_with s body args k l) (calls_by s body args k l)
 
 -- what is left of a step leads on so, at this control
+abbrev pub leads_to : List Spot → Leads → Scene → List Item → Local → Moved
+leads_to ns (leading.Calls n m) s k l = leads_with s (part_body (part_at ns n)) (pairs_of m) k l
+leads_to ns x s k l = come_to ns x s k l
+
 abbrev pub leads : List Spot → Step → Scene → List Item → Local → Moved
-leads ns (step.Calls n m) s k l = leads_with s (part_body (part_at ns n)) (pairs_of m) k l
+leads ns (step.Leads x) s k l = leads_to ns x.value s k l
 leads ns st s k l = come ns st s k l

@@ -3,7 +3,7 @@
 --     argued      a layer with the argument in it
 --     Names       a node is a call of such a name
 --     MovesSo     a move, a request or a log of the model, by what a call gives and leaves
-use Rattle.std.specs.Prelude.{◌≡◌, ◌≤◌, ℕ, Bool, true, false, List, [], ◌∷◌, Some, None, is_some}
+use Rattle.std.specs.Prelude.{◌≡◌, ◌≤◌, ℕ, Bool, true, false, List, [], ◌∷◌, Some, None, Option, is_some}
 use Rattle.wf_ast.specs.Tree.{Flow, Param, no_steps}
 use Rattle.wf_frames.specs.Fits.{IsCall, view_at}
 use Rattle.wf_frames.specs.Frames.{inner}
@@ -21,11 +21,16 @@ use Rattle.wf_model.specs.Run.{argument_in}
 use Rattle.wf_moves.specs.Moved.{IsEnd, IsLeft, IsMove, IsWent}
 use Rattle.wf_moves.specs.Requests.{Reaches}
 use Rattle.wf_moves.specs.Waits.{CanGoOn, GoesFrom, call_in, wait_view}
+use Rattle.wf_moves.specs.declared.finish.Awaits.{Awaits}
+use Rattle.wf_moves.specs.declared.finish.Awaits.TheVariants as awaits
 use Rattle.wf_moves.specs.declared.finish.Done.{Done}
 use Rattle.wf_moves.specs.declared.finish.Done.TheVariants as done
 use Rattle.wf_moves.specs.declared.task.Move.{Move}
 use Rattle.wf_moves.specs.declared.task.Move.TheVariants as move
+use Rattle.wf_moves.specs.declared.task.Told.{Told}
+use Rattle.wf_moves.specs.declared.task.Told.TheVariants as told
 use Rattle.wf_moves.specs.declared.finish.Went.{Went}
+use Rattle.wf_moves.specs.declared.finish.Went.TheVariants as went
 use Rattle.wf_moves.specs.declared.logging.Behind.{Behind}
 use Rattle.wf_moves.specs.declared.logging.Behind.TheVariants as behind
 use Rattle.wf_sys_ask.specs.declared.entry.Logged.{Logged}
@@ -123,15 +128,26 @@ HasLogged (Does (Logs severity v) m) x b l = (severity ≡ x.severity) × (v ≡
 HasLogged m x b l = ⊥
 
 -- the model's move, request or log, by what a call gives and leaves
+abbrev pub MovesTo : Moved → Option Told → Local → Type 0
+MovesTo m None l = IsWent m l
+MovesTo m (Some (told.Ended e)) l = IsEnd m e l
+MovesTo m (Some (told.Sent x)) l = IsRequest m x.value l
+MovesTo m (Some (told.Logged x b)) l = HasLogged m x.value b l
+
+-- which of the few a move has done, if it has done one
+abbrev pub told_in : Move → Option Told
+told_in move.Went = None
+told_in (move.Told x) = Some x.value
+
 abbrev pub MovesSo : Moved → Move → Local → Type 0
-MovesSo m move.Went l = IsWent m l
-MovesSo m (move.Ended e) l = IsEnd m e l
-MovesSo m (move.Sent x) l = IsRequest m x.value l
-MovesSo m (move.Logged x b) l = HasLogged m x.value b l
+MovesSo m d l = MovesTo m (told_in d) l
+
+abbrev pub is_told_sent : Option Told → Bool
+is_told_sent (Some (told.Sent x)) = true
+is_told_sent t = false
 
 abbrev pub is_sent : Move → Bool
-is_sent (move.Sent x) = true
-is_sent m = false
+is_sent d = is_told_sent (told_in d)
 
 -- behind a log a task that goes on or waits can go on, and of one that has ended no frame is left
 abbrev pub StaysBehind : List Node → Behind → Task → Type 0
@@ -139,24 +155,33 @@ StaysBehind nodes behind.Goes t = (call_in t.wait ≡ None) × CanGoOn nodes t
 StaysBehind nodes (behind.Ended e) t = inner t.frames ≡ []
 
 -- a task that goes on or waits can go on, and makes no request, and of one that has ended no frame is left
+abbrev pub StaysTold : List Node → Option Told → Task → Type 0
+StaysTold nodes None t = (call_in t.wait ≡ None) × CanGoOn nodes t
+StaysTold nodes (Some (told.Ended e)) t = inner t.frames ≡ []
+StaysTold nodes (Some (told.Sent x)) t = (is_some (call_in t.wait) ≡ true) × CanGoOn nodes t
+StaysTold nodes (Some (told.Logged x b)) t = StaysBehind nodes b t
+
 abbrev pub Stays : List Node → Move → Task → Type 0
-Stays nodes move.Went t = (call_in t.wait ≡ None) × CanGoOn nodes t
-Stays nodes (move.Ended e) t = inner t.frames ≡ []
-Stays nodes (move.Sent x) t = (is_some (call_in t.wait) ≡ true) × CanGoOn nodes t
-Stays nodes (move.Logged x b) t = StaysBehind nodes b t
+Stays nodes d t = StaysTold nodes (told_in d) t
 
 -- the move of a task that stands so behind it
-abbrev pub move_by : Behind → Move
-move_by behind.Goes = move.Went
-move_by (behind.Ended e) = move.Ended e
+abbrev pub told_by : Behind → Option Told
+told_by behind.Goes = None
+told_by (behind.Ended e) = Some (told.Ended e)
 
 -- ## Moves, requests and logs within a call
+-- the model's request, log or sleep, of a task that waits so
+abbrev pub IsAwaited : Around → Scene → Moved → Awaits → Local → Type 0
+IsAwaited a s m (awaits.Sent x w) l = IsRequest m x.value (record l { wait = wait_view a w })
+IsAwaited a s m (awaits.Logged x w) l = IsLogged s m x.value w l
+IsAwaited a s m (awaits.Waits w) l = IsWent m (record l { wait = wait_view a w })
+
 -- the model's move, request or log, of a task that goes on so or waits
 abbrev pub IsDone : Around → Scene → Moved → Done → Local → Type 0
-IsDone a s m (done.Went w) l = IsMove s m w l
-IsDone a s m (done.Sent x w) l = IsRequest m x.value (record l { wait = wait_view a w })
-IsDone a s m (done.Logged x w) l = IsLogged s m x.value w l
-IsDone a s m (done.Waits w) l = IsWent m (record l { wait = wait_view a w })
+IsDone a s m done.Goes l = IsMove s m went.Goes l
+IsDone a s m done.Ends l = IsMove s m went.Ends l
+IsDone a s m (done.Turned x) l = IsMove s m (went.Turned x) l
+IsDone a s m (done.Awaits x) l = IsAwaited a s m x.value l
 
 -- it is this one, whatever the scene that has these facts, and agrees on the limit, the rest and the workflows
 abbrev pub DoesBy : Around → Facts → Sending → (Scene → Local → Moved) → Held → Done → Frames → Scopes → Type 0
@@ -170,8 +195,13 @@ SleepsBy a f m h d fs x = (s : Scene) (c : List Item) → Sees s f → Agrees s 
 abbrev pub LogsBy : Around → Sending → (Scene → Local → Moved) → Held → Done → Frames → Scopes → Type 0
 LogsBy a g m h d fs x = (s : Scene) (c : List Item) → Reaches s g → Agrees s a → IsDone a s (m s (standing c h)) d (local_of a fs x)
 
+abbrev pub IsAwaitedLeft : List Node → Awaits → List Frame → Type 0
+IsAwaitedLeft nodes (awaits.Sent x w) fs = (is_some (call_in w) ≡ true) × GoesFrom nodes w fs
+IsAwaitedLeft nodes (awaits.Logged x w) fs = IsLeft nodes w fs
+IsAwaitedLeft nodes (awaits.Waits w) fs = (call_in w ≡ None) × GoesFrom nodes w fs
+
 abbrev pub IsLeftSo : List Node → Done → List Frame → Type 0
-IsLeftSo nodes (done.Went w) fs = IsLeft nodes w fs
-IsLeftSo nodes (done.Sent x w) fs = (is_some (call_in w) ≡ true) × GoesFrom nodes w fs
-IsLeftSo nodes (done.Logged x w) fs = IsLeft nodes w fs
-IsLeftSo nodes (done.Waits w) fs = (call_in w ≡ None) × GoesFrom nodes w fs
+IsLeftSo nodes done.Goes fs = IsLeft nodes went.Goes fs
+IsLeftSo nodes done.Ends fs = IsLeft nodes went.Ends fs
+IsLeftSo nodes (done.Turned x) fs = IsLeft nodes (went.Turned x) fs
+IsLeftSo nodes (done.Awaits x) fs = IsAwaitedLeft nodes x.value fs

@@ -18,7 +18,7 @@ ghost use Rattle.wf_value.specs.Data.{depth};
 ghost use Rattle.wf_value.specs.Plain.{plain};
 
 use crate::assign::store;
-use crate::finish::{End, Went, goes};
+use crate::finish::{End, Turned, Went, goes, turns};
 use crate::raising::raises_tag;
 use std::alloc::Global;
 use wf_frames::{Assigned, Frame, Frames, leave};
@@ -76,7 +76,7 @@ fn says(alloc: Global, value: &Value) -> Result<Went, OutOfMemory>
     ensures { IfOk result (SaysSo (plain value.now)) }
 {
     match value {
-        Value::Bool(yes) => Ok(Went::Says(*yes)),
+        Value::Bool(yes) => turns(alloc, Turned::Says(*yes)),
         _ => raises_tag(alloc, Tag::TypeError),
     }
 }
@@ -154,7 +154,7 @@ pub(crate) fn returns(
 {
     leave_to_back(frames, scopes);
     match frames.top() {
-        None => Ok(Went::Ended(End::Value(value))),
+        None => turns(alloc, Turned::Ended(End::Value(value))),
         Some(frame) => {
             if is_judge(frame) {
                 return says(alloc, &value);

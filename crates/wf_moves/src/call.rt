@@ -16,7 +16,7 @@ ghost use Rattle.wf_frames.specs.Steps.{calls_by};
 ghost use Rattle.wf_value.specs.Data.{pairs_depth, pairs_of};
 
 use crate::back::give;
-use crate::finish::{Done, Went, goes};
+use crate::finish::{Done, Went, done_of, goes};
 use crate::logging::logs;
 use crate::raising::{fails, raises_tag};
 use crate::sending::{Sending, sends};
@@ -151,10 +151,8 @@ pub(crate) fn call(
 {
     let target = &targets[n as usize];
     match target {
-        Target::Flow(flow) => Ok(Done::Went(call_flow(
-            alloc, nodes, n, *flow, args, frames, scopes,
-        )?)),
-        Target::Function(function) => Ok(Done::Went(evaluates(
+        Target::Flow(flow) => Ok(done_of(call_flow(alloc, nodes, n, *flow, args, frames, scopes)?)),
+        Target::Function(function) => Ok(done_of(evaluates(
             alloc, nodes, n, function, args, frames, scopes, facts,
         )?)),
         Target::Http(method) => sends(

@@ -1,24 +1,28 @@
 // How a task goes on: what has ended is left.
-ghost use Rattle.std.specs.Prelude.{◌≡◌, List, false};
+ghost use Rattle.std.specs.Prelude.{◌≡◌, IfOk, List, Some, false};
 ghost use Rattle.wf_frames.specs.Fits.{HasNode};
 ghost use Rattle.wf_frames.specs.Frames.{inner};
 ghost use Rattle.wf_frames.specs.Owned.{Around, beside, control_of, local_of};
 ghost use Rattle.wf_frames.specs.Stands.{Stands};
 ghost use Rattle.wf_model.specs.Config.{Item};
 ghost use Rattle.wf_model.specs.Local as local;
-ghost use Rattle.wf_model.specs.Local.{Scene};
+ghost use Rattle.wf_model.specs.Local.{Local, Moved, Scene};
 ghost use Rattle.wf_frames.specs.Built.{Tells};
-ghost use Rattle.wf_moves.specs.Moved.{HasMove, IsLeft, IsMove, IsSettled, IsThrough, Settled};
+ghost use Rattle.wf_moves.specs.Moved.{HasMove, IsLeft, IsMove, IsSettled, IsThrough, Settled, turned_in};
+ghost use Rattle.wf_moves.specs.Tasks.{IsDone, IsLeftSo};
+ghost use Rattle.wf_frames.specs.declared.frames.Frame.{Frame};
 ghost use Rattle.wf_model.specs.Spots.{Spot};
 ghost use Rattle.wf_model.specs.declared.node.Node.{Node};
 
 use crate::sending::Sent;
 use crate::wait::Wait;
+use std::alloc::Global;
+use wf_ast::boxed;
 use wf_frames::{Frame, Frames, block, entries, leave};
 use wf_model::Node;
 use wf_scope::Scopes;
 use wf_sys_ask::Logged;
-use wf_value::Value;
+use wf_value::{OutOfMemory, Value};
 
 /// How a task has ended.
 #[derive(Drop)]
@@ -27,10 +31,9 @@ pub enum End {
     Error(Value),
 }
 
-/// What a move gives. An error goes outward only behind it (`lead`), and so does the answer of a predicate.
+/// What few moves give. An error goes outward only behind the move (`lead`), and so does the answer of a predicate.
 #[derive(Drop)]
-pub(crate) enum Went {
-    Goes,
+pub(crate) enum Turned {
     Ended(End),
     /// This error goes outward.
     Raises(Value),
@@ -38,14 +41,57 @@ pub(crate) enum Went {
     Says(bool),
 }
 
-/// What a move gives; the request that the task has made, with its wait; what it has logged, with what the move gives then; or a wait
-/// alone. Requests and what is logged are rare, so they stand in boxes: what every move gives stays small.
+/// What a move gives. Nearly all go on, so the rest stands in a box: what is handed on is small.
 #[derive(Drop)]
-pub(crate) enum Done {
-    Went(Went),
+pub(crate) enum Went {
+    Goes,
+    /// The task has ended behind its last step.
+    Ends,
+    Turned(Box<Turned>),
+}
+
+/// A move gives one of the few. It stands apart from what every move runs.
+#[cold]
+#[inline(never)]
+pub(crate) fn turns(alloc: Global, by: Turned) -> Result<Went, OutOfMemory>
+    ensures { IfOk result (λ w. turned_in w ≡ Some by) }
+{
+    Ok(Went::Turned(boxed(alloc, by)?))
+}
+
+/// What a task waits for behind a move, or what the move has logged.
+#[derive(Drop)]
+pub(crate) enum Awaits {
+    /// The answer to this request.
     Sent(Box<Sent>, Wait),
+    /// This was logged, and the move gives this then.
     Logged(Box<Logged>, Went),
     Waits(Wait),
+}
+
+/// What a move of any kind gives: as `Went`, or what few of them wait for, in a box too.
+#[derive(Drop)]
+pub(crate) enum Done {
+    Goes,
+    /// The task has ended behind its last step.
+    Ends,
+    Turned(Box<Turned>),
+    Awaits(Box<Awaits>),
+}
+
+/// What a move gives that waits for nothing.
+#[inline(always)]
+pub(crate) fn done_of(went: Went) -> Done
+    ensures moved { (a : Around) (s : Scene) (m : Moved) (l : Local) → IsMove s m went l
+        → IsDone a s m result l }
+    ensures left { (nodes : List Node) (fs : List Frame) → IsLeft nodes went fs
+        → IsLeftSo nodes result fs }
+{
+    match went {
+        Went::Goes => Done::Goes,
+        Went::Ends => Done::Ends,
+        Went::Turned(turned) => Done::Turned(turned),
+    }
 }
 
 /// Whether a frame has ended.
@@ -103,7 +149,7 @@ pub(crate) fn goes(frames: &mut Frames, nodes: &[Node], scopes: &mut Scopes) -> 
 {
     settle(frames, nodes, scopes);
     match frames.top() {
-        None => Went::Ended(End::Value(Value::Null)),
+        None => Went::Ends,
         Some(_) => Went::Goes,
     }
 }

@@ -10,13 +10,13 @@ ghost use Rattle.wf_model.specs.Leave.{returns};
 ghost use Rattle.wf_model.specs.Local as local;
 ghost use Rattle.wf_model.specs.Local.{Moved, Scene};
 ghost use Rattle.wf_model.specs.Unwind.{unwind};
-ghost use Rattle.wf_moves.specs.Moved.{IsJudgeTop, IsLeft, IsMove};
+ghost use Rattle.wf_moves.specs.Moved.{IsJudgeTop, IsLeft, IsMove, IsTurned, IsTurnedLeft};
 ghost use Rattle.wf_moves.specs.Retries.{IsLed, IsLedSo, LeadsBy};
 ghost use Rattle.wf_frames.specs.Built.{AreTargets, Tells};
 ghost use Rattle.wf_value.specs.Data.{boolean, depth};
 ghost use Rattle.wf_value.specs.Plain.{plain};
 
-use crate::finish::{End, Went, settle};
+use crate::finish::{End, Turned, Went, settle};
 use crate::judging::{Decided, decide, retry};
 use crate::unwind::{Tried, leave_to_try, take};
 use crate::wait::Wait;
@@ -138,6 +138,34 @@ fn answered(
     }
 }
 
+/// Where one of the few leads that a move seldom gives.
+fn lead_turned(
+    alloc: Global,
+    nodes: &[Node],
+    targets: &[Target],
+    last: u64,
+    by: Turned,
+    frames: &mut Frames,
+    scopes: &mut Scopes,
+) -> Result<Led, OutOfMemory>
+    ghost around: { Around }
+    requires tells { Tells around.spots nodes.now }
+    requires targets { AreTargets around.flows around.spots nodes.now targets.now }
+    requires stands { Stands around nodes.now frames.old scopes.old }
+    requires left { IsTurnedLeft by (inner frames.old) }
+    ensures moved { IfOk result (λ d. (s : Scene) (m : Moved) → s.last ≡ last → Agrees s around
+        → IsTurned s m by (local_of around frames.old scopes.old)
+        → IsLed around m d (local_of around frames.new scopes.new)) }
+    ensures stands { OnOk result (Stands around nodes.now frames.new scopes.new) }
+    ensures left { IfOk result (λ d. IsLedSo nodes.now d (inner frames.new)) }
+{
+    match by {
+        Turned::Ended(end) => Ok(Led::Ended(end)),
+        Turned::Raises(error) => outward(alloc, nodes, targets, last, frames, scopes, error),
+        Turned::Says(yes) => answered(alloc, nodes, targets, last, frames, scopes, yes),
+    }
+}
+
 /// Where a move leads. `targets` has the workflow of a predicate at the number of its `try`, and delays count from the last reading.
 pub(crate) fn lead(
     alloc: Global,
@@ -161,8 +189,10 @@ pub(crate) fn lead(
 {
     match went {
         Went::Goes => Ok(Led::Goes),
-        Went::Ended(end) => Ok(Led::Ended(end)),
-        Went::Raises(error) => outward(alloc, nodes, targets, last, frames, scopes, error),
-        Went::Says(yes) => answered(alloc, nodes, targets, last, frames, scopes, yes),
+        Went::Ends => Ok(Led::Ended(End::Value(Value::Null))),
+        Went::Turned(turned) => {
+            let by = Box::into_inner(turned);
+            lead_turned(alloc, nodes, targets, last, by, frames, scopes)
+        }
     }
 }

@@ -26,5 +26,5 @@ mod wait;
 pub use finish::End;
 pub use logging::Behind;
 pub use sending::{Sending, Sent};
-pub use task::{Move, Task};
+pub use task::{Move, Task, Told};
 pub use wf_sys_ask::Logged;

@@ -10,7 +10,7 @@ ghost use Rattle.wf_frames.specs.Steps.{calls_by};
 ghost use Rattle.wf_value.specs.Data.{pairs_depth, pairs_of};
 
 use crate::back::give;
-use crate::finish::{Done, End};
+use crate::finish::{Awaits, Done, End, done_of};
 use crate::raising::fails;
 use crate::sending::Sending;
 use std::alloc::Global;
@@ -54,8 +54,9 @@ pub(crate) fn logs(
         Ok(entry) => {
             let entry = boxed(alloc, entry)?;
             let went = give(alloc, nodes, Some(n), Value::Null, frames, scopes)?;
-            Ok(Done::Logged(entry, went))
+            let awaits = boxed(alloc, Awaits::Logged(entry, went))?;
+            Ok(Done::Awaits(awaits))
         }
-        Err(raise) => Ok(Done::Went(fails(alloc, raise)?)),
+        Err(raise) => Ok(done_of(fails(alloc, raise)?)),
     }
 }

@@ -3,53 +3,55 @@ ghost use Rattle.std.specs.Prelude.{◌≡◌, IfOk, OnOk};
 ghost use Rattle.wf_frames.specs.Frames.{inner};
 ghost use Rattle.wf_frames.specs.Owned.{Around, control_of, held_by};
 ghost use Rattle.wf_frames.specs.Stands.{Stands};
-ghost use Rattle.wf_moves.specs.Moved.{IsGoing, IsLeft, SeesBy, is_at_back, is_at_loop};
-ghost use Rattle.wf_moves.specs.Stepped.{leads, stepped_at};
+ghost use Rattle.wf_moves.specs.Moved.{IsGoing, is_at_back, is_at_loop};
+ghost use Rattle.wf_moves.specs.Stepped.{leads, leads_to, stepped_at};
 ghost use Rattle.wf_moves.specs.Tasks.{DoesBy, IsLeftSo};
 ghost use Rattle.wf_frames.specs.Built.{AreTargets, Tells};
-ghost use Rattle.wf_frames.specs.Steps.{HasStepOnTop, IsNoCall, IsReady, come};
+ghost use Rattle.wf_frames.specs.Steps.{AreFit, HasStepOnTop, IsReady};
 
 use crate::assign::assign;
 use crate::back::returns;
 use crate::call::call;
-use crate::finish::{Done, Went, goes};
+use crate::finish::{Done, Turned, done_of, goes, turns};
 use crate::jump::jump;
 use crate::sending::Sending;
 use crate::turn::turn;
 use std::alloc::Global;
-use wf_frames::{Facts, Frame, Frames, Step, Target, loop_node, seen, step_of};
+use wf_frames::{Facts, Frame, Frames, Leads, Step, Target, loop_node, seen, step_of};
 use wf_model::Node;
 use wf_scope::Scopes;
 use wf_value::{OutOfMemory, Value};
 
-/// What is left of a step that doesn't call, beside its frames.
-#[inline(always)]
-fn finish(
+/// What is left of a step that has a value at hand. It stands apart from what every move runs.
+#[cold]
+#[inline(never)]
+fn finish_with(
     alloc: Global,
     nodes: &[Node],
-    step: Step,
+    targets: &[Target],
+    by: Leads,
     frames: &mut Frames,
     scopes: &mut Scopes,
     facts: &Facts,
-) -> Result<Went, OutOfMemory>
+    sending: &Sending,
+) -> Result<Done, OutOfMemory>
     ghost around: { Around }
     requires tells { Tells around.spots nodes.now }
+    requires targets { AreTargets around.flows around.spots nodes.now targets.now }
     requires stands { Stands around nodes.now frames.old scopes.old }
-    requires ready { IsReady around.spots nodes.now (inner frames.old) step }
-    requires no_call { IsNoCall step }
-    ensures moved { IfOk result (λ w. SeesBy around facts.entry.now
-        (λ s l. come around.spots step s (control_of around frames.old) l)
-        (held_by around frames.old scopes.old) w frames.new scopes.new) }
+    requires fit { AreFit nodes.now by }
+    ensures moved { IfOk result (λ d. DoesBy around facts.entry.now sending.now
+        (λ s l. leads_to around.spots by s (control_of around frames.old) l)
+        (held_by around frames.old scopes.old) d frames.new scopes.new) }
     ensures stands { OnOk result (Stands around nodes.now frames.new scopes.new) }
-    ensures left { IfOk result (λ w. IsLeft nodes.now w (inner frames.new)) }
+    ensures left { IfOk result (λ d. IsLeftSo nodes.now d (inner frames.new)) }
 {
-    match step {
-        Step::Goes => Ok(goes(frames, nodes, scopes)),
-        Step::Raises(error) => Ok(Went::Raises(error)),
-        Step::Returns(value) => returns(alloc, nodes, frames, scopes, value),
-        Step::Jumps(n) => jump(alloc, frames, nodes, scopes, n),
-        Step::Assigns(n) => assign(alloc, nodes, n, frames, scopes, facts),
-        Step::Calls(_, _) => unreachable!(),
+    match by {
+        Leads::Raises(error) => Ok(done_of(turns(alloc, Turned::Raises(error))?)),
+        Leads::Returns(value) => Ok(done_of(returns(alloc, nodes, frames, scopes, value)?)),
+        Leads::Calls(n, args) => call(
+            alloc, nodes, targets, n, &args, frames, scopes, facts, sending,
+        ),
     }
 }
 
@@ -77,10 +79,13 @@ fn finish_step(
     ensures left { IfOk result (λ d. IsLeftSo nodes.now d (inner frames.new)) }
 {
     match step {
-        Step::Calls(n, args) => call(
-            alloc, nodes, targets, n, &args, frames, scopes, facts, sending,
-        ),
-        step => Ok(Done::Went(finish(alloc, nodes, step, frames, scopes, facts)?)),
+        Step::Goes => Ok(done_of(goes(frames, nodes, scopes))),
+        Step::Jumps(n) => Ok(done_of(jump(alloc, frames, nodes, scopes, n)?)),
+        Step::Assigns(n) => Ok(done_of(assign(alloc, nodes, n, frames, scopes, facts)?)),
+        Step::Leads(leads) => {
+            let by = Box::into_inner(leads);
+            finish_with(alloc, nodes, targets, by, frames, scopes, facts, sending)
+        }
     }
 }
 
@@ -155,7 +160,7 @@ pub(crate) fn advance(
     ensures left { IfOk result (λ d. IsLeftSo nodes.now d (inner frames.new)) }
 {
     if is_at_back(frames) {
-        return Ok(Done::Went(returns(alloc, nodes, frames, scopes, Value::Null)?));
+        return Ok(done_of(returns(alloc, nodes, frames, scopes, Value::Null)?));
     }
     if !is_at_loop(frames) {
         return step_on(alloc, nodes, targets, frames, scopes, facts, sending);
@@ -166,7 +171,7 @@ pub(crate) fn advance(
     match frame {
         Frame::Loop(n, left, index) => {
             let body = loop_node(nodes, n);
-            Ok(Done::Went(turn(alloc, nodes, n, body, left, index, frames, scopes)?))
+            Ok(done_of(turn(alloc, nodes, n, body, left, index, frames, scopes)?))
         }
         _ => unreachable!(),
     }

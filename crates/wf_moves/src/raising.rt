@@ -5,7 +5,7 @@ ghost use Rattle.wf_value.specs.Errors.{error_map};
 ghost use Rattle.wf_value.specs.declared.Raise.TheVariants as raised;
 ghost use Rattle.wf_value.specs.declared.Tag.{Tag};
 
-use crate::finish::Went;
+use crate::finish::{Turned, Went, turns};
 use std::alloc::Global;
 use wf_frames::map_of;
 use wf_value::{OutOfMemory, Raise, Tag};
@@ -14,7 +14,7 @@ use wf_value::{OutOfMemory, Raise, Tag};
 pub(crate) fn raises_tag(alloc: Global, tag: Tag) -> Result<Went, OutOfMemory>
     ensures { IfOk result (Raises (error_map tag)) }
 {
-    Ok(Went::Raises(map_of(alloc, tag)?))
+    turns(alloc, Turned::Raises(map_of(alloc, tag)?))
 }
 
 /// The error of an evaluation is raised.

@@ -11,7 +11,7 @@ ghost use Rattle.wf_frames.specs.Built.{IsHttp, Tells};
 ghost use Rattle.wf_frames.specs.Steps.{asks_with};
 ghost use Rattle.wf_value.specs.Data.{pairs_depth, pairs_of};
 
-use crate::finish::Done;
+use crate::finish::{Awaits, Done, done_of};
 use crate::raising::fails;
 use crate::wait::Wait;
 use std::alloc::Global;
@@ -99,13 +99,15 @@ pub(crate) fn sends(
         return Err(OutOfMemory);
     };
     match sent_of(alloc, method, args, facts, &sending.routes, number) {
-        Ok(sent) => Ok(Done::Sent(
-            boxed(alloc, sent)?,
-            Wait::Calling {
+        Ok(sent) => {
+            let request = boxed(alloc, sent)?;
+            let wait = Wait::Calling {
                 call: number,
                 node: n,
-            },
-        )),
-        Err(raise) => Ok(Done::Went(fails(alloc, raise)?)),
+            };
+            let awaits = boxed(alloc, Awaits::Sent(request, wait))?;
+            Ok(Done::Awaits(awaits))
+        }
+        Err(raise) => Ok(done_of(fails(alloc, raise)?)),
     }
 }

@@ -11,10 +11,11 @@ ghost use Rattle.wf_frames.specs.Built.{IsNap, Tells};
 ghost use Rattle.wf_frames.specs.Steps.{calls_by};
 ghost use Rattle.wf_value.specs.Data.{pairs_of};
 
-use crate::finish::Done;
+use crate::finish::{Awaits, Done, done_of};
 use crate::raising::fails;
 use crate::wait::Wait;
 use std::alloc::Global;
+use wf_ast::boxed;
 use wf_frames::{Facts, Frames, Nap};
 use wf_model::Node;
 use wf_scope::Scopes;
@@ -55,7 +56,10 @@ pub(crate) fn sleeps(
     ensures left { IfOk result (λ d. IsLeftSo nodes.now d (inner frames.new)) }
 {
     match nap_due(alloc, nap, args, facts.now) {
-        Ok(due) => Ok(Done::Waits(Wait::Sleep { due, node: n })),
-        Err(raise) => Ok(Done::Went(fails(alloc, raise)?)),
+        Ok(due) => {
+            let awaits = boxed(alloc, Awaits::Waits(Wait::Sleep { due, node: n }))?;
+            Ok(Done::Awaits(awaits))
+        }
+        Err(raise) => Ok(done_of(fails(alloc, raise)?)),
     }
 }

@@ -2,20 +2,20 @@
 ghost use Rattle.std.specs.Prelude.{◌≡◌, ◌≤◌, IfErr, IfOk, OnOk, Some, false, is_some, true};
 ghost use Rattle.wf_frames.specs.Fits.{Fits};
 ghost use Rattle.wf_frames.specs.Frames.{inner};
-ghost use Rattle.wf_frames.specs.Owned.{Around, control_of};
+ghost use Rattle.wf_frames.specs.Owned.{Around, control_of, local_of};
 ghost use Rattle.wf_frames.specs.Sights.{Sees};
 ghost use Rattle.wf_frames.specs.Stands.{Stands};
 ghost use Rattle.wf_frames.specs.Turns.{Agrees};
 ghost use Rattle.wf_model.specs.Local.{Moved, Scene};
 ghost use Rattle.wf_frames.specs.Built.{AreTargets, Tells};
 ghost use Rattle.wf_moves.specs.Moved.{IsLeft, IsMove, IsSettled};
-ghost use Rattle.wf_moves.specs.Tasks.{move_by};
+ghost use Rattle.wf_moves.specs.Tasks.{told_by, told_in};
 ghost use Rattle.wf_model.specs.Spots.{part_at};
 ghost use Rattle.wf_value.specs.Data.{depth};
 ghost use Rattle.wf_value.specs.Plain.{plain};
 
 use crate::back::give;
-use crate::finish::{Done, End, Went, settle};
+use crate::finish::{Awaits, Done, End, Turned, Went, settle, turns};
 use crate::judging::try_again;
 use crate::leading::{Led, lead};
 use crate::logging::Behind;
@@ -24,18 +24,17 @@ use crate::sending::{Sending, Sent};
 use crate::start::{first_layer, params};
 use crate::wait::Wait;
 use std::alloc::Global;
+use wf_ast::boxed;
 use wf_frames::{Facts, Frame, Frames, Kind, Target, Wants, frame_kind};
 use wf_model::Node;
 use wf_scope::Scopes;
 use wf_sys_ask::Logged;
 use wf_value::{OutOfMemory, Value};
 
-/// What a move has done.
+/// What few moves have done.
 #[derive(Drop)]
-pub enum Move {
-    /// The task goes on, or waits until a moment.
-    Went,
-    /// It has ended, and its layers with it but for the first.
+pub enum Told {
+    /// The task has ended, and its layers with it but for the first.
     Ended(End),
     /// It has made a request, and waits for the answer.
     Sent(Box<Sent>),
@@ -43,13 +42,30 @@ pub enum Move {
     Logged(Box<Logged>, Behind),
 }
 
+/// What a move has done. Of nearly all there is nothing to tell, so the rest stands in a box: what is handed on is small.
+#[derive(Drop)]
+pub enum Move {
+    /// The task goes on, or waits until a moment.
+    Went,
+    Told(Box<Told>),
+}
+
+/// A move has done one of the few. It stands apart from what every move runs.
+#[cold]
+#[inline(never)]
+fn tell(alloc: Global, by: Told) -> Result<Move, OutOfMemory>
+    ensures { IfOk result (λ d. told_in d ≡ Some by) }
+{
+    Ok(Move::Told(boxed(alloc, by)?))
+}
+
 /// The move of a task that stands so behind it.
-fn move_by(behind: Behind) -> Move
-    ensures { result ≡ move_by behind }
+fn move_by(alloc: Global, behind: Behind) -> Result<Move, OutOfMemory>
+    ensures { IfOk result (λ d. told_in d ≡ told_by behind) }
 {
     match behind {
-        Behind::Goes => Move::Went,
-        Behind::Ended(end) => Move::Ended(end),
+        Behind::Goes => Ok(Move::Went),
+        Behind::Ended(end) => tell(alloc, Told::Ended(end)),
     }
 }
 
@@ -70,7 +86,7 @@ impl Task {
     ghost use Rattle.wf_model.specs.Move.{due, resumed};
     ghost use Rattle.wf_moves.specs.Requests.{Reaches};
     ghost use Rattle.wf_moves.specs.Stepped.{stepped};
-    ghost use Rattle.wf_moves.specs.Tasks.{IsBehind, IsFirst, IsFlow, MovesSo, Stays, StaysBehind, first, has_ended, is_sent};
+    ghost use Rattle.wf_moves.specs.Tasks.{IsAwaited, IsAwaitedLeft, IsBehind, IsFirst, IsFlow, MovesSo, Stays, StaysBehind, first, has_ended, is_sent};
     ghost use Rattle.wf_moves.specs.Waits.{CanGoOn, answer_view, call_in, is_awake_in, is_call_at, moment_in, result_in, task_local};
 
     /// The first task, awake, which stands before the steps of a workflow: that of the node with this number. Its first layer is made, and holds
@@ -193,18 +209,55 @@ impl Task {
             sending,
         )?;
         match done {
-            Done::Went(went) => self.follow(nodes, targets, scopes, facts, went),
-            Done::Waits(wait) => {
+            // what most moves give leads nowhere else
+            Done::Goes => Ok(Move::Went),
+            Done::Ends => self.follow(nodes, targets, scopes, facts, Went::Ends),
+            Done::Turned(turned) => {
+                self.follow(nodes, targets, scopes, facts, Went::Turned(turned))
+            }
+            Done::Awaits(awaits) => {
+                let awaits = Box::into_inner(awaits);
+                self.told(nodes, targets, scopes, facts, awaits)
+            }
+        }
+    }
+
+    /// It waits behind a move, or has logged a value.
+    #[cold]
+    #[inline(never)]
+    fn told(
+        &mut self,
+        nodes: &[Node],
+        targets: &[Target],
+        scopes: &mut Scopes,
+        facts: &Facts,
+        awaits: Awaits,
+    ) -> Result<Move, OutOfMemory>
+        ghost around: { Around }
+        requires tells { Tells around.spots nodes.now }
+        requires targets { AreTargets around.flows around.spots nodes.now targets.now }
+        requires stands { Stands around nodes.now self.old.frames scopes.old }
+        requires left { IsAwaitedLeft nodes.now awaits (inner self.old.frames) }
+        requires awake { is_awake_in self.old.wait ≡ true }
+        ensures moved { IfOk result (λ d. (s : Scene) (m : Moved) → Sees s facts.entry.now
+            → Agrees s around
+            → IsAwaited around s m awaits (local_of around self.old.frames scopes.old)
+            → MovesSo m d (task_local around self.new scopes.new)) }
+        ensures stands { OnOk result (Stands around nodes.now self.new.frames scopes.new) }
+        ensures left { IfOk result (λ d. Stays nodes.now d self.new) }
+    {
+        match awaits {
+            Awaits::Waits(wait) => {
                 self.wait = wait;
                 Ok(Move::Went)
             }
-            Done::Sent(sent, wait) => {
+            Awaits::Sent(sent, wait) => {
                 self.wait = wait;
-                Ok(Move::Sent(sent))
+                tell(self.alloc, Told::Sent(sent))
             }
-            Done::Logged(entry, went) => {
+            Awaits::Logged(entry, went) => {
                 let behind = self.stand(nodes, targets, scopes, facts, went)?;
-                Ok(Move::Logged(entry, behind))
+                tell(self.alloc, Told::Logged(entry, behind))
             }
         }
     }
@@ -239,7 +292,10 @@ impl Task {
         self.wait = Wait::Awake;
         match with {
             Ok(value) => self.gives(nodes, targets, scopes, facts, node, value),
-            Err(error) => self.follow(nodes, targets, scopes, facts, Went::Raises(error)),
+            Err(error) => {
+                let went = turns(self.alloc, Turned::Raises(error))?;
+                self.follow(nodes, targets, scopes, facts, went)
+            }
         }
     }
 
@@ -342,7 +398,7 @@ impl Task {
             Went::Goes => Ok(Move::Went),
             went => {
                 let behind = self.stand(nodes, targets, scopes, facts, went)?;
-                Ok(move_by(behind))
+                move_by(self.alloc, behind)
             }
         }
     }

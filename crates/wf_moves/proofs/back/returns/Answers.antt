@@ -6,11 +6,12 @@ use Rattle.wf_frames.specs.Frames.{inner, result_of}
 use Rattle.wf_frames.specs.Owned.{beside, control_of, held_by, local_of}
 use Rattle.wf_model.specs.Leave.{gives, returned}
 use Rattle.wf_model.specs.Unwind.{Found}
-use Rattle.wf_moves.proofs.Leaving.{fits_after, top_node}
+use Rattle.wf_moves.proofs.Leaving.{fits_after, none_there, top_node}
+use Rattle.wf_moves.proofs.Raised.{turned_left, turned_move}
 use Rattle.wf_moves.proofs.Returning.{call_node, ends_with, gives_on, judge_top, judged_on, says_left, top_back}
-use Rattle.wf_moves.specs.Moved.{IsMove}
+use Rattle.wf_moves.specs.Moved.{IsMove, back_found}
 use Rattle.wf_moves.specs.declared.finish.End.TheVariants as end
-use Rattle.wf_moves.specs.declared.finish.Went.TheVariants as went
+use Rattle.wf_moves.specs.declared.finish.Turned.TheVariants as turned
 use Rattle.wf_value.specs.Plain.{plain}
 use Rattle.wf_moves.proofs.back.returns.Goals as goal
 
@@ -30,10 +31,25 @@ give-requires g c =
     )
 
 pub returns-in-None-clause-moved : goal.returns-in-None-clause-moved
-returns-in-None-clause-moved g c s d agrees =
-    subst (λ (f : Found). IsMove s (returned s (plain c.args.value) (beside d g.around c.args.frames.now c.args.scopes.now) f) (went.Ended (end.Value c.args.value)) (local_of g.around c.leave_to_back.new.frames c.leave_to_back.new.scopes)) (sym (c.leave_to_back.ensures.found d))
+returns-in-None-clause-moved g c =
+    let mid = local_of g.around c.leave_to_back.new.frames c.leave_to_back.new.scopes in
+    with_ok _ _ c.turns.result
+    (λ w is s d agrees.
+    subst (λ (f : Found). IsMove s (returned s (plain c.args.value) (beside d g.around c.args.frames.now c.args.scopes.now) f) w mid) (sym (c.leave_to_back.ensures.found d))
+    (turned_move s (returned s (plain c.args.value) (beside d g.around c.args.frames.now c.args.scopes.now) (back_found g.around.spots (inner c.leave_to_back.new.frames) (beside d g.around c.leave_to_back.new.frames c.leave_to_back.new.scopes))) (turned.Ended (end.Value c.args.value)) w mid is
     (ends_with g.around.spots s (plain c.args.value) c.args.value (inner c.leave_to_back.new.frames) d (control_of g.around c.leave_to_back.new.frames) (held_by g.around c.args.frames.now c.args.scopes.now) (held_by g.around c.leave_to_back.new.frames c.leave_to_back.new.scopes)
-    refl c.in-None.ensures c.requires.1.1 c.leave_to_back.ensures.outside)
+    refl c.in-None.ensures c.requires.1.1 c.leave_to_back.ensures.outside)))
+    c.turns.ensures
+
+pub returns-in-None-clause-left : goal.returns-in-None-clause-left
+returns-in-None-clause-left g c =
+    with_ok _ _ c.turns.result
+    (λ w is. turned_left c.args.nodes.now (inner c.leave_to_back.new.frames) (turned.Ended (end.Value c.args.value)) w is (none_there (inner c.leave_to_back.new.frames) c.in-None.ensures))
+    c.turns.ensures
+
+pub returns-in-None-clause-stands : goal.returns-in-None-clause-stands
+returns-in-None-clause-stands g c =
+    with_ok _ _ c.turns.result (λ w is. record { fits = c.leave_to_back.ensures.fits c.args.nodes.now c.requires.1.0.fits; linked = c.leave_to_back.ensures.linked }) c.turns.ensures
 
 pub returns-else-is_judge-clause-moved : goal.returns-else-is_judge-clause-moved
 returns-else-is_judge-clause-moved g c =

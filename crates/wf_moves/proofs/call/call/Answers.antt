@@ -9,7 +9,7 @@ use Rattle.wf_moves.specs.Moved.{IsMove}
 use Rattle.wf_moves.specs.Stepped.{leads_with}
 use Rattle.wf_moves.specs.Tasks.{IsDone}
 use Rattle.wf_model.specs.NodeKinds.{call_by}
-use Rattle.wf_model.specs.Spots.{part_body}
+use Rattle.wf_model.specs.Spots.{part_at, part_body}
 use Rattle.wf_model.specs.declared.node.NodeKind.TheVariants as kind
 use Rattle.wf_frames.proofs.Parts.{as_part}
 use Rattle.wf_frames.specs.Built.{IsTarget}
@@ -65,8 +65,9 @@ returns-in_ok-call_flow-in-Flow-clause-moved g c s d sees reaches agrees =
     let l = beside d g.around c.args.frames.now c.args.scopes.now in
     let m = local_of g.around c.call_flow.new.frames c.call_flow.new.scopes in
     let w = c.in_ok-call_flow-in-Flow.field-0 in
-    subst (λ y. IsMove s y w m) (sym (ap (λ b. leads_with s b args k l) body ∙ flow_leads s g.around.flows (call_by f.1.node.codes.items.items f.0) args k l agrees.2 g.around.spots c.in-Flow.flow so ∙ sym (ap (λ b. calls_by s b args k l) body)))
-    (c.in_ok-call_flow-in-Flow.ensures.moved s d agrees)
+    c.done_of.ensures.moved g.around s (leads_with s (part_body (part_at g.around.spots c.args.n)) args k l) m
+    (subst (λ y. IsMove s y w m) (sym (ap (λ b. leads_with s b args k l) body ∙ flow_leads s g.around.flows (call_by f.1.node.codes.items.items f.0) args k l agrees.2 g.around.spots c.in-Flow.flow so ∙ sym (ap (λ b. calls_by s b args k l) body)))
+    (c.in_ok-call_flow-in-Flow.ensures.moved s d agrees))
 
 pub returns-in_ok-evaluates-in-Function-clause-moved : goal.returns-in_ok-evaluates-in-Function-clause-moved
 returns-in_ok-evaluates-in-Function-clause-moved g c s d sees reaches agrees =
@@ -82,8 +83,9 @@ returns-in_ok-evaluates-in-Function-clause-moved g c s d sees reaches agrees =
     let l = beside d g.around c.args.frames.now c.args.scopes.now in
     let m = local_of g.around c.evaluates.new.frames c.evaluates.new.scopes in
     let w = c.in_ok-evaluates-in-Function.field-0 in
-    subst (λ y. IsMove s y w m) (sym (ap (λ b. leads_with s b args k l) body ∙ function_leads s g.around.flows (call_by f.1.node.codes.items.items f.0) args k l agrees.2 c.in-Function.function so ∙ sym (ap (λ b. calls_by s b args k l) body)))
-    (c.in_ok-evaluates-in-Function.ensures.moved s d sees agrees)
+    c.done_of-in-Function.ensures.moved g.around s (leads_with s (part_body (part_at g.around.spots c.args.n)) args k l) m
+    (subst (λ y. IsMove s y w m) (sym (ap (λ b. leads_with s b args k l) body ∙ function_leads s g.around.flows (call_by f.1.node.codes.items.items f.0) args k l agrees.2 c.in-Function.function so ∙ sym (ap (λ b. calls_by s b args k l) body)))
+    (c.in_ok-evaluates-in-Function.ensures.moved s d sees agrees))
 
 pub returns-in-Http-clause-moved : goal.returns-in-Http-clause-moved
 returns-in-Http-clause-moved g c =

@@ -1,33 +1,30 @@
-use Rattle.std.proofs.Common.{subst}
+use Rattle.std.proofs.Common.{sym, subst}
 use Rattle.wf_lemmas.proofs.Results.{with_ok}
 use Rattle.wf_frames.specs.Frames.{inner}
 use Rattle.wf_frames.specs.Owned.{local_of}
-use Rattle.wf_moves.proofs.Led.{ends_lead, goes_leads, raised_leads, said_leads}
-use Rattle.wf_moves.specs.Moved.{IsLeft, IsMove}
+use Rattle.wf_moves.proofs.Led.{goes_leads, last_leads}
+use Rattle.wf_moves.proofs.Raised.{turned_is}
+use Rattle.wf_moves.specs.Moved.{IsLeft, IsMove, IsTurned, IsTurnedLeft}
 use Rattle.wf_moves.proofs.leading.lead.Goals as goal
 
-pub outward-requires : goal.outward-requires
-outward-requires g c = (c.requires.0, (c.requires.1.0, (c.requires.1.1.0, subst (λ x. IsLeft c.args.nodes.now x (inner c.args.frames.now)) c.in-Raises.is c.requires.1.1.1)))
-
-pub answered-requires : goal.answered-requires
-answered-requires g c = (c.requires.0, (c.requires.1.0, (c.requires.1.1.0, subst (λ x. IsLeft c.args.nodes.now x (inner c.args.frames.now)) c.in-Says.is c.requires.1.1.1)))
+pub lead_turned-requires : goal.lead_turned-requires
+lead_turned-requires g c = (
+  c.requires.0,
+  (
+    c.requires.1.0,
+    (c.requires.1.1.0, subst (λ t. IsTurnedLeft t (inner c.args.frames.now)) (sym c.into_inner-by.ensures) (subst (λ x. IsLeft c.args.nodes.now x (inner c.args.frames.now)) c.in-Turned.is c.requires.1.1.1)),
+  ),
+)
 
 pub returns-in-Goes-clause-moved : goal.returns-in-Goes-clause-moved
 returns-in-Goes-clause-moved g c s m last agrees h = goes_leads g.around s m (local_of g.around c.args.frames.now c.args.scopes.now) (subst (λ x. IsMove s m x (local_of g.around c.args.frames.now c.args.scopes.now)) c.in-Goes.is h)
 
-pub returns-in-Ended-clause-moved : goal.returns-in-Ended-clause-moved
-returns-in-Ended-clause-moved g c s m last agrees h = ends_lead g.around s m c.in-Ended.end (local_of g.around c.args.frames.now c.args.scopes.now) (subst (λ x. IsMove s m x (local_of g.around c.args.frames.now c.args.scopes.now)) c.in-Ended.is h)
+pub returns-in-Ends-clause-moved : goal.returns-in-Ends-clause-moved
+returns-in-Ends-clause-moved g c s m last agrees h = last_leads s m (local_of g.around c.args.frames.now c.args.scopes.now) (subst (λ x. IsMove s m x (local_of g.around c.args.frames.now c.args.scopes.now)) c.in-Ends.is h)
 
-pub returns-in-Raises-clause-moved : goal.returns-in-Raises-clause-moved
-returns-in-Raises-clause-moved g c =
-    with_ok _ _ c.outward.result
-    (λ d o s m last agrees h. raised_leads g.around s m c.in-Raises.error c.args.frames.now c.args.scopes.now d (local_of g.around c.outward.new.frames c.outward.new.scopes) (λ k. o s k last agrees)
-    (subst (λ x. IsMove s m x (local_of g.around c.args.frames.now c.args.scopes.now)) c.in-Raises.is h))
-    c.outward.ensures.moved
-
-pub returns-in-Says-clause-moved : goal.returns-in-Says-clause-moved
-returns-in-Says-clause-moved g c =
-    with_ok _ _ c.answered.result
-    (λ d o s m last agrees h. said_leads g.around s m c.in-Says.yes c.args.frames.now c.args.scopes.now d (local_of g.around c.answered.new.frames c.answered.new.scopes) (λ k. o s k last agrees)
-    (subst (λ x. IsMove s m x (local_of g.around c.args.frames.now c.args.scopes.now)) c.in-Says.is h))
-    c.answered.ensures.moved
+pub returns-in-Turned-clause-moved : goal.returns-in-Turned-clause-moved
+returns-in-Turned-clause-moved g c =
+    let l = local_of g.around c.args.frames.now c.args.scopes.now in
+    with_ok _ _ c.lead_turned.result
+    (λ d o s m last agrees h. o s m last agrees (subst (λ t. IsTurned s m t l) (sym c.into_inner-by.ensures) (turned_is s m c.in-Turned.turned l (subst (λ x. IsMove s m x l) c.in-Turned.is h))))
+    c.lead_turned.ensures.moved

@@ -1,7 +1,4 @@
 use Rattle.wf_moves.proofs.leading.lead.Given as goal
 
-abbrev pub ghost-outward : goal.ghost-outward
-ghost-outward g a = g.around
-
-abbrev pub ghost-answered : goal.ghost-answered
-ghost-answered g a = g.around
+abbrev pub ghost-lead_turned : goal.ghost-lead_turned
+ghost-lead_turned g a = g.around

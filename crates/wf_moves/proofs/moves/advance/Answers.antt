@@ -5,11 +5,12 @@ use Rattle.wf_frames.specs.Frames.{inner}
 use Rattle.wf_model.specs.Local.{Moved}
 use Rattle.wf_moves.proofs.Returning.{moves_back}
 use Rattle.wf_moves.specs.Moved.{IsMove}
-use Rattle.wf_frames.specs.Owned.{IsLinked, beside, local_of, own_of}
+use Rattle.wf_frames.specs.Owned.{IsLinked, beside, control_of, local_of, own_of}
 use Rattle.wf_frames.specs.declared.frames.Frame.TheVariants as frame
 use Rattle.wf_moves.proofs.Leaving.{at_loop, going_has, going_plain, going_step, no_back}
 use Rattle.wf_moves.proofs.Stepping.{back_stepped, loop_stepped}
 use Rattle.wf_moves.proofs.Turning.{loop_there, moved_same}
+use Rattle.wf_moves.specs.Stepped.{stepped_at}
 use Rattle.wf_scope.specs.Store.{layers_of}
 use Rattle.wf_moves.proofs.moves.advance.Goals as goal
 
@@ -41,13 +42,15 @@ returns-clause-moved g c s d sees reaches agrees =
     let own = own_pushed c.pop.new.self.first c.args.frames.now.first c.in-Some.frame (inner c.pop.new.self) (inner c.args.frames.now) (sym c.in-Some.ensures.first) (going_plain c.args.nodes.now c.in-Some.frame has (no_back c.in-Some.frame (inner c.args.frames.now) (inner c.pop.new.self) c.in-Some.ensures.popped (sym c.is_at_back.ensures ∙ c.if-is_at_back.false))) c.in-Some.ensures.popped in
     let fs = c.in-Some.ensures.popped ∙ ap (λ f. f ∷ inner c.pop.new.self) c.in-Loop.is in
     let m = local_of g.around c.turn.new.frames c.turn.new.scopes in
-    subst (λ y. IsMove s y c.in_ok-turn-in-Loop.field-0 m) (sym (loop_stepped g.around.spots s (inner c.args.frames.now) (inner c.pop.new.self) c.in-Loop.n c.in-Loop.index c.in-Loop.left (beside d g.around c.args.frames.now c.args.scopes.now) fs))
+    c.done_of-in-Loop.ensures.moved g.around s (stepped_at s (control_of g.around c.args.frames.now) (beside d g.around c.args.frames.now c.args.scopes.now)) m
+    (subst (λ y. IsMove s y c.in_ok-turn-in-Loop.field-0 m) (sym (loop_stepped g.around.spots s (inner c.args.frames.now) (inner c.pop.new.self) c.in-Loop.n c.in-Loop.index c.in-Loop.left (beside d g.around c.args.frames.now c.args.scopes.now) fs))
     (moved_same g.around s (own_of c.args.frames.now) (own_of c.pop.new.self) (layers_of c.args.scopes.now) own d (inner c.args.frames.now) (frame.Loop c.in-Loop.n c.in-Loop.left c.in-Loop.index ∷ inner c.pop.new.self) c.in_ok-turn-in-Loop.field-0 m fs
-    (c.in_ok-turn-in-Loop.ensures.moved s d agrees))
+    (c.in_ok-turn-in-Loop.ensures.moved s d agrees)))
 
 pub returns-then-is_at_back-clause-moved : goal.returns-then-is_at_back-clause-moved
 returns-then-is_at_back-clause-moved g c s d sees reaches agrees =
     let at = sym c.is_at_back.ensures ∙ c.if-is_at_back.true in
     let l = beside d g.around c.args.frames.now c.args.scopes.now in
-    subst (λ (m : Moved). IsMove s m c.in_ok-returns.field-0 (local_of g.around c.returns.new.frames c.returns.new.scopes))
-    (sym (back_stepped g.around.spots s (inner c.args.frames.now) l at ∙ moves_back g.around.spots s (inner c.args.frames.now) l at)) (c.in_ok-returns.ensures.moved s d agrees)
+    c.done_of.ensures.moved g.around s (stepped_at s (control_of g.around c.args.frames.now) (beside d g.around c.args.frames.now c.args.scopes.now)) (local_of g.around c.returns.new.frames c.returns.new.scopes)
+    (subst (λ (m : Moved). IsMove s m c.in_ok-returns.field-0 (local_of g.around c.returns.new.frames c.returns.new.scopes))
+    (sym (back_stepped g.around.spots s (inner c.args.frames.now) l at ∙ moves_back g.around.spots s (inner c.args.frames.now) l at)) (c.in_ok-returns.ensures.moved s d agrees))

@@ -1,4 +1,5 @@
 use Rattle.std.proofs.Common.{◌≡◌, ◌≤◌, true, false, Option, Some, refl, sym, ap, ◌∙◌, subst, arith}
+use Rattle.wf_moves.specs.Tasks.{told_in}
 use Rattle.std.proofs.Math.Logic.{∥∥₁_map}
 use Rattle.std.specs.Prelude.{IfSome, is_some, unwrap_or}
 use Rattle.wf_alone.proofs.Reached.{reached_next}
@@ -32,7 +33,7 @@ returns-in-None c = λ e comes.
     let m = c.args.self.now in
     done _ _ e
     (goes_on c.never_wrong.ensures m c.args.cause c.args.now c.args.tally e comes c.in-Some.task (sym c.in-Some.ensures.value) c.count-self.result c.count-self.ensures.count c.size-self.result c.size-self.ensures c.go_on.new.task c.go_on.new.scopes c.in_ok-did.did c.in_ok-did.ensures.moved
-    m.ending c.ending_of.new.calls c.ending_of.new.log (ap outcome_by comes.running ∙ ap (λ o. outcome_by (unwrap_or o Running)) (sym c.in-None.is) ∙ c.in_ok-ended.ensures.outcome) (c.in_ok-ended.ensures.calls ∙ ap (calls_behind c.in_ok-did.did) c.in_ok-did.ensures.calls) c.in_ok-ended.ensures.log (ap is_running comes.running))
+    m.ending c.ending_of.new.calls c.ending_of.new.log (ap outcome_by comes.running ∙ ap (λ o. outcome_by (unwrap_or o Running)) (sym c.in-None.is) ∙ c.in_ok-ended.ensures.outcome) (c.in_ok-ended.ensures.calls ∙ ap (calls_behind (told_in c.in_ok-did.did)) c.in_ok-did.ensures.calls) c.in_ok-ended.ensures.log (ap is_running comes.running))
     refl comes.tallies.counted comes.tallies.last (λ is. cc is)
 
 pub returns-in-Some-ended : goal.returns-in-Some-ended
@@ -42,7 +43,7 @@ returns-in-Some-ended c = λ e comes.
     let off = (subst (λ (o : Option Ending). IfSome o (λ e. is_running e ≡ false)) c.in-Some-ended.is c.in_ok-ended.ensures.ended) in
     done _ _ e
     (has_ended c.never_wrong.ensures m c.args.cause c.args.now c.args.tally e comes c.in-Some.task (sym c.in-Some.ensures.value) c.count-self.result c.count-self.ensures.count c.size-self.result c.size-self.ensures c.go_on.new.task c.go_on.new.scopes c.in_ok-did.did c.in_ok-did.ensures.moved
-    c.in-Some-ended.ending c.ending_of.new.calls c.ending_of.new.log out (c.in_ok-ended.ensures.calls ∙ ap (calls_behind c.in_ok-did.did) c.in_ok-did.ensures.calls) c.in_ok-ended.ensures.log off
+    c.in-Some-ended.ending c.ending_of.new.calls c.ending_of.new.log out (c.in_ok-ended.ensures.calls ∙ ap (calls_behind (told_in c.in_ok-did.did)) c.in_ok-did.ensures.calls) c.in_ok-ended.ensures.log off
     ∙ sym (ap (λ o. To (config_of (program_of m.program) m.facts c.args.tally o c.go_on.new.scopes c.ending_of.new.calls c.ending_of.new.log c.in-Some-ended.ending)) c.take.ensures.after))
     refl comes.tallies.counted comes.tallies.last (λ is. cc is)
 
@@ -51,7 +52,7 @@ invariant_of-self-in-None-clause-standing c =
     let m = c.args.self.now in
     let u = c.go_on.new.task in
     let comes = c.requires.comes.1 in
-    (standing (around (program_of m.program)) (nodes_of m.program) u.frames c.go_on.new.scopes c.in_ok-did.ensures.stands, stays_on (nodes_of m.program) c.in_ok-did.did u m.ending (ap outcome_by comes.running ∙ ap (λ o. outcome_by (unwrap_or o Running)) (sym c.in-None.is) ∙ c.in_ok-ended.ensures.outcome) (ap is_running comes.running) c.in_ok-did.ensures.left)
+    (standing (around (program_of m.program)) (nodes_of m.program) u.frames c.go_on.new.scopes c.in_ok-did.ensures.stands, stays_on (nodes_of m.program) (told_in c.in_ok-did.did) u m.ending (ap outcome_by comes.running ∙ ap (λ o. outcome_by (unwrap_or o Running)) (sym c.in-None.is) ∙ c.in_ok-ended.ensures.outcome) (ap is_running comes.running) c.in_ok-did.ensures.left)
 
 pub invariant_of-self-in-None-clause-reached : goal.invariant_of-self-in-None-clause-reached
 invariant_of-self-in-None-clause-reached c =
@@ -60,7 +61,7 @@ invariant_of-self-in-None-clause-reached c =
     let comes = c.requires.comes.1 in
     ∥∥₁_map m.reached (λ reached some. reached_next p (state_of m).config (config_of p m.facts c.args.tally (Some c.go_on.new.task) c.go_on.new.scopes c.ending_of.new.calls c.ending_of.new.log m.ending) c.requires.comes.0 (reached (ap is_some (sym c.in-Some.ensures.value)))
     (goes_on c.never_wrong.ensures m c.args.cause c.args.now c.args.tally c.requires.comes.0 comes c.in-Some.task (sym c.in-Some.ensures.value) c.count-self.result c.count-self.ensures.count c.size-self.result c.size-self.ensures c.go_on.new.task c.go_on.new.scopes c.in_ok-did.did c.in_ok-did.ensures.moved
-    m.ending c.ending_of.new.calls c.ending_of.new.log (ap outcome_by comes.running ∙ ap (λ o. outcome_by (unwrap_or o Running)) (sym c.in-None.is) ∙ c.in_ok-ended.ensures.outcome) (c.in_ok-ended.ensures.calls ∙ ap (calls_behind c.in_ok-did.did) c.in_ok-did.ensures.calls) c.in_ok-ended.ensures.log (ap is_running comes.running)))
+    m.ending c.ending_of.new.calls c.ending_of.new.log (ap outcome_by comes.running ∙ ap (λ o. outcome_by (unwrap_or o Running)) (sym c.in-None.is) ∙ c.in_ok-ended.ensures.outcome) (c.in_ok-ended.ensures.calls ∙ ap (calls_behind (told_in c.in_ok-did.did)) c.in_ok-did.ensures.calls) c.in_ok-ended.ensures.log (ap is_running comes.running)))
 
 pub invariant_of-self-in-None-clause-running : goal.invariant_of-self-in-None-clause-running
 invariant_of-self-in-None-clause-running c = λ whole run. (refl, c.requires.below)

@@ -6,5 +6,5 @@ ghost-advance g a = g.around
 abbrev pub ghost-follow : goal.ghost-follow
 ghost-follow g a = g.around
 
-abbrev pub ghost-stand : goal.ghost-stand
-ghost-stand g a = g.around
+abbrev pub ghost-told : goal.ghost-told
+ghost-told g a = g.around

@@ -1,13 +1,14 @@
 use Rattle.std.proofs.Common.{Some, refl, sym, ap, subst}
-use Rattle.std.specs.Prelude.{Option, Result}
+use Rattle.std.specs.Prelude.{◌≤◌, IfErr, Option, Result}
 use Rattle.wf_lemmas.proofs.Results.{with_ok}
 use Rattle.wf_frames.specs.Frames.{inner, result_of}
 use Rattle.wf_frames.specs.Owned.{control_of, held_by, local_of}
 use Rattle.wf_model.specs.Leave.{handed, raises}
-use Rattle.wf_moves.proofs.Raised.{raised_so}
+use Rattle.wf_moves.proofs.Raised.{raised_so, turned_left, turned_move}
 use Rattle.wf_moves.specs.Tasks.{MovesSo}
+use Rattle.wf_moves.specs.declared.finish.Turned.TheVariants as turned
 use Rattle.wf_moves.specs.Waits.{GoesFrom, answer_view, result_in, task_local}
-use Rattle.wf_value.specs.Data.{Data}
+use Rattle.wf_value.specs.Data.{Data, depth}
 use Rattle.wf_value.specs.Pairs.{Text}
 use Rattle.wf_value.specs.Plain.{plain}
 use Rattle.wf_moves.proofs.task.Task.go_on.Goals as goal
@@ -27,8 +28,8 @@ returns-in-Ok-clause-moved g c =
     (subst (λ (x : Result Data Data). MovesSo (handed s (result_of g.around.spots (Some c.in-Calling.node)) x k l) d (task_local g.around c.gives.new.self c.gives.new.scopes)) (sym (ap answer_view c.in-Ok.is)) (h s sees agrees)))
     c.gives.ensures.moved
 
-pub returns-in-Err-clause-moved : goal.returns-in-Err-clause-moved
-returns-in-Err-clause-moved g c =
+pub returns-in_ok-went-in-Err-clause-moved : goal.returns-in_ok-went-in-Err-clause-moved
+returns-in_ok-went-in-Err-clause-moved g c =
     let old = c.args.self.now.frames in
     let k = control_of g.around old in
     let l = local_of g.around old c.args.scopes.now in
@@ -36,5 +37,8 @@ returns-in-Err-clause-moved g c =
     with_ok _ _ c.follow.result
     (λ d h s sees agrees.
     subst (λ (x : Result Data Data). MovesSo (handed s (result_in g.around c.args.self.now.wait) x k l) d (task_local g.around c.follow.new.self c.follow.new.scopes)) (sym (ap answer_view c.in-Err.is))
-    (h s (raises s k l (plain c.in-Err.error)) sees agrees (raised_so s k k h0 c.in-Err.error (raises s k l (plain c.in-Err.error)) refl)))
+    (h s (raises s k l (plain c.in-Err.error)) sees agrees (turned_move s (raises s k l (plain c.in-Err.error)) (turned.Raises c.in-Err.error) c.in_ok-went-in-Err.went l c.in_ok-went-in-Err.ensures (raised_so s k k h0 c.in-Err.error (raises s k l (plain c.in-Err.error)) refl))))
     c.follow.ensures.moved
+
+pub follow-requires : goal.follow-requires
+follow-requires g c = (c.requires.0, (c.requires.1.0, (c.requires.1.1.0, (turned_left c.args.nodes.now (inner c.args.self.now.frames) (turned.Raises c.in-Err.error) c.in_ok-went-in-Err.went c.in_ok-went-in-Err.ensures (subst (λ r. IfErr r (λ e. depth (plain e) ≤ 100)) c.in-Err.is c.requires.1.1.1.1.1), refl))))

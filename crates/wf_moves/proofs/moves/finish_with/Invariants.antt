@@ -1,0 +1,7 @@
+use Rattle.wf_moves.proofs.moves.finish_with.Given as goal
+
+abbrev pub ghost-returns : goal.ghost-returns
+ghost-returns g a = g.around
+
+abbrev pub ghost-call : goal.ghost-call
+ghost-call g a = g.around
