@@ -399,6 +399,7 @@ impl Scopes {
             ≡ value_at name.now (vars_at result.0.number (layers_of self.now)) }
     {
         let class = class_of(name);
+        let mut home = None;
         let mut here = number;
         loop {
             let place = self.place(here);
@@ -408,14 +409,22 @@ impl Scopes {
                 if let Some(value) = value {
                     return (spot, Some(value));
                 }
+                if here == number {
+                    home = Some(spot);
+                }
             }
             match layer.outer {
                 Some(outer) => here = outer,
                 None => break,
             }
         }
-        let (spot, _) = self.spot(number, name);
-        (spot, None)
+        match home {
+            Some(spot) => (spot, None),
+            None => {
+                let (spot, _) = self.spot(number, name);
+                (spot, None)
+            }
+        }
     }
 
     /// Makes or changes a variable.
