@@ -118,7 +118,7 @@ impl Layer {
         self.search(name)
     }
 
-    /// The same, wherever it stands.
+    /// Where this name stands, and its value, by a search among all names; where it isn't there, its place is where it belongs.
     #[inline(never)]
     fn search(&self, name: &str) -> (Result<usize, usize>, Option<&Value>)
         ensures place { result.0 ≡ place_of name.now self.now.vars.items }

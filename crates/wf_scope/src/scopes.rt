@@ -285,7 +285,7 @@ impl Scopes {
         self.search(number)
     }
 
-    /// The same, wherever it stands.
+    /// Where a live layer stands, by a search among all layers.
     #[inline(never)]
     fn search(&self, number: u64) -> usize
         requires { IsLive number (layers_of self.now) }
@@ -357,7 +357,7 @@ impl Scopes {
         self.spot_at(number, self.place(number), class_of(name), name)
     }
 
-    /// The same in the layer at a place.
+    /// The variable of this name in the layer at a place, and its value.
     #[inline(always)]
     fn spot_at(&self, number: u64, layer: usize, class: usize, name: &str) -> (Spot, Option<&Value>)
         requires within { layer < length (layers_of self.now) }
