@@ -95,6 +95,7 @@ impl Layers {
     }
 
     /// Makes a layer that stands behind all, as one that has ended. Without memory all stays.
+    #[cold]
     #[inline(never)]
     fn more(&mut self, alloc: Global) -> Result<(), OutOfMemory>
         ensures live { live_in self.new ≡ live_in self.old }
@@ -123,6 +124,7 @@ impl Layers {
     }
 
     /// Takes the live layer at a place out, and tells what it counted.
+    #[cold]
     #[inline(never)]
     fn take(&mut self, place: usize) -> u64
         requires { place < length (views (live_in self.old)) }

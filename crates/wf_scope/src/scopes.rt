@@ -265,6 +265,7 @@ impl Scopes {
     }
 
     /// Where a live layer stands, by a search among all layers.
+    #[cold]
     #[inline(never)]
     fn search(&self, number: u64) -> usize
         requires { IsLive number (layers_of self.now) }
