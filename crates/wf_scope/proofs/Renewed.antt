@@ -85,7 +85,7 @@ pub record Kept (ok : Bool) (limit n : ℕ) (x : Text) (v : Data) (ls new : List
   pub stay : StayLive ls new
   pub apart : StayInnermost ls new
 
-there : (ls : List Layer) (i : ℕ) → i < length ls → (l : Layer) × (slice_get ls i ≡ Some l)
+pub there : (ls : List Layer) (i : ℕ) → i < length ls → (l : Layer) × (slice_get ls i ≡ Some l)
 there [] i h = absurd (omega (arith, h))
 there (x ∷ ls) zero h = (x, refl)
 there (x ∷ ls) (suc i) h = there ls i (omega (arith, h))

@@ -1,11 +1,11 @@
 // The layers of a store.
-ghost use Rattle.std.specs.Prelude.{true, ◌≡◌, ◌≤◌, ◌<◌, ◌+◌, ◌-◌, [], ◌∷◌, ◌++◌, drop, length, OnOk, Some, is_ok, if◌then◌else◌, slice_get, slice_index_or};
+ghost use Rattle.std.specs.Prelude.{true, ◌&&◌, nat_eq, ◌≡◌, ◌≤◌, ◌<◌, ◌+◌, ◌-◌, [], ◌∷◌, ◌++◌, drop, length, OnOk, Some, is_ok, if◌then◌else◌, slice_get, slice_index_or};
 ghost use Rattle.std.specs.List.{remove};
 ghost use Rattle.wf_value.specs.Data.{integer, pairs_of, pairs_size, size};
 ghost use Rattle.wf_value.specs.Plain.{plain};
 ghost use Rattle.wf_scope.specs.Layers.{Layer as SeenLayer, new_layer, put_place, total_of};
 ghost use Rattle.wf_scope.specs.Spots.{HoldsWhole, IsSpot};
-ghost use Rattle.wf_scope.specs.Views.{counted_in, views};
+ghost use Rattle.wf_scope.specs.Views.{are_straight, counted_in, views};
 
 use crate::layer::Layer;
 use crate::spot::Spot;
@@ -21,7 +21,11 @@ pub(crate) struct Layers {
     all: Vec<Layer>,
     /// So many are live.
     count: usize,
+    /// So many of them, from the first on, stand at their numbers.
+    straight: usize,
     ghost within: { count ≤ length all.items },
+    ghost straight_within: { straight ≤ count },
+    ghost numbered: { are_straight straight 0 all.items ≡ true },
     ghost spared: { counted_in (drop count all.items) ≡ 0 },
 }
 
@@ -35,15 +39,18 @@ impl Layers {
         Layers {
             all: Vec::new(alloc),
             count: 0,
+            straight: 0,
         }
     }
 
-    /// How many are live.
+    /// Whether a layer is known to stand at this place, which is its number.
     #[inline(always)]
-    pub(crate) fn count(&self) -> usize
-        ensures { result ≡ length (live_in self.now) }
+    pub(crate) fn is_straight(&self, place: usize) -> bool
+        ensures within { result ≡ true → place < length (views (live_in self.now)) }
+        ensures number { result ≡ true → (l : SeenLayer)
+            → slice_get (views (live_in self.now)) place ≡ Some l → l.number ≡ place }
     {
-        self.count
+        place < self.straight
     }
 
     /// The live layers.
@@ -78,6 +85,7 @@ impl Layers {
     {
         self.spare(alloc)?;
         self.all[self.count].stands(number, outer, depth);
+        self.straight = grown(self.straight, self.count, number);
         self.count += 1;
         Ok(())
     }
@@ -120,6 +128,7 @@ impl Layers {
         let counted = layer.counted;
         layer.clear();
         self.count = place;
+        self.straight = self.straight.min(place);
         counted
     }
 
@@ -134,6 +143,7 @@ impl Layers {
     {
         let layer = self.all.remove(place);
         self.count -= 1;
+        self.straight = self.straight.min(place);
         layer.counted
     }
 
@@ -171,5 +181,19 @@ impl Layers {
             → HoldsWhole layer name.now (views (live_in self.old)) }
     {
         self.all[layer].renew(hint, name, n)
+    }
+}
+
+/// How many stand at their numbers once there is one more live layer.
+#[inline(always)]
+fn grown(straight: usize, count: usize, number: u64) -> usize
+    requires { straight < 18446744073709551615 }
+    ensures { result ≡ (if nat_eq straight count && nat_eq number count
+        then straight + 1 else straight) }
+{
+    if straight == count && number == count as u64 {
+        straight + 1
+    } else {
+        straight
     }
 }

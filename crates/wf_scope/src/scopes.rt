@@ -258,7 +258,7 @@ impl Scopes {
         ensures found { slice_get (layers_of self.now) result ≡ find number (layers_of self.now) }
     {
         let guess = number as usize;
-        if guess < self.layers.count() && self.layers.at(guess).number == number {
+        if self.layers.is_straight(guess) {
             return guess;
         }
         self.search(number)

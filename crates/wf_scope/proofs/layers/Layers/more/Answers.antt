@@ -1,5 +1,6 @@
+use Rattle.std.proofs.Common.{arith, ◌∙◌}
 use Rattle.std.specs.Prelude.{is_ok}
-use Rattle.wf_scope.proofs.Lives.{spared_more}
+use Rattle.wf_scope.proofs.Lives.{spared_more, straight_pushed}
 use Rattle.wf_scope.proofs.layers.Layers.more.Goals as goal
 
 pub invariant_of-self-2 : goal.invariant_of-self-2
@@ -8,5 +9,7 @@ invariant_of-self-2 c =
     let m = spared_more (is_ok c.push.result) a.count a.all.items c.push.new.self.items _ a.within c.push.ensures.items a.spared c.in_ok-fresh.ensures in
     record {
       within = m.0;
+      straight_within = a.straight_within;
+      numbered = straight_pushed (is_ok c.push.result) a.straight a.all.items c.push.new.self.items _ (omega (arith, a.within, a.straight_within)) c.push.ensures.items ∙ a.numbered;
       spared = m.1;
     }

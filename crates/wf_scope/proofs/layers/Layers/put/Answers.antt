@@ -3,7 +3,7 @@ use Rattle.std.specs.Prelude.{is_ok}
 use Rattle.wf_value.specs.Plain.{plain}
 use Rattle.wf_scope.specs.Views.{layer_view, views}
 use Rattle.wf_scope.proofs.Kept.{set_placed}
-use Rattle.wf_scope.proofs.Lives.{live_read, live_set}
+use Rattle.wf_scope.proofs.Lives.{live_below, live_read, live_set, number_kept, spared_set, straight_set}
 use Rattle.wf_scope.proofs.Numbers.{layer_at}
 use Rattle.wf_scope.proofs.Totals.{layer_within}
 use Rattle.wf_scope.proofs.layers.Layers.put.Goals as goal
@@ -18,6 +18,19 @@ put-requires-clause-room c =
     let here = layer_at s.number ls s.layer (layer_view l) c.requires.spot.within (live_read a.count s.layer xs c.requires.spot.within a.within l c.index_mut-layer.ensures.value) c.requires.spot.layer in
     let within = layer_within s.number ls (layer_view l) l.counted here l.sum in
     omega (arith, within, c.requires.room)
+
+pub invariant_of-self-clause-numbered : goal.invariant_of-self-clause-numbered
+invariant_of-self-clause-numbered c =
+    let a = c.args.self.now in
+    let l = c.index_mut-layer.result.now in
+    let same = number_kept (is_ok c.put.result) c.args.name.now (plain c.args.value) (layer_view l) (layer_view c.put.new.self) c.put.ensures in
+    straight_set a.straight 0 c.args.spot.layer a.all.items l c.put.new.self c.index_mut-layer.ensures.value same ∙ a.numbered
+
+pub invariant_of-self-clause-spared : goal.invariant_of-self-clause-spared
+invariant_of-self-clause-spared c =
+    let a = c.args.self.now in
+    let i = c.args.spot.layer in
+    spared_set a.count i a.all.items c.put.new.self a.spared (live_below a.count i a.all.items c.requires.spot.within a.within)
 
 pub returns : goal.returns
 returns c =

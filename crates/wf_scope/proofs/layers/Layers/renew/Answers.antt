@@ -7,8 +7,23 @@ use Rattle.wf_scope.specs.Layers.{Layer}
 use Rattle.wf_scope.specs.Names.{is_whole}
 use Rattle.wf_scope.specs.Views.{layer_view, views}
 use Rattle.wf_scope.proofs.Kept.{set_placed}
-use Rattle.wf_scope.proofs.Lives.{live_read, live_set}
+use Rattle.wf_scope.proofs.Lives.{live_below, live_read, live_set, number_kept, spared_set, straight_set}
 use Rattle.wf_scope.proofs.layers.Layers.renew.Goals as goal
+
+pub invariant_of-self-clause-numbered : goal.invariant_of-self-clause-numbered
+invariant_of-self-clause-numbered c =
+    let a = c.args.self.now in
+    let l = c.index_mut.result.now in
+    let fits : FitsSigned w64 c.args.n = search rules in
+    let after = simp to_z-of_z at c.renew.ensures.after in
+    let same = number_kept c.renew.result c.args.name.now (integer c.args.n) (layer_view l) (layer_view c.renew.new.self) after in
+    straight_set a.straight 0 c.args.layer a.all.items l c.renew.new.self c.index_mut.ensures.value same ∙ a.numbered
+
+pub invariant_of-self-clause-spared : goal.invariant_of-self-clause-spared
+invariant_of-self-clause-spared c =
+    let a = c.args.self.now in
+    let i = c.args.layer in
+    spared_set a.count i a.all.items c.renew.new.self a.spared (live_below a.count i a.all.items c.requires.within a.within)
 
 pub returns-clause-after : goal.returns-clause-after
 returns-clause-after c =

@@ -1,9 +1,9 @@
-use Rattle.std.proofs.Common.{◌-◌, ◌≡◌, ap, arith, drop, take, ◌∙◌}
+use Rattle.std.proofs.Common.{◌-◌, ◌≡◌, ◌≤◌, ap, arith, drop, take, ◌∙◌}
 use Rattle.std.proofs.lemmas.Option.{get_or_from_slice_get}
 use Rattle.wf_value.specs.Data.{pairs_of, pairs_size}
 use Rattle.wf_scope.specs.Layers.{Layer}
-use Rattle.wf_scope.specs.Views.{counted_in, layer_view, views}
-use Rattle.wf_scope.proofs.Lives.{drop_removed, live_below, live_read, take_removed}
+use Rattle.wf_scope.specs.Views.{are_straight, counted_in, layer_view, views}
+use Rattle.wf_scope.proofs.Lives.{drop_removed, live_below, live_read, straight_fewer, straight_removed, take_removed}
 use Rattle.wf_scope.proofs.layers.Layers.take.Goals as goal
 
 pub invariant_of-self : goal.invariant_of-self
@@ -12,8 +12,13 @@ invariant_of-self c =
     let xs = a.all.items in
     let i = c.args.place in
     let below = live_below a.count i xs c.requires a.within in
+    let m = c.min-self.result in
+    let less : m ≤ i = omega (arith, c.min-self.ensures) in
+    let fewer : m ≤ a.straight = omega (arith, c.min-self.ensures) in
     record {
       within = omega (arith, below, a.within, c.remove-layer.ensures.len);
+      straight_within = omega (arith, below, less);
+      numbered = ap (are_straight m 0) c.remove-layer.ensures.items ∙ straight_removed m 0 i xs less (omega (arith, below, a.within)) ∙ straight_fewer m a.straight 0 xs fewer a.numbered;
       spared = ap (λ ys. counted_in (drop (a.count - 1) ys)) c.remove-layer.ensures.items ∙ ap counted_in (drop_removed a.count i xs below a.within) ∙ a.spared;
     }
 
