@@ -1,12 +1,12 @@
 -- Layers as they are seen: what is read, added, taken out and changed.
-use Rattle.std.proofs.Common.{◌≡◌, ◌<◌, ◌+◌, ◌-◌, Bool, true, false, Some, ℕ, zero, suc, List, [], ◌∷◌, ◌++◌, length, get_or, Equal, Less, Greater, Result, Ok, Err, refl, sym, ap, ◌∙◌, arith}
+use Rattle.std.proofs.Common.{◌≡◌, ◌<◌, ◌+◌, ◌-◌, Bool, true, false, Some, ℕ, zero, suc, List, [], ◌∷◌, length, get_or, Equal, Less, Greater, Result, Ok, Err, refl, sym, ap, ◌∙◌, arith}
 use Rattle.std.specs.Prelude.{if◌then◌else◌, nat_eq, option_map, slice_get, slice_set}
 use Rattle.std.proofs.lemmas.Option.{slice_get-map}
 use Rattle.std.specs.List.{remove}
 use Rattle.std.specs.List.Sorted.{IsBinarySearchResult, IsSearchInRange}
 use Rattle.std.specs.Ordering.{nat_cmp, ordering_index}
 use Rattle.wf_scope.specs.Layers.{Layer, find, fresh, rises, vars_at, vars_in}
-use Rattle.wf_scope.specs.Views.{counted_in, layer_view, views}
+use Rattle.wf_scope.specs.Views.{layer_view, views}
 use Rattle.wf_scope.specs.declared.layer.Layer as declared
 use Rattle.wf_value.proofs.Order.{in_order_empty}
 use Rattle.wf_value.specs.Data.{Data}

@@ -1,4 +1,4 @@
-use Rattle.std.proofs.Common.{◌<◌, length, refl}
+use Rattle.std.proofs.Common.{◌<◌, length}
 use Rattle.wf_scope.specs.Store.{layers_of}
 use Rattle.wf_scope.proofs.Numbers.{placed}
 use Rattle.wf_scope.proofs.Renewed.{there}
