@@ -26,6 +26,8 @@ pub fn read_source(alloc: Global, bytes: &[u8]) -> Result<Checked, SourceFault>
         }
         Err(SyntaxFault::OutOfMemory) => return Err(SourceFault::OutOfMemory),
     };
+    // its memory is taken again for the table
+    drop(tree);
     match check(alloc, program) {
         Ok(checked) => Ok(checked),
         Err(CheckFault::Refused(kind, path)) => {

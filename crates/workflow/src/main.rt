@@ -4,9 +4,11 @@
 
 mod complaint;
 mod descriptors;
+mod memory;
 
 use complaint::complain;
 use descriptors::take_standard_descriptors;
+use memory::keep_freed_memory;
 use std::env;
 use std::fs::{File, Files};
 use std::io::{Eprint, ErrorKind, Input, Print};
@@ -21,6 +23,7 @@ use wf_file_host::{FileHost, FileSource};
 fn main(rt: HostRuntime) -> ExitCode {
     // held to the end, so that no file of ours gets a standard descriptor
     let _taken = take_standard_descriptors(&rt);
+    keep_freed_memory(rt.alloc());
     let code = match run(rt) {
         Ok(code) => code,
         Err(code) => code,
