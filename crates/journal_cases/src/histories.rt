@@ -85,7 +85,7 @@ fn read_next(
     match history.next(alloc, host) {
         Ok(Some(Record::Start(start))) => Ok(Found::Start(start.reading)),
         Ok(Some(Record::Turn(turn))) => {
-            let count = turn.events.items().len();
+            let count = turn.events.count();
             Ok(Found::Turn(turn.session, turn.waits, count))
         }
         Ok(None) => Ok(Found::None),

@@ -6,7 +6,7 @@ use std::alloc::Global;
 use wf_callbacks::Fields;
 use wf_cases::{Case, CaseFault, bytes_of, text_of};
 use wf_events::{
-    Event, Record, RecordFault, Start, Turn, copy_routes, decode, encode, encode_start,
+    Event, Record, RecordFault, Run, Start, Turn, copy_routes, decode, encode, encode_start,
     encode_turn, is_argument,
 };
 use wf_host::{Address, Routes};
@@ -26,7 +26,7 @@ enum Payload {
 fn kind_of(alloc: Global, payload: &[u8]) -> Result<Payload, CaseFault> {
     match decode(alloc, payload) {
         Ok(Record::Start(_)) => Ok(Payload::Start),
-        Ok(Record::Turn(turn)) => Ok(Payload::Turn(turn.events.items().len())),
+        Ok(Record::Turn(turn)) => Ok(Payload::Turn(turn.events.count())),
         Err(RecordFault::BadRecord(_)) => Ok(Payload::None),
         Err(RecordFault::OutOfMemory) => Err(CaseFault::OutOfMemory),
     }
@@ -120,9 +120,24 @@ fn write_pairs(out: &mut String, pairs: &Pairs) -> Result<(), CaseFault> {
 /// A turn: its session and its waits, and then its events.
 fn write_turn(out: &mut String, alloc: Global, turn: &Turn) -> Result<(), CaseFault> {
     write!(out, "{} {}", turn.session, turn.waits)?;
-    for event in turn.events.items() {
-        out.push(' ')?;
-        write_event(out, alloc, event)?;
+    for run in turn.events.runs() {
+        write_run(out, alloc, run)?;
+    }
+    Ok(())
+}
+
+/// The events of a run, each behind a blank.
+fn write_run(out: &mut String, alloc: Global, run: &Run) -> Result<(), CaseFault> {
+    match run {
+        Run::Moves(count) => {
+            for _ in 0..*count {
+                out.push_str(" 0")?;
+            }
+        }
+        Run::One(event) => {
+            out.push(' ')?;
+            write_event(out, alloc, event)?;
+        }
     }
     Ok(())
 }

@@ -6,7 +6,7 @@ ghost use Rattle.wf_events.specs.View.{start_view};
 
 use std::alloc::Global;
 use wf_cases::{CaseFault, bytes_of};
-use wf_events::{Event, Events, Record, Start, decode};
+use wf_events::{Event, Events, Record, Run, Start, decode};
 use wf_value::Value;
 
 /// No record is longer.
@@ -36,9 +36,24 @@ fn start_in(alloc: Global, payload: &[u8]) -> Result<Start, CaseFault>
 
 /// The events, each behind a blank.
 pub fn write_events(out: &mut String, events: &Events) -> Result<(), CaseFault> {
-    for event in events.items() {
-        out.push(' ')?;
-        write_event(out, event)?;
+    for run in events.runs() {
+        write_run(out, run)?;
+    }
+    Ok(())
+}
+
+/// The events of a run, each behind a blank.
+fn write_run(out: &mut String, run: &Run) -> Result<(), CaseFault> {
+    match run {
+        Run::Moves(count) => {
+            for _ in 0..*count {
+                out.push_str(" 0")?;
+            }
+        }
+        Run::One(event) => {
+            out.push(' ')?;
+            write_event(out, event)?;
+        }
     }
     Ok(())
 }

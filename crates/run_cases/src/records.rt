@@ -50,7 +50,7 @@ fn counts_in(alloc: Global, host: &mut MemHost, most: usize) -> Result<Counts, C
 /// How many events a payload has. One that is no record has none.
 fn events_in(alloc: Global, payload: &[u8]) -> Result<u64, CaseFault> {
     match decode(alloc, payload) {
-        Ok(Record::Turn(turn)) => Ok(turn.events.items().len() as u64),
+        Ok(Record::Turn(turn)) => Ok(turn.events.count() as u64),
         Ok(_) | Err(RecordFault::BadRecord(_)) => Ok(0),
         Err(RecordFault::OutOfMemory) => Err(CaseFault::OutOfMemory),
     }

@@ -1,9 +1,8 @@
 -- A session's records with one turn more.
-use Rattle.std.specs.Prelude.{◌≡◌, ◌≢◌, ◌≤◌, ◌<◌, ◌^◌, ◌+◌, ◌*◌, ℕ, zero, suc, Bool, true, false, map, nat_eq, List, [], ◌∷◌, ◌++◌, length, Option, Some, None}
+use Rattle.std.specs.Prelude.{◌≡◌, ◌≢◌, ◌≤◌, ◌<◌, ◌^◌, ◌+◌, ◌*◌, ℕ, Bool, List, [], ◌∷◌, ◌++◌, length, Option, Some, None}
 use Rattle.std.specs.List.{AllByRecursion, flat_map}
 use Rattle.std.proofs.Common.{refl, sym, ◌∙◌, ap, subst, arith, length-append}
-use Rattle.std.proofs.lemmas.Bool.{eqb-true}
-use Rattle.std.proofs.lemmas.List.{append-nil, length-map, nil_from_length}
+use Rattle.std.proofs.lemmas.List.{append-nil}
 use Rattle.wf_ast.specs.Tree.{Program}
 use Rattle.wf_deeds.specs.Clauses.{IsOfSession, KeptAt, StandsIsKept, turn_records}
 use Rattle.wf_deeds.specs.Kept.{Command}
@@ -15,8 +14,6 @@ use Rattle.wf_engine.specs.Fits.{longest_taken}
 use Rattle.wf_events.specs.Laws.{MeaningOfSpelling}
 use Rattle.wf_events.specs.Records.{Turned}
 use Rattle.wf_events.specs.Spelling.{record_bytes, event, HasSpelling, IsOld}
-use Rattle.wf_events.specs.View.{event_view}
-use Rattle.wf_events.specs.declared.data.Event as own
 use Rattle.wf_host.specs.declared.data.Deed.{Deed}
 use Rattle.wf_deeds.specs.History.{history as history_of}
 use Rattle.wf_deeds.specs.Language.{Language}
@@ -37,17 +34,7 @@ unfolding record_bytes
 is_short m es bytes few =
     omega (arith, few, bytes, length-append (eight m.session) (eight m.waits ++ four (length es) ++ flat_map event es), length-append (eight m.waits) (four (length es) ++ flat_map event es), length-append (four (length es)) (flat_map event es))
 
--- whether there are any
-pub none_of : (given : List Event) (items : List own.Event) → map event_view items ≡ given → true ≡ nat_eq (length items) 0 → given ≡ []
-none_of given items view is = nil_from_length given (omega (arith, ap length view, length-map items event_view, eqb-true (length items) 0 (sym is)))
-
-one_at_least : (n : ℕ) → false ≡ nat_eq n 0 → 1 ≤ n
-one_at_least zero is = absurd (cc is)
-one_at_least (suc n) is = omega arith
-
-pub some_of : (given : List Event) (items : List own.Event) → map event_view items ≡ given → false ≡ nat_eq (length items) 0 → 1 ≤ length given
-some_of given items view is = omega (arith, ap length view, length-map items event_view, one_at_least (length items) is)
-
+-- there are some
 pub not_none : (es : List Event) → 1 ≤ length es → es ≢ []
 not_none es some is = omega (arith, some, ap length is)
 

@@ -186,7 +186,7 @@ impl Engine {
         self.closed = true;
         let taken = self.taken.take();
         let events = choose_turn(self.alloc, &mut self.machine, self.reading, taken)?;
-        if events.items().is_empty() {
+        if events.count() == 0 {
             self.closed = false;
             return Ok(());
         }

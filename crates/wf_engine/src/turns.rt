@@ -151,8 +151,8 @@ fn choose_rest<L: Ledger>(
     laws_of_counts();
     laws_of_readings();
     is_sound(machine);
-    while events.items().len() < MOST_EVENTS {
-        let room = MOST_EVENTS - events.items().len();
+    while events.count() < MOST_EVENTS {
+        let room = MOST_EVENTS - events.count();
         let moves = machine.apply_moves(room, reading, steps)?;
         if moves > 0 {
             events.push_moves(moves)?;

@@ -1,4 +1,5 @@
 pub mod Arguments
+pub mod OfRuns
 pub mod Written
 pub mod Parts
 pub mod Meanings

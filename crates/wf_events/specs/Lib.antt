@@ -1,4 +1,5 @@
 pub mod Records
+pub mod Runs
 pub mod View
 pub mod Spelling
 pub mod Reading

@@ -8,13 +8,15 @@ mod laws;
 mod reading;
 mod routes;
 mod rows;
+mod runs;
 mod writing;
 
 pub use argument::is_argument;
-pub use data::{Event, Events, Record, Start, Turn};
+pub use data::{Event, Record, Start, Turn};
 pub use fault::RecordFault;
 pub use laws::one_spelling;
 pub use reading::decode;
 pub use routes::copy_routes;
 pub use rows::worked_spellings;
+pub use runs::{Events, Run};
 pub use writing::{encode, encode_start, encode_turn};

@@ -9,8 +9,9 @@ ghost use Rattle.wf_record_parts.specs.Reading.{list_at, reply_at, visitor_at};
 ghost use Rattle.wf_value.specs.Events.{Answer, Arrive};
 
 use crate::argument::is_argument;
-use crate::data::{Event, Events, Record, Start, Turn};
+use crate::data::{Event, Record, Start, Turn};
 use crate::fault::RecordFault;
+use crate::runs::Events;
 use std::alloc::Global;
 use wf_host::{Address, Routes};
 use wf_record_parts::{ReadFault, Reader};

@@ -1,4 +1,5 @@
 mod Applied
+mod Applying
 mod Events
 mod Faults
 mod Fronts

@@ -1,3 +1,4 @@
+pub mod Applying
 pub mod EngineFaults
 pub mod Faults
 pub mod Openings

@@ -1,22 +1,24 @@
 // Replaying a history.
-ghost use Rattle.std.specs.Prelude.{◌≡◌, ◌⊎◌, ◌↔◌, ◌&&◌, ◌<◌, ◌+◌, [], true, false, ℕ, suc, length, Some, None, Ok, Err, IfOk, IfErr, OnOk, IsErrOf, ◌∷◌};
-ghost use Rattle.wf_events.specs.View.{events_view, record_view, turn_view};
+ghost use Rattle.std.specs.Prelude.{◌≡◌, ◌⊎◌, ◌↔◌, ◌&&◌, ◌<◌, ◌≤◌, ◌+◌, [], true, false, ℕ, suc, length, Some, None, Ok, Err, IfOk, IfErr, OnOk, IsErrOf, ◌∷◌, replicate};
+ghost use Rattle.wf_events.specs.View.{events_view, record_view, run_view, turn_view};
 ghost use Rattle.wf_history.specs.Stands.{ahead, at_end, is_closed, is_new, last_after, unread, Stands};
 ghost use Rattle.wf_host.specs.Calls.{AtAnyMoment, DiskFailed, DoesNoDeed, NoCountFalls, OnlyErrors, ReadsAsBefore, TellsAsBefore};
 ghost use Rattle.wf_host.specs.World.{Told};
 ghost use Rattle.wf_journal.specs.Journal.{Stays};
 ghost use Rattle.wf_machine.specs.Seen.{state_of};
 ghost use Rattle.wf_model.specs.Config.{Config, To};
-ghost use Rattle.wf_model.specs.Run.{run_on};
+ghost use Rattle.wf_model.specs.Step.{next};
 ghost use Rattle.wf_deeds.specs.At.{applied_by, events_of};
 ghost use Rattle.wf_deeds.specs.History.{goes_on, goes_on_at, goes_to, is_numbered, told};
+ghost use Rattle.wf_replay.specs.Applying.{AppliesEvents};
 ghost use Rattle.wf_replay.specs.Promises.{Replays, ReplaysTurns};
 ghost use Rattle.wf_replay.specs.Standing.{Passes, session_of, standing, stands_at, waits_of};
+ghost use Rattle.wf_value.specs.Events.{Move};
 
 use crate::ReplayFault;
 use std::alloc::Global;
 use std::sync::ledger::Ledger;
-use wf_events::{Record, Turn};
+use wf_events::{Event, Record, Run, Turn};
 use wf_history::History;
 use wf_host::Host;
 use wf_machine::{ApplyFault, Machine, Steps};
@@ -189,22 +191,72 @@ fn apply_turn<L: Ledger>(
     steps: &mut Steps<L>,
 ) -> Result<(), ApplyFault>
     requires whole { (state_of machine.old).broken ≡ false }
-    ensures applied { OnOk result (run_on (state_of machine.old).program
-        (To (state_of machine.old).config) (events_view turn.now.events)
-        ≡ To (state_of machine.new).config) }
-    ensures whole { OnOk result ((state_of machine.new).broken ≡ false) }
-    ensures program { OnOk result ((state_of machine.new).program
-        ≡ (state_of machine.old).program) }
-    ensures steps { OnOk result (steps.new ≡ steps.old + length (events_view turn.now.events)) }
-    ensures not_enabled { IsErrOf result ApplyFault.NotEnabled → (c : Config)
-        → run_on (state_of machine.old).program (To (state_of machine.old).config)
-        (events_view turn.now.events) ≡ To c → ⊥ }
+    ensures { AppliesEvents (state_of machine.old) (state_of machine.new)
+        (events_view turn.now.events) steps.old steps.new result }
 {
-    let events = turn.events.items();
-    for event in events {
-        machine.apply(event, steps)?;
+    let runs = turn.events.runs();
+    for run in runs {
+        apply_run(machine, run, steps)?;
     }
     Ok(())
+}
+
+/// Applies the events of a run, as `apply_turn` does.
+fn apply_run<L: Ledger>(
+    machine: &mut Machine,
+    run: &Run,
+    steps: &mut Steps<L>,
+) -> Result<(), ApplyFault>
+    requires whole { (state_of machine.old).broken ≡ false }
+    ensures { AppliesEvents (state_of machine.old) (state_of machine.new) (run_view run.now)
+        steps.old steps.new result }
+{
+    match run {
+        Run::Moves(count) => apply_moves(machine, *count, steps),
+        Run::One(event) => machine.apply(event, steps),
+    }
+}
+
+/// Applies so many moves of `main` which read no clock, as `apply_turn` does.
+fn apply_moves<L: Ledger>(
+    machine: &mut Machine,
+    count: usize,
+    steps: &mut Steps<L>,
+) -> Result<(), ApplyFault>
+    requires whole { (state_of machine.old).broken ≡ false }
+    ensures { AppliesEvents (state_of machine.old) (state_of machine.new)
+        (replicate count (Move 0)) steps.old steps.new result }
+{
+    let mut left = count;
+    while left > 0 {
+        let moves = apply_some(machine, left, steps)?;
+        left -= moves;
+    }
+    Ok(())
+}
+
+/// Applies one such move or more, but at most so many, and tells how many. It answers `NotEnabled` where none can come.
+fn apply_some<L: Ledger>(
+    machine: &mut Machine,
+    most: usize,
+    steps: &mut Steps<L>,
+) -> Result<usize, ApplyFault>
+    requires whole { (state_of machine.old).broken ≡ false }
+    requires some { 0 < most }
+    ensures applied { IfOk result (λ n. (0 < n) × (n ≤ most) × AppliesEvents (state_of machine.old)
+        (state_of machine.new) (replicate n (Move 0)) steps.old steps.new (Ok tt)) }
+    ensures not_enabled { IsErrOf result ApplyFault.NotEnabled → (c : Config)
+        → next (state_of machine.old).program (state_of machine.old).config (Move 0) ≡ To c → ⊥ }
+{
+    let reading = machine.last_reading();
+    let Ok(moves) = machine.apply_moves(most, reading, steps) else {
+        return Err(ApplyFault::OutOfMemory);
+    };
+    if moves > 0 {
+        return Ok(moves);
+    }
+    machine.apply(&Event::Move(0), steps)?;
+    Ok(1)
 }
 
 /// The fault of the record with this number.

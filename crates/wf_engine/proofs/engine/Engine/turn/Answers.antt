@@ -1,7 +1,8 @@
-use Rattle.std.proofs.Common.{rules, ◌≤◌, ◌+◌, length, ap, ◌∙◌, refl, sym, List, [], ◌∷◌, ◌++◌, ◌≡◌}
+use Rattle.std.proofs.Common.{rules, arith, ◌≤◌, ◌+◌, length, ap, ◌∙◌, refl, sym, List, [], ◌∷◌, ◌++◌, ◌≡◌}
+use Rattle.std.proofs.lemmas.List.{nil_from_length}
 use Rattle.std.specs.Prelude.{Option}
 use Rattle.wf_deeds.specs.Turns.{turn_of}
-use Rattle.wf_engine.proofs.Added.{Choice, Laws, is_short, is_spelled, none_of, not_none, some_of}
+use Rattle.wf_engine.proofs.Added.{Choice, Laws, is_short, is_spelled, not_none}
 use Rattle.wf_engine.proofs.OneTurn.{turn_adds, turn_begun}
 use Rattle.wf_engine.proofs.FreshEngine.{nothing_taken}
 use Rattle.wf_engine.proofs.TurnsAdded.{added, goes_on, idle, still_of}
@@ -51,8 +52,8 @@ returns-in_err-events g c =
     }
 
 -- nothing was chosen
-pub returns-then-is_empty : goal.returns-then-is_empty
-returns-then-is_empty g c =
+pub returns-then-count-eq0 : goal.returns-then-count-eq0
+returns-then-count-eq0 g c =
     let e = c.args.self.now in
     let w = g.H.Host.world c.args.host.now in
     let m = memory e in
@@ -63,7 +64,7 @@ returns-then-is_empty g c =
     record {
       holds = search rules;
       adds = λ O told.
-          let none = none_of es c.items.result.now c.items.ensures.view c.if-is_empty.ensures in
+          let none = nil_from_length es (omega (arith, c.count.ensures, c.if-count-eq0.true)) in
           let is : Choice m es now.config = record { turn = turn.turn ∙ ap chosen c.take-taken.ensures.value; leads = turn.leads } in
           idle the_language O m now.program now.config (taken_event m.reading c.take-taken.new.self) es turn.program (ap (taken_event m.reading) c.take-taken.ensures.after) refl is w none;
       any_moment = λ O open_now told command handed D s.
@@ -105,7 +106,7 @@ returns-in_err-add g c =
           let laws : Laws = record { again = c.one_spelling.ensures.again; chosen = c.laws_of_steps.ensures.chosen; turn = c.laws_of_steps.ensures.turn; moment = c.laws_of_steps.ensures.moment } in
           let chosen = λ (o : Option Taken). turn_of m.program m.config m.reading (taken_event m.reading o) in
           let is : Choice m es now.config = record { turn = turn.turn ∙ ap chosen c.take-taken.ensures.value; leads = turn.leads } in
-          let some : 1 ≤ length es = some_of es c.items.result.now c.items.ensures.view c.if-is_empty.ensures in
+          let some : 1 ≤ length es = omega (arith, c.count.ensures, c.if-count-eq0.false) in
           turn_adds the_language O e.history w command handed D (λ i d left. g.met.H.Host.only_now c.args.host.now i d told left) (c.requires.kept open_now told).0 (e.ready open_now).begun laws (g.H.Host.world c.add.new.host) m now.config es s is
           (not_none es some) (is_spelled m es c.numbers_fit.ensures.session c.numbers_fit.ensures.waits turn.spelled some turn.short) (c.add.ensures.any_moment (e.ready open_now).not_closed told);
       goes_on = search rules;
@@ -137,7 +138,7 @@ returns g c =
     let laws : Laws = record { again = c.one_spelling.ensures.again; chosen = c.laws_of_steps.ensures.chosen; turn = c.laws_of_steps.ensures.turn; moment = c.laws_of_steps.ensures.moment } in
     let chosen = λ (o : Option Taken). turn_of m.program m.config m.reading (taken_event m.reading o) in
     let is : Choice m es now.config = record { turn = turn.turn ∙ ap chosen c.take-taken.ensures.value; leads = turn.leads } in
-    let some : 1 ≤ length es = some_of es c.items.result.now c.items.ensures.view c.if-is_empty.ensures in
+    let some : 1 ≤ length es = omega (arith, c.count.ensures, c.if-count-eq0.false) in
     record {
       holds = λ open_now told. (
         c.add.ensures.stands c.in_ok-add.ensures.«open» told,
