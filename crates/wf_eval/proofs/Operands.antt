@@ -1,5 +1,6 @@
 -- What short code leaves on an empty stack.
-use Rattle.std.proofs.Common.{◌≡◌, ◌<◌, ◌≤◌, ℕ, List, [], ◌∷◌, length, get_or, Option, Some, None, IfSome, Result, Ok, Err, sym, ap, subst, ◌∙◌, arith}
+use Rattle.std.proofs.Common.{◌≡◌, ◌<◌, ◌≤◌, ◌-◌, ℕ, List, [], ◌∷◌, length, get_or, take, drop, Option, Some, None, IfSome, Result, Ok, Err, sym, ap, subst, ◌∙◌, arith}
+use Rattle.std.proofs.lemmas.List.{take_rest}
 use Rattle.wf_ast.specs.Apply.{View}
 use Rattle.wf_ast.specs.Instrs.{instr, instrs}
 use Rattle.wf_ast.specs.Machine as m
@@ -26,11 +27,12 @@ module _ {X : Type 0} where
   three_items (x ∷ y ∷ z ∷ []) a b c l m e f g = ap (λ u. u ∷ y ∷ z ∷ []) (sym e) ∙ ap (λ u. a ∷ u ∷ z ∷ []) (sym f) ∙ ap (λ u. a ∷ b ∷ u ∷ []) (sym g)
   three_items (x ∷ y ∷ z ∷ w ∷ ws) a b c l m e f g = absurd (omega (arith, m))
 
-  pub five_items : (xs : List X) (a b c d e : X) → 5 ≤ length xs → length xs < 6 → a ≡ get_or xs 0 a → b ≡ get_or xs 1 b → c ≡ get_or xs 2 c → d ≡ get_or xs 3 d → e ≡ get_or xs 4 e → xs ≡ a ∷ b ∷ c ∷ d ∷ e ∷ []
-  five_items [] a b c d e l m p q r t u = absurd (omega (arith, l))
-  five_items (x ∷ []) a b c d e l m p q r t u = absurd (omega (arith, l))
-  five_items (x ∷ y ∷ ys) a b c d e l m p q r t u =
-      ap (λ z. z ∷ y ∷ ys) (sym p) ∙ ap (λ z. a ∷ z ∷ ys) (sym q) ∙ ap (λ zs. a ∷ b ∷ zs) (three_items ys c d e (omega (arith, l)) (omega (arith, m)) r t u)
+  -- two items, and those behind them
+  pub two_and_rest : (xs : List X) (a b : X) → 2 ≤ length xs → a ≡ get_or xs 0 a → b ≡ get_or xs 1 b → xs ≡ a ∷ b ∷ take (length xs - 2) (drop 2 xs)
+  two_and_rest [] a b l e f = absurd (omega (arith, l))
+  two_and_rest (x ∷ []) a b l e f = absurd (omega (arith, l))
+  two_and_rest (x ∷ y ∷ ys) a b l e f =
+      ap (λ z. z ∷ y ∷ ys) (sym e) ∙ ap (λ z. a ∷ z ∷ ys) (sym f) ∙ ap (λ zs. a ∷ b ∷ zs) (sym (take_rest (x ∷ y ∷ ys) 2))
 
 ends : (s : View) → exec s [] ≡ alone
 ends s = λ j k st. Ok st

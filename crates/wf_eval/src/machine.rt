@@ -26,16 +26,27 @@ use wf_ast::{Func, Instr, Op, Postfix, code_means};
 use wf_value::{Raise, Tag, Value, neg};
 
 /// The value of the expression whose code this is, or its first error.
-#[inline(always)]
+#[inline(never)]
 pub fn eval<K: Look>(alloc: Global, e: &Postfix, look: &K, now: u64) -> Result<Value, Raise>
     ensures { (x : t.Expr) → instrs e.now ≡ code x
         → Gives result (meaning.eval x (seen (K.sight look.now) now)) }
 {
     // laws that the proof uses
     code_means();
-    if let Some(value) = short(alloc, e.items(), look) {
-        return value;
+    match short(alloc, e.items(), look) {
+        Some(value) => value,
+        None => eval_on_stack(alloc, e, look, now),
     }
+}
+
+/// The same, on a stack. It stands apart from what most code runs.
+#[inline(never)]
+fn eval_on_stack<K: Look>(alloc: Global, e: &Postfix, look: &K, now: u64) -> Result<Value, Raise>
+    ensures { (x : t.Expr) → instrs e.now ≡ code x
+        → Gives result (meaning.eval x (seen (K.sight look.now) now)) }
+{
+    // laws that the proof uses
+    code_means();
     let mut stack = Vec::new(alloc);
     let mut skip = 0;
     for i in e.items() {

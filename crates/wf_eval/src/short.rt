@@ -30,15 +30,14 @@ pub(crate) fn short<K: Look>(
 {
     match items {
         [a] => one(alloc, a, look),
-        [a, b, last] => {
+        [a, b, rest @ ..] => {
             let v = operand(a, look)?;
             let w = operand(b, look)?;
-            two(alloc, last, v, w)
-        }
-        [a, b, c, d, last] => {
-            let v = operand(a, look)?;
-            let w = operand(b, look)?;
-            three(alloc, c, d, last, v, w, look)
+            match rest {
+                [last] => two(alloc, last, v, w),
+                [c, d, last] => three(alloc, c, d, last, v, w, look),
+                _ => None,
+            }
         }
         _ => None,
     }

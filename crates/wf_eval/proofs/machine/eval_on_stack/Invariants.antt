@@ -3,7 +3,7 @@ use Rattle.wf_ast.specs.Machine.{exec}
 use Rattle.wf_ast.specs.Instrs.{instrs}
 use Rattle.wf_eval.specs.Sight.{seen}
 use Rattle.wf_eval.specs.Steps.{tops}
-use Rattle.wf_eval.proofs.machine.eval.Given as goal
+use Rattle.wf_eval.proofs.machine.eval_on_stack.Given as goal
 
 -- what is left does what the whole does
 abbrev pub invariant-loop-i : goal.invariant-loop-i
