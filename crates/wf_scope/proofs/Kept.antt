@@ -187,11 +187,6 @@ put_placed n x v (y ∷ ls) (suc i) l h e m =
     let t : nat_eq y.number n ≡ false = ne_eqb y.number n (λ s. omega (arith, above, number, m, s)) in
     ap (λ (zs : List Layer). y ∷ zs) (put_placed n x v ls i l two.1 e m) ∙ sym (ap (λ (b : Bool). if b then with_variable x v y ∷ ls else y ∷ put_at n x v ls) t)
 
-pub put_length : (i : ℕ) (x : Text) (v : Data) (ls : List Layer) → length (put_place i x v ls) ≡ length ls
-put_length i x v [] = refl
-put_length zero x v (y ∷ ls) = refl
-put_length (suc i) x v (y ∷ ls) = ap suc (put_length i x v ls)
-
 set_variable : (ls : List Layer) (i : ℕ) (x : Text) (v : Data) (l : Layer) → i < length ls → l ≡ get_or ls i l → slice_set ls i (with_variable x v l) ≡ put_place i x v ls
 set_variable [] i x v l w e = absurd (omega (arith, w))
 set_variable (y ∷ ls) zero x v l w e = ap (λ z. with_variable x v z ∷ ls) e

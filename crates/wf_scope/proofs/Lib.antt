@@ -9,3 +9,4 @@ pub mod Totals
 pub mod Writing
 pub mod Spotted
 pub mod Viewed
+pub mod Renewed

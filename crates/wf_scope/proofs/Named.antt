@@ -1,5 +1,5 @@
 -- Names that are bound, among all names of a layer.
-use Rattle.std.proofs.Common.{◌≡◌, Bor, ℕ, List, [], ◌∷◌, get_or, Ok, Err, Option, Some, None, Ordering, Less, Equal, Greater, refl, sym, ap, subst, ◌∙◌, cond, option_map, arith, ◌≤◌, ◌++◌, length, map, take, drop, zero, suc}
+use Rattle.std.proofs.Common.{◌≡◌, Bor, ℕ, List, [], ◌∷◌, get_or, Ok, Err, Option, Some, None, Ordering, Less, Equal, Greater, refl, sym, ap, subst, ◌∙◌, cond, option_map, arith, map}
 use Rattle.std.specs.Prelude.{slice_index}
 use Rattle.std.proofs.lemmas.Cmp.{nat_list_cmp_total}
 use Rattle.std.specs.FinMap.{slice_cmp-IsAntisymmetric, nat_cmp-IsAntisymmetric}
@@ -141,12 +141,6 @@ none_bound (e ∷ es) = none_bound es
 pub cover_unbound : (hints : List ℕ) (es : List (Text × Option Value)) → Covers hints es → Covers hints (map unbound es)
 cover_unbound hints [] cover = tt
 cover_unbound hints (e ∷ es) cover = (cover.0, cover_unbound hints es cover.1)
-
-pub all_unbound : (es : List (Text × Option Value)) (i : ℕ) → length es ≤ i → map unbound (take i es) ++ drop i es ≡ map unbound es
-all_unbound [] zero h = refl
-all_unbound [] (suc i) h = refl
-all_unbound (e ∷ es) zero h = absurd (omega (arith, h))
-all_unbound (e ∷ es) (suc i) h = ap (λ (ns : List (Text × Option Value)). unbound e ∷ ns) (all_unbound es i (omega (arith, h)))
 
 -- variables that count nothing are none
 pub none_counted : (ps : List (Text × Data)) → pairs_size (pairs_of ps) ≡ 0 → ps ≡ []

@@ -1,12 +1,11 @@
 -- Where a variable of a layer stands.
-use Rattle.std.proofs.Common.{subst, ◌≡◌, ◌<◌, ◌≤◌, ◌+◌, arith, length, Equal, ℕ, true, List, [], Ok, Err, Option, Some, None, get_or, refl, sym, ap, ◌∙◌}
+use Rattle.std.proofs.Common.{subst, ◌≡◌, ◌<◌, ◌≤◌, ◌+◌, arith, length, Equal, ℕ, true, List, [], Ok, Option, Some, None, get_or, refl, sym, ap, ◌∙◌}
 use Rattle.std.proofs.lemmas.Cmp.{nat_list_cmp_total, tied_itself}
 use Rattle.wf_value.proofs.Searches.{found, holds_at}
 use Rattle.wf_value.specs.Data.{Data, size}
 use Rattle.wf_value.specs.Maps.{IsInOrder, key_cmp, place_of, value_at}
 use Rattle.wf_value.specs.Pairs.{Text}
 use Rattle.wf_value.specs.declared.Value.{Value}
-use Rattle.wf_scope.specs.Names.{bound_of}
 use Rattle.wf_scope.specs.Layers.{IsLive, Layer, all_stand, chain, find, holder_in, put_at, total_of, variable_size, vars_at, vars_in}
 use Rattle.wf_scope.specs.Spots.{IsSpot}
 use Rattle.wf_scope.specs.Views.{views}
@@ -16,13 +15,6 @@ use Rattle.wf_scope.proofs.Numbers.{live_found, number_found}
 use Rattle.wf_scope.proofs.Seen.{chain_last, chain_outer, holder_here, holder_past, vars_found}
 use Rattle.wf_scope.proofs.Totals.{counted_within, put_total}
 use Rattle.wf_scope.proofs.Viewed.{order_found}
-
--- ## Where none stands
-pub empty_place : (x : Text) (es : List (Text × Option Value)) → es ≡ [] → Err 0 ≡ place_of x es
-empty_place x es e = sym (ap (place_of x) e)
-
-pub empty_value : (x : Text) (es : List (Text × Option Value)) → es ≡ [] → None ≡ value_at x (bound_of es)
-empty_value x es e = sym (ap (λ ns. value_at x (bound_of ns)) e)
 
 -- ## Where it stands
 -- the name at a place that was tried

@@ -2,7 +2,8 @@
 --     class_of              the class of a name
 --     HasNone               no variable has a name of a class
 --     Covers                a table of hints that are 0 only for such classes
-use Rattle.std.specs.Prelude.{◌≡◌, ◌<◌, ◌%◌, ℕ, List, [], ◌∷◌, None, slice_index}
+--     shifted               a hint behind an insertion
+use Rattle.std.specs.Prelude.{◌≡◌, ◌<◌, ◌+◌, ◌%◌, ◌&&◌, ℕ, List, [], ◌∷◌, None, if◌then◌else◌, nat_lt, slice_index}
 use Rattle.std.specs.Coded.{le_prop, Unit-prop, ×_prop}
 use Rattle.wf_value.specs.Data.{Data}
 use Rattle.wf_value.specs.Maps.{value_at}
@@ -27,3 +28,7 @@ module _ {X : Type 0} where
   pub Covers-prop : (hints : List ℕ) (vs : List (Text × X)) → IsProp (Covers hints vs)
   Covers-prop hints [] = Unit-prop
   Covers-prop hints (p ∷ vs) = ×_prop le_prop (Covers-prop hints vs)
+
+-- a hint behind an insertion at a place: a place behind it is one farther. 255 tells no farther one
+abbrev pub shifted : ℕ → ℕ → ℕ
+shifted place hint = if nat_lt place hint && nat_lt hint 255 then hint + 1 else hint

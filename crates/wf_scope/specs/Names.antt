@@ -2,8 +2,9 @@
 --     bound_of              those that are bound, with their values
 --     value_of              the value of a name that was found
 --     unbound               a name without its value
-use Rattle.std.specs.Prelude.{List, [], ◌∷◌, Option, Some, None, option_map}
-use Rattle.wf_value.specs.Data.{Data}
+--     is_whole              a whole number
+use Rattle.std.specs.Prelude.{Bool, true, false, List, [], ◌∷◌, Option, Some, None, option_map}
+use Rattle.wf_value.specs.Data.{Data, integer}
 use Rattle.wf_value.specs.Pairs.{Text}
 use Rattle.wf_value.specs.Plain.{plain}
 use Rattle.wf_value.specs.declared.Value.{Value}
@@ -23,3 +24,7 @@ value_of (Some o) = option_map plain o
 
 abbrev pub unbound : Text × Option Value → Text × Option Value
 unbound e = (e.0, None)
+
+abbrev pub is_whole : Option Data → Bool
+is_whole (Some (integer n)) = true
+is_whole o = false

@@ -1,13 +1,14 @@
 // A layer of variables.
-ghost use Rattle.std.specs.Prelude.{[], IfOk, Some, map, ◌≡◌, ◌≢◌, ◌≤◌, ◌<◌, ◌+◌, ◌-◌, MatchBool, length, is_ok, if◌then◌else◌, option_map};
+ghost use Rattle.std.specs.Prelude.{[], IfOk, Some, map, true, ◌≡◌, ◌≢◌, ◌≤◌, ◌<◌, ◌+◌, ◌-◌, MatchBool, length, is_ok, if◌then◌else◌, option_map};
 ghost use Rattle.std.specs.List.Sorted.{IsStrictlySortedBy-prop};
 ghost use Rattle.std.specs.Map.{keys_of};
 ghost use Rattle.wf_scope.specs.Firsts.{Covers, Covers-prop, HasNone, class_of};
 ghost use Rattle.wf_scope.specs.Layers.{new_layer, variable_size, with_variable};
-ghost use Rattle.wf_scope.specs.Names.{bound_of, unbound};
-ghost use Rattle.wf_value.specs.Data.{pairs_of, pairs_size, size};
+ghost use Rattle.wf_scope.specs.Names.{bound_of, is_whole, unbound};
+ghost use Rattle.wf_value.specs.Data.{integer, pairs_of, pairs_size, size};
 ghost use Rattle.wf_value.specs.Maps.{IsInOrder, key_cmp, place_of, value_at, with_value};
 ghost use Rattle.wf_value.specs.Plain.{plain};
+ghost use Rattle.wf_value.specs.declared.Value.TheVariants.{Int};
 
 use crate::firsts::Firsts;
 use crate::seek::seek;
@@ -158,6 +159,20 @@ impl Layer {
         self.counted = self.counted - old + new;
         Ok(())
     }
+
+    /// Writes a whole number over another one, if this name stands for one where the hint tells, and answers whether it did. Otherwise the
+    /// layer stays.
+    #[inline(always)]
+    pub(crate) fn renew(&mut self, hint: u8, name: &str, n: i64) -> bool
+        requires { 0 < hint }
+        ensures after { layer_view self.new ≡ (if result
+            then with_variable name.now (integer n) (layer_view self.old)
+            else layer_view self.old) }
+        ensures whole { result ≡ true
+            → is_whole (value_at name.now (bound_of self.old.vars.items)) ≡ true }
+    {
+        put_whole(&mut self.vars, (hint - 1) as usize, name, n)
+    }
 }
 
 /// Gives the name at its place a value. Without memory all stays.
@@ -177,6 +192,30 @@ fn put_named(
         Err(i) => names.insert(i, (name.copy()?, Some(value)))?,
     }
     Ok(())
+}
+
+/// Writes a whole number over another one, if this name stands for one at this place, and answers whether it did. Otherwise all stays.
+#[inline(always)]
+fn put_whole(names: &mut Vec<(Text, Option<Value>)>, i: usize, name: &str, n: i64) -> bool
+    requires { IsInOrder names.old.items }
+    ensures after { names.new.items ≡ (if result
+        then with_value name.now (Some (Int n)) names.old.items else names.old.items) }
+    ensures whole { result ≡ true
+        → is_whole (value_at name.now (bound_of names.old.items)) ≡ true }
+{
+    if i < names.len() && is_whole(&names[i].1) && is_same(names[i].0.as_str(), name) {
+        names[i].1 = Some(Value::Int(n));
+        return true;
+    }
+    false
+}
+
+/// Whether it is a whole number.
+#[inline(always)]
+fn is_whole(value: &Option<Value>) -> bool
+    ensures { result ≡ is_whole (option_map plain value.now) }
+{
+    matches!(value, Some(Value::Int(_)))
 }
 
 /// Takes the values of all names away.

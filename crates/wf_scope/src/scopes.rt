@@ -1,11 +1,11 @@
 // The layers of an execution.
-ghost use Rattle.std.specs.Prelude.{true, suc, ◌≡◌, ◌≤◌, ◌<◌, ◌+◌, ◌-◌, [], length, map, min, IfNone, IfOk, OnErr, OnOk, is_ok, if◌then◌else◌, option_map, Some, None, slice_get};
-ghost use Rattle.wf_value.specs.Data.{size};
+ghost use Rattle.std.specs.Prelude.{true, false, suc, ◌≡◌, ◌≤◌, ◌<◌, ◌+◌, ◌-◌, [], length, map, min, IfNone, IfOk, IfSome, OnErr, OnOk, is_ok, if◌then◌else◌, option_map, Some, None, slice_get};
+ghost use Rattle.wf_value.specs.Data.{integer, size};
 ghost use Rattle.wf_value.specs.Maps.{value_at};
 ghost use Rattle.wf_value.specs.Plain.{plain};
 ghost use Rattle.wf_scope.specs.Layers.{IsInnermost, IsLive, StayInnermost, StayLive, all_stand, chain, closed, depth_in, find, fresh, holder_in, look_in, opened, put_at, put_place, rises, stands, total_of, vars_at};
 ghost use Rattle.wf_scope.specs.Firsts.{class_of};
-ghost use Rattle.wf_scope.specs.Spots.{IsSpot};
+ghost use Rattle.wf_scope.specs.Spots.{HoldsWhole, IsNearest, IsSpot};
 ghost use Rattle.wf_scope.specs.Views.{counted_in, views};
 
 use crate::fault::AssignFault;
@@ -47,6 +47,7 @@ pub struct Scopes {
     ghost counted: { total ≡ total_of (views layers.items) },
     ghost spared: { counted_in spares.items ≡ 0 },
     ghost room: { total ≤ 18446744073709551613 },
+    ghost within: { total ≤ limit },
     ghost rising: { rises (views layers.items) ≡ true },
     ghost standing: { all_stand (views layers.items) (views layers.items) ≡ true },
 }
@@ -193,15 +194,54 @@ impl Scopes {
     {
         match path {
             [] => {
-                let key = name.as_str();
-                let (spot, _) = self.target(c.number, key);
-                self.bind_at(spot, name, v)
+                if self.renew(c.number, name.as_str(), &v) {
+                    return Ok(());
+                }
+                self.assign_alone(c, name, v)
             }
             [_, ..] => self.assign_below(c, name, path, v),
         }
     }
 
-    /// The same for the places below a name.
+    /// Assigns a value to a name alone.
+    #[inline(always)]
+    fn assign_alone(&mut self, c: Chain, name: &Text, v: Value) -> Result<(), AssignFault>
+        requires { IsLive c.number (layers_of self.old) }
+        ensures outcome { Answers result (layers_of self.new)
+            (assigned self.old.limit c.number name.now [] (plain v) (layers_of self.old)) }
+        ensures kept { OnErr result (layers_of self.new ≡ layers_of self.old) }
+        ensures limit { self.new.limit ≡ self.old.limit }
+        ensures stay { StayLive (layers_of self.old) (layers_of self.new) }
+        ensures apart { StayInnermost (layers_of self.old) (layers_of self.new) }
+    {
+        let key = name.as_str();
+        let (spot, _) = self.target(c.number, key);
+        self.bind_at(spot, name, v)
+    }
+
+    /// Assigns a whole number to a name that stands for one, if the first hint on the way outward leads to it, and answers whether it did.
+    /// Neither what variables come to nor their nesting changes by it. Otherwise all stays.
+    #[inline(always)]
+    fn renew(&mut self, number: u64, name: &str, v: &Value) -> bool
+        requires { IsLive number (layers_of self.old) }
+        ensures outcome { result ≡ true
+            → assigned self.old.limit number name.now [] (plain v.now) (layers_of self.old)
+            ≡ Ok (layers_of self.new) }
+        ensures kept { result ≡ false → layers_of self.new ≡ layers_of self.old }
+        ensures limit { self.new.limit ≡ self.old.limit }
+        ensures stay { StayLive (layers_of self.old) (layers_of self.new) }
+        ensures apart { StayInnermost (layers_of self.old) (layers_of self.new) }
+    {
+        let Value::Int(n) = v else {
+            return false;
+        };
+        let Some((place, hint)) = self.nearest(number, name) else {
+            return false;
+        };
+        renew(&mut self.layers, place, hint, name, *n)
+    }
+
+    /// Assigns a value to the places below a name.
     #[inline(never)]
     fn assign_below(
         &mut self,
@@ -282,6 +322,29 @@ impl Scopes {
         }
     }
 
+    /// The place of the innermost layer that has a hint for a name, of those that are seen, and the hint; none where none has one.
+    #[inline(always)]
+    fn nearest(&self, number: u64, name: &str) -> Option<(usize, u8)>
+        requires { IsLive number (layers_of self.now) }
+        ensures { IfSome result (λ r. IsNearest r.0 name.now number (layers_of self.now)
+            × (0 < r.1)) }
+    {
+        let class = class_of(name);
+        let mut here = number;
+        loop {
+            let place = self.place(here);
+            let layer = &self.layers[place];
+            let hint = layer.hint(class);
+            if hint > 0 {
+                return Some((place, hint));
+            }
+            match layer.outer {
+                Some(outer) => here = outer,
+                None => return None,
+            }
+        }
+    }
+
     /// The variable of this name in a layer, and its value.
     #[inline(always)]
     fn spot(&self, number: u64, name: &str) -> (Spot, Option<&Value>)
@@ -336,6 +399,7 @@ impl Scopes {
             ≡ value_at name.now (vars_at result.0.number (layers_of self.now)) }
     {
         let class = class_of(name);
+        let mut home = None;
         let mut here = number;
         loop {
             let place = self.place(here);
@@ -345,14 +409,22 @@ impl Scopes {
                 if let Some(value) = value {
                     return (spot, Some(value));
                 }
+                if here == number {
+                    home = Some(spot);
+                }
             }
             match layer.outer {
                 Some(outer) => here = outer,
                 None => break,
             }
         }
-        let (spot, _) = self.spot(number, name);
-        (spot, None)
+        match home {
+            Some(spot) => (spot, None),
+            None => {
+                let (spot, _) = self.spot(number, name);
+                (spot, None)
+            }
+        }
     }
 
     /// Makes or changes a variable.
@@ -452,6 +524,21 @@ fn put(
 {
     let layer = &mut layers[spot.layer];
     layer.put(spot.pair, spot.class, name, value, spot.counted, counted)
+}
+
+/// Writes a whole number over another one in the layer at a place, if this name stands there for one where the hint tells, and answers
+/// whether it did. Otherwise all stays.
+#[inline(always)]
+fn renew(layers: &mut Vec<Layer>, layer: usize, hint: u8, name: &str, n: i64) -> bool
+    requires within { layer < length (views layers.old.items) }
+    requires hint { 0 < hint }
+    ensures after { views layers.new.items ≡ (if result
+        then put_place layer name.now (integer n) (views layers.old.items)
+        else views layers.old.items) }
+    ensures whole { result ≡ true
+        → HoldsWhole layer name.now (views layers.old.items) }
+{
+    layers[layer].renew(hint, name, n)
 }
 
 /// Keeps a layer that has ended for the next one, if it stood last, has few names and memory allows.

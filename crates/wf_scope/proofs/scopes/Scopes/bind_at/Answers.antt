@@ -47,6 +47,7 @@ invariant_of-self c =
       counted = omega (arith, counted, s.counted, total.0, total.1, c.saturating_add-total.ensures, ap total_of kept.0);
       spared = s.spared;
       room = omega arith;
+      within = omega arith;
       rising = kept.1;
       standing = kept.2;
     }

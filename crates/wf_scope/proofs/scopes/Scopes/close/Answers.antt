@@ -27,6 +27,7 @@ invariant_of-self c =
       counted = end.1 ∙ ap total_of (sym gone);
       spared = c.keep.ensures;
       room = omega (arith, s.room, end.0);
+      within = omega (arith, s.within, end.0);
       rising = ap rises gone ∙ rises_closed n ls s.rising;
       standing = ap (λ ys. all_stand ys ys) gone ∙ all_stand_closed n ls c.requires.innermost s.standing;
     }

@@ -21,6 +21,7 @@ invariant_of-self-2 c =
       counted = s.counted ∙ pushed_total ok ls (views c.push.new.self.items) l now refl;
       spared = c.take.ensures.rest;
       room = s.room;
+      within = s.within;
       rising = keeps.0;
       standing = keeps.1;
     }
