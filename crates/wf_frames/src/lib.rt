@@ -22,7 +22,7 @@ mod target;
 mod writing;
 
 pub use advance::step_of;
-pub use assigned::{Assigned, evaluate};
+pub use assigned::{Assigned, evaluate, evaluate_value};
 pub use bindings::Bindings;
 pub use calling::call_function;
 pub use entering::{enter, enter_call};
@@ -36,4 +36,4 @@ pub use sight::seen;
 pub use sighted::Seen;
 pub use step::{Leads, Step, body_frame, map_of};
 pub use target::{Nap, Target, http_named, nap_named};
-pub use writing::assign;
+pub use writing::{assign, assign_name};

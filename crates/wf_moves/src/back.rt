@@ -17,11 +17,11 @@ ghost use Rattle.wf_frames.specs.Built.{Tells};
 ghost use Rattle.wf_value.specs.Data.{depth};
 ghost use Rattle.wf_value.specs.Plain.{plain};
 
-use crate::assign::store;
+use crate::assign::store_value;
 use crate::finish::{End, Turned, Went, goes, turns};
 use crate::raising::raises_tag;
 use std::alloc::Global;
-use wf_frames::{Assigned, Frame, Frames, leave};
+use wf_frames::{Frame, Frames, leave};
 use wf_model::{Node, NodeKind};
 use wf_scope::Scopes;
 use wf_value::{OutOfMemory, Tag, Text, Value};
@@ -119,17 +119,7 @@ pub(crate) fn give(
     ensures left { IfOk result (λ w. IsLeft nodes.now w (inner frames.new)) }
 {
     match result_of(nodes, call) {
-        Some(name) => {
-            let places = Vec::new(alloc);
-            store(
-                alloc,
-                nodes,
-                name,
-                Assigned { value, places },
-                frames,
-                scopes,
-            )
-        }
+        Some(name) => store_value(alloc, nodes, name, value, frames, scopes),
         None => Ok(goes(frames, nodes, scopes)),
     }
 }
