@@ -10,3 +10,4 @@ pub mod Writing
 pub mod Spotted
 pub mod Viewed
 pub mod Renewed
+pub mod Lives

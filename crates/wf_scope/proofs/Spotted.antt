@@ -10,7 +10,7 @@ use Rattle.wf_scope.specs.Layers.{IsLive, Layer, all_stand, chain, find, holder_
 use Rattle.wf_scope.specs.Spots.{IsSpot}
 use Rattle.wf_scope.specs.Views.{views}
 use Rattle.wf_scope.specs.declared.layer.Layer as declared
-use Rattle.wf_scope.specs.declared.scopes.Spot.{Spot}
+use Rattle.wf_scope.specs.declared.spot.Spot.{Spot}
 use Rattle.wf_scope.proofs.Numbers.{live_found, number_found}
 use Rattle.wf_scope.proofs.Seen.{chain_last, chain_outer, holder_here, holder_past, vars_found}
 use Rattle.wf_scope.proofs.Totals.{counted_within, put_total}

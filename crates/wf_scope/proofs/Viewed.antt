@@ -29,13 +29,6 @@ pub view_read : (xs : List declared.Layer) (i : ℕ) (l : declared.Layer) → l 
 view_read xs i l is = ap layer_view is ∙ sym (view_get xs i l)
 
 -- ## Changes
-pub view_push : (xs : List declared.Layer) (l : declared.Layer) → views (xs ++ l ∷ []) ≡ views xs ++ layer_view l ∷ []
-view_push [] l = refl
-view_push (x ∷ xs) l = ap (λ (ys : List Layer). layer_view x ∷ ys) (view_push xs l)
-
-pub view_pushed : (ok : Bool) (xs ys : List declared.Layer) (l : declared.Layer) → ys ≡ (if ok then xs ++ l ∷ [] else xs) → views ys ≡ (if ok then views xs ++ layer_view l ∷ [] else views xs)
-view_pushed true xs ys l e = ap views e ∙ view_push xs l
-view_pushed false xs ys l e = ap views e
 
 pub view_remove : (xs : List declared.Layer) (i : ℕ) → views (remove xs i) ≡ remove (views xs) i
 view_remove [] zero = refl
@@ -82,18 +75,3 @@ order_found (x ∷ xs) n = by (nat_eq x.number n) (order_found xs n)
     by : (b : Bool) → IsInOrder (vars_at n (views xs)) → IsInOrder (vars_in (if b then Some (layer_view x) else find n (views xs)))
     by true later = in_order_bound x.vars.items x.order
     by false later = later
-
--- ## Layers that have ended
-kept_last : (ys : List declared.Layer) (l : declared.Layer) → counted_in (ys ++ l ∷ []) ≡ l.counted + counted_in ys
-kept_last [] l = refl
-kept_last (y ∷ ys) l = omega (arith, kept_last ys l)
-
-pub kept_push : (ok : Bool) (xs ys : List declared.Layer) (l : declared.Layer) → ys ≡ (if ok then xs ++ l ∷ [] else xs) → counted_in xs ≡ 0 → l.counted ≡ 0 → counted_in ys ≡ 0
-kept_push true xs ys l e h f = ap counted_in e ∙ omega (arith, kept_last xs l, h, f)
-kept_push false xs ys l e h f = ap counted_in e ∙ h
-
-pub kept_pop : (xs ys : List declared.Layer) (l : declared.Layer) → xs ≡ ys ++ l ∷ [] → counted_in xs ≡ 0 → (l.counted ≡ 0) × (counted_in ys ≡ 0)
-kept_pop xs ys l e h =
-    let all = kept_last ys l in
-    let none : counted_in (ys ++ l ∷ []) ≡ 0 = sym (ap counted_in e) ∙ h in
-    (omega (arith, all, none), omega (arith, all, none))

@@ -2,6 +2,7 @@ pub mod Changes
 pub mod Faults
 pub mod Firsts
 pub mod Layers
+pub mod Lives
 pub mod Names
 pub mod Places
 pub mod Spots

@@ -11,7 +11,7 @@ use Rattle.wf_scope.specs.Layers.{Layer, chain, find, holder_in, variable_size, 
 use Rattle.wf_scope.specs.Names.{is_whole}
 use Rattle.wf_scope.specs.Views.{views}
 use Rattle.wf_scope.specs.declared.layer.Layer as declared
-use Rattle.wf_scope.specs.declared.scopes.Spot.{Spot}
+use Rattle.wf_scope.specs.declared.spot.Spot.{Spot}
 
 -- the place of its layer, its own place among the names there, its name's class, and what it counts
 pub record IsSpot (s : Spot) (x : Text) (ls : List declared.Layer) : Type 0 where

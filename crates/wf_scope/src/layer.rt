@@ -53,20 +53,19 @@ impl Layer {
         })
     }
 
-    /// A layer that binds nothing, with another number and at another place.
+    /// Gives a layer that binds nothing another number, and another place.
     #[inline(always)]
-    pub(crate) fn stands(self, number: u64, outer: Option<u64>, depth: u64) -> Layer
-        requires { self.counted ≡ 0 }
-        ensures { layer_view result ≡ new_layer number outer depth }
+    pub(crate) fn stands(&mut self, number: u64, outer: Option<u64>, depth: u64)
+        requires { self.old.counted ≡ 0 }
+        ensures { layer_view self.new ≡ new_layer number outer depth }
     {
-        let mut layer = self;
-        layer.number = number;
-        layer.outer = outer;
-        layer.depth = depth;
-        layer
+        self.number = number;
+        self.outer = outer;
+        self.depth = depth;
     }
 
     /// Takes all values away. The names stay, and where to look for them.
+    #[inline(always)]
     pub(crate) fn clear(&mut self)
         ensures { self.new.counted ≡ 0 }
     {
@@ -118,7 +117,7 @@ impl Layer {
         self.search(name)
     }
 
-    /// The same, wherever it stands.
+    /// Where this name stands, and its value, by a search among all names; where it isn't there, its place is where it belongs.
     #[inline(never)]
     fn search(&self, name: &str) -> (Result<usize, usize>, Option<&Value>)
         ensures place { result.0 ≡ place_of name.now self.now.vars.items }
@@ -219,6 +218,7 @@ fn is_whole(value: &Option<Value>) -> bool
 }
 
 /// Takes the values of all names away.
+#[inline(always)]
 fn clear_names(names: &mut Vec<(Text, Option<Value>)>)
     ensures { names.new.items ≡ map unbound names.old.items }
 {

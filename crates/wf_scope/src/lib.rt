@@ -10,8 +10,10 @@ mod fault;
 mod firsts;
 mod key;
 mod layer;
+mod layers;
 mod scopes;
 mod seek;
+mod spot;
 mod written;
 
 pub use fault::AssignFault;

@@ -6,12 +6,14 @@ ghost use Rattle.wf_value.specs.Plain.{plain};
 ghost use Rattle.wf_scope.specs.Layers.{IsInnermost, IsLive, StayInnermost, StayLive, all_stand, chain, closed, depth_in, find, fresh, holder_in, look_in, opened, put_at, put_place, rises, stands, total_of, vars_at};
 ghost use Rattle.wf_scope.specs.Firsts.{class_of};
 ghost use Rattle.wf_scope.specs.Spots.{HoldsWhole, IsNearest, IsSpot};
-ghost use Rattle.wf_scope.specs.Views.{counted_in, views};
+ghost use Rattle.wf_scope.specs.Lives.{live_in};
+ghost use Rattle.wf_scope.specs.Views.{views};
 
 use crate::fault::AssignFault;
 use crate::firsts::class_of;
 use crate::key::Key;
-use crate::layer::Layer;
+use crate::layers::Layers;
+use crate::spot::Spot;
 use crate::written::written;
 use std::alloc::Global;
 use wf_value::{OutOfMemory, Text, Value};
@@ -21,9 +23,6 @@ const NESTING_LIMIT: u32 = 100;
 
 /// No memory holds variables that come to more.
 const MOST: u64 = u64::MAX - 2;
-
-/// A layer that ends is kept for the next one if it has no more names.
-const KEPT: usize = 16;
 
 /// A layer, by its number. From it are seen this layer, the one outside it, and so on outward.
 #[derive(Clone, Copy)]
@@ -40,31 +39,13 @@ pub struct Chain {
 pub struct Scopes {
     alloc: Global,
     limit: u64,
-    layers: Vec<Layer>,
-    /// Layers that have ended. They bind nothing.
-    spares: Vec<Layer>,
+    layers: Layers,
     total: u64,
-    ghost counted: { total ≡ total_of (views layers.items) },
-    ghost spared: { counted_in spares.items ≡ 0 },
+    ghost counted: { total ≡ total_of (views (live_in layers)) },
     ghost room: { total ≤ 18446744073709551613 },
     ghost within: { total ≤ limit },
-    ghost rising: { rises (views layers.items) ≡ true },
-    ghost standing: { all_stand (views layers.items) (views layers.items) ≡ true },
-}
-
-/// Where a variable of a layer stands, or where it belongs.
-#[derive(Clone, Copy)]
-struct Spot {
-    /// The layer's number.
-    number: u64,
-    /// Where the layer stands.
-    layer: usize,
-    /// Where the variable stands among those of the layer.
-    pair: Result<usize, usize>,
-    /// The class of its name.
-    class: usize,
-    /// What it counts, 0 where it isn't there.
-    counted: u64,
+    ghost rising: { rises (views (live_in layers)) ≡ true },
+    ghost standing: { all_stand (views (live_in layers)) (views (live_in layers)) ≡ true },
 }
 
 impl Scopes {
@@ -80,8 +61,7 @@ impl Scopes {
         Ok(Scopes {
             alloc,
             limit,
-            layers: Vec::new(alloc),
-            spares: Vec::new(alloc),
+            layers: Layers::new(alloc),
             total: 0,
         })
     }
@@ -130,7 +110,7 @@ impl Scopes {
         ensures innermost { IfOk result (λ c. IsInnermost c.number (layers_of self.new)) }
         ensures stay { StayLive (layers_of self.old) (layers_of self.new) }
     {
-        let depth = self.layers[self.place(outer.number)].depth;
+        let depth = self.layers.at(self.place(outer.number)).depth;
         match depth.checked_add(1) {
             Some(depth) => self.open(Some(outer.number), depth),
             None => Err(OutOfMemory),
@@ -145,9 +125,8 @@ impl Scopes {
         ensures limit { self.new.limit ≡ self.old.limit }
     {
         let place = self.place(c.number);
-        let layer = self.layers.remove(place);
-        self.total -= layer.counted;
-        keep(&mut self.spares, layer, place == self.layers.len());
+        let counted = self.layers.end(place);
+        self.total -= counted;
     }
 
     /// Makes or changes a variable of a layer, which must be live. On a fault all stays, and the value is dropped.
@@ -238,7 +217,7 @@ impl Scopes {
         let Some((place, hint)) = self.nearest(number, name) else {
             return false;
         };
-        renew(&mut self.layers, place, hint, name, *n)
+        self.layers.renew(place, hint, name, *n)
     }
 
     /// Assigns a value to the places below a name.
@@ -279,13 +258,13 @@ impl Scopes {
         ensures found { slice_get (layers_of self.now) result ≡ find number (layers_of self.now) }
     {
         let guess = number as usize;
-        if guess < self.layers.len() && self.layers[guess].number == number {
+        if guess < self.layers.count() && self.layers.at(guess).number == number {
             return guess;
         }
         self.search(number)
     }
 
-    /// The same, wherever it stands.
+    /// Where a live layer stands, by a search among all layers.
     #[inline(never)]
     fn search(&self, number: u64) -> usize
         requires { IsLive number (layers_of self.now) }
@@ -294,6 +273,7 @@ impl Scopes {
     {
         match self
             .layers
+            .live()
             .binary_search_by_key(&number, |layer| layer.number)
         {
             Ok(place) => place,
@@ -311,7 +291,7 @@ impl Scopes {
         let mut here = number;
         loop {
             let place = self.place(here);
-            let layer = &self.layers[place];
+            let layer = self.layers.at(place);
             if let Some(value) = layer.look(class, name) {
                 return Some(value);
             }
@@ -333,7 +313,7 @@ impl Scopes {
         let mut here = number;
         loop {
             let place = self.place(here);
-            let layer = &self.layers[place];
+            let layer = self.layers.at(place);
             let hint = layer.hint(class);
             if hint > 0 {
                 return Some((place, hint));
@@ -350,14 +330,14 @@ impl Scopes {
     fn spot(&self, number: u64, name: &str) -> (Spot, Option<&Value>)
         requires { IsLive number (layers_of self.now) }
         ensures number { result.0.number ≡ number }
-        ensures spot { IsSpot result.0 name.now self.now.layers.items }
+        ensures spot { IsSpot result.0 name.now (live_in self.now.layers) }
         ensures value { option_map (λ v. plain v.now) result.1
             ≡ value_at name.now (vars_at number (layers_of self.now)) }
     {
         self.spot_at(number, self.place(number), class_of(name), name)
     }
 
-    /// The same in the layer at a place.
+    /// The variable of this name in the layer at a place, and its value.
     #[inline(always)]
     fn spot_at(&self, number: u64, layer: usize, class: usize, name: &str) -> (Spot, Option<&Value>)
         requires within { layer < length (layers_of self.now) }
@@ -365,11 +345,11 @@ impl Scopes {
         requires class { class ≡ class_of name.now }
         requires below { class < 32 }
         ensures number { result.0.number ≡ number }
-        ensures spot { IsSpot result.0 name.now self.now.layers.items }
+        ensures spot { IsSpot result.0 name.now (live_in self.now.layers) }
         ensures value { option_map (λ v. plain v.now) result.1
             ≡ value_at name.now (vars_at number (layers_of self.now)) }
     {
-        let here = &self.layers[layer];
+        let here = self.layers.at(layer);
         let (pair, value) = here.find(here.hint(class), name);
         let counted = match value {
             Some(value) => size_of_variable(name, value),
@@ -394,7 +374,7 @@ impl Scopes {
             ≡ holder_in name.now (chain number (layers_of self.now)) }
         ensures absent { IfNone result.1 (result.0.number ≡ number) }
         ensures live { IsLive result.0.number (layers_of self.now) }
-        ensures spot { IsSpot result.0 name.now self.now.layers.items }
+        ensures spot { IsSpot result.0 name.now (live_in self.now.layers) }
         ensures value { option_map (λ v. plain v.now) result.1
             ≡ value_at name.now (vars_at result.0.number (layers_of self.now)) }
     {
@@ -403,7 +383,7 @@ impl Scopes {
         let mut here = number;
         loop {
             let place = self.place(here);
-            let layer = &self.layers[place];
+            let layer = self.layers.at(place);
             if layer.hint(class) > 0 {
                 let (spot, value) = self.spot_at(here, place, class, name);
                 if let Some(value) = value {
@@ -431,7 +411,7 @@ impl Scopes {
     #[inline(always)]
     fn bind_at(&mut self, spot: Spot, name: &Text, v: Value) -> Result<(), AssignFault>
         requires live { IsLive spot.number (layers_of self.old) }
-        requires spot { IsSpot spot name.now self.old.layers.items }
+        requires spot { IsSpot spot name.now (live_in self.old.layers) }
         ensures outcome { Answers result (layers_of self.new)
             (bound self.old.limit spot.number name.now (plain v) (layers_of self.old)) }
         ensures kept { OnErr result (layers_of self.new ≡ layers_of self.old) }
@@ -451,7 +431,7 @@ impl Scopes {
         if v.depth() > NESTING_LIMIT {
             return Err(AssignFault::TooDeep);
         }
-        match put(&mut self.layers, spot, name, v, counted) {
+        match self.layers.put(spot, name, v, counted) {
             Ok(()) => {
                 self.total = total;
                 Ok(())
@@ -465,7 +445,7 @@ impl Scopes {
     fn fresh(&self) -> Result<u64, OutOfMemory>
         ensures { IfOk result (λ n. n ≡ fresh (layers_of self.now)) }
     {
-        let Some(layer) = self.layers.last() else {
+        let Some(layer) = self.layers.live().last() else {
             return Ok(0);
         };
         match layer.number.checked_add(1) {
@@ -487,9 +467,7 @@ impl Scopes {
         ensures stay { StayLive (layers_of self.old) (layers_of self.new) }
     {
         let number = self.fresh()?;
-        let spare = take(self.alloc, &mut self.spares)?;
-        let layer = spare.stands(number, outer, depth);
-        self.layers.push(layer)?;
+        self.layers.open(self.alloc, number, outer, depth)?;
         Ok(Chain { number })
     }
 }
@@ -503,69 +481,4 @@ fn size_of_variable(name: &str, value: &Value) -> u64
         .size()
         .saturating_add(2)
         .saturating_add(name.len() as u64)
-}
-
-/// Makes or changes a variable at its spot, where it counts so much. Without memory all stays.
-#[inline(always)]
-fn put(
-    layers: &mut Vec<Layer>,
-    spot: Spot,
-    name: &Text,
-    value: Value,
-    counted: u64,
-) -> Result<(), OutOfMemory>
-    requires spot { IsSpot spot name.now layers.old.items }
-    requires counted { counted ≡ 2 + length name.now + size (plain value) }
-    requires room { total_of (views layers.old.items) - spot.counted + counted
-        ≤ 18446744073709551615 }
-    ensures { views layers.new.items ≡ (if is_ok result
-        then put_place spot.layer name.now (plain value) (views layers.old.items)
-        else views layers.old.items) }
-{
-    let layer = &mut layers[spot.layer];
-    layer.put(spot.pair, spot.class, name, value, spot.counted, counted)
-}
-
-/// Writes a whole number over another one in the layer at a place, if this name stands there for one where the hint tells, and answers
-/// whether it did. Otherwise all stays.
-#[inline(always)]
-fn renew(layers: &mut Vec<Layer>, layer: usize, hint: u8, name: &str, n: i64) -> bool
-    requires within { layer < length (views layers.old.items) }
-    requires hint { 0 < hint }
-    ensures after { views layers.new.items ≡ (if result
-        then put_place layer name.now (integer n) (views layers.old.items)
-        else views layers.old.items) }
-    ensures whole { result ≡ true
-        → HoldsWhole layer name.now (views layers.old.items) }
-{
-    layers[layer].renew(hint, name, n)
-}
-
-/// Keeps a layer that has ended for the next one, if it stood last, has few names and memory allows.
-#[inline(always)]
-fn keep(spares: &mut Vec<Layer>, layer: Layer, stood_last: bool)
-    requires { counted_in spares.old.items ≡ 0 }
-    ensures { counted_in spares.new.items ≡ 0 }
-{
-    if !stood_last || layer.vars.len() > KEPT {
-        return;
-    }
-    let mut spare = layer;
-    spare.clear();
-    match spares.push(spare) {
-        Ok(()) | Err(_) => {}
-    }
-}
-
-/// A layer that binds nothing: the one that ended last, if one was kept.
-#[inline(always)]
-fn take(alloc: Global, spares: &mut Vec<Layer>) -> Result<Layer, OutOfMemory>
-    requires { counted_in spares.old.items ≡ 0 }
-    ensures free { IfOk result (λ l. l.counted ≡ 0) }
-    ensures rest { counted_in spares.new.items ≡ 0 }
-{
-    match spares.pop() {
-        Some(spare) => Ok(spare),
-        None => Layer::fresh(alloc),
-    }
 }

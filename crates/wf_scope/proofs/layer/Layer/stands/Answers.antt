@@ -8,5 +8,5 @@ use Rattle.wf_scope.proofs.layer.Layer.stands.Goals as goal
 
 pub returns : goal.returns
 returns c =
-    let l = c.args.self in
+    let l = c.args.self.now in
     ap (λ (ps : List (Text × Data)). record (new_layer c.args.number c.args.outer c.args.depth) { vars = ps }) (none_counted (bound_of l.vars.items) (sym l.sum ∙ c.requires))

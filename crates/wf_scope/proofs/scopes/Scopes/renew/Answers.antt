@@ -2,6 +2,7 @@ use Rattle.std.proofs.Common.{FitsSigned, [], ap, arith, rules, sym, w64, ◌∙
 use Rattle.std.proofs.lemmas.Int.{to_z-of_z}
 use Rattle.wf_value.specs.Plain.{plain}
 use Rattle.wf_scope.specs.Changes.{assigned}
+use Rattle.wf_scope.specs.Lives.{live_in}
 use Rattle.wf_scope.specs.Store.{layers_of}
 use Rattle.wf_scope.specs.Views.{views}
 use Rattle.wf_scope.proofs.Renewed.{kept}
@@ -12,10 +13,9 @@ invariant_of-self c =
     let s = c.args.self.now in
     let fits : FitsSigned w64 c.in-Int.n = search rules in
     let after = simp to_z-of_z at c.renew.ensures.after in
-    let k = kept s.limit c.args.number c.args.name.now c.in-Int.n s.layers.items (views c.renew.new.layers.items) c.in-Some.place c.renew.result s.rising s.standing (omega (arith, s.counted, s.within)) c.in-Some.ensures.0 c.renew.ensures.whole after in
+    let k = kept s.limit c.args.number c.args.name.now c.in-Int.n (live_in s.layers) (views (live_in c.renew.new.self)) c.in-Some.place c.renew.result s.rising s.standing (omega (arith, s.counted, s.within)) c.in-Some.ensures.0 c.renew.ensures.whole after in
     record {
       counted = s.counted ∙ sym k.counted;
-      spared = s.spared;
       room = s.room;
       within = s.within;
       rising = k.rising;
@@ -27,7 +27,7 @@ returns-clause-outcome c = λ done.
     let s = c.args.self.now in
     let fits : FitsSigned w64 c.in-Int.n = search rules in
     let after = simp to_z-of_z at c.renew.ensures.after in
-    let k = kept s.limit c.args.number c.args.name.now c.in-Int.n s.layers.items (views c.renew.new.layers.items) c.in-Some.place c.renew.result s.rising s.standing (omega (arith, s.counted, s.within)) c.in-Some.ensures.0 c.renew.ensures.whole after in
+    let k = kept s.limit c.args.number c.args.name.now c.in-Int.n (live_in s.layers) (views (live_in c.renew.new.self)) c.in-Some.place c.renew.result s.rising s.standing (omega (arith, s.counted, s.within)) c.in-Some.ensures.0 c.renew.ensures.whole after in
     ap (λ v. assigned s.limit c.args.number c.args.name.now [] (plain v) (layers_of s)) c.in-Int.is ∙ k.outcome done
 
 pub returns-clause-kept : goal.returns-clause-kept
@@ -35,7 +35,7 @@ returns-clause-kept c =
     let s = c.args.self.now in
     let fits : FitsSigned w64 c.in-Int.n = search rules in
     let after = simp to_z-of_z at c.renew.ensures.after in
-    let k = kept s.limit c.args.number c.args.name.now c.in-Int.n s.layers.items (views c.renew.new.layers.items) c.in-Some.place c.renew.result s.rising s.standing (omega (arith, s.counted, s.within)) c.in-Some.ensures.0 c.renew.ensures.whole after in
+    let k = kept s.limit c.args.number c.args.name.now c.in-Int.n (live_in s.layers) (views (live_in c.renew.new.self)) c.in-Some.place c.renew.result s.rising s.standing (omega (arith, s.counted, s.within)) c.in-Some.ensures.0 c.renew.ensures.whole after in
     k.kept
 
 pub returns-clause-stay : goal.returns-clause-stay
@@ -43,7 +43,7 @@ returns-clause-stay c =
     let s = c.args.self.now in
     let fits : FitsSigned w64 c.in-Int.n = search rules in
     let after = simp to_z-of_z at c.renew.ensures.after in
-    let k = kept s.limit c.args.number c.args.name.now c.in-Int.n s.layers.items (views c.renew.new.layers.items) c.in-Some.place c.renew.result s.rising s.standing (omega (arith, s.counted, s.within)) c.in-Some.ensures.0 c.renew.ensures.whole after in
+    let k = kept s.limit c.args.number c.args.name.now c.in-Int.n (live_in s.layers) (views (live_in c.renew.new.self)) c.in-Some.place c.renew.result s.rising s.standing (omega (arith, s.counted, s.within)) c.in-Some.ensures.0 c.renew.ensures.whole after in
     k.stay
 
 pub returns-clause-apart : goal.returns-clause-apart
@@ -51,5 +51,5 @@ returns-clause-apart c =
     let s = c.args.self.now in
     let fits : FitsSigned w64 c.in-Int.n = search rules in
     let after = simp to_z-of_z at c.renew.ensures.after in
-    let k = kept s.limit c.args.number c.args.name.now c.in-Int.n s.layers.items (views c.renew.new.layers.items) c.in-Some.place c.renew.result s.rising s.standing (omega (arith, s.counted, s.within)) c.in-Some.ensures.0 c.renew.ensures.whole after in
+    let k = kept s.limit c.args.number c.args.name.now c.in-Int.n (live_in s.layers) (views (live_in c.renew.new.self)) c.in-Some.place c.renew.result s.rising s.standing (omega (arith, s.counted, s.within)) c.in-Some.ensures.0 c.renew.ensures.whole after in
     k.apart

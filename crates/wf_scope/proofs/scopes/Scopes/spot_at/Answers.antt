@@ -7,6 +7,7 @@ use Rattle.wf_scope.specs.declared.layer.Layer as declared
 use Rattle.wf_scope.proofs.Numbers.{layer_at}
 use Rattle.wf_scope.proofs.Seen.{vars_found}
 use Rattle.wf_scope.proofs.Totals.{counted_none, counted_some}
+use Rattle.wf_scope.specs.Lives.{live_in}
 use Rattle.wf_scope.specs.Store.{layers_of}
 use Rattle.wf_scope.specs.Views.{layer_view}
 use Rattle.wf_scope.proofs.Viewed.{view_read}
@@ -17,14 +18,14 @@ pub returns-clause-spot : goal.returns-clause-spot
 returns-clause-spot c =
     let s = c.args.self.now in
     let ls = layers_of s in
-    let l = layer_view c.index-here.result.now in
-    let is = view_read s.layers.items c.args.layer c.index-here.result.now c.index-here.ensures in
+    let l = layer_view c.at-here.result.now in
+    let is = view_read (live_in s.layers) c.args.layer c.at-here.result.now c.at-here.ensures in
     let x = c.args.name.now in
     let here = layer_at c.args.number ls c.args.layer l c.requires.within is c.requires.found in
     record {
       within = c.requires.within;
       layer = c.requires.found;
-      pair = λ m at. c.find-pair.ensures.place ∙ ap (λ (y : declared.Layer). place_of x y.vars.items) (c.index-here.ensures ∙ get_or_from_slice_get s.layers.items c.args.layer m c.index-here.result.now at);
+      pair = λ m at. c.find-pair.ensures.place ∙ ap (λ (y : declared.Layer). place_of x y.vars.items) (c.at-here.ensures ∙ get_or_from_slice_get (live_in s.layers) c.args.layer m c.at-here.result.now at);
       class = c.requires.class;
       below = c.requires.below;
       counted = elim c.match-value.branch [
@@ -36,6 +37,6 @@ returns-clause-spot c =
 pub returns-clause-value : goal.returns-clause-value
 returns-clause-value c =
     let ls = layers_of c.args.self.now in
-    let l = layer_view c.index-here.result.now in
-    let here = layer_at c.args.number ls c.args.layer l c.requires.within (view_read c.args.self.now.layers.items c.args.layer c.index-here.result.now c.index-here.ensures) c.requires.found in
+    let l = layer_view c.at-here.result.now in
+    let here = layer_at c.args.number ls c.args.layer l c.requires.within (view_read (live_in c.args.self.now.layers) c.args.layer c.at-here.result.now c.at-here.ensures) c.requires.found in
     c.find-pair.ensures.value ∙ ap (value_at c.args.name.now) (sym (vars_found c.args.number ls l here))

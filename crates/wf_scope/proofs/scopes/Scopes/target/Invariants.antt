@@ -1,6 +1,7 @@
 use Rattle.std.proofs.Common.{◌≡◌}
 use Rattle.wf_scope.specs.Layers.{IsLive, chain, depth_in, find, holder_in}
 use Rattle.wf_scope.specs.Spots.{IsKept}
+use Rattle.wf_scope.specs.Lives.{live_in}
 use Rattle.wf_scope.specs.Store.{layers_of}
 use Rattle.wf_scope.proofs.scopes.Scopes.target.Given as goal
 
@@ -9,7 +10,7 @@ abbrev pub invariant-loop-spot : goal.invariant-loop-spot
 invariant-loop-spot l = record {
   live : IsLive l.here (layers_of l.self);
   same : holder_in l.name (chain l.number (layers_of l.self)) ≡ holder_in l.name (chain l.here (layers_of l.self));
-  kept : IsKept l.number l.name l.self.layers.items l.home;
+  kept : IsKept l.number l.name (live_in l.self.layers) l.home;
 }
 
 -- the layers around
