@@ -1,6 +1,5 @@
 // Assignments.
 ghost use Rattle.std.specs.Prelude.{◌<◌, IfOk, OnOk, length};
-ghost use Rattle.wf_frames.specs.Frames.{inner};
 ghost use Rattle.wf_frames.specs.Owned.{Around, control_of, held_by};
 ghost use Rattle.wf_frames.specs.Stands.{Stands};
 ghost use Rattle.wf_model.specs.Layers as layers;
@@ -37,7 +36,7 @@ pub(crate) fn store(
         (layers.assign s name.now (values_of assigned).1 (values_of assigned).0 l))
         (held_by around frames.old scopes.old) w frames.new scopes.new) }
     ensures stands { OnOk result (Stands around nodes.now frames.new scopes.new) }
-    ensures left { IfOk result (λ w. IsLeft nodes.now w (inner frames.new)) }
+    ensures left { IfOk result (λ w. IsLeft nodes.now w frames.new) }
 {
     let Assigned { value, places } = assigned;
     match put(alloc, frames, scopes, name, places.as_slice(), value)? {
@@ -65,7 +64,7 @@ pub(crate) fn assign(
         l)
         (held_by around frames.old scopes.old) w frames.new scopes.new) }
     ensures stands { OnOk result (Stands around nodes.now frames.new scopes.new) }
-    ensures left { IfOk result (λ w. IsLeft nodes.now w (inner frames.new)) }
+    ensures left { IfOk result (λ w. IsLeft nodes.now w frames.new) }
 {
     let node = &nodes[n as usize];
     let NodeKind::Entry(entry) = &node.kind else {
