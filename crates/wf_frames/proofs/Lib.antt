@@ -18,6 +18,7 @@ pub mod Clocked
 pub mod Entered
 pub mod Evaluated
 pub mod Fitting
+pub mod Foreseeing
 pub mod Given
 pub mod Lists
 pub mod Parts

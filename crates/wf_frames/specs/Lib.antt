@@ -1,5 +1,6 @@
 pub mod Bound
 pub mod Fits
+pub mod Foreseen
 pub mod Frames
 pub mod Held
 pub mod Innermost

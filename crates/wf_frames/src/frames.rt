@@ -2,6 +2,7 @@
 ghost use Rattle.std.specs.Prelude.{◌≡◌, [], ◌∷◌, IfNone, is_ok, option_map, reverse, if◌then◌else◌};
 ghost use Rattle.wf_frames.specs.Innermost.{innermost};
 
+use crate::next::Next;
 use std::alloc::Global;
 use wf_scope::Chain;
 use wf_value::{List, OutOfMemory, Value};
@@ -98,7 +99,7 @@ fn innermost(items: &[Frame], first: u64) -> u64
     first
 }
 
-/// A task's frames, and the layer around them all.
+/// A task's frames, the layer around them all, and what the innermost frame does next, as it was kept last.
 #[derive(Drop)]
 pub struct Frames {
     // the innermost at the end
@@ -106,6 +107,7 @@ pub struct Frames {
     first: u64,
     // the innermost of the own layers
     layer: u64,
+    next: Next,
     ghost layered: { layer ≡ innermost first (reverse items.items) },
 }
 
@@ -122,6 +124,7 @@ impl Frames {
             items: Vec::new(alloc),
             first: first.number,
             layer: first.number,
+            next: Next::Nothing,
         }
     }
 
@@ -164,6 +167,24 @@ impl Frames {
             self.layer = innermost(self.items.as_slice(), self.first);
         }
         Some(frame)
+    }
+
+    /// What was kept of what the innermost frame does next.
+    #[inline(always)]
+    pub fn next(&self) -> Next
+        ensures { result ≡ self.now.next }
+    {
+        self.next
+    }
+
+    /// Keeps what the innermost frame does next.
+    #[inline(always)]
+    pub fn set_next(&mut self, next: Next)
+        ensures next { self.new.next ≡ next }
+        ensures same { inner self.new ≡ inner self.old }
+        ensures own { own_of self.new ≡ own_of self.old }
+    {
+        self.next = next;
     }
 
     /// The innermost frame.

@@ -2,11 +2,12 @@
 use Rattle.std.proofs.Common.{◌≡◌, ◌≤◌, Bool, true, false, List, [], ◌∷◌, Some, None, refl, sym, ap, subst, ◌∙◌}
 use Rattle.std.specs.Prelude.{Option}
 use Rattle.wf_frames.specs.Fits.{Fits, HasNode, IsCallOf}
-use Rattle.wf_frames.specs.Frames.{control, is_back, items, result_of, topped}
+use Rattle.wf_frames.specs.Frames.{control, inner, is_back, items, result_of, topped}
 use Rattle.wf_frames.specs.Held.{Held, standing}
 use Rattle.wf_frames.specs.Turns.{Leaves, dropped, left_by}
 use Rattle.wf_frames.specs.declared.frames.Frame.{Frame}
 use Rattle.wf_frames.specs.declared.frames.Frame.TheVariants as frame
+use Rattle.wf_frames.specs.declared.frames.Frames.{Frames}
 use Rattle.wf_model.specs.Config.{Item}
 use Rattle.wf_model.specs.Leave.{given_to, gives, returned, returns, returns_in}
 use Rattle.wf_model.specs.Local.{Branch, Gives, Iteration, Local, Main, Root, Scene, leave}
@@ -175,7 +176,7 @@ pub judge_top : (f : Frame) (fs : List Frame) → topped fs ≡ Some f → is_ju
 judge_top f [] t h = absurd (cc t)
 judge_top f (g ∷ fs) t h = let same : g ≡ f = cc t in ap is_judge same ∙ h
 
-pub says_left : (nodes : List Node) (fs : List Frame) (v : Data) (w : Went) → IsJudgeTop fs → SaysSo v w → IsLeft nodes w fs
+pub says_left : (nodes : List Node) (fs : Frames) (v : Data) (w : Went) → IsJudgeTop (inner fs) → SaysSo v w → IsLeft nodes w fs
 says_left nodes fs (boolean b) w top is = turned_left nodes fs (turned.Says b) w is top
 says_left nodes fs null w top is = raised_left nodes fs (error_map TypeError) w is
 says_left nodes fs (integer i) w top is = raised_left nodes fs (error_map TypeError) w is

@@ -3,7 +3,8 @@
 --     IsMove      a move of the model, by what a call gives and leaves
 use Rattle.std.specs.Prelude.{◌≡◌, ◌≤◌, ℕ, Bool, true, false, List, [], ◌∷◌, nat_eq, slice_get, if◌then◌else◌, Some, None, Option}
 use Rattle.wf_frames.specs.Fits.{list_at}
-use Rattle.wf_frames.specs.Frames.{control, is_back, items}
+use Rattle.wf_frames.specs.Foreseen.{Foresees}
+use Rattle.wf_frames.specs.Frames.{control, inner, is_back, items}
 use Rattle.wf_frames.specs.Held.{Held, standing}
 use Rattle.wf_frames.specs.Owned.{Around, local_of}
 use Rattle.wf_frames.specs.Sights.{Sees}
@@ -66,6 +67,10 @@ IsSettled nodes (f ∷ fs) = HasMove nodes f
 abbrev pub IsGoing : List Node → List Frame → Type 0
 IsGoing nodes [] = ⊥
 IsGoing nodes (f ∷ fs) = HasMove nodes f
+
+-- and what it does next is kept
+abbrev pub GoesNext : List Node → Frames → Type 0
+GoesNext nodes fs = IsGoing nodes (inner fs) × Foresees nodes fs
 
 -- ## Moves
 abbrev pub end_view : End → model.End
@@ -137,17 +142,17 @@ abbrev pub IsJudgeTop : List Frame → Type 0
 IsJudgeTop [] = ⊥
 IsJudgeTop (f ∷ fs) = is_judge f ≡ true
 
--- where the task goes on its innermost frame has something to do, and where it has ended none is left; an error nests at most 100 deep, and
--- an answer is that of the predicate whose call is the innermost frame
+-- where the task goes on its innermost frame has something to do, which is kept, and where it has ended none is left; an error nests at most
+-- 100 deep, and an answer is that of the predicate whose call is the innermost frame
 abbrev pub IsTurnedLeft : Turned → List Frame → Type 0
 IsTurnedLeft (turned.Ended e) fs = fs ≡ []
 IsTurnedLeft (turned.Raises e) fs = depth (plain e) ≤ 100
 IsTurnedLeft (turned.Says b) fs = IsJudgeTop fs
 
-abbrev pub IsLeft : List Node → Went → List Frame → Type 0
-IsLeft nodes went.Goes fs = IsGoing nodes fs
-IsLeft nodes went.Ends fs = fs ≡ []
-IsLeft nodes (went.Turned x) fs = IsTurnedLeft x.value fs
+abbrev pub IsLeft : List Node → Went → Frames → Type 0
+IsLeft nodes went.Goes fs = GoesNext nodes fs
+IsLeft nodes went.Ends fs = inner fs ≡ []
+IsLeft nodes (went.Turned x) fs = IsTurnedLeft x.value (inner fs)
 
 -- ## Ways outward
 -- where an innermost loop was looked for: there are these frames from it on, or there is none

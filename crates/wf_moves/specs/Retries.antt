@@ -7,7 +7,7 @@ use Rattle.std.specs.Prelude.{◌≡◌, ◌≤◌, ℕ, Bool, true, false, List
 use Rattle.wf_ast.specs.Flows.{flow}
 use Rattle.wf_ast.specs.Tree.{TryBody}
 use Rattle.wf_frames.specs.Fits.{IsTry, reach}
-use Rattle.wf_frames.specs.Frames.{body_try}
+use Rattle.wf_frames.specs.Frames.{body_try, inner}
 use Rattle.wf_frames.specs.Held.{Held, standing}
 use Rattle.wf_frames.specs.Owned.{Around, control_of, held_by, local_of}
 use Rattle.wf_frames.specs.Turns.{Agrees}
@@ -18,7 +18,7 @@ use Rattle.wf_model.specs.Config.{Item, Judge}
 use Rattle.wf_model.specs.Local.{Local, Moved, Scene, Ends, Fails, goes}
 use Rattle.wf_model.specs.Unwind as model
 use Rattle.wf_model.specs.Unwind.{Says, Asks, asks, decided, judged, policy_of, retried, unwind}
-use Rattle.wf_moves.specs.Moved.{IsEnd, IsGoing, IsWent}
+use Rattle.wf_moves.specs.Moved.{GoesNext, IsEnd, IsWent}
 use Rattle.wf_moves.specs.Waits.{GoesFrom, call_in, wait_view}
 use Rattle.wf_moves.specs.declared.judging.Decided.{Decided}
 use Rattle.wf_moves.specs.declared.judging.Decided.TheVariants as decision
@@ -122,9 +122,9 @@ abbrev pub LeadsBy : Around → ℕ → (Scene → Local → Moved) → Held →
 LeadsBy a last m h d fs x = (s : Scene) (c : List Item) → s.last ≡ last → Agrees s a → IsLed a (m s (standing c h)) d (local_of a fs x)
 
 -- of a task that goes on or waits the frames can go on, and of one that has ended none is left
-abbrev pub IsLedSo : List Node → Led → List Frame → Type 0
-IsLedSo nodes led.Goes fs = IsGoing nodes fs
-IsLedSo nodes (led.Ended e) fs = fs ≡ []
+abbrev pub IsLedSo : List Node → Led → Frames → Type 0
+IsLedSo nodes led.Goes fs = GoesNext nodes fs
+IsLedSo nodes (led.Ended e) fs = inner fs ≡ []
 IsLedSo nodes (led.Waits w) fs = (call_in w ≡ None) × GoesFrom nodes w fs
 
 -- ## What became of an error
@@ -141,6 +141,6 @@ abbrev pub Rests : Decided → List Frame → List Frame → Type 0
 Rests (decision.Raises e) old new = new ≡ old
 Rests (decision.Led d) old new = Unit {0}
 
-abbrev pub IsDecidedSo : List Node → Decided → List Frame → Type 0
+abbrev pub IsDecidedSo : List Node → Decided → Frames → Type 0
 IsDecidedSo nodes (decision.Raises e) fs = depth (plain e) ≤ 100
 IsDecidedSo nodes (decision.Led d) fs = IsLedSo nodes d fs

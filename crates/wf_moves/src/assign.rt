@@ -1,6 +1,5 @@
 // Assignments.
 ghost use Rattle.std.specs.Prelude.{◌≡◌, ◌<◌, [], IfOk, OnOk, length};
-ghost use Rattle.wf_frames.specs.Frames.{inner};
 ghost use Rattle.wf_frames.specs.Owned.{Around, control_of, held_by};
 ghost use Rattle.wf_frames.specs.Stands.{Stands};
 ghost use Rattle.wf_model.specs.Layers as layers;
@@ -42,7 +41,7 @@ pub(crate) fn store_value(
         (layers.assign s name.now [] (plain value) l))
         (held_by around frames.old scopes.old) w frames.new scopes.new) }
     ensures stands { OnOk result (Stands around nodes.now frames.new scopes.new) }
-    ensures left { IfOk result (λ w. IsLeft nodes.now w (inner frames.new)) }
+    ensures left { IfOk result (λ w. IsLeft nodes.now w frames.new) }
 {
     match put_name(frames, scopes, name, value)? {
         None => Ok(goes(frames, nodes, scopes)),
@@ -68,7 +67,7 @@ fn store(
         (layers.assign s name.now (values_of assigned).1 (values_of assigned).0 l))
         (held_by around frames.old scopes.old) w frames.new scopes.new) }
     ensures stands { OnOk result (Stands around nodes.now frames.new scopes.new) }
-    ensures left { IfOk result (λ w. IsLeft nodes.now w (inner frames.new)) }
+    ensures left { IfOk result (λ w. IsLeft nodes.now w frames.new) }
 {
     let Assigned { value, places } = assigned;
     match put(alloc, frames, scopes, name, places.as_slice(), value)? {
@@ -96,7 +95,7 @@ fn assign_name(
         (λ s l. move.assigns s (entry_by codes.now entry.now) (control_of around frames.old) l)
         (held_by around frames.old scopes.old) w frames.new scopes.new) }
     ensures stands { OnOk result (Stands around nodes.now frames.new scopes.new) }
-    ensures left { IfOk result (λ w. IsLeft nodes.now w (inner frames.new)) }
+    ensures left { IfOk result (λ w. IsLeft nodes.now w frames.new) }
 {
     let look = seen(frames, scopes, facts);
     match evaluate_value(alloc, entry, codes, &look, facts.now) {
@@ -123,7 +122,7 @@ fn assign_places(
         (λ s l. move.assigns s (entry_by codes.now entry.now) (control_of around frames.old) l)
         (held_by around frames.old scopes.old) w frames.new scopes.new) }
     ensures stands { OnOk result (Stands around nodes.now frames.new scopes.new) }
-    ensures left { IfOk result (λ w. IsLeft nodes.now w (inner frames.new)) }
+    ensures left { IfOk result (λ w. IsLeft nodes.now w frames.new) }
 {
     let look = seen(frames, scopes, facts);
     match evaluate(alloc, entry, codes, &look, facts.now) {
@@ -151,7 +150,7 @@ pub(crate) fn assign(
         l)
         (held_by around frames.old scopes.old) w frames.new scopes.new) }
     ensures stands { OnOk result (Stands around nodes.now frames.new scopes.new) }
-    ensures left { IfOk result (λ w. IsLeft nodes.now w (inner frames.new)) }
+    ensures left { IfOk result (λ w. IsLeft nodes.now w frames.new) }
 {
     let node = &nodes[n as usize];
     let NodeKind::Entry(entry) = &node.kind else {

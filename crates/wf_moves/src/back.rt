@@ -116,7 +116,7 @@ pub(crate) fn give(
         (control_of around frames.old) l)
         (held_by around frames.old scopes.old) w frames.new scopes.new) }
     ensures stands { OnOk result (Stands around nodes.now frames.new scopes.new) }
-    ensures left { IfOk result (λ w. IsLeft nodes.now w (inner frames.new)) }
+    ensures left { IfOk result (λ w. IsLeft nodes.now w frames.new) }
 {
     match result_of(nodes, call) {
         Some(name) => store_value(alloc, nodes, name, value, frames, scopes),
@@ -140,7 +140,7 @@ pub(crate) fn returns(
         (λ s l. leave.returns s (plain value) (control_of around frames.old) l)
         (held_by around frames.old scopes.old) w frames.new scopes.new) }
     ensures stands { OnOk result (Stands around nodes.now frames.new scopes.new) }
-    ensures left { IfOk result (λ w. IsLeft nodes.now w (inner frames.new)) }
+    ensures left { IfOk result (λ w. IsLeft nodes.now w frames.new) }
 {
     leave_to_back(frames, scopes);
     match frames.top() {

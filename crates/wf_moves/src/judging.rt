@@ -85,7 +85,7 @@ pub(crate) fn retry(
         (λ s l. retry_at around.spots tried s (control_of around frames.old) l)
         (held_by around frames.old scopes.old) d frames.new scopes.new) }
     ensures stands { OnOk result (Stands around nodes.now frames.new scopes.new) }
-    ensures left { IfOk result (λ d. IsLedSo nodes.now d (inner frames.new)) }
+    ensures left { IfOk result (λ d. IsLedSo nodes.now d frames.new) }
 {
     let node = try_node(nodes, tried.node);
     let Some(policy) = &node.policy else {
@@ -116,7 +116,7 @@ pub(crate) fn try_again(
         (λ s l. retries (control_of around frames.old) l)
         (held_by around frames.old scopes.old) w frames.new scopes.new) }
     ensures stands { OnOk result (Stands around nodes.now frames.new scopes.new) }
-    ensures left { IfOk result (λ w. IsLeft nodes.now w (inner frames.new)) }
+    ensures left { IfOk result (λ w. IsLeft nodes.now w frames.new) }
 {
     let Some(frame) = frames.top() else {
         unreachable!()
@@ -162,7 +162,7 @@ fn question(
         (held_by around frames.old scopes.old) d frames.new scopes.new) }
     ensures same { IfOk result (λ d. Rests d (inner frames.old) (inner frames.new)) }
     ensures stands { OnOk result (Stands around nodes.now frames.new scopes.new) }
-    ensures left { IfOk result (λ d. IsDecidedSo nodes.now d (inner frames.new)) }
+    ensures left { IfOk result (λ d. IsDecidedSo nodes.now d frames.new) }
 {
     let bindings = with_error(alloc, param, &error)?;
     match enter_call(frames, scopes, bindings)? {
@@ -197,7 +197,7 @@ fn ask(
         (held_by around frames.old scopes.old) d frames.new scopes.new) }
     ensures same { IfOk result (λ d. Rests d (inner frames.old) (inner frames.new)) }
     ensures stands { OnOk result (Stands around nodes.now frames.new scopes.new) }
-    ensures left { IfOk result (λ d. IsDecidedSo nodes.now d (inner frames.new)) }
+    ensures left { IfOk result (λ d. IsDecidedSo nodes.now d frames.new) }
 {
     let target = &targets[tried.node as usize];
     let Target::Flow(flow) = target else {
@@ -237,7 +237,7 @@ pub(crate) fn decide(
         (held_by around frames.old scopes.old) d frames.new scopes.new) }
     ensures same { IfOk result (λ d. Rests d (inner frames.old) (inner frames.new)) }
     ensures stands { OnOk result (Stands around nodes.now frames.new scopes.new) }
-    ensures left { IfOk result (λ d. IsDecidedSo nodes.now d (inner frames.new)) }
+    ensures left { IfOk result (λ d. IsDecidedSo nodes.now d frames.new) }
 {
     let node = try_node(nodes, tried.node);
     match judge(&node.policy, tried.tries, &error) {

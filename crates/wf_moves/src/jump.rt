@@ -166,7 +166,7 @@ fn go_on_loop(frames: &mut Frames, nodes: &[Node], scopes: &mut Scopes) -> Went
         (to_loop (control_of around frames.old) (beside c around frames.old scopes.old)))
         result (local_of around frames.new scopes.new) }
     ensures stands { Stands around nodes.now frames.new scopes.new }
-    ensures left { IsLeft nodes.now result (inner frames.new) }
+    ensures left { IsLeft nodes.now result frames.new }
 {
     leave_to_loop(frames, scopes);
     goes(frames, nodes, scopes)
@@ -181,7 +181,7 @@ fn end_loop(frames: &mut Frames, nodes: &[Node], scopes: &mut Scopes) -> Went
         → IsMove s (leave.breaks (to_loop (control_of around frames.old)
         (beside c around frames.old scopes.old))) result (local_of around frames.new scopes.new) }
     ensures stands { Stands around nodes.now frames.new scopes.new }
-    ensures left { IsLeft nodes.now result (inner frames.new) }
+    ensures left { IsLeft nodes.now result frames.new }
 {
     leave_to_loop(frames, scopes);
     leave(frames, scopes);
@@ -206,7 +206,7 @@ fn go_to(
         (to_step x (control_of around frames.old) (beside c around frames.old scopes.old)))
         w (local_of around frames.new scopes.new)) }
     ensures stands { OnOk result (Stands around nodes.now frames.new scopes.new) }
-    ensures left { IfOk result (λ w. IsLeft nodes.now w (inner frames.new)) }
+    ensures left { IfOk result (λ w. IsLeft nodes.now w frames.new) }
 {
     match jump {
         Some(jump) => {
@@ -234,7 +234,7 @@ pub(crate) fn jump(
         (control_of around frames.old) l)
         (held_by around frames.old scopes.old) w frames.new scopes.new) }
     ensures stands { OnOk result (Stands around nodes.now frames.new scopes.new) }
-    ensures left { IfOk result (λ w. IsLeft nodes.now w (inner frames.new)) }
+    ensures left { IfOk result (λ w. IsLeft nodes.now w frames.new) }
 {
     let node = &nodes[n as usize];
     let Some(next) = &node.next else {

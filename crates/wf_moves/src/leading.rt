@@ -40,7 +40,7 @@ pub(crate) fn lead_on(frames: &mut Frames, nodes: &[Node], scopes: &mut Scopes) 
     requires tells { Tells around.spots nodes.now }
     requires stands { Stands around nodes.now frames.old scopes.old }
     ensures stands { Stands around nodes.now frames.new scopes.new }
-    ensures left { IsLedSo nodes.now result (inner frames.new) }
+    ensures left { IsLedSo nodes.now result frames.new }
     ensures moved { (c : List Item)
         → IsLed around
         (local.goes (control_of around frames.old) (beside c around frames.old scopes.old))
@@ -72,7 +72,7 @@ fn outward(
         (λ s l. unwind s (control_of around frames.old) l (plain error))
         (held_by around frames.old scopes.old) d frames.new scopes.new) }
     ensures stands { OnOk result (Stands around nodes.now frames.new scopes.new) }
-    ensures left { IfOk result (λ d. IsLedSo nodes.now d (inner frames.new)) }
+    ensures left { IfOk result (λ d. IsLedSo nodes.now d frames.new) }
 {
     let mut error = error;
     while let Some(tried) = leave_to_try(frames, scopes) {
@@ -124,7 +124,7 @@ fn answered(
         (λ s l. returns s (boolean yes) (control_of around frames.old) l)
         (held_by around frames.old scopes.old) d frames.new scopes.new) }
     ensures stands { OnOk result (Stands around nodes.now frames.new scopes.new) }
-    ensures left { IfOk result (λ d. IsLedSo nodes.now d (inner frames.new)) }
+    ensures left { IfOk result (λ d. IsLedSo nodes.now d frames.new) }
 {
     let asked = asked_on(alloc, frames)?;
     let (tried, error) = asked;
@@ -157,7 +157,7 @@ fn lead_turned(
         → IsTurned s m by (local_of around frames.old scopes.old)
         → IsLed around m d (local_of around frames.new scopes.new)) }
     ensures stands { OnOk result (Stands around nodes.now frames.new scopes.new) }
-    ensures left { IfOk result (λ d. IsLedSo nodes.now d (inner frames.new)) }
+    ensures left { IfOk result (λ d. IsLedSo nodes.now d frames.new) }
 {
     match by {
         Turned::Ended(end) => Ok(Led::Ended(end)),
@@ -180,12 +180,12 @@ pub(crate) fn lead(
     requires tells { Tells around.spots nodes.now }
     requires targets { AreTargets around.flows around.spots nodes.now targets.now }
     requires stands { Stands around nodes.now frames.old scopes.old }
-    requires left { IsLeft nodes.now went (inner frames.old) }
+    requires left { IsLeft nodes.now went frames.old }
     ensures moved { IfOk result (λ d. (s : Scene) (m : Moved) → s.last ≡ last → Agrees s around
         → IsMove s m went (local_of around frames.old scopes.old)
         → IsLed around m d (local_of around frames.new scopes.new)) }
     ensures stands { OnOk result (Stands around nodes.now frames.new scopes.new) }
-    ensures left { IfOk result (λ d. IsLedSo nodes.now d (inner frames.new)) }
+    ensures left { IfOk result (λ d. IsLedSo nodes.now d frames.new) }
 {
     match went {
         Went::Goes => Ok(Led::Goes),

@@ -86,7 +86,7 @@ fn iterate(
         (λ s l. moves s (control around.spots (frame.Loop n left index ∷ inner frames.old)) l)
         (held_by around frames.old scopes.old) w frames.new scopes.new) }
     ensures stands { OnOk result (Stands around nodes.now frames.new scopes.new) }
-    ensures left { IfOk result (λ w. IsLeft nodes.now w (inner frames.new)) }
+    ensures left { IfOk result (λ w. IsLeft nodes.now w frames.new) }
 {
     let entered = enter(frames, scopes, &body.value, value, &body.index, index)?;
     let Some(layer) = entered else {
@@ -117,7 +117,7 @@ pub(crate) fn turn(
         (λ s l. moves s (control around.spots (frame.Loop n left index ∷ inner frames.old)) l)
         (held_by around frames.old scopes.old) w frames.new scopes.new) }
     ensures stands { OnOk result (Stands around nodes.now frames.new scopes.new) }
-    ensures left { IfOk result (λ w. IsLeft nodes.now w (inner frames.new)) }
+    ensures left { IfOk result (λ w. IsLeft nodes.now w frames.new) }
 {
     let found = next_of(alloc, left)?;
     let Some(both) = found else {

@@ -24,7 +24,7 @@ returns-in_default-clause-stands g c =
     c.raises_tag.ensures
 
 pub returns-in_default-clause-left : goal.returns-in_default-clause-left
-returns-in_default-clause-left g c = with_ok _ _ c.raises_tag.result (λ w m. raised_left c.args.nodes.now (inner c.args.frames.now) (error_map ResourceLimitError) w m) c.raises_tag.ensures
+returns-in_default-clause-left g c = with_ok _ _ c.raises_tag.result (λ w m. raised_left c.args.nodes.now c.args.frames.now (error_map ResourceLimitError) w m) c.raises_tag.ensures
 
 pub returns-in_default-clause-moved : goal.returns-in_default-clause-moved
 returns-in_default-clause-moved g c =
