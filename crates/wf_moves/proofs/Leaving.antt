@@ -1,5 +1,7 @@
 -- Frames that are left.
 use Rattle.std.proofs.Common.{◌≡◌, ℕ, ◌<◌, ◌≤◌, Bool, true, false, List, [], ◌∷◌, length, Some, None, refl, sym, ap, subst, ◌∙◌, arith}
+use Rattle.std.specs.Prelude.{Box}
+use Rattle.std.specs.Global.{Global}
 use Rattle.std.proofs.Math.Dec.{leb}
 use Rattle.std.proofs.lemmas.Bool.{leb-true, leb-false}
 use Rattle.wf_lemmas.proofs.Lists.{drop_end}
@@ -10,6 +12,7 @@ use Rattle.wf_frames.specs.Held.{Held, standing}
 use Rattle.wf_frames.specs.Turns.{Leaves, dropped, left_by}
 use Rattle.wf_frames.specs.declared.frames.Frame.{Frame}
 use Rattle.wf_frames.specs.declared.frames.Frame.TheVariants as frame
+use Rattle.wf_frames.specs.declared.frames.Looping.{Looping}
 use Rattle.wf_frames.specs.declared.frames.Left.{Left}
 use Rattle.wf_model.specs.Config.{Item, Do, Entries}
 use Rattle.wf_model.specs.Local.{Goes, Local, Scene, ended, settle, settled}
@@ -31,22 +34,22 @@ stands_on (frame.Do n at) c h = refl
 stands_on (frame.Lone n b) c h = refl
 stands_on (frame.Entries n at) c h = refl
 stands_on (frame.Then n) c h = refl
-stands_on (frame.Loop n w i) c h = refl
-stands_on (frame.Try n r d) c h = refl
+stands_on (frame.Loop looping) c h = refl
+stands_on (frame.Try trying) c h = refl
 stands_on (frame.Mark m) c h = refl
 stands_on (frame.Back k m) c h = refl
-stands_on (frame.Judge tried r delay error m) c h = refl
+stands_on (frame.Judge judging) c h = refl
 
 pub same_outside : (f : Frame) (h : Held) → (dropped f h).outside ≡ h.outside
 same_outside (frame.Do n at) h = refl
 same_outside (frame.Lone n b) h = refl
 same_outside (frame.Entries n at) h = refl
 same_outside (frame.Then n) h = refl
-same_outside (frame.Loop n w i) h = refl
-same_outside (frame.Try n r d) h = refl
+same_outside (frame.Loop looping) h = refl
+same_outside (frame.Try trying) h = refl
 same_outside (frame.Mark m) h = refl
 same_outside (frame.Back k m) h = refl
-same_outside (frame.Judge tried r delay error m) h = refl
+same_outside (frame.Judge judging) h = refl
 
 -- ## What has ended
 pub do_ended : (ns : List Spot) (n at : ℕ) (xs : List ℕ) → part_list (part_at ns n) ≡ steps_by ns xs → length xs ≤ at → Settled ns true (frame.Do n at)
@@ -142,11 +145,11 @@ going_plain nodes (frame.Do n at) h q = refl
 going_plain nodes (frame.Lone n b) h q = refl
 going_plain nodes (frame.Entries n at) h q = refl
 going_plain nodes (frame.Then n) h q = refl
-going_plain nodes (frame.Loop n w i) h q = refl
-going_plain nodes (frame.Try n r d) h q = absurd h
+going_plain nodes (frame.Loop looping) h q = refl
+going_plain nodes (frame.Try trying) h q = absurd h
 going_plain nodes (frame.Mark m) h q = absurd h
 going_plain nodes (frame.Back k m) h q = absurd (cc q)
-going_plain nodes (frame.Judge tried r delay error m) h q = absurd (cc q)
+going_plain nodes (frame.Judge judging) h q = absurd (cc q)
 
 pub going_step : (nodes : List Node) (fs : List Frame) → IsGoing nodes fs → is_at_back fs ≡ false → is_at_loop fs ≡ false → HasStepOnTop nodes fs
 going_step nodes [] h q other = h
@@ -154,25 +157,25 @@ going_step nodes (frame.Do n at ∷ fs) h q other = h
 going_step nodes (frame.Lone n b ∷ fs) h q other = h
 going_step nodes (frame.Entries n at ∷ fs) h q other = h
 going_step nodes (frame.Then n ∷ fs) h q other = h
-going_step nodes (frame.Loop n w i ∷ fs) h q other = absurd (cc other)
-going_step nodes (frame.Try n r d ∷ fs) h q other = absurd h
+going_step nodes (frame.Loop looping ∷ fs) h q other = absurd (cc other)
+going_step nodes (frame.Try trying ∷ fs) h q other = absurd h
 going_step nodes (frame.Mark m ∷ fs) h q other = absurd h
 going_step nodes (frame.Back k m ∷ fs) h q other = absurd (cc q)
-going_step nodes (frame.Judge tried r delay error m ∷ fs) h q other = absurd (cc q)
+going_step nodes (frame.Judge judging ∷ fs) h q other = absurd (cc q)
 
 -- before a loop's turn the innermost frame is a loop
-loop_first : (f : Frame) (fs : List Frame) → is_at_loop (f ∷ fs) ≡ true → ((n : ℕ) (w : Left) (i : ℕ) → f ≡ frame.Loop n w i → ⊥) → ⊥
+loop_first : (f : Frame) (fs : List Frame) → is_at_loop (f ∷ fs) ≡ true → ((held : Box Looping Global) → f ≡ frame.Loop held → ⊥) → ⊥
 loop_first (frame.Do n at) fs h other = absurd (cc h)
 loop_first (frame.Lone n b) fs h other = absurd (cc h)
 loop_first (frame.Entries n at) fs h other = absurd (cc h)
 loop_first (frame.Then n) fs h other = absurd (cc h)
-loop_first (frame.Loop n w i) fs h other = other n w i refl
-loop_first (frame.Try n r d) fs h other = absurd (cc h)
+loop_first (frame.Loop looping) fs h other = other looping refl
+loop_first (frame.Try trying) fs h other = absurd (cc h)
 loop_first (frame.Mark m) fs h other = absurd (cc h)
 loop_first (frame.Back k m) fs h other = absurd (cc h)
-loop_first (frame.Judge tried r delay error m) fs h other = absurd (cc h)
+loop_first (frame.Judge judging) fs h other = absurd (cc h)
 
-pub at_loop : (f : Frame) (fs gs : List Frame) → fs ≡ f ∷ gs → is_at_loop fs ≡ true → ((n : ℕ) (w : Left) (i : ℕ) → f ≡ frame.Loop n w i → ⊥) → ⊥
+pub at_loop : (f : Frame) (fs gs : List Frame) → fs ≡ f ∷ gs → is_at_loop fs ≡ true → ((held : Box Looping Global) → f ≡ frame.Loop held → ⊥) → ⊥
 at_loop f fs gs e h = loop_first f gs (sym (ap is_at_loop e) ∙ h)
 
 -- the task goes on, or has ended
@@ -185,11 +188,11 @@ ended_items ns (frame.Do n at) k l = refl
 ended_items ns (frame.Lone n b) k l = refl
 ended_items ns (frame.Entries n at) k l = refl
 ended_items ns (frame.Then n) k l = refl
-ended_items ns (frame.Loop n w i) k l = refl
-ended_items ns (frame.Try n r d) k l = refl
+ended_items ns (frame.Loop looping) k l = refl
+ended_items ns (frame.Try trying) k l = refl
 ended_items ns (frame.Mark m) k l = refl
 ended_items ns (frame.Back c m) k l = refl
-ended_items ns (frame.Judge n r d e m) k l = refl
+ended_items ns (frame.Judge judging) k l = refl
 
 pub went_on : (s : Scene) (ns : List Spot) (f : Frame) (fs : List Frame) (h : Held) → topped fs ≡ Some f → IsMove s (settled (standing (control ns fs) h)) went.Goes (standing (control ns fs) h)
 went_on s ns f [] h t = absurd (cc t)

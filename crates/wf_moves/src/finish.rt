@@ -107,9 +107,9 @@ fn is_ended(frame: &Frame, nodes: &[Node]) -> bool
         Frame::Do(list, at) => *at >= block(nodes, *list).steps.len(),
         Frame::Lone(_, done) => *done,
         Frame::Entries(n, at) => *at >= entries(nodes, *n).len(),
-        Frame::Then(_) | Frame::Loop(_, _, _) | Frame::Back(_, _) => false,
-        Frame::Judge(_, _, _, _, _) => false,
-        Frame::Try(_, _, _) | Frame::Mark(_) => true,
+        Frame::Then(_) | Frame::Loop(_) | Frame::Back(_, _) => false,
+        Frame::Judge(_) => false,
+        Frame::Try(_) | Frame::Mark(_) => true,
     }
 }
 

@@ -17,7 +17,7 @@ use crate::jump::jump;
 use crate::sending::Sending;
 use crate::turn::turn;
 use std::alloc::Global;
-use wf_frames::{Facts, Frame, Frames, Leads, Step, Target, loop_node, seen, step_of};
+use wf_frames::{Facts, Frame, Frames, Leads, Looping, Step, Target, loop_node, seen, step_of};
 use wf_model::Node;
 use wf_scope::Scopes;
 use wf_value::{OutOfMemory, Value};
@@ -105,7 +105,7 @@ fn is_at_loop(frames: &Frames) -> bool
     ensures { result ≡ is_at_loop (inner frames.now) }
 {
     match frames.top() {
-        Some(Frame::Loop(_, _, _)) => true,
+        Some(Frame::Loop(_)) => true,
         _ => false,
     }
 }
@@ -169,9 +169,10 @@ pub(crate) fn advance(
         unreachable!()
     };
     match frame {
-        Frame::Loop(n, left, index) => {
-            let body = loop_node(nodes, n);
-            Ok(done_of(turn(alloc, nodes, n, body, left, index, frames, scopes)?))
+        Frame::Loop(looping) => {
+            let Looping { node, left, index } = Box::into_inner(looping);
+            let body = loop_node(nodes, node);
+            Ok(done_of(turn(alloc, nodes, node, body, left, index, frames, scopes)?))
         }
         _ => unreachable!(),
     }
