@@ -156,11 +156,11 @@ module _ (ns : List Spot) (nodes : List Node) where
   body_first (frame.Lone m false ∷ fs) n fits e = let same : m ≡ n = cc e in inr (fs, ap (λ (i : ℕ). frame.Lone i false ∷ fs) same)
   body_first (frame.Entries l at ∷ fs) n fits e = absurd (entries_carry_not (slice_get (unwrap_or (entries_at nodes l) []) at) n e)
   body_first (frame.Then m ∷ fs) n fits e = absurd (cc e)
-  body_first (frame.Loop m l i ∷ fs) n fits e = absurd (cc e)
-  body_first (frame.Try m tries delay ∷ fs) n fits e = absurd (cc e)
+  body_first (frame.Loop looping ∷ fs) n fits e = absurd (cc e)
+  body_first (frame.Try trying ∷ fs) n fits e = absurd (cc e)
   body_first (frame.Mark number ∷ fs) n fits e = absurd (cc e)
   body_first (frame.Back call number ∷ fs) n fits e = absurd (cc e)
-  body_first (frame.Judge m tries delay error number ∷ fs) n fits e = absurd (cc e)
+  body_first (frame.Judge judging ∷ fs) n fits e = absurd (cc e)
 
   entry_first : (fs : List Frame) (n : ℕ) → Fits ns nodes fs → next_by nodes fs ≡ next.Entry n → InEntries nodes n fs
   entry_first [] n fits e = absurd (cc e)
@@ -177,11 +177,11 @@ module _ (ns : List Spot) (nodes : List Node) where
     here = ap (λ (o : Option (List ℕ)). slice_get (unwrap_or o []) at) (sym fits.0.0.1) ∙ some_entry (slice_get (unwrap_or (entries_at nodes l) []) at) n e;
   }
   entry_first (frame.Then m ∷ fs) n fits e = absurd (cc e)
-  entry_first (frame.Loop m l i ∷ fs) n fits e = absurd (cc e)
-  entry_first (frame.Try m tries delay ∷ fs) n fits e = absurd (cc e)
+  entry_first (frame.Loop looping ∷ fs) n fits e = absurd (cc e)
+  entry_first (frame.Try trying ∷ fs) n fits e = absurd (cc e)
   entry_first (frame.Mark number ∷ fs) n fits e = absurd (cc e)
   entry_first (frame.Back call number ∷ fs) n fits e = absurd (cc e)
-  entry_first (frame.Judge m tries delay error number ∷ fs) n fits e = absurd (cc e)
+  entry_first (frame.Judge judging ∷ fs) n fits e = absurd (cc e)
 
 -- the `next` of the node
 pub then_first : (nodes : List Node) (fs : List Frame) (n : ℕ) → next_by nodes fs ≡ next.Then n → topped fs ≡ Some (frame.Then n)
@@ -191,11 +191,11 @@ then_first nodes (frame.Lone m true ∷ fs) n e = absurd (cc e)
 then_first nodes (frame.Lone m false ∷ fs) n e = absurd (cc e)
 then_first nodes (frame.Entries l at ∷ fs) n e = absurd (entries_go_not (slice_get (unwrap_or (entries_at nodes l) []) at) n e)
 then_first nodes (frame.Then m ∷ fs) n e = let same : m ≡ n = cc e in ap (λ (i : ℕ). Some (frame.Then i)) same
-then_first nodes (frame.Loop m l i ∷ fs) n e = absurd (cc e)
-then_first nodes (frame.Try m tries delay ∷ fs) n e = absurd (cc e)
+then_first nodes (frame.Loop looping ∷ fs) n e = absurd (cc e)
+then_first nodes (frame.Try trying ∷ fs) n e = absurd (cc e)
 then_first nodes (frame.Mark number ∷ fs) n e = absurd (cc e)
 then_first nodes (frame.Back call number ∷ fs) n e = absurd (cc e)
-then_first nodes (frame.Judge m tries delay error number ∷ fs) n e = absurd (cc e)
+then_first nodes (frame.Judge judging ∷ fs) n e = absurd (cc e)
 
 -- ## A body
 module _ (ns : List Spot) (nodes : List Node) (r : Resolves ns nodes) (fs : List Frame) (n : ℕ) (fits : Fits ns nodes fs) (e : next_by nodes fs ≡ next.Body n) where
@@ -322,11 +322,11 @@ module _ (ns : List Spot) (nodes : List Node) (r : Resolves ns nodes) (p : Progr
       by (Some m) q = absurd (entry m (ap in_entries q))
       by None q = entry_plain ns nodes l at r p (control ns fs) fits.0.0.0 fits.0.0.1 (ap (λ (o : Option (List ℕ)). slice_get (unwrap_or o []) at) (sym fits.0.0.1) ∙ q)
   plain_kinds (frame.Then m ∷ fs) fits body entry = refl
-  plain_kinds (frame.Loop m l i ∷ fs) fits body entry = refl
-  plain_kinds (frame.Try m tries delay ∷ fs) fits body entry = refl
+  plain_kinds (frame.Loop looping ∷ fs) fits body entry = refl
+  plain_kinds (frame.Try trying ∷ fs) fits body entry = refl
   plain_kinds (frame.Mark number ∷ fs) fits body entry = refl
   plain_kinds (frame.Back call number ∷ fs) fits body entry = refl
-  plain_kinds (frame.Judge m tries delay error number ∷ fs) fits body entry = refl
+  plain_kinds (frame.Judge judging ∷ fs) fits body entry = refl
 
 -- ## What has a step
 some_at : (xs : List ℕ) (at : ℕ) → at < length xs → (m : ℕ) × (slice_get xs at ≡ Some m)
@@ -342,11 +342,11 @@ some_next nodes (frame.Lone m true ∷ fs) h body entry goes = h
 some_next nodes (frame.Lone m false ∷ fs) h body entry goes = body m refl
 some_next nodes (frame.Entries l at ∷ fs) h body entry goes = let m = some_at h.0 at h.2 in entry m.0 (ap in_entries (ap (λ (o : Option (List ℕ)). slice_get (unwrap_or o []) at) h.1 ∙ m.1))
 some_next nodes (frame.Then m ∷ fs) h body entry goes = goes m refl
-some_next nodes (frame.Loop m l i ∷ fs) h body entry goes = h
-some_next nodes (frame.Try m tries delay ∷ fs) h body entry goes = h
+some_next nodes (frame.Loop looping ∷ fs) h body entry goes = h
+some_next nodes (frame.Try trying ∷ fs) h body entry goes = h
 some_next nodes (frame.Mark number ∷ fs) h body entry goes = h
 some_next nodes (frame.Back call number ∷ fs) h body entry goes = h
-some_next nodes (frame.Judge m tries delay error number ∷ fs) h body entry goes = h
+some_next nodes (frame.Judge judging ∷ fs) h body entry goes = h
 
 pub no_other : (nodes : List Node) (fs : List Frame) (x : Next) → HasStepOnTop nodes fs → x ≡ next_by nodes fs → (x ≡ next.Nothing) ⊎ ((x ≡ next.Loop) ⊎ (x ≡ next.Back)) → ⊥
 no_other nodes fs x h is (inl e) = some_next nodes fs h (λ n q. cc (sym e ∙ is ∙ q)) (λ n q. cc (sym e ∙ is ∙ q)) (λ n q. cc (sym e ∙ is ∙ q))

@@ -22,11 +22,11 @@ next_in nodes (frame.Lone n true) = None
 next_in nodes (frame.Lone n false) = Some (next.Body n)
 next_in nodes (frame.Entries n at) = option_map next.Entry (slice_get (unwrap_or (entries_at nodes n) []) at)
 next_in nodes (frame.Then n) = Some (next.Then n)
-next_in nodes (frame.Loop n l i) = Some next.Loop
-next_in nodes (frame.Try n tries delay) = None
+next_in nodes (frame.Loop looping) = Some next.Loop
+next_in nodes (frame.Try trying) = None
 next_in nodes (frame.Mark number) = None
 next_in nodes (frame.Back call number) = Some next.Back
-next_in nodes (frame.Judge n tries delay e number) = Some next.Back
+next_in nodes (frame.Judge judging) = Some next.Back
 
 abbrev pub next_by : List Node → List Frame → Next
 next_by nodes [] = next.Nothing

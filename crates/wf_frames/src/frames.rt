@@ -17,7 +17,35 @@ pub enum Left {
     Range(i64, i64),
 }
 
-/// What a task has still to do, by the number of the node that it belongs to.
+/// A loop between two iterations, with the index of the next.
+#[derive(Drop)]
+pub struct Looping {
+    pub node: u32,
+    pub left: Left,
+    pub index: u64,
+}
+
+/// A `try` around its body, with the retries used and the last delay in milliseconds.
+#[derive(Drop)]
+pub struct Trying {
+    pub node: u32,
+    pub tries: u64,
+    pub delay: Option<u64>,
+}
+
+/// The call of the workflow that decides on an error of a `try`: the retries used, the last delay in milliseconds, the error, and the
+/// number of the call's layer.
+#[derive(Drop)]
+pub struct Judging {
+    pub node: u32,
+    pub tries: u64,
+    pub delay: Option<u64>,
+    pub error: Value,
+    pub layer: u64,
+}
+
+/// What a task has still to do, by the number of the node that it belongs to. What few frames hold stands in a box, so that a frame is
+/// small.
 #[derive(Drop)]
 pub enum Frame {
     /// The steps of the list that the node owns, from this one on.
@@ -28,17 +56,15 @@ pub enum Frame {
     Entries(u32, usize),
     /// The node's `next`.
     Then(u32),
-    /// A loop between two iterations, with the index of the next.
-    Loop(u32, Left, u64),
-    /// A `try` around its body, with the retries used and the last delay in milliseconds.
-    Try(u32, u64, Option<u64>),
+    Loop(Box<Looping>),
+    Try(Box<Trying>),
     /// The layer of this number ends here.
     Mark(u64),
     /// The call of a step ends here, with its layer.
     Back(Option<u32>, u64),
-    /// The call of the workflow that decides on an error of a `try` ends here, with its layer: the retries used, the last delay in
-    /// milliseconds, the error, and the layer's number. The call and the decision are one frame, since neither is left without the other.
-    Judge(u32, u64, Option<u64>, Value, u64),
+    /// The call of the workflow that decides on an error of a `try` ends here, with its layer. The call and the decision are one frame,
+    /// since neither is left without the other.
+    Judge(Box<Judging>),
 }
 
 impl Frame {
@@ -51,9 +77,9 @@ impl Frame {
     {
         match self {
             Frame::Mark(number) | Frame::Back(_, number) => Some(*number),
-            Frame::Judge(_, _, _, _, number) => Some(*number),
+            Frame::Judge(judging) => Some(judging.layer),
             Frame::Do(_, _) | Frame::Lone(_, _) | Frame::Entries(_, _) | Frame::Then(_) => None,
-            Frame::Loop(_, _, _) | Frame::Try(_, _, _) => None,
+            Frame::Loop(_) | Frame::Try(_) => None,
         }
     }
 
@@ -67,8 +93,8 @@ impl Frame {
             Frame::Do(_, at) => *at += 1,
             Frame::Lone(_, done) => *done = true,
             Frame::Entries(_, at) => *at += 1,
-            Frame::Then(_) | Frame::Loop(_, _, _) | Frame::Try(_, _, _) => {}
-            Frame::Mark(_) | Frame::Back(_, _) | Frame::Judge(_, _, _, _, _) => {}
+            Frame::Then(_) | Frame::Loop(_) | Frame::Try(_) => {}
+            Frame::Mark(_) | Frame::Back(_, _) | Frame::Judge(_) => {}
         }
     }
 
@@ -77,9 +103,9 @@ impl Frame {
         ensures { result ≡ is_back self.now }
     {
         match self {
-            Frame::Back(_, _) | Frame::Judge(_, _, _, _, _) => true,
+            Frame::Back(_, _) | Frame::Judge(_) => true,
             Frame::Do(_, _) | Frame::Lone(_, _) | Frame::Entries(_, _) | Frame::Then(_) => false,
-            Frame::Loop(_, _, _) | Frame::Try(_, _, _) | Frame::Mark(_) => false,
+            Frame::Loop(_) | Frame::Try(_) | Frame::Mark(_) => false,
         }
     }
 }

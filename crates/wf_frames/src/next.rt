@@ -41,8 +41,8 @@ pub fn next_in(frame: &Frame, nodes: &[Node]) -> Option<Next>
             None => None,
         },
         Frame::Then(n) => Some(Next::Then(*n)),
-        Frame::Loop(_, _, _) => Some(Next::Loop),
-        Frame::Back(_, _) | Frame::Judge(_, _, _, _, _) => Some(Next::Back),
-        Frame::Lone(_, true) | Frame::Try(_, _, _) | Frame::Mark(_) => None,
+        Frame::Loop(_) => Some(Next::Loop),
+        Frame::Back(_, _) | Frame::Judge(_) => Some(Next::Back),
+        Frame::Lone(_, true) | Frame::Try(_) | Frame::Mark(_) => None,
     }
 }

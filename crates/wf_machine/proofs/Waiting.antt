@@ -81,15 +81,15 @@ nothing_passed a x (wait.Calling call node) is = absurd (cc is)
 -- where it waits for its next try it stands before the body of a `try`
 before_try : (ns : List Spot) (fs : List Frame) → is_at_try fs ≡ true → is_before_try (control ns fs) ≡ true
 before_try ns [] is = absurd (cc is)
-before_try ns (frame.Try n tries delay ∷ fs) is = refl
+before_try ns (frame.Try trying ∷ fs) is = refl
 before_try ns (frame.Do n at ∷ fs) is = absurd (cc is)
 before_try ns (frame.Lone n done ∷ fs) is = absurd (cc is)
 before_try ns (frame.Entries n at ∷ fs) is = absurd (cc is)
 before_try ns (frame.Then n ∷ fs) is = absurd (cc is)
-before_try ns (frame.Loop n l i ∷ fs) is = absurd (cc is)
+before_try ns (frame.Loop looping ∷ fs) is = absurd (cc is)
 before_try ns (frame.Mark number ∷ fs) is = absurd (cc is)
 before_try ns (frame.Back call number ∷ fs) is = absurd (cc is)
-before_try ns (frame.Judge n tries delay e number ∷ fs) is = absurd (cc is)
+before_try ns (frame.Judge judging ∷ fs) is = absurd (cc is)
 
 pub can_wake : (a : Around) (nodes : List Node) (w : Wait) (fs : List Frame) → GoesFrom nodes w fs → CanWake (control a.spots fs) (wait_view a w)
 can_wake a nodes wait.Awake fs goes = tt

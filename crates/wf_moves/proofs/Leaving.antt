@@ -1,7 +1,8 @@
 -- Frames that are left.
 use Rattle.std.proofs.Common.{◌≡◌, ℕ, ◌<◌, ◌≤◌, Bool, true, false, List, [], ◌∷◌, length, Some, None, refl, sym, ap, subst, ◌∙◌, arith}
 use Rattle.std.proofs.lemmas.Option.{slice_get_within}
-use Rattle.std.specs.Prelude.{Option, option_map, slice_get, unwrap_or}
+use Rattle.std.specs.Global.{Global}
+use Rattle.std.specs.Prelude.{Box, Option, option_map, slice_get, unwrap_or}
 use Rattle.wf_lemmas.proofs.Lists.{drop_end, none_past}
 use Rattle.wf_ast.specs.Tree.{more}
 use Rattle.wf_frames.specs.Fits.{Fits, HasNode, entries_at, list_at}
@@ -12,6 +13,7 @@ use Rattle.wf_frames.specs.Standing.{steps_of}
 use Rattle.wf_frames.specs.Turns.{Leaves, dropped, left_by}
 use Rattle.wf_frames.specs.declared.frames.Frame.{Frame}
 use Rattle.wf_frames.specs.declared.frames.Frame.TheVariants as frame
+use Rattle.wf_frames.specs.declared.frames.Looping.{Looping}
 use Rattle.wf_frames.specs.declared.frames.Left.{Left}
 use Rattle.wf_frames.specs.declared.next.Next.{Next}
 use Rattle.wf_frames.specs.declared.next.Next.TheVariants as next
@@ -35,22 +37,22 @@ stands_on (frame.Do n at) c h = refl
 stands_on (frame.Lone n b) c h = refl
 stands_on (frame.Entries n at) c h = refl
 stands_on (frame.Then n) c h = refl
-stands_on (frame.Loop n w i) c h = refl
-stands_on (frame.Try n r d) c h = refl
+stands_on (frame.Loop looping) c h = refl
+stands_on (frame.Try trying) c h = refl
 stands_on (frame.Mark m) c h = refl
 stands_on (frame.Back k m) c h = refl
-stands_on (frame.Judge tried r delay error m) c h = refl
+stands_on (frame.Judge judging) c h = refl
 
 pub same_outside : (f : Frame) (h : Held) → (dropped f h).outside ≡ h.outside
 same_outside (frame.Do n at) h = refl
 same_outside (frame.Lone n b) h = refl
 same_outside (frame.Entries n at) h = refl
 same_outside (frame.Then n) h = refl
-same_outside (frame.Loop n w i) h = refl
-same_outside (frame.Try n r d) h = refl
+same_outside (frame.Loop looping) h = refl
+same_outside (frame.Try trying) h = refl
 same_outside (frame.Mark m) h = refl
 same_outside (frame.Back k m) h = refl
-same_outside (frame.Judge tried r delay error m) h = refl
+same_outside (frame.Judge judging) h = refl
 
 -- ## What has ended
 pub do_ended : (ns : List Spot) (n at : ℕ) (xs : List ℕ) → part_list (part_at ns n) ≡ steps_by ns xs → length xs ≤ at → Settled ns true (frame.Do n at)
@@ -101,11 +103,11 @@ module _ (ns : List Spot) (nodes : List Node) (r : Resolves ns nodes) where
       let none = entered_at nodes n at h.0 None h.1 (none_in next.Entry (slice_get (unwrap_or (entries_at nodes n) []) at) e) in
       entries_ended ns n at (omega (arith, none_past h.0 at none, entries_many n h.0 h.1))
   none_ended (frame.Then n) h e = absurd (cc e)
-  none_ended (frame.Loop n w i) h e = absurd (cc e)
-  none_ended (frame.Try n tries d) h e = λ k l. refl
+  none_ended (frame.Loop looping) h e = absurd (cc e)
+  none_ended (frame.Try trying) h e = λ k l. refl
   none_ended (frame.Mark m) h e = λ k l. refl
   none_ended (frame.Back c m) h e = absurd (cc e)
-  none_ended (frame.Judge n tries d error m) h e = absurd (cc e)
+  none_ended (frame.Judge judging) h e = absurd (cc e)
 
   -- another one stands
   pub next_stands : (f : Frame) (x : Next) → HasNode nodes f → next_in nodes f ≡ Some x → Settled ns false f
@@ -119,11 +121,11 @@ module _ (ns : List Spot) (nodes : List Node) (r : Resolves ns nodes) where
       let lt = slice_get_within h.0 at m.0 (entered_at nodes n at h.0 (Some m.0) h.1 m.1) in
       entries_stand ns n at (omega (arith, lt, entries_many n h.0 h.1))
   next_stands (frame.Then n) x h e = λ k l. refl
-  next_stands (frame.Loop n w i) x h e = λ k l. refl
-  next_stands (frame.Try n tries d) x h e = absurd (cc e)
+  next_stands (frame.Loop looping) x h e = λ k l. refl
+  next_stands (frame.Try trying) x h e = absurd (cc e)
   next_stands (frame.Mark m) x h e = absurd (cc e)
   next_stands (frame.Back c m) x h e = λ k l. refl
-  next_stands (frame.Judge n tries d error m) x h e = λ k l. refl
+  next_stands (frame.Judge judging) x h e = λ k l. refl
 
 -- and has a move
 pub next_moves : (nodes : List Node) (f : Frame) (x : Next) → HasNode nodes f → next_in nodes f ≡ Some x → HasMove nodes f
@@ -136,11 +138,11 @@ next_moves nodes (frame.Entries n at) x h e =
     let m = some_in next.Entry (slice_get (unwrap_or (entries_at nodes n) []) at) x e in
     (h.0, h.1, slice_get_within h.0 at m.0 (entered_at nodes n at h.0 (Some m.0) h.1 m.1))
 next_moves nodes (frame.Then n) x h e = tt
-next_moves nodes (frame.Loop n w i) x h e = tt
-next_moves nodes (frame.Try n tries d) x h e = absurd (cc e)
+next_moves nodes (frame.Loop looping) x h e = tt
+next_moves nodes (frame.Try trying) x h e = absurd (cc e)
 next_moves nodes (frame.Mark m) x h e = absurd (cc e)
 next_moves nodes (frame.Back c m) x h e = tt
-next_moves nodes (frame.Judge n tries d error m) x h e = tt
+next_moves nodes (frame.Judge judging) x h e = tt
 
 -- what is kept
 pub next_kept : (nodes : List Node) (f : Frame) (x : Next) (fs : List Frame) → topped fs ≡ Some f → next_in nodes f ≡ Some x → x ≡ next_by nodes fs
@@ -167,11 +169,11 @@ back_kept nodes (frame.Entries n at ∷ fs) e = absurd (in_entries_not (slice_ge
     in_entries_not None q = cc q
     in_entries_not (Some m) q = cc q
 back_kept nodes (frame.Then n ∷ fs) e = absurd (cc e)
-back_kept nodes (frame.Loop n w i ∷ fs) e = absurd (cc e)
-back_kept nodes (frame.Try n tries d ∷ fs) e = absurd (cc e)
+back_kept nodes (frame.Loop looping ∷ fs) e = absurd (cc e)
+back_kept nodes (frame.Try trying ∷ fs) e = absurd (cc e)
 back_kept nodes (frame.Mark m ∷ fs) e = absurd (cc e)
 back_kept nodes (frame.Back c m ∷ fs) e = refl
-back_kept nodes (frame.Judge n tries d error m ∷ fs) e = refl
+back_kept nodes (frame.Judge judging ∷ fs) e = refl
 
 pub loop_kept : (nodes : List Node) (fs : List Frame) → next_by nodes fs ≡ next.Loop → is_at_loop fs ≡ true
 loop_kept nodes [] e = absurd (cc e)
@@ -188,11 +190,11 @@ loop_kept nodes (frame.Entries n at ∷ fs) e = absurd (in_entries_not (slice_ge
     in_entries_not None q = cc q
     in_entries_not (Some m) q = cc q
 loop_kept nodes (frame.Then n ∷ fs) e = absurd (cc e)
-loop_kept nodes (frame.Loop n w i ∷ fs) e = refl
-loop_kept nodes (frame.Try n tries d ∷ fs) e = absurd (cc e)
+loop_kept nodes (frame.Loop looping ∷ fs) e = refl
+loop_kept nodes (frame.Try trying ∷ fs) e = absurd (cc e)
 loop_kept nodes (frame.Mark m ∷ fs) e = absurd (cc e)
 loop_kept nodes (frame.Back c m ∷ fs) e = absurd (cc e)
-loop_kept nodes (frame.Judge n tries d error m ∷ fs) e = absurd (cc e)
+loop_kept nodes (frame.Judge judging ∷ fs) e = absurd (cc e)
 
 -- where neither is next, there is a step
 pub step_kept : (nodes : List Node) (fs : List Frame) → IsGoing nodes fs → (next_by nodes fs ≡ next.Back → ⊥) → (next_by nodes fs ≡ next.Loop → ⊥) → HasStepOnTop nodes fs
@@ -202,11 +204,11 @@ step_kept nodes (frame.Lone n true ∷ fs) h back loop = h
 step_kept nodes (frame.Lone n false ∷ fs) h back loop = h
 step_kept nodes (frame.Entries n at ∷ fs) h back loop = h
 step_kept nodes (frame.Then n ∷ fs) h back loop = h
-step_kept nodes (frame.Loop n w i ∷ fs) h back loop = absurd (loop refl)
-step_kept nodes (frame.Try n tries d ∷ fs) h back loop = absurd h
+step_kept nodes (frame.Loop looping ∷ fs) h back loop = absurd (loop refl)
+step_kept nodes (frame.Try trying ∷ fs) h back loop = absurd h
 step_kept nodes (frame.Mark m ∷ fs) h back loop = absurd h
 step_kept nodes (frame.Back c m ∷ fs) h back loop = absurd (back refl)
-step_kept nodes (frame.Judge n tries d error m ∷ fs) h back loop = absurd (back refl)
+step_kept nodes (frame.Judge judging ∷ fs) h back loop = absurd (back refl)
 
 -- ## The innermost frame is left
 pub fits_after : (ns : List Spot) (nodes : List Node) (b : Bool) (old new : List Frame) (h g : Held) → Leaves b old h new g → Fits ns nodes old → Fits ns nodes new
@@ -245,18 +247,18 @@ settles_out ns [] h t c = refl
 settles_out ns (g ∷ fs) h t c = absurd (cc t)
 
 -- before a loop's turn the innermost frame is a loop
-loop_first : (f : Frame) (fs : List Frame) → is_at_loop (f ∷ fs) ≡ true → ((n : ℕ) (w : Left) (i : ℕ) → f ≡ frame.Loop n w i → ⊥) → ⊥
+loop_first : (f : Frame) (fs : List Frame) → is_at_loop (f ∷ fs) ≡ true → ((held : Box Looping Global) → f ≡ frame.Loop held → ⊥) → ⊥
 loop_first (frame.Do n at) fs h other = absurd (cc h)
 loop_first (frame.Lone n b) fs h other = absurd (cc h)
 loop_first (frame.Entries n at) fs h other = absurd (cc h)
 loop_first (frame.Then n) fs h other = absurd (cc h)
-loop_first (frame.Loop n w i) fs h other = other n w i refl
-loop_first (frame.Try n r d) fs h other = absurd (cc h)
+loop_first (frame.Loop looping) fs h other = other looping refl
+loop_first (frame.Try trying) fs h other = absurd (cc h)
 loop_first (frame.Mark m) fs h other = absurd (cc h)
 loop_first (frame.Back k m) fs h other = absurd (cc h)
-loop_first (frame.Judge tried r delay error m) fs h other = absurd (cc h)
+loop_first (frame.Judge judging) fs h other = absurd (cc h)
 
-pub at_loop : (f : Frame) (fs gs : List Frame) → fs ≡ f ∷ gs → is_at_loop fs ≡ true → ((n : ℕ) (w : Left) (i : ℕ) → f ≡ frame.Loop n w i → ⊥) → ⊥
+pub at_loop : (f : Frame) (fs gs : List Frame) → fs ≡ f ∷ gs → is_at_loop fs ≡ true → ((held : Box Looping Global) → f ≡ frame.Loop held → ⊥) → ⊥
 at_loop f fs gs e h = loop_first f gs (sym (ap is_at_loop e) ∙ h)
 
 -- the task goes on, or has ended
@@ -269,11 +271,11 @@ ended_items ns (frame.Do n at) k l = refl
 ended_items ns (frame.Lone n b) k l = refl
 ended_items ns (frame.Entries n at) k l = refl
 ended_items ns (frame.Then n) k l = refl
-ended_items ns (frame.Loop n w i) k l = refl
-ended_items ns (frame.Try n r d) k l = refl
+ended_items ns (frame.Loop looping) k l = refl
+ended_items ns (frame.Try trying) k l = refl
 ended_items ns (frame.Mark m) k l = refl
 ended_items ns (frame.Back c m) k l = refl
-ended_items ns (frame.Judge n r d e m) k l = refl
+ended_items ns (frame.Judge judging) k l = refl
 
 pub went_on : (s : Scene) (ns : List Spot) (f : Frame) (fs : List Frame) (h : Held) → topped fs ≡ Some f → IsMove s (settled (standing (control ns fs) h)) went.Goes (standing (control ns fs) h)
 went_on s ns f [] h t = absurd (cc t)

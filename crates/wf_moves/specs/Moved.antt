@@ -46,16 +46,16 @@ Settled ns false f = (k : List Item) (l : Local) → settle (items ns f k) l ≡
 
 -- a frame at which the way outward of a `break` or `continue` ends: a loop, or a call, in which there is none
 abbrev pub is_loop : Frame → Bool
-is_loop (frame.Loop n l i) = true
+is_loop (frame.Loop looping) = true
 is_loop (frame.Back call number) = true
-is_loop (frame.Judge n tries delay e number) = true
+is_loop (frame.Judge judging) = true
 is_loop f = false
 
 -- a frame from which a move is made
 abbrev pub HasMove : List Node → Frame → Type 0
-HasMove nodes (frame.Loop n l i) = Unit {0}
+HasMove nodes (frame.Loop looping) = Unit {0}
 HasMove nodes (frame.Back call number) = Unit {0}
-HasMove nodes (frame.Judge n tries delay e number) = Unit {0}
+HasMove nodes (frame.Judge judging) = Unit {0}
 HasMove nodes f = HasStep nodes f
 
 -- the innermost one is such a frame, if any frame is left
@@ -135,7 +135,7 @@ SaysSo d w = Raises (error_map TypeError) w
 
 -- whether the innermost frame is the call of a predicate
 abbrev pub is_judge : Frame → Bool
-is_judge (frame.Judge n tries delay e number) = true
+is_judge (frame.Judge judging) = true
 is_judge f = false
 
 abbrev pub IsJudgeTop : List Frame → Type 0
@@ -159,7 +159,7 @@ IsLeft nodes (went.Turned x) fs = IsTurnedLeft x.value (inner fs)
 abbrev pub loop_found : List Spot → List Frame → Local → Found
 loop_found ns [] l = AtEnd
 loop_found ns (frame.Back call number ∷ fs) l = NotFound
-loop_found ns (frame.Judge n tries delay e number ∷ fs) l = NotFound
+loop_found ns (frame.Judge judging ∷ fs) l = NotFound
 loop_found ns (f ∷ fs) l = Stands (control ns (f ∷ fs)) l
 
 -- the innermost frame is a loop or a call, if any frame is left
@@ -200,7 +200,7 @@ is_at_back (f ∷ fs) = is_back f
 
 -- the task stands before a loop's turn
 abbrev pub is_at_loop : List Frame → Bool
-is_at_loop (frame.Loop n l i ∷ fs) = true
+is_at_loop (frame.Loop looping ∷ fs) = true
 is_at_loop fs = false
 
 -- the call that ends with a frame, if a step made it

@@ -83,7 +83,7 @@ is_call_at nodes n = is_call_node (slice_get nodes n)
 -- whether the innermost frame is a `try`
 abbrev pub is_at_try : List Frame → Bool
 is_at_try [] = false
-is_at_try (frame.Try n tries delay ∷ fs) = true
+is_at_try (frame.Try trying ∷ fs) = true
 is_at_try (f ∷ fs) = false
 
 -- these frames have a move, and what is next is kept; it is a sleep's or a request's call for which is waited, or they stand before the body of a `try`

@@ -55,8 +55,8 @@ fn call_of(frame: &Frame) -> Option<u32>
     match frame {
         Frame::Back(call, _) => *call,
         Frame::Do(_, _) | Frame::Lone(_, _) | Frame::Entries(_, _) | Frame::Then(_) => None,
-        Frame::Loop(_, _, _) | Frame::Try(_, _, _) | Frame::Mark(_) => None,
-        Frame::Judge(_, _, _, _, _) => None,
+        Frame::Loop(_) | Frame::Try(_) | Frame::Mark(_) => None,
+        Frame::Judge(_) => None,
     }
 }
 
@@ -65,9 +65,9 @@ fn is_judge(frame: &Frame) -> bool
     ensures { result ≡ is_judge frame.now }
 {
     match frame {
-        Frame::Judge(_, _, _, _, _) => true,
+        Frame::Judge(_) => true,
         Frame::Do(_, _) | Frame::Lone(_, _) | Frame::Entries(_, _) | Frame::Then(_) => false,
-        Frame::Loop(_, _, _) | Frame::Try(_, _, _) | Frame::Mark(_) | Frame::Back(_, _) => false,
+        Frame::Loop(_) | Frame::Try(_) | Frame::Mark(_) | Frame::Back(_, _) => false,
     }
 }
 

@@ -66,8 +66,8 @@ fn target(frame: &Frame, nodes: &[Node], keep: u32) -> Option<u32>
             }
         }
         Frame::Lone(_, _) | Frame::Entries(_, _) | Frame::Then(_) => None,
-        Frame::Loop(_, _, _) | Frame::Try(_, _, _) | Frame::Mark(_) | Frame::Back(_, _) => None,
-        Frame::Judge(_, _, _, _, _) => None,
+        Frame::Loop(_) | Frame::Try(_) | Frame::Mark(_) | Frame::Back(_, _) => None,
+        Frame::Judge(_) => None,
     }
 }
 
@@ -128,9 +128,9 @@ fn is_loop(frame: &Frame) -> bool
     ensures { result ≡ is_loop frame.now }
 {
     match frame {
-        Frame::Loop(_, _, _) | Frame::Back(_, _) | Frame::Judge(_, _, _, _, _) => true,
+        Frame::Loop(_) | Frame::Back(_, _) | Frame::Judge(_) => true,
         Frame::Do(_, _) | Frame::Lone(_, _) | Frame::Entries(_, _) => false,
-        Frame::Then(_) | Frame::Try(_, _, _) | Frame::Mark(_) => false,
+        Frame::Then(_) | Frame::Try(_) | Frame::Mark(_) => false,
     }
 }
 

@@ -18,7 +18,9 @@ use crate::jump::jump;
 use crate::sending::Sending;
 use crate::turn::turn;
 use std::alloc::Global;
-use wf_frames::{Facts, Frame, Frames, Leads, Next, Step, Target, loop_node, seen, step_of};
+use wf_frames::{
+    Facts, Frame, Frames, Leads, Looping, Next, Step, Target, loop_node, seen, step_of,
+};
 use wf_model::Node;
 use wf_scope::Scopes;
 use wf_value::{OutOfMemory, Value};
@@ -140,9 +142,10 @@ fn turn_on(
         unreachable!()
     };
     match frame {
-        Frame::Loop(n, left, index) => {
-            let body = loop_node(nodes, n);
-            turn(alloc, nodes, n, body, left, index, frames, scopes)
+        Frame::Loop(looping) => {
+            let Looping { node, left, index } = Box::into_inner(looping);
+            let body = loop_node(nodes, node);
+            turn(alloc, nodes, node, body, left, index, frames, scopes)
         }
         _ => unreachable!(),
     }

@@ -1,10 +1,9 @@
 // The turns of a loop.
 ghost use Rattle.std.specs.Prelude.{◌≡◌, ◌<◌, ◌+ℤ◌, ◌∷◌, [], IfOk, OnOk, Some, if◌then◌else◌, int_lt, option_map, pos};
 ghost use Rattle.wf_frames.specs.Fits.{Fits, IsLoop};
-ghost use Rattle.wf_frames.specs.Frames.{control, inner, left_view};
-ghost use Rattle.wf_frames.specs.Owned.{Around, held_by};
+ghost use Rattle.wf_frames.specs.Frames.{inner, left_view, loop_item};
+ghost use Rattle.wf_frames.specs.Owned.{Around, control_of, held_by};
 ghost use Rattle.wf_frames.specs.Stands.{Stands};
-ghost use Rattle.wf_frames.specs.declared.frames.Frame.TheVariants as frame;
 ghost use Rattle.wf_frames.specs.declared.frames.Left.{Left};
 ghost use Rattle.wf_frames.specs.declared.frames.Left.TheVariants as left;
 ghost use Rattle.wf_model.specs.Config.{OfList, OfRange, next_of};
@@ -16,7 +15,8 @@ ghost use Rattle.wf_value.specs.Plain.{plain};
 use crate::finish::{Went, goes};
 use crate::raising::raises_tag;
 use std::alloc::Global;
-use wf_frames::{Frame, Frames, Left, enter};
+use wf_ast::boxed;
+use wf_frames::{Frame, Frames, Left, Looping, enter};
 use wf_model::{LoopNode, Node};
 use wf_scope::Scopes;
 use wf_value::{List, OutOfMemory, Tag, Value};
@@ -83,7 +83,7 @@ fn iterate(
     requires below { index < 9223372036854775808 }
     ensures moved { IfOk result (λ w. (left : Left)
         → next_of (left_view left) ≡ Some (plain value, left_view rest) → MovesBy around
-        (λ s l. moves s (control around.spots (frame.Loop n left index ∷ inner frames.old)) l)
+        (λ s l. moves s (loop_item around.spots n left index ∷ control_of around frames.old) l)
         (held_by around frames.old scopes.old) w frames.new scopes.new) }
     ensures stands { OnOk result (Stands around nodes.now frames.new scopes.new) }
     ensures left { IfOk result (λ w. IsLeft nodes.now w frames.new) }
@@ -92,7 +92,12 @@ fn iterate(
     let Some(layer) = entered else {
         return raises_tag(alloc, Tag::ResourceLimitError);
     };
-    frames.push(Frame::Loop(n, rest, index + 1))?;
+    let looping = Looping {
+        node: n,
+        left: rest,
+        index: index + 1,
+    };
+    frames.push(Frame::Loop(boxed(alloc, looping)?))?;
     frames.push(Frame::Mark(layer))?;
     frames.push(Frame::Do(n, 0))?;
     Ok(goes(frames, nodes, scopes))
@@ -114,7 +119,7 @@ pub(crate) fn turn(
     requires stands { Stands around nodes.now frames.old scopes.old }
     requires is { IsLoop nodes.now n body.now }
     ensures moved { IfOk result (λ w. MovesBy around
-        (λ s l. moves s (control around.spots (frame.Loop n left index ∷ inner frames.old)) l)
+        (λ s l. moves s (loop_item around.spots n left index ∷ control_of around frames.old) l)
         (held_by around frames.old scopes.old) w frames.new scopes.new) }
     ensures stands { OnOk result (Stands around nodes.now frames.new scopes.new) }
     ensures left { IfOk result (λ w. IsLeft nodes.now w frames.new) }

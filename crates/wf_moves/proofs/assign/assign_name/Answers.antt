@@ -5,7 +5,6 @@ use Rattle.wf_ast.specs.Eval.{fill}
 use Rattle.wf_ast.specs.Tree.{exprs}
 use Rattle.wf_eval.specs.Answers.{Gives}
 use Rattle.wf_eval.specs.Sight.{seen}
-use Rattle.wf_frames.specs.Frames.{inner}
 use Rattle.wf_frames.specs.Owned.{beside, control_of, held_by, local_of}
 use Rattle.wf_moves.proofs.Raised.{raised, raised_left}
 use Rattle.wf_value.specs.Errors.{error_map}
@@ -37,4 +36,4 @@ returns-in-Err-clause-moved g c =
     c.fails.ensures.raised c.fails.ensures.error
 
 pub returns-in-Err-clause-left : goal.returns-in-Err-clause-left
-returns-in-Err-clause-left g c = with_both _ _ c.fails.result (λ w h t. raised_left c.args.nodes.now (inner c.args.frames.now) (error_map t.0) w (h t.0 t.1)) c.fails.ensures.raised c.fails.ensures.error
+returns-in-Err-clause-left g c = with_both _ _ c.fails.result (λ w h t. raised_left c.args.nodes.now c.args.frames.now (error_map t.0) w (h t.0 t.1)) c.fails.ensures.raised c.fails.ensures.error

@@ -1,6 +1,5 @@
 use Rattle.std.proofs.Common.{[], None, Some, subst}
 use Rattle.wf_lemmas.proofs.Results.{with_ok}
-use Rattle.wf_frames.specs.Frames.{inner}
 use Rattle.wf_frames.specs.Owned.{control_of, held_by, local_of}
 use Rattle.wf_frames.specs.Turns.{Writes}
 use Rattle.wf_moves.proofs.Assigning.{refused, stored}
@@ -31,4 +30,4 @@ returns-in-Some-clause-moved g c =
     c.raises_tag.ensures
 
 pub returns-in-Some-clause-left : goal.returns-in-Some-clause-left
-returns-in-Some-clause-left g c = with_ok _ _ c.raises_tag.result (λ w p. raised_left c.args.nodes.now (inner c.args.frames.now) (error_map c.in-Some.tag) w p) c.raises_tag.ensures
+returns-in-Some-clause-left g c = with_ok _ _ c.raises_tag.result (λ w p. raised_left c.args.nodes.now c.args.frames.now (error_map c.in-Some.tag) w p) c.raises_tag.ensures
