@@ -13,7 +13,6 @@ use Rattle.wf_frames.specs.Turns.{Leaves, dropped, left_by}
 use Rattle.wf_frames.specs.declared.frames.Frame.{Frame}
 use Rattle.wf_frames.specs.declared.frames.Frame.TheVariants as frame
 use Rattle.wf_frames.specs.declared.frames.Looping.{Looping}
-use Rattle.wf_frames.specs.declared.frames.Left.{Left}
 use Rattle.wf_model.specs.Config.{Item, Do, Entries}
 use Rattle.wf_model.specs.Local.{Goes, Local, Scene, ended, settle, settled}
 use Rattle.wf_frames.proofs.Lists.{drop_more, entries_long, from_end, from_more}
