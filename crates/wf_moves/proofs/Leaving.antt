@@ -14,7 +14,6 @@ use Rattle.wf_frames.specs.Turns.{Leaves, dropped, left_by}
 use Rattle.wf_frames.specs.declared.frames.Frame.{Frame}
 use Rattle.wf_frames.specs.declared.frames.Frame.TheVariants as frame
 use Rattle.wf_frames.specs.declared.frames.Looping.{Looping}
-use Rattle.wf_frames.specs.declared.frames.Left.{Left}
 use Rattle.wf_frames.specs.declared.next.Next.{Next}
 use Rattle.wf_frames.specs.declared.next.Next.TheVariants as next
 use Rattle.wf_model.specs.Config.{Item, Do, Entries}

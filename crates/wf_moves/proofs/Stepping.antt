@@ -10,7 +10,6 @@ use Rattle.wf_frames.specs.Owned.{Around}
 use Rattle.wf_frames.specs.declared.frames.Frame.{Frame}
 use Rattle.wf_frames.specs.declared.frames.Frame.TheVariants as frame
 use Rattle.wf_frames.specs.declared.frames.Looping.{Looping}
-use Rattle.wf_frames.specs.declared.frames.Left.{Left}
 use Rattle.wf_ast.specs.declared.functions.Function.{Function}
 use Rattle.wf_model.specs.Config.{Item}
 use Rattle.wf_model.specs.Kinds.{NextKind, Plainly, ByClock, ByCall, body_kind, by_clock, fields_now, next_kind}
