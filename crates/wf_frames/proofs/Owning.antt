@@ -141,6 +141,17 @@ innermost_mark first (frame.Entries l at) n fs e = absurd (cc e)
 innermost_mark first (frame.Then l) n fs e = absurd (cc e)
 innermost_mark first (frame.Loop looping) n fs e = absurd (cc e)
 
+pub innermost_other : (first : ℕ) (f : Frame) (fs : List Frame) → mark_of f ≡ None → innermost first (f ∷ fs) ≡ innermost first fs
+innermost_other first (frame.Mark m) fs e = absurd (cc e)
+innermost_other first (frame.Back c m) fs e = absurd (cc e)
+innermost_other first (frame.Judge judging) fs e = absurd (cc e)
+innermost_other first (frame.Try trying) fs e = refl
+innermost_other first (frame.Do l at) fs e = refl
+innermost_other first (frame.Lone l b) fs e = refl
+innermost_other first (frame.Entries l at) fs e = refl
+innermost_other first (frame.Then l) fs e = refl
+innermost_other first (frame.Loop looping) fs e = refl
+
 take_last : (xs : List Frame) (n : ℕ) (x : Frame) → n < length xs → x ≡ get_or xs n x → take (suc n) xs ≡ take n xs ++ x ∷ []
 take_last [] n x h e = absurd (omega (arith, h))
 take_last (y ∷ xs) zero x h e = ap (λ z. z ∷ []) (sym e)

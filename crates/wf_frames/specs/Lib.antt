@@ -5,6 +5,7 @@ pub mod Frames
 pub mod Held
 pub mod Innermost
 pub mod Keys
+pub mod Loops
 pub mod Owned
 pub mod Sights
 pub mod Standing

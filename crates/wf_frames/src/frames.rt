@@ -1,8 +1,9 @@
 // A task's frames.
-ghost use Rattle.std.specs.Prelude.{◌≡◌, [], ◌∷◌, IfNone, is_ok, option_map, reverse, if◌then◌else◌};
+ghost use Rattle.std.specs.Prelude.{◌≡◌, [], ◌∷◌, IfNone, IfOk, is_ok, option_map, reverse, true, if◌then◌else◌};
 ghost use Rattle.wf_frames.specs.Innermost.{innermost};
 
 use crate::next::Next;
+use crate::turning::Turn;
 use std::alloc::Global;
 use wf_scope::Chain;
 use wf_value::{List, OutOfMemory, Value};
@@ -139,6 +140,7 @@ pub struct Frames {
 
 impl Frames {
     ghost use Rattle.wf_frames.specs.Frames.{HasRoomOnTop, calls_of, inner, moved_on, popped, topped};
+    ghost use Rattle.wf_frames.specs.Loops.{TakesTurn, is_at_loop};
     ghost use Rattle.wf_frames.specs.Owned.{own_of};
 
     /// None, inside this layer. It allocates nothing.
@@ -177,6 +179,20 @@ impl Frames {
         if let Some(frame) = self.items.last_mut() {
             frame.go_on();
         }
+    }
+
+    /// The loop that is the innermost frame goes on behind its next value, if one is left. Without memory it may be in any state.
+    #[inline(always)]
+    pub fn turn(&mut self, alloc: Global) -> Result<Option<Turn>, OutOfMemory>
+        requires at { is_at_loop (inner self.old) ≡ true }
+        ensures turned { IfOk result (λ o. TakesTurn o (inner self.old) (inner self.new)) }
+        ensures first { self.new.first ≡ self.old.first }
+        ensures own { own_of self.new ≡ own_of self.old }
+    {
+        let Some(frame) = self.items.last_mut() else {
+            unreachable!()
+        };
+        frame.turn(alloc)
     }
 
     /// Takes the innermost frame.

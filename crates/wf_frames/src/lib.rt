@@ -20,6 +20,7 @@ mod sight;
 mod sighted;
 mod step;
 mod target;
+mod turning;
 mod writing;
 
 pub use advance::step_of;
@@ -38,4 +39,5 @@ pub use sight::seen;
 pub use sighted::Seen;
 pub use step::{Leads, Step, body_frame, map_of};
 pub use target::{Nap, Target, http_named, nap_named};
+pub use turning::Turn;
 pub use writing::{assign, assign_name};

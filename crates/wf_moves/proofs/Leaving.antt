@@ -9,19 +9,18 @@ use Rattle.wf_frames.specs.Fits.{Fits, HasNode, entries_at, list_at}
 use Rattle.wf_frames.specs.Foreseen.{next_by, next_in}
 use Rattle.wf_frames.specs.Frames.{body_entries, control, items, topped}
 use Rattle.wf_frames.specs.Held.{Held, standing}
+use Rattle.wf_frames.specs.Loops.{is_at_loop}
 use Rattle.wf_frames.specs.Standing.{steps_of}
 use Rattle.wf_frames.specs.Turns.{Leaves, dropped, left_by}
 use Rattle.wf_frames.specs.declared.frames.Frame.{Frame}
 use Rattle.wf_frames.specs.declared.frames.Frame.TheVariants as frame
-use Rattle.wf_frames.specs.declared.frames.Looping.{Looping}
-use Rattle.wf_frames.specs.declared.frames.Left.{Left}
 use Rattle.wf_frames.specs.declared.next.Next.{Next}
 use Rattle.wf_frames.specs.declared.next.Next.TheVariants as next
 use Rattle.wf_model.specs.Config.{Item, Do, Entries}
 use Rattle.wf_model.specs.Local.{Goes, Local, Scene, ended, settle, settled}
 use Rattle.wf_frames.proofs.Lists.{drop_more, entries_long, from_end, from_more}
 use Rattle.wf_frames.proofs.Parts.{entries_is, list_is}
-use Rattle.wf_moves.specs.Moved.{HasMove, IsEnd, IsGoing, IsMove, IsSettled, Settled, is_at_back, is_at_loop}
+use Rattle.wf_moves.specs.Moved.{HasMove, IsEnd, IsGoing, IsMove, IsSettled, Settled, is_at_back}
 use Rattle.wf_moves.specs.declared.finish.End.TheVariants as end
 use Rattle.wf_moves.specs.declared.finish.Went.TheVariants as went
 use Rattle.wf_frames.specs.Steps.{HasStepOnTop}
@@ -245,21 +244,6 @@ settles_here ns f (g ∷ fs) h t s c = let same : g ≡ f = cc t in subst (Settl
 pub settles_out : (ns : List Spot) (fs : List Frame) (h : Held) → topped fs ≡ None → (c : List Item) → settle (control ns fs) (standing c h) ≡ standing (control ns fs) h
 settles_out ns [] h t c = refl
 settles_out ns (g ∷ fs) h t c = absurd (cc t)
-
--- before a loop's turn the innermost frame is a loop
-loop_first : (f : Frame) (fs : List Frame) → is_at_loop (f ∷ fs) ≡ true → ((held : Box Looping Global) → f ≡ frame.Loop held → ⊥) → ⊥
-loop_first (frame.Do n at) fs h other = absurd (cc h)
-loop_first (frame.Lone n b) fs h other = absurd (cc h)
-loop_first (frame.Entries n at) fs h other = absurd (cc h)
-loop_first (frame.Then n) fs h other = absurd (cc h)
-loop_first (frame.Loop looping) fs h other = other looping refl
-loop_first (frame.Try trying) fs h other = absurd (cc h)
-loop_first (frame.Mark m) fs h other = absurd (cc h)
-loop_first (frame.Back k m) fs h other = absurd (cc h)
-loop_first (frame.Judge judging) fs h other = absurd (cc h)
-
-pub at_loop : (f : Frame) (fs gs : List Frame) → fs ≡ f ∷ gs → is_at_loop fs ≡ true → ((held : Box Looping Global) → f ≡ frame.Loop held → ⊥) → ⊥
-at_loop f fs gs e h = loop_first f gs (sym (ap is_at_loop e) ∙ h)
 
 -- the task goes on, or has ended
 pub going_there : (nodes : List Node) (f : Frame) (fs : List Frame) → topped fs ≡ Some f → IsSettled nodes fs → IsGoing nodes fs

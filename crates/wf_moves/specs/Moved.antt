@@ -198,11 +198,6 @@ abbrev pub is_at_back : List Frame → Bool
 is_at_back [] = false
 is_at_back (f ∷ fs) = is_back f
 
--- the task stands before a loop's turn
-abbrev pub is_at_loop : List Frame → Bool
-is_at_loop (frame.Loop looping ∷ fs) = true
-is_at_loop fs = false
-
 -- the call that ends with a frame, if a step made it
 abbrev pub call_of : Frame → Option ℕ
 call_of (frame.Back call number) = call

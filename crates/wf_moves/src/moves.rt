@@ -1,10 +1,10 @@
 // The move of the innermost frame.
-ghost use Rattle.std.specs.Prelude.{◌≡◌, IfOk, OnOk, true};
+ghost use Rattle.std.specs.Prelude.{◌≡◌, IfOk, OnOk};
 ghost use Rattle.wf_frames.specs.Foreseen.{Foresees};
 ghost use Rattle.wf_frames.specs.Frames.{inner};
 ghost use Rattle.wf_frames.specs.Owned.{Around, control_of, held_by};
 ghost use Rattle.wf_frames.specs.Stands.{Stands};
-ghost use Rattle.wf_moves.specs.Moved.{GoesNext, IsLeft, MovesBy, is_at_loop};
+ghost use Rattle.wf_moves.specs.Moved.{GoesNext};
 ghost use Rattle.wf_moves.specs.Stepped.{leads, leads_to, stepped_at};
 ghost use Rattle.wf_moves.specs.Tasks.{DoesBy, IsLeftSo};
 ghost use Rattle.wf_frames.specs.Built.{AreTargets, Tells};
@@ -13,14 +13,12 @@ ghost use Rattle.wf_frames.specs.Steps.{AreFit, HasStepOnTop, IsReady};
 use crate::assign::assign;
 use crate::back::returns;
 use crate::call::call;
-use crate::finish::{Done, Turned, Went, done_of, goes, turns};
+use crate::finish::{Done, Turned, done_of, goes, turns};
 use crate::jump::jump;
 use crate::sending::Sending;
 use crate::turn::turn;
 use std::alloc::Global;
-use wf_frames::{
-    Facts, Frame, Frames, Leads, Looping, Next, Step, Target, loop_node, seen, step_of,
-};
+use wf_frames::{Facts, Frames, Leads, Next, Step, Target, seen, step_of};
 use wf_model::Node;
 use wf_scope::Scopes;
 use wf_value::{OutOfMemory, Value};
@@ -120,37 +118,6 @@ fn step_on(
     finish_step(alloc, nodes, targets, step, frames, scopes, facts, sending)
 }
 
-/// The turn of the loop before which the task stands.
-#[inline(always)]
-fn turn_on(
-    alloc: Global,
-    nodes: &[Node],
-    frames: &mut Frames,
-    scopes: &mut Scopes,
-) -> Result<Went, OutOfMemory>
-    ghost around: { Around }
-    requires tells { Tells around.spots nodes.now }
-    requires stands { Stands around nodes.now frames.old scopes.old }
-    requires at { is_at_loop (inner frames.old) ≡ true }
-    ensures moved { IfOk result (λ w. MovesBy around
-        (λ s l. stepped_at s (control_of around frames.old) l)
-        (held_by around frames.old scopes.old) w frames.new scopes.new) }
-    ensures stands { OnOk result (Stands around nodes.now frames.new scopes.new) }
-    ensures left { IfOk result (λ w. IsLeft nodes.now w frames.new) }
-{
-    let Some(frame) = frames.pop() else {
-        unreachable!()
-    };
-    match frame {
-        Frame::Loop(looping) => {
-            let Looping { node, left, index } = Box::into_inner(looping);
-            let body = loop_node(nodes, node);
-            turn(alloc, nodes, node, body, left, index, frames, scopes)
-        }
-        _ => unreachable!(),
-    }
-}
-
 /// The move of a task, or its request. The end of a workflow that was called is a return of null.
 #[inline(always)]
 pub(crate) fn advance(
@@ -175,7 +142,7 @@ pub(crate) fn advance(
 {
     match frames.next() {
         Next::Back => Ok(done_of(returns(alloc, nodes, frames, scopes, Value::Null)?)),
-        Next::Loop => Ok(done_of(turn_on(alloc, nodes, frames, scopes)?)),
+        Next::Loop => Ok(done_of(turn(alloc, nodes, frames, scopes)?)),
         _ => step_on(alloc, nodes, targets, frames, scopes, facts, sending),
     }
 }

@@ -143,6 +143,8 @@ impl Task {
         ensures { (p : Program) → AreWants p around.spots nodes.now wants.now
             → kind_view result ≡ next_kind p (control_of around self.now.frames) }
     {
+        // it was looked up when the task was settled
+        let _ = nodes;
         next_kind(wants, self.frames.next())
     }
 

@@ -1,4 +1,4 @@
-use Rattle.std.proofs.Common.{◌≡◌, ℕ, Err, map, take, ap, subst}
+use Rattle.std.proofs.Common.{ℕ, Err, map, take, ap, subst}
 use Rattle.wf_lemmas.proofs.Results.{with_ok}
 use Rattle.wf_moves.proofs.Assigning.{name_failed, name_given}
 use Rattle.wf_ast.specs.Eval.{fill}

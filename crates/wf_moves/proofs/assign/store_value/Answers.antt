@@ -1,4 +1,4 @@
-use Rattle.std.proofs.Common.{[], None, Some, subst}
+use Rattle.std.proofs.Common.{[], subst}
 use Rattle.wf_lemmas.proofs.Results.{with_ok}
 use Rattle.wf_frames.specs.Owned.{control_of, held_by, local_of}
 use Rattle.wf_frames.specs.Turns.{Writes}

@@ -1,7 +1,7 @@
 use Rattle.wf_moves.proofs.moves.advance.Given as goal
 
-abbrev pub ghost-turn_on : goal.ghost-turn_on
-ghost-turn_on g a = g.around
+abbrev pub ghost-turn : goal.ghost-turn
+ghost-turn g a = g.around
 
 abbrev pub ghost-step_on : goal.ghost-step_on
 ghost-step_on g a = g.around
