@@ -21,7 +21,7 @@ pub mod Fitting
 pub mod Foreseeing
 pub mod Given
 pub mod Lists
-pub mod Looping
+pub mod LoopTurns
 pub mod Parts
 pub mod Performed
 pub mod Shallow

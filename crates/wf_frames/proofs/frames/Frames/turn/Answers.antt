@@ -1,7 +1,7 @@
 use Rattle.std.proofs.Common.{◌∷◌, refl, sym, ap, ◌∙◌}
 use Rattle.std.specs.Prelude.{drop, vec_len}
 use Rattle.wf_lemmas.proofs.Results.{with_ok}
-use Rattle.wf_frames.proofs.Looping.{loop_mark}
+use Rattle.wf_frames.proofs.LoopTurns.{loop_mark}
 use Rattle.wf_frames.proofs.Owning.{innermost_other, owned_other}
 use Rattle.wf_frames.proofs.Reversed.{last_put, last_was}
 use Rattle.wf_frames.specs.Frames.{inner, owned}

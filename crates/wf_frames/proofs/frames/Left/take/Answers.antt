@@ -1,5 +1,5 @@
 use Rattle.std.proofs.Common.{sym, ap, ◌∙◌, arith}
-use Rattle.wf_frames.proofs.Looping.{next_is}
+use Rattle.wf_frames.proofs.LoopTurns.{next_is}
 use Rattle.wf_frames.specs.Frames.{left_view}
 use Rattle.wf_model.specs.Config.{next_of}
 use Rattle.wf_frames.proofs.frames.Left.take.Goals as goal
