@@ -1,5 +1,5 @@
 -- The move of the innermost frame.
-use Rattle.std.proofs.Common.{◌≡◌, ℕ, ◌+◌, ◌<◌, Bool, true, false, List, [], ◌∷◌, length, get_or, Some, None, refl, sym, ap, subst, ◌∙◌, arith, add-one}
+use Rattle.std.proofs.Common.{◌≡◌, ℕ, ◌+◌, ◌<◌, true, false, List, [], ◌∷◌, length, get_or, Some, None, refl, sym, ap, subst, ◌∙◌, arith, add-one}
 use Rattle.std.specs.Prelude.{zero, suc, drop, IfNone, Option}
 use Rattle.wf_ast.specs.Apply.{View}
 use Rattle.wf_ast.specs.Tree.{more}
@@ -10,7 +10,7 @@ use Rattle.wf_frames.specs.declared.frames.Frame.TheVariants as frame
 use Rattle.wf_model.specs.Config.{Do, Entries}
 use Rattle.wf_model.specs.Move.{assigns, moves}
 use Rattle.wf_frames.proofs.Parts.{below_get, entries_is, list_is, list_stands, stand_get}
-use Rattle.wf_frames.specs.Steps.{CarriesOut, HasStep, HasStepOnTop, Moves}
+use Rattle.wf_frames.specs.Steps.{CarriesOut, Moves}
 use Rattle.wf_frames.specs.declared.step.Step.{Step}
 use Rattle.wf_frames.specs.declared.step.Step.TheVariants as step
 use Rattle.wf_model.specs.NodeKinds.{Listed}
@@ -18,12 +18,7 @@ use Rattle.wf_model.specs.Spots.{Spot, part_at, part_body, part_next, part_step,
 use Rattle.wf_model.specs.Table.{Resolves}
 use Rattle.wf_model.specs.declared.node.Node.{Node}
 
--- ## The innermost frame and those outside it
-pub topped_first : (fs : List Frame) (f : Frame) → topped fs ≡ Some f → fs ≡ f ∷ drop 1 fs
-topped_first [] f e = absurd (cc e)
-topped_first (g ∷ fs) f e = let same : g ≡ f = cc e in ap (λ h. h ∷ fs) same
-
--- it is taken
+-- ## The innermost frame is taken
 pub taken_first : (fs new : List Frame) (f : Frame) (o : Option Frame) → topped fs ≡ Some f → fs ≡ popped o new → IfNone o (new ≡ []) → fs ≡ f ∷ new
 taken_first fs new f None t e none = let there : None ≡ Some f = sym (ap topped (e ∙ none)) ∙ t in absurd (cc there)
 taken_first fs new f (Some g) t e none = let same : Some g ≡ Some f = sym (ap topped e) ∙ t in let is : g ≡ f = cc same in e ∙ ap (λ h. h ∷ new) is
@@ -55,9 +50,6 @@ step_within ns nodes n at b r h lt = below_get (length nodes) b.steps at (list_s
 pub step_inside : (ns : List Spot) (nodes : List Node) (n at : ℕ) (b : Listed) (fs : List Frame) → Resolves ns nodes → list_at nodes n ≡ Some b → at < length b.steps → outside_at ns nodes n ≡ reach fs → owners_at ns (get_or b.steps at 0) ≡ n ∷ reach fs
 step_inside ns nodes n at b fs r h lt out = stand_get ns (n ∷ outside_at ns nodes n) b.steps at (list_stands ns nodes n b r h).inside lt ∙ ap (λ (os : List ℕ). n ∷ os) out
 
-pub same_list : (nodes : List Node) (n : ℕ) (b d : Listed) → list_at nodes n ≡ Some b → list_at nodes n ≡ Some d → b ≡ d
-same_list nodes n b d p q = cc (sym p ∙ q)
-
 pub step_fits : (ns : List Spot) (nodes : List Node) (n at : ℕ) (b : Listed) (fs new : List Frame) → list_at nodes n ≡ Some b → at < length b.steps → new ≡ frame.Do n (at + 1) ∷ fs → Fits ns nodes (frame.Do n at ∷ fs) → Fits ns nodes new
 step_fits ns nodes n at b fs new h lt e fits = subst (Fits ns nodes) (sym e) (((b, h, omega (arith, lt)), fits.0.1), fits.1)
 
@@ -76,33 +68,5 @@ entry_moves ns nodes n at m e v rest mid r h lt is go s l same =
     ∙ ap (λ es. part_entry (part_at ns m) ∷ drop (suc at) es) (sym list) ∙ ap (λ (i : ℕ). part_entry (part_at ns m) ∷ drop i (body_entries (part_body (part_at ns n)))) (sym (add-one at)) in
     ap (λ es. moves s (Entries es ∷ control ns rest) l) next ∙ ap (λ fs. assigns s (part_entry (part_at ns m)) (control ns fs) l) (sym go)
 
-pub same_entries : (nodes : List Node) (n : ℕ) (b d : List ℕ) → entries_at nodes n ≡ Some b → entries_at nodes n ≡ Some d → b ≡ d
-same_entries nodes n b d p q = cc (sym p ∙ q)
-
 pub entry_fits : (ns : List Spot) (nodes : List Node) (n at : ℕ) (b : List ℕ) (fs new : List Frame) → entries_at nodes n ≡ Some b → at < length b → new ≡ frame.Entries n (at + 1) ∷ fs → Fits ns nodes fs → Fits ns nodes new
 entry_fits ns nodes n at b fs new h lt e fits = subst (Fits ns nodes) (sym e) (((b, h, omega (arith, lt)), tt), fits)
-
--- ## What has a step
-pub no_step : (nodes : List Node) (fs : List Frame) → topped fs ≡ None → HasStepOnTop nodes fs → ⊥
-no_step nodes [] e h = h
-no_step nodes (f ∷ fs) e h = absurd (cc e)
-
-pub step_first : (nodes : List Node) (fs : List Frame) (f : Frame) → topped fs ≡ Some f → HasStepOnTop nodes fs → HasStep nodes f
-step_first nodes [] f e h = absurd h
-step_first nodes (g ∷ fs) f e h = let same : g ≡ f = cc e in subst (HasStep nodes) same h
-
--- a body that stands alone and has a step isn't carried out yet
-pub lone_first : (nodes : List Node) (f : Frame) (n : ℕ) (done : Bool) → HasStep nodes f → f ≡ frame.Lone n done → f ≡ frame.Lone n false
-lone_first nodes f n true h e = let there : HasStep nodes (frame.Lone n true) = subst (HasStep nodes) e h in absurd there
-lone_first nodes f n false h e = e
-
-pub some_step : (nodes : List Node) (f : Frame) → HasStep nodes f → ((n at : ℕ) → f ≡ frame.Do n at → ⊥) → ((n : ℕ) (b : Bool) → f ≡ frame.Lone n b → ⊥) → ((n at : ℕ) → f ≡ frame.Entries n at → ⊥) → ((n : ℕ) → f ≡ frame.Then n → ⊥) → ⊥
-some_step nodes (frame.Do n at) h d l e t = d n at refl
-some_step nodes (frame.Lone n b) h d l e t = l n b refl
-some_step nodes (frame.Entries n at) h d l e t = e n at refl
-some_step nodes (frame.Then n) h d l e t = t n refl
-some_step nodes (frame.Loop n w i) h d l e t = h
-some_step nodes (frame.Try n r w) h d l e t = h
-some_step nodes (frame.Mark m) h d l e t = h
-some_step nodes (frame.Back c m) h d l e t = h
-some_step nodes (frame.Judge tried r delay error m) h d l e t = h

@@ -157,17 +157,6 @@ no_call_of n (step.Jumps m) h = tt
 no_call_of n (step.Assigns m) h = tt
 no_call_of n (step.Leads x) h = on_of n x.value h
 
-none_wants : (ns : List Spot) (old : List Frame) (x : Leads) → CallsNone x → CallWants ns old x
-none_wants ns old (leads.Raises v) h = tt
-none_wants ns old (leads.Returns v) h = tt
-none_wants ns old (leads.Calls m args) h = absurd h
-
-pub no_call_same : (ns : List Spot) (old : List Frame) (st : Step) → IsNoCall st → WantsSame ns old st
-no_call_same ns old step.Goes h = tt
-no_call_same ns old (step.Jumps m) h = tt
-no_call_same ns old (step.Assigns m) h = tt
-no_call_same ns old (step.Leads x) h = none_wants ns old x.value h
-
 on_wants : (ns : List Spot) (old : List Frame) (n : ℕ) (x : Leads) → IsCallOn n x → ((p : Program) → next_kind p (control ns old) ≡ body_kind p (part_body (part_at ns n))) → CallWants ns old x
 on_wants ns old n (leads.Raises v) is h = tt
 on_wants ns old n (leads.Returns v) is h = tt

@@ -1,12 +1,13 @@
 -- Frames that are put on fit the table.
-use Rattle.std.proofs.Common.{◌≡◌, ℕ, ◌<◌, ◌≤◌, true, List, ◌∷◌, length, get_or, Some, None, sym, ap, subst, ◌∙◌, arith}
-use Rattle.std.specs.Prelude.{is_some, slice_get, Vec}
+use Rattle.std.proofs.Common.{◌≡◌, ℕ, ◌<◌, ◌≤◌, true, List, ◌∷◌, length, get_or, Some, sym, ap, subst, ◌∙◌, arith}
+use Rattle.std.specs.Prelude.{is_some, slice_get, Box, Vec}
 use Rattle.std.specs.declared.alloc.Global.{Global}
 use Rattle.std.proofs.lemmas.Option.{slice_get_within}
 use Rattle.wf_frames.specs.Fits.{Fits, FrameFits, IsLoop, IsTry, entries_at, has_next, kind_entries, outside_at, reach, view_at, view_outside}
 use Rattle.wf_frames.specs.declared.frames.Frame.{Frame}
 use Rattle.wf_frames.specs.declared.frames.Frame.TheVariants as frame
-use Rattle.wf_frames.specs.declared.frames.Left.{Left}
+use Rattle.wf_frames.specs.declared.frames.Looping.{Looping}
+use Rattle.wf_frames.specs.declared.frames.Trying.{Trying}
 use Rattle.wf_frames.proofs.Parts.{below_get, entries_of, list_of, view_is}
 use Rattle.wf_frames.specs.Steps.{IsJump}
 use Rattle.wf_model.specs.NodeKinds as view
@@ -48,13 +49,14 @@ block_frame ns nodes n x fs at b is inside =
     let out : outside_at ns nodes n ≡ owners_at ns n = ap (λ o. view_outside o (owners_at ns n)) (view_is nodes n x at) ∙ ap (λ (k : NodeKind). outside (kind_by x.codes.items.items k) (owners_at ns n)) is in
     ((block_view b, list, omega arith), out ∙ inside)
 
-pub loop_fits : (ns : List Spot) (nodes : List Node) (n : ℕ) (l : Left) (b : LoopNode) (old new : List Frame) → IsLoop nodes n b → new ≡ frame.Loop n l 0 ∷ old → Fits ns nodes old → Fits ns nodes new
-loop_fits ns nodes n l b old new is e fits = subst (Fits ns nodes) (sym e) (((b, is), tt), fits)
+pub loop_fits : (ns : List Spot) (nodes : List Node) (n : ℕ) (held : Box Looping Global) (b : LoopNode) (old new : List Frame) → IsLoop nodes n b → held.value.node ≡ n → new ≡ frame.Loop held ∷ old → Fits ns nodes old → Fits ns nodes new
+loop_fits ns nodes n held b old new is same e fits = subst (Fits ns nodes) (sym e) (((b, subst (λ (m : ℕ). IsLoop nodes m b) (sym same) is), tt), fits)
 
 -- a `try` and its body
-pub try_fits : (ns : List Spot) (nodes : List Node) (n : ℕ) (t : TryNode) (f : Frame) (old mid new : List Frame) → IsTry nodes n t → owners_at ns n ≡ reach old → mid ≡ frame.Try n 0 None ∷ old → new ≡ f ∷ mid
+pub try_fits : (ns : List Spot) (nodes : List Node) (n : ℕ) (held : Box Trying Global) (t : TryNode) (f : Frame) (old mid new : List Frame) → IsTry nodes n t → held.value.node ≡ n → owners_at ns n ≡ reach old → mid ≡ frame.Try held ∷ old → new ≡ f ∷ mid
     → FrameFits ns nodes f mid → Fits ns nodes old → Fits ns nodes new
-try_fits ns nodes n t f old mid new is inside m e h fits = subst (Fits ns nodes) (sym e) (h, subst (Fits ns nodes) (sym m) (((t, is), inside), fits))
+try_fits ns nodes n held t f old mid new is same inside m e h fits =
+    subst (Fits ns nodes) (sym e) (h, subst (Fits ns nodes) (sym m) (((t, subst (λ (k : ℕ). IsTry nodes k t) (sym same) is), ap (owners_at ns) same ∙ inside), fits))
 
 -- the first entry of an assign
 pub entry_ready : (ns : List Spot) (nodes : List Node) (n : ℕ) (x : Node) (v : Vec ℕ Global) → Resolves ns nodes → slice_get nodes n ≡ Some x → x.kind ≡ kind.Assign v → 1 ≤ length v.items → get_or v.items 0 0 < length nodes

@@ -18,8 +18,10 @@ pub mod Clocked
 pub mod Entered
 pub mod Evaluated
 pub mod Fitting
+pub mod Foreseeing
 pub mod Given
 pub mod Lists
+pub mod LoopTurns
 pub mod Parts
 pub mod Performed
 pub mod Shallow

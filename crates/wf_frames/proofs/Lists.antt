@@ -1,12 +1,8 @@
 -- Lists of steps and entries from a place on.
-use Rattle.std.proofs.Common.{◌≡◌, ℕ, ◌<◌, ◌≤◌, true, List, [], ◌∷◌, length, drop, refl, ap, subst, arith}
-use Rattle.std.specs.Prelude.{zero, suc, is_some}
+use Rattle.std.proofs.Common.{◌≡◌, ℕ, ◌<◌, ◌≤◌, List, [], ◌∷◌, length, drop, refl, ap, arith}
+use Rattle.std.specs.Prelude.{zero, suc}
 use Rattle.wf_ast.specs.Tree.{Step, Steps, no_steps, more}
-use Rattle.wf_frames.specs.Fits.{HasNode, entries_at, list_at}
-use Rattle.wf_frames.specs.declared.frames.Frame.{Frame}
-use Rattle.wf_frames.specs.declared.frames.Frame.TheVariants as frame
 use Rattle.wf_model.specs.Spots.{Spot, steps_by, entries_by, from}
-use Rattle.wf_model.specs.declared.node.Node.{Node}
 
 -- ## Steps
 pub from_end : (ns : List Spot) (xs : List ℕ) (n : ℕ) → length xs ≤ n → from n (steps_by ns xs) ≡ no_steps
@@ -41,10 +37,3 @@ drop_more (x ∷ xs) (suc n) h = let r = drop_more xs n (omega (arith, h)) in re
 pub entries_long : (ns : List Spot) (xs : List ℕ) → length (entries_by ns xs) ≡ length xs
 entries_long ns [] = refl
 entries_long ns (x ∷ xs) = ap suc (entries_long ns xs)
-
--- the node of a frame
-pub has_list : (nodes : List Node) (f : Frame) (n at : ℕ) → HasNode nodes f → f ≡ frame.Do n at → is_some (list_at nodes n) ≡ true
-has_list nodes f n at h e = let there : HasNode nodes (frame.Do n at) = subst (HasNode nodes) e h in ap is_some there.1
-
-pub has_entries : (nodes : List Node) (f : Frame) (n at : ℕ) → HasNode nodes f → f ≡ frame.Entries n at → is_some (entries_at nodes n) ≡ true
-has_entries nodes f n at h e = let there : HasNode nodes (frame.Entries n at) = subst (HasNode nodes) e h in ap is_some there.1

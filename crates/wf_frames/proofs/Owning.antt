@@ -24,46 +24,46 @@ use Rattle.wf_value.specs.Maps.{IsInOrder}
 pub owned_mark : (first : ℕ) (f : Frame) (n : ℕ) (fs : List Frame) → mark_of f ≡ Some n → owned first (f ∷ fs) ≡ own n (is_back f) ∷ owned first fs
 owned_mark first (frame.Mark m) n fs e = let same : m ≡ n = cc e in ap (λ (k : ℕ). own k false ∷ owned first fs) same
 owned_mark first (frame.Back c m) n fs e = let same : m ≡ n = cc e in ap (λ (k : ℕ). own k true ∷ owned first fs) same
-owned_mark first (frame.Judge tried r delay error m) n fs e = let same : m ≡ n = cc e in ap (λ (k : ℕ). own k true ∷ owned first fs) same
-owned_mark first (frame.Try l r d) n fs e = absurd (cc e)
+owned_mark first (frame.Judge judging) n fs e = let same : judging.value.layer ≡ n = cc e in ap (λ (k : ℕ). own k true ∷ owned first fs) same
+owned_mark first (frame.Try trying) n fs e = absurd (cc e)
 owned_mark first (frame.Do l at) n fs e = absurd (cc e)
 owned_mark first (frame.Lone l b) n fs e = absurd (cc e)
 owned_mark first (frame.Entries l at) n fs e = absurd (cc e)
 owned_mark first (frame.Then l) n fs e = absurd (cc e)
-owned_mark first (frame.Loop l w i) n fs e = absurd (cc e)
+owned_mark first (frame.Loop looping) n fs e = absurd (cc e)
 
 pub owned_other : (first : ℕ) (f : Frame) (fs : List Frame) → mark_of f ≡ None → owned first (f ∷ fs) ≡ owned first fs
 owned_other first (frame.Mark m) fs e = absurd (cc e)
 owned_other first (frame.Back c m) fs e = absurd (cc e)
-owned_other first (frame.Judge tried r delay error m) fs e = absurd (cc e)
-owned_other first (frame.Try l r d) fs e = refl
+owned_other first (frame.Judge judging) fs e = absurd (cc e)
+owned_other first (frame.Try trying) fs e = refl
 owned_other first (frame.Do l at) fs e = refl
 owned_other first (frame.Lone l b) fs e = refl
 owned_other first (frame.Entries l at) fs e = refl
 owned_other first (frame.Then l) fs e = refl
-owned_other first (frame.Loop l w i) fs e = refl
+owned_other first (frame.Loop looping) fs e = refl
 
 dropped_mark : (f : Frame) (n : ℕ) (h : Held) → mark_of f ≡ Some n → dropped f h ≡ record h { own = drop 1 h.own }
 dropped_mark (frame.Mark m) n h e = refl
 dropped_mark (frame.Back c m) n h e = refl
-dropped_mark (frame.Judge tried r delay error m) n h e = refl
-dropped_mark (frame.Try l r d) n h e = absurd (cc e)
+dropped_mark (frame.Judge judging) n h e = refl
+dropped_mark (frame.Try trying) n h e = absurd (cc e)
 dropped_mark (frame.Do l at) n h e = absurd (cc e)
 dropped_mark (frame.Lone l b) n h e = absurd (cc e)
 dropped_mark (frame.Entries l at) n h e = absurd (cc e)
 dropped_mark (frame.Then l) n h e = absurd (cc e)
-dropped_mark (frame.Loop l w i) n h e = absurd (cc e)
+dropped_mark (frame.Loop looping) n h e = absurd (cc e)
 
 dropped_other : (f : Frame) (h : Held) → mark_of f ≡ None → dropped f h ≡ h
 dropped_other (frame.Mark m) h e = absurd (cc e)
 dropped_other (frame.Back c m) h e = absurd (cc e)
-dropped_other (frame.Judge tried r delay error m) h e = absurd (cc e)
-dropped_other (frame.Try l r d) h e = refl
+dropped_other (frame.Judge judging) h e = absurd (cc e)
+dropped_other (frame.Try trying) h e = refl
 dropped_other (frame.Do l at) h e = refl
 dropped_other (frame.Lone l b) h e = refl
 dropped_other (frame.Entries l at) h e = refl
 dropped_other (frame.Then l) h e = refl
-dropped_other (frame.Loop l w i) h e = refl
+dropped_other (frame.Loop looping) h e = refl
 
 -- the own layers begin with the innermost
 pub record Innermost (first : ℕ) (fs : List Frame) : Type 0 where
@@ -76,13 +76,13 @@ pub innermost_own : (first : ℕ) (fs : List Frame) → Innermost first fs
 innermost_own first [] = record { top = own first false; rest = []; is = refl; number = refl }
 innermost_own first (frame.Mark n ∷ fs) = record { top = own n false; rest = owned first fs; is = refl; number = refl }
 innermost_own first (frame.Back c n ∷ fs) = record { top = own n true; rest = owned first fs; is = refl; number = refl }
-innermost_own first (frame.Judge tried r delay error n ∷ fs) = record { top = own n true; rest = owned first fs; is = refl; number = refl }
-innermost_own first (frame.Try l r d ∷ fs) = let i = innermost_own first fs in record { top = i.top; rest = i.rest; is = i.is; number = i.number }
+innermost_own first (frame.Judge judging ∷ fs) = record { top = own judging.value.layer true; rest = owned first fs; is = refl; number = refl }
+innermost_own first (frame.Try trying ∷ fs) = let i = innermost_own first fs in record { top = i.top; rest = i.rest; is = i.is; number = i.number }
 innermost_own first (frame.Do l at ∷ fs) = let i = innermost_own first fs in record { top = i.top; rest = i.rest; is = i.is; number = i.number }
 innermost_own first (frame.Lone l b ∷ fs) = let i = innermost_own first fs in record { top = i.top; rest = i.rest; is = i.is; number = i.number }
 innermost_own first (frame.Entries l at ∷ fs) = let i = innermost_own first fs in record { top = i.top; rest = i.rest; is = i.is; number = i.number }
 innermost_own first (frame.Then l ∷ fs) = let i = innermost_own first fs in record { top = i.top; rest = i.rest; is = i.is; number = i.number }
-innermost_own first (frame.Loop l w j ∷ fs) = let i = innermost_own first fs in record { top = i.top; rest = i.rest; is = i.is; number = i.number }
+innermost_own first (frame.Loop looping ∷ fs) = let i = innermost_own first fs in record { top = i.top; rest = i.rest; is = i.is; number = i.number }
 
 -- ## Leaving
 -- the innermost frame has a layer
@@ -133,13 +133,24 @@ other_linked a p q f old new x same none is h =
 pub innermost_mark : (first : ℕ) (f : Frame) (n : ℕ) (fs : List Frame) → mark_of f ≡ Some n → innermost first (f ∷ fs) ≡ n
 innermost_mark first (frame.Mark m) n fs e = cc e
 innermost_mark first (frame.Back c m) n fs e = cc e
-innermost_mark first (frame.Judge tried r delay error m) n fs e = cc e
-innermost_mark first (frame.Try l r d) n fs e = absurd (cc e)
+innermost_mark first (frame.Judge judging) n fs e = cc e
+innermost_mark first (frame.Try trying) n fs e = absurd (cc e)
 innermost_mark first (frame.Do l at) n fs e = absurd (cc e)
 innermost_mark first (frame.Lone l b) n fs e = absurd (cc e)
 innermost_mark first (frame.Entries l at) n fs e = absurd (cc e)
 innermost_mark first (frame.Then l) n fs e = absurd (cc e)
-innermost_mark first (frame.Loop l w i) n fs e = absurd (cc e)
+innermost_mark first (frame.Loop looping) n fs e = absurd (cc e)
+
+pub innermost_other : (first : ℕ) (f : Frame) (fs : List Frame) → mark_of f ≡ None → innermost first (f ∷ fs) ≡ innermost first fs
+innermost_other first (frame.Mark m) fs e = absurd (cc e)
+innermost_other first (frame.Back c m) fs e = absurd (cc e)
+innermost_other first (frame.Judge judging) fs e = absurd (cc e)
+innermost_other first (frame.Try trying) fs e = refl
+innermost_other first (frame.Do l at) fs e = refl
+innermost_other first (frame.Lone l b) fs e = refl
+innermost_other first (frame.Entries l at) fs e = refl
+innermost_other first (frame.Then l) fs e = refl
+innermost_other first (frame.Loop looping) fs e = refl
 
 take_last : (xs : List Frame) (n : ℕ) (x : Frame) → n < length xs → x ≡ get_or xs n x → take (suc n) xs ≡ take n xs ++ x ∷ []
 take_last [] n x h e = absurd (omega (arith, h))
@@ -159,22 +170,22 @@ pub owned_on : (first : ℕ) (fs : List Frame) → owned first (moved_on fs) ≡
 owned_on first [] = refl
 owned_on first (frame.Mark m ∷ fs) = refl
 owned_on first (frame.Back c m ∷ fs) = refl
-owned_on first (frame.Judge tried r delay error m ∷ fs) = refl
-owned_on first (frame.Try l r d ∷ fs) = refl
+owned_on first (frame.Judge judging ∷ fs) = refl
+owned_on first (frame.Try trying ∷ fs) = refl
 owned_on first (frame.Do l at ∷ fs) = refl
 owned_on first (frame.Lone l b ∷ fs) = refl
 owned_on first (frame.Entries l at ∷ fs) = refl
 owned_on first (frame.Then l ∷ fs) = refl
-owned_on first (frame.Loop l w i ∷ fs) = refl
+owned_on first (frame.Loop looping ∷ fs) = refl
 
 pub innermost_on : (first : ℕ) (fs : List Frame) → innermost first (moved_on fs) ≡ innermost first fs
 innermost_on first [] = refl
 innermost_on first (frame.Mark m ∷ fs) = refl
 innermost_on first (frame.Back c m ∷ fs) = refl
-innermost_on first (frame.Judge tried r delay error m ∷ fs) = refl
-innermost_on first (frame.Try l r d ∷ fs) = refl
+innermost_on first (frame.Judge judging ∷ fs) = refl
+innermost_on first (frame.Try trying ∷ fs) = refl
 innermost_on first (frame.Do l at ∷ fs) = refl
 innermost_on first (frame.Lone l b ∷ fs) = refl
 innermost_on first (frame.Entries l at ∷ fs) = refl
 innermost_on first (frame.Then l ∷ fs) = refl
-innermost_on first (frame.Loop l w i ∷ fs) = refl
+innermost_on first (frame.Loop looping ∷ fs) = refl

@@ -12,13 +12,13 @@ use Rattle.wf_model.specs.declared.node.NodeKind.{NodeKind}
 use Rattle.wf_model.specs.declared.node.NodeKind.TheVariants as kind
 use Rattle.wf_model.specs.declared.node.Block.{Block}
 use Rattle.wf_model.specs.declared.node.LoopNode.{LoopNode}
-use Rattle.std.specs.Prelude.{Vec}
+use Rattle.std.specs.Prelude.{Box, Vec}
 use Rattle.std.specs.declared.alloc.Global.{Global}
 use Rattle.wf_ast.specs.Apply.{View}
-use Rattle.wf_ast.specs.Tree.{Body, CallBody, Except, Policy, Template, Steps, Arms, try}
+use Rattle.wf_ast.specs.Tree.{Body, CallBody, Except, Over, Policy, Template, Steps, Arms, loop, try}
 use Rattle.wf_eval.specs.Answers.{Answers}
 use Rattle.wf_frames.proofs.Evaluated.{gave}
-use Rattle.wf_frames.specs.Frames.{body_entries, body_try, control, item, items}
+use Rattle.wf_frames.specs.Frames.{body_entries, body_loop, body_try, control, item, items, left_view}
 use Rattle.wf_model.specs.Spots.{Spot, BodyAt, part_at, part_body, part_next, part_list, part_entry, entries_by, from}
 use Rattle.wf_frames.specs.Fits.{has_next, view_at}
 use Rattle.wf_model.specs.declared.node.Node.{Node}
@@ -27,13 +27,16 @@ use Rattle.wf_frames.specs.Built.{Tells}
 use Rattle.wf_frames.specs.Steps.{CallsWith, Performs, CarriesOut, ReturnsValue, RaisesValue, arm_in}
 use Rattle.wf_frames.specs.declared.frames.Frame.{Frame}
 use Rattle.wf_frames.specs.declared.frames.Frame.TheVariants as frame
+use Rattle.wf_frames.specs.declared.frames.Left.{Left}
+use Rattle.wf_frames.specs.declared.frames.Looping.{Looping}
+use Rattle.wf_frames.specs.declared.frames.Trying.{Trying}
 use Rattle.wf_frames.specs.declared.step.Step.{Step}
 use Rattle.wf_frames.specs.declared.step.Step.TheVariants as step
-use Rattle.wf_model.specs.Config.{Item, Do, Entries, Then, Try}
+use Rattle.wf_model.specs.Config.{Item, Do, Entries, Loop, Then, Try}
 use Rattle.wf_model.specs.Layers.{view}
 use Rattle.wf_model.specs.Leave.{on, jumps}
 use Rattle.wf_model.specs.Local.{Local, Scene, goes}
-use Rattle.wf_model.specs.Move.{assigns, entered, performs, steps_on, chosen, in_arm, arm_items, lone}
+use Rattle.wf_model.specs.Move.{assigns, entered, over, performs, steps_on, chosen, in_arm, arm_items, lone}
 use Rattle.wf_value.specs.Pairs.{Text}
 
 -- ## Switches
@@ -136,12 +139,24 @@ performs_raise ns n t v old st e h s l same = ap (λ b. performs s b (control ns
 pub performs_call : (ns : List Spot) (n : ℕ) (f : CallBody) (v : View) (old : List Frame) (st : Step) → part_body (part_at ns n) ≡ Body.Call f → CallsWith n f v st → Performs ns (part_body (part_at ns n)) v old old st
 performs_call ns n f v old st e h s l same = ap (λ b. performs s b (control ns old) l) e ∙ h ns s (control ns old) l e same
 
+-- a loop begins
+pub loop_begun : (ns : List Spot) (n : ℕ) (held : Box Looping Global) (left : Left) (o : Over) (value : Text) (index : Option Text) (ss : Steps) (v : View) (old new : List Frame) → part_body (part_at ns n) ≡ Body.For (loop value index o ss)
+    → Answers left_view (Ok left) (over v o) → held.value ≡ record { node = n; left = left; index = 0 } → new ≡ frame.Loop held ∷ old → Performs ns (part_body (part_at ns n)) v old new step.Goes
+loop_begun ns n held left o value index ss v old new is a holds e s l same =
+    ap (λ b. performs s b (control ns old) l) is
+    ∙ ap (λ w. on s (control ns old) l (over w o) (λ x. goes (Loop (loop value index o ss) x 0 ∷ control ns old) l)) same
+    ∙ ap (λ q. on s (control ns old) l q (λ x. goes (Loop (loop value index o ss) x 0 ∷ control ns old) l)) (gave left_view left (over v o) a)
+    ∙ ap (λ b. goes (Loop (body_loop b) (left_view left) 0 ∷ control ns old) l) (sym is)
+    ∙ ap (λ (y : Looping). goes (Loop (body_loop (part_body (part_at ns y.node))) (left_view y.left) y.index ∷ control ns old) l) (sym holds)
+    ∙ ap (λ fs. goes (control ns fs) l) (sym e)
+
 -- the body of a `try` stands inside it
-pub tried_performs : (ns : List Spot) (n body : ℕ) (p : Option Policy) (x : Except) (f : Frame) (v : View) (old mid new : List Frame) → part_body (part_at ns n) ≡ Body.Try (try (part_body (part_at ns body)) p x)
-    → ((k : List Item) → items ns f k ≡ entered (part_body (part_at ns body)) ∷ k) → mid ≡ frame.Try n 0 None ∷ old → new ≡ f ∷ mid → Performs ns (part_body (part_at ns n)) v old new step.Goes
-tried_performs ns n body p x f v old mid new is i m e s l same =
+pub tried_performs : (ns : List Spot) (n body : ℕ) (held : Box Trying Global) (p : Option Policy) (x : Except) (f : Frame) (v : View) (old mid new : List Frame) → part_body (part_at ns n) ≡ Body.Try (try (part_body (part_at ns body)) p x)
+    → ((k : List Item) → items ns f k ≡ entered (part_body (part_at ns body)) ∷ k) → held.value ≡ record { node = n; tries = 0; delay = None } → mid ≡ frame.Try held ∷ old → new ≡ f ∷ mid → Performs ns (part_body (part_at ns n)) v old new step.Goes
+tried_performs ns n body held p x f v old mid new is i holds m e s l same =
     ap (λ b. performs s b (control ns old) l) is
     ∙ ap (λ b. goes (entered (part_body (part_at ns body)) ∷ Try (body_try b) 0 None ∷ control ns old) l) (sym is)
+    ∙ ap (λ (y : Trying). goes (entered (part_body (part_at ns body)) ∷ Try (body_try (part_body (part_at ns y.node))) y.tries y.delay ∷ control ns old) l) (sym holds)
     ∙ ap (λ fs. goes (entered (part_body (part_at ns body)) ∷ control ns fs) l) (sym m)
     ∙ ap (λ (k : List Item). goes k l) (sym (i (control ns mid)))
     ∙ ap (λ fs. goes (control ns fs) l) (sym e)

@@ -41,12 +41,12 @@ module _ (nodes : List Node) where
   at_node (frame.Lone n done) h = h
   at_node (frame.Entries n at) h = (ap is_some h.1, subst (λ (o : Option (List ℕ)). at ≤ length (unwrap_or o [])) (sym h.1) h.2)
   at_node (frame.Then n) h = h
-  at_node (frame.Loop n l i) h = ap is_loop_node h.1.at ∙ ap is_loop h.1.is
-  at_node (frame.Try n r d) h = ap is_try_node h.1.at ∙ ap is_try h.1.is
+  at_node (frame.Loop looping) h = ap is_loop_node h.1.at ∙ ap is_loop h.1.is
+  at_node (frame.Try trying) h = ap is_try_node h.1.at ∙ ap is_try h.1.is
   at_node (frame.Mark m) h = tt
   at_node (frame.Back None m) h = tt
   at_node (frame.Back (Some n) m) h = ap is_call_node h.1.at ∙ ap is_call h.1.is
-  at_node (frame.Judge tried r delay error m) h = (ap is_try_node h.0.1.at ∙ ap is_try h.0.1.is, h.1)
+  at_node (frame.Judge judging) h = (ap is_try_node h.0.1.at ∙ ap is_try h.0.1.is, h.1)
 
   list_there : (n at : ℕ) (o : Option Listed) → list_at nodes n ≡ o → is_some o ≡ true → at ≤ length (steps_of o) → HasNode nodes (frame.Do n at)
   list_there n at None e t w = absurd (cc t)
@@ -73,12 +73,12 @@ module _ (nodes : List Node) where
   has_node (frame.Lone n done) h = h
   has_node (frame.Entries n at) h = entries_there n at (entries_at nodes n) refl h.0 h.1
   has_node (frame.Then n) h = h
-  has_node (frame.Loop n l i) h = loop_there n (slice_get nodes n) refl h
-  has_node (frame.Try n r d) h = try_there n (slice_get nodes n) refl h
+  has_node (frame.Loop looping) h = loop_there looping.value.node (slice_get nodes looping.value.node) refl h
+  has_node (frame.Try trying) h = try_there trying.value.node (slice_get nodes trying.value.node) refl h
   has_node (frame.Mark m) h = tt
   has_node (frame.Back None m) h = tt
   has_node (frame.Back (Some n) m) h = call_there n (slice_get nodes n) refl h
-  has_node (frame.Judge tried r delay error m) h = (try_there tried (slice_get nodes tried) refl h.0, h.1)
+  has_node (frame.Judge judging) h = (try_there judging.value.node (slice_get nodes judging.value.node) refl h.0, h.1)
 
   all_at : (ns : List Spot) (fs : List Frame) → Fits ns nodes fs → AllStandAt ns nodes fs
   all_at ns [] h = tt

@@ -21,9 +21,9 @@ use Rattle.wf_value.specs.Plain.{plain}
 abbrev pub reach : List Frame → List ℕ
 reach [] = []
 reach (frame.Do n at ∷ fs) = n ∷ reach fs
-reach (frame.Loop n l i ∷ fs) = []
+reach (frame.Loop looping ∷ fs) = []
 reach (frame.Back call number ∷ fs) = []
-reach (frame.Judge n tries delay e number ∷ fs) = []
+reach (frame.Judge judging ∷ fs) = []
 reach (f ∷ fs) = reach fs
 
 -- ## Nodes
@@ -83,11 +83,11 @@ HasNode nodes (frame.Do n at) = (b : Listed) × (list_at nodes n ≡ Some b) × 
 HasNode nodes (frame.Lone n done) = n < length nodes
 HasNode nodes (frame.Entries n at) = (numbers : List ℕ) × (entries_at nodes n ≡ Some numbers) × (at ≤ length numbers)
 HasNode nodes (frame.Then n) = (n < length nodes) × (has_next (view_at nodes n) ≡ true)
-HasNode nodes (frame.Loop n l i) = (b : LoopNode) × IsLoop nodes n b
-HasNode nodes (frame.Try n tries delay) = (t : TryNode) × IsTry nodes n t
+HasNode nodes (frame.Loop looping) = (b : LoopNode) × IsLoop nodes looping.value.node b
+HasNode nodes (frame.Try trying) = (t : TryNode) × IsTry nodes trying.value.node t
 HasNode nodes (frame.Mark number) = Unit {0}
 HasNode nodes (frame.Back call number) = IsCallOf nodes call
-HasNode nodes (frame.Judge n tries delay e number) = ((t : TryNode) × IsTry nodes n t) × (depth (plain e) ≤ 100)
+HasNode nodes (frame.Judge judging) = ((t : TryNode) × IsTry nodes judging.value.node t) × (depth (plain judging.value.error) ≤ 100)
 
 -- what owns the lists around the node's own one
 abbrev pub view_outside : Option View → List ℕ → List ℕ
@@ -102,8 +102,8 @@ abbrev pub Nests : List Spot → List Node → Frame → List Frame → Type 0
 Nests ns nodes (frame.Do n at) fs = outside_at ns nodes n ≡ reach fs
 Nests ns nodes (frame.Lone n done) fs = owners_at ns n ≡ reach fs
 Nests ns nodes (frame.Then n) fs = owners_at ns n ≡ reach fs
-Nests ns nodes (frame.Try n tries delay) fs = owners_at ns n ≡ reach fs
-Nests ns nodes (frame.Judge n tries delay e number) fs = owners_at ns n ≡ reach fs
+Nests ns nodes (frame.Try trying) fs = owners_at ns trying.value.node ≡ reach fs
+Nests ns nodes (frame.Judge judging) fs = owners_at ns judging.value.node ≡ reach fs
 Nests ns nodes f fs = Unit {0}
 
 abbrev pub FrameFits : List Spot → List Node → Frame → List Frame → Type 0

@@ -87,21 +87,25 @@ abbrev pub lone_steps : List Spot → ℕ → Bool → Steps
 lone_steps ns n true = no_steps
 lone_steps ns n false = unnamed (part_body (part_at ns n)) (part_next (part_at ns n))
 
+-- a loop between two iterations
+abbrev pub loop_item : List Spot → ℕ → declared.Left → ℕ → Item
+loop_item ns n l i = Loop (body_loop (part_body (part_at ns n))) (left_view l) i
+
 -- the innermost item of a frame
 abbrev pub item : List Spot → Frame → Item
 item ns (frame.Do n at) = Do (part_list (part_at ns n)) (from at (part_list (part_at ns n)))
 item ns (frame.Lone n done) = Do no_steps (lone_steps ns n done)
 item ns (frame.Entries n at) = Entries (drop at (body_entries (part_body (part_at ns n))))
 item ns (frame.Then n) = Then (unwrap_or (part_next (part_at ns n)) [])
-item ns (frame.Loop n l i) = Loop (body_loop (part_body (part_at ns n))) (left_view l) i
-item ns (frame.Try n tries delay) = Try (body_try (part_body (part_at ns n))) tries delay
+item ns (frame.Loop looping) = loop_item ns looping.value.node looping.value.left looping.value.index
+item ns (frame.Try trying) = Try (body_try (part_body (part_at ns trying.value.node))) trying.value.tries trying.value.delay
 item ns (frame.Mark number) = Mark
 item ns (frame.Back call number) = Back (result_of ns call)
-item ns (frame.Judge n tries delay e number) = Back None
+item ns (frame.Judge judging) = Back None
 
 -- the items of a frame, before those outside it: a predicate's call stands inside what it decides
 abbrev pub items : List Spot → Frame → List Item → List Item
-items ns (frame.Judge n tries delay e number) k = Back None ∷ Judge (body_try (part_body (part_at ns n))) tries delay (plain e) ∷ k
+items ns (frame.Judge judging) k = Back None ∷ Judge (body_try (part_body (part_at ns judging.value.node))) judging.value.tries judging.value.delay (plain judging.value.error) ∷ k
 items ns f k = item ns f ∷ k
 
 abbrev pub control : List Spot → List Frame → List Item
@@ -113,13 +117,13 @@ control ns (f ∷ fs) = items ns f (control ns fs)
 abbrev pub mark_of : Frame → Option ℕ
 mark_of (frame.Mark number) = Some number
 mark_of (frame.Back call number) = Some number
-mark_of (frame.Judge n tries delay e number) = Some number
+mark_of (frame.Judge judging) = Some judging.value.layer
 mark_of f = None
 
 -- whether a call ends with a frame
 abbrev pub is_back : Frame → Bool
 is_back (frame.Back call number) = true
-is_back (frame.Judge n tries delay e number) = true
+is_back (frame.Judge judging) = true
 is_back f = false
 
 -- how many calls do
@@ -136,5 +140,5 @@ abbrev pub owned : ℕ → List Frame → List Own
 owned first [] = own first false ∷ []
 owned first (frame.Mark number ∷ fs) = own number false ∷ owned first fs
 owned first (frame.Back call number ∷ fs) = own number true ∷ owned first fs
-owned first (frame.Judge n tries delay e number ∷ fs) = own number true ∷ owned first fs
+owned first (frame.Judge judging ∷ fs) = own judging.value.layer true ∷ owned first fs
 owned first (f ∷ fs) = owned first fs

@@ -8,5 +8,5 @@ abbrev pub innermost : ℕ → List Frame → ℕ
 innermost first [] = first
 innermost first (frame.Mark number ∷ fs) = number
 innermost first (frame.Back call number ∷ fs) = number
-innermost first (frame.Judge n tries delay e number ∷ fs) = number
+innermost first (frame.Judge judging ∷ fs) = judging.value.layer
 innermost first (f ∷ fs) = innermost first fs

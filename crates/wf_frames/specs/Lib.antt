@@ -1,9 +1,11 @@
 pub mod Bound
 pub mod Fits
+pub mod Foreseen
 pub mod Frames
 pub mod Held
 pub mod Innermost
 pub mod Keys
+pub mod Loops
 pub mod Owned
 pub mod Sights
 pub mod Standing

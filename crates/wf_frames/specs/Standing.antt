@@ -66,11 +66,11 @@ StandsAt nodes (frame.Do n at) = (is_some (list_at nodes n) ≡ true) × (at ≤
 StandsAt nodes (frame.Lone n done) = n < length nodes
 StandsAt nodes (frame.Entries n at) = (is_some (entries_at nodes n) ≡ true) × (at ≤ length (unwrap_or (entries_at nodes n) []))
 StandsAt nodes (frame.Then n) = (n < length nodes) × (has_next (view_at nodes n) ≡ true)
-StandsAt nodes (frame.Loop n l i) = is_loop_node (slice_get nodes n) ≡ true
-StandsAt nodes (frame.Try n tries delay) = is_try_node (slice_get nodes n) ≡ true
+StandsAt nodes (frame.Loop looping) = is_loop_node (slice_get nodes looping.value.node) ≡ true
+StandsAt nodes (frame.Try trying) = is_try_node (slice_get nodes trying.value.node) ≡ true
 StandsAt nodes (frame.Mark number) = Unit {0}
 StandsAt nodes (frame.Back call number) = StandsCall nodes call
-StandsAt nodes (frame.Judge n tries delay e number) = (is_try_node (slice_get nodes n) ≡ true) × (depth (plain e) ≤ 100)
+StandsAt nodes (frame.Judge judging) = (is_try_node (slice_get nodes judging.value.node) ≡ true) × (depth (plain judging.value.error) ≤ 100)
 
 abbrev pub AllStandAt : List Spot → List Node → List Frame → Type 0
 AllStandAt ns nodes [] = Unit {0}
@@ -110,22 +110,22 @@ StandsAt-prop nodes (frame.Do n at) = ×_prop (Coded-set coded_bool _ _) le_prop
 StandsAt-prop nodes (frame.Lone n done) = le_prop
 StandsAt-prop nodes (frame.Entries n at) = ×_prop (Coded-set coded_bool _ _) le_prop
 StandsAt-prop nodes (frame.Then n) = ×_prop le_prop (Coded-set coded_bool _ _)
-StandsAt-prop nodes (frame.Loop n l i) = Coded-set coded_bool _ _
-StandsAt-prop nodes (frame.Try n tries delay) = Coded-set coded_bool _ _
+StandsAt-prop nodes (frame.Loop looping) = Coded-set coded_bool _ _
+StandsAt-prop nodes (frame.Try trying) = Coded-set coded_bool _ _
 StandsAt-prop nodes (frame.Mark number) = Unit-prop
 StandsAt-prop nodes (frame.Back call number) = StandsCall-prop nodes call
-StandsAt-prop nodes (frame.Judge n tries delay e number) = ×_prop (Coded-set coded_bool _ _) le_prop
+StandsAt-prop nodes (frame.Judge judging) = ×_prop (Coded-set coded_bool _ _) le_prop
 
 Nests-prop : (ns : List Spot) (nodes : List Node) (f : Frame) (fs : List Frame) → IsProp (Nests ns nodes f fs)
 Nests-prop ns nodes (frame.Do n at) fs = Coded-set (coded_list coded_ℕ) _ _
 Nests-prop ns nodes (frame.Lone n done) fs = Coded-set (coded_list coded_ℕ) _ _
 Nests-prop ns nodes (frame.Entries n at) fs = Unit-prop
 Nests-prop ns nodes (frame.Then n) fs = Coded-set (coded_list coded_ℕ) _ _
-Nests-prop ns nodes (frame.Loop n l i) fs = Unit-prop
-Nests-prop ns nodes (frame.Try n tries delay) fs = Coded-set (coded_list coded_ℕ) _ _
+Nests-prop ns nodes (frame.Loop looping) fs = Unit-prop
+Nests-prop ns nodes (frame.Try trying) fs = Coded-set (coded_list coded_ℕ) _ _
 Nests-prop ns nodes (frame.Mark number) fs = Unit-prop
 Nests-prop ns nodes (frame.Back call number) fs = Unit-prop
-Nests-prop ns nodes (frame.Judge n tries delay e number) fs = Coded-set (coded_list coded_ℕ) _ _
+Nests-prop ns nodes (frame.Judge judging) fs = Coded-set (coded_list coded_ℕ) _ _
 
 AllStandAt-prop : (ns : List Spot) (nodes : List Node) (fs : List Frame) → IsProp (AllStandAt ns nodes fs)
 AllStandAt-prop ns nodes [] = Unit-prop

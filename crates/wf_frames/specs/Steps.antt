@@ -205,11 +205,11 @@ HasStep nodes (frame.Lone n true) = ⊥
 HasStep nodes (frame.Lone n false) = Unit {0}
 HasStep nodes (frame.Entries n at) = IsBeforeEntry nodes n at
 HasStep nodes (frame.Then n) = Unit {0}
-HasStep nodes (frame.Loop n l i) = ⊥
-HasStep nodes (frame.Try n tries delay) = ⊥
+HasStep nodes (frame.Loop looping) = ⊥
+HasStep nodes (frame.Try trying) = ⊥
 HasStep nodes (frame.Mark number) = ⊥
 HasStep nodes (frame.Back call number) = ⊥
-HasStep nodes (frame.Judge n tries delay e number) = ⊥
+HasStep nodes (frame.Judge judging) = ⊥
 
 -- the innermost one is such a frame
 abbrev pub HasStepOnTop : List Node → List Frame → Type 0

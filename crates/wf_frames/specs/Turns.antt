@@ -25,13 +25,13 @@ use Rattle.wf_value.specs.declared.Tag.TheVariants.{ResourceLimitError}
 abbrev pub left_by : Frame → Local → Local
 left_by (frame.Mark number) l = leave l
 left_by (frame.Back call number) l = leave l
-left_by (frame.Judge n tries delay e number) l = leave l
+left_by (frame.Judge judging) l = leave l
 left_by f l = l
 
 abbrev pub dropped : Frame → Held → Held
 dropped (frame.Mark number) h = record h { own = drop 1 h.own }
 dropped (frame.Back call number) h = record h { own = drop 1 h.own }
-dropped (frame.Judge n tries delay e number) h = record h { own = drop 1 h.own }
+dropped (frame.Judge judging) h = record h { own = drop 1 h.own }
 dropped f h = h
 
 abbrev pub Leaves : Bool → List Frame → Held → List Frame → Held → Type 0

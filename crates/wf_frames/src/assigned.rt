@@ -1,5 +1,6 @@
 // Entries of assigns, evaluated.
-ghost use Rattle.wf_eval.specs.Answers.{Answers};
+ghost use Rattle.wf_ast.specs.Eval.{fill};
+ghost use Rattle.wf_eval.specs.Answers.{Answers, Gives};
 ghost use Rattle.wf_eval.specs.Sight.{seen};
 ghost use Rattle.wf_frames.specs.Assigned.{entry_values, values_of};
 ghost use Rattle.wf_model.specs.NodeKinds.{entry_by};
@@ -20,9 +21,25 @@ pub struct Assigned {
     pub places: Vec<Value>,
 }
 
+/// The value of an entry alone, with the compiled expressions of its node, or its first error. It is all of an entry that has no places.
+/// It sees the reading of the clock `now`, in milliseconds since 1970.
+#[inline(always)]
+pub fn evaluate_value<K: Look>(
+    alloc: Global,
+    entry: &EntryNode,
+    codes: &[Postfix],
+    look: &K,
+    now: u64,
+) -> Result<Value, Raise>
+    ensures { Gives result
+        (fill (entry_by codes.now entry.now).value (seen (K.sight look.now) now)) }
+{
+    fill_shape(alloc, &entry.value, codes, look, now)
+}
+
 /// The value of an entry first, and then those of the places of its target, with the compiled expressions of its node; or the first error.
 /// They see the reading of the clock `now`, in milliseconds since 1970.
-#[inline(always)]
+#[inline(never)]
 pub fn evaluate<K: Look>(
     alloc: Global,
     entry: &EntryNode,

@@ -1,7 +1,9 @@
 // A task's frames.
-ghost use Rattle.std.specs.Prelude.{◌≡◌, [], ◌∷◌, IfNone, is_ok, option_map, reverse, if◌then◌else◌};
+ghost use Rattle.std.specs.Prelude.{◌≡◌, [], ◌∷◌, IfNone, IfOk, is_ok, option_map, reverse, true, if◌then◌else◌};
 ghost use Rattle.wf_frames.specs.Innermost.{innermost};
 
+use crate::next::Next;
+use crate::turning::Turn;
 use std::alloc::Global;
 use wf_scope::Chain;
 use wf_value::{List, OutOfMemory, Value};
@@ -16,7 +18,35 @@ pub enum Left {
     Range(i64, i64),
 }
 
-/// What a task has still to do, by the number of the node that it belongs to.
+/// A loop between two iterations, with the index of the next.
+#[derive(Drop)]
+pub struct Looping {
+    pub node: u32,
+    pub left: Left,
+    pub index: u64,
+}
+
+/// A `try` around its body, with the retries used and the last delay in milliseconds.
+#[derive(Drop)]
+pub struct Trying {
+    pub node: u32,
+    pub tries: u64,
+    pub delay: Option<u64>,
+}
+
+/// The call of the workflow that decides on an error of a `try`: the retries used, the last delay in milliseconds, the error, and the
+/// number of the call's layer.
+#[derive(Drop)]
+pub struct Judging {
+    pub node: u32,
+    pub tries: u64,
+    pub delay: Option<u64>,
+    pub error: Value,
+    pub layer: u64,
+}
+
+/// What a task has still to do, by the number of the node that it belongs to. What few frames hold stands in a box, so that a frame is
+/// small.
 #[derive(Drop)]
 pub enum Frame {
     /// The steps of the list that the node owns, from this one on.
@@ -27,17 +57,15 @@ pub enum Frame {
     Entries(u32, usize),
     /// The node's `next`.
     Then(u32),
-    /// A loop between two iterations, with the index of the next.
-    Loop(u32, Left, u64),
-    /// A `try` around its body, with the retries used and the last delay in milliseconds.
-    Try(u32, u64, Option<u64>),
+    Loop(Box<Looping>),
+    Try(Box<Trying>),
     /// The layer of this number ends here.
     Mark(u64),
     /// The call of a step ends here, with its layer.
     Back(Option<u32>, u64),
-    /// The call of the workflow that decides on an error of a `try` ends here, with its layer: the retries used, the last delay in
-    /// milliseconds, the error, and the layer's number. The call and the decision are one frame, since neither is left without the other.
-    Judge(u32, u64, Option<u64>, Value, u64),
+    /// The call of the workflow that decides on an error of a `try` ends here, with its layer. The call and the decision are one frame,
+    /// since neither is left without the other.
+    Judge(Box<Judging>),
 }
 
 impl Frame {
@@ -50,9 +78,9 @@ impl Frame {
     {
         match self {
             Frame::Mark(number) | Frame::Back(_, number) => Some(*number),
-            Frame::Judge(_, _, _, _, number) => Some(*number),
+            Frame::Judge(judging) => Some(judging.layer),
             Frame::Do(_, _) | Frame::Lone(_, _) | Frame::Entries(_, _) | Frame::Then(_) => None,
-            Frame::Loop(_, _, _) | Frame::Try(_, _, _) => None,
+            Frame::Loop(_) | Frame::Try(_) => None,
         }
     }
 
@@ -66,8 +94,8 @@ impl Frame {
             Frame::Do(_, at) => *at += 1,
             Frame::Lone(_, done) => *done = true,
             Frame::Entries(_, at) => *at += 1,
-            Frame::Then(_) | Frame::Loop(_, _, _) | Frame::Try(_, _, _) => {}
-            Frame::Mark(_) | Frame::Back(_, _) | Frame::Judge(_, _, _, _, _) => {}
+            Frame::Then(_) | Frame::Loop(_) | Frame::Try(_) => {}
+            Frame::Mark(_) | Frame::Back(_, _) | Frame::Judge(_) => {}
         }
     }
 
@@ -76,9 +104,9 @@ impl Frame {
         ensures { result ≡ is_back self.now }
     {
         match self {
-            Frame::Back(_, _) | Frame::Judge(_, _, _, _, _) => true,
+            Frame::Back(_, _) | Frame::Judge(_) => true,
             Frame::Do(_, _) | Frame::Lone(_, _) | Frame::Entries(_, _) | Frame::Then(_) => false,
-            Frame::Loop(_, _, _) | Frame::Try(_, _, _) | Frame::Mark(_) => false,
+            Frame::Loop(_) | Frame::Try(_) | Frame::Mark(_) => false,
         }
     }
 }
@@ -98,7 +126,7 @@ fn innermost(items: &[Frame], first: u64) -> u64
     first
 }
 
-/// A task's frames, and the layer around them all.
+/// A task's frames, the layer around them all, and what the innermost frame does next, as it was kept last.
 #[derive(Drop)]
 pub struct Frames {
     // the innermost at the end
@@ -106,11 +134,13 @@ pub struct Frames {
     first: u64,
     // the innermost of the own layers
     layer: u64,
+    next: Next,
     ghost layered: { layer ≡ innermost first (reverse items.items) },
 }
 
 impl Frames {
     ghost use Rattle.wf_frames.specs.Frames.{HasRoomOnTop, calls_of, inner, moved_on, popped, topped};
+    ghost use Rattle.wf_frames.specs.Loops.{TakesTurn, is_at_loop};
     ghost use Rattle.wf_frames.specs.Owned.{own_of};
 
     /// None, inside this layer. It allocates nothing.
@@ -122,6 +152,7 @@ impl Frames {
             items: Vec::new(alloc),
             first: first.number,
             layer: first.number,
+            next: Next::Nothing,
         }
     }
 
@@ -150,6 +181,20 @@ impl Frames {
         }
     }
 
+    /// The loop that is the innermost frame goes on behind its next value, if one is left. Without memory it may be in any state.
+    #[inline(always)]
+    pub fn turn(&mut self, alloc: Global) -> Result<Option<Turn>, OutOfMemory>
+        requires at { is_at_loop (inner self.old) ≡ true }
+        ensures turned { IfOk result (λ o. TakesTurn o (inner self.old) (inner self.new)) }
+        ensures first { self.new.first ≡ self.old.first }
+        ensures own { own_of self.new ≡ own_of self.old }
+    {
+        let Some(frame) = self.items.last_mut() else {
+            unreachable!()
+        };
+        frame.turn(alloc)
+    }
+
     /// Takes the innermost frame.
     #[inline(always)]
     pub fn pop(&mut self) -> Option<Frame>
@@ -164,6 +209,24 @@ impl Frames {
             self.layer = innermost(self.items.as_slice(), self.first);
         }
         Some(frame)
+    }
+
+    /// What was kept of what the innermost frame does next.
+    #[inline(always)]
+    pub fn next(&self) -> Next
+        ensures { result ≡ self.now.next }
+    {
+        self.next
+    }
+
+    /// Keeps what the innermost frame does next.
+    #[inline(always)]
+    pub fn set_next(&mut self, next: Next)
+        ensures next { self.new.next ≡ next }
+        ensures same { inner self.new ≡ inner self.old }
+        ensures own { own_of self.new ≡ own_of self.old }
+    {
+        self.next = next;
     }
 
     /// The innermost frame.

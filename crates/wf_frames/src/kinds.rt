@@ -2,16 +2,16 @@
 ghost use Rattle.std.specs.Prelude.{◌≡◌, List, Some, option_map, slice_get};
 ghost use Rattle.wf_ast.specs.Tree.{Program};
 ghost use Rattle.wf_frames.specs.Built.{Tells};
-ghost use Rattle.wf_frames.specs.Fits.{HasNode};
-ghost use Rattle.wf_frames.specs.Frames.{items};
+ghost use Rattle.wf_frames.specs.Fits.{Fits};
+ghost use Rattle.wf_frames.specs.Foreseen.{next_by};
+ghost use Rattle.wf_frames.specs.Frames.{control};
+ghost use Rattle.wf_frames.specs.declared.frames.Frame.{Frame};
 ghost use Rattle.wf_frames.specs.Kinds.{AreWants, kind_view, wants_view};
-ghost use Rattle.wf_model.specs.Config.{Item};
 ghost use Rattle.wf_model.specs.Kinds.{NextKind, next_kind};
 ghost use Rattle.wf_model.specs.Spots.{Spot};
+ghost use Rattle.wf_model.specs.declared.node.Node.{Node};
 
-use crate::Frame;
-use crate::nodes::{block, entries};
-use wf_model::Node;
+use crate::Next;
 
 /// The event that a move wants: a plain one, one with a reading of the clock, or one that makes a request.
 #[derive(Debug, Clone, Copy, PartialEq, Eq)]
@@ -52,36 +52,16 @@ fn entry_at(wants: &[Wants], n: u32) -> Kind
     }
 }
 
-/// The number at a place among others, if there is one.
-fn number_at(numbers: &[u32], at: usize) -> Option<u32>
-    ensures { result ≡ slice_get numbers.now at }
-{
-    if at < numbers.len() {
-        Some(numbers[at])
-    } else {
-        None
-    }
-}
-
-/// Of the innermost frame. `wants` has what each node wants.
+/// The event that a move wants, by what the innermost frame does next. `wants` has what each node wants.
 #[inline(always)]
-pub fn frame_kind(nodes: &[Node], wants: &[Wants], frame: &Frame) -> Kind
-    ghost ns: { List Spot }
-    requires tells { Tells ns nodes.now }
-    requires node { HasNode nodes.now frame.now }
-    ensures { (p : Program) (k : List Item) → AreWants p ns nodes.now wants.now
-        → kind_view result ≡ next_kind p (items ns frame.now k) }
+pub fn next_kind(wants: &[Wants], next: Next) -> Kind
+    ensures { (p : Program) (ns : List Spot) (nodes : List Node) (fs : List Frame)
+        → Tells ns nodes → Fits ns nodes fs → next ≡ next_by nodes fs
+        → AreWants p ns nodes wants.now → kind_view result ≡ next_kind p (control ns fs) }
 {
-    match frame {
-        Frame::Do(list, at) => match number_at(block(nodes, *list).steps.as_slice(), *at) {
-            Some(n) => body_at(wants, n),
-            None => Kind::Plain,
-        },
-        Frame::Lone(n, false) => body_at(wants, *n),
-        Frame::Entries(n, at) => match number_at(entries(nodes, *n), *at) {
-            Some(entry) => entry_at(wants, entry),
-            None => Kind::Plain,
-        },
+    match next {
+        Next::Body(n) => body_at(wants, n),
+        Next::Entry(n) => entry_at(wants, n),
         _ => Kind::Plain,
     }
 }

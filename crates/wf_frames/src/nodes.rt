@@ -1,5 +1,5 @@
 // Nodes by their numbers.
-ghost use Rattle.std.specs.Prelude.{◌≡◌, Some, is_some, take, true};
+ghost use Rattle.std.specs.Prelude.{◌≡◌, Some, is_some, slice_get, take, true};
 ghost use Rattle.wf_frames.specs.Fits.{IsLoop, IsTry, entries_at, has_next, list_at, view_at};
 ghost use Rattle.wf_frames.specs.Built.{is_node_built, is_table_built};
 ghost use Rattle.wf_model.specs.NodeKinds.{block_view};
@@ -66,6 +66,18 @@ pub fn entries(nodes: &[Node], n: u32) -> &[u32]
     match &node.kind {
         NodeKind::Assign(entries) => entries.as_slice(),
         _ => unreachable!(),
+    }
+}
+
+/// The number at a place among others, if there is one.
+#[inline(always)]
+pub(crate) fn number_at(numbers: &[u32], at: usize) -> Option<u32>
+    ensures { result ≡ slice_get numbers.now at }
+{
+    if at < numbers.len() {
+        Some(numbers[at])
+    } else {
+        None
     }
 }
 

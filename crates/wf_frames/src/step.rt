@@ -27,7 +27,7 @@ ghost use Rattle.wf_value.specs.Pairs.{Text};
 ghost use Rattle.wf_value.specs.Plain.{plain};
 
 use crate::filling::{fill_args, fill_shape};
-use crate::{Frame, Frames, Left};
+use crate::{Frame, Frames, Left, Looping, Trying};
 use std::alloc::Global;
 use wf_ast::{Postfix, boxed};
 use wf_eval::Look;
@@ -311,7 +311,12 @@ fn begin_loop<K: Look>(
 {
     match left_of(alloc, over, codes, look, now) {
         Ok(left) => {
-            frames.push(Frame::Loop(n, left, 0))?;
+            let looping = Looping {
+                node: n,
+                left,
+                index: 0,
+            };
+            frames.push(Frame::Loop(boxed(alloc, looping)?))?;
             Ok(Step::Goes)
         }
         Err(raise) => fails(alloc, raise),
@@ -361,6 +366,7 @@ pub fn body_frame(nodes: &[Node], body: u32) -> Frame
 
 /// A `try`: its body stands inside it.
 fn enter_try(
+    alloc: Global,
     nodes: &[Node],
     n: u32,
     tried: &TryNode,
@@ -377,7 +383,12 @@ fn enter_try(
     ensures own { OnOk result (own_of frames.new ≡ own_of frames.old) }
     ensures done { IfOk result IsDone }
 {
-    frames.push(Frame::Try(n, 0, None))?;
+    let trying = Trying {
+        node: n,
+        tries: 0,
+        delay: None,
+    };
+    frames.push(Frame::Try(boxed(alloc, trying)?))?;
     frames.push(body_frame(nodes, tried.body))?;
     Ok(Step::Goes)
 }
@@ -424,7 +435,7 @@ fn perform_plain<K: Look>(
         }
         NodeKind::Raise(shape) => raises(alloc, shape, codes, look, now),
         NodeKind::Return(shape) => returns(alloc, shape, codes, look, now),
-        NodeKind::Try(tried) => enter_try(nodes, n, tried, frames),
+        NodeKind::Try(tried) => enter_try(alloc, nodes, n, tried, frames),
         NodeKind::Parallel(_) => unreachable!(),
         _ => Ok(Step::Goes),
     }

@@ -1,5 +1,5 @@
 // Assignments.
-ghost use Rattle.std.specs.Prelude.{IfOk, map};
+ghost use Rattle.std.specs.Prelude.{[], IfOk, map};
 ghost use Rattle.wf_frames.specs.Owned.{Around, IsLinked, held_by, own_of};
 ghost use Rattle.wf_frames.specs.Turns.{Agrees, Writes};
 ghost use Rattle.wf_model.specs.Local.{Scene};
@@ -37,6 +37,24 @@ pub fn assign(
         Some(keys) => put(frames, scopes, name, keys.as_slice(), value),
         None => Ok(Some(fault_of(scopes.look(frames.layer(), name.as_str()), places))),
     }
+}
+
+/// A value is assigned to a name alone.
+#[inline(always)]
+pub fn assign_name(
+    frames: &Frames,
+    scopes: &mut Scopes,
+    name: &Text,
+    value: Value,
+) -> Result<Option<Tag>, OutOfMemory>
+    ghost around: { Around }
+    requires { IsLinked around (own_of frames.now) scopes.old }
+    ensures written { IfOk result (λ o. (s : Scene) → Agrees s around
+        → Writes s o (held_by around frames.now scopes.old) name.now [] (plain value)
+        (held_by around frames.now scopes.new)) }
+    ensures linked { IfOk result (λ o. IsLinked around (own_of frames.now) scopes.new) }
+{
+    put(frames, scopes, name, &[], value)
 }
 
 /// The same with keys for places.

@@ -194,9 +194,12 @@ impl Machine {
         ensures some { IsTrue result → IsPlain self.now task.now }
         ensures none { IsFalse result → IsPlain self.now task.now → ⊥ }
     {
-        self.tally.moves + 1 < MOVE_LIMIT
-            && task.is_awake()
-            && kind_of(&self.program, self.wants.as_slice(), task) == Kind::Plain
+        if task.is_awake() {
+            self.tally.moves + 1 < MOVE_LIMIT
+                && kind_of(&self.program, self.wants.as_slice(), task) == Kind::Plain
+        } else {
+            false
+        }
     }
 
     /// `main`, which is out, takes its next move, and stays out. It gives whether `main` goes on; else the execution has ended. Without

@@ -3,8 +3,8 @@ use Rattle.std.proofs.Common.{◌≡◌, inl, inr, ℕ, Bool, true, false, List,
 use Rattle.std.specs.Prelude.{◌⊎◌, ◌&&◌, if◌then◌else◌, nat_le}
 use Rattle.wf_ast.specs.Apply.{View}
 use Rattle.wf_ast.specs.Eval.{eval_all, fill}
-use Rattle.wf_ast.specs.Tree.{Entry}
-use Rattle.wf_eval.specs.Answers.{Answers}
+use Rattle.wf_ast.specs.Tree.{Entry, exprs}
+use Rattle.wf_eval.specs.Answers.{Answers, Gives}
 use Rattle.wf_frames.specs.Held.{Held, standing}
 use Rattle.wf_frames.specs.Turns.{Writes}
 use Rattle.wf_model.specs.Config.{Item, limits}
@@ -21,6 +21,8 @@ use Rattle.wf_moves.specs.declared.finish.Went.{Went}
 use Rattle.wf_value.specs.Data.{Data, depth}
 use Rattle.wf_value.specs.Errors.{Answer, ◌>>=◌, error_map}
 use Rattle.wf_value.specs.Pairs.{Text}
+use Rattle.wf_value.specs.Plain.{plain}
+use Rattle.wf_value.specs.declared.Value.{Value}
 use Rattle.wf_value.specs.declared.Raise.TheVariants.{Error}
 use Rattle.wf_value.specs.declared.Tag.{Tag}
 use Rattle.wf_value.specs.declared.Tag.TheVariants.{ResourceLimitError}
@@ -93,3 +95,18 @@ module _ (s : Scene) (e : Entry) (k : List Item) (l : Local) (v : View) (same : 
   pub entry_failed : (t : Tag) (w : Went) (m : Local) → Answers values_of (Err (Error t)) (entry_values e v) → IsMove s (raises s k l (error_map t)) w m → IsMove s (assigns s e k l) w m
   entry_failed t w m g h =
       subst (λ y. IsMove s y w m) (sym (assigns_by ∙ ap (λ r. on {A = Data × List Data} s k l r (λ p. on_assigned s k l (assign s e.target.name p.1 p.0 l))) (failed values_of t (entry_values e v) g))) h
+
+  -- without places
+  module _ (none : e.target.places ≡ exprs []) where
+    named_by : assigns s e k l ≡ on {A = Data} s k l (fill e.value v) (λ d. on_assigned s k l (assign s e.target.name [] d l))
+    named_by =
+        ap (λ y. on s k l (fill e.value y) (λ d. on s k l (eval_all e.target.places y) (λ ks. on_assigned s k l (assign s e.target.name ks d l)))) same
+        ∙ ap (λ ps. on s k l (fill e.value v) (λ d. on s k l (eval_all ps v) (λ ks. on_assigned s k l (assign s e.target.name ks d l)))) none
+
+    pub name_given : (x : Value) (w : Went) (m : Local) → Gives (Ok x) (fill e.value v) → IsMove s (on_assigned s k l (assign s e.target.name [] (plain x) l)) w m → IsMove s (assigns s e k l) w m
+    name_given x w m g h =
+        subst (λ y. IsMove s y w m) (sym (named_by ∙ ap (λ r. on {A = Data} s k l r (λ d. on_assigned s k l (assign s e.target.name [] d l))) (gave plain x (fill e.value v) g))) h
+
+    pub name_failed : (t : Tag) (w : Went) (m : Local) → Gives (Err (Error t)) (fill e.value v) → IsMove s (raises s k l (error_map t)) w m → IsMove s (assigns s e k l) w m
+    name_failed t w m g h =
+        subst (λ y. IsMove s y w m) (sym (named_by ∙ ap (λ r. on {A = Data} s k l r (λ d. on_assigned s k l (assign s e.target.name [] d l))) (failed plain t (fill e.value v) g))) h

@@ -44,11 +44,11 @@ calls_are ns (frame.Do n at ∷ fs) = omega (arith, calls_are ns fs)
 calls_are ns (frame.Lone n b ∷ fs) = omega (arith, calls_are ns fs)
 calls_are ns (frame.Entries n at ∷ fs) = omega (arith, calls_are ns fs)
 calls_are ns (frame.Then n ∷ fs) = omega (arith, calls_are ns fs)
-calls_are ns (frame.Loop n w i ∷ fs) = omega (arith, calls_are ns fs)
-calls_are ns (frame.Try n r d ∷ fs) = omega (arith, calls_are ns fs)
+calls_are ns (frame.Loop looping ∷ fs) = omega (arith, calls_are ns fs)
+calls_are ns (frame.Try trying ∷ fs) = omega (arith, calls_are ns fs)
 calls_are ns (frame.Mark m ∷ fs) = omega (arith, calls_are ns fs)
 calls_are ns (frame.Back c m ∷ fs) = omega (arith, calls_are ns fs)
-calls_are ns (frame.Judge tried r delay error m ∷ fs) = omega (arith, calls_are ns fs)
+calls_are ns (frame.Judge judging ∷ fs) = omega (arith, calls_are ns fs)
 
 -- ## Parameters
 module _ (s : Scene) (r : Option Text) (x : Text) (args : Pairs) (f : Flow) (k : List Item) (l : Local) (w : Went) (m : Local) (named : flow s.program.flows x ≡ Some f) where

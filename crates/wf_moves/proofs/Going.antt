@@ -18,11 +18,11 @@ module _ (nodes : List Node) where
   goes_on (frame.Lone n false) h = refl
   goes_on (frame.Entries n at) h = subst (λ (o : Option (List ℕ)). at < length (unwrap_or o [])) (sym h.1) h.2
   goes_on (frame.Then n) h = tt
-  goes_on (frame.Loop n l i) h = tt
-  goes_on (frame.Try n r d) h = absurd h
+  goes_on (frame.Loop looping) h = tt
+  goes_on (frame.Try trying) h = absurd h
   goes_on (frame.Mark m) h = absurd h
   goes_on (frame.Back k m) h = tt
-  goes_on (frame.Judge tried r delay error m) h = tt
+  goes_on (frame.Judge judging) h = tt
 
   before : (n at : ℕ) (o : Option Listed) → list_at nodes n ≡ o → at < length (steps_of o) → IsBefore nodes n at
   before n at None e w = absurd (omega (arith, w))
@@ -38,11 +38,11 @@ module _ (nodes : List Node) where
   has_move (frame.Lone n false) h = tt
   has_move (frame.Entries n at) h = before_entry n at (entries_at nodes n) refl h
   has_move (frame.Then n) h = tt
-  has_move (frame.Loop n l i) h = tt
-  has_move (frame.Try n r d) h = absurd h
+  has_move (frame.Loop looping) h = tt
+  has_move (frame.Try trying) h = absurd h
   has_move (frame.Mark m) h = absurd h
   has_move (frame.Back k m) h = tt
-  has_move (frame.Judge tried r delay error m) h = tt
+  has_move (frame.Judge judging) h = tt
 
   pub going : (fs : List Frame) → IsGoing nodes fs → Going nodes fs
   going [] h = absurd h

@@ -60,11 +60,11 @@ module _ (ns : List Spot) (nodes : List Node) (x : Text) (j : Jump) (r : Resolve
   passes (frame.Lone n b) fs h t w = record { goes = λ k l. refl; leads = w }
   passes (frame.Entries n at) fs h t w = record { goes = λ k l. refl; leads = w }
   passes (frame.Then n) fs h t w = record { goes = λ k l. refl; leads = w }
-  passes (frame.Loop n w0 i) fs h t w = absurd w
-  passes (frame.Try n r0 d) fs h t w = record { goes = λ k l. refl; leads = w }
+  passes (frame.Loop looping) fs h t w = absurd w
+  passes (frame.Try trying) fs h t w = record { goes = λ k l. refl; leads = w }
   passes (frame.Mark mk) fs h t w = record { goes = λ k l. refl; leads = w }
   passes (frame.Back c mk) fs h t w = absurd w
-  passes (frame.Judge tried r delay error mk) fs h t w = absurd w
+  passes (frame.Judge judging) fs h t w = absurd w
 
   -- a turn of the loop
   pub passes_on : (f : Frame) (fs : List Frame) (c : List Item) (h g : Held) → Passes f fs → g ≡ dropped f h → to_step x (control ns (f ∷ fs)) (standing c h) ≡ to_step x (control ns fs) (standing c g)
@@ -100,11 +100,11 @@ module _ (ns : List Spot) (nodes : List Node) (x : Text) (j : Jump) (r : Resolve
   found_at (frame.Lone n b) m fs f t w h = absurd (cc t)
   found_at (frame.Entries n at) m fs f t w h = absurd (cc t)
   found_at (frame.Then n) m fs f t w h = absurd (cc t)
-  found_at (frame.Loop n w0 i) m fs f t w h = absurd (cc t)
-  found_at (frame.Try n r0 d) m fs f t w h = absurd (cc t)
+  found_at (frame.Loop looping) m fs f t w h = absurd (cc t)
+  found_at (frame.Try trying) m fs f t w h = absurd (cc t)
   found_at (frame.Mark mk) m fs f t w h = absurd (cc t)
   found_at (frame.Back c mk) m fs f t w h = absurd (cc t)
-  found_at (frame.Judge tried r delay error mk) m fs f t w h = absurd (cc t)
+  found_at (frame.Judge judging) m fs f t w h = absurd (cc t)
 
   pub record Turned (old new : List Frame) (h g : Held) : Type 0 where
     pub fits : Fits ns nodes new
@@ -124,11 +124,11 @@ module _ (ns : List Spot) (nodes : List Node) (x : Text) (j : Jump) (r : Resolve
   kept_held (frame.Lone n b) m h t = refl
   kept_held (frame.Entries n at) m h t = refl
   kept_held (frame.Then n) m h t = refl
-  kept_held (frame.Loop n w0 i) m h t = refl
-  kept_held (frame.Try n r0 d) m h t = refl
+  kept_held (frame.Loop looping) m h t = refl
+  kept_held (frame.Try trying) m h t = refl
   kept_held (frame.Mark mk) m h t = absurd (cc t)
   kept_held (frame.Back c mk) m h t = absurd (cc t)
-  kept_held (frame.Judge tried r delay error mk) m h t = absurd (cc t)
+  kept_held (frame.Judge judging) m h t = absurd (cc t)
 
   pub found_in : (f : Frame) (m : ℕ) (b : Bool) (start old new : List Frame) (k h g : Held) → topped old ≡ Some f → target nodes j.keep f ≡ Some m → Leaves b old h new g → Fits ns nodes old → Leads ns (views nodes) x (Some j) (reach old)
       → ((c : List Item) → to_step x (control ns start) (standing c k) ≡ to_step x (control ns old) (standing c h)) → FoundIn ns nodes x j (Some m) start k new g
@@ -149,11 +149,11 @@ module _ (ns : List Spot) (nodes : List Node) (x : Text) (j : Jump) (r : Resolve
   target_in (frame.Lone n b) m fs t h = absurd (cc t)
   target_in (frame.Entries n at) m fs t h = absurd (cc t)
   target_in (frame.Then n) m fs t h = absurd (cc t)
-  target_in (frame.Loop n w0 i) m fs t h = absurd (cc t)
-  target_in (frame.Try n r0 d) m fs t h = absurd (cc t)
+  target_in (frame.Loop looping) m fs t h = absurd (cc t)
+  target_in (frame.Try trying) m fs t h = absurd (cc t)
   target_in (frame.Mark mk) m fs t h = absurd (cc t)
   target_in (frame.Back c mk) m fs t h = absurd (cc t)
-  target_in (frame.Judge tried r delay error mk) m fs t h = absurd (cc t)
+  target_in (frame.Judge judging) m fs t h = absurd (cc t)
 
   pub target_left : (f : Frame) (m : ℕ) (b : Bool) (old new : List Frame) (h g : Held) → topped old ≡ Some f → target nodes j.keep f ≡ Some m → Leaves b old h new g → Fits ns nodes old → (is_some (list_at nodes m) ≡ true) × (outside_at ns nodes m ≡ reach new)
   target_left f m false old new h g t is w fits = absurd (cc (sym t ∙ ap topped w.0))
@@ -191,11 +191,11 @@ loop_one ns (frame.Do n at) k l h = refl
 loop_one ns (frame.Lone n b) k l h = refl
 loop_one ns (frame.Entries n at) k l h = refl
 loop_one ns (frame.Then n) k l h = refl
-loop_one ns (frame.Loop n w i) k l h = absurd (cc h)
-loop_one ns (frame.Try n r d) k l h = refl
+loop_one ns (frame.Loop looping) k l h = absurd (cc h)
+loop_one ns (frame.Try trying) k l h = refl
 loop_one ns (frame.Mark mk) k l h = refl
 loop_one ns (frame.Back c mk) k l h = absurd (cc h)
-loop_one ns (frame.Judge tried r delay error mk) k l h = absurd (cc h)
+loop_one ns (frame.Judge judging) k l h = absurd (cc h)
 
 pub record LoopTurned (old new : List Frame) (h g : Held) : Type 0 where
   pub outside : g.outside ≡ h.outside
@@ -226,31 +226,31 @@ pub continued : (ns : List Spot) (s : Scene) (fs : List Frame) (d : List Item) (
     → IsMove s (continues s (standing d h) (loop_found ns fs (standing d g))) w l
 continued ns s [] d h g w l t m o = by_root s s.root h g d w l t o (m [])
 continued ns s (frame.Back c mk ∷ fs) d h g w l t m o = tt
-continued ns s (frame.Judge tried r delay error mk ∷ fs) d h g w l t m o = tt
+continued ns s (frame.Judge judging ∷ fs) d h g w l t m o = tt
 continued ns s (frame.Do n at ∷ fs) d h g w l t m o = m d
 continued ns s (frame.Lone n b ∷ fs) d h g w l t m o = m d
 continued ns s (frame.Entries n at ∷ fs) d h g w l t m o = m d
 continued ns s (frame.Then n ∷ fs) d h g w l t m o = m d
-continued ns s (frame.Loop n x i ∷ fs) d h g w l t m o = m d
-continued ns s (frame.Try n r q ∷ fs) d h g w l t m o = m d
+continued ns s (frame.Loop looping ∷ fs) d h g w l t m o = m d
+continued ns s (frame.Try trying ∷ fs) d h g w l t m o = m d
 continued ns s (frame.Mark mk ∷ fs) d h g w l t m o = m d
 
 pub broken : (s : Scene) (ns : List Spot) (b : Bool) (mid new : List Frame) (d : List Item) (h g : Held) (w : Went) (l : Local) → IsLoopTop mid → Leaves b mid h new g → ((c : List Item) → IsMove s (goes (control ns new) (standing c g)) w l)
     → IsMove s (breaks (loop_found ns mid (standing d h))) w l
 broken s ns b [] new d h g w l top left m = tt
 broken s ns false (f ∷ fs) new d h g w l top left m = absurd (cc left.0)
-broken s ns true (frame.Loop n x i ∷ fs) new d h g w l top left m =
-    let same : frame.Loop n x i ≡ left.0 = cc left.1 in
+broken s ns true (frame.Loop looping ∷ fs) new d h g w l top left m =
+    let same : frame.Loop looping ≡ left.0 = cc left.1 in
     let rest : fs ≡ new = cc left.1 in
     let e : g ≡ h = left.2 ∙ ap (λ f. dropped f h) (sym same) in
     subst (λ ys. IsMove s (goes (control ns ys) (standing d h)) w l) (sym rest) (subst (λ y. IsMove s (goes (control ns new) (standing d y)) w l) e (m d))
 broken s ns true (frame.Back c mk ∷ fs) new d h g w l top left m = tt
-broken s ns true (frame.Judge tried r delay error mk ∷ fs) new d h g w l top left m = tt
+broken s ns true (frame.Judge judging ∷ fs) new d h g w l top left m = tt
 broken s ns true (frame.Do n at ∷ fs) new d h g w l top left m = absurd (cc top)
 broken s ns true (frame.Lone n q ∷ fs) new d h g w l top left m = absurd (cc top)
 broken s ns true (frame.Entries n at ∷ fs) new d h g w l top left m = absurd (cc top)
 broken s ns true (frame.Then n ∷ fs) new d h g w l top left m = absurd (cc top)
-broken s ns true (frame.Try n r q ∷ fs) new d h g w l top left m = absurd (cc top)
+broken s ns true (frame.Try trying ∷ fs) new d h g w l top left m = absurd (cc top)
 broken s ns true (frame.Mark mk ∷ fs) new d h g w l top left m = absurd (cc top)
 
 -- ## Without a step of the name
@@ -261,11 +261,11 @@ module _ (ns : List Spot) (nodes : List Node) (x : Text) where
   nowhere (frame.Lone n b ∷ fs) l h = nowhere fs l h
   nowhere (frame.Entries n at ∷ fs) l h = nowhere fs l h
   nowhere (frame.Then n ∷ fs) l h = nowhere fs l h
-  nowhere (frame.Loop n w i ∷ fs) l h = refl
-  nowhere (frame.Try n r d ∷ fs) l h = nowhere fs l h
+  nowhere (frame.Loop looping ∷ fs) l h = refl
+  nowhere (frame.Try trying ∷ fs) l h = nowhere fs l h
   nowhere (frame.Mark m ∷ fs) l h = nowhere fs (leave l) h
   nowhere (frame.Back c m ∷ fs) l h = refl
-  nowhere (frame.Judge tried r delay error m ∷ fs) l h = refl
+  nowhere (frame.Judge judging ∷ fs) l h = refl
 
   pub breaks_so : (s : Scene) (fs : List Frame) (l m : Local) (w : Went) → Leads ns (views nodes) x None (reach fs) → IsMove s (jumps_to s x (to_step x (control ns fs) l)) w m
   breaks_so s fs l m w h = subst (λ f. IsMove s (jumps_to s x f) w m) (sym (nowhere fs l h)) tt

@@ -3,7 +3,8 @@ use Rattle.std.proofs.Common.{◌≡◌, Bool, List, Some, sym, ap, subst}
 use Rattle.std.specs.Prelude.{Box}
 use Rattle.std.specs.Global.{Global}
 use Rattle.wf_frames.specs.Held.{Held, standing}
-use Rattle.wf_frames.specs.declared.frames.Frame.{Frame}
+use Rattle.wf_frames.specs.Frames.{inner}
+use Rattle.wf_frames.specs.declared.frames.Frames.{Frames}
 use Rattle.wf_model.specs.Config.{Item}
 use Rattle.wf_model.specs.Leave.{raises, returns}
 use Rattle.wf_model.specs.Local.{Local, Moved, Goes, Ends, Does, Breaks, Not, Scene}
@@ -38,10 +39,10 @@ turned_move s m t went.Goes l e h = absurd (cc e)
 turned_move s m t went.Ends l e h = absurd (cc e)
 turned_move s m t (went.Turned x) l e h = let same : x.value ≡ t = cc e in turned_so s m x l (subst (λ y. IsTurned s m y l) (sym same) h)
 
-pub turned_left : (nodes : List Node) (fs : List Frame) (t : Turned) (w : Went) → turned_in w ≡ Some t → IsTurnedLeft t fs → IsLeft nodes w fs
+pub turned_left : (nodes : List Node) (fs : Frames) (t : Turned) (w : Went) → turned_in w ≡ Some t → IsTurnedLeft t (inner fs) → IsLeft nodes w fs
 turned_left nodes fs t went.Goes e h = absurd (cc e)
 turned_left nodes fs t went.Ends e h = absurd (cc e)
-turned_left nodes fs t (went.Turned x) e h = let same : x.value ≡ t = cc e in subst (λ y. IsTurnedLeft y fs) (sym same) h
+turned_left nodes fs t (went.Turned x) e h = let same : x.value ≡ t = cc e in subst (λ y. IsTurnedLeft y (inner fs)) (sym same) h
 
 -- ## Errors and answers
 -- whatever it comes to
@@ -67,5 +68,5 @@ raised s k c h d w r =
     (raised_so s k c h r.error (raises s k (standing c h) d) (ap (unwind s k (standing c h)) (sym r.says)))
 
 -- nests within the limit
-pub raised_left : (nodes : List Node) (fs : List Frame) (d : Data) (w : Went) → Raises d w → IsLeft nodes w fs
+pub raised_left : (nodes : List Node) (fs : Frames) (d : Data) (w : Went) → Raises d w → IsLeft nodes w fs
 raised_left nodes fs d w r = turned_left nodes fs (turned.Raises r.error) w r.is r.shallow

@@ -1,6 +1,7 @@
 -- Retries, and the workflows that are asked.
 use Rattle.std.proofs.Common.{◌≡◌, ◌≤◌, ◌<◌, ◌⊎◌, inl, inr, ℕ, suc, Bool, true, false, List, [], ◌∷◌, length, map, Some, None, refl, sym, ap, subst, ◌∙◌, arith, get_or}
-use Rattle.std.specs.Prelude.{Option, nat_le, nat_lt, slice_get, if◌then◌else◌}
+use Rattle.std.specs.Prelude.{Option, nat_le, nat_lt, slice_get, if◌then◌else◌, Box}
+use Rattle.std.specs.Global.{Global}
 use Rattle.wf_ast.specs.Accept.{BadArgument, Kind}
 use Rattle.wf_ast.specs.Flows.{flow}
 use Rattle.wf_ast.specs.Tree.{Flow, Param, try}
@@ -17,6 +18,8 @@ use Rattle.wf_frames.specs.Stands.{Stands}
 use Rattle.wf_frames.specs.Turns.{Agrees, Enters, with_layer, Leaves, dropped}
 use Rattle.wf_frames.specs.declared.frames.Frame.{Frame}
 use Rattle.wf_frames.specs.declared.frames.Frame.TheVariants as frame
+use Rattle.wf_frames.specs.declared.frames.Judging.{Judging}
+use Rattle.wf_frames.specs.declared.frames.Trying.{Trying}
 use Rattle.wf_frames.specs.declared.frames.Frames.{Frames}
 use Rattle.wf_model.specs.Config.{Back, Delay, Do, Item, Judge, Try, call_limit}
 use Rattle.wf_model.specs.Layers.{opened}
@@ -35,7 +38,7 @@ use Rattle.std.proofs.lemmas.Option.{slice_get-get_or, slice_get_within}
 use Rattle.wf_value.specs.Plain.{plain}
 use Rattle.wf_value.specs.declared.Value.{Value}
 use Rattle.wf_moves.proofs.Unwinding.{try_is}
-use Rattle.wf_moves.specs.Retries.{IsLed, LeadsBy, TriedAt, ask_at, asked_by, decide_at, retry_at, try_at, verdict_of, verdict_said, Asked, AsksFlow}
+use Rattle.wf_moves.specs.Retries.{IsLed, LeadsBy, TriedAt, ask_at, asked_by, decide_at, retry_at, try_at, verdict_of, verdict_said, Asked, AsksFlow, IsAskedOn}
 use Rattle.wf_moves.specs.Moved.{IsEnd, IsWent, IsTurned}
 use Rattle.wf_moves.specs.Waits.{wait_view}
 use Rattle.wf_moves.specs.declared.judging.Verdict.TheVariants as verdict
@@ -103,12 +106,14 @@ module _ (a : Around) (nodes : List Node) (tells : Tells a.spots nodes) (r : Tri
       ∙ ap (λ z. waits (Delay (later s.last (next_delay p.backoff r.delay))) (Try z (suc r.tries) (Some (next_delay p.backoff r.delay)) ∷ k) l) (sym some)
       )
 
-  pub retry_waits : (p : Policy) → y.policy ≡ Some p → (fs gs : Frames) (x : Scopes) (tries delay due last : ℕ) → tries ≡ suc r.tries → delay ≡ next_delay p.backoff r.delay → due ≡ later last delay
-      → inner gs ≡ frame.Try r.node tries (Some delay) ∷ inner fs → gs.first ≡ fs.first
+  pub retry_waits : (p : Policy) → y.policy ≡ Some p → (fs gs : Frames) (x : Scopes) (held : Box Trying Global) (tries delay due last : ℕ) → tries ≡ suc r.tries → delay ≡ next_delay p.backoff r.delay → due ≡ later last delay
+      → held.value ≡ record { node = r.node; tries = tries; delay = Some delay } → inner gs ≡ frame.Try held ∷ inner fs → gs.first ≡ fs.first
       → LeadsBy a last (λ s l. retry_at a.spots r s (control_of a fs) l) (held_by a fs x) (led.Waits (wait.Delay due)) gs x
-  retry_waits p e fs gs x tries delay due last tries_is delay_is due_is pushed first s c same agrees = (
-      let k : control_of a gs ≡ Try (try_at a.spots r.node) tries (Some delay) ∷ control_of a fs = ap (control a.spots) pushed in
-      let o : held_by a gs x ≡ held_by a fs x = same_held a fs gs (frame.Try r.node tries (Some delay)) x pushed first refl in
+  retry_waits p e fs gs x held tries delay due last tries_is delay_is due_is holds pushed first s c same agrees = (
+      let k : control_of a gs ≡ Try (try_at a.spots r.node) tries (Some delay) ∷ control_of a fs =
+      ap (control a.spots) pushed ∙ ap (λ (z : Trying). Try (try_at a.spots z.node) z.tries z.delay ∷ control_of a fs) holds
+      in
+      let o : held_by a gs x ≡ held_by a fs x = same_held a fs gs (frame.Try held) x pushed first refl in
       let l = standing c (held_by a fs x) in
       let step : retry_at a.spots r s (control_of a fs) (standing c (held_by a fs x)) ≡ Goes (record (local_of a gs x) { wait = Delay due }) =
       retry_some p e s (control_of a fs) l
@@ -122,29 +127,29 @@ module _ (a : Around) (nodes : List Node) (tells : Tells a.spots nodes) (r : Tri
       subst (λ m. IsLed a m (led.Waits (wait.Delay due)) (local_of a gs x)) (sym step) refl
       )
 
-  pub retry_stands : (fs gs : Frames) (x : Scopes) (tries : ℕ) (delay : Option ℕ) → owners_at a.spots r.node ≡ reach (inner fs) → inner gs ≡ frame.Try r.node tries delay ∷ inner fs → gs.first ≡ fs.first → Stands a nodes fs x → Stands a nodes gs x
-  retry_stands fs gs x tries delay inside pushed first st = record {
-    fits = subst (Fits a.spots nodes) (sym pushed) (((y, h), inside), st.fits);
-    linked = same_linked a fs gs (frame.Try r.node tries delay) x pushed first refl st.linked;
+  pub retry_stands : (fs gs : Frames) (x : Scopes) (held : Box Trying Global) → owners_at a.spots r.node ≡ reach (inner fs) → held.value.node ≡ r.node → inner gs ≡ frame.Try held ∷ inner fs → gs.first ≡ fs.first → Stands a nodes fs x → Stands a nodes gs x
+  retry_stands fs gs x held inside same pushed first st = record {
+    fits = subst (Fits a.spots nodes) (sym pushed) (((y, subst (λ (m : ℕ). IsTry nodes m y) (sym same) h), ap (owners_at a.spots) same ∙ inside), st.fits);
+    linked = same_linked a fs gs (frame.Try held) x pushed first refl st.linked;
   }
 
 -- ## The body of a `try` again
 
-module _ (a : Around) (nodes : List Node) (tells : Tells a.spots nodes) (n r : ℕ) (d : Option ℕ) (y : TryNode) (h : IsTry nodes n y) (fs : List Frame) (t : topped fs ≡ Some (frame.Try n r d)) where
+module _ (a : Around) (nodes : List Node) (tells : Tells a.spots nodes) (held : Box Trying Global) (y : TryNode) (h : IsTry nodes held.value.node y) (fs : List Frame) (t : topped fs ≡ Some (frame.Try held)) where
   again_goes : (l : Local) → retries (control a.spots fs) l ≡ goes (entered (part_body (part_at a.spots y.body)) ∷ control a.spots fs) l
   again_goes l = (
-      let top = top_is (frame.Try n r d) fs t in
-      let is : control a.spots fs ≡ Try (try (part_body (part_at a.spots y.body)) (policy_option_view y.policy) (except_of a.spots (handler_view y.except))) r d ∷ control a.spots top.0 =
-      ap (control a.spots) top.1 ∙ ap (λ z. Try z r d ∷ control a.spots top.0) (try_is a.spots nodes tells n y h)
+      let top = top_is (frame.Try held) fs t in
+      let is : control a.spots fs ≡ Try (try (part_body (part_at a.spots y.body)) (policy_option_view y.policy) (except_of a.spots (handler_view y.except))) held.value.tries held.value.delay ∷ control a.spots top.0 =
+      ap (control a.spots) top.1 ∙ ap (λ z. Try z held.value.tries held.value.delay ∷ control a.spots top.0) (try_is a.spots nodes tells held.value.node y h)
       in
       ap (λ z. retries z l) is ∙ ap (λ z. goes (entered (part_body (part_at a.spots y.body)) ∷ z) l) (sym is)
       )
 
   pub again_inside : Fits a.spots nodes fs → owners_at a.spots y.body ≡ reach fs
   again_inside fits = (
-      let top = top_is (frame.Try n r d) fs t in
-      let all : Fits a.spots nodes (frame.Try n r d ∷ top.0) = subst (Fits a.spots nodes) top.1 fits in
-      (tried_stands a.spots nodes n y tells.resolves h).1 ∙ all.0.1 ∙ sym (ap reach top.1)
+      let top = top_is (frame.Try held) fs t in
+      let all : Fits a.spots nodes (frame.Try held ∷ top.0) = subst (Fits a.spots nodes) top.1 fits in
+      (tried_stands a.spots nodes held.value.node y tells.resolves h).1 ∙ all.0.1 ∙ sym (ap reach top.1)
       )
 
   pub again_so : (f : Frame) (gs : List Frame) (k g : Held) (c : List Item) → ((k : List Item) → items a.spots f k ≡ entered (part_body (part_at a.spots y.body)) ∷ k) → gs ≡ f ∷ fs → g ≡ k
@@ -281,12 +286,13 @@ module _ (a : Around) (r : Tried) (e : Data) (f : Text) (q : judged (policy_of (
       ∙ ap (λ (y : Held). unwind s (control a.spots old) (standing c y) (error_map ResourceLimitError)) (sym p.1)
 
   -- it is called
-  pub asked_entered : (v : Value) (n layer : ℕ) (g : Held) (new : List Frame) → calls_of old < 20 → plain v ≡ e → part_list (part_at a.spots n) ≡ w.steps → Enters true s (Some layer) h ((x.name, e) ∷ []) g
-      → new ≡ frame.Do n 0 ∷ frame.Judge r.node r.tries r.delay v layer ∷ old → ask_at a.spots r s e (control a.spots old) (standing c h) ≡ goes (control a.spots new) (standing c g)
-  asked_entered v n layer g new few is list p pushed =
+  pub asked_entered : (held : Box Judging Global) (v : Value) (n layer : ℕ) (g : Held) (new : List Frame) → calls_of old < 20 → plain v ≡ e → part_list (part_at a.spots n) ≡ w.steps → Enters true s (Some layer) h ((x.name, e) ∷ []) g
+      → held.value ≡ record { node = r.node; tries = r.tries; delay = r.delay; error = v; layer = layer } → new ≡ frame.Do n 0 ∷ frame.Judge held ∷ old → ask_at a.spots r s e (control a.spots old) (standing c h) ≡ goes (control a.spots new) (standing c g)
+  asked_entered held v n layer g new few is list p holds pushed =
       asked_in few ∙ ap (λ z. called z w.steps (Back None ∷ Judge (try_at a.spots r.node) r.tries r.delay e ∷ control a.spots old) (standing c h) (unwind s (control a.spots old) (standing c h))) p.1
       ∙ ap (λ ss. goes (Do ss ss ∷ Back None ∷ Judge (try_at a.spots r.node) r.tries r.delay e ∷ control a.spots old) (standing c (with_layer true p.0 h))) (sym list)
       ∙ ap (λ (y : Data). goes (Do (part_list (part_at a.spots n)) (part_list (part_at a.spots n)) ∷ Back None ∷ Judge (try_at a.spots r.node) r.tries r.delay y ∷ control a.spots old) (standing c (with_layer true p.0 h))) (sym is)
+      ∙ ap (λ (z : Judging). goes (Do (part_list (part_at a.spots n)) (part_list (part_at a.spots n)) ∷ Back None ∷ Judge (try_at a.spots z.node) z.tries z.delay (plain z.error) ∷ control a.spots old) (standing c (with_layer true p.0 h))) (sym holds)
       ∙ ap (λ fs. goes (control a.spots fs) (standing c (with_layer true p.0 h))) (sym pushed) ∙ ap (λ (y : Held). goes (control a.spots new) (standing c y)) (sym p.2)
 
 -- what stands at the number of the `try`
@@ -324,15 +330,21 @@ pub params_are : (ns : List Spot) (n : ℕ) (w : Flow) (ps : List Param) → par
 params_are ns n w ps is e = sym (e ∙ ap part_params is)
 
 -- its frames
-pub ask_fits : (ns : List Spot) (nodes : List Node) (r : Tried) (flow layer : ℕ) (v : Value) (old mid new : List Frame) → TriedAt ns nodes r old → depth (plain v) ≤ 100 → IsFlow nodes flow
-    → mid ≡ frame.Judge r.node r.tries r.delay v layer ∷ old → new ≡ frame.Do flow 0 ∷ mid → Fits ns nodes old → Fits ns nodes new
-ask_fits ns nodes r flow layer v old mid new at shallow there m e fits =
-    let all : new ≡ frame.Do flow 0 ∷ frame.Judge r.node r.tries r.delay v layer ∷ old = e ∙ ap (λ fs. frame.Do flow 0 ∷ fs) m in
+pub ask_fits : (ns : List Spot) (nodes : List Node) (r : Tried) (held : Box Judging Global) (flow layer : ℕ) (v : Value) (old mid new : List Frame) → TriedAt ns nodes r old → depth (plain v) ≤ 100 → IsFlow nodes flow
+    → held.value ≡ record { node = r.node; tries = r.tries; delay = r.delay; error = v; layer = layer } → mid ≡ frame.Judge held ∷ old → new ≡ frame.Do flow 0 ∷ mid → Fits ns nodes old → Fits ns nodes new
+ask_fits ns nodes r held flow layer v old mid new at shallow there holds m e fits =
+    let all : new ≡ frame.Do flow 0 ∷ frame.Judge held ∷ old = e ∙ ap (λ fs. frame.Do flow 0 ∷ fs) m in
     let out : outside_at ns nodes flow ≡ [] = ap (λ o. view_outside o (owners_at ns flow)) there.at ∙ ap (λ (k : kinds.Kind). outside k (owners_at ns flow)) there.is in
-    subst (Fits ns nodes) (sym all) (((there.list, flow_list nodes flow there, omega arith), out), ((((at.node, at.is), shallow), at.inside), fits))
+    let same : held.value.node ≡ r.node = ap (λ (z : Judging). z.node) holds in
+    let error : held.value.error ≡ v = ap (λ (z : Judging). z.error) holds in
+    subst (Fits ns nodes) (sym all) (
+      ((there.list, flow_list nodes flow there, omega arith), out),
+      ((((at.node, subst (λ (m : ℕ). IsTry nodes m at.node) (sym same) at.is), subst (λ (x : Value). depth (plain x) ≤ 100) (sym error) shallow), ap (owners_at ns) same ∙ at.inside), fits),
+    )
 
-pub ask_owned : (p q flow layer : ℕ) (r : Tried) (v : Value) (old mid new : List Frame) → mid ≡ frame.Judge r.node r.tries r.delay v layer ∷ old → new ≡ frame.Do flow 0 ∷ mid → q ≡ p → owned q new ≡ own layer true ∷ owned p old
-ask_owned p q flow layer r v old mid new m e same = ap (λ (k : ℕ). owned k new) same ∙ ap (owned p) (e ∙ ap (λ fs. frame.Do flow 0 ∷ fs) m)
+pub ask_owned : (p q flow layer : ℕ) (held : Box Judging Global) (old mid new : List Frame) → held.value.layer ≡ layer → mid ≡ frame.Judge held ∷ old → new ≡ frame.Do flow 0 ∷ mid → q ≡ p → owned q new ≡ own layer true ∷ owned p old
+ask_owned p q flow layer held old mid new is m e same =
+    ap (λ (k : ℕ). owned k new) same ∙ ap (owned p) (e ∙ ap (λ fs. frame.Do flow 0 ∷ fs) m) ∙ ap (λ (k : ℕ). own k true ∷ owned p old) is
 
 -- ## Where it leads
 pub went_there : (ns : List Spot) (f : Frame) (fs : List Frame) (h : Held) → topped fs ≡ Some f → IsWent (settled (standing (control ns fs) h)) (standing (control ns fs) h)
@@ -355,36 +367,40 @@ still_said s (Breaks kind) b l h = inr (kind, refl)
 still_said s Not b l h = inl h
 
 -- ## The answer of a predicate
--- its call is the innermost frame, and is left
-pub judge_left : (ns : List Spot) (f : Frame) (n r : ℕ) (d : Option ℕ) (v : Value) (m : ℕ) (b : Bool) (old new : List Frame) (h g : Held) → topped old ≡ Some f → f ≡ frame.Judge n r d v m → Leaves b old h new g
-    → (s : Scene) (c : List Item) (says : Bool) → returns s (boolean says) (control ns old) (standing c h) ≡ answered s (boolean says) (try_at ns n) r d (plain v) (control ns new) (standing c g)
-judge_left ns f n r d v m false old new h g t is w s c says = absurd (cc (sym t ∙ ap topped w.0))
-judge_left ns f n r d v m true old new h g t is w s c says =
-    let same : w.0 ≡ f = cc (sym (ap topped w.1) ∙ t) in
-    let judge : w.0 ≡ frame.Judge n r d v m = same ∙ is in
+judge_gone : (ns : List Spot) (held : Box Judging Global) (b : Bool) (old new : List Frame) (h g : Held) → topped old ≡ Some (frame.Judge held) → Leaves b old h new g
+    → (s : Scene) (c : List Item) (says : Bool) → returns s (boolean says) (control ns old) (standing c h) ≡ answered s (boolean says) (try_at ns held.value.node) held.value.tries held.value.delay (plain held.value.error) (control ns new) (standing c g)
+judge_gone ns held false old new h g top w s c says = absurd (cc (sym top ∙ ap topped w.0))
+judge_gone ns held true old new h g top w s c says =
+    let judge : w.0 ≡ frame.Judge held = cc (sym (ap topped w.1) ∙ top) in
     ap (λ fs. returns s (boolean says) (control ns fs) (standing c h)) (w.1 ∙ ap (λ y. y ∷ new) judge)
-    ∙ ap (λ l. answered s (boolean says) (try_at ns n) r d (plain v) (control ns new) l) (stands_on (frame.Judge n r d v m) c h ∙ ap (standing c) (sym (w.2 ∙ ap (λ y. dropped y h) judge)))
+    ∙ ap (λ l. answered s (boolean says) (try_at ns held.value.node) held.value.tries held.value.delay (plain held.value.error) (control ns new) l) (stands_on (frame.Judge held) c h ∙ ap (standing c) (sym (w.2 ∙ ap (λ y. dropped y h) judge)))
 
-pub judge_yes : (ns : List Spot) (f : Frame) (n r : ℕ) (d : Option ℕ) (v : Value) (m : ℕ) (b : Bool) (old new : List Frame) (h g : Held) → topped old ≡ Some f → f ≡ frame.Judge n r d v m → Leaves b old h new g
-    → (s : Scene) (c : List Item) (says : Bool) → says ≡ true → returns s (boolean says) (control ns old) (standing c h) ≡ retried s (try_at ns n) r d (control ns new) (standing c g)
-judge_yes ns f n r d v m b old new h g t is w s c says true_is =
-    judge_left ns f n r d v m b old new h g t is w s c says ∙ ap (λ (y : Bool). answered s (boolean y) (try_at ns n) r d (plain v) (control ns new) (standing c g)) true_is
+-- its call is the innermost frame, and is left
+module _ (ns : List Spot) (b : Bool) (old new : List Frame) (h g : Held) (t : Tried) (v : Value) (q : IsAskedOn old t v) where
+  judge_left : Leaves b old h new g → (s : Scene) (c : List Item) (says : Bool) → returns s (boolean says) (control ns old) (standing c h) ≡ answered s (boolean says) (try_at ns t.node) t.tries t.delay (plain v) (control ns new) (standing c g)
+  judge_left w s c says = judge_gone ns q.held b old new h g q.top w s c says
+      ∙ ap (λ (z : Tried). answered s (boolean says) (try_at ns z.node) z.tries z.delay (plain q.held.value.error) (control ns new) (standing c g)) q.tried
+      ∙ ap (λ (z : Value). answered s (boolean says) (try_at ns t.node) t.tries t.delay (plain z) (control ns new) (standing c g)) q.error_is
 
-pub judge_no : (ns : List Spot) (f : Frame) (n r : ℕ) (d : Option ℕ) (v : Value) (m : ℕ) (b : Bool) (old new : List Frame) (h g : Held) → topped old ≡ Some f → f ≡ frame.Judge n r d v m → Leaves b old h new g
-    → (s : Scene) (c : List Item) (says : Bool) → says ≡ false → (u : Value) → u ≡ v → returns s (boolean says) (control ns old) (standing c h) ≡ handled s (plain u) (try_at ns n) (control ns new) (standing c g) (unwind s (control ns new) (standing c g))
-judge_no ns f n r d v m b old new h g t is w s c says false_is u same =
-    judge_left ns f n r d v m b old new h g t is w s c says ∙ ap (λ (y : Bool). answered s (boolean y) (try_at ns n) r d (plain v) (control ns new) (standing c g)) false_is
-    ∙ ap (λ (y : Value). handled s (plain y) (try_at ns n) (control ns new) (standing c g) (unwind s (control ns new) (standing c g))) (sym same)
+  pub judge_yes : Leaves b old h new g → (s : Scene) (c : List Item) (says : Bool) → says ≡ true → returns s (boolean says) (control ns old) (standing c h) ≡ retried s (try_at ns t.node) t.tries t.delay (control ns new) (standing c g)
+  judge_yes w s c says true_is =
+      judge_left w s c says ∙ ap (λ (y : Bool). answered s (boolean y) (try_at ns t.node) t.tries t.delay (plain v) (control ns new) (standing c g)) true_is
+
+  pub judge_no : Leaves b old h new g → (s : Scene) (c : List Item) (says : Bool) → says ≡ false → returns s (boolean says) (control ns old) (standing c h) ≡ handled s (plain v) (try_at ns t.node) (control ns new) (standing c g) (unwind s (control ns new) (standing c g))
+  judge_no w s c says false_is =
+      judge_left w s c says ∙ ap (λ (y : Bool). answered s (boolean y) (try_at ns t.node) t.tries t.delay (plain v) (control ns new) (standing c g)) false_is
 
 -- the task stands behind it as it stood at its `try`, and the error nests within the limit
 pub record Judged (ns : List Spot) (nodes : List Node) (t : Tried) (v : Value) (fs : List Frame) : Type 0 where
   pub at : TriedAt ns nodes t fs
   pub shallow : depth (plain v) ≤ 100
 
-pub judge_at : (ns : List Spot) (nodes : List Node) (f : Frame) (n r : ℕ) (d : Option ℕ) (v : Value) (m : ℕ) (b : Bool) (old new : List Frame) (h g : Held) → topped old ≡ Some f → f ≡ frame.Judge n r d v m → Leaves b old h new g
-    → Fits ns nodes old → Judged ns nodes (record { node = n; tries = r; delay = d }) v new
-judge_at ns nodes f n r d v m false old new h g t is w fits = absurd (cc (sym t ∙ ap topped w.0))
-judge_at ns nodes f n r d v m true old new h g t is w fits =
-    let same : w.0 ≡ f = cc (sym (ap topped w.1) ∙ t) in
-    let all : Fits ns nodes (frame.Judge n r d v m ∷ new) = subst (λ y. Fits ns nodes (y ∷ new)) (same ∙ is) (subst (Fits ns nodes) w.1 fits) in
-    record { at = record { node = all.0.0.0.0; is = all.0.0.0.1; inside = all.0.1 }; shallow = all.0.0.1 }
+pub judge_at : (ns : List Spot) (nodes : List Node) (b : Bool) (old new : List Frame) (h g : Held) (t : Tried) (v : Value) → IsAskedOn old t v → Leaves b old h new g → Fits ns nodes old → Judged ns nodes t v new
+judge_at ns nodes false old new h g t v q w fits = absurd (cc (sym q.top ∙ ap topped w.0))
+judge_at ns nodes true old new h g t v q w fits =
+    let judge : w.0 ≡ frame.Judge q.held = cc (sym (ap topped w.1) ∙ q.top) in
+    let all : Fits ns nodes (frame.Judge q.held ∷ new) = subst (λ y. Fits ns nodes (y ∷ new)) judge (subst (Fits ns nodes) w.1 fits) in
+    record {
+      at = subst (λ (z : Tried). TriedAt ns nodes z new) q.tried (record { node = all.0.0.0.0; is = all.0.0.0.1; inside = all.0.1 });
+      shallow = subst (λ (z : Value). depth (plain z) ≤ 100) q.error_is all.0.0.1;
+    }

@@ -2,11 +2,12 @@
 use Rattle.std.proofs.Common.{◌≡◌, ◌≤◌, Bool, true, false, List, [], ◌∷◌, Some, None, refl, sym, ap, subst, ◌∙◌}
 use Rattle.std.specs.Prelude.{Option}
 use Rattle.wf_frames.specs.Fits.{Fits, HasNode, IsCallOf}
-use Rattle.wf_frames.specs.Frames.{control, is_back, items, result_of, topped}
+use Rattle.wf_frames.specs.Frames.{control, inner, is_back, items, result_of, topped}
 use Rattle.wf_frames.specs.Held.{Held, standing}
 use Rattle.wf_frames.specs.Turns.{Leaves, dropped, left_by}
 use Rattle.wf_frames.specs.declared.frames.Frame.{Frame}
 use Rattle.wf_frames.specs.declared.frames.Frame.TheVariants as frame
+use Rattle.wf_frames.specs.declared.frames.Frames.{Frames}
 use Rattle.wf_model.specs.Config.{Item}
 use Rattle.wf_model.specs.Leave.{given_to, gives, returned, returns, returns_in}
 use Rattle.wf_model.specs.Local.{Branch, Gives, Iteration, Local, Main, Root, Scene, leave}
@@ -33,11 +34,11 @@ back_one ns (frame.Do n at) k l h = refl
 back_one ns (frame.Lone n b) k l h = refl
 back_one ns (frame.Entries n at) k l h = refl
 back_one ns (frame.Then n) k l h = refl
-back_one ns (frame.Loop n w i) k l h = refl
-back_one ns (frame.Try n r d) k l h = refl
+back_one ns (frame.Loop looping) k l h = refl
+back_one ns (frame.Try trying) k l h = refl
 back_one ns (frame.Mark m) k l h = refl
 back_one ns (frame.Back c m) k l h = absurd (cc h)
-back_one ns (frame.Judge tried r delay error m) k l h = absurd (cc h)
+back_one ns (frame.Judge judging) k l h = absurd (cc h)
 
 pub record BackTurned (old new : List Frame) (h g : Held) : Type 0 where
   pub outside : g.outside ≡ h.outside
@@ -58,13 +59,13 @@ back_turned f true old new h g t other w =
 pub back_here : (ns : List Spot) (f : Frame) (fs : List Frame) (l : Local) → topped fs ≡ Some f → is_back f ≡ true → (to_back (control ns fs) l ≡ back_found ns fs l) × IsBackTop fs
 back_here ns f [] l t h = absurd (cc t)
 back_here ns f (frame.Back c m ∷ fs) l t h = (refl, refl)
-back_here ns f (frame.Judge tried r delay error m ∷ fs) l t h = (refl, refl)
+back_here ns f (frame.Judge judging ∷ fs) l t h = (refl, refl)
 back_here ns f (frame.Do n at ∷ fs) l t h = let same : frame.Do n at ≡ f = cc t in absurd (cc (ap is_back same ∙ h))
 back_here ns f (frame.Lone n b ∷ fs) l t h = let same : frame.Lone n b ≡ f = cc t in absurd (cc (ap is_back same ∙ h))
 back_here ns f (frame.Entries n at ∷ fs) l t h = let same : frame.Entries n at ≡ f = cc t in absurd (cc (ap is_back same ∙ h))
 back_here ns f (frame.Then n ∷ fs) l t h = let same : frame.Then n ≡ f = cc t in absurd (cc (ap is_back same ∙ h))
-back_here ns f (frame.Loop n w i ∷ fs) l t h = let same : frame.Loop n w i ≡ f = cc t in absurd (cc (ap is_back same ∙ h))
-back_here ns f (frame.Try n r d ∷ fs) l t h = let same : frame.Try n r d ≡ f = cc t in absurd (cc (ap is_back same ∙ h))
+back_here ns f (frame.Loop looping ∷ fs) l t h = let same : frame.Loop looping ≡ f = cc t in absurd (cc (ap is_back same ∙ h))
+back_here ns f (frame.Try trying ∷ fs) l t h = let same : frame.Try trying ≡ f = cc t in absurd (cc (ap is_back same ∙ h))
 back_here ns f (frame.Mark m ∷ fs) l t h = let same : frame.Mark m ≡ f = cc t in absurd (cc (ap is_back same ∙ h))
 
 pub back_nowhere : (ns : List Spot) (fs : List Frame) (l : Local) → topped fs ≡ None → to_back (control ns fs) l ≡ back_found ns fs l
@@ -79,11 +80,11 @@ plain_given ns s r v (frame.Do n at ∷ fs) l = refl
 plain_given ns s r v (frame.Lone n b ∷ fs) l = refl
 plain_given ns s r v (frame.Entries n at ∷ fs) l = refl
 plain_given ns s r v (frame.Then n ∷ fs) l = refl
-plain_given ns s r v (frame.Loop n w i ∷ fs) l = refl
-plain_given ns s r v (frame.Try n q d ∷ fs) l = refl
+plain_given ns s r v (frame.Loop looping ∷ fs) l = refl
+plain_given ns s r v (frame.Try trying ∷ fs) l = refl
 plain_given ns s r v (frame.Mark m ∷ fs) l = refl
 plain_given ns s r v (frame.Back c m ∷ fs) l = refl
-plain_given ns s r v (frame.Judge tried q d error m ∷ fs) l = refl
+plain_given ns s r v (frame.Judge judging ∷ fs) l = refl
 
 module _ (ns : List Spot) (s : Scene) (v : Data) where
   pub gives_on : (f : Frame) (b : Bool) (mid new : List Frame) (d : List Item) (k h g : Held) (w : Went) (l : Local) → topped mid ≡ Some f → IsBackTop mid → is_judge f ≡ false → Leaves b mid h new g
@@ -98,13 +99,13 @@ module _ (ns : List Spot) (s : Scene) (v : Data) where
       subst (λ y. IsMove s y w l)
       (ap (λ y. gives s (result_of ns (call_of y)) v (control ns new) (standing d g)) (sym same) ∙ ap (λ (y : Held). gives s (result_of ns c) v (control ns new) (standing d y)) held
       ∙ ap (λ ys. gives s (result_of ns c) v (control ns ys) (leave (standing d h))) (sym rest) ∙ sym (plain_given ns s (result_of ns c) v fs (leave (standing d h)))) m
-  gives_on f true (frame.Judge tried r delay error m0 ∷ fs) new d k h g w l t top other left m = let same : frame.Judge tried r delay error m0 ≡ f = cc t in absurd (cc (ap is_judge same ∙ other))
+  gives_on f true (frame.Judge judging ∷ fs) new d k h g w l t top other left m = let same : frame.Judge judging ≡ f = cc t in absurd (cc (ap is_judge same ∙ other))
   gives_on f true (frame.Do n at ∷ fs) new d k h g w l t top other left m = absurd (cc top)
   gives_on f true (frame.Lone n b ∷ fs) new d k h g w l t top other left m = absurd (cc top)
   gives_on f true (frame.Entries n at ∷ fs) new d k h g w l t top other left m = absurd (cc top)
   gives_on f true (frame.Then n ∷ fs) new d k h g w l t top other left m = absurd (cc top)
-  gives_on f true (frame.Loop n x i ∷ fs) new d k h g w l t top other left m = absurd (cc top)
-  gives_on f true (frame.Try n r q ∷ fs) new d k h g w l t top other left m = absurd (cc top)
+  gives_on f true (frame.Loop looping ∷ fs) new d k h g w l t top other left m = absurd (cc top)
+  gives_on f true (frame.Try trying ∷ fs) new d k h g w l t top other left m = absurd (cc top)
   gives_on f true (frame.Mark m0 ∷ fs) new d k h g w l t top other left m = absurd (cc top)
 
   -- a predicate has answered: its truth value is still to go to its `try`, and a TypeError outward
@@ -115,20 +116,20 @@ module _ (ns : List Spot) (s : Scene) (v : Data) where
   judged_on f (frame.Lone n b ∷ fs) d h g w t judge says = let same : frame.Lone n b ≡ f = cc t in absurd (cc (ap is_judge same ∙ judge))
   judged_on f (frame.Entries n at ∷ fs) d h g w t judge says = let same : frame.Entries n at ≡ f = cc t in absurd (cc (ap is_judge same ∙ judge))
   judged_on f (frame.Then n ∷ fs) d h g w t judge says = let same : frame.Then n ≡ f = cc t in absurd (cc (ap is_judge same ∙ judge))
-  judged_on f (frame.Loop n x i ∷ fs) d h g w t judge says = let same : frame.Loop n x i ≡ f = cc t in absurd (cc (ap is_judge same ∙ judge))
-  judged_on f (frame.Try n r q ∷ fs) d h g w t judge says = let same : frame.Try n r q ≡ f = cc t in absurd (cc (ap is_judge same ∙ judge))
+  judged_on f (frame.Loop looping ∷ fs) d h g w t judge says = let same : frame.Loop looping ≡ f = cc t in absurd (cc (ap is_judge same ∙ judge))
+  judged_on f (frame.Try trying ∷ fs) d h g w t judge says = let same : frame.Try trying ≡ f = cc t in absurd (cc (ap is_judge same ∙ judge))
   judged_on f (frame.Mark m ∷ fs) d h g w t judge says = let same : frame.Mark m ≡ f = cc t in absurd (cc (ap is_judge same ∙ judge))
   judged_on f (frame.Back c m ∷ fs) d h g w t judge says = let same : frame.Back c m ≡ f = cc t in absurd (cc (ap is_judge same ∙ judge))
-  judged_on f (frame.Judge n r q e m ∷ fs) d h g w t judge says = by v says
+  judged_on f (frame.Judge judging ∷ fs) d h g w t judge says = by v says
     where
-      by : (x : Data) → SaysSo x w → IsMove s (returned s x (standing d h) (back_found ns (frame.Judge n r q e m ∷ fs) (standing d g))) w (standing (control ns (frame.Judge n r q e m ∷ fs)) g)
-      by (boolean b) is = turned_move s (returns s (boolean b) (control ns (frame.Judge n r q e m ∷ fs)) (standing d g)) (turned.Says b) w (standing (control ns (frame.Judge n r q e m ∷ fs)) g) is (said_so s (control ns (frame.Judge n r q e m ∷ fs)) d g b (returns s (boolean b) (control ns (frame.Judge n r q e m ∷ fs)) (standing d g)) refl)
-      by null is = raised s (control ns (frame.Judge n r q e m ∷ fs)) d g (error_map TypeError) w is
-      by (integer i) is = raised s (control ns (frame.Judge n r q e m ∷ fs)) d g (error_map TypeError) w is
-      by (text x) is = raised s (control ns (frame.Judge n r q e m ∷ fs)) d g (error_map TypeError) w is
-      by (bytes x) is = raised s (control ns (frame.Judge n r q e m ∷ fs)) d g (error_map TypeError) w is
-      by (list x) is = raised s (control ns (frame.Judge n r q e m ∷ fs)) d g (error_map TypeError) w is
-      by (map x) is = raised s (control ns (frame.Judge n r q e m ∷ fs)) d g (error_map TypeError) w is
+      by : (x : Data) → SaysSo x w → IsMove s (returned s x (standing d h) (back_found ns (frame.Judge judging ∷ fs) (standing d g))) w (standing (control ns (frame.Judge judging ∷ fs)) g)
+      by (boolean b) is = turned_move s (returns s (boolean b) (control ns (frame.Judge judging ∷ fs)) (standing d g)) (turned.Says b) w (standing (control ns (frame.Judge judging ∷ fs)) g) is (said_so s (control ns (frame.Judge judging ∷ fs)) d g b (returns s (boolean b) (control ns (frame.Judge judging ∷ fs)) (standing d g)) refl)
+      by null is = raised s (control ns (frame.Judge judging ∷ fs)) d g (error_map TypeError) w is
+      by (integer i) is = raised s (control ns (frame.Judge judging ∷ fs)) d g (error_map TypeError) w is
+      by (text x) is = raised s (control ns (frame.Judge judging ∷ fs)) d g (error_map TypeError) w is
+      by (bytes x) is = raised s (control ns (frame.Judge judging ∷ fs)) d g (error_map TypeError) w is
+      by (list x) is = raised s (control ns (frame.Judge judging ∷ fs)) d g (error_map TypeError) w is
+      by (map x) is = raised s (control ns (frame.Judge judging ∷ fs)) d g (error_map TypeError) w is
 
   -- without a call the task ends
   pub ends_with : (x : Value) (mid : List Frame) (d c : List Item) (h g : Held) → plain x ≡ v → topped mid ≡ None → depth v ≤ 100 → g.outside ≡ h.outside
@@ -144,13 +145,13 @@ module _ (ns : List Spot) (s : Scene) (v : Data) where
 -- the node of the call
 pub call_node : (nodes : List Node) (f : Frame) → HasNode nodes f → is_back f ≡ true → IsCallOf nodes (call_of f)
 call_node nodes (frame.Back c k) h e = h
-call_node nodes (frame.Judge tried r delay error k) h e = tt
+call_node nodes (frame.Judge judging) h e = tt
 call_node nodes (frame.Do n at) h e = absurd (cc e)
 call_node nodes (frame.Lone n b) h e = absurd (cc e)
 call_node nodes (frame.Entries n at) h e = absurd (cc e)
 call_node nodes (frame.Then n) h e = absurd (cc e)
-call_node nodes (frame.Loop n w i) h e = absurd (cc e)
-call_node nodes (frame.Try n r d) h e = absurd (cc e)
+call_node nodes (frame.Loop looping) h e = absurd (cc e)
+call_node nodes (frame.Try trying) h e = absurd (cc e)
 call_node nodes (frame.Mark k) h e = absurd (cc e)
 
 pub top_back : (f : Frame) (fs : List Frame) → topped fs ≡ Some f → IsBackTop fs → is_back f ≡ true
@@ -161,13 +162,13 @@ top_back f (g ∷ fs) t h = let same : g ≡ f = cc t in subst (λ y. is_back y 
 pub moves_back : (ns : List Spot) (s : Scene) (fs : List Frame) (l : Local) → is_at_back fs ≡ true → moves s (control ns fs) l ≡ returns s null (control ns fs) l
 moves_back ns s [] l h = absurd (cc h)
 moves_back ns s (frame.Back c k ∷ fs) l h = refl
-moves_back ns s (frame.Judge tried r delay error k ∷ fs) l h = refl
+moves_back ns s (frame.Judge judging ∷ fs) l h = refl
 moves_back ns s (frame.Do n at ∷ fs) l h = absurd (cc h)
 moves_back ns s (frame.Lone n b ∷ fs) l h = absurd (cc h)
 moves_back ns s (frame.Entries n at ∷ fs) l h = absurd (cc h)
 moves_back ns s (frame.Then n ∷ fs) l h = absurd (cc h)
-moves_back ns s (frame.Loop n w i ∷ fs) l h = absurd (cc h)
-moves_back ns s (frame.Try n r d ∷ fs) l h = absurd (cc h)
+moves_back ns s (frame.Loop looping ∷ fs) l h = absurd (cc h)
+moves_back ns s (frame.Try trying ∷ fs) l h = absurd (cc h)
 moves_back ns s (frame.Mark k ∷ fs) l h = absurd (cc h)
 
 -- the innermost frame is a predicate's call
@@ -175,7 +176,7 @@ pub judge_top : (f : Frame) (fs : List Frame) → topped fs ≡ Some f → is_ju
 judge_top f [] t h = absurd (cc t)
 judge_top f (g ∷ fs) t h = let same : g ≡ f = cc t in ap is_judge same ∙ h
 
-pub says_left : (nodes : List Node) (fs : List Frame) (v : Data) (w : Went) → IsJudgeTop fs → SaysSo v w → IsLeft nodes w fs
+pub says_left : (nodes : List Node) (fs : Frames) (v : Data) (w : Went) → IsJudgeTop (inner fs) → SaysSo v w → IsLeft nodes w fs
 says_left nodes fs (boolean b) w top is = turned_left nodes fs (turned.Says b) w is top
 says_left nodes fs null w top is = raised_left nodes fs (error_map TypeError) w is
 says_left nodes fs (integer i) w top is = raised_left nodes fs (error_map TypeError) w is

@@ -1,14 +1,15 @@
 -- The move of a task, or its request.
 use Rattle.std.proofs.Common.{◌≡◌, ◌∷◌, inl, inr, ℕ, Bool, true, false, List, [], refl, sym, ap, subst, ◌∙◌}
-use Rattle.std.specs.Prelude.{Option}
+use Rattle.std.specs.Prelude.{Option, Box}
+use Rattle.std.specs.Global.{Global}
 use Rattle.wf_ast.specs.Apply.{View}
 use Rattle.wf_ast.specs.Tree.{Body, CallBody, Flow}
 use Rattle.wf_callbacks.specs.declared.method.Method.{Method}
 use Rattle.wf_frames.specs.Frames.{control}
+use Rattle.wf_frames.specs.Loops.{is_at_loop}
 use Rattle.wf_frames.specs.Owned.{Around}
 use Rattle.wf_frames.specs.declared.frames.Frame.{Frame}
 use Rattle.wf_frames.specs.declared.frames.Frame.TheVariants as frame
-use Rattle.wf_frames.specs.declared.frames.Left.{Left}
 use Rattle.wf_ast.specs.declared.functions.Function.{Function}
 use Rattle.wf_model.specs.Config.{Item}
 use Rattle.wf_model.specs.Kinds.{NextKind, Plainly, ByClock, ByCall, body_kind, by_clock, fields_now, next_kind}
@@ -115,14 +116,23 @@ module _ (a : Around) (old new : List Frame) (st : Step) (s : Scene) (l : Local)
 pub back_stepped : (ns : List Spot) (s : Scene) (fs : List Frame) (l : Local) → is_at_back fs ≡ true → stepped_at s (control ns fs) l ≡ moves s (control ns fs) l
 back_stepped ns s [] l h = absurd (cc h)
 back_stepped ns s (frame.Back c k ∷ fs) l h = refl
-back_stepped ns s (frame.Judge tried r delay error k ∷ fs) l h = refl
+back_stepped ns s (frame.Judge judging ∷ fs) l h = refl
 back_stepped ns s (frame.Do n at ∷ fs) l h = absurd (cc h)
 back_stepped ns s (frame.Lone n b ∷ fs) l h = absurd (cc h)
 back_stepped ns s (frame.Entries n at ∷ fs) l h = absurd (cc h)
 back_stepped ns s (frame.Then n ∷ fs) l h = absurd (cc h)
-back_stepped ns s (frame.Loop n w i ∷ fs) l h = absurd (cc h)
-back_stepped ns s (frame.Try n r d ∷ fs) l h = absurd (cc h)
+back_stepped ns s (frame.Loop looping ∷ fs) l h = absurd (cc h)
+back_stepped ns s (frame.Try trying ∷ fs) l h = absurd (cc h)
 back_stepped ns s (frame.Mark k ∷ fs) l h = absurd (cc h)
 
-pub loop_stepped : (ns : List Spot) (s : Scene) (fs gs : List Frame) (n i : ℕ) (w : Left) (l : Local) → fs ≡ frame.Loop n w i ∷ gs → stepped_at s (control ns fs) l ≡ moves s (control ns fs) l
-loop_stepped ns s fs gs n i w l e = ap (λ q. by_kind (next_kind s.program (control ns q)) (issues s (control ns fs) l) (moves s (control ns fs) l)) e
+pub loop_stepped : (ns : List Spot) (s : Scene) (fs : List Frame) (l : Local) → is_at_loop fs ≡ true → stepped_at s (control ns fs) l ≡ moves s (control ns fs) l
+loop_stepped ns s [] l h = absurd (cc h)
+loop_stepped ns s (frame.Loop looping ∷ fs) l h = refl
+loop_stepped ns s (frame.Do n at ∷ fs) l h = absurd (cc h)
+loop_stepped ns s (frame.Lone n b ∷ fs) l h = absurd (cc h)
+loop_stepped ns s (frame.Entries n at ∷ fs) l h = absurd (cc h)
+loop_stepped ns s (frame.Then n ∷ fs) l h = absurd (cc h)
+loop_stepped ns s (frame.Try trying ∷ fs) l h = absurd (cc h)
+loop_stepped ns s (frame.Mark k ∷ fs) l h = absurd (cc h)
+loop_stepped ns s (frame.Back c k ∷ fs) l h = absurd (cc h)
+loop_stepped ns s (frame.Judge judging ∷ fs) l h = absurd (cc h)

@@ -1,6 +1,7 @@
 -- Errors that go outward.
 use Rattle.std.proofs.Common.{◌≡◌, ◌≤◌, ◌<◌, ℕ, Bool, true, false, List, [], ◌∷◌, length, Some, None, refl, sym, ap, subst, ◌∙◌, arith}
-use Rattle.std.specs.Prelude.{IfSome, Option, is_some}
+use Rattle.std.specs.Prelude.{IfSome, Option, is_some, Box}
+use Rattle.std.specs.Global.{Global}
 use Rattle.wf_ast.specs.Tree.{except, try}
 use Rattle.wf_ast.specs.View.{policy_option_view}
 use Rattle.wf_frames.specs.Fits.{Fits, IsTry, list_at, outside_at, reach, view_outside}
@@ -9,12 +10,13 @@ use Rattle.wf_frames.specs.Held.{Held, standing}
 use Rattle.wf_frames.specs.Turns.{Enters, Leaves, dropped, left_by, with_layer}
 use Rattle.wf_frames.specs.declared.frames.Frame.{Frame}
 use Rattle.wf_frames.specs.declared.frames.Frame.TheVariants as frame
+use Rattle.wf_frames.specs.declared.frames.Trying.{Trying}
 use Rattle.wf_model.specs.Config.{Do, Item, Mark}
 use Rattle.wf_model.specs.Layers.{opened}
 use Rattle.wf_model.specs.Local.{Local, Moved, Scene, goes}
 use Rattle.wf_model.specs.Unwind.{excepted, handled, unwind}
 use Rattle.wf_moves.proofs.Leaving.{stands_on}
-use Rattle.wf_moves.specs.Retries.{Handler, TriedAt, caught_at, decide_at, tried_of}
+use Rattle.wf_moves.specs.Retries.{Handler, TriedAt, caught_at, decide_at, tried_of, tried_by}
 use Rattle.wf_moves.specs.declared.unwind.Tried.{Tried}
 use Rattle.wf_model.specs.NodeKinds.{block_view, handler_view, kind_by}
 use Rattle.wf_model.specs.Spots.{Spot, owners_at, part_at, part_body, part_list, steps_by}
@@ -35,26 +37,23 @@ module _ (ns : List Spot) where
   passes_one s (frame.Lone n b) k l e h = refl
   passes_one s (frame.Entries n at) k l e h = refl
   passes_one s (frame.Then n) k l e h = refl
-  passes_one s (frame.Loop n w i) k l e h = refl
+  passes_one s (frame.Loop looping) k l e h = refl
   passes_one s (frame.Mark m) k l e h = refl
   passes_one s (frame.Back c m) k l e h = refl
-  passes_one s (frame.Judge tried r delay error m) k l e h = refl
-  passes_one s (frame.Try n r d) k l e h = absurd (cc h)
+  passes_one s (frame.Judge judging) k l e h = refl
+  passes_one s (frame.Try trying) k l e h = absurd (cc h)
 
   -- the `try` of a frame
-  is_try : (f : Frame) (t : Tried) → tried_of f ≡ Some t → f ≡ frame.Try t.node t.tries t.delay
+  is_try : (f : Frame) (t : Tried) → tried_of f ≡ Some t → (held : Box Trying Global) × (f ≡ frame.Try held) × (tried_by held.value ≡ t)
   is_try (frame.Do n at) t h = absurd (cc h)
   is_try (frame.Lone n b) t h = absurd (cc h)
   is_try (frame.Entries n at) t h = absurd (cc h)
   is_try (frame.Then n) t h = absurd (cc h)
-  is_try (frame.Loop n w i) t h = absurd (cc h)
+  is_try (frame.Loop looping) t h = absurd (cc h)
   is_try (frame.Mark m) t h = absurd (cc h)
   is_try (frame.Back c m) t h = absurd (cc h)
-  is_try (frame.Judge tried r delay error m) t h = absurd (cc h)
-  is_try (frame.Try n r d) t h = (
-      let same : record { node = n; tries = r; delay = d } ≡ t = cc h in
-      ap (λ (x : Tried). frame.Try x.node x.tries x.delay) same
-      )
+  is_try (frame.Judge judging) t h = absurd (cc h)
+  is_try (frame.Try trying) t h = let same : tried_by trying.value ≡ t = cc h in (trying, refl, same)
 
   -- ## The innermost frame is left
   pub passes_on : (f : Frame) (b : Bool) (old new : List Frame) (h g : Held) → topped old ≡ Some f → tried_of f ≡ None → Leaves b old h new g
@@ -70,16 +69,19 @@ module _ (ns : List Spot) where
   takes_on f t false old new h g p q w s c e = absurd (cc (sym p ∙ ap topped w.0))
   takes_on f t true old new h g p q w s c e =
       let same : w.0 ≡ f = cc (sym (ap topped w.1) ∙ p) in
-      let is : w.0 ≡ frame.Try t.node t.tries t.delay = same ∙ is_try f t q in
+      let x = is_try f t q in
+      let is : w.0 ≡ frame.Try x.0 = same ∙ x.1 in
       let held : h ≡ g = sym (w.2 ∙ ap (λ y. dropped y h) is) in
-      ap (λ fs. unwind s (control ns fs) (standing c h) e) (w.1 ∙ ap (λ y. y ∷ new) is) ∙ ap (λ (y : Held). decide_at ns t s e (control ns new) (standing c y)) held
+      ap (λ fs. unwind s (control ns fs) (standing c h) e) (w.1 ∙ ap (λ y. y ∷ new) is) ∙ ap (λ (y : Held). decide_at ns (tried_by x.0.value) s e (control ns new) (standing c y)) held
+      ∙ ap (λ (y : Tried). decide_at ns y s e (control ns new) (standing c g)) x.2
 
   tried_at : (nodes : List Node) (f : Frame) (t : Tried) (b : Bool) (old new : List Frame) (h g : Held) → topped old ≡ Some f → tried_of f ≡ Some t → Leaves b old h new g → Fits ns nodes old → TriedAt ns nodes t new
   tried_at nodes f t false old new h g p q w fits = absurd (cc (sym p ∙ ap topped w.0))
   tried_at nodes f t true old new h g p q w fits =
       let same : w.0 ≡ f = cc (sym (ap topped w.1) ∙ p) in
-      let all : Fits ns nodes (frame.Try t.node t.tries t.delay ∷ new) = subst (λ y. Fits ns nodes (y ∷ new)) (same ∙ is_try f t q) (subst (Fits ns nodes) w.1 fits) in
-      record { node = all.0.0.0; is = all.0.0.1; inside = all.0.1 }
+      let x = is_try f t q in
+      let all : Fits ns nodes (frame.Try x.0 ∷ new) = subst (λ y. Fits ns nodes (y ∷ new)) (same ∙ x.1) (subst (Fits ns nodes) w.1 fits) in
+      subst (λ (y : Tried). TriedAt ns nodes y new) x.2 (record { node = all.0.0.0; is = all.0.0.1; inside = all.0.1 })
 
   -- ## Where one was looked for
   pub caught_on : (f : Frame) (o : Option Tried) (b : Bool) (old new : List Frame) (h g : Held) → topped old ≡ Some f → is_some o ≡ true → o ≡ tried_of f → Leaves b old h new g

@@ -7,7 +7,7 @@ use Rattle.wf_frames.specs.Owned.{Around, local_of}
 use Rattle.wf_frames.specs.declared.frames.Frames.{Frames}
 use Rattle.wf_moves.proofs.Going.{going}
 use Rattle.wf_model.specs.Local.{Breaks, Creates, Does, Ends, Goes, Local, Logs, Moved, Not, Scene, Sends, Takes}
-use Rattle.wf_moves.specs.Moved.{IsGoing, IsMove}
+use Rattle.wf_moves.specs.Moved.{GoesNext, IsMove}
 use Rattle.wf_moves.specs.Tasks.{HasLogged, IsBehind, IsLogged, MovesTo, StaysBehind, StaysTold, is_told_sent, told_by}
 use Rattle.wf_moves.specs.Waits.{CanGoOn, GoesFrom, call_in, is_awake_in, is_call_at, is_call_kind, is_call_node, wait_view}
 use Rattle.wf_moves.specs.declared.finish.Went.{Went}
@@ -58,8 +58,8 @@ pub calls_none : (w : Wait) → is_awake_in w ≡ true → call_in w ≡ None
 calls_none w e = ap call_in (is_awake w e)
 
 -- ## What is left behind a move
-pub went_left : (nodes : List Node) (t : Task) → is_awake_in t.wait ≡ true → IsGoing nodes (inner t.frames) → (call_in t.wait ≡ None) × CanGoOn nodes t
-went_left nodes t e h = (calls_none t.wait e, subst (λ x. GoesFrom nodes x (inner t.frames)) (sym (is_awake t.wait e)) (going nodes (inner t.frames) h))
+pub went_left : (nodes : List Node) (t : Task) → is_awake_in t.wait ≡ true → GoesNext nodes t.frames → (call_in t.wait ≡ None) × CanGoOn nodes t
+went_left nodes t e h = (calls_none t.wait e, subst (λ x. GoesFrom nodes x t.frames) (sym (is_awake t.wait e)) (going nodes (inner t.frames) h.0, h.1))
 
 -- ## By itself
 -- a task that waits for nothing

@@ -15,11 +15,11 @@ GoesOn nodes (frame.Do n at) = at < length (steps_of (list_at nodes n))
 GoesOn nodes (frame.Lone n done) = done ≡ false
 GoesOn nodes (frame.Entries n at) = at < length (unwrap_or (entries_at nodes n) [])
 GoesOn nodes (frame.Then n) = Unit {0}
-GoesOn nodes (frame.Loop n l i) = Unit {0}
-GoesOn nodes (frame.Try n tries delay) = ⊥
+GoesOn nodes (frame.Loop looping) = Unit {0}
+GoesOn nodes (frame.Try trying) = ⊥
 GoesOn nodes (frame.Mark number) = ⊥
 GoesOn nodes (frame.Back call number) = Unit {0}
-GoesOn nodes (frame.Judge n tries delay e number) = Unit {0}
+GoesOn nodes (frame.Judge judging) = Unit {0}
 
 -- the innermost one is such a frame
 abbrev pub Going : List Node → List Frame → Type 0
@@ -31,11 +31,11 @@ GoesOn-prop nodes (frame.Do n at) = le_prop
 GoesOn-prop nodes (frame.Lone n done) = Coded-set coded_bool _ _
 GoesOn-prop nodes (frame.Entries n at) = le_prop
 GoesOn-prop nodes (frame.Then n) = Unit-prop
-GoesOn-prop nodes (frame.Loop n l i) = Unit-prop
-GoesOn-prop nodes (frame.Try n tries delay) = λ g h. absurd g
+GoesOn-prop nodes (frame.Loop looping) = Unit-prop
+GoesOn-prop nodes (frame.Try trying) = λ g h. absurd g
 GoesOn-prop nodes (frame.Mark number) = λ g h. absurd g
 GoesOn-prop nodes (frame.Back call number) = Unit-prop
-GoesOn-prop nodes (frame.Judge n tries delay e number) = Unit-prop
+GoesOn-prop nodes (frame.Judge judging) = Unit-prop
 
 pub Going-prop : (nodes : List Node) (fs : List Frame) → IsProp (Going nodes fs)
 Going-prop nodes [] = λ g h. absurd g

@@ -3,7 +3,8 @@
 --     IsMove      a move of the model, by what a call gives and leaves
 use Rattle.std.specs.Prelude.{◌≡◌, ◌≤◌, ℕ, Bool, true, false, List, [], ◌∷◌, nat_eq, slice_get, if◌then◌else◌, Some, None, Option}
 use Rattle.wf_frames.specs.Fits.{list_at}
-use Rattle.wf_frames.specs.Frames.{control, is_back, items}
+use Rattle.wf_frames.specs.Foreseen.{Foresees}
+use Rattle.wf_frames.specs.Frames.{control, inner, is_back, items}
 use Rattle.wf_frames.specs.Held.{Held, standing}
 use Rattle.wf_frames.specs.Owned.{Around, local_of}
 use Rattle.wf_frames.specs.Sights.{Sees}
@@ -45,16 +46,16 @@ Settled ns false f = (k : List Item) (l : Local) → settle (items ns f k) l ≡
 
 -- a frame at which the way outward of a `break` or `continue` ends: a loop, or a call, in which there is none
 abbrev pub is_loop : Frame → Bool
-is_loop (frame.Loop n l i) = true
+is_loop (frame.Loop looping) = true
 is_loop (frame.Back call number) = true
-is_loop (frame.Judge n tries delay e number) = true
+is_loop (frame.Judge judging) = true
 is_loop f = false
 
 -- a frame from which a move is made
 abbrev pub HasMove : List Node → Frame → Type 0
-HasMove nodes (frame.Loop n l i) = Unit {0}
+HasMove nodes (frame.Loop looping) = Unit {0}
 HasMove nodes (frame.Back call number) = Unit {0}
-HasMove nodes (frame.Judge n tries delay e number) = Unit {0}
+HasMove nodes (frame.Judge judging) = Unit {0}
 HasMove nodes f = HasStep nodes f
 
 -- the innermost one is such a frame, if any frame is left
@@ -66,6 +67,10 @@ IsSettled nodes (f ∷ fs) = HasMove nodes f
 abbrev pub IsGoing : List Node → List Frame → Type 0
 IsGoing nodes [] = ⊥
 IsGoing nodes (f ∷ fs) = HasMove nodes f
+
+-- and what it does next is kept
+abbrev pub GoesNext : List Node → Frames → Type 0
+GoesNext nodes fs = IsGoing nodes (inner fs) × Foresees nodes fs
 
 -- ## Moves
 abbrev pub end_view : End → model.End
@@ -130,31 +135,31 @@ SaysSo d w = Raises (error_map TypeError) w
 
 -- whether the innermost frame is the call of a predicate
 abbrev pub is_judge : Frame → Bool
-is_judge (frame.Judge n tries delay e number) = true
+is_judge (frame.Judge judging) = true
 is_judge f = false
 
 abbrev pub IsJudgeTop : List Frame → Type 0
 IsJudgeTop [] = ⊥
 IsJudgeTop (f ∷ fs) = is_judge f ≡ true
 
--- where the task goes on its innermost frame has something to do, and where it has ended none is left; an error nests at most 100 deep, and
--- an answer is that of the predicate whose call is the innermost frame
+-- where the task goes on its innermost frame has something to do, which is kept, and where it has ended none is left; an error nests at most
+-- 100 deep, and an answer is that of the predicate whose call is the innermost frame
 abbrev pub IsTurnedLeft : Turned → List Frame → Type 0
 IsTurnedLeft (turned.Ended e) fs = fs ≡ []
 IsTurnedLeft (turned.Raises e) fs = depth (plain e) ≤ 100
 IsTurnedLeft (turned.Says b) fs = IsJudgeTop fs
 
-abbrev pub IsLeft : List Node → Went → List Frame → Type 0
-IsLeft nodes went.Goes fs = IsGoing nodes fs
-IsLeft nodes went.Ends fs = fs ≡ []
-IsLeft nodes (went.Turned x) fs = IsTurnedLeft x.value fs
+abbrev pub IsLeft : List Node → Went → Frames → Type 0
+IsLeft nodes went.Goes fs = GoesNext nodes fs
+IsLeft nodes went.Ends fs = inner fs ≡ []
+IsLeft nodes (went.Turned x) fs = IsTurnedLeft x.value (inner fs)
 
 -- ## Ways outward
 -- where an innermost loop was looked for: there are these frames from it on, or there is none
 abbrev pub loop_found : List Spot → List Frame → Local → Found
 loop_found ns [] l = AtEnd
 loop_found ns (frame.Back call number ∷ fs) l = NotFound
-loop_found ns (frame.Judge n tries delay e number ∷ fs) l = NotFound
+loop_found ns (frame.Judge judging ∷ fs) l = NotFound
 loop_found ns (f ∷ fs) l = Stands (control ns (f ∷ fs)) l
 
 -- the innermost frame is a loop or a call, if any frame is left
@@ -192,11 +197,6 @@ IsBackTop (f ∷ fs) = is_back f ≡ true
 abbrev pub is_at_back : List Frame → Bool
 is_at_back [] = false
 is_at_back (f ∷ fs) = is_back f
-
--- the task stands before a loop's turn
-abbrev pub is_at_loop : List Frame → Bool
-is_at_loop (frame.Loop n l i ∷ fs) = true
-is_at_loop fs = false
 
 -- the call that ends with a frame, if a step made it
 abbrev pub call_of : Frame → Option ℕ

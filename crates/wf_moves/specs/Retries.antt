@@ -3,22 +3,25 @@
 --     caught           a `try` takes an error, or another one goes on
 --     decide_at ..     what a `try` does with an error, by the number of its node
 --     IsLed            where a move leads
-use Rattle.std.specs.Prelude.{◌≡◌, ◌≤◌, ℕ, Bool, true, false, List, [], ◌∷◌, slice_get, Some, None, Option}
+use Rattle.std.specs.Prelude.{◌≡◌, ◌≤◌, ℕ, Bool, true, false, List, [], ◌∷◌, slice_get, Some, None, Option, Box}
+use Rattle.std.specs.Global.{Global}
 use Rattle.wf_ast.specs.Flows.{flow}
 use Rattle.wf_ast.specs.Tree.{TryBody}
 use Rattle.wf_frames.specs.Fits.{IsTry, reach}
-use Rattle.wf_frames.specs.Frames.{body_try}
+use Rattle.wf_frames.specs.Frames.{body_try, inner, topped}
 use Rattle.wf_frames.specs.Held.{Held, standing}
 use Rattle.wf_frames.specs.Owned.{Around, control_of, held_by, local_of}
 use Rattle.wf_frames.specs.Turns.{Agrees}
 use Rattle.wf_frames.specs.declared.frames.Frame.{Frame}
 use Rattle.wf_frames.specs.declared.frames.Frame.TheVariants as frame
+use Rattle.wf_frames.specs.declared.frames.Judging.{Judging}
+use Rattle.wf_frames.specs.declared.frames.Trying.{Trying}
 use Rattle.wf_frames.specs.declared.frames.Frames.{Frames}
 use Rattle.wf_model.specs.Config.{Item, Judge}
 use Rattle.wf_model.specs.Local.{Local, Moved, Scene, Ends, Fails, goes}
 use Rattle.wf_model.specs.Unwind as model
 use Rattle.wf_model.specs.Unwind.{Says, Asks, asks, decided, judged, policy_of, retried, unwind}
-use Rattle.wf_moves.specs.Moved.{IsEnd, IsGoing, IsWent}
+use Rattle.wf_moves.specs.Moved.{GoesNext, IsEnd, IsWent}
 use Rattle.wf_moves.specs.Waits.{GoesFrom, call_in, wait_view}
 use Rattle.wf_moves.specs.declared.judging.Decided.{Decided}
 use Rattle.wf_moves.specs.declared.judging.Decided.TheVariants as decision
@@ -41,8 +44,11 @@ use Rattle.wf_value.specs.Plain.{plain}
 use Rattle.wf_value.specs.declared.Value.{Value}
 
 -- ## The nearest `try`
+abbrev pub tried_by : Trying → Tried
+tried_by x = record { node = x.node; tries = x.tries; delay = x.delay }
+
 abbrev pub tried_of : Frame → Option Tried
-tried_of (frame.Try n tries delay) = Some (record { node = n; tries = tries; delay = delay })
+tried_of (frame.Try trying) = Some (tried_by trying.value)
 tried_of f = None
 
 -- the `try` of a node
@@ -122,9 +128,9 @@ abbrev pub LeadsBy : Around → ℕ → (Scene → Local → Moved) → Held →
 LeadsBy a last m h d fs x = (s : Scene) (c : List Item) → s.last ≡ last → Agrees s a → IsLed a (m s (standing c h)) d (local_of a fs x)
 
 -- of a task that goes on or waits the frames can go on, and of one that has ended none is left
-abbrev pub IsLedSo : List Node → Led → List Frame → Type 0
-IsLedSo nodes led.Goes fs = IsGoing nodes fs
-IsLedSo nodes (led.Ended e) fs = fs ≡ []
+abbrev pub IsLedSo : List Node → Led → Frames → Type 0
+IsLedSo nodes led.Goes fs = GoesNext nodes fs
+IsLedSo nodes (led.Ended e) fs = inner fs ≡ []
 IsLedSo nodes (led.Waits w) fs = (call_in w ≡ None) × GoesFrom nodes w fs
 
 -- ## What became of an error
@@ -141,6 +147,17 @@ abbrev pub Rests : Decided → List Frame → List Frame → Type 0
 Rests (decision.Raises e) old new = new ≡ old
 Rests (decision.Led d) old new = Unit {0}
 
-abbrev pub IsDecidedSo : List Node → Decided → List Frame → Type 0
+abbrev pub IsDecidedSo : List Node → Decided → Frames → Type 0
 IsDecidedSo nodes (decision.Raises e) fs = depth (plain e) ≤ 100
 IsDecidedSo nodes (decision.Led d) fs = IsLedSo nodes d fs
+
+-- ## The question that a predicate is asked
+abbrev pub asked_by_frame : Judging → Tried
+asked_by_frame x = record { node = x.node; tries = x.tries; delay = x.delay }
+
+-- the innermost frame is the call of the workflow that was asked on this `try` and this error
+pub record IsAskedOn (fs : List Frame) (t : Tried) (error : Value) : Type 0 where
+  pub held : Box Judging Global
+  pub top : topped fs ≡ Some (frame.Judge held)
+  pub tried : asked_by_frame held.value ≡ t
+  pub error_is : held.value.error ≡ error

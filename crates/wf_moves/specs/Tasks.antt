@@ -195,12 +195,12 @@ SleepsBy a f m h d fs x = (s : Scene) (c : List Item) → Sees s f → Agrees s 
 abbrev pub LogsBy : Around → Sending → (Scene → Local → Moved) → Held → Done → Frames → Scopes → Type 0
 LogsBy a g m h d fs x = (s : Scene) (c : List Item) → Reaches s g → Agrees s a → IsDone a s (m s (standing c h)) d (local_of a fs x)
 
-abbrev pub IsAwaitedLeft : List Node → Awaits → List Frame → Type 0
+abbrev pub IsAwaitedLeft : List Node → Awaits → Frames → Type 0
 IsAwaitedLeft nodes (awaits.Sent x w) fs = (is_some (call_in w) ≡ true) × GoesFrom nodes w fs
 IsAwaitedLeft nodes (awaits.Logged x w) fs = IsLeft nodes w fs
 IsAwaitedLeft nodes (awaits.Waits w) fs = (call_in w ≡ None) × GoesFrom nodes w fs
 
-abbrev pub IsLeftSo : List Node → Done → List Frame → Type 0
+abbrev pub IsLeftSo : List Node → Done → Frames → Type 0
 IsLeftSo nodes done.Goes fs = IsLeft nodes went.Goes fs
 IsLeftSo nodes done.Ends fs = IsLeft nodes went.Ends fs
 IsLeftSo nodes (done.Turned x) fs = IsLeft nodes (went.Turned x) fs

@@ -1,12 +1,14 @@
 -- What a task waits for.
 --     task_local     the task by itself, with its wait
---     CanGoOn        a task that is awake has a move, and one that waits has its call or its `try`; with at most one proof
+--     CanGoOn        a task that is awake has a move, which is kept, and one that waits has its call or its `try`; with at most one proof
 use Rattle.std.specs.Prelude.{◌≡◌, ℕ, Bool, true, false, List, [], ◌∷◌, Some, None, Ok, Err, Option, Result, slice_get}
-use Rattle.std.specs.Coded.{Coded-set, coded_bool}
+use Rattle.std.specs.Coded.{Coded-set, coded_bool, ×_prop}
+use Rattle.wf_frames.specs.Foreseen.{Foresees, Foresees-prop}
 use Rattle.wf_frames.specs.Frames.{inner, result_of}
 use Rattle.wf_frames.specs.Owned.{Around, local_of}
 use Rattle.wf_frames.specs.declared.frames.Frame.{Frame}
 use Rattle.wf_frames.specs.declared.frames.Frame.TheVariants as frame
+use Rattle.wf_frames.specs.declared.frames.Frames.{Frames}
 use Rattle.wf_model.specs.Config as model
 use Rattle.wf_model.specs.Local.{Local}
 use Rattle.wf_moves.specs.Going.{Going, Going-prop}
@@ -81,24 +83,24 @@ is_call_at nodes n = is_call_node (slice_get nodes n)
 -- whether the innermost frame is a `try`
 abbrev pub is_at_try : List Frame → Bool
 is_at_try [] = false
-is_at_try (frame.Try n tries delay ∷ fs) = true
+is_at_try (frame.Try trying ∷ fs) = true
 is_at_try (f ∷ fs) = false
 
--- these frames have a move, it is a sleep's or a request's call for which is waited, or they stand before the body of a `try`
-abbrev pub GoesFrom : List Node → Wait → List Frame → Type 0
-GoesFrom nodes wait.Awake fs = Going nodes fs
+-- these frames have a move, and what is next is kept; it is a sleep's or a request's call for which is waited, or they stand before the body of a `try`
+abbrev pub GoesFrom : List Node → Wait → Frames → Type 0
+GoesFrom nodes wait.Awake fs = Going nodes (inner fs) × Foresees nodes fs
 GoesFrom nodes (wait.Sleep due node) fs = is_call_at nodes node ≡ true
-GoesFrom nodes (wait.Delay due) fs = is_at_try fs ≡ true
+GoesFrom nodes (wait.Delay due) fs = is_at_try (inner fs) ≡ true
 GoesFrom nodes (wait.Calling call node) fs = is_call_at nodes node ≡ true
 
 abbrev pub CanGoOn : List Node → Task → Type 0
-CanGoOn nodes t = GoesFrom nodes t.wait (inner t.frames)
+CanGoOn nodes t = GoesFrom nodes t.wait t.frames
 
-GoesFrom-prop : (nodes : List Node) (w : Wait) (fs : List Frame) → IsProp (GoesFrom nodes w fs)
-GoesFrom-prop nodes wait.Awake fs = Going-prop nodes fs
+GoesFrom-prop : (nodes : List Node) (w : Wait) (fs : Frames) → IsProp (GoesFrom nodes w fs)
+GoesFrom-prop nodes wait.Awake fs = ×_prop (Going-prop nodes (inner fs)) (Foresees-prop nodes fs)
 GoesFrom-prop nodes (wait.Sleep due node) fs = Coded-set coded_bool _ _
 GoesFrom-prop nodes (wait.Delay due) fs = Coded-set coded_bool _ _
 GoesFrom-prop nodes (wait.Calling call node) fs = Coded-set coded_bool _ _
 
 pub CanGoOn-prop : (nodes : List Node) (t : Task) → IsProp (CanGoOn nodes t)
-CanGoOn-prop nodes t = GoesFrom-prop nodes t.wait (inner t.frames)
+CanGoOn-prop nodes t = GoesFrom-prop nodes t.wait t.frames

@@ -17,11 +17,11 @@ ghost use Rattle.wf_frames.specs.Built.{Tells};
 ghost use Rattle.wf_value.specs.Data.{depth};
 ghost use Rattle.wf_value.specs.Plain.{plain};
 
-use crate::assign::store;
+use crate::assign::store_value;
 use crate::finish::{End, Turned, Went, goes, turns};
 use crate::raising::raises_tag;
 use std::alloc::Global;
-use wf_frames::{Assigned, Frame, Frames, leave};
+use wf_frames::{Frame, Frames, leave};
 use wf_model::{Node, NodeKind};
 use wf_scope::Scopes;
 use wf_value::{OutOfMemory, Tag, Text, Value};
@@ -55,8 +55,8 @@ fn call_of(frame: &Frame) -> Option<u32>
     match frame {
         Frame::Back(call, _) => *call,
         Frame::Do(_, _) | Frame::Lone(_, _) | Frame::Entries(_, _) | Frame::Then(_) => None,
-        Frame::Loop(_, _, _) | Frame::Try(_, _, _) | Frame::Mark(_) => None,
-        Frame::Judge(_, _, _, _, _) => None,
+        Frame::Loop(_) | Frame::Try(_) | Frame::Mark(_) => None,
+        Frame::Judge(_) => None,
     }
 }
 
@@ -65,9 +65,9 @@ fn is_judge(frame: &Frame) -> bool
     ensures { result ≡ is_judge frame.now }
 {
     match frame {
-        Frame::Judge(_, _, _, _, _) => true,
+        Frame::Judge(_) => true,
         Frame::Do(_, _) | Frame::Lone(_, _) | Frame::Entries(_, _) | Frame::Then(_) => false,
-        Frame::Loop(_, _, _) | Frame::Try(_, _, _) | Frame::Mark(_) | Frame::Back(_, _) => false,
+        Frame::Loop(_) | Frame::Try(_) | Frame::Mark(_) | Frame::Back(_, _) => false,
     }
 }
 
@@ -116,20 +116,10 @@ pub(crate) fn give(
         (control_of around frames.old) l)
         (held_by around frames.old scopes.old) w frames.new scopes.new) }
     ensures stands { OnOk result (Stands around nodes.now frames.new scopes.new) }
-    ensures left { IfOk result (λ w. IsLeft nodes.now w (inner frames.new)) }
+    ensures left { IfOk result (λ w. IsLeft nodes.now w frames.new) }
 {
     match result_of(nodes, call) {
-        Some(name) => {
-            let places = Vec::new(alloc);
-            store(
-                alloc,
-                nodes,
-                name,
-                Assigned { value, places },
-                frames,
-                scopes,
-            )
-        }
+        Some(name) => store_value(alloc, nodes, name, value, frames, scopes),
         None => Ok(goes(frames, nodes, scopes)),
     }
 }
@@ -150,7 +140,7 @@ pub(crate) fn returns(
         (λ s l. leave.returns s (plain value) (control_of around frames.old) l)
         (held_by around frames.old scopes.old) w frames.new scopes.new) }
     ensures stands { OnOk result (Stands around nodes.now frames.new scopes.new) }
-    ensures left { IfOk result (λ w. IsLeft nodes.now w (inner frames.new)) }
+    ensures left { IfOk result (λ w. IsLeft nodes.now w frames.new) }
 {
     leave_to_back(frames, scopes);
     match frames.top() {

@@ -2,7 +2,7 @@
 ghost use Rattle.std.specs.Prelude.{◌≤◌, IfOk, OnOk, Some};
 ghost use Rattle.wf_frames.specs.Fits.{IsCall};
 ghost use Rattle.wf_frames.specs.Bound.{bindings_of};
-ghost use Rattle.wf_frames.specs.Frames.{body_result, inner};
+ghost use Rattle.wf_frames.specs.Frames.{body_result};
 ghost use Rattle.wf_frames.specs.Owned.{Around, control_of, held_by};
 ghost use Rattle.wf_frames.specs.Stands.{Stands};
 ghost use Rattle.wf_model.specs.Calls as calls;
@@ -53,7 +53,7 @@ fn begin(
         (control_of around frames.old) l)
         (held_by around frames.old scopes.old) w frames.new scopes.new) }
     ensures stands { OnOk result (Stands around nodes.now frames.new scopes.new) }
-    ensures left { IfOk result (λ w. IsLeft nodes.now w (inner frames.new)) }
+    ensures left { IfOk result (λ w. IsLeft nodes.now w frames.new) }
 {
     if frames.calls() >= CALL_LIMIT {
         return raises_tag(alloc, Tag::RecursionError);
@@ -87,7 +87,7 @@ fn call_flow(
         (control_of around frames.old) l)
         (held_by around frames.old scopes.old) w frames.new scopes.new) }
     ensures stands { OnOk result (Stands around nodes.now frames.new scopes.new) }
-    ensures left { IfOk result (λ w. IsLeft nodes.now w (inner frames.new)) }
+    ensures left { IfOk result (λ w. IsLeft nodes.now w frames.new) }
 {
     match Bindings::given(alloc, params(nodes, flow), args)? {
         Some(bindings) => begin(alloc, nodes, n, flow, bindings, frames, scopes),
@@ -115,7 +115,7 @@ fn evaluates(
         (control_of around frames.old) l)
         (held_by around frames.old scopes.old) w frames.new scopes.new) }
     ensures stands { OnOk result (Stands around nodes.now frames.new scopes.new) }
-    ensures left { IfOk result (λ w. IsLeft nodes.now w (inner frames.new)) }
+    ensures left { IfOk result (λ w. IsLeft nodes.now w frames.new) }
 {
     let look = seen(frames, scopes, facts);
     match call_function(alloc, function, args, &look, facts.now) {
@@ -147,7 +147,7 @@ pub(crate) fn call(
         (control_of around frames.old) l)
         (held_by around frames.old scopes.old) d frames.new scopes.new) }
     ensures stands { OnOk result (Stands around nodes.now frames.new scopes.new) }
-    ensures left { IfOk result (λ d. IsLeftSo nodes.now d (inner frames.new)) }
+    ensures left { IfOk result (λ d. IsLeftSo nodes.now d frames.new) }
 {
     let target = &targets[n as usize];
     match target {

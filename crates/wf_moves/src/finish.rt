@@ -1,6 +1,6 @@
 // How a task goes on: what has ended is left.
-ghost use Rattle.std.specs.Prelude.{◌≡◌, IfOk, List, Some, false};
-ghost use Rattle.wf_frames.specs.Fits.{HasNode};
+ghost use Rattle.std.specs.Prelude.{◌≡◌, IfOk, List, Some};
+ghost use Rattle.wf_frames.specs.Foreseen.{Foresees};
 ghost use Rattle.wf_frames.specs.Frames.{inner};
 ghost use Rattle.wf_frames.specs.Owned.{Around, beside, control_of, local_of};
 ghost use Rattle.wf_frames.specs.Stands.{Stands};
@@ -8,17 +8,16 @@ ghost use Rattle.wf_model.specs.Config.{Item};
 ghost use Rattle.wf_model.specs.Local as local;
 ghost use Rattle.wf_model.specs.Local.{Local, Moved, Scene};
 ghost use Rattle.wf_frames.specs.Built.{Tells};
-ghost use Rattle.wf_moves.specs.Moved.{HasMove, IsLeft, IsMove, IsSettled, IsThrough, Settled, turned_in};
+ghost use Rattle.wf_moves.specs.Moved.{IsLeft, IsMove, IsSettled, IsThrough, turned_in};
 ghost use Rattle.wf_moves.specs.Tasks.{IsDone, IsLeftSo};
-ghost use Rattle.wf_frames.specs.declared.frames.Frame.{Frame};
-ghost use Rattle.wf_model.specs.Spots.{Spot};
+ghost use Rattle.wf_frames.specs.declared.frames.Frames.{Frames};
 ghost use Rattle.wf_model.specs.declared.node.Node.{Node};
 
 use crate::sending::Sent;
 use crate::wait::Wait;
 use std::alloc::Global;
 use wf_ast::boxed;
-use wf_frames::{Frame, Frames, block, entries, leave};
+use wf_frames::{Frames, Next, leave, next_in};
 use wf_model::Node;
 use wf_scope::Scopes;
 use wf_sys_ask::Logged;
@@ -84,7 +83,7 @@ pub(crate) enum Done {
 pub(crate) fn done_of(went: Went) -> Done
     ensures moved { (a : Around) (s : Scene) (m : Moved) (l : Local) → IsMove s m went l
         → IsDone a s m result l }
-    ensures left { (nodes : List Node) (fs : List Frame) → IsLeft nodes went fs
+    ensures left { (nodes : List Node) (fs : Frames) → IsLeft nodes went fs
         → IsLeftSo nodes result fs }
 {
     match went {
@@ -94,26 +93,7 @@ pub(crate) fn done_of(went: Went) -> Done
     }
 }
 
-/// Whether a frame has ended.
-#[inline(always)]
-fn is_ended(frame: &Frame, nodes: &[Node]) -> bool
-    ghost ns: { List Spot }
-    requires tells { Tells ns nodes.now }
-    requires node { HasNode nodes.now frame.now }
-    ensures settled { Settled ns result frame.now }
-    ensures moves { result ≡ false → HasMove nodes.now frame.now }
-{
-    match frame {
-        Frame::Do(list, at) => *at >= block(nodes, *list).steps.len(),
-        Frame::Lone(_, done) => *done,
-        Frame::Entries(n, at) => *at >= entries(nodes, *n).len(),
-        Frame::Then(_) | Frame::Loop(_, _, _) | Frame::Back(_, _) => false,
-        Frame::Judge(_, _, _, _, _) => false,
-        Frame::Try(_, _, _) | Frame::Mark(_) => true,
-    }
-}
-
-/// What has ended is left.
+/// What has ended is left, and what is next then is kept.
 #[inline(always)]
 pub(crate) fn settle(frames: &mut Frames, nodes: &[Node], scopes: &mut Scopes)
     ghost around: { Around }
@@ -121,16 +101,19 @@ pub(crate) fn settle(frames: &mut Frames, nodes: &[Node], scopes: &mut Scopes)
     requires stands { Stands around nodes.now frames.old scopes.old }
     ensures stands { Stands around nodes.now frames.new scopes.new }
     ensures settled { IsSettled nodes.now (inner frames.new) }
+    ensures next { Foresees nodes.now frames.new }
     ensures left { (c : List Item)
         → local.settle (control_of around frames.old) (beside c around frames.old scopes.old)
         ≡ local_of around frames.new scopes.new }
 {
     while let Some(frame) = frames.top() {
-        if !is_ended(frame, nodes) {
+        if let Some(next) = next_in(frame, nodes) {
+            frames.set_next(next);
             return;
         }
         leave(frames, scopes);
     }
+    frames.set_next(Next::Nothing);
 }
 
 /// The task goes on behind what has ended, or has ended itself.
@@ -140,7 +123,7 @@ pub(crate) fn goes(frames: &mut Frames, nodes: &[Node], scopes: &mut Scopes) -> 
     requires tells { Tells around.spots nodes.now }
     requires stands { Stands around nodes.now frames.old scopes.old }
     ensures stands { Stands around nodes.now frames.new scopes.new }
-    ensures left { IsLeft nodes.now result (inner frames.new) }
+    ensures left { IsLeft nodes.now result frames.new }
     ensures through { IsThrough result }
     ensures moved { (s : Scene) (c : List Item)
         → IsMove s

@@ -23,8 +23,10 @@ use crate::start::params;
 use crate::unwind::{Tried, take};
 use crate::wait::Wait;
 use std::alloc::Global;
-use wf_ast::{Param, Policy, Predicate};
-use wf_frames::{Bindings, Frame, Frames, Target, body_frame, enter_call, map_of, try_node};
+use wf_ast::{Param, Policy, Predicate, boxed};
+use wf_frames::{
+    Bindings, Frame, Frames, Judging, Target, Trying, body_frame, enter_call, map_of, try_node,
+};
 use wf_model::Node;
 use wf_retry::{default_says, next_delay};
 use wf_scope::Scopes;
@@ -71,6 +73,7 @@ fn judge(policy: &Option<Policy>, tries: u64, error: &Value) -> Verdict
 
 /// The body of a `try` is to be tried again, behind a delay that counts from the last reading.
 pub(crate) fn retry(
+    alloc: Global,
     nodes: &[Node],
     tried: Tried,
     last: u64,
@@ -85,7 +88,7 @@ pub(crate) fn retry(
         (λ s l. retry_at around.spots tried s (control_of around frames.old) l)
         (held_by around frames.old scopes.old) d frames.new scopes.new) }
     ensures stands { OnOk result (Stands around nodes.now frames.new scopes.new) }
-    ensures left { IfOk result (λ d. IsLedSo nodes.now d (inner frames.new)) }
+    ensures left { IfOk result (λ d. IsLedSo nodes.now d frames.new) }
 {
     let node = try_node(nodes, tried.node);
     let Some(policy) = &node.policy else {
@@ -96,7 +99,12 @@ pub(crate) fn retry(
         return Err(OutOfMemory);
     };
     let delay = next_delay(&policy.backoff, tried.delay);
-    frames.push(Frame::Try(tried.node, tries, Some(delay)))?;
+    let trying = Trying {
+        node: tried.node,
+        tries,
+        delay: Some(delay),
+    };
+    frames.push(Frame::Try(boxed(alloc, trying)?))?;
     Ok(Led::Waits(Wait::Delay {
         due: last.saturating_add(delay),
     }))
@@ -116,15 +124,15 @@ pub(crate) fn try_again(
         (λ s l. retries (control_of around frames.old) l)
         (held_by around frames.old scopes.old) w frames.new scopes.new) }
     ensures stands { OnOk result (Stands around nodes.now frames.new scopes.new) }
-    ensures left { IfOk result (λ w. IsLeft nodes.now w (inner frames.new)) }
+    ensures left { IfOk result (λ w. IsLeft nodes.now w frames.new) }
 {
     let Some(frame) = frames.top() else {
         unreachable!()
     };
-    let Frame::Try(n, _, _) = frame else {
+    let Frame::Try(trying) = frame else {
         unreachable!()
     };
-    let tried = try_node(nodes, *n);
+    let tried = try_node(nodes, trying.node);
     frames.push(body_frame(nodes, tried.body))?;
     Ok(goes(frames, nodes, scopes))
 }
@@ -162,12 +170,19 @@ fn question(
         (held_by around frames.old scopes.old) d frames.new scopes.new) }
     ensures same { IfOk result (λ d. Rests d (inner frames.old) (inner frames.new)) }
     ensures stands { OnOk result (Stands around nodes.now frames.new scopes.new) }
-    ensures left { IfOk result (λ d. IsDecidedSo nodes.now d (inner frames.new)) }
+    ensures left { IfOk result (λ d. IsDecidedSo nodes.now d frames.new) }
 {
     let bindings = with_error(alloc, param, &error)?;
     match enter_call(frames, scopes, bindings)? {
         Some(layer) => {
-            frames.push(Frame::Judge(tried.node, tried.tries, tried.delay, error, layer))?;
+            let judging = Judging {
+                node: tried.node,
+                tries: tried.tries,
+                delay: tried.delay,
+                error,
+                layer,
+            };
+            frames.push(Frame::Judge(boxed(alloc, judging)?))?;
             frames.push(Frame::Do(flow, 0))?;
             Ok(Decided::Led(lead_on(frames, nodes, scopes)))
         }
@@ -197,7 +212,7 @@ fn ask(
         (held_by around frames.old scopes.old) d frames.new scopes.new) }
     ensures same { IfOk result (λ d. Rests d (inner frames.old) (inner frames.new)) }
     ensures stands { OnOk result (Stands around nodes.now frames.new scopes.new) }
-    ensures left { IfOk result (λ d. IsDecidedSo nodes.now d (inner frames.new)) }
+    ensures left { IfOk result (λ d. IsDecidedSo nodes.now d frames.new) }
 {
     let target = &targets[tried.node as usize];
     let Target::Flow(flow) = target else {
@@ -237,11 +252,11 @@ pub(crate) fn decide(
         (held_by around frames.old scopes.old) d frames.new scopes.new) }
     ensures same { IfOk result (λ d. Rests d (inner frames.old) (inner frames.new)) }
     ensures stands { OnOk result (Stands around nodes.now frames.new scopes.new) }
-    ensures left { IfOk result (λ d. IsDecidedSo nodes.now d (inner frames.new)) }
+    ensures left { IfOk result (λ d. IsDecidedSo nodes.now d frames.new) }
 {
     let node = try_node(nodes, tried.node);
     match judge(&node.policy, tried.tries, &error) {
-        Verdict::Yes => Ok(Decided::Led(retry(nodes, tried, last, frames, scopes)?)),
+        Verdict::Yes => Ok(Decided::Led(retry(alloc, nodes, tried, last, frames, scopes)?)),
         Verdict::Asks => ask(alloc, nodes, targets, tried, error, frames, scopes),
         Verdict::No => match take(alloc, nodes, tried.node, frames, scopes, error)? {
             Some(another) => Ok(Decided::Raises(another)),

@@ -66,8 +66,8 @@ fn target(frame: &Frame, nodes: &[Node], keep: u32) -> Option<u32>
             }
         }
         Frame::Lone(_, _) | Frame::Entries(_, _) | Frame::Then(_) => None,
-        Frame::Loop(_, _, _) | Frame::Try(_, _, _) | Frame::Mark(_) | Frame::Back(_, _) => None,
-        Frame::Judge(_, _, _, _, _) => None,
+        Frame::Loop(_) | Frame::Try(_) | Frame::Mark(_) | Frame::Back(_, _) => None,
+        Frame::Judge(_) => None,
     }
 }
 
@@ -128,9 +128,9 @@ fn is_loop(frame: &Frame) -> bool
     ensures { result ≡ is_loop frame.now }
 {
     match frame {
-        Frame::Loop(_, _, _) | Frame::Back(_, _) | Frame::Judge(_, _, _, _, _) => true,
+        Frame::Loop(_) | Frame::Back(_, _) | Frame::Judge(_) => true,
         Frame::Do(_, _) | Frame::Lone(_, _) | Frame::Entries(_, _) => false,
-        Frame::Then(_) | Frame::Try(_, _, _) | Frame::Mark(_) => false,
+        Frame::Then(_) | Frame::Try(_) | Frame::Mark(_) => false,
     }
 }
 
@@ -166,7 +166,7 @@ fn go_on_loop(frames: &mut Frames, nodes: &[Node], scopes: &mut Scopes) -> Went
         (to_loop (control_of around frames.old) (beside c around frames.old scopes.old)))
         result (local_of around frames.new scopes.new) }
     ensures stands { Stands around nodes.now frames.new scopes.new }
-    ensures left { IsLeft nodes.now result (inner frames.new) }
+    ensures left { IsLeft nodes.now result frames.new }
 {
     leave_to_loop(frames, scopes);
     goes(frames, nodes, scopes)
@@ -181,7 +181,7 @@ fn end_loop(frames: &mut Frames, nodes: &[Node], scopes: &mut Scopes) -> Went
         → IsMove s (leave.breaks (to_loop (control_of around frames.old)
         (beside c around frames.old scopes.old))) result (local_of around frames.new scopes.new) }
     ensures stands { Stands around nodes.now frames.new scopes.new }
-    ensures left { IsLeft nodes.now result (inner frames.new) }
+    ensures left { IsLeft nodes.now result frames.new }
 {
     leave_to_loop(frames, scopes);
     leave(frames, scopes);
@@ -206,7 +206,7 @@ fn go_to(
         (to_step x (control_of around frames.old) (beside c around frames.old scopes.old)))
         w (local_of around frames.new scopes.new)) }
     ensures stands { OnOk result (Stands around nodes.now frames.new scopes.new) }
-    ensures left { IfOk result (λ w. IsLeft nodes.now w (inner frames.new)) }
+    ensures left { IfOk result (λ w. IsLeft nodes.now w frames.new) }
 {
     match jump {
         Some(jump) => {
@@ -234,7 +234,7 @@ pub(crate) fn jump(
         (control_of around frames.old) l)
         (held_by around frames.old scopes.old) w frames.new scopes.new) }
     ensures stands { OnOk result (Stands around nodes.now frames.new scopes.new) }
-    ensures left { IfOk result (λ w. IsLeft nodes.now w (inner frames.new)) }
+    ensures left { IfOk result (λ w. IsLeft nodes.now w frames.new) }
 {
     let node = &nodes[n as usize];
     let Some(next) = &node.next else {

@@ -1,17 +1,16 @@
 // Where a move leads: its error goes outward, and so does what a predicate has said.
-ghost use Rattle.std.specs.Prelude.{◌≡◌, ◌≤◌, ℕ, IfOk, List, OnOk, Some};
-ghost use Rattle.wf_frames.specs.Frames.{inner, topped};
+ghost use Rattle.std.specs.Prelude.{◌≡◌, ◌≤◌, IfOk, List, OnOk};
+ghost use Rattle.wf_frames.specs.Frames.{inner};
 ghost use Rattle.wf_frames.specs.Owned.{Around, beside, control_of, held_by, local_of};
 ghost use Rattle.wf_frames.specs.Stands.{Stands};
 ghost use Rattle.wf_frames.specs.Turns.{Agrees};
-ghost use Rattle.wf_frames.specs.declared.frames.Frame.TheVariants as frame;
 ghost use Rattle.wf_model.specs.Config.{Item};
 ghost use Rattle.wf_model.specs.Leave.{returns};
 ghost use Rattle.wf_model.specs.Local as local;
 ghost use Rattle.wf_model.specs.Local.{Moved, Scene};
 ghost use Rattle.wf_model.specs.Unwind.{unwind};
 ghost use Rattle.wf_moves.specs.Moved.{IsJudgeTop, IsLeft, IsMove, IsTurned, IsTurnedLeft};
-ghost use Rattle.wf_moves.specs.Retries.{IsLed, IsLedSo, LeadsBy};
+ghost use Rattle.wf_moves.specs.Retries.{IsAskedOn, IsLed, IsLedSo, LeadsBy};
 ghost use Rattle.wf_frames.specs.Built.{AreTargets, Tells};
 ghost use Rattle.wf_value.specs.Data.{boolean, depth};
 ghost use Rattle.wf_value.specs.Plain.{plain};
@@ -21,7 +20,7 @@ use crate::judging::{Decided, decide, retry};
 use crate::unwind::{Tried, leave_to_try, take};
 use crate::wait::Wait;
 use std::alloc::Global;
-use wf_frames::{Frame, Frames, Target, leave};
+use wf_frames::{Frame, Frames, Judging, Target, leave};
 use wf_model::Node;
 use wf_scope::Scopes;
 use wf_value::{OutOfMemory, Value};
@@ -40,7 +39,7 @@ pub(crate) fn lead_on(frames: &mut Frames, nodes: &[Node], scopes: &mut Scopes) 
     requires tells { Tells around.spots nodes.now }
     requires stands { Stands around nodes.now frames.old scopes.old }
     ensures stands { Stands around nodes.now frames.new scopes.new }
-    ensures left { IsLedSo nodes.now result (inner frames.new) }
+    ensures left { IsLedSo nodes.now result frames.new }
     ensures moved { (c : List Item)
         → IsLed around
         (local.goes (control_of around frames.old) (beside c around frames.old scopes.old))
@@ -72,7 +71,7 @@ fn outward(
         (λ s l. unwind s (control_of around frames.old) l (plain error))
         (held_by around frames.old scopes.old) d frames.new scopes.new) }
     ensures stands { OnOk result (Stands around nodes.now frames.new scopes.new) }
-    ensures left { IfOk result (λ d. IsLedSo nodes.now d (inner frames.new)) }
+    ensures left { IfOk result (λ d. IsLedSo nodes.now d frames.new) }
 {
     let mut error = error;
     while let Some(tried) = leave_to_try(frames, scopes) {
@@ -87,21 +86,21 @@ fn outward(
 /// The `try` and the error on which a workflow was asked, whose call is the innermost frame.
 fn asked_on(alloc: Global, frames: &Frames) -> Result<(Tried, Value), OutOfMemory>
     requires { IsJudgeTop (inner frames.now) }
-    ensures { IfOk result (λ p. (m : ℕ) × (topped (inner frames.now)
-        ≡ Some (frame.Judge p.0.node p.0.tries p.0.delay p.1 m))) }
+    ensures { IfOk result (λ p. IsAskedOn (inner frames.now) p.0 p.1) }
 {
     let Some(frame) = frames.top() else {
         unreachable!()
     };
-    let Frame::Judge(node, tries, delay, error, _) = frame else {
+    let Frame::Judge(judging) = frame else {
         unreachable!()
     };
+    let judging: &Judging = judging;
     let tried = Tried {
-        node: *node,
-        tries: *tries,
-        delay: *delay,
+        node: judging.node,
+        tries: judging.tries,
+        delay: judging.delay,
     };
-    let error = error.copy(alloc)?;
+    let error = judging.error.copy(alloc)?;
     Ok((tried, error))
 }
 
@@ -124,13 +123,13 @@ fn answered(
         (λ s l. returns s (boolean yes) (control_of around frames.old) l)
         (held_by around frames.old scopes.old) d frames.new scopes.new) }
     ensures stands { OnOk result (Stands around nodes.now frames.new scopes.new) }
-    ensures left { IfOk result (λ d. IsLedSo nodes.now d (inner frames.new)) }
+    ensures left { IfOk result (λ d. IsLedSo nodes.now d frames.new) }
 {
     let asked = asked_on(alloc, frames)?;
     let (tried, error) = asked;
     leave(frames, scopes);
     if yes {
-        return retry(nodes, tried, last, frames, scopes);
+        return retry(alloc, nodes, tried, last, frames, scopes);
     }
     match take(alloc, nodes, tried.node, frames, scopes, error)? {
         Some(another) => outward(alloc, nodes, targets, last, frames, scopes, another),
@@ -157,7 +156,7 @@ fn lead_turned(
         → IsTurned s m by (local_of around frames.old scopes.old)
         → IsLed around m d (local_of around frames.new scopes.new)) }
     ensures stands { OnOk result (Stands around nodes.now frames.new scopes.new) }
-    ensures left { IfOk result (λ d. IsLedSo nodes.now d (inner frames.new)) }
+    ensures left { IfOk result (λ d. IsLedSo nodes.now d frames.new) }
 {
     match by {
         Turned::Ended(end) => Ok(Led::Ended(end)),
@@ -180,12 +179,12 @@ pub(crate) fn lead(
     requires tells { Tells around.spots nodes.now }
     requires targets { AreTargets around.flows around.spots nodes.now targets.now }
     requires stands { Stands around nodes.now frames.old scopes.old }
-    requires left { IsLeft nodes.now went (inner frames.old) }
+    requires left { IsLeft nodes.now went frames.old }
     ensures moved { IfOk result (λ d. (s : Scene) (m : Moved) → s.last ≡ last → Agrees s around
         → IsMove s m went (local_of around frames.old scopes.old)
         → IsLed around m d (local_of around frames.new scopes.new)) }
     ensures stands { OnOk result (Stands around nodes.now frames.new scopes.new) }
-    ensures left { IfOk result (λ d. IsLedSo nodes.now d (inner frames.new)) }
+    ensures left { IfOk result (λ d. IsLedSo nodes.now d frames.new) }
 {
     match went {
         Went::Goes => Ok(Led::Goes),

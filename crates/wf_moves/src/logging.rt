@@ -1,6 +1,5 @@
 // What steps log.
 ghost use Rattle.std.specs.Prelude.{◌≤◌, IfOk, OnOk};
-ghost use Rattle.wf_frames.specs.Frames.{inner};
 ghost use Rattle.wf_frames.specs.Owned.{Around, control_of, held_by};
 ghost use Rattle.wf_frames.specs.Stands.{Stands};
 ghost use Rattle.wf_moves.specs.Tasks.{IsLeftSo, LogsBy, Names};
@@ -48,7 +47,7 @@ pub(crate) fn logs(
         (control_of around frames.old) l)
         (held_by around frames.old scopes.old) d frames.new scopes.new) }
     ensures stands { OnOk result (Stands around nodes.now frames.new scopes.new) }
-    ensures left { IfOk result (λ d. IsLeftSo nodes.now d (inner frames.new)) }
+    ensures left { IfOk result (λ d. IsLeftSo nodes.now d frames.new) }
 {
     match entry_of(alloc, args, sending.logged) {
         Ok(entry) => {

@@ -1,9 +1,10 @@
 // The move of the innermost frame.
 ghost use Rattle.std.specs.Prelude.{◌≡◌, IfOk, OnOk};
+ghost use Rattle.wf_frames.specs.Foreseen.{Foresees};
 ghost use Rattle.wf_frames.specs.Frames.{inner};
 ghost use Rattle.wf_frames.specs.Owned.{Around, control_of, held_by};
 ghost use Rattle.wf_frames.specs.Stands.{Stands};
-ghost use Rattle.wf_moves.specs.Moved.{IsGoing, is_at_back, is_at_loop};
+ghost use Rattle.wf_moves.specs.Moved.{GoesNext};
 ghost use Rattle.wf_moves.specs.Stepped.{leads, leads_to, stepped_at};
 ghost use Rattle.wf_moves.specs.Tasks.{DoesBy, IsLeftSo};
 ghost use Rattle.wf_frames.specs.Built.{AreTargets, Tells};
@@ -17,7 +18,7 @@ use crate::jump::jump;
 use crate::sending::Sending;
 use crate::turn::turn;
 use std::alloc::Global;
-use wf_frames::{Facts, Frame, Frames, Leads, Step, Target, loop_node, seen, step_of};
+use wf_frames::{Facts, Frames, Leads, Next, Step, Target, seen, step_of};
 use wf_model::Node;
 use wf_scope::Scopes;
 use wf_value::{OutOfMemory, Value};
@@ -44,7 +45,7 @@ fn finish_with(
         (λ s l. leads_to around.spots by s (control_of around frames.old) l)
         (held_by around frames.old scopes.old) d frames.new scopes.new) }
     ensures stands { OnOk result (Stands around nodes.now frames.new scopes.new) }
-    ensures left { IfOk result (λ d. IsLeftSo nodes.now d (inner frames.new)) }
+    ensures left { IfOk result (λ d. IsLeftSo nodes.now d frames.new) }
 {
     match by {
         Leads::Raises(error) => Ok(done_of(turns(alloc, Turned::Raises(error))?)),
@@ -76,7 +77,7 @@ fn finish_step(
         (λ s l. leads around.spots step s (control_of around frames.old) l)
         (held_by around frames.old scopes.old) d frames.new scopes.new) }
     ensures stands { OnOk result (Stands around nodes.now frames.new scopes.new) }
-    ensures left { IfOk result (λ d. IsLeftSo nodes.now d (inner frames.new)) }
+    ensures left { IfOk result (λ d. IsLeftSo nodes.now d frames.new) }
 {
     match step {
         Step::Goes => Ok(done_of(goes(frames, nodes, scopes))),
@@ -86,27 +87,6 @@ fn finish_step(
             let by = Box::into_inner(leads);
             finish_with(alloc, nodes, targets, by, frames, scopes, facts, sending)
         }
-    }
-}
-
-/// Whether the task stands at the end of a workflow that was called.
-fn is_at_back(frames: &Frames) -> bool
-    ensures { result ≡ is_at_back (inner frames.now) }
-{
-    match frames.top() {
-        Some(frame) => frame.is_back(),
-        None => false,
-    }
-}
-
-/// Whether the task stands before a loop's turn.
-#[inline(always)]
-fn is_at_loop(frames: &Frames) -> bool
-    ensures { result ≡ is_at_loop (inner frames.now) }
-{
-    match frames.top() {
-        Some(Frame::Loop(_, _, _)) => true,
-        _ => false,
     }
 }
 
@@ -126,11 +106,12 @@ fn step_on(
     requires targets { AreTargets around.flows around.spots nodes.now targets.now }
     requires stands { Stands around nodes.now frames.old scopes.old }
     requires step { HasStepOnTop nodes.now (inner frames.old) }
+    requires next { Foresees nodes.now frames.old }
     ensures moved { IfOk result (λ d. DoesBy around facts.entry.now sending.now
         (λ s l. stepped_at s (control_of around frames.old) l)
         (held_by around frames.old scopes.old) d frames.new scopes.new) }
     ensures stands { OnOk result (Stands around nodes.now frames.new scopes.new) }
-    ensures left { IfOk result (λ d. IsLeftSo nodes.now d (inner frames.new)) }
+    ensures left { IfOk result (λ d. IsLeftSo nodes.now d frames.new) }
 {
     let look = seen(frames, scopes, facts);
     let step = step_of(alloc, nodes, frames, &look, facts.now)?;
@@ -152,27 +133,16 @@ pub(crate) fn advance(
     requires tells { Tells around.spots nodes.now }
     requires targets { AreTargets around.flows around.spots nodes.now targets.now }
     requires stands { Stands around nodes.now frames.old scopes.old }
-    requires going { IsGoing nodes.now (inner frames.old) }
+    requires going { GoesNext nodes.now frames.old }
     ensures moved { IfOk result (λ d. DoesBy around facts.entry.now sending.now
         (λ s l. stepped_at s (control_of around frames.old) l)
         (held_by around frames.old scopes.old) d frames.new scopes.new) }
     ensures stands { OnOk result (Stands around nodes.now frames.new scopes.new) }
-    ensures left { IfOk result (λ d. IsLeftSo nodes.now d (inner frames.new)) }
+    ensures left { IfOk result (λ d. IsLeftSo nodes.now d frames.new) }
 {
-    if is_at_back(frames) {
-        return Ok(done_of(returns(alloc, nodes, frames, scopes, Value::Null)?));
-    }
-    if !is_at_loop(frames) {
-        return step_on(alloc, nodes, targets, frames, scopes, facts, sending);
-    }
-    let Some(frame) = frames.pop() else {
-        unreachable!()
-    };
-    match frame {
-        Frame::Loop(n, left, index) => {
-            let body = loop_node(nodes, n);
-            Ok(done_of(turn(alloc, nodes, n, body, left, index, frames, scopes)?))
-        }
-        _ => unreachable!(),
+    match frames.next() {
+        Next::Back => Ok(done_of(returns(alloc, nodes, frames, scopes, Value::Null)?)),
+        Next::Loop => Ok(done_of(turn(alloc, nodes, frames, scopes)?)),
+        _ => step_on(alloc, nodes, targets, frames, scopes, facts, sending),
     }
 }

@@ -1,7 +1,6 @@
 // The requests of calls of HTTP.
 ghost use Rattle.std.specs.Prelude.{◌≤◌, IfOk, OnOk};
 ghost use Rattle.wf_eval.specs.Answers.{Answers};
-ghost use Rattle.wf_frames.specs.Frames.{inner};
 ghost use Rattle.wf_frames.specs.Owned.{Around, control_of, held_by};
 ghost use Rattle.wf_frames.specs.Stands.{Stands};
 ghost use Rattle.wf_moves.specs.Requests.{request_by, sent_view};
@@ -92,7 +91,7 @@ pub(crate) fn sends(
         (control_of around frames.old) l)
         (held_by around frames.old scopes.old) d frames.new scopes.new) }
     ensures stands { OnOk result (Stands around nodes.now frames.new scopes.new) }
-    ensures left { IfOk result (λ d. IsLeftSo nodes.now d (inner frames.new)) }
+    ensures left { IfOk result (λ d. IsLeftSo nodes.now d frames.new) }
 {
     // No execution makes so many calls.
     let Some(number) = sending.calls.checked_add(1) else {

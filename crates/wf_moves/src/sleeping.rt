@@ -1,7 +1,6 @@
 // Sleeps.
 ghost use Rattle.std.specs.Prelude.{IfOk, OnOk};
 ghost use Rattle.wf_eval.specs.Answers.{Answers};
-ghost use Rattle.wf_frames.specs.Frames.{inner};
 ghost use Rattle.wf_frames.specs.Owned.{Around, control_of, held_by};
 ghost use Rattle.wf_frames.specs.Stands.{Stands};
 ghost use Rattle.wf_moves.specs.Naps.{nap_due};
@@ -53,7 +52,7 @@ pub(crate) fn sleeps(
         (control_of around frames.old) l)
         (held_by around frames.old scopes.old) d frames.new scopes.new) }
     ensures stands { OnOk result (Stands around nodes.now frames.new scopes.new) }
-    ensures left { IfOk result (λ d. IsLeftSo nodes.now d (inner frames.new)) }
+    ensures left { IfOk result (λ d. IsLeftSo nodes.now d frames.new) }
 {
     match nap_due(alloc, nap, args, facts.now) {
         Ok(due) => {

@@ -1,6 +1,7 @@
 // Tasks.
 ghost use Rattle.std.specs.Prelude.{◌≡◌, ◌≤◌, IfErr, IfOk, OnOk, Some, false, is_some, true};
 ghost use Rattle.wf_frames.specs.Fits.{Fits};
+ghost use Rattle.wf_frames.specs.Foreseen.{Foresees};
 ghost use Rattle.wf_frames.specs.Frames.{inner};
 ghost use Rattle.wf_frames.specs.Owned.{Around, control_of, local_of};
 ghost use Rattle.wf_frames.specs.Sights.{Sees};
@@ -25,7 +26,7 @@ use crate::start::{first_layer, params};
 use crate::wait::Wait;
 use std::alloc::Global;
 use wf_ast::boxed;
-use wf_frames::{Facts, Frame, Frames, Kind, Target, Wants, frame_kind};
+use wf_frames::{Facts, Frame, Frames, Kind, Target, Wants, next_kind};
 use wf_model::Node;
 use wf_scope::Scopes;
 use wf_sys_ask::Logged;
@@ -108,6 +109,7 @@ impl Task {
         ensures awake { IfOk result (λ t. is_awake_in t.wait ≡ true) }
         ensures stands { IfOk result (λ t. Stands around nodes.now t.frames scopes.new) }
         ensures settled { IfOk result (λ t. IsSettled nodes.now (inner t.frames)) }
+        ensures next { IfOk result (λ t. Foresees nodes.now t.frames) }
     {
         let layer = first_layer(scopes, params(nodes, flow), argument)?;
         let mut frames = Frames::new(alloc, layer);
@@ -136,13 +138,14 @@ impl Task {
         ghost around: { Around }
         requires tells { Tells around.spots nodes.now }
         requires fits { Fits around.spots nodes.now (inner self.now.frames) }
+        requires going { CanGoOn nodes.now self.now }
+        requires awake { is_awake_in self.now.wait ≡ true }
         ensures { (p : Program) → AreWants p around.spots nodes.now wants.now
             → kind_view result ≡ next_kind p (control_of around self.now.frames) }
     {
-        match self.frames.top() {
-            Some(frame) => frame_kind(nodes, wants, frame),
-            None => Kind::Plain,
-        }
+        // it was looked up when the task was settled
+        let _ = nodes;
+        next_kind(wants, self.frames.next())
     }
 
     /// The number of the call for whose answer it waits.
@@ -237,7 +240,7 @@ impl Task {
         requires tells { Tells around.spots nodes.now }
         requires targets { AreTargets around.flows around.spots nodes.now targets.now }
         requires stands { Stands around nodes.now self.old.frames scopes.old }
-        requires left { IsAwaitedLeft nodes.now awaits (inner self.old.frames) }
+        requires left { IsAwaitedLeft nodes.now awaits self.old.frames }
         requires awake { is_awake_in self.old.wait ≡ true }
         ensures moved { IfOk result (λ d. (s : Scene) (m : Moved) → Sees s facts.entry.now
             → Agrees s around
@@ -384,7 +387,7 @@ impl Task {
         requires tells { Tells around.spots nodes.now }
         requires targets { AreTargets around.flows around.spots nodes.now targets.now }
         requires stands { Stands around nodes.now self.old.frames scopes.old }
-        requires left { IsLeft nodes.now went (inner self.old.frames) }
+        requires left { IsLeft nodes.now went self.old.frames }
         requires awake { is_awake_in self.old.wait ≡ true }
         ensures moved { IfOk result (λ d. (s : Scene) (m : Moved) → Sees s facts.entry.now
             → Agrees s around → IsMove s m went (task_local around self.old scopes.old)
@@ -416,7 +419,7 @@ impl Task {
         requires tells { Tells around.spots nodes.now }
         requires targets { AreTargets around.flows around.spots nodes.now targets.now }
         requires stands { Stands around nodes.now self.old.frames scopes.old }
-        requires left { IsLeft nodes.now went (inner self.old.frames) }
+        requires left { IsLeft nodes.now went self.old.frames }
         requires awake { is_awake_in self.old.wait ≡ true }
         ensures moved { IfOk result (λ b. (s : Scene) (m : Moved) → Sees s facts.entry.now
             → Agrees s around → IsMove s m went (task_local around self.old scopes.old)

@@ -35,14 +35,14 @@ fn tried_of(frame: &Frame) -> Option<Tried>
     ensures { result ≡ tried_of frame.now }
 {
     match frame {
-        Frame::Try(node, tries, delay) => Some(Tried {
-            node: *node,
-            tries: *tries,
-            delay: *delay,
+        Frame::Try(trying) => Some(Tried {
+            node: trying.node,
+            tries: trying.tries,
+            delay: trying.delay,
         }),
         Frame::Do(_, _) | Frame::Lone(_, _) | Frame::Entries(_, _) | Frame::Then(_) => None,
-        Frame::Loop(_, _, _) | Frame::Mark(_) | Frame::Back(_, _) => None,
-        Frame::Judge(_, _, _, _, _) => None,
+        Frame::Loop(_) | Frame::Mark(_) | Frame::Back(_, _) => None,
+        Frame::Judge(_) => None,
     }
 }
 

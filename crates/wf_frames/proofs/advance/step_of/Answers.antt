@@ -1,85 +1,72 @@
-use Rattle.std.proofs.Common.{refl, sym, ap, subst, ◌∙◌}
-use Rattle.std.specs.Prelude.{drop, Some}
+use Rattle.std.proofs.Common.{sym, subst, ◌∙◌}
 use Rattle.wf_lemmas.proofs.Results.{with_ok}
 use Rattle.wf_eval.specs.Sight.{seen}
-use Rattle.wf_frames.specs.Fits.{Fits}
 use Rattle.wf_frames.specs.Frames.{inner}
+use Rattle.wf_frames.specs.Steps.{CarriesCall, CarriesOut, IsOf, Issues, Moves, WantsSame}
 use Rattle.wf_frames.specs.declared.frames.Frame.TheVariants as frame
-use Rattle.wf_ast.specs.Apply.{View}
-use Rattle.wf_frames.proofs.Advancing.{lone_first, no_step, some_step, step_first, taken_first, topped_first}
-use Rattle.wf_frames.proofs.Owning.{own_pushed}
 use Rattle.wf_frames.specs.declared.step.Step.TheVariants as step
-use Rattle.wf_frames.proofs.Asking.{entries_issue, no_call_same, then_issues}
-use Rattle.wf_frames.specs.Steps.{IsNoCall, Issues, Moves, WantsSame}
+use Rattle.wf_frames.proofs.Advancing.{taken_first}
+use Rattle.wf_frames.proofs.Asking.{then_issues}
+use Rattle.wf_frames.proofs.Foreseeing.{body_fits, body_inside, body_issues, body_moves, body_same, body_within, entry_goes, entry_within, no_other, then_first}
+use Rattle.wf_model.specs.Spots.{part_at, part_body, part_next}
 use Rattle.wf_frames.proofs.advance.step_of.Goals as goal
 
+pub carry_out-requires : goal.carry_out-requires
+carry_out-requires g c κs within =
+    let nodes = c.args.nodes.now in
+    let fs = inner c.args.frames.now in
+    let mid = inner c.go_on.new.self in
+    let r = c.requires.1.0.resolves in
+    let fits = c.requires.1.1.1.1 in
+    let e = sym (c.in-Body.ensures ∙ c.requires.1.1.1.0) in
+    (within, (c.requires.1.0, (body_within g.ns nodes r fs c.in-Body.n fits e, (body_fits g.ns nodes r fs c.in-Body.n fits e mid c.go_on.ensures.on, body_inside g.ns nodes r fs c.in-Body.n fits e mid c.go_on.ensures.on))))
+
 pub unreachable-requires : goal.unreachable-requires
-unreachable-requires g c = no_step c.args.nodes.now (inner c.args.frames.now) c.in_default.ensures c.requires.1.1.0
+unreachable-requires g c = no_other c.args.nodes.now (inner c.args.frames.now) c.next.result c.requires.1.1.0 (c.next.ensures ∙ c.requires.1.1.1.0) c.in-Nothing.is
 
-pub do_step-requires : goal.do_step-requires
-do_step-requires g c κs within =
-    let is = c.in-Some.ensures ∙ ap Some c.in-Do.is in
-    (within, (c.requires.1.0, (step_first c.args.nodes.now (inner c.args.frames.now) (frame.Do c.in-Do.list c.in-Do.at) is c.requires.1.1.0, (is, c.requires.1.1.1))))
-
-pub lone_step-requires : goal.lone_step-requires
-lone_step-requires g c κs within =
-    let has = step_first c.args.nodes.now (inner c.args.frames.now) c.in-Some.frame.now c.in-Some.ensures c.requires.1.1.0 in
-    let is = lone_first c.args.nodes.now c.in-Some.frame.now c.in-Lone.n c.in-Lone.field-1 has c.in-Lone.is in
-    (within, (c.requires.1.0, (c.in-Some.ensures ∙ ap Some is, c.requires.1.1.1)))
-
-pub entry_step-requires : goal.entry_step-requires
-entry_step-requires g c =
-    let is = c.in-Some.ensures ∙ ap Some c.in-Entries.is in
-    (c.requires.1.0, (step_first c.args.nodes.now (inner c.args.frames.now) (frame.Entries c.in-Entries.n c.in-Entries.at) is c.requires.1.1.0, (is, c.requires.1.1.1)))
-
-pub returns-in-Entries-clause-moves : goal.returns-in-Entries-clause-moves
-returns-in-Entries-clause-moves g c =
+pub returns-in-Body-clause-moves : goal.returns-in-Body-clause-moves
+returns-in-Body-clause-moves g c =
+    let n = c.in-Body.n in
     let v = seen (g.K.Look.sight c.args.look.now) c.args.now in
-    with_ok (λ st. (u : View) → Moves g.ns (inner c.args.frames.now) u (inner c.entry_step.new.frames) st) (Moves g.ns (inner c.args.frames.now) v (inner c.entry_step.new.frames)) c.entry_step.result (λ st h. h v) c.entry_step.ensures.moves
+    let fs = inner c.args.frames.now in
+    let mid = inner c.go_on.new.self in
+    let new = inner c.carry_out.new.frames in
+    let e = sym (c.in-Body.ensures ∙ c.requires.1.1.1.0) in
+    with_ok (CarriesOut g.ns (part_body (part_at g.ns n)) (part_next (part_at g.ns n)) v mid new) (Moves g.ns fs v new) c.carry_out.result
+    (λ st h. body_moves g.ns c.args.nodes.now c.requires.1.0.resolves fs n c.requires.1.1.1.1 e v mid new st c.go_on.ensures.on h) c.carry_out.ensures.carried
 
-pub returns-in-Entries-clause-issues : goal.returns-in-Entries-clause-issues
-returns-in-Entries-clause-issues g c =
+pub returns-in-Body-clause-issues : goal.returns-in-Body-clause-issues
+returns-in-Body-clause-issues g c =
+    let n = c.in-Body.n in
     let v = seen (g.K.Look.sight c.args.look.now) c.args.now in
-    let first = topped_first (inner c.args.frames.now) (frame.Entries c.in-Entries.n c.in-Entries.at) (c.in-Some.ensures ∙ ap Some c.in-Entries.is) in
-    with_ok IsNoCall (Issues g.ns (inner c.args.frames.now) v (inner c.entry_step.new.frames)) c.entry_step.result
-    (λ st h. subst (λ fs. Issues g.ns fs v (inner c.entry_step.new.frames) st) (sym first) (entries_issue g.ns c.in-Entries.n c.in-Entries.at v (drop 1 (inner c.args.frames.now)) (inner c.entry_step.new.frames) st))
-    c.entry_step.ensures.no_call
+    let fs = inner c.args.frames.now in
+    let mid = inner c.go_on.new.self in
+    let new = inner c.carry_out.new.frames in
+    let e = sym (c.in-Body.ensures ∙ c.requires.1.1.1.0) in
+    with_ok (CarriesCall g.ns (part_body (part_at g.ns n)) (part_next (part_at g.ns n)) v mid new) (Issues g.ns fs v new) c.carry_out.result
+    (λ st h. body_issues g.ns c.args.nodes.now c.requires.1.0.resolves fs n c.requires.1.1.1.1 e v mid new st c.go_on.ensures.on h) c.carry_out.ensures.asked
 
-pub returns-in-Entries-clause-same : goal.returns-in-Entries-clause-same
-returns-in-Entries-clause-same g c = with_ok IsNoCall (WantsSame g.ns (inner c.args.frames.now)) c.entry_step.result (no_call_same g.ns (inner c.args.frames.now)) c.entry_step.ensures.no_call
+pub returns-in-Body-clause-same : goal.returns-in-Body-clause-same
+returns-in-Body-clause-same g c =
+    let fs = inner c.args.frames.now in
+    let e = sym (c.in-Body.ensures ∙ c.requires.1.1.1.0) in
+    with_ok (IsOf c.in-Body.n) (WantsSame g.ns fs) c.carry_out.result (body_same g.ns c.args.nodes.now c.requires.1.0.resolves fs c.in-Body.n c.requires.1.1.1.1 e) c.carry_out.ensures.of
 
-pub unreachable-requires-in_default-frame : goal.unreachable-requires-in_default-frame
-unreachable-requires-in_default-frame g c =
-    let has = step_first c.args.nodes.now (inner c.args.frames.now) c.in-Some.frame.now c.in-Some.ensures c.requires.1.1.0 in
-    some_step c.args.nodes.now c.in-Some.frame.now has c.in_default-frame.not-Do c.in_default-frame.not-Lone c.in_default-frame.not-Entries c.in_default-frame.not-Then
-
-pub returns-in-Then-clause-moves : goal.returns-in-Then-clause-moves
-returns-in-Then-clause-moves g c =
+pub returns-in-Entry-clause-moves : goal.returns-in-Entry-clause-moves
+returns-in-Entry-clause-moves g c =
     let v = seen (g.K.Look.sight c.args.look.now) c.args.now in
-    let n = c.in-Then.n in
-    let t = taken_first (inner c.args.frames.now) (inner c.pop.new.self) (frame.Then n) c.pop.result (c.in-Some.ensures ∙ ap Some c.in-Then.is) c.pop.ensures.popped c.pop.ensures.none in
-    subst (λ fs. Moves g.ns fs v (inner c.pop.new.self) (step.Jumps n)) (sym t) (λ s l same. refl)
+    let e = sym (c.in-Entry.ensures ∙ c.requires.1.1.1.0) in
+    entry_goes g.ns c.args.nodes.now c.requires.1.0.resolves (inner c.args.frames.now) c.in-Entry.n c.requires.1.1.1.1 e v (inner c.go_on-in-Entry.new.self) c.go_on-in-Entry.ensures.on
+
+pub returns-in-Entry-clause-ready : goal.returns-in-Entry-clause-ready
+returns-in-Entry-clause-ready g c =
+    entry_within g.ns c.args.nodes.now c.requires.1.0.resolves (inner c.args.frames.now) c.in-Entry.n c.requires.1.1.1.1 (sym (c.in-Entry.ensures ∙ c.requires.1.1.1.0))
 
 pub returns-in-Then-clause-issues : goal.returns-in-Then-clause-issues
 returns-in-Then-clause-issues g c =
     let v = seen (g.K.Look.sight c.args.look.now) c.args.now in
     let n = c.in-Then.n in
-    let t = taken_first (inner c.args.frames.now) (inner c.pop.new.self) (frame.Then n) c.pop.result (c.in-Some.ensures ∙ ap Some c.in-Then.is) c.pop.ensures.popped c.pop.ensures.none in
-    subst (λ fs. Issues g.ns fs v (inner c.pop.new.self) (step.Jumps n)) (sym t) (then_issues g.ns n v (inner c.pop.new.self) (inner c.pop.new.self) (step.Jumps n))
-
-pub returns-in-Then-clause-fits : goal.returns-in-Then-clause-fits
-returns-in-Then-clause-fits g c =
-    let t = taken_first (inner c.args.frames.now) (inner c.pop.new.self) (frame.Then c.in-Then.n) c.pop.result (c.in-Some.ensures ∙ ap Some c.in-Then.is) c.pop.ensures.popped c.pop.ensures.none in
-    (subst (Fits g.ns c.args.nodes.now) t c.requires.1.1.1).1
-
-pub returns-in-Then-clause-own : goal.returns-in-Then-clause-own
-returns-in-Then-clause-own g c =
-    let f = frame.Then c.in-Then.n in
-    let t = taken_first (inner c.args.frames.now) (inner c.pop.new.self) f c.pop.result (c.in-Some.ensures ∙ ap Some c.in-Then.is) c.pop.ensures.popped c.pop.ensures.none in
-    sym (own_pushed c.pop.new.self.first c.args.frames.now.first f (inner c.pop.new.self) (inner c.args.frames.now) (sym c.pop.ensures.first) refl t)
-
-pub returns-in-Then-clause-ready : goal.returns-in-Then-clause-ready
-returns-in-Then-clause-ready g c =
-    let t = taken_first (inner c.args.frames.now) (inner c.pop.new.self) (frame.Then c.in-Then.n) c.pop.result (c.in-Some.ensures ∙ ap Some c.in-Then.is) c.pop.ensures.popped c.pop.ensures.none in
-    let fits = subst (Fits g.ns c.args.nodes.now) t c.requires.1.1.1 in
-    record { within = fits.0.0.0; next = fits.0.0.1; inside = fits.0.1 }
+    let fs = inner c.args.frames.now in
+    let first = then_first c.args.nodes.now fs n (sym (c.in-Then.ensures ∙ c.requires.1.1.1.0)) in
+    let t = taken_first fs (inner c.pop.new.self) (frame.Then n) c.pop.result first c.pop.ensures.popped c.pop.ensures.none in
+    subst (λ gs. Issues g.ns gs v (inner c.pop.new.self) (step.Jumps n)) (sym t) (then_issues g.ns n v (inner c.pop.new.self) (inner c.pop.new.self) (step.Jumps n))

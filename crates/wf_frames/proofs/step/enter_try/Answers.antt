@@ -2,6 +2,7 @@ use Rattle.std.proofs.Common.{◌≡◌, sym, ap, ◌∙◌}
 use Rattle.wf_ast.specs.View.{policy_option_view}
 use Rattle.wf_frames.specs.Fits.{reach}
 use Rattle.wf_frames.specs.Frames.{inner}
+use Rattle.wf_frames.specs.declared.frames.Trying.{Trying}
 use Rattle.wf_model.specs.NodeKinds.{handler_view}
 use Rattle.wf_model.specs.Spots.{owners_at}
 use Rattle.wf_model.specs.Table.{except_of}
@@ -23,15 +24,16 @@ returns-clause-performed g c v =
     let body = tried_body g.ns c.args.nodes.now c.args.n c.args.tried.now c.requires.0.resolves t in
     let p = policy_option_view c.args.tried.now.policy in
     let x = except_of g.ns (handler_view c.args.tried.now.except) in
-    tried_performs g.ns c.args.n c.args.tried.now.body p x c.body_frame.result v (inner c.args.frames.now) (inner c.push.new.self) (inner c.push-2.new.self)
-    body c.body_frame.ensures.item c.in_ok-push.ensures.pushed c.in_ok-push-2.ensures.pushed
+    tried_performs g.ns c.args.n c.args.tried.now.body c.in_ok-boxed.field-0 p x c.body_frame.result v (inner c.args.frames.now) (inner c.push.new.self) (inner c.push-2.new.self)
+    body c.body_frame.ensures.item c.in_ok-boxed.ensures c.in_ok-push.ensures.pushed c.in_ok-push-2.ensures.pushed
 
 pub returns-clause-fits : goal.returns-clause-fits
 returns-clause-fits g c =
     let t = c.requires.1.0 in
     let inside = c.requires.1.1.1 in
     let stands = tried_stands g.ns c.args.nodes.now c.args.n c.args.tried.now c.requires.0.resolves t in
+    let same : c.in_ok-boxed.field-0.value.node ≡ c.args.n = ap (λ (x : Trying). x.node) c.in_ok-boxed.ensures in
     let here : owners_at g.ns c.args.tried.now.body ≡ reach (inner c.push.new.self) =
     stands.1 ∙ inside ∙ sym (ap reach c.in_ok-push.ensures.pushed) in
-    try_fits g.ns c.args.nodes.now c.args.n c.args.tried.now c.body_frame.result (inner c.args.frames.now) (inner c.push.new.self) (inner c.push-2.new.self) t inside c.in_ok-push.ensures.pushed c.in_ok-push-2.ensures.pushed
+    try_fits g.ns c.args.nodes.now c.args.n c.in_ok-boxed.field-0 c.args.tried.now c.body_frame.result (inner c.args.frames.now) (inner c.push.new.self) (inner c.push-2.new.self) t same inside c.in_ok-push.ensures.pushed c.in_ok-push-2.ensures.pushed
     (c.body_frame.ensures.fits (inner c.push.new.self) here) c.requires.1.1.0

@@ -1,6 +1,5 @@
 use Rattle.std.proofs.Common.{None, Some, map, subst}
 use Rattle.wf_lemmas.proofs.Results.{with_ok}
-use Rattle.wf_frames.specs.Frames.{inner}
 use Rattle.wf_frames.specs.Owned.{control_of, held_by, local_of}
 use Rattle.wf_frames.specs.Turns.{Writes}
 use Rattle.wf_moves.proofs.Assigning.{refused, stored}
@@ -32,4 +31,4 @@ returns-clause-moved g c =
     c.raises_tag.ensures
 
 pub returns-clause-left : goal.returns-clause-left
-returns-clause-left g c = with_ok _ _ c.raises_tag.result (λ w p. raised_left c.args.nodes.now (inner c.args.frames.now) (error_map c.in-Some.tag) w p) c.raises_tag.ensures
+returns-clause-left g c = with_ok _ _ c.raises_tag.result (λ w p. raised_left c.args.nodes.now c.args.frames.now (error_map c.in-Some.tag) w p) c.raises_tag.ensures

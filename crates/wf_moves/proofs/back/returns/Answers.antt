@@ -44,7 +44,7 @@ returns-in-None-clause-moved g c =
 pub returns-in-None-clause-left : goal.returns-in-None-clause-left
 returns-in-None-clause-left g c =
     with_ok _ _ c.turns.result
-    (λ w is. turned_left c.args.nodes.now (inner c.leave_to_back.new.frames) (turned.Ended (end.Value c.args.value)) w is (none_there (inner c.leave_to_back.new.frames) c.in-None.ensures))
+    (λ w is. turned_left c.args.nodes.now c.leave_to_back.new.frames (turned.Ended (end.Value c.args.value)) w is (none_there (inner c.leave_to_back.new.frames) c.in-None.ensures))
     c.turns.ensures
 
 pub returns-in-None-clause-stands : goal.returns-in-None-clause-stands
@@ -73,7 +73,7 @@ returns-then-is_judge-clause-moved g c =
 pub returns-then-is_judge-clause-left : goal.returns-then-is_judge-clause-left
 returns-then-is_judge-clause-left g c =
     with_ok _ _ c.says.result
-    (λ w says. says_left c.args.nodes.now (inner c.leave_to_back.new.frames) (plain c.args.value) w (judge_top c.in-Some.frame.now (inner c.leave_to_back.new.frames) c.in-Some.ensures (sym c.is_judge.ensures ∙ c.if-is_judge.true)) says)
+    (λ w says. says_left c.args.nodes.now c.leave_to_back.new.frames (plain c.args.value) w (judge_top c.in-Some.frame.now (inner c.leave_to_back.new.frames) c.in-Some.ensures (sym c.is_judge.ensures ∙ c.if-is_judge.true)) says)
     c.says.ensures
 
 pub returns-then-is_judge-clause-stands : goal.returns-then-is_judge-clause-stands

@@ -65,7 +65,7 @@ returns-in_ok-push-in-Some-2-clause-moved g c s d agrees =
     (subst (λ (os : List Own). IsMove s (goes (control g.around.spots new) (standing d (held_of g.around.keys os (layers_of c.enter_call.new.scopes)))) c.goes.result (local_of g.around c.goes.new.frames c.goes.new.scopes)) owned_is (c.goes.ensures.moved s d))
 
 pub returns-then-calls-ge-CALL_LIMIT-clause-left : goal.returns-then-calls-ge-CALL_LIMIT-clause-left
-returns-then-calls-ge-CALL_LIMIT-clause-left g c = with_ok _ _ c.raises_tag.result (λ w p. raised_left c.args.nodes.now (inner c.args.frames.now) (error_map RecursionError) w p) c.raises_tag.ensures
+returns-then-calls-ge-CALL_LIMIT-clause-left g c = with_ok _ _ c.raises_tag.result (λ w p. raised_left c.args.nodes.now c.args.frames.now (error_map RecursionError) w p) c.raises_tag.ensures
 
 pub returns-in-None-clause-left : goal.returns-in-None-clause-left
-returns-in-None-clause-left g c = with_ok _ _ c.raises_tag-in-None.result (λ w p. raised_left c.args.nodes.now (inner c.args.frames.now) (error_map ResourceLimitError) w p) c.raises_tag-in-None.ensures
+returns-in-None-clause-left g c = with_ok _ _ c.raises_tag-in-None.result (λ w p. raised_left c.args.nodes.now c.args.frames.now (error_map ResourceLimitError) w p) c.raises_tag-in-None.ensures

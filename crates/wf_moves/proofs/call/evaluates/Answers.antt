@@ -3,7 +3,7 @@ use Rattle.std.specs.Prelude.{is_some}
 use Rattle.wf_lemmas.proofs.Results.{with_ok}
 use Rattle.wf_ast.specs.Apply.{View}
 use Rattle.wf_ast.specs.Flows.{flow}
-use Rattle.wf_frames.specs.Frames.{body_result, inner}
+use Rattle.wf_frames.specs.Frames.{body_result}
 use Rattle.wf_frames.specs.Owned.{beside, control_of, held_by, local_of}
 use Rattle.wf_moves.proofs.Raised.{raised, raised_left}
 use Rattle.wf_value.specs.Errors.{error_map}
@@ -54,4 +54,4 @@ returns-in-Err-clause-moved g c =
     c.fails.ensures.raised c.fails.ensures.error
 
 pub returns-in-Err-clause-left : goal.returns-in-Err-clause-left
-returns-in-Err-clause-left g c = with_both _ _ c.fails.result (λ w h t. raised_left c.args.nodes.now (inner c.args.frames.now) (error_map t.0) w (h t.0 t.1)) c.fails.ensures.raised c.fails.ensures.error
+returns-in-Err-clause-left g c = with_both _ _ c.fails.result (λ w h t. raised_left c.args.nodes.now c.args.frames.now (error_map t.0) w (h t.0 t.1)) c.fails.ensures.raised c.fails.ensures.error

@@ -6,9 +6,6 @@ use Rattle.wf_model.specs.Config.{Item}
 use Rattle.wf_model.specs.Local as local
 use Rattle.wf_moves.proofs.finish.settle.Given as goal
 
-abbrev pub ghost-is_ended : goal.ghost-is_ended
-ghost-is_ended g a = g.around.spots
-
 abbrev pub ghost-leave : goal.ghost-leave
 ghost-leave g a = g.around
 

@@ -1,10 +1,13 @@
 use Rattle.std.proofs.Common.{Some, sym, ap, ◌∙◌}
 use Rattle.wf_frames.specs.declared.frames.Frame.{Frame}
-use Rattle.wf_frames.specs.declared.frames.Frame.TheVariants as frame
-use Rattle.wf_value.specs.declared.Value.{Value}
+use Rattle.wf_frames.specs.declared.frames.Judging.{Judging}
+use Rattle.wf_moves.specs.Retries.{asked_by_frame}
 use Rattle.wf_moves.proofs.leading.asked_on.Goals as goal
 
 pub returns : goal.returns
-returns c =
-    let j = c.in-Judge in
-    (j.field-4, c.in-Some.ensures ∙ ap (λ (f : Frame). Some f) j.is ∙ ap (λ (v : Value). Some (frame.Judge j.node j.tries j.delay v j.field-4)) (sym c.in_ok-error.ensures))
+returns c = record {
+  held = c.in-Judge.judging;
+  top = c.in-Some.ensures ∙ ap (λ (f : Frame). Some f) c.in-Judge.is;
+  tried = ap asked_by_frame (sym c.deref-judging.ensures);
+  error_is = ap (λ (x : Judging). x.error) (sym c.deref-judging.ensures) ∙ sym c.in_ok-error.ensures;
+}

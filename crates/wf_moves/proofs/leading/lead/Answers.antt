@@ -12,7 +12,7 @@ lead_turned-requires g c = (
   c.requires.0,
   (
     c.requires.1.0,
-    (c.requires.1.1.0, subst (λ t. IsTurnedLeft t (inner c.args.frames.now)) (sym c.into_inner-by.ensures) (subst (λ x. IsLeft c.args.nodes.now x (inner c.args.frames.now)) c.in-Turned.is c.requires.1.1.1)),
+    (c.requires.1.1.0, subst (λ t. IsTurnedLeft t (inner c.args.frames.now)) (sym c.into_inner-by.ensures) (subst (λ x. IsLeft c.args.nodes.now x c.args.frames.now) c.in-Turned.is c.requires.1.1.1)),
   ),
 )
 

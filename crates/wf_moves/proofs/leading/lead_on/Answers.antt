@@ -19,7 +19,7 @@ returns-in-None-clause-moved g c d =
     subst (λ (l : Local). IsEnd (settled l) (end.Value value.Null) (local_of g.around frames scopes)) (sym (c.settle.ensures.left d)) (ended_there g.around.spots (inner frames) (held_by g.around frames scopes) c.in-None.ensures)
 
 pub returns-in-Some-clause-left : goal.returns-in-Some-clause-left
-returns-in-Some-clause-left g c = going_there c.args.nodes.now c.in-Some.field-0.now (inner c.settle.new.frames) c.in-Some.ensures c.settle.ensures.settled
+returns-in-Some-clause-left g c = (going_there c.args.nodes.now c.in-Some.field-0.now (inner c.settle.new.frames) c.in-Some.ensures c.settle.ensures.settled, c.settle.ensures.next)
 
 pub returns-in-Some-clause-moved : goal.returns-in-Some-clause-moved
 returns-in-Some-clause-moved g c d =

@@ -35,7 +35,7 @@ loop-tried-preserved g c = record {
       breaks_on _ _ _ (c.loop-tried.invariant.found s d last agrees)
       (subst (λ m. IsOrBreaks m (unwind s (control_of g.around c.decide.new.frames) (beside d g.around c.decide.new.frames c.decide.new.scopes) (plain c.in-Raises.another))) (sym (c.leave_to_try.ensures.found s d (plain c.loop-tried.error) ∙ ap (λ o. caught_at g.around.spots o s (plain c.loop-tried.error) (control_of g.around c.leave_to_try.new.frames) (beside d g.around c.leave_to_try.new.frames c.leave_to_try.new.scopes)) c.in-Some.is))
       (subst (λ x. IsDecided g.around s d (decide_at g.around.spots c.in-Some.tried s (plain c.loop-tried.error) (control_of g.around c.leave_to_try.new.frames) (beside d g.around c.leave_to_try.new.frames c.leave_to_try.new.scopes)) x c.decide.new.frames c.decide.new.scopes) c.in-Raises.is (c.in_ok-another.ensures.moved s d last agrees)));
-  shallow = subst (λ x. IsDecidedSo c.args.nodes.now x (inner c.decide.new.frames)) c.in-Raises.is c.in_ok-another.ensures.left;
+  shallow = subst (λ x. IsDecidedSo c.args.nodes.now x c.decide.new.frames) c.in-Raises.is c.in_ok-another.ensures.left;
 }
 
 pub loop-tried-smaller : goal.loop-tried-smaller

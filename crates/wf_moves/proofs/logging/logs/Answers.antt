@@ -1,6 +1,5 @@
 use Rattle.std.proofs.Common.{Ok, Err, ap, subst, sym}
 use Rattle.wf_eval.specs.Answers.{Answers}
-use Rattle.wf_frames.specs.Frames.{inner}
 use Rattle.wf_frames.specs.Owned.{beside, control_of, held_by, local_of}
 use Rattle.wf_model.specs.Calls.{log_entry}
 use Rattle.wf_moves.proofs.LogCalls.{entry_logged, log_failed}
@@ -50,4 +49,4 @@ pub returns-in_ok-fails-in-Err-clause-left : goal.returns-in_ok-fails-in-Err-cla
 returns-in_ok-fails-in-Err-clause-left g c =
     let h = c.in_ok-fails-in-Err.ensures in
     let t = h.error in
-    c.done_of.ensures.left c.args.nodes.now (inner c.args.frames.now) (raised_left c.args.nodes.now (inner c.args.frames.now) (error_map t.0) c.in_ok-fails-in-Err.field-0 (h.raised t.0 t.1))
+    c.done_of.ensures.left c.args.nodes.now c.args.frames.now (raised_left c.args.nodes.now c.args.frames.now (error_map t.0) c.in_ok-fails-in-Err.field-0 (h.raised t.0 t.1))

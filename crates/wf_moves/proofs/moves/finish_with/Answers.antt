@@ -1,6 +1,5 @@
 use Rattle.std.proofs.Common.{refl, sym, subst}
 use Rattle.wf_lemmas.proofs.Results.{with_ok}
-use Rattle.wf_frames.specs.Frames.{inner}
 use Rattle.wf_frames.specs.Held.{standing}
 use Rattle.wf_frames.specs.Owned.{beside, control_of, held_by, local_of}
 use Rattle.wf_frames.specs.Steps.{AreFit}
@@ -33,8 +32,8 @@ returns-in_ok-turns-in-Raises-clause-moved g c s d sees reaches agrees =
 
 pub returns-in_ok-turns-in-Raises-clause-left : goal.returns-in_ok-turns-in-Raises-clause-left
 returns-in_ok-turns-in-Raises-clause-left g c =
-    c.done_of.ensures.left c.args.nodes.now (inner c.args.frames.now)
-    (turned_left c.args.nodes.now (inner c.args.frames.now) (turned.Raises c.in-Raises.error) c.in_ok-turns-in-Raises.field-0 c.in_ok-turns-in-Raises.ensures (subst (AreFit c.args.nodes.now) c.in-Raises.is c.requires.1.1.1))
+    c.done_of.ensures.left c.args.nodes.now c.args.frames.now
+    (turned_left c.args.nodes.now c.args.frames.now (turned.Raises c.in-Raises.error) c.in_ok-turns-in-Raises.field-0 c.in_ok-turns-in-Raises.ensures (subst (AreFit c.args.nodes.now) c.in-Raises.is c.requires.1.1.1))
 
 pub returns-in_ok-returns-in-Returns-clause-moved : goal.returns-in_ok-returns-in-Returns-clause-moved
 returns-in_ok-returns-in-Returns-clause-moved g c s d sees reaches agrees =

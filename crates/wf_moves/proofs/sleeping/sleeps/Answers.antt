@@ -1,7 +1,6 @@
 use Rattle.std.proofs.Common.{List, Err, sym, ap, subst}
 use Rattle.wf_ast.specs.Tree.{Flow}
 use Rattle.wf_eval.specs.Answers.{Answers}
-use Rattle.wf_frames.specs.Frames.{inner}
 use Rattle.wf_frames.specs.Owned.{control_of, held_by, local_of}
 use Rattle.wf_moves.proofs.Raised.{raised, raised_left}
 use Rattle.wf_moves.proofs.Sleeps.{nap_done, sleep_fails, sleeps_so}
@@ -50,4 +49,4 @@ pub returns-in_ok-fails-in-Err-clause-left : goal.returns-in_ok-fails-in-Err-cla
 returns-in_ok-fails-in-Err-clause-left g c =
     let e = c.in_ok-fails-in-Err.ensures in
     let t = e.error in
-    c.done_of.ensures.left c.args.nodes.now (inner c.args.frames.now) (raised_left c.args.nodes.now (inner c.args.frames.now) (error_map t.0) c.in_ok-fails-in-Err.field-0 (e.raised t.0 t.1))
+    c.done_of.ensures.left c.args.nodes.now c.args.frames.now (raised_left c.args.nodes.now c.args.frames.now (error_map t.0) c.in_ok-fails-in-Err.field-0 (e.raised t.0 t.1))

@@ -16,8 +16,8 @@ use Rattle.wf_moves.proofs.task.Task.advance.Goals as goal
 pub advance-requires : goal.advance-requires
 advance-requires g c =
     let t = c.args.self.now in
-    let goes = subst (λ w. GoesFrom c.args.nodes.now w (inner t.frames)) (is_awake t.wait c.requires.1.1.1.1) c.requires.1.1.1.0 in
-    (c.requires.0, (c.requires.1.0, (c.requires.1.1.0, is_going c.args.nodes.now (inner t.frames) goes)))
+    let goes = subst (λ w. GoesFrom c.args.nodes.now w t.frames) (is_awake t.wait c.requires.1.1.1.1) c.requires.1.1.1.0 in
+    (c.requires.0, (c.requires.1.0, (c.requires.1.1.0, (is_going c.args.nodes.now (inner t.frames) goes.0, goes.1))))
 
 pub returns-in-Goes-clause-moved : goal.returns-in-Goes-clause-moved
 returns-in-Goes-clause-moved g c s sees reaches agrees =
@@ -33,14 +33,14 @@ returns-in-Goes-clause-moved g c s sees reaches agrees =
 pub returns-in-Goes-clause-left : goal.returns-in-Goes-clause-left
 returns-in-Goes-clause-left g c =
     let t : Task = record { alloc = c.args.self.now.alloc; frames = c.advance.new.frames; wait = c.args.self.now.wait } in
-    went_left c.args.nodes.now t c.requires.1.1.1.1 (subst (λ x. IsLeftSo c.args.nodes.now x (inner c.advance.new.frames)) c.in-Goes.is c.in_ok-done.ensures.left)
+    went_left c.args.nodes.now t c.requires.1.1.1.1 (subst (λ x. IsLeftSo c.args.nodes.now x c.advance.new.frames) c.in-Goes.is c.in_ok-done.ensures.left)
 
 pub follow-requires : goal.follow-requires
 follow-requires g c = (
   c.requires.0,
   (
     c.requires.1.0,
-    (c.in_ok-done.ensures.stands, (subst (λ x. IsLeftSo c.args.nodes.now x (inner c.advance.new.frames)) c.in-Ends.is c.in_ok-done.ensures.left, c.requires.1.1.1.1)),
+    (c.in_ok-done.ensures.stands, (subst (λ x. IsLeftSo c.args.nodes.now x c.advance.new.frames) c.in-Ends.is c.in_ok-done.ensures.left, c.requires.1.1.1.1)),
   ),
 )
 
@@ -63,7 +63,7 @@ follow-requires-in-Turned g c = (
   c.requires.0,
   (
     c.requires.1.0,
-    (c.in_ok-done.ensures.stands, (subst (λ x. IsLeftSo c.args.nodes.now x (inner c.advance.new.frames)) c.in-Turned.is c.in_ok-done.ensures.left, c.requires.1.1.1.1)),
+    (c.in_ok-done.ensures.stands, (subst (λ x. IsLeftSo c.args.nodes.now x c.advance.new.frames) c.in-Turned.is c.in_ok-done.ensures.left, c.requires.1.1.1.1)),
   ),
 )
 
@@ -88,7 +88,7 @@ told-requires g c = (
     c.requires.1.0,
     (
       c.in_ok-done.ensures.stands,
-      (subst (λ t. IsAwaitedLeft c.args.nodes.now t (inner c.advance.new.frames)) (sym c.into_inner-awaits.ensures) (subst (λ x. IsLeftSo c.args.nodes.now x (inner c.advance.new.frames)) c.in-Awaits.is c.in_ok-done.ensures.left), c.requires.1.1.1.1),
+      (subst (λ t. IsAwaitedLeft c.args.nodes.now t c.advance.new.frames) (sym c.into_inner-awaits.ensures) (subst (λ x. IsLeftSo c.args.nodes.now x c.advance.new.frames) c.in-Awaits.is c.in_ok-done.ensures.left), c.requires.1.1.1.1),
     ),
   ),
 )

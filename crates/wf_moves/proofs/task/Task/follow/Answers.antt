@@ -1,6 +1,5 @@
 use Rattle.std.proofs.Common.{sym, ap, subst, ◌∙◌}
 use Rattle.wf_lemmas.proofs.Results.{with_ok}
-use Rattle.wf_frames.specs.Frames.{inner}
 use Rattle.wf_moves.proofs.Led.{goes_leads}
 use Rattle.wf_moves.proofs.Waiting.{behind_moves, behind_stays, behind_unsent, went_left}
 use Rattle.wf_moves.specs.Moved.{IsLeft, IsMove}
@@ -14,7 +13,7 @@ returns-in-Goes-clause-moved g c s m sees agrees h =
     goes_leads g.around s m l (subst (λ w. IsMove s m w l) c.in-Goes.is h)
 
 pub returns-in-Goes-clause-left : goal.returns-in-Goes-clause-left
-returns-in-Goes-clause-left g c = went_left c.args.nodes.now c.args.self.now c.requires.1.1.1.1 (subst (λ w. IsLeft c.args.nodes.now w (inner c.args.self.now.frames)) c.in-Goes.is c.requires.1.1.1.0)
+returns-in-Goes-clause-left g c = went_left c.args.nodes.now c.args.self.now c.requires.1.1.1.1 (subst (λ w. IsLeft c.args.nodes.now w c.args.self.now.frames) c.in-Goes.is c.requires.1.1.1.0)
 
 pub returns-in_ok-behind-in_default-clause-moved : goal.returns-in_ok-behind-in_default-clause-moved
 returns-in_ok-behind-in_default-clause-moved g c =

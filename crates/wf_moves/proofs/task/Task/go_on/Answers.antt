@@ -1,7 +1,7 @@
 use Rattle.std.proofs.Common.{Some, refl, sym, ap, subst}
 use Rattle.std.specs.Prelude.{◌≤◌, IfErr, Option, Result}
 use Rattle.wf_lemmas.proofs.Results.{with_ok}
-use Rattle.wf_frames.specs.Frames.{inner, result_of}
+use Rattle.wf_frames.specs.Frames.{result_of}
 use Rattle.wf_frames.specs.Owned.{control_of, held_by, local_of}
 use Rattle.wf_model.specs.Leave.{handed, raises}
 use Rattle.wf_moves.proofs.Raised.{raised_so, turned_left, turned_move}
@@ -15,7 +15,7 @@ use Rattle.wf_moves.proofs.task.Task.go_on.Goals as goal
 
 pub gives-requires : goal.gives-requires
 gives-requires g c =
-    (c.requires.0, (c.requires.1.0, (c.requires.1.1.0, (subst (λ w. GoesFrom c.args.nodes.now w (inner c.args.self.now.frames)) c.in-Calling.is c.requires.1.1.1.0, refl))))
+    (c.requires.0, (c.requires.1.0, (c.requires.1.1.0, (subst (λ w. GoesFrom c.args.nodes.now w c.args.self.now.frames) c.in-Calling.is c.requires.1.1.1.0, refl))))
 
 pub returns-in-Ok-clause-moved : goal.returns-in-Ok-clause-moved
 returns-in-Ok-clause-moved g c =
@@ -41,4 +41,4 @@ returns-in_ok-went-in-Err-clause-moved g c =
     c.follow.ensures.moved
 
 pub follow-requires : goal.follow-requires
-follow-requires g c = (c.requires.0, (c.requires.1.0, (c.requires.1.1.0, (turned_left c.args.nodes.now (inner c.args.self.now.frames) (turned.Raises c.in-Err.error) c.in_ok-went-in-Err.went c.in_ok-went-in-Err.ensures (subst (λ r. IfErr r (λ e. depth (plain e) ≤ 100)) c.in-Err.is c.requires.1.1.1.1.1), refl))))
+follow-requires g c = (c.requires.0, (c.requires.1.0, (c.requires.1.1.0, (turned_left c.args.nodes.now c.args.self.now.frames (turned.Raises c.in-Err.error) c.in_ok-went-in-Err.went c.in_ok-went-in-Err.ensures (subst (λ r. IfErr r (λ e. depth (plain e) ≤ 100)) c.in-Err.is c.requires.1.1.1.1.1), refl))))

@@ -1,6 +1,5 @@
 use Rattle.std.proofs.Common.{subst, sym}
 use Rattle.wf_lemmas.proofs.Results.{with_ok}
-use Rattle.wf_frames.specs.Frames.{inner}
 use Rattle.wf_frames.specs.Owned.{local_of}
 use Rattle.wf_moves.proofs.Waiting.{logged_local, logged_then}
 use Rattle.wf_moves.specs.Tasks.{IsAwaited, IsAwaitedLeft, MovesTo, StaysTold}
@@ -12,7 +11,7 @@ pub returns-in-Waits-clause-moved : goal.returns-in-Waits-clause-moved
 returns-in-Waits-clause-moved g c s m sees agrees h = subst (λ x. IsAwaited g.around s m x (local_of g.around c.args.self.now.frames c.args.scopes.now)) c.in-Waits.is h
 
 pub returns-in-Waits-clause-left : goal.returns-in-Waits-clause-left
-returns-in-Waits-clause-left g c = subst (λ x. IsAwaitedLeft c.args.nodes.now x (inner c.args.self.now.frames)) c.in-Waits.is c.requires.1.1.1.0
+returns-in-Waits-clause-left g c = subst (λ x. IsAwaitedLeft c.args.nodes.now x c.args.self.now.frames) c.in-Waits.is c.requires.1.1.1.0
 
 pub returns-in-Sent-clause-moved : goal.returns-in-Sent-clause-moved
 returns-in-Sent-clause-moved g c =
@@ -25,7 +24,7 @@ pub returns-in-Sent-clause-left : goal.returns-in-Sent-clause-left
 returns-in-Sent-clause-left g c =
     let t : Task = record { alloc = c.args.self.now.alloc; frames = c.args.self.now.frames; wait = c.in-Sent.wait } in
     with_ok _ _ c.tell.result
-    (λ d is. subst (λ o. StaysTold c.args.nodes.now o t) (sym is) (subst (λ x. IsAwaitedLeft c.args.nodes.now x (inner c.args.self.now.frames)) c.in-Sent.is c.requires.1.1.1.0))
+    (λ d is. subst (λ o. StaysTold c.args.nodes.now o t) (sym is) (subst (λ x. IsAwaitedLeft c.args.nodes.now x c.args.self.now.frames) c.in-Sent.is c.requires.1.1.1.0))
     c.tell.ensures
 
 pub returns-in-Sent-clause-stands : goal.returns-in-Sent-clause-stands
@@ -36,7 +35,7 @@ stand-requires g c = (
   c.requires.0,
   (
     c.requires.1.0,
-    (c.requires.1.1.0, (subst (λ x. IsAwaitedLeft c.args.nodes.now x (inner c.args.self.now.frames)) c.in-Logged.is c.requires.1.1.1.0, c.requires.1.1.1.1)),
+    (c.requires.1.1.0, (subst (λ x. IsAwaitedLeft c.args.nodes.now x c.args.self.now.frames) c.in-Logged.is c.requires.1.1.1.0, c.requires.1.1.1.1)),
   ),
 )
 

@@ -1,6 +1,5 @@
 use Rattle.std.proofs.Common.{refl, sym, subst}
 use Rattle.wf_lemmas.proofs.Results.{with_ok}
-use Rattle.wf_frames.specs.Frames.{inner}
 use Rattle.wf_frames.specs.Owned.{control_of, local_of}
 use Rattle.wf_model.specs.Move.{due_by, retries}
 use Rattle.wf_moves.specs.Tasks.{MovesSo}
@@ -10,7 +9,7 @@ use Rattle.wf_moves.proofs.task.Task.wake.Goals as goal
 
 pub gives-requires : goal.gives-requires
 gives-requires g c =
-    (c.requires.0, (c.requires.1.0, (c.requires.1.1.0, (subst (λ w. GoesFrom c.args.nodes.now w (inner c.args.self.now.frames)) c.in-Sleep.is c.requires.1.1.1.0, refl))))
+    (c.requires.0, (c.requires.1.0, (c.requires.1.1.0, (subst (λ w. GoesFrom c.args.nodes.now w c.args.self.now.frames) c.in-Sleep.is c.requires.1.1.1.0, refl))))
 
 pub returns-in-Sleep-clause-moved : goal.returns-in-Sleep-clause-moved
 returns-in-Sleep-clause-moved g c =
@@ -21,7 +20,7 @@ returns-in-Sleep-clause-moved g c =
     c.gives.ensures.moved
 
 pub try_again-requires : goal.try_again-requires
-try_again-requires g c = (c.requires.0, (c.requires.1.1.0, subst (λ w. GoesFrom c.args.nodes.now w (inner c.args.self.now.frames)) c.in-Delay.is c.requires.1.1.1.0))
+try_again-requires g c = (c.requires.0, (c.requires.1.1.0, subst (λ w. GoesFrom c.args.nodes.now w c.args.self.now.frames) c.in-Delay.is c.requires.1.1.1.0))
 
 pub follow-requires : goal.follow-requires
 follow-requires g c = (c.requires.0, (c.requires.1.0, (c.in_ok-went-in-Delay.ensures.stands, (c.in_ok-went-in-Delay.ensures.left, refl))))
