@@ -31,7 +31,7 @@ use Rattle.wf_value.specs.Events.{Method}
 use Rattle.wf_frames.proofs.Advancing.{from_next}
 use Rattle.wf_frames.proofs.Evaluated.{failed, gave}
 use Rattle.wf_frames.proofs.Parts.{list_is, part_is}
-use Rattle.wf_frames.specs.Steps.{AreFit, AsksWith, CallWants, CallsNone, CarriesCall, Fails, IsCallOn, IsDone, IsGiven, IsNoCall, IsOf, IsOrBreaks, IsReady, Issues, LeadsSo, PerformsCall, WantsSame, asks, asks_by, asks_to, asks_with, come, come_to, issues_body}
+use Rattle.wf_frames.specs.Steps.{AreFit, AsksWith, CallWants, CallsNone, CarriesCall, Fails, IsCallOn, IsDone, IsGiven, IsNoCall, IsOf, IsOrBreaks, IsReady, Issues, LeadsSo, PerformsCall, WantsSame, asks, asks_by, asks_to, asks_with, issues_body}
 use Rattle.wf_frames.specs.declared.step.Leads.{Leads}
 use Rattle.wf_frames.specs.declared.step.Leads.TheVariants as leads
 use Rattle.wf_frames.specs.declared.step.Step.{Step}
@@ -104,9 +104,6 @@ plain_asks_not ns cs x next k p other h = by (part_body (part_by ns x next (kind
     by (Body.Return t) o e = clock_asks_not _ e
 
 -- ## What has a value at hand
-pub come_so : (ns : List Spot) (s : Scene) (k : List Item) (l : Local) (by : Leads) (st : Step) → LeadsSo by st → come ns st s k l ≡ come_to ns by s k l
-come_so ns s k l by st so = ap (λ y. come ns y s k l) so.is ∙ ap (λ y. come_to ns y s k l) so.holds
-
 pub asks_so : (ns : List Spot) (s : Scene) (k : List Item) (l : Local) (by : Leads) (st : Step) → LeadsSo by st → asks ns st s k l ≡ asks_to ns by s k l
 asks_so ns s k l by st so = ap (λ y. asks ns y s k l) so.is ∙ ap (λ y. asks_to ns y s k l) so.holds
 

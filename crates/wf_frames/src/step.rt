@@ -442,7 +442,7 @@ fn perform_plain<K: Look>(
 }
 
 /// The body of a node is carried out.
-#[inline(always)]
+#[inline(never)]
 fn perform<K: Look>(
     alloc: Global,
     nodes: &[Node],

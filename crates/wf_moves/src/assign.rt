@@ -77,7 +77,7 @@ fn store(
 }
 
 /// The assignment of an entry without places.
-#[inline(always)]
+#[inline(never)]
 fn assign_name(
     alloc: Global,
     nodes: &[Node],

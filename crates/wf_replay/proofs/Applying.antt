@@ -10,12 +10,9 @@ use Rattle.wf_machine.specs.declared.ApplyFault.TheVariants.{OutOfMemory}
 use Rattle.wf_model.specs.Config.{Config, To}
 use Rattle.wf_model.specs.Step.{next}
 use Rattle.wf_replay.proofs.Events.{moves_lead}
+use Rattle.wf_replay.proofs.FirstRecords.{on_ok}
 use Rattle.wf_replay.specs.Applying.{AppliesEvents}
 use Rattle.wf_value.specs.Events.{Event, Move}
-
-on_ok : {T E P : Type 0} (r : Result T E) → P → OnOk r P
-on_ok (Ok x) p = p
-on_ok (Err e) p = tt
 
 -- a machine is whole after each call that answers Ok
 whole_of : {T E : Type 0} (broken : Bool) (r : Result T E) (e : E) → (broken ≡ true ↔ IsErrOf r e) → OnOk r (broken ≡ false)
