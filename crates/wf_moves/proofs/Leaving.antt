@@ -1,8 +1,7 @@
 -- Frames that are left.
 use Rattle.std.proofs.Common.{◌≡◌, ℕ, ◌<◌, ◌≤◌, Bool, true, false, List, [], ◌∷◌, length, Some, None, refl, sym, ap, subst, ◌∙◌, arith}
 use Rattle.std.proofs.lemmas.Option.{slice_get_within}
-use Rattle.std.specs.Global.{Global}
-use Rattle.std.specs.Prelude.{Box, Option, option_map, slice_get, unwrap_or}
+use Rattle.std.specs.Prelude.{Option, option_map, slice_get, unwrap_or}
 use Rattle.wf_lemmas.proofs.Lists.{drop_end, none_past}
 use Rattle.wf_ast.specs.Tree.{more}
 use Rattle.wf_frames.specs.Fits.{Fits, HasNode, entries_at, list_at}

@@ -1,7 +1,6 @@
 -- The move of a task, or its request.
 use Rattle.std.proofs.Common.{◌≡◌, ◌∷◌, inl, inr, ℕ, Bool, true, false, List, [], refl, sym, ap, subst, ◌∙◌}
-use Rattle.std.specs.Prelude.{Option, Box}
-use Rattle.std.specs.Global.{Global}
+use Rattle.std.specs.Prelude.{Option}
 use Rattle.wf_ast.specs.Apply.{View}
 use Rattle.wf_ast.specs.Tree.{Body, CallBody, Flow}
 use Rattle.wf_callbacks.specs.declared.method.Method.{Method}
