@@ -1,5 +1,5 @@
 // `main`, over the table of its program.
-ghost use Rattle.std.specs.Prelude.{◌≡◌, IfOk, OnOk};
+ghost use Rattle.std.specs.Prelude.{◌≡◌, IfOk, OnOk, true};
 ghost use Rattle.wf_ast.specs.Tree.{Program};
 ghost use Rattle.wf_check.specs.Seen.{nodes_of};
 ghost use Rattle.wf_frames.specs.Fits.{Fits};
@@ -13,7 +13,7 @@ ghost use Rattle.wf_machine.specs.Main.{Aims, Begins, IsStanding, around};
 ghost use Rattle.wf_model.specs.Kinds.{next_kind};
 ghost use Rattle.wf_model.specs.Local.{Scene};
 ghost use Rattle.wf_moves.specs.Tasks.{IsFirst, MovesSo, Stays};
-ghost use Rattle.wf_moves.specs.Waits.{CanGoOn, result_in, task_local};
+ghost use Rattle.wf_moves.specs.Waits.{CanGoOn, is_awake_in, result_in, task_local};
 ghost use Rattle.wf_model.specs.Spots.{spots};
 ghost use Rattle.wf_frames.specs.Built.{Tells};
 ghost use Rattle.wf_frames.specs.Kinds.{AreWants, kind_view};
@@ -59,6 +59,8 @@ pub(crate) fn kind_of(program: &Checked, wants: &[Wants], task: &Task) -> Kind
     ghost plain: { Program }
     requires tells { Tells (spots plain.flows) (nodes_of program.now) }
     requires fits { Fits (spots plain.flows) (nodes_of program.now) (inner task.now.frames) }
+    requires going { CanGoOn (nodes_of program.now) task.now }
+    requires awake { is_awake_in task.now.wait ≡ true }
     ensures { (p : Program)
         → AreWants p (spots plain.flows) (nodes_of program.now) wants.now
         → kind_view result ≡ next_kind p (control_of (around plain) task.now.frames) }
