@@ -194,12 +194,9 @@ impl Machine {
         ensures some { IsTrue result → IsPlain self.now task.now }
         ensures none { IsFalse result → IsPlain self.now task.now → ⊥ }
     {
-        if task.is_awake() {
-            self.tally.moves + 1 < MOVE_LIMIT
-                && kind_of(&self.program, self.wants.as_slice(), task) == Kind::Plain
-        } else {
-            false
-        }
+        self.tally.moves + 1 < MOVE_LIMIT
+            && task.is_awake()
+            && kind_of(&self.program, self.wants.as_slice(), task) == Kind::Plain
     }
 
     /// `main`, which is out, takes its next move, and stays out. It gives whether `main` goes on; else the execution has ended. Without
