@@ -5,7 +5,9 @@
 
 A loop over a list of 10,000 items, which makes some 90,000 counted events, is run with a journal on a real file. Against it stands a bare loop
 (bare_loop.rs) that makes the same writes and syncs of the same bytes, a round for each record: the quotient of the two times is to be at most 4.
-The program is timed as a command, the bare loop from its first round on; told too is the quotient against the bare loop as a command.
+The program is timed as a command, the bare loop from its first round on; told too is the quotient against the bare loop as a command, and that
+of both loops alone: of the program what it takes more than with a source that has the list and no loop, of the bare loop its rounds less those for
+the journal of that source.
 Most of the bare loop's time is that of its syncs, so the quotient rests on the disk: it is also told as it is on a disk whose sync takes a
 millisecond. Nothing of the run is done during a sync, so longer syncs add the same to both times. Told too is the quotient against a bare loop
 that goes round as often as the program's own does, once an event, and writes the bytes of each event by themselves, with the same syncs. Then the
@@ -41,7 +43,7 @@ def assign(name, *entries):
 
 
 def large_loop():
-    """A source, what it prints, and how many events it makes: nine in each of 10,000 iterations, and seven around them."""
+    """A source, what it prints, and how many events it makes: nine in each of 10,000 iterations, and seven around them. And the same without its loop."""
     body = [
         assign("a", ("n", "${n + i}"), ("x", "${l[i]}")),
         {"b": {"switch": [{"condition": "${x}", "steps": [assign("c", ("odd", "${odd + 1}"), ("m", "${n * 2 - i}"))]}]}},
@@ -53,7 +55,8 @@ def large_loop():
         {"last": {"return": ["${n}", "${odd}", "${k}"]}},
     ]
     total = sum(range(10_000))
-    return compact(steps), f"[{total},10000,10000]\n".encode(), 4 + 1 + 10_000 * 9 + 1 + 1
+    alone = compact([step for step in steps if "loop" not in step])
+    return (compact(steps), f"[{total},10000,10000]\n".encode(), 4 + 1 + 10_000 * 9 + 1 + 1), (alone, b"[0,0,0]\n", 4 + 1)
 
 
 def records(journal):
@@ -109,11 +112,8 @@ def read(path):
         return file.read()
 
 
-def against_bare(folder):
-    """Whether a large loop with its journal takes at most so many times what the same writes and syncs take."""
-    loop = f"{folder}/bare_loop"
-    subprocess.run(["rustc", "--edition", "2021", "-O", "-o", loop, BARE_LOOP], check=True)
-    source, printed, wanted = large_loop()
+def measured(folder, loop, source, printed, wanted):
+    """Runs a source with a journal several times, and the bare loops beside it: the times of each, and the journal."""
     ours, each_record, each_event = [], [], []
     for _ in range(TRIES):
         ours.append(run(folder, source, printed, "journal"))
@@ -122,17 +122,29 @@ def against_bare(folder):
         each_record.append(bare(folder, loop, journal, "records"))
         each_event.append(bare(folder, loop, journal, "events"))
         os.remove(f"{folder}/journal")
+    return ours, each_record, each_event, journal
+
+
+def against_bare(folder):
+    """Whether a large loop with its journal takes at most so many times what the same writes and syncs take."""
+    loop = f"{folder}/bare_loop"
+    subprocess.run(["rustc", "--edition", "2021", "-O", "-o", loop, BARE_LOOP], check=True)
+    large, rest = large_loop()
+    ours, each_record, each_event, journal = measured(folder, loop, *large)
+    before, bare_before, _, _ = measured(folder, loop, *rest)
     passed, used = min(it[0] for it in ours), min(it[1] for it in ours)
     command, long = min(it[0] for it in each_record), min(it[0] for it in each_event)
     (_, alone, turns, syncs, syncing), rounds = min(each_record, key=lambda it: it[1]), each_event[0][2]
     # both wait for as many syncs, one after another, and do nothing meanwhile
     more = syncs * SYNC - syncing
     slower = (passed + more) / (alone + more)
-    print(f"{wanted} events over a list of 10000 items, a journal of {len(journal)} bytes, {syncs} syncs:")
+    looped, bare_looped = passed - min(it[0] for it in before), alone - min(it[1] for it in bare_before)
+    print(f"{large[2]} events over a list of 10000 items, a journal of {len(journal)} bytes, {syncs} syncs:")
     print(f"    the program {1000 * passed:.1f} ms, {1000 * used:.1f} ms of them the processor's")
     print(f"    a bare loop of {turns} rounds, one for each record, {1000 * alone:.1f} ms: quotient {passed / alone:.2f} on this disk, whose sync takes", end=" ")
     print(f"{1e6 * syncing / syncs:.0f} microseconds, and {slower:.2f} on one whose sync takes {1e6 * SYNC:.0f}")
     print(f"    the same with the start of its command, {1000 * command:.1f} ms: quotient {passed / command:.2f}")
+    print(f"    the loops alone, {1000 * looped:.1f} ms against {1000 * bare_looped:.1f} ms: quotient {looped / bare_looped:.2f}")
     print(f"    a bare loop of {rounds} rounds, one for each event, {1000 * long:.1f} ms: quotient {passed / long:.2f}")
     return passed / alone <= MOST_AGAINST_BARE
 
