@@ -89,6 +89,7 @@ abbrev mutual
   template_view (template.Expr e) = t.Whole (expr_view e.value)
   template_view (template.Join ps) = t.Joined (parts_view ps)
   template_view (template.List' shape all) = t.Listed (template_row all)
+  template_view (template.Literals ds) = t.Listed (t.templates (map t.Scalar ds))
   template_view (template.Map ns) = t.Mapped (fields_in ns)
 
   pub fields_in : NamedTemplates → t.Fields

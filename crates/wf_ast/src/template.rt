@@ -5,7 +5,7 @@ ghost use Rattle.wf_ast.specs.View.{field_list, field_view, fields_view, part_li
 use crate::expr::Expr;
 use crate::grow::add;
 use std::alloc::Global;
-use wf_value::{OutOfMemory, Text, Value};
+use wf_value::{List, OutOfMemory, Text, Value};
 
 /// A part of a text that is joined from texts and expressions.
 #[derive(Drop)]
@@ -55,6 +55,8 @@ pub enum Template {
     Expr(Box<Expr>),
     Join(Parts),
     List(Templates),
+    /// A list of literals, kept as the value that it is.
+    Literals(List),
     Map(NamedTemplates),
 }
 
@@ -63,7 +65,7 @@ impl Drop for Template {
     #[cycle(template)]
     fn drop(self) {
         match self {
-            Template::Lit(_) | Template::Expr(_) => {}
+            Template::Lit(_) | Template::Expr(_) | Template::Literals(_) => {}
             Template::Join(_) | Template::List(_) | Template::Map(_) => {}
         }
     }
