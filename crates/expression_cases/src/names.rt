@@ -8,6 +8,7 @@ ghost use Rattle.wf_ast.specs.Apply.{env_in};
 use std::alloc::Global;
 use wf_cases::{Case, CaseFault, blob_of, text_of};
 use wf_eval::Look;
+use wf_name::Name;
 use wf_value::{List, Map, Pairs, Text, Value};
 
 /// Names with their values, the pairs of the environment, and the id.
@@ -23,8 +24,8 @@ impl Look for Names {
 
     ghost sight = { λ n. record { names = n.map; env = n.pairs; id = n.id; base = [] } };
 
-    fn look(&self, name: &str) -> Option<&Value> {
-        self.map.get(name)
+    fn look(&self, name: &Name) -> Option<&Value> {
+        self.map.get(name.as_str())
     }
 
     fn env(&self, key: &str) -> Option<&str> {

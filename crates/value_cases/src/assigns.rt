@@ -4,6 +4,7 @@ ghost use Rattle.wf_scope.specs.Store.{layers_of};
 
 use std::alloc::Global;
 use wf_cases::{Case, CaseFault, json_of};
+use wf_name::Name;
 use wf_scope::{AssignFault, Chain, Key, Scopes};
 use wf_value::{Raise, Text, Value};
 
@@ -39,7 +40,7 @@ fn assigned(
     ensures apart { StayInnermost (layers_of scopes.old) (layers_of scopes.new) }
 {
     let path = path_of(alloc, case.item(4)?)?;
-    let target = Text::new(alloc, case.text(3)?)?;
+    let target = Name::new(alloc, case.text(3)?)?;
     let outcome = scopes.assign(c, &target, path.as_slice(), case.item(5)?.copy(alloc)?);
     told(alloc, outcome)
 }
@@ -55,8 +56,9 @@ fn seen(
     requires inner { IsLive inner.number (layers_of scopes.now) }
     requires outer { IsLive outer.number (layers_of scopes.now) }
 {
-    let inside = shown(alloc, scopes.look(inner, name))?;
-    let outside = shown(alloc, scopes.look(outer, name))?;
+    let name = Name::new(alloc, name)?;
+    let inside = shown(alloc, scopes.look(inner, &name))?;
+    let outside = shown(alloc, scopes.look(outer, &name))?;
     Ok(format!(in alloc; "{inside} {outside}")?)
 }
 
@@ -79,7 +81,7 @@ fn bind_all(
             return Ok(());
         };
         let value = value.copy(alloc)?;
-        if scopes.bind(c, &Text::new(alloc, name)?, value).is_err() {
+        if scopes.bind(c, &Name::new(alloc, name)?, value).is_err() {
             return Err(CaseFault::NoCase);
         }
     }

@@ -4,6 +4,7 @@ use wf_ast::compile;
 use wf_cases::CaseFault;
 use wf_eval::{Look, eval};
 use wf_expr::parse;
+use wf_name::Name;
 use wf_value::{Map, Raise, Text, Value};
 
 /// The arguments, by the names under which the expression has them.
@@ -17,8 +18,8 @@ impl Look for Names {
 
     ghost sight = { λ n. record { names = n.map; env = []; id = []; base = [] } };
 
-    fn look(&self, name: &str) -> Option<&Value> {
-        self.map.get(name)
+    fn look(&self, name: &Name) -> Option<&Value> {
+        self.map.get(name.as_str())
     }
 
     fn env(&self, key: &str) -> Option<&str> {

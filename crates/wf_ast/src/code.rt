@@ -10,12 +10,13 @@ ghost use Rattle.wf_ast.specs.Instrs.{instrs};
 use crate::{Expr, Func, Op};
 use std::alloc::Global;
 use std::marker::Model;
+use wf_name::Name;
 use wf_value::{OutOfMemory, Text, Value};
 
 /// An instruction for a stack of values. A skip passes so many instructions.
 pub enum Instr {
     Push(Value),
-    Load(Text),
+    Load(Name),
     Negate,
     Invert,
     Combine(Op),
@@ -100,7 +101,7 @@ fn emit(alloc: Global, items: &mut Vec<Instr>, e: &Expr) -> Result<(), OutOfMemo
 {
     match e {
         Expr::Lit(v) => put(items, Instr::Push(v.copy(alloc)?)),
-        Expr::Name(x) => put(items, Instr::Load(Text::new(alloc, x.as_str())?)),
+        Expr::Name(x) => put(items, Instr::Load(Name::new(alloc, x.as_str())?)),
         Expr::Neg(a) => emit_then(alloc, items, a, Instr::Negate),
         Expr::Not(a) => emit_then(alloc, items, a, Instr::Invert),
         Expr::And(a, b) => {

@@ -5,12 +5,13 @@ ghost use Rattle.wf_ast.specs.View.{flow_list, flow_view, flows_view, param_list
 use crate::body::StepList;
 use crate::grow::add;
 use std::alloc::Global;
+use wf_name::Name;
 use wf_value::{OutOfMemory, Text, Value};
 
 /// A parameter of a workflow, with its default where it has one.
 #[derive(Drop)]
 pub struct Param {
-    pub name: Text,
+    pub name: Name,
     pub default: Option<Value>,
 }
 

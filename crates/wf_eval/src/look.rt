@@ -5,6 +5,7 @@ ghost use Rattle.wf_value.specs.Maps.{value_at};
 ghost use Rattle.wf_value.specs.Plain.{plain};
 ghost use Rattle.wf_eval.specs.Sight.{seen};
 
+use wf_name::Name;
 use wf_value::Value;
 
 /// The visible names, and the environment.
@@ -14,7 +15,7 @@ pub trait Look {
     ghost sight: { Self → Sight };
 
     /// The value of a name, where the name is visible.
-    fn look(&self, name: &str) -> Option<&Value>
+    fn look(&self, name: &Name) -> Option<&Value>
         ensures { option_map (λ v. plain v.now) result ≡ value_at name.now (sight self.now).names };
 
     /// The value of a key of the environment. The id of the execution has a key of its own.

@@ -23,6 +23,7 @@ use crate::operators::operate;
 use crate::short::short;
 use std::alloc::Global;
 use wf_ast::{Func, Instr, Op, Postfix, code_means};
+use wf_name::Name;
 use wf_value::{Raise, Tag, Value, neg};
 
 /// The value of the expression whose code this is, or its first error.
@@ -73,7 +74,7 @@ fn step<K: Look>(
 {
     match i {
         Instr::Push(v) => settle(stack, copied(alloc, v)),
-        Instr::Load(x) => settle(stack, named(alloc, look, x.as_str())),
+        Instr::Load(x) => settle(stack, named(alloc, look, x)),
         Instr::Negate => negate(stack),
         Instr::Invert => invert(stack),
         Instr::Combine(op) => combine(alloc, stack, *op),
@@ -88,7 +89,7 @@ fn step<K: Look>(
 
 /// The value of a visible name.
 #[inline(always)]
-fn named<K: Look>(alloc: Global, look: &K, name: &str) -> Result<Value, Raise>
+fn named<K: Look>(alloc: Global, look: &K, name: &Name) -> Result<Value, Raise>
     ensures { Gives result (or_error KeyError ((seen (K.sight look.now) 0).look name.now)) }
 {
     match look.look(name) {

@@ -60,7 +60,7 @@ fn operand<'a, K: Look>(i: &'a Instr, look: &'a K) -> Option<&'a Value>
 {
     let value = match i {
         Instr::Push(v) => v,
-        Instr::Load(x) => look.look(x.as_str())?,
+        Instr::Load(x) => look.look(x)?,
         _ => return None,
     };
     if is_kept(value) { Some(value) } else { None }

@@ -7,13 +7,14 @@ ghost use Rattle.wf_value.specs.Plain.{plain};
 
 use std::alloc::Global;
 use wf_ast::Param;
-use wf_value::{Map, OutOfMemory, Text, Value};
+use wf_name::Name;
+use wf_value::{Map, OutOfMemory, Value};
 
 /// Names and the values that they are bound to, in their order.
 #[derive(Drop)]
 pub struct Bindings {
     // the first at the end
-    items: Vec<(Text, Value)>,
+    items: Vec<(Name, Value)>,
 }
 
 impl Bindings {
@@ -53,7 +54,7 @@ impl Bindings {
 
     /// Puts one before all others.
     #[tactic(auto, using(crate::proofs::Reversed::bindings_put))]
-    pub fn put_first(&mut self, name: Text, value: Value) -> Result<(), OutOfMemory>
+    pub fn put_first(&mut self, name: Name, value: Value) -> Result<(), OutOfMemory>
         ensures { OnOk result (bindings_of self.new ≡ (name, plain value) ∷ bindings_of self.old) }
     {
         self.items.push((name, value))?;
@@ -62,7 +63,7 @@ impl Bindings {
 
     /// Takes the first.
     #[tactic(auto, using(crate::proofs::Reversed::bindings_taken))]
-    pub(crate) fn take_first(&mut self) -> Option<(Text, Value)>
+    pub(crate) fn take_first(&mut self) -> Option<(Name, Value)>
         ensures first { IfSome result (λ x. bindings_of self.old
             ≡ (x.0, plain x.1) ∷ bindings_of self.new) }
         ensures none { IfNone result (bindings_of self.old ≡ []) }

@@ -11,8 +11,9 @@ ghost use Rattle.wf_value.specs.Plain.{plain};
 
 use crate::bindings::Bindings;
 use crate::frames::Frames;
+use wf_name::Name;
 use wf_scope::{AssignFault, Chain, Scopes};
-use wf_value::{OutOfMemory, Text, Value};
+use wf_value::{OutOfMemory, Value};
 
 /// A layer of a loop's names begins inside the task's own, and its number is given; none where the variables would pass their limit. The
 /// names are the value's and, if there is one, that of the index, which is at most the greatest whole number.
@@ -20,9 +21,9 @@ use wf_value::{OutOfMemory, Text, Value};
 pub fn enter(
     frames: &Frames,
     scopes: &mut Scopes,
-    name: &Text,
+    name: &Name,
     value: Value,
-    index: &Option<Text>,
+    index: &Option<Name>,
     at: u64,
 ) -> Result<Option<u64>, OutOfMemory>
     ghost around: { Around }
@@ -113,9 +114,9 @@ fn refuse(scopes: &mut Scopes, layer: Chain, fault: AssignFault) -> Result<(), O
 fn bind_names(
     scopes: &mut Scopes,
     layer: Chain,
-    name: &Text,
+    name: &Name,
     value: Value,
-    index: &Option<Text>,
+    index: &Option<Name>,
     at: u64,
 ) -> Result<(), AssignFault>
     requires live { IsLive layer.number (layers_of scopes.old) }

@@ -6,6 +6,7 @@ ghost use Rattle.wf_scope.specs.Store.{layers_of};
 
 use crate::facts::Facts;
 use wf_eval::Look;
+use wf_name::Name;
 use wf_scope::{Chain, Scopes};
 use wf_value::{Text, Value};
 
@@ -27,7 +28,7 @@ impl Look for Seen<'_> {
     ghost sight = { λ s. sight_from s.scopes.now s.layer.number s.facts.now };
 
     #[inline(always)]
-    fn look(&self, name: &str) -> Option<&Value> {
+    fn look(&self, name: &Name) -> Option<&Value> {
         self.scopes.look(self.layer, name)
     }
 

@@ -9,8 +9,9 @@ ghost use Rattle.wf_value.specs.Plain.{plain, plain_items};
 use crate::frames::Frames;
 use crate::places::{fault_of, keys_of};
 use std::alloc::Global;
+use wf_name::Name;
 use wf_scope::{Key, Scopes};
-use wf_value::{OutOfMemory, Raise, Tag, Text, Value};
+use wf_value::{OutOfMemory, Raise, Tag, Value};
 
 /// A value is assigned to a name, or to the places below it, each of which is a key of a map or an index of a list: where the task sees
 /// the name, and else in its innermost layer. It gives the tag of the error where the assignment is refused, and then all stays.
@@ -19,7 +20,7 @@ pub fn assign(
     alloc: Global,
     frames: &Frames,
     scopes: &mut Scopes,
-    name: &Text,
+    name: &Name,
     places: &[Value],
     value: Value,
 ) -> Result<Option<Tag>, OutOfMemory>
@@ -35,7 +36,7 @@ pub fn assign(
     }
     match keys_of(alloc, places)? {
         Some(keys) => put(frames, scopes, name, keys.as_slice(), value),
-        None => Ok(Some(fault_of(scopes.look(frames.layer(), name.as_str()), places))),
+        None => Ok(Some(fault_of(scopes.look(frames.layer(), name), places))),
     }
 }
 
@@ -44,7 +45,7 @@ pub fn assign(
 pub fn assign_name(
     frames: &Frames,
     scopes: &mut Scopes,
-    name: &Text,
+    name: &Name,
     value: Value,
 ) -> Result<Option<Tag>, OutOfMemory>
     ghost around: { Around }
@@ -62,7 +63,7 @@ pub fn assign_name(
 fn put(
     frames: &Frames,
     scopes: &mut Scopes,
-    name: &Text,
+    name: &Name,
     path: &[Key],
     value: Value,
 ) -> Result<Option<Tag>, OutOfMemory>

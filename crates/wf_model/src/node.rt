@@ -7,6 +7,7 @@ ghost use Rattle.wf_model.specs.Table.{handler_list, kind_list, side_list};
 use crate::codes::Codes;
 use crate::shape::{NamedShapes, Shape};
 use wf_ast::{Params, Policy, Texts};
+use wf_name::Name;
 use wf_value::Text;
 
 /// Where a `next` leads: how many of the lists of steps that it may reach stay open, and the step that is next.
@@ -41,8 +42,8 @@ pub enum OverShape {
 /// A loop.
 #[derive(Drop)]
 pub struct LoopNode {
-    pub value: Text,
-    pub index: Option<Text>,
+    pub value: Name,
+    pub index: Option<Name>,
     pub over: OverShape,
     pub block: Block,
 }
@@ -52,13 +53,13 @@ pub struct LoopNode {
 pub struct CallNode {
     pub name: Text,
     pub args: NamedShapes,
-    pub result: Option<Text>,
+    pub result: Option<Name>,
 }
 
 /// The steps that take an error, and the variable that holds it.
 #[derive(Drop)]
 pub struct ExceptNode {
-    pub name: Text,
+    pub name: Name,
     pub block: Block,
 }
 
@@ -89,7 +90,7 @@ pub struct ParallelNode {
 /// of the node's codes are those of the places.
 #[derive(Drop)]
 pub struct EntryNode {
-    pub name: Text,
+    pub name: Name,
     pub places: u32,
     pub text: Text,
     pub value: Shape,

@@ -20,15 +20,16 @@ use wf_frames::{
     Assigned, Facts, Frames, assign as put, assign_name as put_name, evaluate, evaluate_value, seen,
 };
 use wf_model::{EntryNode, Node, NodeKind};
+use wf_name::Name;
 use wf_scope::Scopes;
-use wf_value::{OutOfMemory, Text, Value};
+use wf_value::{OutOfMemory, Value};
 
 /// The task goes on behind an assignment to a name alone, or its error goes outward.
 #[inline(always)]
 pub(crate) fn store_value(
     alloc: Global,
     nodes: &[Node],
-    name: &Text,
+    name: &Name,
     value: Value,
     frames: &mut Frames,
     scopes: &mut Scopes,
@@ -54,7 +55,7 @@ pub(crate) fn store_value(
 fn store(
     alloc: Global,
     nodes: &[Node],
-    name: &Text,
+    name: &Name,
     assigned: Assigned,
     frames: &mut Frames,
     scopes: &mut Scopes,

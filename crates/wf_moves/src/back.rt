@@ -23,8 +23,9 @@ use crate::raising::raises_tag;
 use std::alloc::Global;
 use wf_frames::{Frame, Frames, leave};
 use wf_model::{Node, NodeKind};
+use wf_name::Name;
 use wf_scope::Scopes;
-use wf_value::{OutOfMemory, Tag, Text, Value};
+use wf_value::{OutOfMemory, Tag, Value};
 
 /// The frames inside the innermost call are left, or all.
 fn leave_to_back(frames: &mut Frames, scopes: &mut Scopes)
@@ -82,7 +83,7 @@ fn says(alloc: Global, value: &Value) -> Result<Went, OutOfMemory>
 }
 
 /// The variable that takes what a call gives.
-fn result_of(nodes: &[Node], call: Option<u32>) -> Option<&Text>
+fn result_of(nodes: &[Node], call: Option<u32>) -> Option<&Name>
     ghost ns: { List Spot }
     requires tells { Tells ns nodes.now }
     requires call { IsCallOf nodes.now call }

@@ -2,6 +2,8 @@
 ghost use Rattle.std.specs.Prelude.{ℕ, ◌≡◌, ◌<◌, map, slice_index};
 ghost use Rattle.wf_scope.specs.Firsts.{class_of, shifted};
 
+use wf_name::Name;
+
 /// The greatest place that a hint tells.
 const FARTHEST: usize = 254;
 
@@ -73,12 +75,9 @@ fn shifted(hint: u8, place: u8) -> u8
 
 /// The class of a name.
 #[inline(always)]
-pub(crate) fn class_of(name: &str) -> usize
+pub(crate) fn class_of(name: &Name) -> usize
     ensures class { result ≡ class_of name.now }
     ensures within { result < 32 }
 {
-    match name.as_bytes().first() {
-        Some(first) => (*first % 32) as usize,
-        None => 0,
-    }
+    (name.first() % 32) as usize
 }

@@ -1,5 +1,5 @@
 // A layer of variables.
-ghost use Rattle.std.specs.Prelude.{[], IfOk, Some, map, true, ◌≡◌, ◌≢◌, ◌≤◌, ◌<◌, ◌+◌, ◌-◌, MatchBool, length, is_ok, if◌then◌else◌, option_map};
+ghost use Rattle.std.specs.Prelude.{[], IfOk, Some, map, true, ◌≡◌, ◌≤◌, ◌<◌, ◌+◌, ◌-◌, length, is_ok, if◌then◌else◌, option_map};
 ghost use Rattle.std.specs.List.Sorted.{IsStrictlySortedBy-prop};
 ghost use Rattle.std.specs.Map.{keys_of};
 ghost use Rattle.wf_scope.specs.Firsts.{Covers, Covers-prop, HasNone, class_of};
@@ -13,7 +13,8 @@ ghost use Rattle.wf_value.specs.declared.Value.TheVariants.{Int};
 use crate::firsts::Firsts;
 use crate::seek::seek;
 use std::alloc::Global;
-use wf_value::{OutOfMemory, Text, Value};
+use wf_name::Name;
+use wf_value::{OutOfMemory, Value};
 
 /// Most layers hold no more variables.
 const ROOM: usize = 8;
@@ -29,7 +30,7 @@ pub(crate) struct Layer {
     /// What its variables come to.
     pub(crate) counted: u64,
     pub(crate) firsts: Firsts,
-    pub(crate) vars: Vec<(Text, Option<Value>)>,
+    pub(crate) vars: Vec<(Name, Option<Value>)>,
     ghost order: { IsInOrder vars.items } by { IsStrictlySortedBy-prop key_cmp (keys_of vars.items) },
     ghost sum: { counted ≡ pairs_size (pairs_of (bound_of vars.items)) },
     ghost covering: { Covers firsts.hints vars.items } by { Covers-prop _ _ },
@@ -84,7 +85,7 @@ impl Layer {
 
     /// The value of a variable, whose name is of this class.
     #[inline(always)]
-    pub(crate) fn look(&self, class: usize, name: &str) -> Option<&Value>
+    pub(crate) fn look(&self, class: usize, name: &Name) -> Option<&Value>
         requires class { class ≡ class_of name.now }
         requires below { class < 32 }
         ensures { option_map (λ v. plain v.now) result
@@ -101,14 +102,14 @@ impl Layer {
     /// Where this name stands, and its value; where it isn't there, its place is where it belongs. The place below the hint is tried first,
     /// and a layer without names isn't searched.
     #[inline(always)]
-    pub(crate) fn find(&self, hint: u8, name: &str) -> (Result<usize, usize>, Option<&Value>)
+    pub(crate) fn find(&self, hint: u8, name: &Name) -> (Result<usize, usize>, Option<&Value>)
         ensures place { result.0 ≡ place_of name.now self.now.vars.items }
         ensures value { option_map (λ v. plain v.now) result.1
             ≡ value_at name.now (bound_of self.now.vars.items) }
     {
         if hint > 0 {
             let guess = (hint - 1) as usize;
-            if guess < self.vars.len() && is_same(self.vars[guess].0.as_str(), name) {
+            if guess < self.vars.len() && self.vars[guess].0.is(name) {
                 return (Ok(guess), self.vars[guess].1.as_ref());
             }
         } else if self.vars.is_empty() {
@@ -119,7 +120,7 @@ impl Layer {
 
     /// Where this name stands, and its value, by a search among all names; where it isn't there, its place is where it belongs.
     #[inline(never)]
-    fn search(&self, name: &str) -> (Result<usize, usize>, Option<&Value>)
+    fn search(&self, name: &Name) -> (Result<usize, usize>, Option<&Value>)
         ensures place { result.0 ≡ place_of name.now self.now.vars.items }
         ensures value { option_map (λ v. plain v.now) result.1
             ≡ value_at name.now (bound_of self.now.vars.items) }
@@ -137,7 +138,7 @@ impl Layer {
         &mut self,
         place: Result<usize, usize>,
         class: usize,
-        name: &Text,
+        name: &Name,
         value: Value,
         old: u64,
         new: u64,
@@ -162,7 +163,7 @@ impl Layer {
     /// Writes a whole number over another one, if this name stands for one where the hint tells, and answers whether it did. Otherwise the
     /// layer stays.
     #[inline(always)]
-    pub(crate) fn renew(&mut self, hint: u8, name: &str, n: i64) -> bool
+    pub(crate) fn renew(&mut self, hint: u8, name: &Name, n: i64) -> bool
         requires { 0 < hint }
         ensures after { layer_view self.new ≡ (if result
             then with_variable name.now (integer n) (layer_view self.old)
@@ -177,9 +178,9 @@ impl Layer {
 /// Gives the name at its place a value. Without memory all stays.
 #[inline(always)]
 fn put_named(
-    names: &mut Vec<(Text, Option<Value>)>,
+    names: &mut Vec<(Name, Option<Value>)>,
     place: Result<usize, usize>,
-    name: &Text,
+    name: &Name,
     value: Value,
 ) -> Result<(), OutOfMemory>
     requires { place ≡ place_of name.now names.old.items }
@@ -195,14 +196,14 @@ fn put_named(
 
 /// Writes a whole number over another one, if this name stands for one at this place, and answers whether it did. Otherwise all stays.
 #[inline(always)]
-fn put_whole(names: &mut Vec<(Text, Option<Value>)>, i: usize, name: &str, n: i64) -> bool
+fn put_whole(names: &mut Vec<(Name, Option<Value>)>, i: usize, name: &Name, n: i64) -> bool
     requires { IsInOrder names.old.items }
     ensures after { names.new.items ≡ (if result
         then with_value name.now (Some (Int n)) names.old.items else names.old.items) }
     ensures whole { result ≡ true
         → is_whole (value_at name.now (bound_of names.old.items)) ≡ true }
 {
-    if i < names.len() && is_whole(&names[i].1) && is_same(names[i].0.as_str(), name) {
+    if i < names.len() && is_whole(&names[i].1) && names[i].0.is(name) {
         names[i].1 = Some(Value::Int(n));
         return true;
     }
@@ -219,7 +220,7 @@ fn is_whole(value: &Option<Value>) -> bool
 
 /// Takes the values of all names away.
 #[inline(always)]
-fn clear_names(names: &mut Vec<(Text, Option<Value>)>)
+fn clear_names(names: &mut Vec<(Name, Option<Value>)>)
     ensures { names.new.items ≡ map unbound names.old.items }
 {
     let mut i = 0;
@@ -227,16 +228,4 @@ fn clear_names(names: &mut Vec<(Text, Option<Value>)>)
         names[i].1 = None;
         i += 1;
     }
-}
-
-/// Whether two names are the same. Those of one byte are compared here, without a call.
-#[inline(always)]
-fn is_same(a: &str, b: &str) -> bool
-    ensures { MatchBool result (a.now ≡ b.now) (a.now ≢ b.now) }
-{
-    let (x, y) = (a.as_bytes(), b.as_bytes());
-    if x.len() == 1 && y.len() == 1 {
-        return x[0] == y[0];
-    }
-    a == b
 }

@@ -10,7 +10,8 @@ ghost use Rattle.wf_scope.specs.Views.{are_straight, counted_in, views};
 use crate::layer::Layer;
 use crate::spot::Spot;
 use std::alloc::Global;
-use wf_value::{OutOfMemory, Text, Value};
+use wf_name::Name;
+use wf_value::{OutOfMemory, Value};
 
 /// A layer that ends is kept for the next one if it has no more names.
 const KEPT: usize = 16;
@@ -152,7 +153,7 @@ impl Layers {
     pub(crate) fn put(
         &mut self,
         spot: Spot,
-        name: &Text,
+        name: &Name,
         value: Value,
         counted: u64,
     ) -> Result<(), OutOfMemory>
@@ -171,7 +172,7 @@ impl Layers {
     /// Writes a whole number over another one in the layer at a place, if this name stands there for one where the hint tells, and answers
     /// whether it did. Otherwise all stays.
     #[inline(always)]
-    pub(crate) fn renew(&mut self, layer: usize, hint: u8, name: &str, n: i64) -> bool
+    pub(crate) fn renew(&mut self, layer: usize, hint: u8, name: &Name, n: i64) -> bool
         requires within { layer < length (views (live_in self.old)) }
         requires hint { 0 < hint }
         ensures after { views (live_in self.new) ≡ (if result

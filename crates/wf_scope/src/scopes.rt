@@ -16,7 +16,8 @@ use crate::layers::Layers;
 use crate::spot::Spot;
 use crate::written::written;
 use std::alloc::Global;
-use wf_value::{OutOfMemory, Text, Value};
+use wf_name::Name;
+use wf_value::{OutOfMemory, Value};
 
 /// The greatest nesting of a variable, as `Value::depth` counts.
 const NESTING_LIMIT: u32 = 100;
@@ -76,7 +77,7 @@ impl Scopes {
     /// The value of a variable: in the innermost of the layers that are seen which has the name; none where none has. The layer must be
     /// live.
     #[inline(always)]
-    pub fn look(&self, c: Chain, name: &str) -> Option<&Value>
+    pub fn look(&self, c: Chain, name: &Name) -> Option<&Value>
         requires { IsLive c.number (layers_of self.now) }
         ensures { option_map (λ v. plain v.now) result
             ≡ look_in name.now (chain c.number (layers_of self.now)) }
@@ -134,7 +135,7 @@ impl Scopes {
     /// The first of these causes that holds is told: `TooLarge` where the total would be above the limit, `TooDeep` where the value nests
     /// deeper than 100. Besides, memory may be wanting.
     #[inline(always)]
-    pub fn bind(&mut self, c: Chain, name: &Text, v: Value) -> Result<(), AssignFault>
+    pub fn bind(&mut self, c: Chain, name: &Name, v: Value) -> Result<(), AssignFault>
         requires { IsLive c.number (layers_of self.old) }
         ensures outcome { Answers result (layers_of self.new)
             (bound self.old.limit c.number name.now (plain v) (layers_of self.old)) }
@@ -143,8 +144,7 @@ impl Scopes {
         ensures stay { StayLive (layers_of self.old) (layers_of self.new) }
         ensures apart { StayInnermost (layers_of self.old) (layers_of self.new) }
     {
-        let key = name.as_str();
-        let (spot, _) = self.spot(c.number, key);
+        let (spot, _) = self.spot(c.number, name);
         self.bind_at(spot, name, v)
     }
 
@@ -158,7 +158,7 @@ impl Scopes {
     pub fn assign(
         &mut self,
         c: Chain,
-        name: &Text,
+        name: &Name,
         path: &[Key],
         v: Value,
     ) -> Result<(), AssignFault>
@@ -173,7 +173,7 @@ impl Scopes {
     {
         match path {
             [] => {
-                if self.renew(c.number, name.as_str(), &v) {
+                if self.renew(c.number, name, &v) {
                     return Ok(());
                 }
                 self.assign_alone(c, name, v)
@@ -184,7 +184,7 @@ impl Scopes {
 
     /// Assigns a value to a name alone.
     #[inline(always)]
-    fn assign_alone(&mut self, c: Chain, name: &Text, v: Value) -> Result<(), AssignFault>
+    fn assign_alone(&mut self, c: Chain, name: &Name, v: Value) -> Result<(), AssignFault>
         requires { IsLive c.number (layers_of self.old) }
         ensures outcome { Answers result (layers_of self.new)
             (assigned self.old.limit c.number name.now [] (plain v) (layers_of self.old)) }
@@ -193,15 +193,14 @@ impl Scopes {
         ensures stay { StayLive (layers_of self.old) (layers_of self.new) }
         ensures apart { StayInnermost (layers_of self.old) (layers_of self.new) }
     {
-        let key = name.as_str();
-        let (spot, _) = self.target(c.number, key);
+        let (spot, _) = self.target(c.number, name);
         self.bind_at(spot, name, v)
     }
 
     /// Assigns a whole number to a name that stands for one, if the first hint on the way outward leads to it, and answers whether it did.
     /// Neither what variables come to nor their nesting changes by it. Otherwise all stays.
     #[inline(always)]
-    fn renew(&mut self, number: u64, name: &str, v: &Value) -> bool
+    fn renew(&mut self, number: u64, name: &Name, v: &Value) -> bool
         requires { IsLive number (layers_of self.old) }
         ensures outcome { result ≡ true
             → assigned self.old.limit number name.now [] (plain v.now) (layers_of self.old)
@@ -225,7 +224,7 @@ impl Scopes {
     fn assign_below(
         &mut self,
         c: Chain,
-        name: &Text,
+        name: &Name,
         path: &[Key],
         v: Value,
     ) -> Result<(), AssignFault>
@@ -239,8 +238,7 @@ impl Scopes {
         ensures stay { StayLive (layers_of self.old) (layers_of self.new) }
         ensures apart { StayInnermost (layers_of self.old) (layers_of self.new) }
     {
-        let key = name.as_str();
-        let (spot, old) = self.target(c.number, key);
+        let (spot, old) = self.target(c.number, name);
         let Some(old) = old else {
             return Err(AssignFault::MissingKey);
         };
@@ -283,7 +281,7 @@ impl Scopes {
     }
 
     #[inline(always)]
-    fn look_from(&self, number: u64, name: &str) -> Option<&Value>
+    fn look_from(&self, number: u64, name: &Name) -> Option<&Value>
         requires { IsLive number (layers_of self.now) }
         ensures { option_map (λ v. plain v.now) result
             ≡ look_in name.now (chain number (layers_of self.now)) }
@@ -305,7 +303,7 @@ impl Scopes {
 
     /// The place of the innermost layer that has a hint for a name, of those that are seen, and the hint; none where none has one.
     #[inline(always)]
-    fn nearest(&self, number: u64, name: &str) -> Option<(usize, u8)>
+    fn nearest(&self, number: u64, name: &Name) -> Option<(usize, u8)>
         requires { IsLive number (layers_of self.now) }
         ensures { IfSome result (λ r. IsNearest r.0 name.now number (layers_of self.now)
             × (0 < r.1)) }
@@ -328,7 +326,7 @@ impl Scopes {
 
     /// The variable of this name in a layer, and its value.
     #[inline(always)]
-    fn spot(&self, number: u64, name: &str) -> (Spot, Option<&Value>)
+    fn spot(&self, number: u64, name: &Name) -> (Spot, Option<&Value>)
         requires { IsLive number (layers_of self.now) }
         ensures number { result.0.number ≡ number }
         ensures spot { IsSpot result.0 name.now (live_in self.now.layers) }
@@ -340,7 +338,7 @@ impl Scopes {
 
     /// The variable of this name in the layer at a place, and its value.
     #[inline(always)]
-    fn spot_at(&self, number: u64, layer: usize, class: usize, name: &str) -> (Spot, Option<&Value>)
+    fn spot_at(&self, number: u64, layer: usize, class: usize, name: &Name) -> (Spot, Option<&Value>)
         requires within { layer < length (layers_of self.now) }
         requires found { slice_get (layers_of self.now) layer ≡ find number (layers_of self.now) }
         requires class { class ≡ class_of name.now }
@@ -369,7 +367,7 @@ impl Scopes {
     /// The variable of this name in the innermost layer that has it, of those that are seen, and its value; where none has it, its spot in
     /// the layer itself.
     #[inline(always)]
-    fn target(&self, number: u64, name: &str) -> (Spot, Option<&Value>)
+    fn target(&self, number: u64, name: &Name) -> (Spot, Option<&Value>)
         requires { IsLive number (layers_of self.now) }
         ensures holder { option_map (λ v. result.0.number) result.1
             ≡ holder_in name.now (chain number (layers_of self.now)) }
@@ -410,7 +408,7 @@ impl Scopes {
 
     /// Makes or changes a variable.
     #[inline(always)]
-    fn bind_at(&mut self, spot: Spot, name: &Text, v: Value) -> Result<(), AssignFault>
+    fn bind_at(&mut self, spot: Spot, name: &Name, v: Value) -> Result<(), AssignFault>
         requires live { IsLive spot.number (layers_of self.old) }
         requires spot { IsSpot spot name.now (live_in self.old.layers) }
         ensures outcome { Answers result (layers_of self.new)
@@ -420,7 +418,7 @@ impl Scopes {
         ensures stay { StayLive (layers_of self.old) (layers_of self.new) }
         ensures apart { StayInnermost (layers_of self.old) (layers_of self.new) }
     {
-        let counted = size_of_variable(name.as_str(), &v);
+        let counted = size_of_variable(name, &v);
         let rest = self.total - spot.counted;
         let total = rest.saturating_add(counted);
         if total > self.limit {
@@ -475,11 +473,11 @@ impl Scopes {
 
 /// What a variable counts: 2, the bytes of its name and the size of its value.
 #[inline(always)]
-fn size_of_variable(name: &str, value: &Value) -> u64
+fn size_of_variable(name: &Name, value: &Value) -> u64
     ensures { result ≡ min (2 + length name.now + size (plain value.now)) 18446744073709551615 }
 {
     value
         .size()
         .saturating_add(2)
-        .saturating_add(name.len() as u64)
+        .saturating_add(name.as_str().len() as u64)
 }

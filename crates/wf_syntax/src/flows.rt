@@ -17,6 +17,7 @@ use crate::stop::Stop;
 use crate::words::owned;
 use std::alloc::Global;
 use wf_ast::{Flow, Flows, Param, Params, Program};
+use wf_name::Name;
 use wf_syntax_rules::SyntaxKind;
 use wf_syntax_words::{field, has, is_name, single};
 use wf_tree::{Tree, TreeMap};
@@ -38,7 +39,7 @@ fn param(alloc: Global, tree: &Tree) -> Result<Param, Stop>
     }
     match literal(alloc, tree) {
         Ok(default) => Ok(Param {
-            name: owned(alloc, name)?,
+            name: Name::new(alloc, name)?,
             default: Some(default),
         }),
         Err(stop) => Err(stop.at_key(alloc, name)),
@@ -52,7 +53,7 @@ fn bare_param(alloc: Global, name: &str) -> Result<Param, Stop>
 {
     if is_name(name) {
         Ok(Param {
-            name: owned(alloc, name)?,
+            name: Name::new(alloc, name)?,
             default: None,
         })
     } else {
@@ -112,7 +113,7 @@ fn flow(alloc: Global, name: &str, tree: &Tree) -> Result<Flow, Stop>
     let params = params_at(alloc, fields, "params")?;
     match steps_at(alloc, fields, "steps")? {
         Some(steps) => Ok(Flow {
-            name: owned(alloc, name)?,
+            name: Name::new(alloc, name)?,
             params,
             steps,
         }),

@@ -18,6 +18,7 @@ use wf_model::{
     Block, CallNode, Codes, ExceptNode, FlowNode, LoopNode, Node, NodeKind, OverShape,
     ParallelNode, TryNode, WorkNode, named_of, shape_of,
 };
+use wf_name::Name;
 use wf_value::{OutOfMemory, Text};
 
 /// The nodes of workflows, and the workflows' numbers.
@@ -189,8 +190,8 @@ fn loop_node(
         (loop_for number (loop_view repeated.now))
         × Adds nodes.old.items nodes.new.items (loop_spots (loop_view repeated.now) number)) }
 {
-    let value = repeated.value.copy()?;
-    let index = copies::text(&repeated.index)?;
+    let value = Name::of(repeated.value.copy()?);
+    let index = copies::name(&repeated.index)?;
     let over = over(alloc, &repeated.over, codes)?;
     let block = block(alloc, nodes, Here::alone(number), &repeated.steps)?;
     Ok(LoopNode {
@@ -319,7 +320,7 @@ fn handler(
     match except {
         None => Ok(None),
         Some(handler) => {
-            let name = handler.name.copy()?;
+            let name = Name::of(handler.name.copy()?);
             let block = block(alloc, nodes, inner, &handler.steps)?;
             Ok(Some(ExceptNode { name, block }))
         }
@@ -350,6 +351,6 @@ fn call_node(alloc: Global, call: &CallBody, codes: &mut Codes) -> Result<CallNo
     Ok(CallNode {
         name: call.name.copy()?,
         args,
-        result: copies::text(&call.result)?,
+        result: copies::name(&call.result)?,
     })
 }

@@ -4,6 +4,7 @@ ghost use Rattle.wf_ast.specs.View.{param_view, params_view, policy_option_view,
 
 use std::alloc::Global;
 use wf_ast::{Param, Params, Policy, Predicate, Texts};
+use wf_name::Name;
 use wf_value::{OutOfMemory, Text};
 
 /// A text that may be absent.
@@ -13,6 +14,16 @@ pub(crate) fn text(from: &Option<Text>) -> Result<Option<Text>, OutOfMemory>
     match from {
         None => Ok(None),
         Some(x) => Ok(Some(x.copy()?)),
+    }
+}
+
+/// A name that may be absent.
+pub(crate) fn name(from: &Option<Text>) -> Result<Option<Name>, OutOfMemory>
+    ensures { IfOk result (λ copy. copy ≡ from.now) }
+{
+    match from {
+        None => Ok(None),
+        Some(x) => Ok(Some(Name::of(x.copy()?))),
     }
 }
 

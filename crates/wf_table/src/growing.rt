@@ -12,6 +12,7 @@ use std::alloc::Global;
 use wf_ast::{Entry, Expr, Template};
 use wf_model::grow::{add, push};
 use wf_model::{Codes, EntryNode, Node, NodeKind, shape_of};
+use wf_name::Name;
 use wf_value::{OutOfMemory, Text};
 
 /// A place at the end, for a node that is put there when its parts are.
@@ -108,7 +109,7 @@ fn entry_form(alloc: Global, entry: &Entry, codes: &mut Codes) -> Result<EntryNo
     let places = places(alloc, entry.target.places.items(), codes)?;
     let value = shape_of(alloc, &entry.value, codes)?;
     Ok(EntryNode {
-        name: entry.target.name.copy()?,
+        name: Name::of(entry.target.name.copy()?),
         places,
         text: entry.target.text.copy()?,
         value,

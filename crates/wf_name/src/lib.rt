@@ -1,0 +1,6 @@
+//! Names of variables.
+#![tactic(auto)]
+
+mod name;
+
+pub use name::Name;
