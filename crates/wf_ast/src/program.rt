@@ -5,13 +5,12 @@ ghost use Rattle.wf_ast.specs.View.{flow_list, flow_view, flows_view, param_list
 use crate::body::StepList;
 use crate::grow::add;
 use std::alloc::Global;
-use wf_name::Name;
 use wf_value::{OutOfMemory, Text, Value};
 
 /// A parameter of a workflow, with its default where it has one.
 #[derive(Drop)]
 pub struct Param {
-    pub name: Name,
+    pub name: Text,
     pub default: Option<Value>,
 }
 

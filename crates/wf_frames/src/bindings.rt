@@ -47,7 +47,7 @@ impl Bindings {
             let Some(value) = found else {
                 return Ok(None);
             };
-            bindings.put_first(param.name.copy()?, value)?;
+            bindings.put_first(Name::of(param.name.copy()?), value)?;
         }
         Ok(Some(bindings))
     }

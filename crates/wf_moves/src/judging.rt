@@ -27,6 +27,7 @@ use wf_ast::{Param, Policy, Predicate, boxed};
 use wf_frames::{
     Bindings, Frame, Frames, Judging, Target, Trying, body_frame, enter_call, map_of, try_node,
 };
+use wf_name::Name;
 use wf_model::Node;
 use wf_retry::{default_says, next_delay};
 use wf_scope::Scopes;
@@ -142,7 +143,7 @@ fn with_error(alloc: Global, param: &Param, error: &Value) -> Result<Bindings, O
     ensures { IfOk result (λ b. bindings_of b ≡ (param.now.name, plain error.now) ∷ []) }
 {
     let mut bindings = Bindings::new(alloc);
-    bindings.put_first(param.name.copy()?, error.copy(alloc)?)?;
+    bindings.put_first(Name::of(param.name.copy()?), error.copy(alloc)?)?;
     Ok(bindings)
 }
 

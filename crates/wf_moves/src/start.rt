@@ -13,6 +13,7 @@ ghost use Rattle.wf_value.specs.Plain.{plain};
 
 use wf_ast::Param;
 use wf_model::{Node, NodeKind};
+use wf_name::Name;
 use wf_scope::{Chain, Scopes};
 use wf_value::{OutOfMemory, Value};
 
@@ -44,10 +45,13 @@ fn bind_argument(
 {
     match params {
         [] => Ok(()),
-        [first, ..] => match scopes.bind(layer, &first.name, argument) {
-            Ok(()) => Ok(()),
-            Err(_) => Err(OutOfMemory),
-        },
+        [first, ..] => {
+            let name = Name::of(first.name.copy()?);
+            match scopes.bind(layer, &name, argument) {
+                Ok(()) => Ok(()),
+                Err(_) => Err(OutOfMemory),
+            }
+        }
     }
 }
 

@@ -17,7 +17,6 @@ use crate::stop::Stop;
 use crate::words::owned;
 use std::alloc::Global;
 use wf_ast::{Flow, Flows, Param, Params, Program};
-use wf_name::Name;
 use wf_syntax_rules::SyntaxKind;
 use wf_syntax_words::{field, has, is_name, single};
 use wf_tree::{Tree, TreeMap};
@@ -39,7 +38,7 @@ fn param(alloc: Global, tree: &Tree) -> Result<Param, Stop>
     }
     match literal(alloc, tree) {
         Ok(default) => Ok(Param {
-            name: Name::new(alloc, name)?,
+            name: owned(alloc, name)?,
             default: Some(default),
         }),
         Err(stop) => Err(stop.at_key(alloc, name)),
@@ -53,7 +52,7 @@ fn bare_param(alloc: Global, name: &str) -> Result<Param, Stop>
 {
     if is_name(name) {
         Ok(Param {
-            name: Name::new(alloc, name)?,
+            name: owned(alloc, name)?,
             default: None,
         })
     } else {
@@ -113,7 +112,7 @@ fn flow(alloc: Global, name: &str, tree: &Tree) -> Result<Flow, Stop>
     let params = params_at(alloc, fields, "params")?;
     match steps_at(alloc, fields, "steps")? {
         Some(steps) => Ok(Flow {
-            name: Name::new(alloc, name)?,
+            name: owned(alloc, name)?,
             params,
             steps,
         }),
