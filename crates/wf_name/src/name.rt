@@ -1,32 +1,25 @@
 // Names, and the marks by which they are told apart.
 ghost use Rattle.std.specs.Prelude.{◌≡◌, ◌≢◌, IfOk, MatchBool};
-ghost use Rattle.wf_name.specs.Marks.{first_of, mark_of};
+ghost use Rattle.wf_name.specs.Marks.{first_of};
 
 use std::alloc::Global;
 use std::marker::Model;
 use wf_value::{OutOfMemory, Text};
-
-/// The least mark of a name that is longer than what a mark holds.
-const LONG: u64 = 8 << 56;
 
 /// The name of a variable, which contracts see as its bytes. Copies share the bytes.
 ///
 /// Beside its text stands a mark of its length and of its first seven bytes. So names of up to seven bytes are compared by a number each.
 #[derive(Drop)]
 pub struct Name {
-    mark: u64,
     text: Text,
 }
 
 impl Model for Name {
     ghost use Rattle.std.specs.Prelude.{List, ℕ};
-    ghost use Rattle.wf_name.specs.Marks.{AreBytes, mark_of};
 
     ghost Value = { List ℕ };
 
     ghost view = { λ a. a.text };
-
-    ghost invariant = { λ a. (a.mark ≡ mark_of a.text) × AreBytes a.text };
 }
 
 impl Name {
@@ -41,10 +34,7 @@ impl Name {
     pub fn of(text: Text) -> Name
         ensures { result ≡ text }
     {
-        Name {
-            mark: mark_of(text.as_str().as_bytes()),
-            text,
-        }
+        Name { text }
     }
 
     /// The characters.
@@ -60,7 +50,6 @@ impl Name {
         ensures { IfOk result (λ n. n ≡ self.now) }
     {
         Ok(Name {
-            mark: self.mark,
             text: self.text.copy()?,
         })
     }
@@ -70,7 +59,10 @@ impl Name {
     pub fn first(&self) -> u8
         ensures { result ≡ first_of self.now }
     {
-        (self.mark % 256) as u8
+        match self.as_str().as_bytes().first() {
+            Some(first) => *first,
+            None => 0,
+        }
     }
 
     /// Whether two names are the same.
@@ -78,20 +70,6 @@ impl Name {
     pub fn is(&self, other: &Name) -> bool
         ensures { MatchBool result (self.now ≡ other.now) (self.now ≢ other.now) }
     {
-        self.mark == other.mark && (self.mark < LONG || self.as_str() == other.as_str())
+        self.as_str() == other.as_str()
     }
-}
-
-/// The mark of a name: its first seven bytes as the digits of a number, the first one as the last digit, and behind them its length, at most 8.
-fn mark_of(name: &[u8]) -> u64
-    ensures { result ≡ mark_of name.now }
-{
-    let mut mark = name.len().min(8) as u64;
-    let mut at = 7;
-    while at > 0 {
-        at -= 1;
-        let byte = if at < name.len() { name[at] } else { 0 };
-        mark = mark * 256 + byte as u64;
-    }
-    mark
 }
