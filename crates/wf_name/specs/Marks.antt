@@ -3,7 +3,7 @@
 --     digits                so many bytes of a name from the first on as the digits of a number, the first one as the last digit
 --     mark_of               the mark of a name
 --     AreBytes              each is a byte
-use Rattle.std.specs.Prelude.{◌+◌, ◌*◌, ◌<◌, ×, ℕ, suc, List, [], ◌∷◌, Unit, length, min}
+use Rattle.std.specs.Prelude.{◌+◌, ◌*◌, ◌<◌, ℕ, zero, suc, List, [], ◌∷◌, length, min}
 
 abbrev pub first_of : List ℕ → ℕ
 first_of [] = 0
@@ -11,7 +11,7 @@ first_of (b ∷ bs) = b
 
 -- with `more` above them
 abbrev pub digits : ℕ → List ℕ → ℕ → ℕ
-digits 0 bs more = more
+digits zero bs more = more
 digits (suc n) [] more = digits n [] more * 256
 digits (suc n) (b ∷ bs) more = digits n bs more * 256 + b
 

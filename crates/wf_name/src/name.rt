@@ -1,6 +1,6 @@
 // Names, and the marks by which they are told apart.
-ghost use Rattle.std.specs.Prelude.{◌≡◌, ◌≢◌, IfOk, MatchBool};
-ghost use Rattle.wf_name.specs.Marks.{first_of, mark_of};
+ghost use Rattle.std.specs.Prelude.{◌≡◌, ◌≢◌, IfOk, MatchBool, slice_index};
+ghost use Rattle.wf_name.specs.Marks.{AreBytes, first_of, mark_of};
 
 use std::alloc::Global;
 use std::marker::Model;
@@ -19,7 +19,7 @@ pub struct Name {
 }
 
 impl Model for Name {
-    ghost use Rattle.std.specs.Prelude.{List, ℕ};
+    ghost use Rattle.std.specs.Prelude.{List, ℕ, ◌≡◌};
     ghost use Rattle.wf_name.specs.Marks.{AreBytes, mark_of};
 
     ghost Value = { List ℕ };
@@ -84,14 +84,21 @@ impl Name {
 
 /// The mark of a name: its first seven bytes as the digits of a number, the first one as the last digit, and behind them its length, at most 8.
 fn mark_of(name: &[u8]) -> u64
-    ensures { result ≡ mark_of name.now }
+    ensures mark { result ≡ mark_of name.now }
+    ensures bytes { AreBytes name.now }
 {
     let mut mark = name.len().min(8) as u64;
     let mut at = 7;
     while at > 0 {
         at -= 1;
-        let byte = if at < name.len() { name[at] } else { 0 };
-        mark = mark * 256 + byte as u64;
+        mark = mark * 256 + byte_at(name, at) as u64;
     }
     mark
+}
+
+/// The byte at a place; 0 behind the last one.
+fn byte_at(name: &[u8], at: usize) -> u8
+    ensures { result ≡ slice_index name.now at }
+{
+    if at < name.len() { name[at] } else { 0 }
 }
