@@ -1,25 +1,32 @@
 // Names, and the marks by which they are told apart.
-ghost use Rattle.std.specs.Prelude.{◌≡◌, ◌≢◌, IfOk, MatchBool};
-ghost use Rattle.wf_name.specs.Marks.{first_of};
+ghost use Rattle.std.specs.Prelude.{◌≡◌, ◌≢◌, IfOk, MatchBool, slice_index};
+ghost use Rattle.wf_name.specs.Marks.{AreBytes, first_of, mark_of};
 
 use std::alloc::Global;
 use std::marker::Model;
 use wf_value::{OutOfMemory, Text};
+
+/// The least mark of a name that is longer than what a mark holds.
+const LONG: u64 = 8 << 56;
 
 /// The name of a variable, which contracts see as its bytes. Copies share the bytes.
 ///
 /// Beside its text stands a mark of its length and of its first seven bytes. So names of up to seven bytes are compared by a number each.
 #[derive(Drop)]
 pub struct Name {
+    mark: u64,
     text: Text,
 }
 
 impl Model for Name {
-    ghost use Rattle.std.specs.Prelude.{List, ℕ};
+    ghost use Rattle.std.specs.Prelude.{List, ℕ, ◌≡◌};
+    ghost use Rattle.wf_name.specs.Marks.{AreBytes, mark_of};
 
     ghost Value = { List ℕ };
 
     ghost view = { λ a. a.text };
+
+    ghost invariant = { λ a. (a.mark ≡ mark_of a.text) × AreBytes a.text };
 }
 
 impl Name {
@@ -34,7 +41,10 @@ impl Name {
     pub fn of(text: Text) -> Name
         ensures { result ≡ text }
     {
-        Name { text }
+        Name {
+            mark: mark_of(text.as_str().as_bytes()),
+            text,
+        }
     }
 
     /// The characters.
@@ -50,6 +60,7 @@ impl Name {
         ensures { IfOk result (λ n. n ≡ self.now) }
     {
         Ok(Name {
+            mark: self.mark,
             text: self.text.copy()?,
         })
     }
@@ -59,10 +70,7 @@ impl Name {
     pub fn first(&self) -> u8
         ensures { result ≡ first_of self.now }
     {
-        match self.as_str().as_bytes().first() {
-            Some(first) => *first,
-            None => 0,
-        }
+        (self.mark % 256) as u8
     }
 
     /// Whether two names are the same.
@@ -70,6 +78,27 @@ impl Name {
     pub fn is(&self, other: &Name) -> bool
         ensures { MatchBool result (self.now ≡ other.now) (self.now ≢ other.now) }
     {
-        self.as_str() == other.as_str()
+        self.mark == other.mark && (self.mark < LONG || self.as_str() == other.as_str())
     }
+}
+
+/// The mark of a name: its first seven bytes as the digits of a number, the first one as the last digit, and behind them its length, at most 8.
+fn mark_of(name: &[u8]) -> u64
+    ensures mark { result ≡ mark_of name.now }
+    ensures bytes { AreBytes name.now }
+{
+    let mut mark = name.len().min(8) as u64;
+    let mut at = 7;
+    while at > 0 {
+        at -= 1;
+        mark = mark * 256 + byte_at(name, at) as u64;
+    }
+    mark
+}
+
+/// The byte at a place; 0 behind the last one.
+fn byte_at(name: &[u8], at: usize) -> u8
+    ensures { result ≡ slice_index name.now at }
+{
+    if at < name.len() { name[at] } else { 0 }
 }
