@@ -2,7 +2,7 @@
 ghost use Rattle.std.specs.Prelude.{◌≡◌};
 ghost use Rattle.wf_model.specs.Shapes.{named_list, piece_list, shape_list};
 
-use wf_value::{Text, Value};
+use wf_value::{List, Text, Value};
 
 /// A part of a text that is joined from texts and expressions.
 #[derive(Drop)]
@@ -34,6 +34,8 @@ pub enum Shape {
     Hole(u32),
     Join(Pieces),
     List(Shapes),
+    /// A list of literals, kept as the value that it is.
+    Literals(List),
     Map(NamedShapes),
 }
 
@@ -42,7 +44,7 @@ impl Drop for Shape {
     #[cycle(shape)]
     fn drop(self) {
         match self {
-            Shape::Lit(_) | Shape::Hole(_) => {}
+            Shape::Lit(_) | Shape::Hole(_) | Shape::Literals(_) => {}
             Shape::Join(_) | Shape::List(_) | Shape::Map(_) => {}
         }
     }
