@@ -120,7 +120,9 @@ fn show_template(alloc: Global, out: &mut String, template: &Template) -> Result
                 show_part(alloc, out, part)?;
             }
         }
-        Template::List(_) | Template::Map(_) => return Err(CaseFault::NoCase),
+        Template::List(_) | Template::Literals(_) | Template::Map(_) => {
+            return Err(CaseFault::NoCase);
+        }
     }
     Ok(out.push_str("]")?)
 }

@@ -8,14 +8,15 @@ use Rattle.wf_ast.specs.Eval.{fill, fill_all, fill_fields}
 use Rattle.wf_ast.specs.Tree as t
 use Rattle.wf_ast.specs.Tree.{templates, fields}
 use Rattle.wf_ast.specs.View.{template_view, template_list, field_view, field_list}
-use Rattle.wf_ast.specs.declared.template.Template.{Template, Map}
+use Rattle.wf_ast.specs.declared.template.Template.{Template, Literals, Map}
 use Rattle.wf_ast.specs.declared.template.Template.TheViews as template
 use Rattle.wf_ast.specs.declared.template.Templates.{Templates}
 use Rattle.wf_ast.specs.declared.template.NamedTemplate.{NamedTemplate}
 use Rattle.wf_ast.specs.declared.template.NamedTemplates.{NamedTemplates}
+use Rattle.wf_ast.proofs.Literals.{fill_literals}
 use Rattle.wf_ast.proofs.Views.{view_list, view_map}
-use Rattle.wf_value.specs.Data.{Data, Items, no_items, item, Pairs, items_of}
-use Rattle.wf_value.specs.Errors.{Answer, ◌>>=◌}
+use Rattle.wf_value.specs.Data.{Data, list, Items, no_items, item, Pairs, items_of}
+use Rattle.wf_value.specs.Errors.{Answer, ◌>>=◌, kept}
 use Rattle.wf_value.specs.Pairs.{Text, put}
 use Rattle.wf_value.specs.Plain.{plain}
 use Rattle.wf_value.specs.declared.value.Value.{Value}
@@ -65,6 +66,10 @@ list_is x ts xs is seen = ap template_view is ∙ view_list ts ∙ ap (λ l. t.L
 
 pub list_filled : (s : View) (r : Result Value Raise) (made : Result (List Data) Raise) (x : Template) (ts : Templates) (xs : List Template) → x ≡ template.List ts → xs ≡ template_list ts → Answers items_of made (fill_all (templates (seq.map template_view xs)) s) → ((d : Answer Items) → Answers items_of made d → Gives r (kept_list d)) → Gives r (fill (template_view x) s)
 list_filled s r made x ts xs is seen h keeps = subst (λ (y : t.Template). Gives r (fill y s)) (sym (list_is x ts xs is seen)) (keeps _ h)
+
+-- a list of literals is the value that it gives
+pub literals_filled : (s : View) (r : Result Value Raise) (x : Template) (ds vs : List Data) → x ≡ Literals ds → vs ≡ ds → Gives r (kept (list (items_of vs))) → Gives r (fill (template_view x) s)
+literals_filled s r x ds vs is same h = subst (λ (d : Answer Data). Gives r d) (ap (λ l. kept (list (items_of l))) same ∙ sym (ap (λ y. fill (template_view y) s) is ∙ fill_literals ds s)) h
 
 -- the list with one more item
 item_put : (m : Answer Items) (d : Data) (old new : List Data) → new ≡ old ++ d ∷ [] → ((m >>= λ vs. Ok (item d vs)) >>= λ vs. Ok (onto old vs)) ≡ (m >>= λ vs. Ok (onto new vs))

@@ -29,6 +29,7 @@ pub fn fill<K: Look>(alloc: Global, t: &Template, look: &K, now: u64) -> Result<
         Template::Expr(e) => evaluate(alloc, e, look, now),
         Template::Join(parts) => keep(Value::Text(joined(alloc, parts.items(), look, now)?)),
         Template::List(ts) => keep_list(fill_all(alloc, ts.items(), look, now)),
+        Template::Literals(list) => keep(Value::List(list.copy()?)),
         Template::Map(fs) => keep_map(alloc, fill_fields(alloc, fs.items(), look, now)),
     }
 }

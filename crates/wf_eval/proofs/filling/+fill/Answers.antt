@@ -6,7 +6,7 @@ use Rattle.wf_value.specs.Data.{Data, items_of}
 use Rattle.wf_value.specs.declared.errors.Raise.{Raise}
 use Rattle.wf_eval.specs.Answers.{Answers}
 use Rattle.wf_eval.specs.Sight.{seen}
-use Rattle.wf_eval.proofs.Filled.{field_falls, item_falls, list_falls, map_falls, list_filled, list_done, list_step, list_stops, map_filled, map_step}
+use Rattle.wf_eval.proofs.Filled.{field_falls, item_falls, list_falls, map_falls, list_filled, list_done, list_step, list_stops, literals_filled, map_filled, map_step}
 use Rattle.wf_eval.proofs.filling.+fill.Goals as goal
 
 pub fill-fill_all-requires : goal.fill-fill_all-requires
@@ -28,6 +28,10 @@ fill_fields-fill-requires g t c κs within =
 pub fill-returns-in-List : goal.fill-returns-in-List
 fill-returns-in-List g t c =
     list_filled (seen (g.K.Look.sight c.args.look.now) c.args.now) c.keep_list.result c.fill_all.result c.args.t.now c.in-List.ts c.items-in-List.result.now c.in-List.is c.items-in-List.ensures.items c.fill_all.ensures c.keep_list.ensures
+
+pub fill-returns-in_ok-copy-in-Literals : goal.fill-returns-in_ok-copy-in-Literals
+fill-returns-in_ok-copy-in-Literals g t c =
+    literals_filled (seen (g.K.Look.sight c.args.look.now) c.args.now) c.keep-in-Literals.result c.args.t.now c.in-Literals.list c.in_ok-copy-in-Literals.field-0 c.in-Literals.is c.in_ok-copy-in-Literals.ensures c.keep-in-Literals.ensures
 
 pub fill-returns-in-Map : goal.fill-returns-in-Map
 fill-returns-in-Map g t c =
