@@ -6,6 +6,7 @@ use Rattle.wf_ast.specs.Apply.{View}
 use Rattle.std.proofs.lemmas.List.{append_assoc}
 use Rattle.wf_lemmas.proofs.Lists.{item_at}
 use Rattle.wf_ast.specs.Eval.{fill, fill_all, fill_fields, joined, part_text}
+use Rattle.wf_ast.proofs.Literals.{fill_literals}
 use Rattle.wf_ast.specs.Tree as t
 use Rattle.wf_ast.specs.Tree.{templates, fields}
 use Rattle.wf_eval.proofs.Filled.{onto, onto_last, onto_none, put_last, height, heights, field_heights}
@@ -15,11 +16,11 @@ use Rattle.wf_model.specs.Shapes.{Compiled, named_by, named_list, piece_by, shap
 use Rattle.wf_model.specs.declared.shape.NamedShape.{NamedShape}
 use Rattle.wf_model.specs.declared.shape.NamedShapes.{NamedShapes}
 use Rattle.wf_model.specs.declared.shape.Piece.{Piece}
-use Rattle.wf_model.specs.declared.shape.Shape.{Shape, Map}
+use Rattle.wf_model.specs.declared.shape.Shape.{Shape, Literals, Map}
 use Rattle.wf_model.specs.declared.shape.Shape.TheViews as shape
 use Rattle.wf_model.specs.declared.shape.Shapes.{Shapes}
-use Rattle.wf_value.specs.Data.{Data, Items, item, Pairs, items_of}
-use Rattle.wf_value.specs.Errors.{Answer, ◌>>=◌}
+use Rattle.wf_value.specs.Data.{Data, Items, item, Pairs, items_of, list}
+use Rattle.wf_value.specs.Errors.{Answer, ◌>>=◌, kept}
 use Rattle.wf_value.specs.Pairs.{Text, put}
 use Rattle.wf_value.specs.Plain.{plain}
 use Rattle.wf_value.specs.declared.value.Value.{Value}
@@ -66,6 +67,10 @@ list_is cs x ss xs is seen = ap (shape_by cs) is ∙ view_list cs ss ∙ ap (λ 
 pub list_filled : (cs : Compiled) (s : View) (r : Result Value Raise) (made : Result (List Data) Raise) (x : Shape) (ss : Shapes) (xs : List Shape) → x ≡ shape.List ss → xs ≡ shape_list ss → Answers items_of made (fill_all (templates (seq.map (shape_by cs) xs)) s)
     → ((d : Answer Items) → Answers items_of made d → Gives r (kept_list d)) → Gives r (fill (shape_by cs x) s)
 list_filled cs s r made x ss xs is seen h keeps = subst (λ (y : t.Template). Gives r (fill y s)) (sym (list_is cs x ss xs is seen)) (keeps _ h)
+
+-- a list of literals is the value that it gives
+pub literals_filled : (cs : Compiled) (s : View) (r : Result Value Raise) (x : Shape) (ds vs : List Data) → x ≡ Literals ds → vs ≡ ds → Gives r (kept (list (items_of vs))) → Gives r (fill (shape_by cs x) s)
+literals_filled cs s r x ds vs is same h = subst (λ (d : Answer Data). Gives r d) (ap (λ l. kept (list (items_of l))) same ∙ sym (ap (λ y. fill (shape_by cs y) s) is ∙ fill_literals ds s)) h
 
 -- the list with one more item
 item_put : (m : Answer Items) (d : Data) (old new : List Data) → new ≡ old ++ d ∷ [] → ((m >>= λ vs. Ok (item d vs)) >>= λ vs. Ok (onto old vs)) ≡ (m >>= λ vs. Ok (onto new vs))

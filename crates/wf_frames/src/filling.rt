@@ -35,7 +35,7 @@ pub(crate) fn fill_shape<K: Look>(
         Shape::Hole(place) => value_at(alloc, codes, *place, look, now),
         Shape::Join(pieces) => keep(Value::Text(joined(alloc, pieces.items(), codes, look, now)?)),
         Shape::List(shapes) => keep_list(fill_all(alloc, shapes.items(), codes, look, now)),
-        Shape::Literals(l) => keep(Value::List(l.copy()?)),
+        Shape::Literals(list) => keep(Value::List(list.copy()?)),
         Shape::Map(named) => keep_map(alloc, fill_named(alloc, named.items(), codes, look, now)),
     }
 }

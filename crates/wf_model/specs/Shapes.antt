@@ -60,6 +60,7 @@ abbrev mutual
   shape_by cs (s.Hole n) = t.Whole (hole_by cs n)
   shape_by cs (s.Join ps) = t.Joined (map (piece_by cs) (piece_list ps))
   shape_by cs (s.List' shape all) = t.Listed (shape_row cs all)
+  shape_by cs (s.Literals ds) = t.Listed (t.templates (map t.Scalar ds))
   shape_by cs (s.Map ns) = t.Mapped (named_in cs ns)
 
   pub named_in : Compiled → NamedShapes → t.Fields

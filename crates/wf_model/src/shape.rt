@@ -34,6 +34,7 @@ pub enum Shape {
     Hole(u32),
     Join(Pieces),
     List(Shapes),
+    /// A list of literals, kept as the value that it is.
     Literals(List),
     Map(NamedShapes),
 }

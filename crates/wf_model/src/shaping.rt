@@ -23,7 +23,7 @@ pub fn shape_of(alloc: Global, t: &Template, codes: &mut Codes) -> Result<Shape,
         Template::Expr(e) => Ok(Shape::Hole(codes.add(alloc, e)?)),
         Template::Join(parts) => Ok(Shape::Join(pieces(alloc, parts.items(), codes)?)),
         Template::List(ts) => Ok(Shape::List(shapes(alloc, ts.items(), codes)?)),
-        Template::Literals(l) => Ok(Shape::Literals(l.copy()?)),
+        Template::Literals(list) => Ok(Shape::Literals(list.copy()?)),
         Template::Map(fs) => Ok(Shape::Map(named_of(alloc, fs.items(), codes)?)),
     }
 }

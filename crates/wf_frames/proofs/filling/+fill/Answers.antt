@@ -6,7 +6,7 @@ use Rattle.wf_eval.specs.Sight.{seen}
 use Rattle.wf_model.specs.Shapes.{shape_by}
 use Rattle.wf_value.specs.Data.{Data, items_of}
 use Rattle.wf_value.specs.declared.errors.Raise.{Raise}
-use Rattle.wf_frames.proofs.Filled.{field_falls, item_falls, list_falls, map_falls, list_filled, list_done, list_step, list_stops, map_filled, map_step}
+use Rattle.wf_frames.proofs.Filled.{field_falls, item_falls, list_falls, map_falls, list_filled, list_done, list_step, list_stops, literals_filled, map_filled, map_step}
 use Rattle.wf_frames.proofs.filling.+fill.Goals as goal
 
 pub fill_shape-fill_all-requires : goal.fill_shape-fill_all-requires
@@ -28,6 +28,10 @@ fill_named-fill_shape-requires g t c κs within =
 pub fill_shape-returns-in-List : goal.fill_shape-returns-in-List
 fill_shape-returns-in-List g t c =
     list_filled c.args.codes.now (seen (g.K.Look.sight c.args.look.now) c.args.now) c.keep_list.result c.fill_all.result c.args.shape.now c.in-List.shapes c.items-in-List.result.now c.in-List.is c.items-in-List.ensures c.fill_all.ensures c.keep_list.ensures
+
+pub fill_shape-returns-in_ok-copy-in-Literals : goal.fill_shape-returns-in_ok-copy-in-Literals
+fill_shape-returns-in_ok-copy-in-Literals g t c =
+    literals_filled c.args.codes.now (seen (g.K.Look.sight c.args.look.now) c.args.now) c.keep-in-Literals.result c.args.shape.now c.in-Literals.list c.in_ok-copy-in-Literals.field-0 c.in-Literals.is c.in_ok-copy-in-Literals.ensures c.keep-in-Literals.ensures
 
 pub fill_shape-returns-in-Map : goal.fill_shape-returns-in-Map
 fill_shape-returns-in-Map g t c =
