@@ -1,4 +1,4 @@
-use Rattle.std.proofs.Common.{◌≡◌, Err, Ok, refl, ◌∙◌}
+use Rattle.std.proofs.Common.{◌≡◌, Err, Ok, ◌∙◌}
 use Rattle.wf_value.proofs.Seeks.{seek_of}
 use Rattle.wf_value.specs.Maps.{place_of}
 use Rattle.wf_scope.proofs.Named.{found_bound, missing_bound, read_value}
