@@ -4,7 +4,7 @@ use Rattle.std.proofs.Common as seq
 use Rattle.std.proofs.lemmas.List.{drop_all}
 use Rattle.wf_lemmas.proofs.Bools.{or_assoc, or_comm, or_none}
 use Rattle.wf_lemmas.proofs.Lists.{item_at}
-use Rattle.wf_ast.specs.Tree.{Expr, Exprs, no_exprs, expr, templates, fields}
+use Rattle.wf_ast.specs.Tree.{Expr, Exprs, no_exprs, expr, Scalar, templates, fields}
 use Rattle.wf_model.specs.Kinds.{expr_now, exprs_now, is_now, template_now, templates_now, fields_now}
 use Rattle.wf_ast.specs.Instrs.{instr, instrs}
 use Rattle.wf_ast.specs.Machine.{Instr, and_skip, call, check, code, all_code, combine, index, invert, many, member, negate, or_skip}
@@ -15,9 +15,10 @@ use Rattle.wf_model.proofs.Views.{view_list, view_map}
 use Rattle.wf_model.specs.Shapes.{Compiled, decoded, named_by, named_list, shape_by, shape_list}
 use Rattle.wf_model.specs.declared.shape.NamedShape.{NamedShape}
 use Rattle.wf_model.specs.declared.shape.NamedShapes.{NamedShapes}
-use Rattle.wf_model.specs.declared.shape.Shape.{Shape, Map}
+use Rattle.wf_model.specs.declared.shape.Shape.{Shape, Literals, Map}
 use Rattle.wf_model.specs.declared.shape.Shape.TheViews as shape
 use Rattle.wf_model.specs.declared.shape.Shapes.{Shapes}
+use Rattle.wf_value.specs.Data.{Data}
 
 any_joined : (xs ys : List Instr) → any_now (xs ++ ys) ≡ any_now xs || any_now ys
 any_joined [] ys = refl
@@ -60,6 +61,14 @@ clock_told is e h = ap any_now (coded is e h) ∙ any_code (decoded is)
 -- ## Shapes
 pub list_told : (cs : Compiled) (x : Shape) (ss : Shapes) (xs : List Shape) → x ≡ shape.List ss → xs ≡ shape_list ss → templates_now (templates (seq.map (shape_by cs) xs)) ≡ template_now (shape_by cs x)
 list_told cs x ss xs is seen = sym (ap (λ y. template_now (shape_by cs y)) is ∙ ap template_now (view_list cs ss) ∙ ap (λ l. templates_now (templates (seq.map (shape_by cs) l))) (sym seen))
+
+-- a literal names no clock
+literals_now : (ds : List Data) → templates_now (templates (seq.map Scalar ds)) ≡ false
+literals_now [] = refl
+literals_now (d ∷ ds) = literals_now ds
+
+pub literals_told : (cs : Compiled) (x : Shape) (ds : List Data) → x ≡ Literals ds → false ≡ template_now (shape_by cs x)
+literals_told cs x ds is = sym (ap (λ y. template_now (shape_by cs y)) is ∙ literals_now ds)
 
 pub map_told : (cs : Compiled) (x : Shape) (ns : NamedShapes) (xs : List NamedShape) → x ≡ Map ns → xs ≡ named_list ns → fields_now (fields (seq.map (named_by cs) xs)) ≡ template_now (shape_by cs x)
 map_told cs x ns xs is seen = sym (ap (λ y. template_now (shape_by cs y)) is ∙ ap template_now (view_map cs ns) ∙ ap (λ l. fields_now (fields (seq.map (named_by cs) l))) (sym seen))

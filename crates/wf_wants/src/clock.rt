@@ -20,6 +20,7 @@ pub(crate) fn is_clock_in(shape: &Shape, codes: &[Postfix]) -> bool
         Shape::Hole(place) => is_at(codes, *place),
         Shape::Join(pieces) => is_in_pieces(pieces.items(), codes),
         Shape::List(shapes) => is_in_shapes(shapes.items(), codes),
+        Shape::Literals(_) => false,
         Shape::Map(named) => is_in_named(named.items(), codes),
     }
 }
