@@ -1,5 +1,5 @@
 -- Lists of live tasks: their numbers rise, and the one that is put in or taken out is told apart from the others.
-use Rattle.std.specs.Prelude.{◌≡◌, ℕ, suc, ◌<◌, ◌≤◌, true, false, List, [], ◌∷◌, if◌then◌else◌, nat_eq, nat_lt, Some, None}
+use Rattle.std.specs.Prelude.{◌≡◌, ℕ, suc, ◌<◌, ◌≤◌, List, [], ◌∷◌, if◌then◌else◌, nat_eq, nat_lt, Some, None}
 use Rattle.std.proofs.Common.{refl, sym, ◌∙◌, ap, subst, arith}
 use Rattle.std.proofs.lemmas.Bool.{eq-eqb, eqb-true, eqb-false, ltb-true, ltb-false, ne_eqb}
 use Rattle.wf_model.proofs.Walk.{bool_case}

@@ -1,12 +1,12 @@
 -- `Told` says what `Resolves` says.
-use Rattle.std.proofs.Common.{◌≡◌, ℕ, zero, suc, Bool, true, false, List, [], ◌∷◌, length, map, Option, Some, None, slice_get, refl, sym, ap, ◌∙◌, inl, inr, ⊎_elim, eqb}
+use Rattle.std.proofs.Common.{◌≡◌, ℕ, zero, suc, true, List, [], ◌∷◌, length, map, Option, Some, None, slice_get, refl, sym, ap, ◌∙◌, inl, inr, ⊎_elim, eqb}
 use Rattle.std.proofs.lemmas.Bool.{eq-eqb, eqb-true, false≢true, or_cases, or_left, or_right}
 use Rattle.std.proofs.lemmas.Option.{none-some}
 use Rattle.std.specs.List.{list_any}
 use Rattle.wf_ast.specs.Tree.{Step, Steps, no_steps, more}
 use Rattle.wf_model.specs.Unwind.{from_step}
 use Rattle.wf_model.specs.NodeKinds.{Listed, View, node_view}
-use Rattle.wf_model.specs.Spots.{Spot, from, owners_at, part_at, part_list}
+use Rattle.wf_model.specs.Spots.{Spot, owners_at, part_at, part_list}
 use Rattle.wf_model.specs.Table.{Leads, LeadsInto, NextLeads, Resolves, list_at}
 use Rattle.wf_model.specs.Told.{NextTells, Tells, TellsInto, Told, is_more, numbers, steps_at}
 use Rattle.wf_model.specs.declared.node.Jump.{Jump}

@@ -2,16 +2,16 @@
 --     held, view        what a task sees
 --     opened, enter     a new layer with its names
 --     assign            what an assignment leads to
-use Rattle.std.specs.Prelude.{ℕ, zero, suc, ◌+◌, Bool, true, false, ◌&&◌, List, [], ◌∷◌, pos, negsuc, if◌then◌else◌, nat_le, slice_get, slice_set, Some, None, Ok, Err, Option}
+use Rattle.std.specs.Prelude.{ℕ, zero, suc, ◌+◌, Bool, true, false, ◌&&◌, List, [], ◌∷◌, if◌then◌else◌, nat_le, Some, None, Ok, Err, Option}
 use Rattle.wf_ast.specs.Apply.{View}
 use Rattle.wf_model.specs.Config.{Layer, limits}
 use Rattle.wf_model.specs.Local.{Outer, Local, Scene, total}
-use Rattle.wf_value.specs.Data.{Data, integer, text, list, map, Pairs, no_pairs, items_of, depth, pairs_size}
-use Rattle.wf_value.specs.Errors.{Answer, ◌>>=◌, or_error}
+use Rattle.wf_value.specs.Data.{Data, Pairs, no_pairs, depth, pairs_size}
+use Rattle.wf_value.specs.Errors.{Answer}
 use Rattle.wf_value.specs.declared.Tag.{Tag}
-use Rattle.wf_value.specs.declared.Tag.TheVariants.{IndexError, KeyError, ResourceLimitError, TypeError}
+use Rattle.wf_value.specs.declared.Tag.TheVariants.{ResourceLimitError}
 use Rattle.wf_value.specs.HttpRequest.{is_among}
-use Rattle.wf_value.specs.Pairs.{Text, items, get, put}
+use Rattle.wf_value.specs.Pairs.{Text, get, put}
 pub use Rattle.wf_ast.specs.Places.{written, made_new}
 
 -- ## What a task sees
