@@ -125,7 +125,7 @@ impl Layer {
         ensures value { option_map (λ v. plain v.now) result.1
             ≡ value_at name.now (bound_of self.now.vars.items) }
     {
-        match seek(self.vars.as_slice(), name) {
+        match seek(self.vars.as_slice(), name.as_str()) {
             Ok(i) => (Ok(i), self.vars[i].1.as_ref()),
             Err(i) => (Err(i), None),
         }

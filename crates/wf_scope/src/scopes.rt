@@ -338,7 +338,13 @@ impl Scopes {
 
     /// The variable of this name in the layer at a place, and its value.
     #[inline(always)]
-    fn spot_at(&self, number: u64, layer: usize, class: usize, name: &Name) -> (Spot, Option<&Value>)
+    fn spot_at(
+        &self,
+        number: u64,
+        layer: usize,
+        class: usize,
+        name: &Name,
+    ) -> (Spot, Option<&Value>)
         requires within { layer < length (layers_of self.now) }
         requires found { slice_get (layers_of self.now) layer ≡ find number (layers_of self.now) }
         requires class { class ≡ class_of name.now }
@@ -351,7 +357,7 @@ impl Scopes {
         let here = self.layers.at(layer);
         let (pair, value) = here.find(here.hint(class), name);
         let counted = match value {
-            Some(value) => size_of_variable(name, value),
+            Some(value) => size_of_variable(name.as_str(), value),
             None => 0,
         };
         let spot = Spot {
@@ -418,7 +424,7 @@ impl Scopes {
         ensures stay { StayLive (layers_of self.old) (layers_of self.new) }
         ensures apart { StayInnermost (layers_of self.old) (layers_of self.new) }
     {
-        let counted = size_of_variable(name, &v);
+        let counted = size_of_variable(name.as_str(), &v);
         let rest = self.total - spot.counted;
         let total = rest.saturating_add(counted);
         if total > self.limit {
@@ -473,11 +479,11 @@ impl Scopes {
 
 /// What a variable counts: 2, the bytes of its name and the size of its value.
 #[inline(always)]
-fn size_of_variable(name: &Name, value: &Value) -> u64
+fn size_of_variable(name: &str, value: &Value) -> u64
     ensures { result ≡ min (2 + length name.now + size (plain value.now)) 18446744073709551615 }
 {
     value
         .size()
         .saturating_add(2)
-        .saturating_add(name.as_str().len() as u64)
+        .saturating_add(name.len() as u64)
 }

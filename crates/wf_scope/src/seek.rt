@@ -9,12 +9,11 @@ use wf_value::Value;
 
 /// Where a name stands among names in order, or where it belongs.
 #[inline(always)]
-pub(crate) fn seek(names: &[(Name, Option<Value>)], name: &Name) -> Result<usize, usize>
+pub(crate) fn seek(names: &[(Name, Option<Value>)], name: &str) -> Result<usize, usize>
     requires { IsInOrder names.now }
     ensures place { result ≡ place_of name.now names.now }
     ensures within { IsSearchInRange result (length names.now) }
 {
-    let name = name.as_str();
     let first = name.as_bytes().first().copied();
     let mut low = 0;
     let mut high = names.len();

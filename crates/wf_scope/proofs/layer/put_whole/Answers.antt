@@ -9,8 +9,8 @@ use Rattle.wf_scope.proofs.Named.{found_bound}
 use Rattle.wf_scope.proofs.Spotted.{tried_there}
 use Rattle.wf_scope.proofs.layer.put_whole.Goals as goal
 
-pub returns-then-is_same-clause-after : goal.returns-then-is_same-clause-after
-returns-then-is_same-clause-after c =
+pub returns-then-is-clause-after : goal.returns-then-is-clause-after
+returns-then-is-clause-after c =
     let es = c.args.names.now.items in
     let x = c.args.name.now in
     let i = c.args.i in
@@ -22,8 +22,8 @@ returns-then-is_same-clause-after c =
     ap (λ (n : ℤ). slice_set es i (c.index_mut.result.now.0, Some (Int n))) (to_z-of_z w64 c.args.n fits)
     ∙ found_writes es x i c.index_mut.result.now (Some (Int c.args.n)) c.index_mut.ensures.value there
 
-pub returns-then-is_same-clause-whole : goal.returns-then-is_same-clause-whole
-returns-then-is_same-clause-whole c =
+pub returns-then-is-clause-whole : goal.returns-then-is-clause-whole
+returns-then-is-clause-whole c =
     let es = c.args.names.now.items in
     let x = c.args.name.now in
     let e = c.index-then-is_whole.result.now in

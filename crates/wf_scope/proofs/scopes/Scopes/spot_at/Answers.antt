@@ -1,5 +1,6 @@
-use Rattle.std.proofs.Common.{ap, sym, ◌∙◌}
+use Rattle.std.proofs.Common.{◌≡◌, ◌+◌, ap, length, min, subst, sym, ◌∙◌}
 use Rattle.std.specs.Prelude.{option_map}
+use Rattle.wf_value.specs.Data.{size}
 use Rattle.wf_value.specs.Maps.{place_of, value_at}
 use Rattle.wf_value.specs.Plain.{plain}
 use Rattle.std.proofs.lemmas.Option.{get_or_from_slice_get}
@@ -29,7 +30,7 @@ returns-clause-spot c =
       class = c.requires.class;
       below = c.requires.below;
       counted = elim c.match-value.branch [
-        | in-Some w ↦ w.counted-is ∙ counted_some c.args.number x (plain w.in-Some.value.now) ls l w.size_of_variable-counted.result s.total here (sym c.find-pair.ensures.value ∙ ap (option_map (λ v. plain v.now)) w.in-Some.is) s.counted s.room w.size_of_variable-counted.ensures
+        | in-Some w ↦ w.counted-is ∙ counted_some c.args.number x (plain w.in-Some.value.now) ls l w.size_of_variable-counted.result s.total here (sym c.find-pair.ensures.value ∙ ap (option_map (λ v. plain v.now)) w.in-Some.is) s.counted s.room (subst (λ y. w.size_of_variable-counted.result ≡ min (2 + length y + size (plain w.in-Some.value.now)) 18446744073709551615) w.as_str.ensures w.size_of_variable-counted.ensures)
         | in-None w ↦ w.counted-is ∙ counted_none c.args.number x ls l here (sym c.find-pair.ensures.value ∙ ap (option_map (λ v. plain v.now)) w.in-None.is)
       ];
     }
