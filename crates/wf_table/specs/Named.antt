@@ -1,10 +1,9 @@
 -- Numbers by names.
-use Rattle.std.specs.Prelude.{◌≡◌, ℕ, Bool, true, false, List, [], ◌∷◌, slice_get, Option, None, Some, bytes_eq, nat_lt, if◌then◌else◌}
+use Rattle.std.specs.Prelude.{◌≡◌, ℕ, List, [], ◌∷◌, slice_get, Option, None, Some, bytes_eq, nat_lt, if◌then◌else◌}
 use Rattle.std.specs.BTreeMap.{get_by_text}
 use Rattle.wf_value.specs.HttpUrl.{first_of_two}
 use Rattle.wf_value.specs.Pairs.{Text}
 use Rattle.wf_model.specs.NodeKinds.{Kind, Listed, View, is_left}
-use Rattle.wf_model.specs.NodeKinds as kind
 use Rattle.wf_model.specs.Table.{list_at}
 use Rattle.wf_table.specs.declared.names.Names.{Names}
 

@@ -167,14 +167,14 @@ loop_node-returns t c = λ at.
     let r = out-LoopBody c.args.repeated.now in
     let n = c.args.number in
     let ss = steps_in r.steps in
-    let x = c.in_ok-value.value in
+    let x = c.of-value.result in
     let y = c.in_ok-index.index in
     let o = c.in_ok-over.over in
     let b = block_view c.in_ok-block.block in
     let h = c.in_ok-block.ensures (n ∷ []) c.alone.ensures in
     repeats _ _ _ _ (λ cs. repeated x y (over_by cs o) b) n (tree.loop r.value r.index (over_view r.over) ss) _ (loop_is c.args.repeated.now)
     (alike _ _ (λ cs. repeated x y (over_by cs o) b) _ (repeated x y (over_view r.over) b) _ (λ cs. refl)
-    (λ i. repeated (c.in_ok-value.ensures i) (c.in_ok-index.ensures i) (over_view r.over) ((h.0 ∙ ap (λ m. listed (step_numbers ss m) 1) (sym at)) i))
+    (λ i. repeated ((c.of-value.ensures ∙ c.in_ok-copy.ensures) i) (c.in_ok-index.ensures i) (over_view r.over) ((h.0 ∙ ap (λ m. listed (step_numbers ss m) 1) (sym at)) i))
     (then (λ u. repeated x y u b) _ _ (λ cs. over_by cs o) (over_view r.over) c.in_ok-over.ensures))
     (of_these _ _ _ _ (ap (λ m. steps_spots ss m (n ∷ [])) (sym at)) h.1)
 
@@ -260,6 +260,6 @@ handler-returns-in_ok-block-in-Some t c = λ o os st.
     let m = length c.args.nodes.now.items in
     let is = ap except_option_view c.in-Some.is ∙ except_is x in
     let h = c.in_ok-block-in-Some.ensures (o ∷ os) st in (
-      (λ i. Some (record { name = c.in_ok-name-in-Some.ensures i; steps = h.0 i })) ∙ ap (handler_for m (length os)) (sym is),
+      (λ i. Some (record { name = (c.of-name.ensures ∙ c.in_ok-copy-in-Some.ensures) i; steps = h.0 i })) ∙ ap (handler_for m (length os)) (sym is),
       of_these _ _ (steps_spots ss m (o ∷ os)) _ (ap (λ e. except_spots e m (o ∷ os)) (sym is)) h.1,
     )

@@ -13,9 +13,9 @@ pub returns : goal.returns
 unfolding made
 returns c =
     let x = c.in_ok-copy.field-0 in
-    let r = c.in_ok-text.field-0 in
+    let r = c.in_ok-name.field-0 in
     let ns = c.in_ok-args.args in
     let ps = map field_view c.items.result.now in
     alike _ _ (λ cs. made x r (map (named_by cs) (named_list ns))) _ (made x r ps) _ (λ cs. refl)
-    (λ i. made (c.in_ok-copy.ensures i) (c.in_ok-text.ensures i) (c.items.ensures.view i))
+    (λ i. made (c.in_ok-copy.ensures i) (c.in_ok-name.ensures i) (c.items.ensures.view i))
     (then (made x r) _ _ (λ cs. map (named_by cs) (named_list ns)) ps c.in_ok-args.ensures)
