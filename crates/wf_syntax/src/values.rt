@@ -10,6 +10,7 @@ ghost use Rattle.wf_tree.specs.Plain.{plain_items, plain_pairs, plain_tree};
 ghost use Rattle.wf_expr.specs.Texts.{IsTemplateOf};
 ghost use Rattle.wf_tree.specs.Trees.{items_of, pairs_of, text as a_text};
 
+use crate::scalars::scalars;
 use crate::stop::Stop;
 use std::alloc::Global;
 use wf_ast::{NamedTemplate, NamedTemplates, Template, Templates};
@@ -32,7 +33,13 @@ pub(crate) fn value(alloc: Global, tree: &Tree) -> Result<Template, Stop>
         Tree::Int(n) => Ok(Template::Lit(Value::Int(*n))),
         Tree::Decimal(_) => Err(Stop::here(alloc, SyntaxKind::WrongKind)),
         Tree::Text(text) => text_value(alloc, text.as_str()),
-        Tree::List(items) => Ok(Template::List(values(alloc, items.items())?)),
+        Tree::List(items) => {
+            let items = items.items();
+            match scalars(alloc, items)? {
+                Some(list) => Ok(Template::Literals(list)),
+                None => Ok(Template::List(values(alloc, items)?)),
+            }
+        }
         Tree::Map(pairs) => Ok(Template::Map(named_values(alloc, pairs.pairs())?)),
     }
 }
