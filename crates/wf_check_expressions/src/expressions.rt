@@ -71,6 +71,7 @@ fn failing(alloc: Global, layers: &[Layer], template: &Template) -> Result<(), S
             )
         }
         Template::List(members) => items_failing(alloc, layers, members.items()),
+        Template::Literals(_) => Ok(()),
         Template::Map(members) => fields_failing(alloc, layers, members.items()),
     }
 }
