@@ -1,16 +1,22 @@
 -- The first expression that reads a name of no visible layer is the first such read.
-use Rattle.std.proofs.Common.{◌≡◌, ℕ, suc, Bool, true, false, not, ◌&&◌, List, [], ◌∷◌, ◌++◌, Option, Some, codes, if◌then◌else◌, refl, sym, ap, ◌∙◌}
+use Rattle.std.proofs.Common.{◌≡◌, ℕ, suc, Bool, true, false, not, ◌&&◌, List, [], ◌∷◌, ◌++◌, Option, Some, None, map, codes, if◌then◌else◌, refl, sym, ap, ◌∙◌}
 use Rattle.std.specs.List.{list_all}
 use Rattle.std.proofs.lemmas.List.Folds.{list_all-append}
 use Rattle.wf_ast.specs.Accept.{first_unseen, is_visible}
 use Rattle.wf_ast.specs.Blocks.{at_if}
 use Rattle.wf_ast.specs.Nodes.{Names, NodePart, FlowPart, StepPart, ArmPart, BodyPart, EntryPart, BranchPart, Path, below, nth}
 use Rattle.wf_ast.specs.Reads.{all_read, body_reads, expr_reads, exprs_read, fields_read, over_reads, part_reads, parts_read, reads, reads_at}
-use Rattle.wf_ast.specs.Tree.{Body, Exprs, no_exprs, expr, Part, Said, Hole, Template, Scalar, Whole, Joined, Listed, Mapped, Templates, no_templates, template, Fields, no_fields, field, Over, InList, InRange, loop, parallel, OfBranches, OfLoop}
+use Rattle.wf_ast.specs.Tree.{Body, Expr, Exprs, no_exprs, expr, Part, Said, Hole, Template, Scalar, Whole, Joined, Listed, Mapped, Templates, no_templates, template, templates, Fields, no_fields, field, Over, InList, InRange, loop, parallel, OfBranches, OfLoop}
 use Rattle.wf_check_expressions.specs.Expressions.{are_fine, body_failing, failing, fields_failing, is_part_fine, items_failing, over_failing, part_failing}
 use Rattle.wf_check_expressions.specs.Tests.{sees}
+use Rattle.wf_value.specs.Data.{Data}
 use Rattle.wf_value.specs.HttpUrl.{first_of_two}
 use Rattle.wf_value.specs.Pairs.{Text}
+
+-- literals read no name
+pub literals_pass : (fine : Expr → Bool) (ds : List Data) (path : Path) (i : ℕ) → items_failing fine (templates (map Scalar ds)) path i ≡ None
+literals_pass fine [] path i = refl
+literals_pass fine (d ∷ ds) path i = literals_pass fine ds path (suc i)
 
 cases : (b : Bool) (p : Path) (all some rest : Option Path) → all ≡ first_of_two some rest → (if b then all else Some p) ≡ first_of_two (if b then some else Some p) rest
 cases true p all some rest h = h

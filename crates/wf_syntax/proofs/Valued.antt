@@ -1,9 +1,10 @@
 -- Values: what each kind of tree gives, and the loops over lists and maps.
 use Rattle.std.proofs.Common.{◌≡◌, ℕ, zero, suc, ◌+◌, ◌≤◌, ◌<◌, ℤ, Bool, List, [], ◌∷◌, ◌++◌, take, length, get_or, map as mapped, refl, ap, sym, ◌∙◌, subst, arith}
+use Rattle.std.proofs.lemmas.List.{map-append}
 use Rattle.wf_ast.specs.Tree as t
 use Rattle.wf_ast.specs.Tree.{fields as fields_of, templates}
 use Rattle.wf_ast.specs.View.{template_view, templates_view, fields_view}
-use Rattle.wf_ast.specs.declared.template.Template.{Map}
+use Rattle.wf_ast.specs.declared.template.Template.{Literals, Map}
 use Rattle.wf_ast.specs.declared.template.Template.TheViews as template
 use Rattle.wf_ast.specs.declared.template.Templates.{Templates}
 use Rattle.wf_ast.specs.declared.template.NamedTemplates.{NamedTemplates}
@@ -84,6 +85,11 @@ list_gives u ds ts vs is seen h =
     (subst (λ (l : List trees.Tree). Gives Value (list (items_of l)) (IsValue (template_view (template.List vs)) (list (items_of l)))) seen
     (list_sound (items_of (plain_items ts)) h.0, subst (λ (v : t.Template). IsValue v (list (items_of (plain_items ts)))) (sym (view_list vs)) h.1))
 
+pub literals_give : (u : Tree) (ds : List trees.Tree) (ts : List Tree) (l : List values.Data) → u ≡ tree.List ds → plain_items ts ≡ ds → GivesAll (each Value 0 (items_of (plain_items ts))) (AreValues (templates (mapped t.Scalar l)) (items_of (plain_items ts))) → Gives Value (plain_tree u) (IsValue (template_view (Literals l)) (plain_tree u))
+literals_give u ds ts l is seen h =
+    subst (λ (x : trees.Tree). Gives Value x (IsValue (template_view (Literals l)) x)) (sym (ap plain_tree is ∙ ap (λ xs. list (items_of xs)) (sym seen)))
+    (list_sound (items_of (plain_items ts)) h.0, h.1)
+
 pub map_gives : (u : Tree) (ds : List (List ℕ × trees.Tree)) (ps : List Entry) (vs : NamedTemplates) → u ≡ tree.Map ds → plain_pairs ps ≡ ds → GivesAll (every (λ x. Value) (pairs_of (plain_pairs ps))) (AreNamed (fields_of (fields_view vs)) (pairs_of (plain_pairs ps))) → Gives Value (plain_tree u) (IsValue (template_view (Map vs)) (plain_tree u))
 map_gives u ds ps vs is seen h =
     subst (λ (w : Tree). Gives Value (plain_tree w) (IsValue (template_view (Map vs)) (plain_tree w))) (sym is)
@@ -104,20 +110,23 @@ named_next [] (y ∷ ts) v x h e here = absurd h
 named_next (w ∷ vs) [] v x h e here = absurd h
 named_next (w ∷ vs) (y ∷ ts) v x h e here = (h.0, h.1, named_next vs ts v x h.2 e here)
 
-pub values_step : (ts : List Tree) (i : ℕ) (x : Tree) (old new : Templates) (v : t.Template) → i < length ts → x ≡ get_or ts i x
-    → AreSound (each Value 0 (items_of (take i (plain_items ts)))) × AreValues (templates (templates_view old)) (items_of (take i (plain_items ts)))
-    → Gives Value (plain_tree x) (IsValue v (plain_tree x)) → templates_view new ≡ templates_view old ++ v ∷ []
-    → AreSound (each Value 0 (items_of (take (i + 1) (plain_items ts)))) × AreValues (templates (templates_view new)) (items_of (take (i + 1) (plain_items ts)))
+pub values_step : (ts : List Tree) (i : ℕ) (x : Tree) (old new : List t.Template) (v : t.Template) → i < length ts → x ≡ get_or ts i x
+    → AreSound (each Value 0 (items_of (take i (plain_items ts)))) × AreValues (templates old) (items_of (take i (plain_items ts)))
+    → Gives Value (plain_tree x) (IsValue v (plain_tree x)) → new ≡ old ++ v ∷ []
+    → AreSound (each Value 0 (items_of (take (i + 1) (plain_items ts)))) × AreValues (templates new) (items_of (take (i + 1) (plain_items ts)))
 values_step ts i x old new v h e all here made =
     let below : i < length (plain_items ts) = omega (arith, h, length_plain plain_tree ts) in
     let is = item_plain plain_tree ts i x h e in
     let next : suc i ≡ i + 1 = omega arith in
-    subst (λ n. AreSound (each Value 0 (items_of (take n (plain_items ts)))) × AreValues (templates (templates_view new)) (items_of (take n (plain_items ts)))) next (
+    subst (λ n. AreSound (each Value 0 (items_of (take n (plain_items ts)))) × AreValues (templates new) (items_of (take n (plain_items ts)))) next (
       each_next Value (plain_items ts) i (plain_tree x) below is all.0 here.0,
-      subst (λ (l : List trees.Tree). AreValues (templates (templates_view new)) (items_of l)) (sym (take_next (plain_items ts) i (plain_tree x) below is))
+      subst (λ (l : List trees.Tree). AreValues (templates new) (items_of l)) (sym (take_next (plain_items ts) i (plain_tree x) below is))
           (subst (λ (l : List t.Template). AreValues (templates l) (items_of (take i (plain_items ts) ++ plain_tree x ∷ []))) (sym made)
-          (values_next (templates_view old) (take i (plain_items ts)) v (plain_tree x) all.1 here.1)),
+          (values_next old (take i (plain_items ts)) v (plain_tree x) all.1 here.1)),
     )
+
+pub scalars_next : (old new : List values.Data) (d : values.Data) → new ≡ old ++ d ∷ [] → mapped t.Scalar new ≡ mapped t.Scalar old ++ t.Scalar d ∷ []
+scalars_next old new d made = ap (mapped t.Scalar) made ∙ map-append t.Scalar old (d ∷ [])
 
 pub values_fails : (ts : List Tree) (i : ℕ) (x : Tree) (s o : Stop) → i < length ts → x ≡ get_or ts i x → AreSound (each Value 0 (items_of (take i (plain_items ts)))) → Fails Value (plain_tree x) s → IsOutside (Index i) s o → FailsAmong (each Value 0 (items_of (plain_items ts))) o
 values_fails ts i x s o h e all fails out =

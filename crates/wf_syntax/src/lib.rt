@@ -7,6 +7,7 @@ mod flows;
 mod literals;
 mod parts;
 mod policies;
+mod scalars;
 mod source;
 mod steps;
 mod stop;

@@ -10,6 +10,7 @@ ghost use Rattle.wf_tree.specs.Plain.{plain_items, plain_pairs, plain_tree};
 ghost use Rattle.wf_expr.specs.Texts.{IsTemplateOf};
 ghost use Rattle.wf_tree.specs.Trees.{items_of, pairs_of, text as a_text};
 
+use crate::scalars::scalars;
 use crate::stop::Stop;
 use std::alloc::Global;
 use wf_ast::{NamedTemplate, NamedTemplates, Template, Templates};
@@ -17,7 +18,7 @@ use wf_expr::{ExprFault, one_template, parse_template};
 use wf_syntax_rules::SyntaxKind;
 use wf_syntax_words::field;
 use wf_tree::{Tree, TreeMap};
-use wf_value::{List, OutOfMemory, Text, Value};
+use wf_value::{Text, Value};
 
 /// A value with expressions in it.
 #[cycle(value)]
@@ -32,34 +33,14 @@ pub(crate) fn value(alloc: Global, tree: &Tree) -> Result<Template, Stop>
         Tree::Int(n) => Ok(Template::Lit(Value::Int(*n))),
         Tree::Decimal(_) => Err(Stop::here(alloc, SyntaxKind::WrongKind)),
         Tree::Text(text) => text_value(alloc, text.as_str()),
-        Tree::List(items) => match literals(alloc, items.items())? {
-            Some(list) => Ok(Template::Literals(list)),
-            None => Ok(Template::List(values(alloc, items.items())?)),
-        },
-        Tree::Map(pairs) => Ok(Template::Map(named_values(alloc, pairs.pairs())?)),
-    }
-}
-
-/// The items as literals, if each of them is one.
-fn literals(alloc: Global, items: &[Tree]) -> Result<Option<List>, OutOfMemory> {
-    let mut list = List::new(alloc)?;
-    for item in items {
-        match literal(item) {
-            Some(value) => list.push(value)?,
-            None => return Ok(None),
+        Tree::List(items) => {
+            let items = items.items();
+            match scalars(alloc, items)? {
+                Some(list) => Ok(Template::Literals(list)),
+                None => Ok(Template::List(values(alloc, items)?)),
+            }
         }
-    }
-    Ok(Some(list))
-}
-
-/// The literal that a tree is, where it is no text, list or map.
-#[inline(always)]
-fn literal(tree: &Tree) -> Option<Value> {
-    match tree {
-        Tree::Null => Some(Value::Null),
-        Tree::Bool(b) => Some(Value::Bool(*b)),
-        Tree::Int(n) => Some(Value::Int(*n)),
-        _ => None,
+        Tree::Map(pairs) => Ok(Template::Map(named_values(alloc, pairs.pairs())?)),
     }
 }
 

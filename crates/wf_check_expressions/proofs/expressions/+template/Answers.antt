@@ -6,6 +6,7 @@ use Rattle.wf_ast.specs.Nodes.{Path, below, nth}
 use Rattle.wf_ast.specs.Tree as tree
 use Rattle.wf_ast.specs.View.{expr_view, field_view, template_view}
 use Rattle.wf_diagnostics.proofs.Told.{part_first, part_later, tells_as, tells_outside}
+use Rattle.wf_check_expressions.proofs.Failing.{literals_pass}
 use Rattle.wf_check_expressions.proofs.expressions.+template.Goals as goal
 use Rattle.wf_check_expressions.specs.Expressions.{failing, fields_failing, items_failing}
 use Rattle.wf_diagnostics.specs.Said.{as_said}
@@ -26,6 +27,11 @@ failing-returns-in-List t c =
     let fine = sees (map layer_view c.args.layers.now) in
     tells_as c.items_failing.result _ _ (λ path. ap (as_said kinds.UnknownName) (ap (λ l. items_failing fine (tree.templates l) path 0) c.items-in-List.ensures.view
     ∙ sym (ap (λ y. failing fine y path) (ap template_view c.in-List.is ∙ view_list c.in-List.members)))) c.items_failing.ensures
+
+pub failing-returns-in-Literals : goal.failing-returns-in-Literals
+failing-returns-in-Literals t c = λ path.
+    let fine = sees (map layer_view c.args.layers.now) in
+    ap (as_said kinds.UnknownName) (ap (λ y. failing fine (template_view y) path) c.in-Literals.is ∙ literals_pass fine c.in-Literals.field-0 path 0)
 
 pub failing-returns-in-Map : goal.failing-returns-in-Map
 failing-returns-in-Map t c =
