@@ -27,8 +27,8 @@ use wf_ast::{Param, Policy, Predicate, boxed};
 use wf_frames::{
     Bindings, Frame, Frames, Judging, Target, Trying, body_frame, enter_call, map_of, try_node,
 };
-use wf_name::Name;
 use wf_model::Node;
+use wf_name::Name;
 use wf_retry::{default_says, next_delay};
 use wf_scope::Scopes;
 use wf_value::{OutOfMemory, Tag, Value};

@@ -8,4 +8,4 @@ use Rattle.wf_moves.proofs.judging.with_error.Goals as goal
 pub returns : goal.returns
 returns c =
     let name = c.args.param.now.name in
-    c.in_ok-put_first.ensures ∙ ap (λ (xs : List (Text × Data)). (c.in_ok-copy.field-0, plain c.in_ok-copy-2.field-0) ∷ xs) c.new-bindings.ensures ∙ ap (λ (x : Text). (x, plain c.in_ok-copy-2.field-0) ∷ []) c.in_ok-copy.ensures ∙ ap (λ (v : Value). (name, plain v) ∷ []) c.in_ok-copy-2.ensures
+    c.in_ok-put_first.ensures ∙ ap (λ (xs : List (Text × Data)). (c.of.result, plain c.in_ok-copy-2.field-0) ∷ xs) c.new-bindings.ensures ∙ ap (λ (x : Text). (x, plain c.in_ok-copy-2.field-0) ∷ []) (c.of.ensures ∙ c.in_ok-copy.ensures) ∙ ap (λ (v : Value). (name, plain v) ∷ []) c.in_ok-copy-2.ensures
