@@ -16,7 +16,7 @@ pub(crate) fn is_clock_in(shape: &Shape, codes: &[Postfix]) -> bool
     ensures { result ≡ template_now (shape_by codes.now shape.now) }
 {
     match shape {
-        Shape::Lit(_) | Shape::Literals(_) => false,
+        Shape::Lit(_) => false,
         Shape::Hole(place) => is_at(codes, *place),
         Shape::Join(pieces) => is_in_pieces(pieces.items(), codes),
         Shape::List(shapes) => is_in_shapes(shapes.items(), codes),
