@@ -15,7 +15,7 @@ instructions of one event of a loop are counted, by valgrind, in programs that d
 reads, or how many steps the program has besides. Each of these quotients is to be below 1.5. The exit status is 1 where one isn't. It wants
 rustc and valgrind.
 
-Each time is the least of several, so that other work on the machine counts for little.
+Each time is the least of twenty, so that other work on the machine counts for little.
 """
 
 import json
@@ -31,7 +31,7 @@ BARE_LOOP = os.path.join(os.path.dirname(os.path.abspath(__file__)), "bare_loop.
 MOST_AGAINST_BARE = 4
 SYNC = 0.001
 MOST_GROWTH = 1.5
-TRIES = 5
+TRIES = 20
 
 
 def compact(value):
