@@ -96,6 +96,11 @@ def copy_aside(room, chosen, rt):
             shutil.copy2(f"{TOP}/wrong/{name}.edit", f"{room}/crates/{crate}/must-fail/")
 
 
+def length(crate):
+    """How many bytes a crate has: the longest are tried first."""
+    return sum(os.path.getsize(path) for part in PARTS for path in glob.glob(f"{TOP}/crates/{crate}/{part}/**/*.*", recursive=True))
+
+
 def tried(room, crate, names):
     """What the prover says of a crate's edits: by edit the line and whether it is refused."""
     ran = subprocess.run(["rt", "must-fail", crate], cwd=room, stdin=subprocess.DEVNULL, stdout=subprocess.PIPE, stderr=subprocess.STDOUT, text=True, errors="replace")
@@ -126,7 +131,8 @@ def main(words):
             print("wrong: a library isn't proved, so the crates above it weren't tried")
             return 1
         with concurrent.futures.ThreadPoolExecutor(beside) as pool:
-            failed = [name for bad in pool.map(lambda crate: tried(room, crate, chosen[crate]), chosen) for name in bad]
+            order = sorted(chosen, key=length, reverse=True)
+            failed = [name for bad in pool.map(lambda crate: tried(room, crate, chosen[crate]), order) for name in bad]
     count = sum(map(len, chosen.values()))
     print(f"wrong: {count} edits in {len(chosen)} crates, {count - len(failed)} of them refused")
     if failed:
