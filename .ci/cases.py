@@ -5,9 +5,10 @@
 
 A row is a line of crates/NAME/stdin with its answer in crates/NAME/stdout. `rt try` builds the program once, without a proof, and runs it on the
 rows, some hundred at a time, so that a row which stops it hides few others. With --program a built program is run in its place. Of each row that
-differs stands the line, the case, what was wanted and what came. The exit status is 1 where one differs, 2 where the program can't be built.
+differs stands the line, the case, what was wanted and what came. The exit status is 1 where one differs, 2 where none can be tried.
 """
 
+import glob
 import os
 import re
 import subprocess
@@ -125,27 +126,33 @@ def main(words):
     name, holding = words[0], [word.encode() for word in words[1:]]
     os.chdir(os.path.dirname(os.path.dirname(os.path.abspath(__file__))))
     folder = f"crates/{name}"
+    if not os.path.isfile(f"{folder}/stdin"):
+        print("cases: no such program; there are", *(path.split("/")[1] for path in sorted(glob.glob("crates/*/stdin"))))
+        return 2
     rows = [row for row in read_rows(folder) if not holding or any(word in row.case for word in holding)]
+    if not rows:
+        print(f"cases: no row of {name} holds", *words[1:])
+        return 2
     parts = in_parts(rows)
     printed, told = run(program, parts) if program else tried(folder, parts)
     if printed is None:
         print(told, "cases: the program isn't built", sep="\n")
         return 2
+    shown, silent = [], 0
     for part, output in zip(parts, printed):
         left = output.splitlines()[::-1]
         for row in part:
             row.got = row.take(left)
-    differ = [row for row in rows if row.got != row.wanted]
-    silent = [row for row in differ if not row.got]
-    # behind the row at which the program stops nothing comes
-    shown = [row for row in differ if row.got] + silent[:1]
+        # where the program stops at a row, nothing comes of those behind it either
+        nothing = [row for row in part if not row.got]
+        shown += [row for row in part if row.got and row.got != row.wanted] + nothing[:1]
+        silent += len(nothing)
     for row in shown[:SHOWN]:
         show(folder, row)
     if told:
         print(told[-2000:])
-    more = "" if len(differ) <= SHOWN else f"; the first {SHOWN} are shown"
-    stopped = f"; of {len(silent)} nothing came" if silent else ""
-    print(f"cases: {len(rows)} rows of {name}, {len(differ)} differ{stopped}{more}")
+    differ = sum(row.got != row.wanted for row in rows)
+    print(f"cases: {len(rows)} rows of {name}, {differ} differ" + f"; of {silent} nothing came" * bool(silent) + f"; {SHOWN} are shown" * (len(shown) > SHOWN))
     return 1 if differ or told else 0
 
 
