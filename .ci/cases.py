@@ -4,7 +4,7 @@
     python3 .ci/cases.py [--program PATH] NAME [WORD ..]     the rows of crates/NAME whose line holds one of the words; without words all
 
 A row is a line of crates/NAME/stdin with its answer in crates/NAME/stdout. `rt try` builds the program once, without a proof, and runs it on the
-rows, some hundred at a time, so that a row which stops it hides few others. With --program a built program is run in its place. Of each row that
+rows, at most 500 at a time, so that a row which stops it hides few others. With --program a built program is run in its place. Of each row that
 differs stands the line, the case, what was wanted and what came. The exit status is 1 where one differs, 2 where none can be tried.
 """
 
@@ -127,7 +127,7 @@ def main(words):
     os.chdir(os.path.dirname(os.path.dirname(os.path.abspath(__file__))))
     folder = f"crates/{name}"
     if not os.path.isfile(f"{folder}/stdin"):
-        print("cases: no such program; there are", *(path.split("/")[1] for path in sorted(glob.glob("crates/*/stdin"))))
+        print("cases: no such program; there are", *(path.split("/")[1] for path in sorted(glob.glob("crates/*_cases/stdin"))))
         return 2
     rows = [row for row in read_rows(folder) if not holding or any(word in row.case for word in holding)]
     if not rows:
