@@ -103,6 +103,10 @@ def main(words):
     os.chdir((words or ["."])[0])
     keep_stamps()
     known = {it.name: it for it in rtlib.crates_below(os.getcwd())}
+    unknown = [name for name in words[1:] if name not in known]
+    if unknown:
+        print("build_libraries: no crates", *unknown)
+        return 2
     named = [known[name] for name in words[1:]] or list(known.values())
     wanted = {dep.name: dep for crate in named for dep in [*crate.below(), *([] if is_below else [crate])]}
     return 0 if Lanes([it for it in wanted.values() if not it.is_program]).run(lanes) else 1
