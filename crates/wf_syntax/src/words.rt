@@ -20,6 +20,7 @@ use wf_value::Text;
 /// How many parts of a parallel step a limit may let run at once.
 const MOST_AT_ONCE: u32 = 1000;
 
+/// A text of the program's own, with these characters.
 pub(crate) fn owned(alloc: Global, text: &str) -> Result<Text, Stop>
     ensures { MatchResult result (λ t. t ≡ text.now) (λ s. s ≡ stop.OutOfMemory) }
 {
