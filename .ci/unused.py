@@ -17,7 +17,7 @@ import sys
 
 from functions import unreached
 
-# public functions and types that the program doesn't reach, by the reason why they are there
+# public functions, or all those of a type or of a crate, that the program doesn't reach, by the reason why they are there
 EXPECTED = {
     "for callbacks": ("wf_args::listen_of", "wf_callbacks::Endpoints", "wf_http_serve::Asker", "wf_http_serve::Visit", "wf_http_serve::reply_bytes", "wf_http_value::visit_value"),
     "for several open calls": ("wf_calls::Calls::next_open", "wf_machine::Machine::next_open"),
@@ -124,7 +124,7 @@ def idle_functions():
     idle = 0
     for function, is_of_cases in found:
         name = function.whole_name()
-        known = expected & {name, name.rpartition("::")[0]}
+        known = expected & {name, name.rpartition("::")[0], function.crate}
         met |= known
         if not known:
             idle += 1
