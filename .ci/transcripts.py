@@ -2,7 +2,7 @@
 
 A line `$ COMMAND` is a command, lines `> ..` behind it go on with it, and all else up to the next command is what it prints, on both outputs. The
 commands of a document run one behind another in one shell, in a fresh folder that has `examples`, with the built `workflow` on the path. Behind a
-command that ends with `&` a second passes, so that what it began is there.
+command that ends with `&` a second passes, and until somebody listens on each port that it names, so that what it began is there.
 
 What varies is marked. In what is printed `...` stands for any text of a line, and a line of `...` alone for any lines. Behind the word `console`
 may stand `numbers`, where each number stands for any number, or `outside`: such a block needs a tool or a service that isn't here, and isn't run.
@@ -14,8 +14,10 @@ import signal
 import subprocess
 import tempfile
 import threading
+import time
 
 FENCE = re.compile(r"^```console(?P<marks>[ \w]*)\n(?P<text>.*?)^```$", re.M | re.S)
+PORT = re.compile(r"(?<![\w.])\d{4,5}\b")
 END = "end of the command"
 LONGEST = 120
 
@@ -45,6 +47,18 @@ class Command:
         return [f"{self.place}: $ {self.text}\n--- wanted\n{wanted}--- got\n{printed}"]
 
 
+def wait_for_ports(command):
+    """Waits until somebody listens on each port that a command names, for a while."""
+    ends = time.monotonic() + 20
+    while time.monotonic() < ends:
+        with open("/proc/net/tcp", encoding="ascii") as file:
+            rows = [line.split() for line in file.readlines()[1:]]
+        listening = {int(row[1].rpartition(":")[2], 16) for row in rows if row[3] == "0A"}
+        if all(int(it) in listening for it in PORT.findall(command)):
+            return
+        time.sleep(0.05)
+
+
 class Shell:
     """A shell in a folder, which takes one command after another."""
 
@@ -60,7 +74,7 @@ class Shell:
 
     def run(self, command):
         """Runs a command, and gives what it printed. The status that it leaves is there for the next one."""
-        lines = [f"{{ {command}\n}} 2>&1 < /dev/null", "left=$?", "sleep 1" if command.endswith("&") else ":", f"echo '{END}'", "(exit $left)"]
+        lines = [f"{{ {command}\n}} 2>&1 < /dev/null", "left=$?", f"echo '{END}'", "(exit $left)"]
         self.process.stdin.write("\n".join(lines) + "\n")
         self.process.stdin.flush()
         alarm = threading.Timer(LONGEST, self.close)
@@ -72,6 +86,9 @@ class Shell:
             if end:
                 break
         alarm.cancel()
+        if command.endswith("&"):
+            time.sleep(1)
+            wait_for_ports(command)
         return printed + "\n" if printed and not printed.endswith("\n") else printed
 
     def close(self):

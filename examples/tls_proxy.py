@@ -14,6 +14,7 @@ Each call is one connection, so bytes are handed on as they come, both ways, unt
 """
 
 import argparse
+import select
 import socket
 import ssl
 import subprocess
@@ -39,46 +40,58 @@ class Fields:
             return self.kept
 
 
-def hand_on(source, target):
-    """Hands bytes on until the source ends, and then ends both."""
-    try:
-        while piece := source.recv(65536):
-            target.sendall(piece)
-    except OSError:
-        pass
-    for end, how in ((target, socket.SHUT_WR), (source, socket.SHUT_RD)):
-        try:
-            end.shutdown(how)
-        except OSError:
-            pass
+def first_piece(connection):
+    """What comes first, up to the end of the first line at least. Nothing where the connection ends before that."""
+    begun = b""
+    while b"\r\n" not in begun:
+        piece = connection.recv(65536)
+        if not piece:
+            return b""
+        begun += piece
+    return begun
 
 
-def ask(connection, service, fields):
-    """Hands a request on, with the fields behind its first line. What comes behind it is handed on until the service has answered."""
-    back = threading.Thread(target=hand_on, args=(service, connection), daemon=True)
-    back.start()
+def read_now(service):
+    """What the service has sent by now: nothing yet is None, and its end is empty."""
+    service.settimeout(0)
     try:
-        begun = b""
-        while b"\r\n" not in begun and (piece := connection.recv(65536)):
-            begun += piece
-        line, end, rest = begun.partition(b"\r\n")
-        service.sendall(line + end + fields + rest)
-        while back.is_alive() and (piece := connection.recv(65536)):
+        return service.recv(65536)
+    except ssl.SSLWantReadError:
+        return None
+    finally:
+        service.settimeout(None)
+
+
+def exchange(connection, service):
+    """Hands bytes on both ways until either side ends. One thread does both: two may not use one TLS connection at a time."""
+    while True:
+        ready, _, _ = select.select([connection, service], [], [])
+        if service in ready:
+            while (piece := read_now(service)) is not None:
+                if not piece:
+                    return
+                connection.sendall(piece)
+        if connection in ready:
+            piece = connection.recv(65536)
+            if not piece:
+                return
             service.sendall(piece)
-    except OSError:
-        pass
-    back.join()
 
 
 def serve(connection, host, address, context, fields):
     """Serves one call. A fault is told, and closes the connection."""
     with connection:
         try:
-            told = fields.lines()
+            line, end, rest = first_piece(connection).partition(b"\r\n")
+            if not end:
+                return
+            begun = line + end + fields.lines() + rest
             plain = socket.create_connection(address, 30)
             plain.settimeout(None)
             with context.wrap_socket(plain, server_hostname=host) as service:
-                ask(connection, service, told)
+                service.sendall(begun)
+                exchange(connection, service)
+                connection.shutdown(socket.SHUT_WR)
         except (OSError, subprocess.SubprocessError) as fault:
             print(f"tls_proxy: {host}: {fault}", file=sys.stderr, flush=True)
 
