@@ -10,7 +10,7 @@ NAME.args has further words of its command line, one in each line. NAME.service.
 `sent` to it and the `answer`, in their order. A service on loopback answers them; a run sends these and no others, and a resumption nothing.
 Such an example is also run as a reader does it: by the command that examples/serve.py prints.
 
-The transcripts are those of README.md and of docs/USING.md, MOVING.md and OPERATING.md; .ci/transcripts.py says how they are written.
+The transcripts are those of README.md and of docs/USING.md, MOVING.md, OPERATING.md and JOURNAL.md; .ci/transcripts.py says how they are written.
 
 What fails is told, with what was wanted and what came, and the rest goes on. Words behind the program's path name what is tried: examples by
 their names, `refusals`, `transcripts`; without them all is.
@@ -29,7 +29,7 @@ from service import Service
 from transcripts import run_transcripts
 
 PROGRAM = os.path.abspath(sys.argv[1] if len(sys.argv) > 1 else "crates/workflow/out/workflow")
-DOCUMENTS = ("README.md", "docs/USING.md", "docs/MOVING.md", "docs/OPERATING.md")
+DOCUMENTS = ("README.md", "docs/USING.md", "docs/MOVING.md", "docs/OPERATING.md", "docs/JOURNAL.md")
 PAIR = re.compile(
     r"```(?:yaml|json)\n(?P<bad>.*?)```\n\n    (?P<refusal>refused .*?)\n.*?```(?:yaml|json)\n(?P<good>.*?)```\n\n    (?P<line>.*?)\n", re.S
 )
