@@ -5,7 +5,8 @@
 - The picture of docs/ARCHITECTURE.md has each crate once, in its group; a crate stands on those that are further in below it.
 - docs/DECISIONS.md tells how long the longest chain of libraries is.
 - crates/*/README.md begins with its group and the crates below and above it. `--write` writes these lines.
-- A sentence of PLAIN has at most 25 words. It ends with `.`, `!`, `?` or `;`; what stands in backquotes is one word, and an item or a cell a text.
+- A sentence of PLAIN has at most 25 words. It ends with `.`, `!`, `?` or `;`; what stands in backquotes is one word, a crate's name none, and an
+  item or a cell a text of its own.
 """
 
 import re
@@ -137,11 +138,11 @@ def blocks(text):
             block.append(line.strip())
 
 
-def long_sentences(path):
+def long_sentences(crates, path):
     for block in blocks(read(path)):
         plain = re.sub(r"`[^`]*`", lambda quoted: re.sub(r"[ .;!?]", "_", quoted[0]), block)
         for sentence in re.split(r"(?<=[.!?;])[*)']*\s+", plain):
-            count = len(re.findall(r"\S*\w\S*", sentence))
+            count = sum(it.strip("(),.:;") not in crates.uses for it in re.findall(r"\S*\w\S*", sentence))
             if count > WORDS:
                 yield f"{path}: {count} words: {sentence.strip()}"
 
@@ -149,7 +150,7 @@ def long_sentences(path):
 def main():
     crates = Crates()
     faults = [*readme_faults(crates), *picture_faults(crates), *chain_faults(crates), *head_faults(crates, "--write" in sys.argv)]
-    faults += [fault for path in PLAIN for fault in long_sentences(path)]
+    faults += [fault for path in PLAIN for fault in long_sentences(crates, path)]
     for fault in faults:
         print(fault)
     print(f"texts: {len(crates.uses)} crates, {len(PLAIN)} documents of short sentences, {len(faults)} faults")
