@@ -1,8 +1,9 @@
 """Runs the transcripts of a document: its blocks fenced as `console`, as a reader would type them.
 
 A line `$ COMMAND` is a command, lines `> ..` behind it go on with it, and all else up to the next command is what it prints, on both outputs. The
-commands of a document run one behind another in one shell, in a fresh folder that has `examples`, with the built `workflow` on the path. Behind a
-command that ends with `&` a second passes, and until somebody listens on each port that it names, so that what it began is there.
+commands of a document run one behind another in one shell, in a fresh folder that has `examples`, with the built `workflow` on the path. A number of
+five digits in a command is a port: a free one is taken in its place. Behind a command that ends with `&` a second passes, and until somebody
+listens on each port that it names, so that what it began is there.
 
 What varies is marked. In what is printed `...` stands for any text of a line, and a line of `...` alone for any lines. Behind the word `console`
 may stand `numbers`, where each number stands for any number, or `outside`: such a block needs a tool or a service that isn't here, and isn't run.
@@ -11,13 +12,14 @@ may stand `numbers`, where each number stands for any number, or `outside`: such
 import os
 import re
 import signal
+import socket
 import subprocess
 import tempfile
 import threading
 import time
 
 FENCE = re.compile(r"^```console(?P<marks>[ \w]*)\n(?P<text>.*?)^```$", re.M | re.S)
-PORT = re.compile(r"(?<![\w.])\d{4,5}\b")
+PORT = re.compile(r"(?<![\w.])\d{5}\b")
 END = "end of the command"
 LONGEST = 120
 
@@ -47,6 +49,11 @@ class Command:
         return [f"{self.place}: $ {self.text}\n--- wanted\n{wanted}--- got\n{printed}"]
 
 
+def free_port():
+    with socket.create_server(("127.0.0.1", 0)) as door:
+        return door.getsockname()[1]
+
+
 def wait_for_ports(command):
     """Waits until somebody listens on each port that a command names, for a while."""
     ends = time.monotonic() + 20
@@ -66,6 +73,7 @@ class Shell:
         os.mkdir(f"{folder}/.bin")
         os.symlink(program, f"{folder}/.bin/workflow")
         os.symlink(os.path.abspath("examples"), f"{folder}/examples")
+        self.ports = {}
         environment = {**os.environ, "PATH": f"{folder}/.bin:{os.environ['PATH']}", "HOME": folder, "LC_ALL": "C.UTF-8"}
         self.process = subprocess.Popen(
             ["bash", "--norc", "--noprofile"], cwd=folder, env=environment, start_new_session=True, text=True,
@@ -74,6 +82,7 @@ class Shell:
 
     def run(self, command):
         """Runs a command, and gives what it printed. The status that it leaves is there for the next one."""
+        command = PORT.sub(lambda port: str(self.ports.setdefault(port[0], free_port())), command)
         lines = [f"{{ {command}\n}} 2>&1 < /dev/null", "left=$?", f"echo '{END}'", "(exit $left)"]
         self.process.stdin.write("\n".join(lines) + "\n")
         self.process.stdin.flush()
