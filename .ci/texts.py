@@ -9,6 +9,7 @@
   item or a cell a text of its own.
 """
 
+import os
 import re
 import sys
 
@@ -112,6 +113,9 @@ def head_faults(crates, write):
     """The crates whose README begins otherwise. Its head is written, where that is asked."""
     for name in crates.uses:
         path = f"crates/{name}/README.md"
+        if not os.path.exists(path):
+            yield f"{path}: isn't there"
+            continue
         title, _, rest = read(path).partition("\n\n")
         if rest.partition("\n")[0] == crates.head(name):
             continue
