@@ -165,6 +165,7 @@ def transcripts():
 def main():
     asked = sys.argv[2:]
     names = [it for it in asked if it not in ("refusals", "transcripts")]
+    FAULTS.extend(f"examples/{it}.yaml isn't there" for it in names if not os.path.exists(f"examples/{it}.yaml"))
     tried = examples(names) if names or not asked else 0
     pairs = refusals() if "refusals" in asked or not asked else 0
     run, left = transcripts() if "transcripts" in asked or not asked else (0, 0)
