@@ -20,6 +20,8 @@ import time
 
 FENCE = re.compile(r"^```console(?P<marks>[ \w]*)\n(?P<text>.*?)^```$", re.M | re.S)
 PORT = re.compile(r"(?<![\w.])\d{5}\b")
+# what a shell says at some later moment of a job that was killed
+NOTICE = re.compile(r"^bash: line \d+: +\d+ (?:Killed|Terminated) .*\n", re.M)
 END = "end of the command"
 LONGEST = 120
 
@@ -98,6 +100,7 @@ class Shell:
         if command.endswith("&"):
             time.sleep(1)
             wait_for_ports(command)
+        printed = NOTICE.sub("", printed)
         return printed + "\n" if printed and not printed.endswith("\n") else printed
 
     def close(self):
