@@ -3,7 +3,7 @@
 A line `$ COMMAND` is a command, lines `> ..` behind it go on with it, and all else up to the next command is what it prints, on both outputs. The
 commands of a document run one behind another in one shell, in a fresh folder that has `examples`, with the built `workflow` on the path. A number of
 five digits in a command is a port: a free one is taken in its place. Behind a command that ends with `&` a second passes, and until somebody
-listens on each port that it names, so that what it began is there.
+listens on each port that it names, so that what it began is there. Behind `kill -9 $!` it waits until that process has gone.
 
 What varies is marked. In what is printed `...` stands for any text of a line, and a line of `...` alone for any lines. Behind the word `console`
 may stand `numbers`, where each number stands for any number, or `outside`: such a block needs a tool or a service that isn't here, and isn't run.
@@ -85,7 +85,8 @@ class Shell:
     def run(self, command):
         """Runs a command, and gives what it printed. The status that it leaves is there for the next one."""
         command = PORT.sub(lambda port: str(self.ports.setdefault(port[0], free_port())), command)
-        lines = [f"{{ {command}\n}} 2>&1 < /dev/null", "left=$?", f"echo '{END}'", "(exit $left)"]
+        gone = "wait $!" if command.endswith("kill -9 $!") else ":"
+        lines = [f"{{ {command}\n}} 2>&1 < /dev/null", "left=$?", gone, f"echo '{END}'", "(exit $left)"]
         self.process.stdin.write("\n".join(lines) + "\n")
         self.process.stdin.flush()
         alarm = threading.Timer(LONGEST, self.close)
