@@ -1,8 +1,7 @@
--- What a call of the library gives.
-use Rattle.std.specs.Prelude.{◌≡◌, Some, None, Ok, Err, Option, Result}
+-- Values that are lent, and what faults of JSON raise.
+use Rattle.std.specs.Prelude.{Some, None, Option}
 use Rattle.std.specs.Borrow.{Bor}
 use Rattle.wf_value.specs.Data.{Data, null}
-use Rattle.wf_value.specs.Errors.{Answer}
 use Rattle.wf_value.specs.Plain.{plain}
 use Rattle.wf_value.specs.declared.errors.Raise.{Raise}
 use Rattle.wf_value.specs.declared.errors.Raise.TheVariants.{Error, OutOfMemory}
@@ -10,12 +9,6 @@ use Rattle.wf_value.specs.declared.errors.Tag.TheVariants.{ValueError}
 use Rattle.wf_value.specs.declared.json_text.JsonFault.{JsonFault}
 use Rattle.wf_value.specs.declared.json_text.JsonFault.TheVariants.{NotJson, Decimal, TooDeep, OutOfMemory as NoMemory}
 use Rattle.wf_value.specs.declared.value.Value.{Value}
-
--- this answer: its value, or an error with its tag. Where there is no memory nothing is said
-abbrev pub Gives : Result Value Raise → Answer Data → Type 0
-Gives (Ok v) a = a ≡ Ok (plain v)
-Gives (Err (Error t)) a = a ≡ Err t
-Gives (Err OutOfMemory) a = Unit {0}
 
 -- a value that is lent, and null for none
 abbrev pub or_null : Option (Bor Value) → Data
