@@ -29,6 +29,7 @@ pub use bindings::Bindings;
 pub use calling::call_function;
 pub use entering::{enter, enter_call};
 pub use facts::Facts;
+pub use filling::fill_shape;
 pub use frames::{Frame, Frames, Judging, Left, Looping, Trying};
 pub use kinds::{Kind, Wants, next_kind};
 pub use laws::{assigns_as_tasks_do, looks_as_tasks_do};

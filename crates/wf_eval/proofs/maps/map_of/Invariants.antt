@@ -1,7 +1,7 @@
 use Rattle.std.proofs.Common.{◌≡◌, length}
 use Rattle.wf_value.specs.Data.{no_pairs, pairs_of}
 use Rattle.wf_eval.specs.Answers.{put_all}
-use Rattle.wf_eval.proofs.filling.map_of.Given as goal
+use Rattle.wf_eval.proofs.maps.map_of.Given as goal
 
 -- what is left is put into what is made
 abbrev pub invariant-loop-key : goal.invariant-loop-key
