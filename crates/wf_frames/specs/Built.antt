@@ -1,6 +1,6 @@
 -- Tables whose steps are built.
 --     is_table_built     none is parallel
---     Tells              such a table tells of a program's parts
+--     IsTableOf          such a table tells of a program's parts
 --     AreTargets         what its calls name: workflows, functions, calls of HTTP, sleeps and the log; and the workflows of its predicates
 use Rattle.std.specs.Prelude.{◌≡◌, ℕ, Bool, true, false, not, List, map, option_map, slice_get, is_some, Some, None, Option}
 use Rattle.std.specs.List.{list_all}
@@ -41,7 +41,7 @@ is_node_built nodes x = kind_built nodes x.kind
 abbrev pub is_table_built : List Node → Bool
 is_table_built nodes = list_all (is_node_built nodes) nodes
 
-pub record Tells (ns : List Spot) (nodes : List Node) : Type 0 where
+pub record IsTableOf (ns : List Spot) (nodes : List Node) : Type 0 where
   pub resolves : Resolves ns nodes
   pub nexts : (i : ℕ) (x : Node) → slice_get nodes i ≡ Some x → part_next (part_at ns i) ≡ x.next
   pub built : is_table_built nodes ≡ true

@@ -11,7 +11,7 @@ ghost use Rattle.wf_ast.specs.Apply.{View};
 ghost use Rattle.wf_model.specs.Config.{Item};
 ghost use Rattle.wf_model.specs.Move as move;
 ghost use Rattle.wf_model.specs.Move.{entered};
-ghost use Rattle.wf_frames.specs.Built.{Tells};
+ghost use Rattle.wf_frames.specs.Built.{IsTableOf};
 ghost use Rattle.wf_frames.specs.Steps.{AsksWith, CallsWith, CarriesCall, CarriesOut, Fails, Holds, IsDone, IsNoCall, IsOf, IsReady, LeadsSo, Performs, PerformsCall, RaisesValue, ReturnsValue, Within, arm_in, ends, is_idle, is_idle_kind};
 ghost use Rattle.wf_frames.specs.declared.frames.Frame.{Frame};
 ghost use Rattle.wf_model.specs.NodeKinds.{call_by, over_by};
@@ -143,7 +143,7 @@ fn truth_of(value: &Value) -> Result<bool, Raise>
 #[inline(always)]
 fn holds<K: Look>(alloc: Global, nodes: &[Node], n: u32, look: &K, now: u64) -> Result<bool, Raise>
     ghost ns: { List Spot }
-    requires tells { Tells ns nodes.now }
+    requires tells { IsTableOf ns nodes.now }
     requires within { n < length nodes.now }
     ensures { Holds ns n (seen (K.sight look.now) now) result }
 {
@@ -167,7 +167,7 @@ fn choose<K: Look>(
     now: u64,
 ) -> Result<Option<u32>, Raise>
     ghost at: { Within }
-    requires tells { Tells at.spots nodes.now }
+    requires tells { IsTableOf at.spots nodes.now }
     requires arms { ArmsStandIn at.spots (length nodes.now) at.owners arms.now }
     ensures within { IfOk result
         (λ o. IfSome o (λ n. (n < length nodes.now) × (owners_at at.spots n ≡ at.owners))) }
@@ -264,7 +264,7 @@ fn switch<K: Look>(
     now: u64,
 ) -> Result<Step, OutOfMemory>
     ghost at: { Within }
-    requires tells { Tells at.spots nodes.now }
+    requires tells { IsTableOf at.spots nodes.now }
     requires arms { ArmsStandIn at.spots (length nodes.now) at.owners arms.now }
     requires fits { Fits at.spots nodes.now (inner frames.old) }
     requires inside { at.owners ≡ reach (inner frames.old) }
@@ -349,7 +349,7 @@ fn calls<K: Look>(
 /// The frame of the body of a `try`.
 pub fn body_frame(nodes: &[Node], body: u32) -> Frame
     ghost ns: { List Spot }
-    requires tells { Tells ns nodes.now }
+    requires tells { IsTableOf ns nodes.now }
     requires within { body < length nodes.now }
     requires next { has_next (view_at nodes.now body) ≡ false }
     ensures item { (k : List Item) → items ns result k ≡ entered (part_body (part_at ns body)) ∷ k }
@@ -373,7 +373,7 @@ fn enter_try(
     frames: &mut Frames,
 ) -> Result<Step, OutOfMemory>
     ghost ns: { List Spot }
-    requires tells { Tells ns nodes.now }
+    requires tells { IsTableOf ns nodes.now }
     requires tried { IsTry nodes.now n tried.now }
     requires fits { Fits ns nodes.now (inner frames.old) }
     requires inside { owners_at ns n ≡ reach (inner frames.old) }
@@ -404,7 +404,7 @@ fn perform_plain<K: Look>(
     now: u64,
 ) -> Result<Step, OutOfMemory>
     ghost ns: { List Spot }
-    requires tells { Tells ns nodes.now }
+    requires tells { IsTableOf ns nodes.now }
     requires within { n < length nodes.now }
     requires other { (f : call_node.CallNode) → IsCall nodes.now n f → ⊥ }
     requires fits { Fits ns nodes.now (inner frames.old) }
@@ -452,7 +452,7 @@ fn perform<K: Look>(
     now: u64,
 ) -> Result<Step, OutOfMemory>
     ghost ns: { List Spot }
-    requires tells { Tells ns nodes.now }
+    requires tells { IsTableOf ns nodes.now }
     requires within { n < length nodes.now }
     requires fits { Fits ns nodes.now (inner frames.old) }
     requires inside { owners_at ns n ≡ reach (inner frames.old) }
@@ -485,7 +485,7 @@ pub(crate) fn carry_out<K: Look>(
     now: u64,
 ) -> Result<Step, OutOfMemory>
     ghost ns: { List Spot }
-    requires tells { Tells ns nodes.now }
+    requires tells { IsTableOf ns nodes.now }
     requires within { n < length nodes.now }
     requires fits { Fits ns nodes.now (inner frames.old) }
     requires inside { owners_at ns n ≡ reach (inner frames.old) }

@@ -7,7 +7,7 @@ ghost use Rattle.wf_frames.specs.Stands.{Stands};
 ghost use Rattle.wf_model.specs.Config.{Item};
 ghost use Rattle.wf_model.specs.Local as local;
 ghost use Rattle.wf_model.specs.Local.{Local, Moved, Scene};
-ghost use Rattle.wf_frames.specs.Built.{Tells};
+ghost use Rattle.wf_frames.specs.Built.{IsTableOf};
 ghost use Rattle.wf_moves.specs.Moved.{IsLeft, IsMove, IsSettled, IsThrough, turned_in};
 ghost use Rattle.wf_moves.specs.Tasks.{IsDone, IsLeftSo};
 ghost use Rattle.wf_frames.specs.declared.frames.Frames.{Frames};
@@ -97,7 +97,7 @@ pub(crate) fn done_of(went: Went) -> Done
 #[inline(always)]
 pub(crate) fn settle(frames: &mut Frames, nodes: &[Node], scopes: &mut Scopes)
     ghost around: { Around }
-    requires tells { Tells around.spots nodes.now }
+    requires tells { IsTableOf around.spots nodes.now }
     requires stands { Stands around nodes.now frames.old scopes.old }
     ensures stands { Stands around nodes.now frames.new scopes.new }
     ensures settled { IsSettled nodes.now (inner frames.new) }
@@ -120,7 +120,7 @@ pub(crate) fn settle(frames: &mut Frames, nodes: &[Node], scopes: &mut Scopes)
 #[inline(always)]
 pub(crate) fn goes(frames: &mut Frames, nodes: &[Node], scopes: &mut Scopes) -> Went
     ghost around: { Around }
-    requires tells { Tells around.spots nodes.now }
+    requires tells { IsTableOf around.spots nodes.now }
     requires stands { Stands around nodes.now frames.old scopes.old }
     ensures stands { Stands around nodes.now frames.new scopes.new }
     ensures left { IsLeft nodes.now result frames.new }

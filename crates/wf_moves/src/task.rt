@@ -8,7 +8,7 @@ ghost use Rattle.wf_frames.specs.Sights.{Sees};
 ghost use Rattle.wf_frames.specs.Stands.{Stands};
 ghost use Rattle.wf_frames.specs.Turns.{Agrees};
 ghost use Rattle.wf_model.specs.Local.{Moved, Scene};
-ghost use Rattle.wf_frames.specs.Built.{AreTargets, Tells};
+ghost use Rattle.wf_frames.specs.Built.{AreTargets, IsTableOf};
 ghost use Rattle.wf_moves.specs.Moved.{IsLeft, IsMove, IsSettled};
 ghost use Rattle.wf_moves.specs.Tasks.{told_by, told_in};
 ghost use Rattle.wf_model.specs.Spots.{part_at};
@@ -101,7 +101,7 @@ impl Task {
         scopes: &mut Scopes,
     ) -> Result<Task, OutOfMemory>
         ghost around: { Around }
-        requires tells { Tells around.spots nodes.now }
+        requires tells { IsTableOf around.spots nodes.now }
         requires start { IsFlow nodes.now flow }
         requires first { IsFirst around scopes.old }
         ensures begins { IfOk result (λ t. first (part_at around.spots flow) (plain argument)
@@ -136,7 +136,7 @@ impl Task {
     #[inline(always)]
     pub fn next_kind(&self, nodes: &[Node], wants: &[Wants]) -> Kind
         ghost around: { Around }
-        requires tells { Tells around.spots nodes.now }
+        requires tells { IsTableOf around.spots nodes.now }
         requires fits { Fits around.spots nodes.now (inner self.now.frames) }
         requires going { CanGoOn nodes.now self.now }
         requires awake { is_awake_in self.now.wait ≡ true }
@@ -190,7 +190,7 @@ impl Task {
         sending: &Sending,
     ) -> Result<Move, OutOfMemory>
         ghost around: { Around }
-        requires tells { Tells around.spots nodes.now }
+        requires tells { IsTableOf around.spots nodes.now }
         requires targets { AreTargets around.flows around.spots nodes.now targets.now }
         requires stands { Stands around nodes.now self.old.frames scopes.old }
         requires going { CanGoOn nodes.now self.old }
@@ -237,7 +237,7 @@ impl Task {
         awaits: Awaits,
     ) -> Result<Move, OutOfMemory>
         ghost around: { Around }
-        requires tells { Tells around.spots nodes.now }
+        requires tells { IsTableOf around.spots nodes.now }
         requires targets { AreTargets around.flows around.spots nodes.now targets.now }
         requires stands { Stands around nodes.now self.old.frames scopes.old }
         requires left { IsAwaitedLeft nodes.now awaits self.old.frames }
@@ -276,7 +276,7 @@ impl Task {
         facts: &Facts,
     ) -> Result<Move, OutOfMemory>
         ghost around: { Around }
-        requires tells { Tells around.spots nodes.now }
+        requires tells { IsTableOf around.spots nodes.now }
         requires targets { AreTargets around.flows around.spots nodes.now targets.now }
         requires stands { Stands around nodes.now self.old.frames scopes.old }
         requires going { CanGoOn nodes.now self.old }
@@ -312,7 +312,7 @@ impl Task {
         facts: &Facts,
     ) -> Result<Move, OutOfMemory>
         ghost around: { Around }
-        requires tells { Tells around.spots nodes.now }
+        requires tells { IsTableOf around.spots nodes.now }
         requires targets { AreTargets around.flows around.spots nodes.now targets.now }
         requires stands { Stands around nodes.now self.old.frames scopes.old }
         requires going { CanGoOn nodes.now self.old }
@@ -349,7 +349,7 @@ impl Task {
         value: Value,
     ) -> Result<Move, OutOfMemory>
         ghost around: { Around }
-        requires tells { Tells around.spots nodes.now }
+        requires tells { IsTableOf around.spots nodes.now }
         requires targets { AreTargets around.flows around.spots nodes.now targets.now }
         requires stands { Stands around nodes.now self.old.frames scopes.old }
         requires call { is_call_at nodes.now node ≡ true }
@@ -384,7 +384,7 @@ impl Task {
         went: Went,
     ) -> Result<Move, OutOfMemory>
         ghost around: { Around }
-        requires tells { Tells around.spots nodes.now }
+        requires tells { IsTableOf around.spots nodes.now }
         requires targets { AreTargets around.flows around.spots nodes.now targets.now }
         requires stands { Stands around nodes.now self.old.frames scopes.old }
         requires left { IsLeft nodes.now went self.old.frames }
@@ -416,7 +416,7 @@ impl Task {
         went: Went,
     ) -> Result<Behind, OutOfMemory>
         ghost around: { Around }
-        requires tells { Tells around.spots nodes.now }
+        requires tells { IsTableOf around.spots nodes.now }
         requires targets { AreTargets around.flows around.spots nodes.now targets.now }
         requires stands { Stands around nodes.now self.old.frames scopes.old }
         requires left { IsLeft nodes.now went self.old.frames }
