@@ -2,7 +2,7 @@
 
 ghost use Rattle.wf_model.specs.ChoiceLaws.{NothingIsChosenWhenQuiet, NothingIsChosenBehindAnOutcome, ChoiceTakesTheReading};
 ghost use Rattle.wf_model.specs.CallLaws.{CallsGoOn, AnswersClose};
-ghost use Rattle.wf_model.specs.CountLaws.{EventsAreCounted, TakenWeighsNothing, TasksWeighLittle};
+ghost use Rattle.wf_model.specs.CountLaws.{EventsAreCounted, EventsAreFew, RunsAreShort, TakenWeighsNothing, TasksWeighLittle};
 ghost use Rattle.wf_model.specs.ReadingLaws.{StepsRead, ChosenIsFromInside};
 ghost use Rattle.wf_model.specs.WaitLaws.{AnswersLead, CallsAreAwaited, QuietHasADue, RootLives, SoundAtFirst, SoundIsAwaited, StepsStaySound, WaitingHasADue};
 ghost use Rattle.wf_model.specs.TurnLaws.{NextTurnGoesOn, LaterTurnDoesNotCount, AllTurnsAreTheRun};
@@ -66,10 +66,13 @@ pub fn laws_of_waits()
     ensures answers_lead { AnswersLead }
 {}
 
-/// What holds of events that nothing outside has to bring: with each of them the weight of the tasks' waits and three times the moves that
-/// are left fall. An answer or a request that comes makes no task heavier, and a task weighs at most two.
+/// What holds of counts of events: with each that nothing outside has to bring, the weight of the tasks' waits and three times the moves
+/// that are left fall. An answer or a request that comes makes no task heavier, and a task weighs at most two. With each event but a
+/// request they fall, or the execution ends; so a run has at most 300,001 events beside the requests that came.
 pub fn laws_of_counts()
     ensures events_are_counted { EventsAreCounted }
     ensures taken_weighs_nothing { TakenWeighsNothing }
     ensures tasks_weigh_little { TasksWeighLittle }
+    ensures events_are_few { EventsAreFew }
+    ensures runs_are_short { RunsAreShort }
 {}
