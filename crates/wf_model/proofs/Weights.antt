@@ -9,8 +9,7 @@ use Rattle.wf_model.proofs.After.{Leads, led_to}
 use Rattle.wf_model.proofs.Awaited.{Same, close_tasks, put_outer_same, task_of, waiting_from}
 use Rattle.wf_model.proofs.TaskLists.{higher, put_rises, drop_rises, known, drop_other, none_below, put_other, put_same}
 use Rattle.wf_model.proofs.Counts.{Same as Same_of, same_stays}
-use Rattle.wf_model.proofs.Numbers.{some_case}
-use Rattle.wf_model.proofs.Walk.{bool_case, leads_on, when_leads, by_itself_stays, begins_stays, timed_out_stays, merged_stays, replied_to_stays, visited_stays}
+use Rattle.wf_model.proofs.Walk.{bool_case, some_case, leads_on, when_leads, by_itself_stays, begins_stays, timed_out_stays, merged_stays, replied_to_stays, visited_stays}
 use Rattle.wf_model.specs.Config.{Left, WorkLeft, BranchesLeft, ValuesLeft, Item, Do, Entries, Try, Judge, Mark, Back, Wait, Awake, Sleep, Delay, Calling, Await, Task, Call, Open, Answered, TimedOut, Outcome, Active, Returned, Raised, Cancelled, Config, After, To, Wrong, NotNow, move_limit, body_limit, call_limit, task, task_in, with_task, put_in, drop_in, next_of}
 use Rattle.wf_model.specs.CountLaws.{weight, weigh, EventsAreCounted, IsFromOutside, TakenWeighsNothing, TasksWeighLittle, price, prices, arrivals, is_over, EventsAreFew, RunsAreShort}
 use Rattle.wf_model.specs.Kinds.{Plainly, ByClock, ByCall}
@@ -20,7 +19,7 @@ use Rattle.wf_model.specs.Local.{Outer, Local, Scene, Effect, Moved, Goes, Ends,
 use Rattle.wf_model.specs.Move.{entered, move, issue, loop_steps, awake, resumed, retries, timeout_error, due_by, due}
 use Rattle.wf_model.specs.ReadingLaws.{IsFromInside}
 use Rattle.wf_model.specs.Ready.{call, may_begin, is_due}
-use Rattle.wf_model.specs.Run.{main_steps, main_task, main_local, empty, initial, run_on, Run}
+use Rattle.wf_model.specs.Run.{main_steps, main_task, main_local, empty, initial, run_on}
 use Rattle.wf_model.specs.RunLaws.{RisesFrom, RunsAreBounded}
 use Rattle.wf_model.specs.Step.{stopped, one_more, counted, read_at, close, replied, replied_to, timed_out, begun, new_task, fresh, starts, starts_turn, starts_work, begins_by, when, wants, for_task, bodies_left, waits_for, waiting_in, result_of, taken_by, visited, by_event, step_from, next}
 use Rattle.wf_model.specs.Taken.{scene, local, put_outer, layer_at, joined, put_error, without_task, finish, done, merged, by_itself}

@@ -1,7 +1,7 @@
 //! Laws of the language's meaning, for every program. The functions do nothing; each of their clauses is a law.
 
 ghost use Rattle.wf_model.specs.ChoiceLaws.{NothingIsChosenWhenQuiet, NothingIsChosenBehindAnOutcome, ChoiceTakesTheReading};
-ghost use Rattle.wf_model.specs.CallLaws.{CallsGoOn, AnswersClose};
+ghost use Rattle.wf_model.specs.CallLaws.{CallsGoOn, AnswersClose, RequestsAreAsked};
 ghost use Rattle.wf_model.specs.CountLaws.{EventsAreCounted, EventsAreFew, RunsAreShort, TakenWeighsNothing, TasksWeighLittle};
 ghost use Rattle.wf_model.specs.ReadingLaws.{StepsRead, ChosenIsFromInside};
 ghost use Rattle.wf_model.specs.WaitLaws.{AnswersLead, CallsAreAwaited, QuietHasADue, RootLives, SoundAtFirst, SoundIsAwaited, StepsStaySound, WaitingHasADue};
@@ -41,10 +41,12 @@ pub fn laws_of_turns()
     ensures all_turns_are_the_run { AllTurnsAreTheRun }
 {}
 
-/// What holds of calls: events only close them, new ones come behind, and an answer closes its call unless it ends the execution.
+/// What holds of calls: events only close them, new ones come behind, and an answer closes its call unless it ends the execution. The
+/// request of an open call is made of what it asks, of the execution's id and of the call's number.
 pub fn laws_of_calls()
     ensures calls_go_on { CallsGoOn }
     ensures answers_close { AnswersClose }
+    ensures requests_are_asked { RequestsAreAsked }
 {}
 
 /// What holds of readings and choices: a step takes its event's reading, and what is chosen needs nothing from outside.
