@@ -78,12 +78,12 @@ module _ (g : Goal) (a : Asked) (id : Text) (k : ℕ) (p : Payload) (h : good_fi
       ∙ coding_of_ending (content_types a.fields) a.method p
 
 -- ## The framing
-all_ascii : (ds : List ℕ) → AllDigits 10 ds → list_all is_ascii_digit ds ≡ true
-all_ascii [] all = refl
-all_ascii (d ∷ ds) all = and_from (is_ascii_digit d) (list_all is_ascii_digit ds) (digit_told d all.0) (all_ascii ds all.1)
-
 numeral : (n : ℕ) → n < 2 ^ 64 → is_number (decimal n) ≡ true
 numeral n small = and_from (nat_lt 0 (length (decimal n))) (list_all is_ascii_digit (decimal n)) (lt-ltb 0 (length (decimal n)) (decimal_nonempty n small)) (all_ascii (decimal n) (decimal_is_IsNumeral n small).0.1)
+  where
+    all_ascii : (ds : List ℕ) → AllDigits 10 ds → list_all is_ascii_digit ds ≡ true
+    all_ascii [] all = refl
+    all_ascii (d ∷ ds) all = and_from (is_ascii_digit d) (list_all is_ascii_digit ds) (digit_told d all.0) (all_ascii ds all.1)
 
 one_length : (n : ℕ) → n < 2 ^ 64 → by_length NoBody (decimal n ∷ []) ≡ OfLength n
 one_length n small =
