@@ -1,5 +1,5 @@
 -- A command that hears enough isn't suspended.
-use Rattle.std.specs.Prelude.{◌≡◌, ◌+◌, ℕ, List, ◌⊎◌, Ok, Result}
+use Rattle.std.specs.Prelude.{◌≡◌, ℕ, List, ◌⊎◌, Ok, Result}
 use Rattle.std.proofs.Common.{sym, ap, ◌∙◌, arith, inl, inr}
 use Rattle.std.proofs.lemmas.List.{append_cancel_left}
 use Rattle.wf_args.specs.Lines.{PlainLine, line_of, waits_of}

@@ -1,7 +1,6 @@
 -- A suspended command has made all its polls, and few of them brought something.
 use Rattle.std.specs.Prelude.{◌≤◌, ◌+◌}
 use Rattle.std.proofs.Common.{subst}
-use Rattle.wf_args.specs.Lines.{waits_of}
 use Rattle.wf_deeds.specs.At.{journal, session_turns}
 use Rattle.wf_deeds.specs.Deeds.{polls}
 use Rattle.wf_deeds.specs.HistoryLaws.{ComputedIsHistory}
