@@ -15,7 +15,7 @@ import sys
 
 TOKEN = re.compile(r"[^\s(){}\[\];,«»]+")
 HEAD = re.compile(r"^(?:abbrev |unfoldable |pub |record |data )*([^\s(){}\[\];,.:]+)(?:\s|$)")
-INSIDE = re.compile(r"^\s+(?:abbrev )?(?:pub )?([^\s(){}\[\];,.:]+) :", re.M)
+INSIDE = re.compile(r"^\s+(?:abbrev |unfoldable )?(?:pub )?([^\s(){}\[\];,.:]+) :", re.M)
 LISTED = re.compile(r"use Rattle\.([\w.+-]+?)\.\{([^}]*)\}")
 WHOLE = re.compile(r"use Rattle\.([\w.+-]+?)(?: as ([\w-]+))?(?=[;\n])")
 GIVEN = re.compile(r"^pub use Rattle\.([\w.+-]+?)\.\{([^}]*)\}", re.M)
