@@ -132,7 +132,7 @@ busy_body ns cs x next (kind.Arm t) h e = absurd (cc h)
 busy_body ns cs x next (kind.Entry y) h e = absurd (cc h)
 busy_body ns cs x next (kind.Branch b) h e = absurd (cc h)
 
-none_is : {A : Type 0} (o : Option A) → is_none o ≡ true → o ≡ None
+pub none_is : {A : Type 0} (o : Option A) → is_none o ≡ true → o ≡ None
 none_is None h = refl
 none_is (Some a) h = absurd (cc h)
 

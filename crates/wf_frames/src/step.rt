@@ -43,6 +43,8 @@ pub enum Leads {
     Returns(Value),
     /// The call of the node, with the arguments by their names.
     Calls(u32, Map),
+    /// The parallel step of the node is entered. Nothing of it is evaluated yet.
+    Forks(u32),
 }
 
 /// What is still to be done of a step, beside its frames. What has a value at hand stands in a box: what every step hands on is small.
@@ -190,7 +192,7 @@ fn choose<K: Look>(
 }
 
 /// What a loop goes over.
-fn left_of<K: Look>(
+pub(crate) fn left_of<K: Look>(
     alloc: Global,
     over: &OverShape,
     codes: &[Postfix],
@@ -436,7 +438,7 @@ fn perform_plain<K: Look>(
         NodeKind::Raise(shape) => raises(alloc, shape, codes, look, now),
         NodeKind::Return(shape) => returns(alloc, shape, codes, look, now),
         NodeKind::Try(tried) => enter_try(alloc, nodes, n, tried, frames),
-        NodeKind::Parallel(_) => unreachable!(),
+        NodeKind::Parallel(_) => lead(alloc, Leads::Forks(n)),
         _ => Ok(Step::Goes),
     }
 }

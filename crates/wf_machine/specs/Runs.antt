@@ -61,6 +61,7 @@ pub record IsOut (m : Machine) (t : Task) : Type 0 where
   pub below : m.tally.moves < 100000
   pub now : m.facts.of_step.now ≡ 0
   pub last : m.facts.of_step.last ≡ m.tally.last
+  pub deeper : m.facts.of_step.deeper ≡ true
   pub calls : m.facts.sending.calls ≡ length m.calls
   pub logged : m.facts.sending.logged ≡ log_total (entries_of m.log)
 

@@ -4,12 +4,11 @@ ghost use Rattle.wf_ast.specs.Tree.{Program};
 ghost use Rattle.wf_check.specs.Seen.{nodes_of};
 ghost use Rattle.wf_frames.specs.Fits.{Fits};
 ghost use Rattle.wf_frames.specs.Frames.{inner};
-ghost use Rattle.wf_frames.specs.Owned.{control_of};
 ghost use Rattle.wf_frames.specs.Sights.{Sees};
 ghost use Rattle.wf_frames.specs.Stands.{Stands};
 ghost use Rattle.wf_frames.specs.Turns.{Agrees};
 ghost use Rattle.wf_machine.specs.Causes.{ReachesFor, SuitsTo, calls_by, does_by};
-ghost use Rattle.wf_machine.specs.Main.{Aims, Begins, IsStanding, around};
+ghost use Rattle.wf_machine.specs.Main.{Aims, Begins, IsStanding, around, task_control};
 ghost use Rattle.wf_model.specs.Kinds.{next_kind};
 ghost use Rattle.wf_model.specs.Local.{Scene};
 ghost use Rattle.wf_moves.specs.Tasks.{IsFirst, MovesSo, Stays};
@@ -63,7 +62,7 @@ pub(crate) fn kind_of(program: &Checked, wants: &[Wants], task: &Task) -> Kind
     requires awake { is_awake_in task.now.wait ≡ true }
     ensures { (p : Program)
         → AreWants p (spots plain.flows) (nodes_of program.now) wants.now
-        → kind_view result ≡ next_kind p (control_of (around plain) task.now.frames) }
+        → kind_view result ≡ next_kind p (task_control plain task.now) }
 {
     task.next_kind(program.nodes(), wants)
 }

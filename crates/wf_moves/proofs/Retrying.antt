@@ -40,7 +40,7 @@ use Rattle.wf_value.specs.declared.Value.{Value}
 use Rattle.wf_moves.proofs.Unwinding.{try_is}
 use Rattle.wf_moves.specs.Retries.{IsLed, LeadsBy, TriedAt, ask_at, asked_by, decide_at, retry_at, try_at, verdict_of, verdict_said, Asked, AsksFlow, IsAskedOn}
 use Rattle.wf_moves.specs.Moved.{IsEnd, IsWent, IsTurned}
-use Rattle.wf_moves.specs.Waits.{wait_view}
+use Rattle.wf_moves.specs.Waits.{waiting}
 use Rattle.wf_moves.specs.declared.judging.Verdict.TheVariants as verdict
 use Rattle.wf_moves.specs.declared.leading.Led.{Led}
 use Rattle.wf_moves.specs.declared.leading.Led.TheVariants as led
@@ -69,7 +69,7 @@ use Rattle.wf_value.specs.declared.Tag.TheVariants.{RecursionError, ResourceLimi
 pub breaks_led : (a : Around) (m : Moved) (d : Led) (l : Local) → (kind : Kind) × (m ≡ Breaks kind) → IsLed a m d l
 breaks_led a m led.Goes l b = subst (λ x. IsWent x l) (sym b.1) tt
 breaks_led a m (led.Ended e) l b = subst (λ x. IsEnd x e l) (sym b.1) tt
-breaks_led a m (led.Waits w) l b = subst (λ x. IsWent x (record l { wait = wait_view a w })) (sym b.1) tt
+breaks_led a m (led.Waits w) l b = subst (λ x. IsWent x (waiting a w l)) (sym b.1) tt
 
 -- ## One more frame
 -- that ends no layer

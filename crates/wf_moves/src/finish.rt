@@ -14,10 +14,10 @@ ghost use Rattle.wf_frames.specs.declared.frames.Frames.{Frames};
 ghost use Rattle.wf_model.specs.declared.node.Node.{Node};
 
 use crate::sending::Sent;
-use crate::wait::Wait;
+use crate::wait::{Joining, Wait};
 use std::alloc::Global;
 use wf_ast::boxed;
-use wf_frames::{Frames, Next, leave, next_in};
+use wf_frames::{Fork, Frames, Next, leave, next_in};
 use wf_model::Node;
 use wf_scope::Scopes;
 use wf_sys_ask::Logged;
@@ -66,6 +66,8 @@ pub(crate) enum Awaits {
     /// This was logged, and the move gives this then.
     Logged(Box<Logged>, Went),
     Waits(Wait),
+    /// The branches of a parallel step, of which there are so many.
+    Forks(Fork, Box<Joining>),
 }
 
 /// What a move of any kind gives: as `Went`, or what few of them wait for, in a box too.

@@ -14,6 +14,7 @@ use crate::assign::assign;
 use crate::back::returns;
 use crate::call::call;
 use crate::finish::{Done, Turned, done_of, goes, turns};
+use crate::forking::fork;
 use crate::jump::jump;
 use crate::sending::Sending;
 use crate::turn::turn;
@@ -53,6 +54,7 @@ fn finish_with(
         Leads::Calls(n, args) => call(
             alloc, nodes, targets, n, &args, frames, scopes, facts, sending,
         ),
+        Leads::Forks(n) => fork(alloc, nodes, n, frames, scopes, facts),
     }
 }
 

@@ -14,7 +14,7 @@ use crate::clock::{is_clock_among, is_clock_in, is_clock_named, is_now};
 use std::alloc::Global;
 use wf_ast::Postfix;
 use wf_frames::{Kind, Target, Wants, first_of};
-use wf_model::{EntryNode, Node, NodeKind, OverShape};
+use wf_model::{EntryNode, Node, NodeKind, OverShape, WorkNode};
 use wf_value::OutOfMemory;
 
 /// With a reading, or without.
@@ -135,7 +135,10 @@ fn node_kind(nodes: &[Node], targets: &[Target], n: usize) -> Kind
         NodeKind::Call(call) => call_kind(targets, n, is_clock_named(&call.args, codes)),
         NodeKind::Block(_) => Kind::Plain,
         NodeKind::Try(_) => Kind::Plain,
-        NodeKind::Parallel(_) => unreachable!(),
+        NodeKind::Parallel(body) => match &body.work {
+            WorkNode::Branches(_) => Kind::Plain,
+            WorkNode::Loop(repeated) => by_clock(is_over(&repeated.over, codes)),
+        },
         _ => Kind::Plain,
     }
 }
