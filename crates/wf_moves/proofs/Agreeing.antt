@@ -1,12 +1,10 @@
 -- Branches begin and end as steps do.
 use Rattle.std.proofs.Common.{◌≡◌, ℕ, List, [], ◌∷◌, Some, None, refl}
 use Rattle.std.specs.Prelude.{Option}
-use Rattle.wf_ast.specs.Tree.{Branches, no_branches, branch, LoopBody, OfBranches, OfLoop, ParallelBody, parallel}
-use Rattle.wf_model.specs.Config.{BranchesLeft, Config, Item, Left, Task, ValuesLeft, WorkLeft, next_of}
-use Rattle.wf_model.specs.Local.{Local, Scene}
-use Rattle.wf_model.specs.Move.{joins}
+use Rattle.wf_ast.specs.Tree.{Branches, no_branches, branch, LoopBody, OfBranches, OfLoop, parallel}
+use Rattle.wf_model.specs.Config.{BranchesLeft, Config, Item, Left, Task, ValuesLeft, next_of}
 use Rattle.wf_model.specs.Step.{starts_turn, starts_work}
-use Rattle.wf_moves.specs.Branches.{BeginsAsStepsDo, JoinsAsStepsDo, begins_with, error_in, first_of, first_turn, joins_with}
+use Rattle.wf_moves.specs.Branches.{BeginsAsStepsDo, JoinsAsStepsDo, begins_with, first_turn}
 use Rattle.wf_value.specs.Data.{Data}
 use Rattle.wf_value.specs.Pairs.{Text}
 

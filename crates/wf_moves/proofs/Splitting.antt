@@ -1,12 +1,11 @@
 -- The beginning of a parallel step.
-use Rattle.std.proofs.Common.{◌≡◌, ℕ, Bool, true, false, List, [], ◌∷◌, Some, None, Ok, Err, refl, sym, ap, subst, ◌∙◌, arith}
+use Rattle.std.proofs.Common.{◌≡◌, ℕ, Bool, true, false, List, [], ◌∷◌, Some, Ok, Err, refl, sym, ap, subst, ◌∙◌, arith}
 use Rattle.std.specs.Global.{Global}
-use Rattle.std.specs.Prelude.{Box, Option, ◌+◌, if◌then◌else◌, is_none, min, nat_le, not, unwrap_or}
+use Rattle.std.specs.Prelude.{Box, Option, ◌+◌, if◌then◌else◌, min, nat_le, not, unwrap_or}
 use Rattle.wf_ast.specs.Apply.{View}
-use Rattle.wf_ast.specs.Tree.{Body, ParallelBody}
+use Rattle.wf_ast.specs.Tree.{Body}
 use Rattle.wf_branches.specs.Changes.{new_join}
 use Rattle.wf_branches.specs.Steps.{count_of, join_of}
-use Rattle.wf_branches.specs.Table.{Join}
 use Rattle.wf_frames.proofs.Choices.{none_is}
 use Rattle.wf_frames.proofs.Parts.{as_part, parallel_built}
 use Rattle.wf_frames.specs.Built.{Tells}
@@ -20,7 +19,7 @@ use Rattle.wf_model.specs.Config as model
 use Rattle.wf_model.specs.Config.{Item, WorkLeft, limits, running_limit}
 use Rattle.wf_model.specs.Layers.{view}
 use Rattle.wf_model.specs.Leave.{on, raises}
-use Rattle.wf_model.specs.Local.{Goes, Moved, Scene, goes}
+use Rattle.wf_model.specs.Local.{Moved, Scene, goes}
 use Rattle.wf_model.specs.Move.{forks, work}
 use Rattle.wf_model.specs.Ready.{limit_of}
 use Rattle.wf_model.specs.Spots.{part_at, part_body}

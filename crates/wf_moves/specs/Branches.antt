@@ -4,8 +4,8 @@
 --     joins_with         how a task goes on behind a parallel step
 --     JoinsAsStepsDo     so does the definition of steps
 use Rattle.std.specs.Global.{Global}
-use Rattle.std.specs.Prelude.{◌≡◌, ◌≤◌, ℕ, ◌+◌, suc, Bool, true, false, not, List, [], ◌∷◌, Some, None, Ok, Err, Box, Option}
-use Rattle.wf_ast.specs.Tree.{Branches, no_branches, branch, OfBranches, OfLoop, ParallelBody, parallel, Steps}
+use Rattle.std.specs.Prelude.{◌≡◌, ◌≤◌, ℕ, ◌+◌, Bool, true, false, not, List, [], ◌∷◌, Some, None, Ok, Err, Box, Option}
+use Rattle.wf_ast.specs.Tree.{no_branches, branch, OfBranches, OfLoop, ParallelBody, parallel, Steps}
 use Rattle.wf_frames.specs.Fits.{Fits}
 use Rattle.wf_frames.specs.Forks.{opened_in, parallel_at, work_view}
 use Rattle.wf_frames.specs.Frames.{control, inner, own}
@@ -20,7 +20,7 @@ use Rattle.wf_model.specs.Local.{Local, Moved, Scene, goes}
 use Rattle.wf_model.specs.Move.{join_error, joins, loop_names, loop_steps}
 use Rattle.wf_model.specs.Step.{starts, starts_work}
 use Rattle.wf_model.specs.Taken.{tasks_total}
-use Rattle.wf_model.specs.Spots.{Spot}
+use Rattle.wf_model.specs.Spots.{Spot, part_at, part_list}
 use Rattle.wf_model.specs.declared.node.Node.{Node}
 use Rattle.wf_moves.specs.Waits.{CanGoOn, is_awake_in}
 use Rattle.wf_moves.specs.declared.branch.Begun.{Begun}
@@ -79,9 +79,12 @@ abbrev pub JoinsAsStepsDo : Type 0
 JoinsAsStepsDo = (s : Scene) (body : ParallelBody) (es : List (ℕ × Data)) (k : List Item) (l : Local) → joins s body es k l ≡ joins_with s (error_in body es) k l
 
 -- ## A task at a parallel step
--- work is left of the parallel step in which it stands
+-- work is left of a parallel step, and of that in which a task stands
+abbrev pub is_left : List Spot → Joining → Bool
+is_left ns j = not (is_empty (work_view (parallel_at ns j.node) j.next j.left))
+
 abbrev pub has_left : List Spot → Wait → Bool
-has_left ns (wait.Joining j) = not (is_empty (work_view (parallel_at ns j.value.node) j.value.next j.value.left))
+has_left ns (wait.Joining j) = is_left ns j.value
 has_left ns w = false
 
 -- a task that has begun, by the number of its layer
@@ -98,12 +101,22 @@ abbrev pub Begins : List Spot → List Node → First → ℕ → ℕ → List L
 Begins ns nodes f limit o old new (begun.Ready t) = IsBegun ns nodes f (fresh old) t × (bound_all limit (fresh old) f.names (opened_in o old) ≡ Ok new)
 Begins ns nodes f limit o old new (begun.Ended e) = (bound_all limit (fresh old) f.names (opened_in o old) ≡ Err fault.TooLarge) × (new ≡ old) × (plain e ≡ error_map ResourceLimitError) × (depth (plain e) ≤ 100)
 
+-- whichever branch has the steps of this node, and these names, does
+abbrev pub BeginsAt : List Spot → List Node → ℕ → List (Text × Data) → ℕ → ℕ → List Layer → List Layer → Begun → Type 0
+BeginsAt ns nodes list names limit o old new b = (f : First) → f.steps ≡ part_list (part_at ns list) → f.names ≡ names → Begins ns nodes f limit o old new b
+
 -- the parallel step goes on behind its next branch
 pub record StepsOn (ns : List Spot) (f : First) (old new : Joining) : Type 0 where
   pub node : new.node ≡ old.node
   pub next : new.next ≡ old.next + 1
   pub first : first_of (parallel_at ns old.node) old.next (work_view (parallel_at ns old.node) old.next old.left) ≡ Some f
   pub left : work_view (parallel_at ns old.node) new.next new.left ≡ f.left
+
+-- its next branch begins
+pub record BeginsFrom (ns : List Spot) (nodes : List Node) (limit o : ℕ) (old new : Joining) (before behind : List Layer) (b : Begun) : Type 0 where
+  pub first : First
+  pub steps : StepsOn ns first old new
+  pub begins : Begins ns nodes first limit o before behind b
 
 -- the task does, and nothing else of it changes
 pub record BranchesOff (ns : List Spot) (f : First) (old new : Task) : Type 0 where

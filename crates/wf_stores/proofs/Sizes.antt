@@ -1,7 +1,7 @@
 -- What variables come to.
 use Rattle.std.proofs.Common.{◌≡◌, ◌⊎◌, inl, inr, ℕ, ◌+◌, Bool, true, false, List, [], ◌∷◌, ◌++◌, map, Option, Some, None, refl, sym, ap, subst, ◌∙◌, arith}
-use Rattle.std.specs.Prelude.{◌||◌, if◌then◌else◌, nat_eq, nat_lt}
-use Rattle.std.proofs.lemmas.Bool.{and_parts, eq-eqb, eqb-false, eqb-true, ltb-true, ne_eqb}
+use Rattle.std.specs.Prelude.{if◌then◌else◌, nat_eq}
+use Rattle.std.proofs.lemmas.Bool.{and_parts, eq-eqb, eqb-false, ne_eqb}
 use Rattle.wf_frames.proofs.Unseen.{besides_closed}
 use Rattle.wf_frames.specs.Owned.{KeysStand, OwnStand, first_key}
 use Rattle.wf_frames.specs.Tasks.{AreApart, AreOthers, Far, Own, far_layers, numbers, own_layers}

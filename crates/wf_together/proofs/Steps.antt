@@ -3,14 +3,13 @@
 --     answer_comes, answer_stops   an answer, below the limit on bodies and past it
 --     due_comes                    its due moment
 --     off_step ..                  what can't come
-use Rattle.std.proofs.Common.{◌≡◌, ◌<◌, ◌≤◌, ◌⊎◌, inl, inr, ℕ, zero, suc, ◌+◌, Bool, true, false, not, ◌&&◌, List, None, Some, Option, [], ◌∷◌, refl, sym, ap, ◌∙◌, subst, arith, add-one}
-use Rattle.std.specs.Prelude.{if◌then◌else◌, is_some, nat_le, nat_lt}
+use Rattle.std.proofs.Common.{◌≡◌, ◌<◌, ◌≤◌, ◌⊎◌, inl, inr, ℕ, zero, suc, ◌+◌, Bool, true, false, ◌&&◌, None, Some, Option, refl, sym, ap, ◌∙◌, arith, add-one}
+use Rattle.std.specs.Prelude.{if◌then◌else◌, nat_le, nat_lt}
 use Rattle.std.proofs.lemmas.Bool.{le-leb, le-ltb, lt-leb, lt-ltb}
 use Rattle.wf_ast.specs.Tree.{Program}
 use Rattle.wf_model.specs.Choose.{wanted}
-use Rattle.wf_model.specs.Config.{Active, After, Answered, Call, Calling, Config, NotNow, Open, Outcome, Raised, Task, TimedOut, To, Wait, body_limit, move_limit, task}
+use Rattle.wf_model.specs.Config.{Active, After, Answered, Call, Calling, Config, NotNow, Open, Raised, Task, TimedOut, To, Wait, body_limit, move_limit, task}
 use Rattle.wf_model.specs.Kinds.{ByCall, ByClock, NextKind, Plainly, next_kind}
-use Rattle.wf_model.specs.Local.{Local, Moved, Scene}
 use Rattle.wf_model.specs.Move.{due, issue, move, resumed}
 use Rattle.wf_model.specs.Ready.{call, is_due, is_ready, may_begin}
 use Rattle.wf_model.specs.Step.{begins_by, by_event, close, counted, next, one_more, read_at, replied, replied_to, same_kind, step_from, stopped, timed_out, wants, when}

@@ -1,4 +1,4 @@
-use Rattle.std.proofs.Common.{◌≡◌, Err, Ok, sym, subst}
+use Rattle.std.proofs.Common.{Err, sym, subst}
 use Rattle.wf_eval.specs.Answers.{Answers}
 use Rattle.wf_eval.specs.Sight.{seen}
 use Rattle.wf_frames.proofs.Evaluated.{failed, gave}
