@@ -8,7 +8,7 @@ use Rattle.wf_ast.specs.Tree.{Program}
 use Rattle.wf_branches.specs.Table.{Status}
 use Rattle.wf_frames.specs.Frames.{inner, owned}
 use Rattle.wf_frames.specs.Owned.{IsLinked, own_of}
-use Rattle.wf_frames.specs.Tasks.{Own, far_layers, own_layers}
+use Rattle.wf_frames.specs.Tasks.{far_layers, own_layers}
 use Rattle.wf_frames.specs.declared.frames.Frame.{Frame}
 use Rattle.wf_frames.specs.declared.frames.Frame.TheVariants as frame
 use Rattle.wf_model.specs.Config as model

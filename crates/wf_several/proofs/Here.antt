@@ -3,14 +3,13 @@
 --     status_here ..        what is found there
 --     status_is, moved_is   changed there
 --     alike_moved ..        what holds of all then
-use Rattle.std.proofs.Common.{◌≡◌, ℕ, zero, suc, ◌<◌, ◌≤◌, Bool, true, false, List, [], ◌∷◌, Option, Some, None, refl, sym, ap, subst, ◌∙◌, arith}
-use Rattle.std.specs.Prelude.{if◌then◌else◌, nat_eq, nat_le, nat_lt, ◌&&◌, slice_get, slice_set}
+use Rattle.std.proofs.Common.{◌≡◌, ℕ, zero, suc, Bool, true, List, [], ◌∷◌, Option, Some, None, refl, sym, ap, ◌∙◌, arith}
+use Rattle.std.specs.Prelude.{if◌then◌else◌, nat_le, nat_lt, ◌&&◌, slice_get, slice_set}
 use Rattle.std.proofs.lemmas.Bool.{and_parts, eq-eqb, eqb-true, ne_eqb}
 use Rattle.wf_ast.specs.Tree.{Program}
 use Rattle.wf_branches.proofs.Rising.{within_at}
 use Rattle.wf_branches.specs.Table.{Status, rise, status_in}
 use Rattle.wf_frames.specs.Owned.{own_of}
-use Rattle.wf_model.specs.Config as model
 use Rattle.wf_model.specs.Config.{task_in}
 use Rattle.wf_model.specs.Taken.{step_shares}
 use Rattle.wf_moves.specs.declared.task.Task.{Task}

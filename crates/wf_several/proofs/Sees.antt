@@ -4,7 +4,7 @@
 --     local_is        it, and what it sees
 --     agrees          what stands beside it
 --     none_is_alike   what the table keeps of it
-use Rattle.std.proofs.Common.{◌≡◌, ◌≤◌, ℕ, ◌+◌, ◌-◌, true, false, List, [], ◌∷◌, Option, Some, None, refl, sym, ap, subst, ◌∙◌, arith}
+use Rattle.std.proofs.Common.{◌≡◌, ℕ, ◌+◌, ◌-◌, false, List, [], ◌∷◌, Option, Some, None, refl, sym, ap, ◌∙◌, arith}
 use Rattle.std.specs.Prelude.{option_map, slice_get}
 use Rattle.wf_ast.specs.Tree.{Program}
 use Rattle.wf_branches.specs.Changes.{new_join}
@@ -12,8 +12,8 @@ use Rattle.wf_branches.specs.Steps.{join_of}
 use Rattle.wf_branches.specs.Table.{Join, Status}
 use Rattle.wf_frames.specs.Forks.{parallel_at, work_view}
 use Rattle.wf_frames.specs.Frames.{control, inner}
-use Rattle.wf_frames.specs.Owned.{Around, IsLinked, Linked, besides, own_of}
-use Rattle.wf_frames.specs.Tasks.{Own, far_layers, numbers, own_layers}
+use Rattle.wf_frames.specs.Owned.{Around, IsLinked, own_of}
+use Rattle.wf_frames.specs.Tasks.{far_layers, own_layers}
 use Rattle.wf_frames.specs.Turns.{Agrees}
 use Rattle.wf_frames.specs.declared.frames.Frame.{Frame}
 use Rattle.wf_frames.specs.declared.frames.Frame.TheVariants as frame
@@ -35,9 +35,9 @@ use Rattle.wf_several.proofs.Seen.{each_stands}
 use Rattle.wf_several.specs.Here.{HasControl, IsPlace, NewIsAlike, NoneIsAlike, TaskReads}
 use Rattle.wf_several.specs.Several.{AllGoOn, around_of, holder_of, holders_of, plain_around, task_view, tasks_view, with_join}
 use Rattle.wf_stores.proofs.Outside.{outside_is}
-use Rattle.wf_stores.proofs.Sizes.{all_sum, task_sums}
+use Rattle.wf_stores.proofs.Sizes.{all_sum}
 use Rattle.wf_stores.specs.Holders.{Holder, IsChildless, all_total, holder_in, keys_of}
-use Rattle.wf_stores.specs.Steps.{Shows, side_by, side_of}
+use Rattle.wf_stores.specs.Steps.{Shows, side_of}
 
 -- ## No parallel step
 pub join_none : (ns : List Spot) (fs : List Frame) → join_of (control ns fs) ≡ None

@@ -4,9 +4,9 @@
 --     first_standing   where `main` alone begins
 --     rises_view       the numbers of the live tasks rise
 --     none_is_parent   a task that moves has no live branches
-use Rattle.std.proofs.Common.{◌≡◌, ◌<◌, ◌≤◌, ◌⊎◌, inl, inr, ℕ, zero, suc, Bool, true, false, not, List, [], ◌∷◌, map, Option, Some, None, refl, sym, ap, subst, ◌∙◌, arith}
+use Rattle.std.proofs.Common.{◌≡◌, inl, inr, ℕ, zero, suc, Bool, true, false, not, List, [], ◌∷◌, map, Option, Some, None, refl, sym, ap, subst, ◌∙◌}
 use Rattle.std.specs.Prelude.{◌||◌, ◌&&◌, if◌then◌else◌, nat_eq, nat_le, nat_lt, is_some, option_map, slice_get, slice_set}
-use Rattle.std.proofs.lemmas.Bool.{and_parts, cases_eq, eq-eqb, eqb-true, leb-true, ltb-true, ne_eqb}
+use Rattle.std.proofs.lemmas.Bool.{and_parts, eq-eqb, eqb-true, leb-true, ltb-true}
 use Rattle.wf_ast.specs.Tree.{Program}
 use Rattle.wf_branches.specs.Changes.{new_status}
 use Rattle.wf_branches.specs.Table.{Status, rise}
@@ -18,21 +18,20 @@ use Rattle.wf_frames.specs.Tasks.{AreApart, AreOthers, Own, numbers}
 use Rattle.wf_model.specs.Config as model
 use Rattle.wf_model.specs.Config.{Config, limits, task}
 use Rattle.wf_model.specs.Ready.{is_awake}
-use Rattle.wf_model.specs.RunLaws.{RisesFrom}
 use Rattle.wf_model.specs.Spots.{spots}
 use Rattle.wf_model.specs.declared.node.Node.{Node}
 use Rattle.wf_moves.proofs.Waiting.{is_awake as awake_is}
 use Rattle.wf_moves.specs.Waits.{CanGoOn, is_awake_in, is_joining, wait_view}
 use Rattle.wf_moves.specs.declared.task.Task.{Task}
-use Rattle.wf_scope.specs.Layers.{Layer, find, rises}
+use Rattle.wf_scope.specs.Layers.{Layer, find}
 use Rattle.wf_scope.specs.Store.{layers_of}
 use Rattle.wf_scope.specs.declared.scopes.Scopes.{Scopes}
 use Rattle.wf_several.proofs.After.{some_own}
 use Rattle.wf_several.proofs.Sees.{none_joined}
-use Rattle.wf_stores.specs.Steps.{Shows, Side, parent_number, side_by, side_of}
-use Rattle.wf_several.specs.Several.{AllGoOn, holder_of, holders_of, plain_around, tasks_view}
+use Rattle.wf_stores.specs.Steps.{Side, parent_number, side_by, side_of}
+use Rattle.wf_several.specs.Several.{AllGoOn, holder_of, holders_of, plain_around}
 use Rattle.wf_several.specs.Standing.{AllFitAt, AllStanding, EachFits, FirstStands, FramesStand, IsStanding, NobodysParent, NumbersRise, ParentLives, StandingIsOneFact, around_alone, owned_in, owns}
-use Rattle.wf_stores.specs.Holders.{AllStand, HasParent, Holder, IsChildless, IsSome, Owns, holder_in, keys_of}
+use Rattle.wf_stores.specs.Holders.{AllStand, HasParent, Holder, IsSome, Owns, holder_in, keys_of}
 
 -- ## Who owns a layer
 owns_true : (os : List Own) (n : ℕ) → Owns os n → owns os n ≡ true

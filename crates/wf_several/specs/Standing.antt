@@ -2,7 +2,7 @@
 --     AllStanding      how the layers of all stand in the store, with tests in place of what is there
 --     IsStanding       the tasks, their frames and their layers
 --     StandingIsOneFact ..   laws
-use Rattle.std.specs.Prelude.{◌≡◌, ◌↔◌, ◌<◌, ◌≤◌, ℕ, Bool, true, false, not, ◌||◌, List, [], ◌∷◌, map, nat_eq, is_some, slice_get, slice_set, None, Some, Option}
+use Rattle.std.specs.Prelude.{◌≡◌, ◌↔◌, ◌<◌, ℕ, Bool, true, false, not, ◌||◌, List, [], ◌∷◌, map, nat_eq, is_some, slice_get, slice_set, None, Some, Option}
 use Rattle.std.specs.Coded.{Coded-set, codes, coded_bool, coded_option, coded_ℕ, le_prop, Unit-prop, ×_prop, Π_prop, →_prop}
 use Rattle.wf_ast.specs.Tree.{Program}
 use Rattle.wf_branches.specs.Steps.{join_of}
