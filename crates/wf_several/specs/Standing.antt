@@ -78,7 +78,7 @@ EachFits = (p : Program) (nodes : List Node) (i : ℕ) (ts : List Task) (t u : T
     → AllFitAt p nodes ts
     → slice_get ts i ≡ Some t
     → (AllStandAt (spots p.flows) nodes (inner t.frames) × CanGoOn nodes t)
-        × (AllStandAt (spots p.flows) nodes (inner u.frames) × CanGoOn nodes u → AllFitAt p nodes (slice_set ts i u))
+    × (AllStandAt (spots p.flows) nodes (inner u.frames) × CanGoOn nodes u → AllFitAt p nodes (slice_set ts i u))
 
 -- so a task whose layers stand in the store stands there by itself
 abbrev pub FramesStand : Type 0
