@@ -1,6 +1,6 @@
 -- The layer of a branch.
-use Rattle.std.proofs.Common.{◌≡◌, ℕ, List, Ok, Err, refl, sym, ap, ◌∙◌}
-use Rattle.std.specs.Prelude.{suc, Some, Option, Result}
+use Rattle.std.proofs.Common.{◌≡◌, ℕ, List, refl, sym, ap, ◌∙◌}
+use Rattle.std.specs.Prelude.{Option, Result}
 use Rattle.wf_frames.proofs.Names.{closed_last, fresh_none}
 use Rattle.wf_frames.specs.Forks.{opened_in}
 use Rattle.wf_frames.specs.Turns.{bound_all}

@@ -1,8 +1,8 @@
 -- What a parallel step goes over, and how many numbers a range has.
-use Rattle.std.proofs.Common.{◌≡◌, ℕ, true, false, List, [], ◌∷◌, length, Some, Ok, Err, refl, sym, ap, subst, ◌∙◌}
+use Rattle.std.proofs.Common.{◌≡◌, ℕ, true, false, List, [], ◌∷◌, length, Ok, Err, refl, sym, ap, subst, ◌∙◌}
 use Rattle.std.specs.Prelude.{ℤ, suc, Option, if◌then◌else◌, int_le}
 use Rattle.wf_ast.specs.Apply.{View}
-use Rattle.wf_ast.specs.Tree.{LoopBody, OfBranches, OfLoop, Over, ParallelBody, Steps, loop, parallel}
+use Rattle.wf_ast.specs.Tree.{OfBranches, OfLoop, Over, ParallelBody, Steps, loop, parallel}
 use Rattle.wf_ast.specs.View.{texts_view}
 use Rattle.wf_branches.specs.Steps.{branches_count}
 use Rattle.wf_eval.specs.Answers.{Answers}
@@ -16,11 +16,10 @@ use Rattle.wf_frames.specs.Frames.{left_view}
 use Rattle.wf_frames.specs.declared.forking.Forked.{Forked}
 use Rattle.wf_frames.specs.declared.forking.Work.TheVariants as works
 use Rattle.wf_frames.specs.declared.frames.Left as declared
-use Rattle.wf_model.specs.Config.{Left, ValuesLeft, WorkLeft, counted_left, int_min}
+use Rattle.wf_model.specs.Config.{Left, ValuesLeft, counted_left, int_min}
 use Rattle.wf_model.specs.Move.{over, work}
-use Rattle.wf_model.specs.NodeKinds.{over_by, side_by}
-use Rattle.wf_model.specs.Shapes.{Compiled}
-use Rattle.wf_model.specs.Spots.{Spot, branches_by, part_body, steps_by}
+use Rattle.wf_model.specs.NodeKinds.{side_by}
+use Rattle.wf_model.specs.Spots.{Spot, branches_by, part_body}
 use Rattle.wf_model.specs.Table.{Resolves, work_of}
 use Rattle.wf_model.specs.declared.node.LoopNode.{LoopNode}
 use Rattle.wf_model.specs.declared.node.Node.{Node}
