@@ -42,7 +42,7 @@ of_rules [] (Some q) = refl
 of_rules (None ∷ os) q = of_rules os q
 of_rules (Some f ∷ os) q = refl
 
-told : (fs : List Flow) (n : ℕ) (e : List Text) (part : NodePart) (a : Around) (path : Path) → first (all_said fs n e part a path) ≡ said fs n e (node part a path)
+pub told : (fs : List Flow) (n : ℕ) (e : List Text) (part : NodePart) (a : Around) (path : Path) → first (all_said fs n e part a path) ≡ said fs n e (node part a path)
 unfolding fault rules
 told fs n e part a path = sym (of_rules (rules fs n e (node part a path)) (as_said kinds.NotYet (not_yet fs part path)) ∙ (λ i. first (
     of_rule Kind.EmptySteps (rule_empty part path) i

@@ -48,8 +48,7 @@ fn wants_by(alloc: Global, program: &Checked, targets: &[Target]) -> Result<Vec<
     wants_of(alloc, program.nodes(), targets)
 }
 
-/// What a machine begins with at a start. A form whose moves aren't built, and a call that names nothing, are answered as if there were no
-/// memory: the checker refuses them.
+/// What a machine begins with at a start. A form whose moves aren't built is answered as if there were no memory: the checker refuses it.
 pub(crate) fn beginning_of(
     alloc: Global,
     start: &Start,
@@ -70,10 +69,7 @@ pub(crate) fn beginning_of(
     if !are_built(nodes) {
         return Err(OutOfMemory);
     }
-    let found = targets_of(alloc, program)?;
-    let Some(targets) = found else {
-        return Err(OutOfMemory);
-    };
+    let targets = targets_of(alloc, program)?;
     let wants = wants_by(alloc, program, targets.as_slice())?;
     let facts = Facts::of(alloc, start)?;
     let argument = argument_of(alloc, start)?;

@@ -1,5 +1,5 @@
 // Steps that `main` takes.
-ghost use Rattle.std.specs.Prelude.{◌≡◌, ◌<◌, ◌≤◌, ℕ, true, false, IfOk, IfSome, IsFalse, IsNone, IsTrue, Ok, OnOk};
+ghost use Rattle.std.specs.Prelude.{◌≡◌, ◌<◌, ◌≤◌, ℕ, true, false, IfOk, IfSome, IsFalse, IsNone, IsTrue, Ok, OnErr, OnOk};
 ghost use Rattle.wf_alone.specs.Machine.{seen_by};
 ghost use Rattle.wf_check.specs.Seen.{program_of};
 ghost use Rattle.wf_machine.specs.Applied.{Applied};
@@ -200,7 +200,7 @@ impl Machine {
     }
 
     /// `main`, which is out, takes its next move, and stays out. It gives whether `main` goes on; else the execution has ended. Without
-    /// memory the machine is only to be let go.
+    /// memory the machine stays broken.
     #[inline(always)]
     pub(crate) fn move_on(&mut self, task: &mut Task) -> Result<bool, OutOfMemory>
         requires out { IsOut self.old task.old }
@@ -210,6 +210,8 @@ impl Machine {
             (shown_by goes self.new task.new)) }
         ensures out { result ≡ Ok true → IsOut self.new task.new }
         ensures whole { result ≡ Ok false → self.new.broken ≡ false }
+        ensures ended { result ≡ Ok false → is_running self.new.ending ≡ false }
+        ensures broken { OnErr result (self.new.broken ≡ true) }
         ensures program { OnOk result
             (program_of self.new.program ≡ program_of self.old.program) }
     {

@@ -26,7 +26,7 @@ one_event before behind e old new r did = record {
   whole = whole_of behind.broken r OutOfMemory did.broken;
   program = on_ok r did.program;
   steps = did.steps;
-  not_enabled = did.not_enabled;
+  not_enabled = λ is d comes. nowhere_is_no_config d (sym (did.not_enabled is) ∙ comes);
 }
 
 pub some_made : (before behind : State) (reading n old new : ℕ) → AppliesMoves before behind reading n old new → AppliesEvents before behind (replicate n (Move 0)) old new (Ok tt)
