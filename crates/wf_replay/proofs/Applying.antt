@@ -7,6 +7,7 @@ use Rattle.wf_machine.specs.Runs.{AreMoves, AppliesMoves}
 use Rattle.wf_machine.specs.State.{State}
 use Rattle.wf_machine.specs.declared.ApplyFault.{ApplyFault}
 use Rattle.wf_machine.specs.declared.ApplyFault.TheVariants.{OutOfMemory}
+use Rattle.wf_model.proofs.After.{nowhere_is_no_config}
 use Rattle.wf_model.specs.Config.{Config, To}
 use Rattle.wf_model.specs.Step.{next}
 use Rattle.wf_replay.proofs.Events.{moves_lead}
