@@ -198,11 +198,7 @@ impl Connection {
 
     /// A piece that was read is told. Gives it with whether it makes the answer whole, broken or too large, so that nothing behind it is
     /// wanted. Without memory it isn't told.
-    pub(crate) fn tell(
-        &mut self,
-        alloc: Global,
-        piece: &[u8],
-    ) -> Result<(Bytes, bool), OutOfMemory>
+    pub(crate) fn tell(&mut self, alloc: Global, piece: &[u8]) -> Result<(Bytes, bool), OutOfMemory>
         ensures { IfOk result (λ r. r.0 ≡ piece.now) }
     {
         let told = Bytes::new(alloc, piece)?;

@@ -3,10 +3,11 @@ ghost use Rattle.std.specs.Prelude.{◌≡◌, ◌≤◌, length, IfOk, None};
 ghost use Rattle.wf_host.specs.World.{piece_len, visit_of};
 
 use crate::connection::{Connection, Step};
+use crate::names::Names;
 use mio::{Events, Poll, Token};
 use std::alloc::Global;
 use std::io;
-use std::net::{Net, SocketAddr, ToSocketAddrs};
+use std::net::Net;
 use std::time::Duration;
 use wf_host::{Address, PollError, What};
 use wf_value::{Bytes, OutOfMemory};
@@ -25,6 +26,7 @@ const LONGEST_WAIT: u64 = 10_000;
 pub(crate) struct Sockets {
     poll: Poll,
     events: Events,
+    names: Names,
     connections: Vec<Connection>,
     next_token: usize,
     /// The connection that is read next, so that each has its turn.
@@ -50,6 +52,7 @@ impl Sockets {
         Ok(Sockets {
             poll,
             events,
+            names: Names::new(alloc),
             connections: Vec::new(alloc),
             next_token: 0,
             turn: 0,
@@ -68,7 +71,7 @@ impl Sockets {
         bytes: &[u8],
     ) -> Result<(), OutOfMemory> {
         let request = Bytes::new(alloc, bytes)?;
-        let addresses = addresses_of(alloc, net, to)?;
+        let addresses = self.names.addresses_of(alloc, net, to)?;
         self.connections.reserve(1)?;
         let token = self.next_token;
         self.next_token = token.wrapping_add(1);
@@ -90,7 +93,10 @@ impl Sockets {
     {
         if let Some((token, count)) = self.kept.take() {
             let all = &self.connections;
-            if let Some(at) = all.iter().position(|connection| connection.token() == token) {
+            if let Some(at) = all
+                .iter()
+                .position(|connection| connection.token() == token)
+            {
                 return self.tell_piece(alloc, at, count);
             }
         }
@@ -176,40 +182,5 @@ impl Sockets {
     pub(crate) fn drop_call(&mut self, call: u64) {
         self.connections
             .retain(|connection| connection.call() != call);
-    }
-}
-
-/// The addresses of a host, the first of them last. A host that isn't found has none.
-fn addresses_of<N: Net>(
-    alloc: Global,
-    net: &N,
-    to: &Address,
-) -> Result<Vec<SocketAddr>, OutOfMemory> {
-    match found_addresses(alloc, net, (bare(to.name.as_str()), to.port)) {
-        Ok(addresses) => Ok(addresses),
-        Err(e) if e.kind() == io::ErrorKind::OutOfMemory => Err(OutOfMemory),
-        Err(_) => Ok(Vec::new(alloc)),
-    }
-}
-
-/// The addresses that are found, the first of them last.
-fn found_addresses<N: Net, A: ToSocketAddrs>(
-    alloc: Global,
-    net: &N,
-    host: A,
-) -> io::Result<Vec<SocketAddr>> {
-    let mut addresses = Vec::new(alloc);
-    for address in host.to_socket_addrs(net)? {
-        addresses.push(address)?;
-    }
-    addresses.reverse();
-    Ok(addresses)
-}
-
-/// A host without the brackets that stand around an address of the sixth version.
-fn bare(host: &str) -> &str {
-    match host.strip_prefix('[') {
-        Some(rest) => rest.strip_suffix(']').unwrap_or(host),
-        None => host,
     }
 }
