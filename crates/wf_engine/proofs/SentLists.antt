@@ -1,5 +1,5 @@
 -- Lists of what is sent.
-use Rattle.std.specs.Prelude.{◌≡◌, ◌+◌, ℕ, zero, suc, Bool, true, false, if◌then◌else◌, List, [], ◌∷◌, ◌++◌}
+use Rattle.std.specs.Prelude.{◌≡◌, ◌+◌, ◌<◌, ℕ, zero, suc, Bool, true, false, if◌then◌else◌, List, [], ◌∷◌, ◌++◌}
 use Rattle.std.proofs.Common.{refl, ◌∙◌, ap, subst, arith}
 use Rattle.std.proofs.lemmas.List.{append-nil}
 use Rattle.wf_deeds.specs.Clauses.{IsSending, none, start, drop, those}
@@ -30,6 +30,13 @@ those_same test more from zero same = refl
 those_same test more from (suc n) same =
     ap (λ b. if b then from ∷ those test (suc from) n else those test (suc from) n) (same from)
     ∙ ap (λ l. if more from then from ∷ l else l) (those_same test more (suc from) n same)
+
+-- where none of them is one
+pub those_none : (test : ℕ → Bool) (from n : ℕ) → ((k : ℕ) → k < from + n → test k ≡ false) → those test from n ≡ []
+those_none test from zero off = refl
+those_none test from (suc n) off =
+    ap (λ b. if b then from ∷ those test (suc from) n else those test (suc from) n) (off from (omega arith))
+    ∙ those_none test (suc from) n (λ k lt. off k (omega (arith, lt)))
 
 -- of one call
 pub this_same : (test more : ℕ → Bool) (k : ℕ) → test k ≡ more k → those test k 1 ≡ those more k 1
