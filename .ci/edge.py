@@ -320,10 +320,10 @@ def streaming_on(folder):
 
     service = Service(stream)
     url = f"http://127.0.0.1:{service.port}/"
-    steps = [{"a": {"call": "http.get", "args": {"url": url}, "result": "r"}}, {"b": {"call": "sys.sleep", "args": {"seconds": 1}}}, {"c": {"return": "${r.body}"}}]
+    steps = [{"a": {"call": "http.get", "args": {"url": url}, "result": "r"}}, {"b": {"call": "sys.sleep", "args": {"seconds": 1}}}, {"c": {"return": "${r.code}"}}]
     write(folder, "s.json", json.dumps(steps).encode())
     said = call(folder, "run", "--source", "s.json", "--waits", "2")
-    assert said == (0, b'"7"\n', b""), said
+    assert said == (0, b"200\n", b""), said
     assert ended.wait(60), "the connection isn't closed"
     service.close()
 
