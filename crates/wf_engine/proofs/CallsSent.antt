@@ -10,7 +10,7 @@ use Rattle.wf_deeds.specs.Clauses.{IsSending, KeptThroughout, SendsOpen, StandsI
 use Rattle.wf_deeds.specs.Memory.{AllIsSent, IsSettled, Memory, StandsFor}
 use Rattle.wf_deeds.specs.Outside.{Outside}
 use Rattle.wf_engine.proofs.Sent.{Goes, OnlyNow, kept_before, kept_then, went_by, went_on}
-use Rattle.wf_engine.proofs.SentLists.{drops_starts, drops_then, just_this, silent_sending, starts_then, those_on, those_same, this_same}
+use Rattle.wf_engine.proofs.SentLists.{drops_starts, drops_then, just_this, sending_polls, silent_sending, starts_then, those_on, those_same, this_same}
 use Rattle.wf_engine.specs.Engine.{Holds, is_closed, memory}
 use Rattle.wf_engine.specs.Sending.{DropsAll, DropsOne, SameButSent, Sends, Sent, StartsAll, StartsOne, is_to_drop, is_to_start}
 use Rattle.wf_engine.specs.TheOutside.{InTheOutside}
@@ -91,7 +91,7 @@ module _ (first mid : World) (f g : Faults) (e d : Engine) (js ks : List ℕ) (s
   pub moments_then : (new : World) → InTheOutside (λ O. Told mid (KeptThroughout the_language O (memory d) mid new)) → InTheOutside (λ O. Told first (KeptThroughout the_language O (memory e) first new))
   moments_then new next = λ O told.
       let a = so.sends O told in
-      kept_then the_language O (memory e) (memory d) first mid a.done a.went (so.seen told) so.same.session (silent_sending a.sends) d.history new
+      kept_then the_language O (memory e) (memory d) first mid a.done a.went (so.seen told) so.same.session (silent_sending a.sends) (sending_polls a.sends) d.history new
       (so.moments O told) (so.holds told).0 (d.ready so.not_closed).begun (next O (told_then first mid so.tells told))
 
   pub part_then : (new : World) (h : Faults) (c : Engine) (ls ms is os : List ℕ) → Sent mid new g h d c ls ms → ((ds es : List Deed) → IsSending js ks ds → IsSending ls ms es → IsSending is os (ds ++ es)) → Sent first new f h e c is os

@@ -3,7 +3,8 @@ use Rattle.std.specs.Prelude.{◌≡◌, ◌+◌, ℕ, zero, suc, Bool, true, fa
 use Rattle.std.proofs.Common.{refl, ◌∙◌, ap, subst, arith}
 use Rattle.std.proofs.lemmas.List.{append-nil}
 use Rattle.wf_deeds.specs.Clauses.{IsSending, none, start, drop, those}
-use Rattle.wf_deeds.specs.Deeds.{printed}
+use Rattle.wf_deeds.specs.Deeds.{polls}
+use Rattle.wf_host.specs.Printing.{printed}
 use Rattle.wf_host.specs.declared.data.Deed.{Deed}
 
 -- ## Numbers of calls
@@ -46,6 +47,12 @@ pub silent_sending : {js ks : List ℕ} {ds : List Deed} → IsSending js ks ds 
 silent_sending none = refl
 silent_sending (start k to bytes more) = silent_sending more
 silent_sending (drop j more) = silent_sending more
+
+-- and it is no poll
+pub sending_polls : {js ks : List ℕ} {ds : List Deed} → IsSending js ks ds → polls ds ≡ 0
+sending_polls none = refl
+sending_polls (start k to bytes more) = sending_polls more
+sending_polls (drop j more) = sending_polls more
 
 -- drops, and then what comes behind them
 pub drops_then : {js ls ks : List ℕ} {ds es : List Deed} → IsSending js [] ds → IsSending ls ks es → IsSending (js ++ ls) ks (ds ++ es)

@@ -204,6 +204,7 @@ impl Engine {
     pub fn machine(&self) -> &Machine
         ensures program { (state_of result.now).program ≡ (memory self.now).program }
         ensures config { (state_of result.now).config ≡ (memory self.now).config }
+        ensures whole { is_closed self.now ≡ false → (state_of result.now).broken ≡ false }
     {
         &self.machine
     }

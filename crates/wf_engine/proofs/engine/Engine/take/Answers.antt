@@ -1,6 +1,6 @@
 use Rattle.std.proofs.Common.{rules, ◌≡◌, suc, ◌+◌, max, arith, refl}
 use Rattle.wf_connections.specs.Calls.{is_dropped, is_started, told}
-use Rattle.wf_deeds.specs.Deeds.{call_of}
+use Rattle.wf_host.specs.World.{call_of}
 use Rattle.wf_engine.proofs.Heard.{heard_ready, takable, takes}
 use Rattle.wf_engine.proofs.engine.Engine.take.Goals as goal
 use Rattle.wf_engine.specs.Engine.{memory}
